@@ -1,0 +1,10 @@
+//! Quantities, numbers and their texts.
+#![tactic(auto)]
+
+mod memory;
+mod number;
+mod quantity;
+
+pub use memory::NoMemory;
+pub use number::{NumberFault, number_text, read_number};
+pub use quantity::Qty;

@@ -1,0 +1,63 @@
+//! Quantities of pieces.
+
+ghost use Rattle.std.specs.Prelude.{◌≡◌, ◌≤◌, ◌+◌, ◌*◌};
+ghost use Rattle.mrp_qty.specs.Quantity.{greatest_quantity, quantity_of};
+
+use std::marker::Model;
+
+const GREATEST: u64 = 1_000_000_000_000_000;
+
+/// A quantity in whole pieces, from 0 to 10^15 (profile).
+#[derive(Clone, Copy, Debug, PartialEq, Eq, PartialOrd, Ord)]
+pub struct Qty {
+    pieces: u64,
+}
+
+impl Model for Qty {
+    ghost use Rattle.std.specs.Prelude.{ℕ, ◌≤◌};
+    ghost use Rattle.mrp_qty.specs.Quantity.{greatest_quantity};
+
+    ghost Value = { ℕ };
+
+    ghost view = { λ q. q.pieces };
+
+    ghost invariant = { λ q. q.pieces ≤ greatest_quantity };
+
+    ghost inverse = { λ n. record { pieces = n } };
+}
+
+impl Qty {
+    /// A number of pieces as a quantity; None past 10^15.
+    pub fn new(pieces: u64) -> Option<Qty>
+        ensures { result ≡ quantity_of pieces }
+    {
+        if pieces <= GREATEST {
+            Some(Qty { pieces })
+        } else {
+            None
+        }
+    }
+
+    /// The number of pieces.
+    pub fn value(self) -> u64
+        ensures pieces { result ≡ self }
+        ensures within { result ≤ greatest_quantity }
+    {
+        self.pieces
+    }
+
+    /// The sum; None past 10^15.
+    pub fn add(self, other: Qty) -> Option<Qty>
+        ensures { result ≡ quantity_of (self + other) }
+    {
+        Qty::new(self.pieces + other.value())
+    }
+
+    /// This quantity for each of `per` pieces; None past 10^15.
+    pub fn times(self, per: u64) -> Option<Qty>
+        ensures { result ≡ quantity_of (self * per) }
+    {
+        let product = u128::from(self.pieces) * u128::from(per);
+        Qty::new(u64::try_from(product).ok()?)
+    }
+}
