@@ -1,20 +1,18 @@
 //! The refusal of memory.
 
-use std::alloc::AllocFailed;
-use std::error::Error;
-use std::fmt;
+use std::alloc::{AllocError, AllocFailed};
+use thiserror::Error;
 
 /// A growth of memory was refused.
-#[derive(Clone, Copy, Debug, PartialEq, Eq)]
+#[derive(Clone, Copy, Debug, PartialEq, Eq, Error)]
+#[error("no memory")]
 pub struct NoMemory;
 
-impl fmt::Display for NoMemory {
-    fn fmt<W: fmt::Write>(&self, f: &mut fmt::Formatter<W>) -> fmt::Result {
-        write!(f, "no memory")
+impl From<AllocError> for NoMemory {
+    fn from(_refused: AllocError) -> NoMemory {
+        NoMemory
     }
 }
-
-impl Error for NoMemory {}
 
 impl<T: Drop> From<AllocFailed<T>> for NoMemory {
     fn from(_refused: AllocFailed<T>) -> NoMemory {

@@ -1,6 +1,6 @@
 //! Numbers as decimal texts.
 
-ghost use Rattle.std.specs.Prelude.{◌≡◌, IfOk, decimal, string_bytes};
+ghost use Rattle.std.specs.Prelude.{◌≡◌, IfOk, decimal, string_bytes, true};
 ghost use Rattle.std.specs.List.{list_all};
 ghost use Rattle.mrp_qty.specs.Digits.{is_digit, number_of, value_up_to};
 
