@@ -1,11 +1,9 @@
 -- Decimal digits and the number that they stand for.
-use Rattle.std.specs.Prelude.{ℕ, ◌+◌, ◌*◌, ◌-◌, ◌&&◌, Bool, nat_le, if◌then◌else◌, List, [], ◌∷◌, Result, Ok, Err}
+use Rattle.std.specs.Prelude.{ℕ, ◌+◌, ◌*◌, ◌-◌, nat_le, if◌then◌else◌, List, [], ◌∷◌, Result, Ok, Err}
+use Rattle.std.specs.Char.{is_ascii_digit}
 use Rattle.std.specs.List.{list_all}
 use Rattle.mrp_qty.specs.declared.number.NumberFault.{NumberFault}
 use Rattle.mrp_qty.specs.declared.number.NumberFault.TheVariants.{Empty, NotDigits, TooLarge}
-
-abbrev pub is_digit : ℕ → Bool
-is_digit byte = nat_le 48 byte && nat_le byte 57
 
 -- the number that digits stand for, after those of a number
 abbrev pub value_after : ℕ → List ℕ → ℕ
@@ -22,4 +20,4 @@ value_up_to max digits = if nat_le (value_of digits) max then Ok (value_of digit
 -- the number that a text stands for, up to a greatest one: digits alone, leading zeros among them (profile)
 abbrev pub number_of : ℕ → List ℕ → Result ℕ NumberFault
 number_of max [] = Err Empty
-number_of max (byte ∷ bytes) = if list_all is_digit (byte ∷ bytes) then value_up_to max (byte ∷ bytes) else Err NotDigits
+number_of max (byte ∷ bytes) = if list_all is_ascii_digit (byte ∷ bytes) then value_up_to max (byte ∷ bytes) else Err NotDigits

@@ -1,6 +1,7 @@
 //! Quantities, numbers and their texts.
 #![tactic(auto)]
 
+pub mod laws;
 mod memory;
 mod number;
 mod quantity;

@@ -1,8 +1,9 @@
 //! Numbers as decimal texts.
 
 ghost use Rattle.std.specs.Prelude.{◌≡◌, IfOk, decimal, string_bytes, true};
+ghost use Rattle.std.specs.Char.{is_ascii_digit};
 ghost use Rattle.std.specs.List.{list_all};
-ghost use Rattle.mrp_qty.specs.Digits.{is_digit, number_of, value_up_to};
+ghost use Rattle.mrp_qty.specs.Digits.{number_of, value_up_to};
 
 use crate::memory::NoMemory;
 use itoa::Buffer;
@@ -23,21 +24,15 @@ pub enum NumberFault {
     TooLarge,
 }
 
-fn is_digit_byte(byte: u8) -> bool
-    ensures { result ≡ is_digit byte }
-{
-    byte >= b'0' && byte <= b'9'
-}
-
 fn are_digits(text: &[u8]) -> bool
-    ensures { result ≡ list_all is_digit text.now }
+    ensures { result ≡ list_all is_ascii_digit text.now }
 {
-    text.iter().all(|byte| is_digit_byte(*byte))
+    text.iter().all(|byte| byte.is_ascii_digit())
 }
 
 // The number that digits stand for, up to `max`.
 fn value_within(digits: &[u8], max: u64) -> Result<u64, NumberFault>
-    requires { list_all is_digit digits.now ≡ true }
+    requires { list_all is_ascii_digit digits.now ≡ true }
     ensures { result ≡ value_up_to max digits.now }
 {
     let mut value: u64 = 0;
@@ -76,4 +71,58 @@ pub fn number_text(alloc: Global, number: u64) -> Result<String, NoMemory>
     let mut buffer = Buffer::new();
     let text = String::from_str(alloc, buffer.format(number))?;
     Ok(text)
+}
+
+#[cfg(test)]
+mod tests {
+    use super::*;
+    use std::test::Fail;
+
+    const MAX: u64 = 1_000_000_000;
+
+    #[test]
+    fn numbers_are_digits_up_to_the_greatest(rt: HostRuntime) {
+        assert_eq!(rt; read_number(b"007", MAX), Ok(7));
+        assert_eq!(rt; read_number(b"", MAX), Err(NumberFault::Empty));
+        assert_eq!(rt; read_number(b"+1", MAX), Err(NumberFault::NotDigits));
+        assert_eq!(rt; read_number(b"1000000000", MAX), Ok(1_000_000_000));
+        assert_eq!(rt; read_number(b"1000000001", MAX), Err(NumberFault::TooLarge));
+    }
+
+    #[test]
+    fn a_text_that_is_no_number_is_no_large_one(rt: HostRuntime) {
+        assert_eq!(rt;
+            read_number(b"99999999999999999999999x", MAX),
+            Err(NumberFault::NotDigits)
+        );
+        assert_eq!(rt; read_number(b"1.0", MAX), Err(NumberFault::NotDigits));
+        assert_eq!(rt; read_number(b" 1", MAX), Err(NumberFault::NotDigits));
+    }
+
+    #[test]
+    fn numbers_reach_the_greatest_of_their_type(rt: HostRuntime) {
+        assert_eq!(rt;
+            read_number(b"18446744073709551615", u64::MAX),
+            Ok(u64::MAX)
+        );
+        assert_eq!(rt;
+            read_number(b"18446744073709551616", u64::MAX),
+            Err(NumberFault::TooLarge)
+        );
+        assert_eq!(rt;
+            read_number(b"000000000000000000000000000000000000007", 7),
+            Ok(7)
+        );
+    }
+
+    #[test]
+    fn a_number_is_written_in_decimal(rt: HostRuntime) -> Result<(), Fail> {
+        assert_eq!(rt; number_text(rt.alloc(), 7)?.as_str(), "7");
+        assert_eq!(rt; number_text(rt.alloc(), 0)?.as_str(), "0");
+        assert_eq!(rt;
+            number_text(rt.alloc(), u64::MAX)?.as_str(),
+            "18446744073709551615"
+        );
+        Ok(())
+    }
 }
