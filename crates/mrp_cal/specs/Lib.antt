@@ -1,0 +1,4 @@
+pub mod CivilDay
+pub mod Calendar
+pub mod DateText
+pub mod View
