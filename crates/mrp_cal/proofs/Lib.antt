@@ -1,1 +1,2 @@
 pub mod CivilDates
+pub mod HolidayMarks
