@@ -15,7 +15,7 @@ same_parts a b year month day = same_date a b (epoch_day_same a b year month day
 has_day : (year : ℤ) (month day : ℕ) → IsDate year (pos month) (pos day) → IsCivilDay year month day
 has_day year month day h = (h.0, (omega (arith, ints, h.1), omega (arith, ints, h.1)), (omega (arith, ints, h.2), omega (arith, ints, h.2)))
 
-is_date : (year : ℤ) (month day : ℕ) → IsCivilDay year month day → IsDate year (pos month) (pos day)
+pub is_date : (year : ℤ) (month day : ℕ) → IsCivilDay year month day → IsDate year (pos month) (pos day)
 is_date year month day h = (h.0, (omega (arith, ints, h.1), omega (arith, ints, h.1)), (omega (arith, ints, h.2), omega (arith, ints, h.2)))
 
 date_where_is : (o : Option Date) (year : ℤ) (month day : ℕ) (w : IsCivilDay year month day ⊎ ¬ (IsCivilDay year month day)) → (IsSome o ↔ IsDate year (pos month) (pos day)) → IfSome o (IsYmd year (pos month) (pos day)) → o ≡ date_where year month day w

@@ -14,6 +14,10 @@ pub record IsTextOf (text : List ℕ) (d : Date) : Type 0 where
   pub text_is : text ≡ date_text d
   pub year_in : IsPlanningYear d.year
 
+-- a text is a date's, in the years of a plan
+abbrev pub IsDateText : List ℕ → Type 0
+IsDateText text = (d : Date) × IsTextOf text d
+
 -- a step of a reader, where there is a value to go on with
 infixl 10 ◌>>=◌
 abbrev pub ◌>>=◌ : {A B : Type 0} → Option A → (A → Option B) → Option B

@@ -2,7 +2,7 @@
 ghost use Rattle.std.specs.Prelude.{◌≡◌, ◌<◌, IfSome, IsSome, ◌↔◌, pos};
 ghost use Rattle.jiff.specs.Words.{IsDate, IsYmd};
 ghost use Rattle.mrp_cal.specs.DateText as spec;
-ghost use Rattle.mrp_cal.specs.DateText.{IsTextOf};
+ghost use Rattle.mrp_cal.specs.DateText.{IsDateText, IsTextOf};
 
 use jiff::civil::Date;
 
@@ -11,9 +11,18 @@ const LAST_YEAR: u16 = 2999;
 
 /// The date that a text is: exactly `YYYY-MM-DD` (ISO 8601), a day that the calendar has, in the
 /// years 1900 to 2999. `None` for every other text.
-#[tactic(auto, unfolding(crate::specs::DateText::date_of))]
 pub fn read_date(text: &[u8]) -> Option<Date>
     ensures value { result ≡ spec.date_of text.now }
+    ensures accepted { IsSome result ↔ IsDateText text.now }
+    ensures which { IfSome result (IsTextOf text.now) }
+{
+    date_of(text)
+}
+
+// The date that ten bytes write, with dashes at their places.
+#[tactic(auto, unfolding(crate::specs::DateText::date_of))]
+fn date_of(text: &[u8]) -> Option<Date>
+    ensures { result ≡ spec.date_of text.now }
 {
     let [y0, y1, y2, y3, b'-', m0, m1, b'-', d0, d1] = *text else {
         return None;
