@@ -9,3 +9,6 @@ mod fault;
 pub use calendar::Calendar;
 pub use date_text::read_date;
 pub use fault::CalFault;
+
+#[cfg(test)]
+mod tests;
