@@ -1,15 +1,14 @@
 -- A text reads as a date exactly where it is that date's text.
-use Rattle.std.proofs.Common.{◌≡◌, ℕ, ◌+◌, ◌-◌, ◌*◌, ◌/◌, ◌%◌, ◌<◌, ◌≤◌, Bool, true, false, ◌&&◌, nat_le, refl, ap, subst, sym, ◌∙◌, arith, Option, Some, None, IsSome, IfSome, ◌↔◌, ℤ, pos, negsuc, List, [], ◌∷◌, length, get_or, inl, inr, ◌⊎◌}
+use Rattle.std.proofs.Common.{◌≡◌, ℕ, ◌+◌, ◌-◌, ◌*◌, ◌/◌, ◌%◌, ◌<◌, ◌≤◌, true, ◌&&◌, nat_le, refl, ap, subst, sym, ◌∙◌, arith, Option, Some, None, IsSome, IfSome, ◌↔◌, ℤ, pos, negsuc, List, [], ◌∷◌, get_or, inl, inr, ◌⊎◌}
 use Rattle.std.specs.Char.{is_ascii_digit}
 use Rattle.std.proofs.lemmas.Bool.{false≢true, cases_Bool, and_parts, eqb-true, leb-true, le-leb}
-use Rattle.std.proofs.lemmas.Bool.Decides.{nat_tests}
 use Rattle.std.proofs.lemmas.Int.{ints}
 use Rattle.jiff.specs.Types.{Date}
 use Rattle.jiff.specs.Words.{date_text, days_in_month}
 use Rattle.std.proofs.lemmas.Slice.Eq.{text_from_reads}
 use Rattle.mrp_cal.proofs.CivilDates.{civil_date_is, is_date}
 use Rattle.mrp_cal.specs.CivilDay.{IsCivilDay, civil_date, civil_or_not, date_where}
-use Rattle.mrp_cal.specs.DateText.{IsPlanningYear, IsTextOf, IsDateText, ◌>>=◌, two_digits, planning_date, has_date_form, digits_date, date_of}
+use Rattle.mrp_cal.specs.DateText.{IsPlanningYear, IsTextOf, IsDateText, ◌>>=◌, two_digits, planning_date, has_date_form, date_of}
 
 -- four readers in turn gave a value
 record Reads (century year month day : Option ℕ) (date : ℕ → ℕ → ℕ → ℕ → Option Date) (d : Date) : Type 0 where
@@ -40,12 +39,12 @@ two_digits-some : (tens ones n : ℕ) → two_digits tens ones ≡ Some n → (t
 two_digits-some tens ones n e =
     elim (cases_Bool (is_ascii_digit tens && is_ascii_digit ones)) [
       | inl digits ↦
-        let t = and_parts _ _ digits in
-        let is : Some n ≡ Some (10 * (tens - 48) + (ones - 48)) = sym e ∙ rw digits refl in
-        let same : n ≡ 10 * (tens - 48) + (ones - 48) = cc in
-        let first = and_parts _ _ t.0 in
-        let second = and_parts _ _ t.1 in
-        omega (arith, leb-true 48 tens first.0, leb-true tens 57 first.1, leb-true 48 ones second.0, leb-true ones 57 second.1)
+          let t = and_parts _ _ digits in
+          let is : Some n ≡ Some (10 * (tens - 48) + (ones - 48)) = sym e ∙ rw digits refl in
+          let same : n ≡ 10 * (tens - 48) + (ones - 48) = cc in
+          let first = and_parts _ _ t.0 in
+          let second = and_parts _ _ t.1 in
+          omega (arith, leb-true 48 tens first.0, leb-true tens 57 first.1, leb-true 48 ones second.0, leb-true ones 57 second.1)
       | inr other ↦ let none : Some n ≡ None = sym e ∙ rw other refl in absurd cc
     ]
 
@@ -81,9 +80,9 @@ planning_date-some : (year month day : ℕ) (d : Date) → planning_date year mo
 planning_date-some year month day d e =
     elim (cases_Bool (nat_le 1900 year && nat_le year 2999)) [
       | inl within ↦
-        let t = and_parts _ _ within in
-        let parts = civil_date-some (pos year) month day d (rw within at e) in
-        (rw parts.0 (omega (arith, ints, leb-true 1900 year t.0), omega (arith, ints, leb-true year 2999 t.1)), parts)
+          let t = and_parts _ _ within in
+          let parts = civil_date-some (pos year) month day d (rw within at e) in
+          (rw parts.0 (omega (arith, ints, leb-true 1900 year t.0), omega (arith, ints, leb-true year 2999 t.1)), parts)
       | inr outside ↦ let none : Some d ≡ None = sym e ∙ rw outside refl in absurd cc
     ]
 
@@ -127,12 +126,12 @@ unfolding date_of
 date_of-text text d e =
     elim (cases_Bool (has_date_form text)) [
       | inl form ↦
-        let reads = four-some (two_digits (get_or text 0 0) (get_or text 1 0)) (two_digits (get_or text 2 0) (get_or text 3 0)) (two_digits (get_or text 5 0) (get_or text 6 0)) (two_digits (get_or text 8 0) (get_or text 9 0)) (λ c y m n. planning_date (100 * c + y) m n) d (rw form at e) in
-        let p = planning_date-some (100 * reads.c + reads.y) reads.m reads.n d reads.date_is in
-        record {
-          text_is = ymd_text-read text reads.c reads.y reads.m reads.n form reads.century_is reads.year_is reads.month_is reads.day_is ∙ sym (date_text-ymd d (100 * reads.c + reads.y) reads.m reads.n p.1.0 p.1.1 p.1.2);
-          year_in = p.0;
-        }
+          let reads = four-some (two_digits (get_or text 0 0) (get_or text 1 0)) (two_digits (get_or text 2 0) (get_or text 3 0)) (two_digits (get_or text 5 0) (get_or text 6 0)) (two_digits (get_or text 8 0) (get_or text 9 0)) (λ c y m n. planning_date (100 * c + y) m n) d (rw form at e) in
+          let p = planning_date-some (100 * reads.c + reads.y) reads.m reads.n d reads.date_is in
+          record {
+            text_is = ymd_text-read text reads.c reads.y reads.m reads.n form reads.century_is reads.year_is reads.month_is reads.day_is ∙ sym (date_text-ymd d (100 * reads.c + reads.y) reads.m reads.n p.1.0 p.1.1 p.1.2);
+            year_in = p.0;
+          }
       | inr other ↦ let none : Some d ≡ None = sym e ∙ rw other refl in absurd cc
     ]
 

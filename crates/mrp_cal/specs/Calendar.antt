@@ -1,5 +1,5 @@
--- The shop calendar: its weeks, workdays and holidays.
-use Rattle.std.specs.Prelude.{◌≡◌, ℕ, ◌+◌, ◌*◌, ◌/◌, ◌&&◌, ◌==◌, not, nat_lt, nat_le, if◌then◌else◌, Bool, true, ℤ, pos, negsuc, ◌+ℤ◌, ◌-ℤ◌, List, map, length, Option, Some, None, Result, Ok, Err}
+-- The shop calendar: the weeks of its planning horizon, its workdays and its holidays.
+use Rattle.std.specs.Prelude.{◌≡◌, ℕ, ◌+◌, ◌*◌, ◌/◌, ◌&&◌, ◌==◌, not, nat_lt, nat_le, if◌then◌else◌, Bool, IsTrue, ℤ, pos, negsuc, ◌+ℤ◌, ◌-ℤ◌, List, map, length, Option, Some, None, Result, Ok, Err}
 use Rattle.std.specs.List.{list_any, range_with_len}
 use Rattle.std.specs.Int.{IsInRange}
 use Rattle.std.specs.Ordering.{int_eq}
@@ -9,9 +9,9 @@ use Rattle.mrp_cal.specs.declared.fault.CalFault.{CalFault}
 use Rattle.mrp_cal.specs.declared.fault.CalFault.TheVariants.{StartNotMonday, Weeks, NoWorkday}
 use Rattle.mrp_cal.specs.DateText.{IsPlanningYear}
 
--- a shop calendar (APICS Dictionary: shop calendar; its form is this profile's): the first day of
--- its horizon, the horizon's weeks, which of the days from Monday to Sunday are worked, and which
--- days of the horizon, from the first, are holidays
+-- a shop calendar (APICS Dictionary: shop calendar; its form: profile): the first day of the
+-- planning horizon, the horizon's weeks, which of the seven weekdays from Monday on are worked,
+-- and which days of the horizon, from the first, are holidays
 pub record ShopCalendar : Type 0 where
   pub start : Date
   pub weeks : ℕ
@@ -28,7 +28,7 @@ has_workday workdays = list_any (λ worked. worked) workdays
 abbrev pub days_in : ℕ → ℕ
 days_in weeks = 7 * weeks
 
--- a date is that many days after another
+-- a date comes that many days after another
 abbrev pub is_days_after : Date → ℕ → Date → Bool
 is_days_after start days d = int_eq (epoch_day d) (epoch_day start +ℤ pos days)
 
@@ -38,7 +38,8 @@ abbrev pub holidays_in : Date → ℕ → List Date → List Bool
 holidays_in start weeks holidays =
     map (λ day. list_any (is_days_after start day) holidays) (range_with_len 0 (days_in weeks))
 
--- the calendar of a start, weeks, workdays and holidays, or what is wrong first (profile)
+-- the calendar of a start, weeks, workdays and holidays, or the first thing that is wrong: the
+-- start, the weeks, the workdays (profile)
 unfoldable pub calendar_of : Date → ℕ → List Bool → List Date → Result ShopCalendar CalFault
 calendar_of start weeks workdays holidays =
     if not (is_monday start) then Err StartNotMonday
@@ -49,23 +50,22 @@ calendar_of start weeks workdays holidays =
 -- what each shop calendar keeps
 pub record IsShopCalendar (c : ShopCalendar) : Type 0 where
   pub start_year : IsPlanningYear c.start.year
-  pub monday : is_monday c.start ≡ true
+  pub monday : IsTrue (is_monday c.start)
   pub weeks_in : IsInRange 1 104 c.weeks
   pub weekdays : length c.workdays ≡ 7
-  pub worked : has_workday c.workdays ≡ true
+  pub worked : IsTrue (has_workday c.workdays)
   pub days : length c.holidays ≡ days_in c.weeks
 
--- the days from the first of the horizon, for a day of the horizon
+-- the day of the horizon, counted from 0, that lies so many days after the start
 abbrev pub horizon_day : ℕ → ℤ → Option ℕ
 horizon_day weeks (pos days) = if nat_lt days (days_in weeks) then Some days else None
 horizon_day weeks (negsuc _) = None
 
--- the week, counted from 1, of that many days from the first
-abbrev pub week_from_1 : Option ℕ → Option ℕ
-week_from_1 (Some days) = Some (days / 7 + 1)
-week_from_1 None = None
+-- the week, counted from 1, of a day of the horizon: weeks have seven days each
+abbrev pub week_of_day : Option ℕ → Option ℕ
+week_of_day (Some day) = Some (day / 7 + 1)
+week_of_day None = None
 
--- the week of a date: weeks have seven days each, from the start on; none outside the horizon
--- (profile)
+-- the week of a date; none outside the horizon (profile)
 abbrev pub week_of : ShopCalendar → Date → Option ℕ
-week_of c d = week_from_1 (horizon_day c.weeks (epoch_day d -ℤ epoch_day c.start))
+week_of c d = week_of_day (horizon_day c.weeks (epoch_day d -ℤ epoch_day c.start))

@@ -9,12 +9,12 @@ use Rattle.mrp_cal.specs.CivilDay.{civil_date}
 abbrev pub IsPlanningYear : ℤ → Type 0
 IsPlanningYear year = IsBetween (pos 1900) (pos 2999) year
 
--- a text is a date's: its ISO 8601 text YYYY-MM-DD, in the years of a plan
+-- a text is that of a date: YYYY-MM-DD (ISO 8601), in the years of a plan
 pub record IsTextOf (text : List ℕ) (d : Date) : Type 0 where
   pub text_is : text ≡ date_text d
   pub year_in : IsPlanningYear d.year
 
--- a text is a date's, in the years of a plan
+-- some date has this text
 abbrev pub IsDateText : List ℕ → Type 0
 IsDateText text = (d : Date) × IsTextOf text d
 
@@ -29,7 +29,7 @@ abbrev pub two_digits : ℕ → ℕ → Option ℕ
 two_digits tens ones =
     if is_ascii_digit tens && is_ascii_digit ones then Some (10 * (tens - 48) + (ones - 48)) else None
 
--- the date of a year, month and day, where it is one of the years of a plan
+-- the date of a year, month and day, where the calendar has it, in the years of a plan
 abbrev pub planning_date : ℕ → ℕ → ℕ → Option Date
 planning_date year month day =
     if nat_le 1900 year && nat_le year 2999 then civil_date (pos year) month day else None
@@ -48,6 +48,6 @@ digits_date text = do
   day ← two_digits (slice_index text 8) (slice_index text 9)
   planning_date (100 * century + year) month day
 
--- the date that a text reads as: YYYY-MM-DD (ISO 8601), in the years of a plan
+-- the date that a text reads as, computed: the one date that has this text, if there is one
 unfoldable pub date_of : List ℕ → Option Date
 date_of text = if has_date_form text then digits_date text else None

@@ -7,6 +7,7 @@ ghost use Rattle.mrp_cal.specs.DateText.{IsDateText, IsTextOf};
 use jiff::civil::Date;
 
 const FIRST_YEAR: u16 = 1900;
+
 const LAST_YEAR: u16 = 2999;
 
 /// The date that a text is: exactly `YYYY-MM-DD` (ISO 8601), a day that the calendar has, in the

@@ -7,7 +7,9 @@ use jiff::civil::Date;
 use std::test::Fail;
 
 const EVERY_DAY: [bool; 7] = [true; 7];
+
 const NO_DAY: [bool; 7] = [false; 7];
+
 const MONDAY_TO_FRIDAY: [bool; 7] = [true, true, true, true, true, false, false];
 
 fn date(text: &[u8]) -> Result<Date, Fail>
@@ -84,12 +86,32 @@ fn a_calendar_has_its_weeks(rt: HostRuntime) -> Result<(), Fail> {
 fn the_first_fault_is_answered(rt: HostRuntime) -> Result<(), Fail> {
     let faults = [
         (b"2025-01-06", 6, MONDAY_TO_FRIDAY, None),
-        (b"2025-01-07", 6, MONDAY_TO_FRIDAY, Some(CalFault::StartNotMonday)),
-        (b"2025-01-05", 6, MONDAY_TO_FRIDAY, Some(CalFault::StartNotMonday)),
+        (
+            b"2025-01-07",
+            6,
+            MONDAY_TO_FRIDAY,
+            Some(CalFault::StartNotMonday),
+        ),
+        (
+            b"2025-01-05",
+            6,
+            MONDAY_TO_FRIDAY,
+            Some(CalFault::StartNotMonday),
+        ),
         (b"2025-01-06", 0, MONDAY_TO_FRIDAY, Some(CalFault::Weeks)),
         (b"2025-01-06", 105, MONDAY_TO_FRIDAY, Some(CalFault::Weeks)),
-        (b"2025-01-06", u64::MAX, MONDAY_TO_FRIDAY, Some(CalFault::Weeks)),
-        (b"2025-01-06", 65_537, MONDAY_TO_FRIDAY, Some(CalFault::Weeks)),
+        (
+            b"2025-01-06",
+            u64::MAX,
+            MONDAY_TO_FRIDAY,
+            Some(CalFault::Weeks),
+        ),
+        (
+            b"2025-01-06",
+            65_537,
+            MONDAY_TO_FRIDAY,
+            Some(CalFault::Weeks),
+        ),
         (b"2025-01-06", 6, NO_DAY, Some(CalFault::NoWorkday)),
         (b"2025-01-07", 105, NO_DAY, Some(CalFault::StartNotMonday)),
         (b"2025-01-07", 6, NO_DAY, Some(CalFault::StartNotMonday)),

@@ -1,4 +1,4 @@
-use Rattle.std.proofs.Common.{◌≡◌, ◌+◌, ◌<◌, ap, sym, ◌∙◌, arith, refl, false, true, Some, None, length, get_or, set, take}
+use Rattle.std.proofs.Common.{◌≡◌, ◌<◌, ap, sym, ◌∙◌, arith, false, Some, None, length, get_or}
 use Rattle.std.proofs.Math.Bool.{or-false}
 use Rattle.std.proofs.lemmas.List.{get_or-replicate, get_or-take, length-replicate, length-take-le, length-set}
 use Rattle.std.proofs.lemmas.List.FromFn.{fill_by_all}
@@ -18,18 +18,18 @@ pub loop-holiday-preserved : goal.loop-holiday-preserved
 loop-holiday-preserved c =
     elim c.match-horizon_day.branch [
       | in-Some w ↦
-        let is = ap Some w.from.ensures ∙ sym w.in-Some.is ∙ c.horizon_day.ensures in
-        let below = horizon_day-below c.args.weeks w.from.result _ is in
-        let room : w.from.result < length c.loop-holiday.days = omega (arith, below, c.loop-holiday.invariant.long) in
-        record {
-          long = rw (w.days-is, length-set) c.loop-holiday.invariant.long;
-          marked = λ k h. rw (w.days-is, get_or-marked c.loop-holiday.days w.from.result k room)
-            (list_any-day_more c.args.start c.args.weeks c.args.holidays.now c.loop-holiday.holiday-index k c.holiday-item.result (Some w.from.result) _ c.loop-holiday-test.true c.holiday-item.is is h (c.loop-holiday.invariant.marked k h));
-        }
+          let is = ap Some w.from.ensures ∙ sym w.in-Some.is ∙ c.horizon_day.ensures in
+          let below = horizon_day-below c.args.weeks w.from.result _ is in
+          let room : w.from.result < length c.loop-holiday.days = omega (arith, below, c.loop-holiday.invariant.long) in
+          record {
+            long = rw (w.days-is, length-set) c.loop-holiday.invariant.long;
+            marked = λ k h. rw (w.days-is, get_or-marked c.loop-holiday.days w.from.result k room)
+                (list_any-day_more c.args.start c.args.weeks c.args.holidays.now c.loop-holiday.holiday-index k c.holiday-item.result (Some w.from.result) _ c.loop-holiday-test.true c.holiday-item.is is h (c.loop-holiday.invariant.marked k h));
+          }
       | in_default w ↦ record {
         long = rw w.days-is c.loop-holiday.invariant.long;
         marked = λ k h. rw (w.days-is, ← or-false (get_or c.loop-holiday.days k false))
-          (list_any-day_more c.args.start c.args.weeks c.args.holidays.now c.loop-holiday.holiday-index k c.holiday-item.result None _ c.loop-holiday-test.true c.holiday-item.is (sym w.in_default.is ∙ c.horizon_day.ensures) h (c.loop-holiday.invariant.marked k h));
+            (list_any-day_more c.args.start c.args.weeks c.args.holidays.now c.loop-holiday.holiday-index k c.holiday-item.result None _ c.loop-holiday-test.true c.holiday-item.is (sym w.in_default.is ∙ c.horizon_day.ensures) h (c.loop-holiday.invariant.marked k h));
       }
     ]
 
