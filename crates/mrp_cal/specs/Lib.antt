@@ -1,4 +1,5 @@
-pub mod CivilDay
 pub mod Calendar
+pub mod CivilDay
 pub mod DateText
+pub mod FaultText
 pub mod View

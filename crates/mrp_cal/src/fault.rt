@@ -14,6 +14,11 @@ pub enum CalFault {
 }
 
 impl fmt::Display for CalFault {
+    ghost use Rattle.std.specs.Prelude.{Some};
+    ghost use Rattle.mrp_cal.specs.FaultText.{words_of};
+
+    ghost output = { λ fault. Some (words_of fault) };
+
     fn fmt<W: fmt::Write>(&self, f: &mut fmt::Formatter<W>) -> fmt::Result {
         match self {
             CalFault::StartNotMonday => write!(f, "the start is not a Monday"),
