@@ -1,0 +1,3 @@
+pub mod CivilDates
+pub mod HolidayMarks
+pub mod DateTexts

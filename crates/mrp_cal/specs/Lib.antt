@@ -1,0 +1,5 @@
+pub mod Calendar
+pub mod CivilDay
+pub mod DateText
+pub mod FaultText
+pub mod View

@@ -1,0 +1,14 @@
+//! The shop calendar: which week of the planning horizon a date falls in, and which texts are
+//! dates. Nothing here takes memory.
+#![tactic(auto)]
+
+mod calendar;
+mod date_text;
+mod fault;
+
+pub use calendar::Calendar;
+pub use date_text::read_date;
+pub use fault::CalFault;
+
+#[cfg(test)]
+mod tests;

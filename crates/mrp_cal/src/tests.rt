@@ -1,0 +1,219 @@
+//! Worked values.
+ghost use Rattle.std.specs.Prelude.{IfOk};
+ghost use Rattle.mrp_cal.specs.DateText.{IsPlanningYear};
+
+use crate::{CalFault, Calendar, read_date};
+use jiff::civil::Date;
+use std::test::Fail;
+
+const EVERY_DAY: [bool; 7] = [true; 7];
+
+const NO_DAY: [bool; 7] = [false; 7];
+
+const MONDAY_TO_FRIDAY: [bool; 7] = [true, true, true, true, true, false, false];
+
+fn date(text: &[u8]) -> Result<Date, Fail>
+    ensures { IfOk result (λ d. IsPlanningYear d.year) }
+{
+    match read_date(text) {
+        Some(date) => Ok(date),
+        None => Err(Fail::from("not a date")),
+    }
+}
+
+fn fault(text: &[u8], weeks: u64, workdays: [bool; 7]) -> Result<Option<CalFault>, Fail> {
+    Ok(Calendar::new(date(text)?, weeks, workdays, &[]).err())
+}
+
+fn week(start: &[u8], weeks: u64, day: Date) -> Result<Option<u16>, Fail> {
+    let calendar = Calendar::new(date(start)?, weeks, MONDAY_TO_FRIDAY, &[])?;
+    Ok(calendar.week_of(day))
+}
+
+#[test]
+fn a_week_has_seven_days_from_the_start(rt: HostRuntime) -> Result<(), Fail> {
+    let days = [
+        (b"2025-01-05", None),
+        (b"2025-01-06", Some(1)),
+        (b"2025-01-12", Some(1)),
+        (b"2025-01-13", Some(2)),
+        (b"2025-01-19", Some(2)),
+        (b"2025-01-20", Some(3)),
+        (b"2025-02-09", Some(5)),
+        (b"2025-02-10", Some(6)),
+        (b"2025-02-16", Some(6)),
+        (b"2025-02-17", None),
+        (b"1900-01-01", None),
+        (b"2999-12-31", None),
+    ];
+    for (text, want) in days {
+        assert_eq!(rt; week(b"2025-01-06", 6, date(text)?)?, want, "on {text:?}");
+    }
+    Ok(())
+}
+
+#[test]
+fn horizons_end_after_their_weeks(rt: HostRuntime) -> Result<(), Fail> {
+    assert_eq!(rt; week(b"2025-01-06", 1, date(b"2025-01-12")?)?, Some(1));
+    assert_eq!(rt; week(b"2025-01-06", 1, date(b"2025-01-13")?)?, None);
+    assert_eq!(rt; week(b"2025-01-06", 104, date(b"2027-01-03")?)?, Some(104));
+    assert_eq!(rt; week(b"2025-01-06", 104, date(b"2027-01-04")?)?, None);
+    assert_eq!(rt; week(b"1900-01-01", 104, date(b"1901-12-29")?)?, Some(104));
+    assert_eq!(rt; week(b"1900-01-01", 104, date(b"1901-12-30")?)?, None);
+    Ok(())
+}
+
+#[test]
+fn weeks_go_on_over_leap_days_and_ends_of_years(rt: HostRuntime) -> Result<(), Fail> {
+    assert_eq!(rt; week(b"2024-02-26", 2, date(b"2024-03-03")?)?, Some(1));
+    assert_eq!(rt; week(b"2024-02-26", 2, date(b"2024-03-04")?)?, Some(2));
+    assert_eq!(rt; week(b"2999-12-30", 104, Date::new(3000, 1, 6)?)?, Some(2));
+    assert_eq!(rt; week(b"2999-12-30", 104, Date::MAX)?, None);
+    assert_eq!(rt; week(b"2999-12-30", 104, Date::MIN)?, None);
+    Ok(())
+}
+
+#[test]
+fn a_calendar_has_its_weeks(rt: HostRuntime) -> Result<(), Fail> {
+    for weeks in [1, 6, 104] {
+        let calendar = Calendar::new(date(b"2025-01-06")?, weeks, EVERY_DAY, &[])?;
+        assert_eq!(rt; u64::from(calendar.weeks()), weeks);
+    }
+    Ok(())
+}
+
+#[test]
+fn the_first_fault_is_answered(rt: HostRuntime) -> Result<(), Fail> {
+    let faults = [
+        (b"2025-01-06", 6, MONDAY_TO_FRIDAY, None),
+        (
+            b"2025-01-07",
+            6,
+            MONDAY_TO_FRIDAY,
+            Some(CalFault::StartNotMonday),
+        ),
+        (
+            b"2025-01-05",
+            6,
+            MONDAY_TO_FRIDAY,
+            Some(CalFault::StartNotMonday),
+        ),
+        (b"2025-01-06", 0, MONDAY_TO_FRIDAY, Some(CalFault::Weeks)),
+        (b"2025-01-06", 105, MONDAY_TO_FRIDAY, Some(CalFault::Weeks)),
+        (
+            b"2025-01-06",
+            u64::MAX,
+            MONDAY_TO_FRIDAY,
+            Some(CalFault::Weeks),
+        ),
+        (
+            b"2025-01-06",
+            65_537,
+            MONDAY_TO_FRIDAY,
+            Some(CalFault::Weeks),
+        ),
+        (b"2025-01-06", 6, NO_DAY, Some(CalFault::NoWorkday)),
+        (b"2025-01-07", 105, NO_DAY, Some(CalFault::StartNotMonday)),
+        (b"2025-01-07", 6, NO_DAY, Some(CalFault::StartNotMonday)),
+        (b"2025-01-06", 105, NO_DAY, Some(CalFault::Weeks)),
+    ];
+    for (start, weeks, workdays, want) in faults {
+        assert_eq!(rt; fault(start, weeks, workdays)?, want, "{start:?} {weeks}");
+    }
+    Ok(())
+}
+
+#[test]
+fn one_workday_is_enough(rt: HostRuntime) -> Result<(), Fail> {
+    let mut sunday = NO_DAY;
+    sunday[6] = true;
+    assert_eq!(rt; fault(b"2025-01-06", 6, sunday)?, None);
+    Ok(())
+}
+
+#[test]
+fn holidays_outside_the_horizon_and_twice_are_no_fault(rt: HostRuntime) -> Result<(), Fail> {
+    let holidays = [
+        date(b"2025-01-20")?,
+        date(b"2025-01-20")?,
+        date(b"2025-01-05")?,
+        date(b"2025-02-17")?,
+        date(b"1900-01-01")?,
+        date(b"2999-12-31")?,
+    ];
+    let calendar = Calendar::new(date(b"2025-01-06")?, 6, MONDAY_TO_FRIDAY, &holidays)?;
+    assert_eq!(rt; calendar.week_of(date(b"2025-01-20")?), Some(3));
+    Ok(())
+}
+
+#[test]
+fn dates_are_read(rt: HostRuntime) -> Result<(), Fail> {
+    assert_eq!(rt; read_date(b"2024-02-29"), Some(Date::new(2024, 2, 29)?));
+    assert_eq!(rt; read_date(b"2025-01-06"), Some(Date::new(2025, 1, 6)?));
+    assert_eq!(rt; read_date(b"2025-06-01"), Some(Date::new(2025, 6, 1)?));
+    assert_eq!(rt; read_date(b"1900-01-01"), Some(Date::new(1900, 1, 1)?));
+    assert_eq!(rt; read_date(b"2999-12-31"), Some(Date::new(2999, 12, 31)?));
+    assert_eq!(rt; read_date(b"2000-02-29"), Some(Date::new(2000, 2, 29)?));
+    Ok(())
+}
+
+#[test]
+fn days_that_the_calendar_lacks_are_no_dates(rt: HostRuntime) {
+    let texts = [
+        b"2025-02-29",
+        b"1900-02-29",
+        b"1899-12-31",
+        b"3000-01-01",
+        b"0000-01-01",
+        b"9999-12-31",
+        b"2025-00-06",
+        b"2025-13-01",
+        b"2025-01-00",
+        b"2025-01-32",
+        b"2025-04-31",
+        b"2025-99-99",
+    ];
+    for text in texts {
+        assert_eq!(rt; read_date(text), None, "of {text:?}");
+    }
+}
+
+#[test]
+fn other_forms_are_no_dates(rt: HostRuntime) {
+    let texts: [&[u8]; 18] = [
+        b"",
+        b"2025-1-06",
+        b"2025-01-6",
+        b"2025/01/06",
+        b"2025-01/06",
+        b"2025-01-06 ",
+        b" 2025-01-06",
+        b"2025-01-06\n",
+        b"20250106",
+        b"2025-0106-",
+        b"+025-01-06",
+        b"-025-01-06",
+        b"2025-+1-06",
+        b"2025-01- 6",
+        b"2o25-01-06",
+        b"06-01-2025",
+        b"2025-01-0\xD9",
+        b"\xEF\xBB\xBF2025-01-06",
+    ];
+    for text in texts {
+        assert_eq!(rt; read_date(text), None, "of {text:?}");
+    }
+}
+
+#[test]
+fn faults_have_texts(rt: HostRuntime) -> Result<(), Fail> {
+    let texts = [
+        (CalFault::StartNotMonday, "the start is not a Monday"),
+        (CalFault::Weeks, "the weeks are not 1 to 104"),
+        (CalFault::NoWorkday, "no weekday is worked"),
+    ];
+    for (fault, want) in texts {
+        assert_eq!(rt; format!(in rt.alloc(); "{fault}")?.as_str(), want);
+    }
+    Ok(())
+}
