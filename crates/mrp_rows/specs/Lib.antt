@@ -1,1 +1,3 @@
+pub mod Bundle
+pub mod Placing
 pub mod Tables

@@ -1,6 +1,8 @@
 //! The bundle's sections, their records and cells, and readers and writers that count their calls.
 #![tactic(auto)]
 
+mod bundle;
 mod fault;
 
+pub use bundle::{Sections, split_bundle};
 pub use fault::{Fault, Table};
