@@ -1,3 +1,4 @@
 pub mod Bundle
 pub mod Placing
 pub mod Tables
+pub mod Told

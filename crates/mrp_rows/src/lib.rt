@@ -3,6 +3,8 @@
 
 mod bundle;
 mod fault;
+mod told;
 
 pub use bundle::{Sections, split_bundle};
 pub use fault::{Fault, Table};
+pub use told::Told;
