@@ -1,3 +1,4 @@
 pub mod SplitLines
 pub mod SplitTexts
 pub mod SplitPlaces
+pub mod StreamFronts

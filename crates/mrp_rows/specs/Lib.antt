@@ -1,4 +1,5 @@
 pub mod Bundle
 pub mod Placing
+pub mod Streams
 pub mod Tables
 pub mod Told

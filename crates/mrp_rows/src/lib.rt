@@ -3,8 +3,10 @@
 
 mod bundle;
 mod fault;
+mod streams;
 mod told;
 
 pub use bundle::{Sections, split_bundle};
 pub use fault::{Fault, Table};
+pub use streams::{ReadFault, Tries, WriteFault, read_bundle, write_text};
 pub use told::Told;
