@@ -2,3 +2,4 @@ pub mod SplitLines
 pub mod SplitTexts
 pub mod SplitPlaces
 pub mod StreamFronts
+pub mod SectionLaws
