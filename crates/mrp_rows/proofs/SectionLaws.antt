@@ -1,9 +1,9 @@
 -- The laws of a bundle's parts.
-use Rattle.std.proofs.Common.{◌≡◌, ℕ, Bool, true, false, List, [], ◌∷◌, ◌++◌, refl, sym, ap, ◌∙◌, append_assoc, append-nil, inl, inr}
-use Rattle.std.specs.Prelude.{◌&&◌, ◌==◌, ◌⊎◌, if◌then◌else◌}
+use Rattle.std.proofs.Common.{◌≡◌, ℕ, Bool, true, false, List, [], ◌∷◌, ◌++◌, refl, ap, ◌∙◌, append_assoc, append-nil, inl, inr}
+use Rattle.std.specs.Prelude.{◌==◌, ◌⊎◌, if◌then◌else◌}
 use Rattle.std.proofs.lemmas.Bool.{eqb-true}
-use Rattle.std.specs.List.{flat_map, list_any, onto_first}
-use Rattle.mrp_rows.specs.Bundle.{Parts, Section, ends_line, lines_of, is_section_line, parts_of, sections_in, without_mark}
+use Rattle.std.specs.List.{list_any, onto_first}
+use Rattle.mrp_rows.specs.Bundle.{ends_line, lines_of, is_section_line, parts_of, without_mark}
 use Rattle.mrp_rows.specs.Together.{mark, together, has_section_line, PartsAreTogether, HasNoOther, DropsOneMark}
 
 joined : List (List ℕ) → List ℕ

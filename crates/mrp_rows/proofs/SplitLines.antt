@@ -46,6 +46,7 @@ next-byte true x xs h = by (ends_line x) refl (lines_of xs) refl
   where
     other : eqb x 91 ≡ false
     other = ne_eqb x 91 (λ e. false≢true (sym (h e)))
+
     by : (b : Bool) → ends_line x ≡ b → (ls : List (List ℕ)) → lines_of xs ≡ ls → parts_at true (x ∷ xs) ≡ (x ∷ (parts_at b xs).0, (parts_at b xs).1)
     by true e ls f = rw (e, other) refl
     by false e [] f = rw (e, f, other) refl
@@ -92,8 +93,8 @@ parts-from false (x ∷ xs) zero le before here =
     absurd (false≢true h.1)
 parts-from front (x ∷ xs) (suc n) le before here =
     let more = parts-from (ends_line x) xs n (omega arith)
-        (λ k lt is. sym (begins-next front x xs k) ∙ before (suc k) (omega arith) is)
-        (λ lt. let h = here (omega arith) in (h.0, sym (begins-next front x xs n) ∙ h.1)) in
+    (λ k lt is. sym (begins-next front x xs k) ∙ before (suc k) (omega arith) is)
+    (λ lt. let h = here (omega arith) in (h.0, sym (begins-next front x xs n) ∙ h.1)) in
     let one = next-byte front x xs (before 0 (omega arith)) in
     (ap (λ p. p.0) one ∙ ap (λ t. x ∷ t) more.0, ap (λ p. p.1) one ∙ more.1)
 

@@ -1,9 +1,9 @@
 -- What holds of the parts of every bundle.
-use Rattle.std.specs.Prelude.{ℕ, ◌≡◌, ◌≢◌, ◌⊎◌, Bool, false, List, [], ◌∷◌, ◌++◌, codes, Some, Result, Ok}
+use Rattle.std.specs.Prelude.{ℕ, ◌≡◌, ◌≢◌, ◌⊎◌, Bool, false, List, [], ◌∷◌, ◌++◌, codes, Some}
 use Rattle.std.specs.List.{flat_map, list_any}
 use Rattle.mrp_rows.specs.declared.fault.Table.{Table}
 use Rattle.mrp_rows.specs.declared.fault.Table.TheVariants as t
-use Rattle.mrp_rows.specs.Bundle.{Parts, Section, lines_of, is_section_line, sections_in, without_mark, table_of, line_text, section_text, bundle_of, text_in}
+use Rattle.mrp_rows.specs.Bundle.{Parts, lines_of, is_section_line, sections_in, without_mark, table_of}
 use Rattle.mrp_rows.specs.FaultText.{table_name}
 
 -- the byte order mark of UTF-8

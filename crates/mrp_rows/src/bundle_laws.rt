@@ -8,23 +8,19 @@ ghost use Rattle.mrp_rows.specs.Together.{PartsAreTogether, HasNoOther, DropsOne
 /// the bundle again.
 pub fn parts_are_together()
     ensures { (bytes : List ℕ) → PartsAreTogether bytes }
-{
-}
+{}
 
 /// No section line stands in what follows another, nor before the first.
 pub fn no_other_section_line()
     ensures { (bytes : List ℕ) → HasNoOther bytes }
-{
-}
+{}
 
 /// One byte order mark is dropped from the front, and nothing else.
 pub fn one_mark_is_dropped()
     ensures { (bytes : List ℕ) → DropsOneMark bytes }
-{
-}
+{}
 
 /// A table's name in brackets is its section line.
 pub fn section_lines_name_tables()
     ensures { (table : Table) → NamesItsTable table }
-{
-}
+{}

@@ -11,5 +11,5 @@ mod told;
 pub use bundle::{Sections, split_bundle};
 pub use fault::{Fault, Table};
 pub use fault_texts::fault_text;
-pub use streams::{ReadFault, Tries, WriteFault, read_bundle, write_text};
+pub use streams::{ReadFault, Tries, WriteFault, read_bundle, read_within, write_text};
 pub use told::Told;

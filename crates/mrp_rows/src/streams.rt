@@ -149,11 +149,45 @@ fn read_piece<R: Read>(
     }
 }
 
-/// All bytes that a reader has left: at most 67,108,864, within 100,000,000 calls of `read`.
+/// All bytes that a reader has left: at most so many, within so many calls of `read`.
 ///
 /// An interrupted read is tried again and counts as a call. Errors: `Read` where the reader failed
 /// in this call, gave more bytes or needed more calls; `NoMemory` where a growth was refused.
 /// After an error the reader has been read up to some place.
+pub fn read_within<R: Read>(
+    alloc: Global,
+    reader: &mut Told<R>,
+    most_bytes: usize,
+    most_calls: u32,
+) -> Result<Vec<u8>, ReadFault>
+    ensures bytes { IfOk result (λ bytes. IfSome (R.remaining (inner_of reader.old)) (λ xs. bytes.items ≡ xs)) }
+    ensures end { OnOk result (IsAtEnd (R.remaining (inner_of reader.new))) }
+    ensures within { IfOk result (λ bytes. vec_len bytes ≤ most_bytes) }
+    ensures calls { OnOk result (calls_of reader.new ≤ calls_of reader.old + most_calls) }
+    ensures failures { OnOk result (failures_of reader.new ≡ failures_of reader.old) }
+
+    ensures refused { result ≡ Err ReadFault.Read → HasRisenBy 1 (failures_of reader.old) (failures_of reader.new)
+        ⊎ HasRisenBy most_calls (calls_of reader.old) (calls_of reader.new)
+        ⊎ HasRisenBy (most_bytes + 1) (moved_of reader.old) (moved_of reader.new) }
+    ensures front { TakesFront (R.remaining (inner_of reader.old)) (R.remaining (inner_of reader.new)) (moved_of reader.old) (moved_of reader.new) }
+{
+    let mut piece = [0; PIECE];
+    let mut bytes = Vec::new(alloc);
+    for _ in 0..most_calls {
+        if !read_piece(reader, &mut piece, &mut bytes)? {
+            return Ok(bytes);
+        }
+        if bytes.len() > most_bytes {
+            return Err(ReadFault::Read);
+        }
+    }
+    Err(ReadFault::Read)
+}
+
+/// All bytes that a reader has left, as a bundle: at most 67,108,864, within 100,000,000 calls of
+/// `read`.
+///
+/// Errors: as of [`read_within`].
 pub fn read_bundle<R: Read>(alloc: Global, reader: &mut Told<R>) -> Result<Vec<u8>, ReadFault>
     ensures bytes { IfOk result (λ bytes. IfSome (R.remaining (inner_of reader.old)) (λ xs. bytes.items ≡ xs)) }
     ensures end { OnOk result (IsAtEnd (R.remaining (inner_of reader.new))) }
@@ -166,15 +200,8 @@ pub fn read_bundle<R: Read>(alloc: Global, reader: &mut Told<R>) -> Result<Vec<u
         ⊎ HasRisenBy 67108865 (moved_of reader.old) (moved_of reader.new) }
     ensures front { TakesFront (R.remaining (inner_of reader.old)) (R.remaining (inner_of reader.new)) (moved_of reader.old) (moved_of reader.new) }
 {
-    let mut piece = [0; PIECE];
-    let mut bytes = Vec::new(alloc);
-    for _ in 0..READ_CALLS {
-        if !read_piece(reader, &mut piece, &mut bytes)? {
-            return Ok(bytes);
-        }
-        if bytes.len() > GREATEST_BUNDLE {
-            return Err(ReadFault::Read);
-        }
-    }
-    Err(ReadFault::Read)
+    read_within(alloc, reader, GREATEST_BUNDLE, READ_CALLS)
 }
+
+#[cfg(test)]
+mod tests;

@@ -54,9 +54,15 @@ impl Counts {
             if is_interrupted(error) {
                 self.interrupted = self.interrupted.saturating_add(1);
             } else {
-                self.failures = self.failures.saturating_add(1);
+                self.count_failure();
             }
         }
+    }
+
+    fn count_failure(&mut self)
+        ensures { self.new ≡ record self.old { failures = counted 1 self.old.failures } }
+    {
+        self.failures = self.failures.saturating_add(1);
     }
 }
 
@@ -161,7 +167,7 @@ impl<W: Write> Write for Told<W> {
         self.counts.count_call(&outcome);
         self.counts.moved = self.counts.moved.saturating_add(moved(&outcome));
         if matches!(outcome, Ok(0)) && !buf.is_empty() {
-            self.counts.failures = self.counts.failures.saturating_add(1);
+            self.counts.count_failure();
         }
         outcome
     }
@@ -178,3 +184,6 @@ impl<W: Write> Write for Told<W> {
         outcome
     }
 }
+
+#[cfg(test)]
+pub(crate) mod tests;

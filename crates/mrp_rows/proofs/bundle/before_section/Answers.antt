@@ -22,7 +22,7 @@ returns-clause-sections c =
 pub loop-at-preserved : goal.loop-at-preserved
 loop-at-preserved c =
     below_more _ _ c.loop-at.invariant
-        (elim c.else-byte-eq91.branch [
-            else-byte-eq91-via-then-byte-eq91+else-begins_line w ↦ λ _. sym w.begins_line.ensures ∙ w.if-begins_line.false
-            | else-byte-eq91-via-else-byte-eq91 w ↦ λ is. absurd (w.if-byte-eq91.false is)
-        ])
+    (elim c.else-byte-eq91.branch [
+      | else-byte-eq91-via-then-byte-eq91+else-begins_line w ↦ λ _. sym w.begins_line.ensures ∙ w.if-begins_line.false
+      | else-byte-eq91-via-else-byte-eq91 w ↦ λ is. absurd (w.if-byte-eq91.false is)
+    ])

@@ -1,6 +1,6 @@
 use Rattle.std.proofs.Common.{arith, ◌++◌, ◌∙◌}
 use Rattle.mrp_rows.proofs.StreamFronts.{takes-more}
-use Rattle.mrp_rows.proofs.streams.read_bundle.Goals as goal
+use Rattle.mrp_rows.proofs.streams.read_within.Goals as goal
 
 pub loop-preserved : goal.loop-preserved
 loop-preserved g c =
@@ -23,7 +23,7 @@ returns-then-not-branch-clause-front g c =
     let front = c.in_ok-read_piece.ensures.front in
     (c.loop.bytes.items ++ front.0, takes-more _ _ _ _ _ _ _ _ c.loop.invariant.taken front.1)
 
-pub returns-then-len-gt-GREATEST_BUNDLE-clause-front : goal.returns-then-len-gt-GREATEST_BUNDLE-clause-front
-returns-then-len-gt-GREATEST_BUNDLE-clause-front g c =
+pub returns-then-len-most_bytes-clause-front : goal.returns-then-len-most_bytes-clause-front
+returns-then-len-most_bytes-clause-front g c =
     let front = c.in_ok-read_piece.ensures.front in
     (c.loop.bytes.items ++ front.0, takes-more _ _ _ _ _ _ _ _ c.loop.invariant.taken front.1)
