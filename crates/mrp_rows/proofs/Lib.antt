@@ -3,3 +3,4 @@ pub mod SplitTexts
 pub mod SplitPlaces
 pub mod StreamFronts
 pub mod SectionLaws
+pub mod TextLaws

@@ -2,7 +2,7 @@
 
 ghost use Rattle.std.specs.Prelude.{ℕ, List};
 ghost use Rattle.mrp_rows.specs.declared.fault.Table.{Table};
-ghost use Rattle.mrp_rows.specs.Together.{PartsAreTogether, HasNoOther, DropsOneMark, NamesItsTable};
+ghost use Rattle.mrp_rows.specs.Together.{PartsAreTogether, HasNoOther, DropsOneMark, NamesItsTable, TextsAreSections};
 
 /// What stands before the first section line, and each section line with what follows it, are
 /// the bundle again.
@@ -23,4 +23,9 @@ pub fn one_mark_is_dropped()
 /// A table's name in brackets is its section line.
 pub fn section_lines_name_tables()
     ensures { (table : Table) → NamesItsTable table }
+{}
+
+/// Each section of an accepted bundle names a table, and its text is that table's.
+pub fn texts_are_sections()
+    ensures { (bytes : List ℕ) → TextsAreSections bytes }
 {}

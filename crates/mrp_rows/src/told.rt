@@ -10,7 +10,7 @@ use std::io;
 use std::io::{ErrorKind, Read, Write};
 
 // What came of the calls so far. Each count stays at its greatest value.
-#[derive(Clone, Copy, Debug, PartialEq, Eq)]
+#[derive(Clone, Copy)]
 struct Counts {
     calls: u64,
     interrupted: u64,
