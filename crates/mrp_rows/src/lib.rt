@@ -1,6 +1,15 @@
 //! The bundle's sections, their records and cells, and readers and writers that count their calls.
 #![tactic(auto)]
 
+mod bundle;
+pub mod bundle_laws;
 mod fault;
+mod fault_texts;
+mod streams;
+mod told;
 
+pub use bundle::{Sections, split_bundle};
 pub use fault::{Fault, Table};
+pub use fault_texts::fault_text;
+pub use streams::{ReadFault, Tries, WriteFault, read_bundle, read_within, write_text};
+pub use told::Told;
