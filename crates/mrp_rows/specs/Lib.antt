@@ -1,1 +1,10 @@
+pub mod Cell
+pub mod Columns
+pub mod Left
+pub mod Name
+pub mod Next
+pub mod Padding
+pub mod Reading
+pub mod Records
 pub mod Tables
+pub mod View

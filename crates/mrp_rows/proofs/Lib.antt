@@ -1,0 +1,5 @@
+mod CellPlaces
+mod CsvRecords
+mod CsvSteps
+mod NameBytes
+mod WordPlaces
