@@ -1,6 +1,8 @@
 -- What a record's cells are read as, with the code of what is wrong (profile).
 use Rattle.std.specs.Prelude.{ℕ, nat_le, nat_eq, if◌then◌else◌, List, [], Option, Some, None, Result, Ok, Err, slice_index_or, position}
 use Rattle.std.specs.Cmp.Lexicographic.{pointwise}
+use Rattle.jiff.specs.Types.{Date}
+use Rattle.mrp_cal.specs.DateText.{date_of}
 use Rattle.mrp_qty.specs.Digits.{number_of}
 use Rattle.mrp_qty.specs.declared.number.NumberFault.{NumberFault}
 use Rattle.mrp_qty.specs.declared.number.NumberFault.TheVariants.{Empty, NotDigits, TooLarge}
@@ -40,6 +42,10 @@ at_least least (Err NotDigits) = Err 8
 -- a number within limits, or code 8 where the cell is empty or not digits alone, or code 11 outside the limits
 abbrev pub number_cell : ℕ → ℕ → List ℕ → Result ℕ ℕ
 number_cell least most cell = at_least least (number_of most cell)
+
+-- a date, or code 9
+abbrev pub date_cell : List ℕ → Result Date ℕ
+date_cell cell = or_code 9 (date_of cell)
 
 -- the place of a cell among words, from 0, or code 10
 abbrev pub word_of : List (List ℕ) → List ℕ → Result ℕ ℕ

@@ -68,7 +68,7 @@ impl<'a> Cursor<'a> {
     ///
     /// Errors, at row 0: 5, where the header's cells are not exactly the names of the table's
     /// columns, also where there is no record; 22, where memory is refused.
-    pub(crate) fn over(alloc: Global, text: &'a [u8], table: Table) -> Result<Cursor<'a>, Fault>
+    pub fn over(alloc: Global, text: &'a [u8], table: Table) -> Result<Cursor<'a>, Fault>
         ensures { GivesUnless (memory_fault table 0) result (opened table text.now) }
     {
         let mut cursor = Cursor::front(alloc, text, table);

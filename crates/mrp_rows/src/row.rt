@@ -3,17 +3,21 @@
 ghost use Rattle.std.specs.Prelude.{◌≡◌, ◌<◌, length, map, nat_eq, position};
 ghost use Rattle.csv.specs.Records.{fields_of};
 ghost use Rattle.std.specs.Cmp.Lexicographic.{pointwise};
-ghost use Rattle.mrp_rows.specs.Cell.{blame, cell_at, fault_at, name_of, number_cell, word_of};
+ghost use Rattle.mrp_rows.specs.Cell.{blame, cell_at, date_cell, fault_at, name_of, number_cell, word_of};
 
 use crate::fault::{Fault, Table};
 use crate::name::Name;
 use csv::ByteRecord;
+use jiff::civil::Date;
+use mrp_cal::read_date;
 use mrp_qty::{NumberFault, read_number};
 use std::marker::Model;
 
 const NAME: u8 = 7;
 
 const NUMBER: u8 = 8;
+
+const DATE: u8 = 9;
 
 const WORD: u8 = 10;
 
@@ -106,6 +110,19 @@ impl Row {
             Err(NumberFault::TooLarge) => Err(self.fault(RANGE)),
             Err(NumberFault::Empty) => Err(self.fault(NUMBER)),
             Err(NumberFault::NotDigits) => Err(self.fault(NUMBER)),
+        }
+    }
+
+    /// A cell as a date, `YYYY-MM-DD` in the years 1900 to 2999.
+    ///
+    /// Errors: 9, where it is none.
+    pub fn date(&self, column: usize) -> Result<Date, Fault>
+        requires { column < length self.now.cells }
+        ensures { result ≡ blame self.now (date_cell (cell_at self.now column)) }
+    {
+        match read_date(self.cell(column)) {
+            Some(date) => Ok(date),
+            None => Err(self.fault(DATE)),
         }
     }
 
