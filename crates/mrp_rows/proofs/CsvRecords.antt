@@ -25,3 +25,12 @@ are-records (r ∷ rows) s xs e = by (next_record default_config s [] [] xs) ref
         let h = head-same r p.0 rows (records_in p.1 [] [] p.2) (e ∙ records_in-next s [] [] xs p n) in
         let (s2, ys, reached, none) = more p.1 p.2 h.1 in
         (s2, ys, (p, n, h.0, reached), none)
+
+-- and no other rows are
+pub only-records : (rows : List (List (List ℕ))) (s : State) (xs : List ℕ) → AreRecords default_config s xs rows → rows ≡ records_in s [] [] xs
+unfolding Reached
+only-records [] s xs (s2, ys, reached, none) = sym (records_in-none s [] [] xs (rw (reached.0, reached.1) none))
+only-records (r ∷ rows) s xs (s2, ys, (p, n, first, more), none) =
+    let rest : rows ≡ records_in p.1 [] [] p.2 = only-records rows p.1 p.2 (s2, ys, more, none) in
+    let both : r ∷ rows ≡ p.0 ∷ records_in p.1 [] [] p.2 = rw (first, rest) refl in
+    both ∙ sym (records_in-next s [] [] xs p n)

@@ -1,5 +1,6 @@
 mod CellPlaces
 mod CsvRecords
 mod CsvSteps
+mod DigitCells
 mod NameBytes
 mod WordPlaces

@@ -1,5 +1,5 @@
 -- What opening a table gives, and what a call of `next` gives and leaves.
-use Rattle.std.specs.Prelude.{ℕ, ◌≡◌, ◌≢◌, ◌⊎◌, ◌+◌, if◌then◌else◌, List, [], ◌∷◌, length, Option, Some, None, Result, Ok, Err, min, nat_eq}
+use Rattle.std.specs.Prelude.{ℕ, ◌≡◌, ◌≢◌, ◌⊎◌, ◌+◌, if◌then◌else◌, List, [], ◌∷◌, length, Option, Some, None, Result, Ok, Err, min, nat_eq, true, false}
 use Rattle.std.specs.Cmp.Lexicographic.{pointwise}
 use Rattle.mrp_rows.specs.declared.fault.Fault.{Fault}
 use Rattle.mrp_rows.specs.declared.fault.Table.{Table}
@@ -19,7 +19,7 @@ memory_fault table number = record { code = 22; table = table; row = number }
 abbrev pub after_header : Table → List (List (List ℕ)) → Result Left Fault
 after_header table [] = Err (header_fault table)
 after_header table (header ∷ records) =
-    if pointwise (pointwise nat_eq) header (columns_of table) then Ok (record { table = table; number = 1; left = records })
+    if pointwise (pointwise nat_eq) header (columns_of table) then Ok (record { table = table; number = 1; left = records; is_over = false })
     else Err (header_fault table)
 
 -- a table's text, opened
@@ -35,23 +35,24 @@ GivesUnless refused (Err f) read = (f ≡ refused) ⊎ (read ≡ Err f)
 abbrev pub next_number : ℕ → ℕ
 next_number n = min (n + 1) 4294967295
 
--- a refusal leaves no record
-abbrev pub IsStopped : Left → Left → Type 0
-IsStopped old new = (new.table ≡ old.table) × (new.left ≡ [])
+-- no record is left, for good
+abbrev pub IsOver : Left → Type 0
+IsOver l = (l.left ≡ []) × (l.is_over ≡ true)
 
--- the next record with its number, whatever its cells; None where none is left; or memory was refused
+-- the next record with its number, whatever its cells; None at the end and from then on; or memory was refused
 abbrev pub TakesNext : Left → Result (Option Cells) Fault → Left → Type 0
-TakesNext old (Ok None) new = (old.left ≡ []) × (new ≡ old)
+TakesNext old (Ok None) new = (old.left ≡ []) × IsOver new × (new.table ≡ old.table)
 TakesNext old (Ok (Some r)) new =
     (old.left ≡ r.cells ∷ new.left) × (r.table ≡ old.table) × (r.number ≡ old.number) × (new.number ≡ next_number old.number) × (new.table ≡ old.table)
-TakesNext old (Err f) new = (f ≡ memory_fault old.table old.number) × IsStopped old new
+    × (old.is_over ≡ false) × (new.is_over ≡ false)
+TakesNext old (Err f) new = (f ≡ memory_fault old.table old.number) × (old.is_over ≡ false) × IsOver new × (new.table ≡ old.table)
 
--- the same, of records that have as many cells as their table has columns; the first that has not is refused
+-- the same, of records that have as many cells as their table has columns: the first that has not is refused, and a refusal is the last answer but None
 abbrev pub NextIs : Left → Result (Option Cells) Fault → Left → Type 0
-NextIs old (Ok None) new = (old.left ≡ []) × (new ≡ old)
+NextIs old (Ok None) new = (old.left ≡ []) × IsOver new × (new.table ≡ old.table)
 NextIs old (Ok (Some r)) new =
     (old.left ≡ r.cells ∷ new.left) × (length r.cells ≡ width_of old.table) × (r.table ≡ old.table) × (r.number ≡ old.number)
-    × (new.number ≡ next_number old.number) × (new.table ≡ old.table)
+    × (new.number ≡ next_number old.number) × (new.table ≡ old.table) × (old.is_over ≡ false) × (new.is_over ≡ false)
 NextIs old (Err f) new =
-    (new.left ≡ []) × (new.table ≡ old.table) × (f.table ≡ old.table) × (f.row ≡ old.number)
+    (old.is_over ≡ false) × IsOver new × (new.table ≡ old.table) × (f.table ≡ old.table) × (f.row ≡ old.number)
     × ((f.code ≡ 22) ⊎ ((f.code ≡ 6) × (r : List (List ℕ)) × (rest : List (List (List ℕ))) × (old.left ≡ r ∷ rest) × (length r ≢ width_of old.table)))

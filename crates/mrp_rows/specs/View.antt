@@ -7,7 +7,7 @@ use Rattle.mrp_rows.specs.Reading.{IsReading, records_after}
 
 -- none once it is done, else those of its reader
 abbrev pub left_of : Inside → Left
-left_of c = record { table = c.table; number = c.number; left = if c.done then [] else records_after c.reader }
+left_of c = record { table = c.table; number = c.number; left = if c.done then [] else records_after c.reader; is_over = c.done }
 
 -- a cursor that is not done reads on
 pub record IsUsable (c : Inside) : Type 0 where

@@ -1,6 +1,6 @@
 //! A table's records, one after the other.
 
-ghost use Rattle.std.specs.Prelude.{◌≡◌};
+ghost use Rattle.std.specs.Prelude.{◌≡◌, false};
 ghost use Rattle.mrp_rows.specs.Next.{GivesUnless, NextIs, TakesNext, memory_fault, opened};
 ghost use Rattle.mrp_rows.specs.Reading.{IsReading, ReadsCells};
 ghost use Rattle.mrp_rows.specs.Records.{records_of};
@@ -48,7 +48,7 @@ impl<'a> Model for Cursor<'a> {
 impl<'a> Cursor<'a> {
     // At the front of a table's text, the header included.
     fn front(alloc: Global, text: &'a [u8], table: Table) -> Cursor<'a>
-        ensures { result ≡ record { table = table; number = 0; left = records_of text.now } }
+        ensures { result ≡ record { table = table; number = 0; left = records_of text.now; is_over = false } }
     {
         let reader = ReaderBuilder::new()
             .has_headers(false)

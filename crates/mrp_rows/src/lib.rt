@@ -11,5 +11,5 @@ mod row;
 pub use cursor::Cursor;
 pub use fault::{Fault, Table};
 pub use name::Name;
-pub use record_laws::records_are_csv;
+pub use record_laws::{numbers_in_cells, records_are_csv};
 pub use row::Row;
