@@ -26,7 +26,7 @@ header-drop cells names i d cell name differs same long within cell_is name_is t
     let in_names : i < length (map (λ (n : Bor (List ℕ)). n.now) names) = rw (length-map names (λ (n : Bor (List ℕ)). n.now)) within in
     let name_at = name_is ∙ sym (get_or-map (λ (n : Bor (List ℕ)). n.now) names i d [] within) in
     let equal : pointwise nat_eq (get_or cells i []) (get_or (map (λ (n : Bor (List ℕ)). n.now) names) i []) ≡ same =
-        rw (← cell_is, ← name_at) (not-same (pointwise nat_eq cell name) same (sym told ∙ is)) in
+    rw (← cell_is, ← name_at) (not-same (pointwise nat_eq cell name) same (sym told ∙ is)) in
     pointwise-drop (pointwise nat_eq) cells (map (λ (n : Bor (List ℕ)). n.now) names) i [] [] in_cells in_names
     ∙ ap (λ b. b && pointwise (pointwise nat_eq) (drop (i + 1) cells) (drop (i + 1) (map (λ (n : Bor (List ℕ)). n.now) names))) equal
   where

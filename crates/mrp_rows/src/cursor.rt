@@ -146,3 +146,6 @@ fn read_cells(
         Err(_) => Err(NoMemory),
     }
 }
+
+#[cfg(test)]
+mod tests;
