@@ -5,11 +5,10 @@ mod column;
 mod cursor;
 mod fault;
 mod name;
-mod record_laws;
+pub mod record_laws;
 mod row;
 
 pub use cursor::Cursor;
 pub use fault::{Fault, Table};
 pub use name::Name;
-pub use record_laws::{numbers_in_cells, records_are_csv};
 pub use row::Row;
