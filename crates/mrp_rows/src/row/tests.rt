@@ -47,7 +47,7 @@ fn numbers_are_digits_alone_within_limits(rt: HostRuntime) -> Result<(), Fail> {
         let number = row.number(0, least, most)?;
         assert_eq!(rt; number, want, "the number {cell:?}");
     }
-    let wrong: [(&[u8], u64, u64, u8); 17] = [
+    let wrong: [(&[u8], u64, u64, u8); 18] = [
         (b"", 0, 10, NUMBER),
         (b"\"\"", 0, 10, NUMBER),
         (b"+1", 0, 10, NUMBER),
@@ -57,6 +57,7 @@ fn numbers_are_digits_alone_within_limits(rt: HostRuntime) -> Result<(), Fail> {
         (b"1.0", 0, 10, NUMBER),
         (b"12.0", 0, 1_000_000_000, NUMBER),
         (b"1e3", 0, 10, NUMBER),
+        (b"\"10\n\"", 0, 10, NUMBER),
         (b"1\xFF", 0, 10, NUMBER),
         (b"999999999999999999999999x", 0, 10, NUMBER),
         (b"1000000001", 0, 1_000_000_000, RANGE),
