@@ -1,11 +1,11 @@
 -- What digits in a cell are read as.
-use Rattle.std.proofs.Common.{◌≡◌, ◌<◌, ◌≤◌, ◌+◌, ◌*◌, ◌-◌, ◌^◌, ◌++◌, ◌∙◌, ℕ, zero, suc, Bool, true, false, List, [], ◌∷◌, Ok, Err, Result, length, replicate, refl, sym, ap, arith, rules, decimal, nat_le, cond}
+use Rattle.std.proofs.Common.{◌≡◌, ◌<◌, ◌≤◌, ◌^◌, ◌++◌, ◌∙◌, ℕ, zero, suc, Bool, true, false, List, [], ◌∷◌, Ok, Err, length, replicate, refl, arith, rules, decimal, nat_le, cond}
 use Rattle.std.proofs.lemmas.Bool.{le-leb, leb-true}
 use Rattle.std.proofs.lemmas.Fmt.{decimal_is_IsNumeral, digits_decimal, digits_value-decimal}
 use Rattle.std.proofs.lemmas.Str.Parse.{IsNumeralModel, numerals_by_fold}
 use Rattle.std.specs.List.{list_all}
-use Rattle.mrp_qty.specs.Digits.{is_digit, number_of, value_after, value_of, value_up_to}
-use Rattle.mrp_qty.specs.declared.number.NumberFault.TheVariants.{NotDigits, TooLarge}
+use Rattle.mrp_qty.specs.Digits.{is_digit, value_after, value_of}
+use Rattle.mrp_qty.specs.declared.number.NumberFault.TheVariants.{TooLarge}
 use Rattle.mrp_rows.specs.Cell.{at_least, number_cell}
 
 -- these words are the library's of digits and their value

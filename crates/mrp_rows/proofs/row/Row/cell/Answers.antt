@@ -1,4 +1,4 @@
-use Rattle.std.proofs.Common.{◌≡◌, ◌<◌, ◌∙◌, ap, length, get_or, []}
+use Rattle.std.proofs.Common.{◌<◌, ◌∙◌, ap, length, get_or, []}
 use Rattle.csv.specs.Records.{fields_of}
 use Rattle.mrp_rows.specs.Left.{Cells}
 use Rattle.mrp_rows.proofs.CellPlaces.{field_at-within, unwrap_or-some}
