@@ -1,2 +1,2 @@
-mod Numerals
+pub mod Numerals
 mod Values

@@ -1,31 +1,18 @@
 -- Texts of digits are std's numerals.
-use Rattle.std.proofs.Common.{◌≡◌, ◌≢◌, ℕ, ◌<◌, ◌≤◌, ◌^◌, true, List, [], ◌∷◌, length, refl, ap, ◌∙◌, arith, Ok}
-use Rattle.std.specs.Prelude.{decimal, ◌&&◌}
+use Rattle.std.proofs.Common.{◌≡◌, ◌≢◌, ℕ, ◌<◌, ◌≤◌, ◌^◌, true, List, [], ◌∷◌, length, refl, ap, ◌∙◌, arith, Ok, rules}
+use Rattle.std.specs.Prelude.{decimal}
 use Rattle.std.specs.Char.{is_ascii_digit}
 use Rattle.std.specs.List.{list_all}
-use Rattle.std.proofs.lemmas.Bool.{le-leb, leb-true}
-use Rattle.std.proofs.lemmas.Str.Parse.{IsDigitsTest, FoldsDigits, IsNumeralModel, numerals_by_fold}
+use Rattle.std.proofs.lemmas.Bool.{le-leb}
+use Rattle.std.proofs.lemmas.Str.Parse.{IsNumeralModel, numerals_by_fold}
 use Rattle.std.proofs.lemmas.Fmt.{decimal_nonempty, digits_decimal, digits_value-decimal}
 use Rattle.mrp_qty.specs.Digits.{value_after, value_of, value_up_to, number_of}
 
-abbrev AreDigits : List ℕ → Type 0
+abbrev pub AreDigits : List ℕ → Type 0
 AreDigits text = list_all is_ascii_digit text ≡ true
 
-digits_test : IsDigitsTest AreDigits
-digits_test = record {
-  empty = refl;
-  parts = λ c cs h. grind (arith, leb-true);
-  more = λ c cs r h i. (le-leb 48 c r.0 i && le-leb c 57 r.1 i) && h i;
-}
-
-folds : FoldsDigits value_after
-folds = record {
-  empty = λ n. refl;
-  more = λ n c cs r. refl;
-}
-
-numerals : IsNumeralModel AreDigits value_of
-numerals = numerals_by_fold AreDigits digits_test value_after folds
+pub numerals : IsNumeralModel AreDigits value_of
+numerals = numerals_by_fold AreDigits (search rules) value_after (search rules)
 
 reads : (max : ℕ) (text : List ℕ) → AreDigits text → text ≢ [] → number_of max text ≡ value_up_to max text
 reads max [] h ne = absurd (ne refl)

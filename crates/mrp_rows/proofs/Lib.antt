@@ -1,6 +1,12 @@
-pub mod SplitLines
-pub mod SplitTexts
-pub mod SplitPlaces
-pub mod StreamFronts
+mod CellPlaces
+mod CsvRecords
+mod CsvSteps
+mod DigitCells
+mod NameBytes
 pub mod SectionLaws
+pub mod SplitLines
+pub mod SplitPlaces
+pub mod SplitTexts
+pub mod StreamFronts
 pub mod TextLaws
+mod WordPlaces

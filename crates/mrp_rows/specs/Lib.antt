@@ -1,7 +1,16 @@
 pub mod Bundle
+pub mod Cell
+pub mod Columns
 pub mod FaultText
+pub mod Left
+pub mod Name
+pub mod Next
+pub mod Padding
 pub mod Placing
+pub mod Reading
+pub mod Records
 pub mod Streams
 pub mod Tables
 pub mod Together
 pub mod Told
+pub mod View

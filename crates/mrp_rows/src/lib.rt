@@ -3,13 +3,21 @@
 
 mod bundle;
 pub mod bundle_laws;
+mod column;
+mod cursor;
 mod fault;
 mod fault_texts;
+mod name;
+pub mod record_laws;
+mod row;
 mod streams;
 mod told;
 
 pub use bundle::{Sections, split_bundle};
+pub use cursor::Cursor;
 pub use fault::{Fault, Table};
 pub use fault_texts::fault_text;
+pub use name::Name;
+pub use row::Row;
 pub use streams::{ReadFault, Tries, WriteFault, read_bundle, read_within, write_text};
 pub use told::Told;

@@ -1,0 +1,20 @@
+-- The columns of each table, by their names (profile).
+use Rattle.std.specs.Prelude.{ℕ, List, [], ◌∷◌, length, codes}
+use Rattle.mrp_rows.specs.declared.fault.Table.{Table}
+use Rattle.mrp_rows.specs.declared.fault.Table.TheVariants as t
+
+abbrev pub columns_of : Table → List (List ℕ)
+columns_of t.Calendar = codes "key" ∷ codes "value" ∷ []
+columns_of t.Items = codes "item" ∷ codes "class" ∷ codes "lead" ∷ codes "scrap" ∷ codes "lot" ∷ codes "size" ∷ codes "safety" ∷ []
+columns_of t.Centres = codes "centre" ∷ codes "minutes" ∷ []
+columns_of t.Stock = codes "item" ∷ codes "onhand" ∷ []
+columns_of t.Receipts = codes "item" ∷ codes "order" ∷ codes "date" ∷ codes "quantity" ∷ []
+columns_of t.Bills = codes "parent" ∷ codes "component" ∷ codes "per" ∷ []
+columns_of t.Routings = codes "item" ∷ codes "op" ∷ codes "centre" ∷ codes "setup" ∷ codes "run" ∷ codes "offset" ∷ []
+columns_of t.Master = codes "item" ∷ codes "row" ∷ codes "date" ∷ codes "quantity" ∷ []
+columns_of t.Script = codes "desk" ∷ codes "call" ∷ codes "item" ∷ codes "date" ∷ codes "quantity" ∷ codes "number" ∷ []
+columns_of t.Bundle = []
+
+-- how many cells each record of a table has
+abbrev pub width_of : Table → ℕ
+width_of table = length (columns_of table)

@@ -1,0 +1,175 @@
+//! A table's records, one after the other.
+
+ghost use Rattle.std.specs.Prelude.{◌≡◌, ◌≢◌, false};
+ghost use Rattle.mrp_rows.specs.Bundle.{text_in};
+ghost use Rattle.mrp_rows.specs.Next.{GivesUnless, NextIs, TakesNext, memory_fault, opened};
+ghost use Rattle.mrp_rows.specs.Reading.{IsReading, ReadsCells};
+ghost use Rattle.mrp_rows.specs.Records.{records_of};
+
+use crate::bundle::Sections;
+use crate::column::{columns, is_header};
+use crate::fault::{Fault, Table};
+use crate::row::Row;
+use csv::{ByteRecord, Reader, ReaderBuilder};
+use mrp_qty::NoMemory;
+use std::alloc::Global;
+use std::marker::Model;
+
+const HEADER: u8 = 5;
+
+const COLUMNS: u8 = 6;
+
+const NO_MEMORY: u8 = 22;
+
+// Room for a record's bytes: most are shorter, and a longer one makes its own.
+const USUAL_LENGTH: usize = 64;
+
+/// The records of a table that are left, behind its header.
+#[derive(Drop)]
+pub struct Cursor<'a> {
+    alloc: Global,
+    reader: Reader<&'a [u8]>,
+    table: Table,
+    columns: usize,
+    number: u32,
+    done: bool,
+}
+
+impl<'a> Model for Cursor<'a> {
+    ghost use Rattle.mrp_rows.specs.Left.{Left};
+
+    ghost Value = { Left };
+
+    ghost use Rattle.mrp_rows.specs.View.{left_of, IsUsable};
+
+    ghost view = { left_of };
+
+    ghost invariant = { IsUsable };
+}
+
+impl<'a> Cursor<'a> {
+    // At the front of a table's text, the header included.
+    fn front(alloc: Global, text: &'a [u8], table: Table) -> Cursor<'a>
+        ensures { result ≡ record { table = table; number = 0; left = records_of text.now; is_over = false } }
+    {
+        let reader = ReaderBuilder::new()
+            .has_headers(false)
+            .flexible(true)
+            .from_reader(alloc, text);
+        Cursor {
+            alloc,
+            reader,
+            table,
+            columns: columns(table).len(),
+            number: 0,
+            done: false,
+        }
+    }
+
+    /// The records of a table, behind its header. The caller owes a table other than the bundle.
+    ///
+    /// Errors, at row 0: 5, where the header's cells are not exactly the names of the table's
+    /// columns, also where there is no record; 22, where memory is refused.
+    pub fn new(alloc: Global, sections: &Sections<'a>, table: Table) -> Result<Cursor<'a>, Fault>
+        requires { table ≢ Table.Bundle }
+        ensures { GivesUnless (memory_fault table 0) result (opened table (text_in sections.now table)) }
+    {
+        Cursor::over(alloc, sections.text_of(table), table)
+    }
+
+    // The records of a table's text, behind its header.
+    pub(crate) fn over(alloc: Global, text: &'a [u8], table: Table) -> Result<Cursor<'a>, Fault>
+        ensures { GivesUnless (memory_fault table 0) result (opened table text.now) }
+    {
+        let mut cursor = Cursor::front(alloc, text, table);
+        match cursor.take_next()? {
+            Some(header) if is_header(&header, columns(table)) => Ok(cursor),
+            _ => Err(Fault {
+                code: HEADER,
+                table,
+                row: 0,
+            }),
+        }
+    }
+
+    /// The table.
+    pub fn table(&self) -> Table
+        ensures { result ≡ self.now.table }
+    {
+        self.table
+    }
+
+    /// The number of the next record.
+    pub fn number(&self) -> u32
+        ensures { result ≡ self.now.number }
+    {
+        self.number
+    }
+
+    /// The next record, or None at the end. After a refusal there is none for good.
+    ///
+    /// Errors, at the record's number: 6, where it has another count of cells than its table has
+    /// columns; 22, where memory is refused.
+    pub fn next(&mut self) -> Result<Option<Row>, Fault>
+        ensures { NextIs self.old result self.new }
+    {
+        let Some(row) = self.take_next()? else {
+            return Ok(None);
+        };
+        if row.cell_count() != self.columns {
+            self.done = true;
+            return Err(row.fault(COLUMNS));
+        }
+        Ok(Some(row))
+    }
+
+    // The next record, whatever its cells.
+    fn take_next(&mut self) -> Result<Option<Row>, Fault>
+        ensures { TakesNext self.old result self.new }
+    {
+        if self.done {
+            return Ok(None);
+        }
+        match read_cells(self.alloc, &mut self.reader, self.columns) {
+            Ok(Some(cells)) => {
+                let number = self.number;
+                self.number = number.saturating_add(1);
+                Ok(Some(Row::new(self.table, number, cells)))
+            }
+            Ok(None) => {
+                self.done = true;
+                Ok(None)
+            }
+            Err(_) => {
+                self.done = true;
+                Err(Fault {
+                    code: NO_MEMORY,
+                    table: self.table,
+                    row: self.number,
+                })
+            }
+        }
+    }
+}
+
+// The cells of a reader's next record, or None at the end.
+fn read_cells(
+    alloc: Global,
+    reader: &mut Reader<&[u8]>,
+    columns: usize,
+) -> Result<Option<ByteRecord>, NoMemory>
+    requires { IsReading reader.old }
+    ensures { ReadsCells reader.old result reader.new }
+{
+    let Ok(mut cells) = ByteRecord::with_capacity(alloc, USUAL_LENGTH, columns) else {
+        return Err(NoMemory);
+    };
+    match reader.read_byte_record(&mut cells) {
+        Ok(true) => Ok(Some(cells)),
+        Ok(false) => Ok(None),
+        Err(_) => Err(NoMemory),
+    }
+}
+
+#[cfg(test)]
+mod tests;

@@ -1,0 +1,134 @@
+//! Names of items, centres and orders.
+
+ghost use Rattle.std.specs.Prelude.{◌≡◌, ◌≤◌, IsTrue, nat_eq, length, Option, Some, None};
+ghost use Rattle.std.specs.List.{list_all};
+ghost use Rattle.std.specs.Hash as fed;
+ghost use Rattle.std.specs.Cmp.Lexicographic.{pointwise, nat_list_eq_equiv};
+ghost use Rattle.std.specs.Cmp.{partial_equiv_from_equiv};
+ghost use Rattle.std.specs.Cmp.Rules.{hashing};
+ghost use Rattle.std.proofs.Common.{rules};
+ghost use Rattle.mrp_rows.specs.Name.{has_name_ends, is_name, is_printable, name_in};
+
+use std::fmt;
+use std::hash::{Hash, Hasher};
+use std::marker::Model;
+
+const LONGEST: usize = 32;
+
+/// A name: 1 to 32 bytes of printable ASCII, with no space at either end, that do not begin with
+/// `[` (profile). Names are compared byte for byte.
+#[derive(Clone, Copy)]
+pub struct Name {
+    bytes: [u8; 32],
+    len: u8,
+}
+
+impl Model for Name {
+    ghost use Rattle.std.specs.Prelude.{ℕ, List, length, take};
+    ghost use Rattle.mrp_rows.specs.Padding.{IsPadded, padded, padded-take, length-take};
+
+    ghost Value = { List ℕ };
+
+    ghost view = { λ n. take n.len n.bytes };
+
+    ghost invariant = { λ n. IsPadded n.len n.bytes };
+
+    ghost inverse = { λ text. record { bytes = padded text; len = length text } };
+
+    ghost inverse_ok = { λ n h i. record {
+      bytes = padded-take n.len n.bytes h i;
+      len = length-take n.len n.bytes h i;
+    } };
+}
+
+impl PartialEq for Name {
+    ghost eq = { pointwise nat_eq };
+
+    ghost laws = { partial_equiv_from_equiv nat_list_eq_equiv };
+
+    fn eq(&self, other: &Name) -> bool {
+        self.as_bytes() == other.as_bytes()
+    }
+}
+
+impl Eq for Name {
+    ghost laws = { nat_list_eq_equiv };
+}
+
+impl Hash for Name {
+    ghost hash_input = { fed.slice fed.u8 };
+
+    ghost respects_eq = { Prim.search (hashing, rules) };
+
+    fn hash<H: Hasher>(&self, state: &mut H) {
+        self.as_bytes().hash(state);
+    }
+}
+
+impl fmt::Debug for Name {
+    fn fmt<W: fmt::Write>(&self, f: &mut fmt::Formatter<W>) -> fmt::Result {
+        f.write_str("Name(")?;
+        for byte in self.as_bytes() {
+            f.write_char(char::from(*byte))?;
+        }
+        f.write_str(")")
+    }
+}
+
+impl Name {
+    /// A text as a name; None where it is none.
+    pub fn new(text: &[u8]) -> Option<Name>
+        ensures { result ≡ name_in text.now }
+    {
+        if !is_name_text(text) {
+            return None;
+        }
+        let mut bytes = [0; 32];
+        for (i, byte) in text.iter().enumerate() {
+            bytes[i] = *byte;
+        }
+        Some(Name {
+            bytes,
+            len: text.len() as u8,
+        })
+    }
+
+    /// The name's text.
+    pub fn as_bytes(&self) -> &[u8]
+        ensures { result.now ≡ self.now }
+    {
+        let (text, _) = self.bytes.split_at(usize::from(self.len));
+        text
+    }
+}
+
+fn is_name_text(text: &[u8]) -> bool
+    ensures is { result ≡ is_name text.now }
+    ensures short { IsTrue result → length text.now ≤ 32 }
+{
+    if text.is_empty() || text.len() > LONGEST {
+        return false;
+    }
+    is_printable_text(text) && has_good_ends(text[0], text[text.len() - 1])
+}
+
+fn is_printable_text(text: &[u8]) -> bool
+    ensures { result ≡ list_all is_printable text.now }
+{
+    text.iter().all(|byte| is_printable_byte(*byte))
+}
+
+fn is_printable_byte(byte: u8) -> bool
+    ensures { result ≡ is_printable byte }
+{
+    byte >= b' ' && byte <= b'~'
+}
+
+fn has_good_ends(first: u8, last: u8) -> bool
+    ensures { result ≡ has_name_ends first last }
+{
+    first != b' ' && last != b' ' && first != b'['
+}
+
+#[cfg(test)]
+mod tests;
