@@ -1,0 +1,290 @@
+//! The lock.
+ghost use Rattle.std.specs.Prelude.{◌≡◌, ℕ, ◌≤◌, ◌+◌, ◌<◌, IfOk, IfErr, MatchOption, MatchResult, vec_capacity, ◌++◌, ◌∷◌, [], length, slice_get, Some, All, Contains};
+ghost use Rattle.mrp_turn.specs.Seen.{Seated, newcomer};
+ghost use Rattle.mrp_turn.specs.Calls.{entry, Explains};
+
+use crate::log::{Entry, Held};
+use crate::object::Object;
+use crate::steps::{Cut, Give, Keep, Note, TurnRule, Take};
+use crate::seat::{Place, Seat};
+use crate::views::{About, View};
+use atomic_table::{Refused, Table};
+use std::alloc::{AllocError, Global};
+use std::marker::Model;
+use std::sync::Wait;
+
+/// Why a turn was not made.
+#[derive(Debug, Drop)]
+pub enum TurnFault {
+    /// The number of seats is 0 or over 64.
+    Seats,
+    NoMemory,
+}
+
+/// Why a call was not answered.
+#[derive(Debug, Drop)]
+pub enum CallFault<E> {
+    /// The log could not grow.
+    NoMemory,
+    Refused(E),
+}
+
+#[derive(Drop)]
+pub struct Turn<O: Object> {
+    table: Table<
+        Option<Held<O::State, O::Call, O::Reply>>,
+        View<O, O::Call, O::Reply>,
+        About<O>,
+        TurnRule<O>,
+        Global,
+    >,
+    about: About<O>,
+}
+
+impl<O: Object> Model for Turn<O> {
+    ghost use Rattle.std.specs.Prelude.{◌≡◌, ℕ, ◌≤◌};
+    ghost use Rattle.mrp_turn.specs.Seen.{TurnId};
+
+    ghost Value = { TurnId O };
+
+    ghost view = { λ t. record { table = t.table.shared.table_id; about = t.about } };
+
+    ghost invariant = { λ t. (t.table.shared.table_id.words ≡ 1) × (t.table.shared.table_id.slots ≡ 1) × (t.table.shared.key ≡ t.about) × (1 ≤ t.about.seats) × (t.about.seats ≤ 64) };
+}
+
+impl<O: Object> Turn<O> {
+    ghost use Rattle.mrp_turn.specs.Rule.{starting};
+    ghost use Rattle.mrp_turn.specs.Lists.{StartsWith, Each};
+    ghost use Rattle.mrp_turn.specs.Log.{LeadsTo, entries_by};
+    ghost use Rattle.mrp_turn.specs.Calls.{IsAt, RunTells, SeatTells, StandsFor};
+    ghost use Rattle.mrp_turn.specs.Steps.{IsIdle, Taken, Lost, MayGiveFrom, GivenFrom};
+    ghost use Rattle.mrp_turn.specs.Faults.{HasFault};
+
+    // The turn, and the place that keeps all its seats.
+    fn open(
+        alloc: Global,
+        about: About<O>,
+        state: O::State,
+    ) -> Result<(Turn<O>, Place<O>), AllocError>
+        requires opened { O.opens about.object state }
+        requires seats { (1 ≤ about.seats) × (about.seats ≤ 64) }
+        ensures { IfOk result (λ r. (r.0.about ≡ about) × (r.1.table_id ≡ r.0.table) × (r.1.me ≡ (starting about, []))) }
+    {
+        let log: Vec<Entry<O::Call, O::Reply>> = Vec::with_capacity(alloc, about.room)?;
+        let mut slots = Vec::with_capacity(alloc, 1)?;
+        slots.push_reserved(Some(Held { state, log }));
+        match Table::new(alloc, &[0], slots, &about) {
+            Ok((table, place)) => Ok((Turn { table, about }, place)),
+            Err(Refused { slots: _ }) => Err(AllocError),
+        }
+    }
+
+    /// A turn over the object, and its seats, numbered from 1. The log has places for `room` entries.
+    pub fn new(
+        alloc: Global,
+        object: O,
+        state: O::State,
+        room: usize,
+        seats: u64,
+    ) -> Result<(Turn<O>, Vec<Seat<O>>), TurnFault>
+        requires { O.opens object state }
+        ensures seats { IfOk result (λ r. (length r.1.items ≡ seats) × ((k : ℕ) → k < seats → slice_get r.1.items k ≡ Some (newcomer r.0 (k + 1)))) }
+        ensures about { IfOk result (λ r. r.0.about ≡ record { object = object; seats = seats; room = room }) }
+        ensures fault { IfErr result (λ f. HasFault seats f) }
+    {
+        if seats == 0 || seats > 64 {
+            return Err(TurnFault::Seats);
+        }
+        let about = About {
+            object,
+            seats,
+            room,
+        };
+        let Ok((turn, place)) = Turn::open(alloc, about, state) else {
+            return Err(TurnFault::NoMemory);
+        };
+        match turn.deal(alloc, place) {
+            Ok(seats) => Ok((turn, seats)),
+            Err(_) => Err(TurnFault::NoMemory),
+        }
+    }
+
+    // Cuts the seats off the place that keeps them all.
+    fn deal(&self, alloc: Global, mut place: Place<O>) -> Result<Vec<Seat<O>>, AllocError>
+        requires { (place.table_id ≡ self.now.table) × (place.me ≡ (starting self.now.about, [])) }
+        ensures { IfOk result (λ v. (length v.items ≡ self.now.about.seats) × ((k : ℕ) → k < self.now.about.seats → slice_get v.items k ≡ Some (newcomer self.now (k + 1)))) }
+    {
+        let mut seats = Vec::with_capacity(alloc, self.about.seats as usize)?;
+        for n in 0..self.about.seats {
+            let next = self.table.shared.split_seat::<Cut>(&mut place);
+            seats.push_reserved(Seat::at(n + 1, &self.about, next));
+        }
+        Ok(seats)
+    }
+
+    // Takes the slot and the value in it, if no seat has it.
+    fn try_take(&self, place: &mut Place<O>) -> Option<Held<O::State, O::Call, O::Reply>>
+        requires turn { place.old.table_id ≡ self.now.table }
+        requires idle { IsIdle O.opens O.answers self.now.about place.old.me }
+        ensures same { place.new.table_id ≡ place.old.table_id }
+        ensures taken { MatchOption result (Lost O.opens O.answers place.old.me place.new.me) (λ held. Taken O.opens O.answers place.old.me held place.new.me) }
+    {
+        let shared = &self.table.shared;
+        let found = shared.swap::<Take<O>>(place, 0, 1);
+        if found != 0 {
+            return None;
+        }
+        shared.exchange(place, 0, None)
+    }
+
+    fn take<R: Wait>(&self, rt: &R, place: &mut Place<O>) -> Held<O::State, O::Call, O::Reply>
+        requires turn { place.old.table_id ≡ self.now.table }
+        requires idle { IsIdle O.opens O.answers self.now.about place.old.me }
+        ensures same { place.new.table_id ≡ place.old.table_id }
+        ensures taken { Taken O.opens O.answers place.old.me result place.new.me }
+    {
+        for _ in rt.forever() {
+            if let Some(held) = self.try_take(place) {
+                return held;
+            }
+            self.table.shared.park(rt, 0, 1);
+        }
+        unreachable!()
+    }
+
+    // Puts the value back, gives the slot back, and wakes one that waits.
+    fn give(&self, place: &mut Place<O>, held: Held<O::State, O::Call, O::Reply>)
+        requires turn { place.old.table_id ≡ self.now.table }
+        requires holds { MayGiveFrom O.opens O.answers place.old.me held }
+        ensures same { place.new.table_id ≡ place.old.table_id }
+        ensures given { GivenFrom place.old.me held place.new.me }
+    {
+        let shared = &self.table.shared;
+        drop(shared.exchange(place, 0, Some(held)));
+        shared.store::<Give>(place, 0, 0);
+        shared.wake_one(0);
+    }
+
+    // One call of the seat at this place, which may keep notes.
+    fn run<R: Wait>(
+        &self,
+        rt: &R,
+        number: u64,
+        place: &mut Place<O>,
+        call: O::Call,
+    ) -> Result<(u64, O::Reply), CallFault<O::Refused>>
+        requires turn { place.old.table_id ≡ self.now.table }
+        requires seat { IsAt self.now.about number place.old.me × (1 ≤ number) × (number ≤ 64) }
+        requires call { O.fits self.now.about.object call }
+        ensures same { place.new.table_id ≡ place.old.table_id }
+        ensures told { RunTells O.opens O.answers O.refuses O.wants_memory call place.old.me result place.new.me }
+    {
+        let mut held = self.take(rt, place);
+        let result = answer(&self.about.object, &mut held, number, call);
+        self.give(place, held);
+        result
+    }
+
+    /// Makes the call. Where it is answered, its entry stands in the log, at the number that comes with the reply.
+    pub fn call<R: Wait>(
+        &self,
+        rt: &R,
+        seat: &mut Seat<O>,
+        call: O::Call,
+    ) -> Result<(u64, O::Reply), CallFault<O::Refused>>
+        requires turn { seat.old.turn ≡ self.now }
+        requires call { O.fits self.now.about.object call }
+        ensures same { (seat.new.turn ≡ seat.old.turn) × (seat.new.number ≡ seat.old.number) }
+        ensures told { SeatTells O.opens O.answers O.refuses O.wants_memory call seat.old result seat.new }
+    {
+        self.run(rt, seat.number, &mut seat.place, call)
+    }
+
+    /// The same call, after which this seat has seen all that the other had seen.
+    pub fn meet<R: Wait>(
+        &self,
+        rt: &R,
+        seat: &mut Seat<O>,
+        other: &mut Seat<O>,
+        call: O::Call,
+    ) -> Result<(u64, O::Reply), CallFault<O::Refused>>
+        requires turn { (seat.old.turn ≡ self.now) × (other.old.turn ≡ self.now) }
+        requires call { O.fits self.now.about.object call }
+        ensures same { (seat.new.turn ≡ seat.old.turn) × (seat.new.number ≡ seat.old.number) }
+        ensures told { SeatTells O.opens O.answers O.refuses O.wants_memory call seat.old result seat.new }
+        ensures met { StartsWith seat.new.seen other.old.seen }
+        ensures other { other.new ≡ other.old }
+    {
+        let note = self.table.shared.split_seat::<Note>(&mut other.place);
+        self.table.shared.join_seat::<Keep>(&mut seat.place, note);
+        self.run(rt, seat.number, &mut seat.place, call)
+    }
+
+    /// Ends the turn, and gives its state and the log that led there. It takes each seat that was made.
+    pub fn close(self, mut seats: Vec<Seat<O>>) -> (O::State, Vec<Entry<O::Call, O::Reply>>)
+        requires turn { All (λ s. s.turn ≡ self) seats.items }
+        requires all { (n : ℕ) → 1 ≤ n → n ≤ self.about.seats → (s : Seated O O.Call O.Reply) × Contains seats.items s × (s.number ≡ n) }
+        ensures legal { LeadsTo (O.answers self.about.object) (O.opens self.about.object) result.1.items result.0 }
+        ensures seats { All (λ s. StartsWith result.1.items s.seen × (s.mine ≡ entries_by s.number result.1.items)) seats.items }
+        ensures numbers { All (λ e. (1 ≤ e.who) × (e.who ≤ self.about.seats)) result.1.items }
+    {
+        let _ = &self.about;
+        let Some(first) = seats.pop() else {
+            unreachable!()
+        };
+        let mut place = self.gather(first, seats);
+        let Some(Held { state, log }) = self.try_take(&mut place) else {
+            unreachable!()
+        };
+        let Turn { table, about: _ } = self;
+        let mut closed = table.close();
+        drop(closed.take(0));
+        closed.free();
+        (state, log)
+    }
+
+    // One place that stands for all these seats.
+    fn gather(&self, first: Seat<O>, mut others: Vec<Seat<O>>) -> Place<O>
+        requires turn { (first.turn ≡ self.now) × Each (λ s. s.turn ≡ self.now) others.items }
+        ensures same { result.table_id ≡ self.now.table }
+        ensures all { StandsFor self.now.about (first ∷ others.items) result.me }
+    {
+        let mut place = first.into_place();
+        while let Some(next) = others.pop() {
+            self.table
+                .shared
+                .join_seat::<Keep>(&mut place, next.into_place());
+        }
+        place
+    }
+}
+
+// Makes room for an entry, makes the call, and adds the entry.
+fn answer<O: Object>(
+    object: &O,
+    held: &mut Held<O::State, O::Call, O::Reply>,
+    who: u64,
+    call: O::Call,
+) -> Result<(u64, O::Reply), CallFault<O::Refused>>
+    requires call { O.fits object.now call }
+    requires who { (1 ≤ who) × (who ≤ 64) }
+    ensures room { vec_capacity held.old.log ≤ vec_capacity held.new.log }
+    ensures answer { MatchResult result
+        (λ r. (held.new.log.items ≡ held.old.log.items ++ entry who call r.1 ∷ []) × (r.0 ≡ length held.new.log.items) × O.answers object.now held.old.state who call r.1 held.new.state)
+        (λ f. (held.new.log.items ≡ held.old.log.items) × (held.new.state ≡ held.old.state) × Explains (O.refuses object.now held.old.state who call) O.wants_memory (vec_capacity held.old.log) (length held.old.log.items) f) }
+{
+    if held.log.try_reserve(1).is_err() {
+        return Err(CallFault::NoMemory);
+    }
+    match object.apply(&mut held.state, who, &call) {
+        Ok((reply, copy)) => {
+            held.log.push_reserved(Entry {
+                who,
+                call,
+                reply: copy,
+            });
+            Ok((held.log.len() as u64, reply))
+        }
+        Err(refused) => Err(CallFault::Refused(refused)),
+    }
+}
