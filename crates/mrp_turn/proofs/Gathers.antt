@@ -1,5 +1,5 @@
 -- All seats in one place, and the take that then wins.
-use Rattle.std.proofs.Common.{◌≡◌, ℕ, ◌≤◌, List, [], ◌∷◌, ◌++◌, length, sym, refl, ap, ◌∙◌, subst, arith, inl, inr, ⊎_elim}
+use Rattle.std.proofs.Common.{◌≡◌, ℕ, ◌≤◌, List, [], ◌∷◌, ◌++◌, length, sym, refl, ap, ◌∙◌, subst, arith, inl, inr, ⊎_elim, All}
 use Rattle.mrp_turn.specs.declared.log.Entry.{Entry}
 use Rattle.mrp_turn.specs.declared.log.Held.{Held}
 use Rattle.mrp_turn.specs.declared.views.About.{About}
@@ -9,9 +9,9 @@ use Rattle.mrp_turn.specs.Lists.{Each, total, Has, StartsWith}
 use Rattle.mrp_turn.specs.Log.{entries_by, AreFrom, LeadsTo}
 use Rattle.mrp_turn.specs.Rule.{live, account, alone, is_named, IsTrueOf}
 use Rattle.mrp_turn.specs.Steps.{joined, Lost, Taken}
-use Rattle.mrp_turn.specs.Seen.{TurnId, Seated}
+use Rattle.mrp_turn.specs.Seen.{TurnId, Seated, HasNumber}
 use Rattle.mrp_turn.specs.Calls.{StandsFor}
-use Rattle.mrp_turn.proofs.Lists.{Each-map, Each-append}
+use Rattle.mrp_turn.proofs.Lists.{Each-map, Each-append, All-from_Each}
 use Rattle.mrp_turn.proofs.Names.{is_named-self}
 use Rattle.mrp_turn.proofs.Seats.{M}
 
@@ -77,6 +77,14 @@ module _ {O C R : Type 0} where
   last_first [] first x h = h
   last_first (y ∷ ys) first x h = ⊎_elim (λ e. inr (inl e)) (λ k. ⊎_elim inl (λ l. inr (inr l)) (last_first ys first x k)) h
 
+-- what a close tells
+pub record Closed {O S C R : Type 0} (opens : S → Type 0) (answers : S → ℕ → C → R → S → Type 0) (count : ℕ) (seats : List (Seated O C R)) (log : List (Entry C R)) (state : S) : Type 0 where
+  pub legal : LeadsTo answers opens log state
+  pub seen : All (λ s. StartsWith log s.seen) seats
+  pub mine : All (λ s. s.mine ≡ entries_by s.number log) seats
+  pub in_range : All (λ e. (1 ≤ e.who) × (e.who ≤ count)) log
+  pub callers : All (λ e. HasNumber seats e.who) log
+
 module _ {O S C R : Type 0} (opens : O → S → Type 0) (answers : O → S → ℕ → C → R → S → Type 0) where
   -- the seat that keeps all seats can't lose
   pub never_lost : (key : About O) (seats rest : List (Seated O C R)) (first : Seated O C R) (m n : M O S C R) → seats ≡ rest ++ first ∷ [] → StandsFor key (first ∷ rest) m
@@ -87,11 +95,19 @@ module _ {O S C R : Type 0} (opens : O → S → Type 0) (answers : O → S → 
       let kept : Has (h.0.own ∷ h.0.kept) (account x.0.number x.0.seen x.0.mine) = Each-Has (λ y. Has (h.0.own ∷ h.0.kept) (account y.number y.seen y.mine)) (first ∷ rest) x.0 h.5 there in
       named (h.0.own ∷ h.0.kept) (account x.0.number x.0.seen x.0.mine) k kept x.2)
 
-  pub closes : (key : About O) (rest : List (Seated O C R)) (first : Seated O C R) (m n : M O S C R) (held : Held S C R) → StandsFor key (first ∷ rest) m → Taken opens answers m held n
-      → LeadsTo (answers key.object) (opens key.object) held.log.items held.state × AreFrom key.seats held.log.items
-      × Each (λ x. StartsWith held.log.items x.seen × (x.mine ≡ entries_by x.number held.log.items)) (rest ++ first ∷ [])
-  closes key rest first m n held h taken =
-      let t = taken h.0 h.1 in let log : List (Entry C R) = t.0 in let ps : List (Account C R) = h.0.own ∷ h.0.kept in
-      let each : Each (λ x. IsTrueOf log (account x.number x.seen x.mine)) (first ∷ rest) = Each-map (λ x. Has ps (account x.number x.seen x.mine)) (λ x. IsTrueOf log (account x.number x.seen x.mine)) (first ∷ rest) (λ x k. Each-Has (IsTrueOf log) ps (account x.number x.seen x.mine) t.2.4 k) h.5 in
-      subst (λ (x : About O × List (Entry C R)). LeadsTo (answers x.0.object) (opens x.0.object) x.1 held.state × AreFrom x.0.seats x.1 × Each (λ y. StartsWith x.1 y.seen × (y.mine ≡ entries_by y.number x.1)) (rest ++ first ∷ []))
-      (λ i. (h.3 i, sym t.2.0 i)) (t.2.1, t.2.3, Each-append (λ y. StartsWith log y.seen × (y.mine ≡ entries_by y.number log)) rest (first ∷ []) each.1 (each.0, tt))
+  -- what the take then tells, of the log that is given back
+  pub closes : (key : About O) (seats rest : List (Seated O C R)) (first : Seated O C R) (m n : M O S C R) (held : Held S C R) (log : List (Entry C R)) → seats ≡ rest ++ first ∷ [] → log ≡ held.log.items
+      → StandsFor key (first ∷ rest) m → Taken opens answers m held n → ((n : ℕ) → 1 ≤ n → n ≤ key.seats → HasNumber seats n)
+      → Closed (opens key.object) (answers key.object) key.seats seats log held.state
+  closes key seats rest first m n held log shape same h taken all =
+      let t = taken h.0 h.1 in let found : List (Entry C R) = t.0 in let ps : List (Account C R) = h.0.own ∷ h.0.kept in
+      let is : found ≡ log = sym t.2.0 ∙ sym same in
+      let each : Each (λ x. IsTrueOf found (account x.number x.seen x.mine)) (first ∷ rest) = Each-map (λ x. Has ps (account x.number x.seen x.mine)) (λ x. IsTrueOf found (account x.number x.seen x.mine)) (first ∷ rest) (λ x k. Each-Has (IsTrueOf found) ps (account x.number x.seen x.mine) t.2.4 k) h.5 in
+      let told : Each (λ x. IsTrueOf log (account x.number x.seen x.mine)) seats = subst (λ (x : List (Seated O C R) × List (Entry C R)). Each (λ y. IsTrueOf x.1 (account y.number y.seen y.mine)) x.0) (λ i. (sym shape i, is i)) (Each-append (λ x. IsTrueOf found (account x.number x.seen x.mine)) rest (first ∷ []) each.1 (each.0, tt)) in
+      let from : AreFrom key.seats log = subst (λ (x : About O × List (Entry C R)). AreFrom x.0.seats x.1) (λ i. (h.3 i, is i)) t.2.3 in record {
+        legal = subst (λ (x : About O × List (Entry C R)). LeadsTo (answers x.0.object) (opens x.0.object) x.1 held.state) (λ i. (h.3 i, is i)) t.2.1;
+        seen = All-from_Each (λ x. StartsWith log x.seen) seats (Each-map (λ x. IsTrueOf log (account x.number x.seen x.mine)) (λ x. StartsWith log x.seen) seats (λ x k. k.0) told);
+        mine = All-from_Each (λ x. x.mine ≡ entries_by x.number log) seats (Each-map (λ x. IsTrueOf log (account x.number x.seen x.mine)) (λ x. x.mine ≡ entries_by x.number log) seats (λ x k. k.1) told);
+        in_range = All-from_Each (λ e. (1 ≤ e.who) × (e.who ≤ key.seats)) log from;
+        callers = All-from_Each (λ e. HasNumber seats e.who) log (Each-map (λ e. (1 ≤ e.who) × (e.who ≤ key.seats)) (λ e. HasNumber seats e.who) log (λ e k. all e.who k.0 k.1) from);
+      }

@@ -1,17 +1,19 @@
-//! A lock that keeps a log: one word, one slot with a state and the log of the calls that led to it.
+//! A lock that keeps a log. Under it lies an object, and whoever takes a turn calls the object once: the call and its
+//! reply become the next entry of one log, whatever other threads do.
 #![tactic(auto)]
 
 mod log;
 mod object;
-mod steps;
 mod seat;
-mod views;
+mod steps;
 pub mod tally;
 #[cfg(test)]
 mod tests;
 mod turn;
+mod views;
 
-pub use log::Entry;
+pub use log::{Entry, Log};
 pub use object::Object;
 pub use seat::Seat;
 pub use turn::{CallFault, Turn, TurnFault};
+pub use views::About;

@@ -1,34 +1,45 @@
 //! The lock.
-ghost use Rattle.std.specs.Prelude.{◌≡◌, ℕ, ◌≤◌, ◌+◌, ◌<◌, IfOk, IfErr, MatchOption, MatchResult, vec_capacity, ◌++◌, ◌∷◌, [], length, slice_get, Some, All, Contains};
+ghost use Rattle.std.specs.Prelude.{◌≡◌, ℕ, ◌≤◌, ◌+◌, ◌<◌, IfOk, IfErr, OnOk, OnErr, MatchOption, MatchResult, vec_capacity, ◌++◌, ◌∷◌, [], length, slice_get, Some, All};
 ghost use Rattle.mrp_turn.specs.Seen.{Seated, newcomer};
 ghost use Rattle.mrp_turn.specs.Calls.{entry, Explains};
 
-use crate::log::{Entry, Held};
+use crate::log::{Entry, Held, Log};
 use crate::object::Object;
-use crate::steps::{Cut, Give, Keep, Note, TurnRule, Take};
 use crate::seat::{Place, Seat};
+use crate::steps::{Cut, Give, Keep, Note, Take, TurnRule};
 use crate::views::{About, View};
 use atomic_table::{Refused, Table};
 use std::alloc::{AllocError, Global};
+use std::hint::spin_loop;
 use std::marker::Model;
 use std::sync::Wait;
+use std::sync::atomic::{AtomicU64, Ordering};
+
+/// The most seats of a turn.
+pub const MOST_SEATS: u64 = 64;
+
+// How often a thread that finds the slot taken looks again before it sleeps.
+const LOOKS: u32 = 100;
 
 /// Why a turn was not made.
-#[derive(Debug, Drop)]
+#[derive(Debug, Drop, Clone, Copy, PartialEq, Eq)]
 pub enum TurnFault {
-    /// The number of seats is 0 or over 64.
+    /// The number of seats is 0 or over `MOST_SEATS`.
     Seats,
     NoMemory,
 }
 
-/// Why a call was not answered.
+/// Why a call was not answered. It made no entry.
 #[derive(Debug, Drop)]
 pub enum CallFault<E> {
-    /// The log could not grow.
+    /// The log had to grow past the places that it began with, and could not.
     NoMemory,
+    /// The object refused the call.
     Refused(E),
 }
 
+/// The lock: an object's state, with the log of the calls that led to it. Calls are made by its seats, each seat in one
+/// thread at a time.
 #[derive(Drop)]
 pub struct Turn<O: Object> {
     table: Table<
@@ -39,6 +50,8 @@ pub struct Turn<O: Object> {
         Global,
     >,
     about: About<O>,
+    // How many threads sleep until the slot is given back, or are about to.
+    sleepers: AtomicU64,
 }
 
 impl<O: Object> Model for Turn<O> {
@@ -55,31 +68,14 @@ impl<O: Object> Model for Turn<O> {
 impl<O: Object> Turn<O> {
     ghost use Rattle.mrp_turn.specs.Rule.{starting};
     ghost use Rattle.mrp_turn.specs.Lists.{StartsWith, Each};
-    ghost use Rattle.mrp_turn.specs.Log.{LeadsTo, entries_by};
-    ghost use Rattle.mrp_turn.specs.Calls.{IsAt, RunTells, SeatTells, StandsFor};
+    ghost use Rattle.mrp_turn.specs.Log.{IsLegal, LeadsTo, entries_by};
+    ghost use Rattle.mrp_turn.specs.Seen.{HasNumber};
+    ghost use Rattle.mrp_turn.specs.Calls.{GrowsBy, HasCause, IsAt, RunTells, StandsFor};
     ghost use Rattle.mrp_turn.specs.Steps.{IsIdle, Taken, Lost, MayGiveFrom, GivenFrom};
     ghost use Rattle.mrp_turn.specs.Faults.{HasFault};
 
-    // The turn, and the place that keeps all its seats.
-    fn open(
-        alloc: Global,
-        about: About<O>,
-        state: O::State,
-    ) -> Result<(Turn<O>, Place<O>), AllocError>
-        requires opened { O.opens about.object state }
-        requires seats { (1 ≤ about.seats) × (about.seats ≤ 64) }
-        ensures { IfOk result (λ r. (r.0.about ≡ about) × (r.1.table_id ≡ r.0.table) × (r.1.me ≡ (starting about, []))) }
-    {
-        let log: Vec<Entry<O::Call, O::Reply>> = Vec::with_capacity(alloc, about.room)?;
-        let mut slots = Vec::with_capacity(alloc, 1)?;
-        slots.push_reserved(Some(Held { state, log }));
-        match Table::new(alloc, &[0], slots, &about) {
-            Ok((table, place)) => Ok((Turn { table, about }, place)),
-            Err(Refused { slots: _ }) => Err(AllocError),
-        }
-    }
-
-    /// A turn over the object, and its seats, numbered from 1. The log has places for `room` entries.
+    /// A turn over the object, and its seats, numbered from 1. The log has places for `room` entries, and takes no memory
+    /// until it has more.
     pub fn new(
         alloc: Global,
         object: O,
@@ -88,11 +84,14 @@ impl<O: Object> Turn<O> {
         seats: u64,
     ) -> Result<(Turn<O>, Vec<Seat<O>>), TurnFault>
         requires { O.opens object state }
-        ensures seats { IfOk result (λ r. (length r.1.items ≡ seats) × ((k : ℕ) → k < seats → slice_get r.1.items k ≡ Some (newcomer r.0 (k + 1)))) }
+        ensures accepted { OnOk result ((1 ≤ seats) × (seats ≤ 64)) }
         ensures about { IfOk result (λ r. r.0.about ≡ record { object = object; seats = seats; room = room }) }
+        // As many seats as were asked for; the k-th has the number k, and has seen and called nothing.
+        ensures count { IfOk result (λ r. length r.1.items ≡ seats) }
+        ensures seats { IfOk result (λ r. (k : ℕ) → k < seats → slice_get r.1.items k ≡ Some (newcomer r.0 (k + 1))) }
         ensures fault { IfErr result (λ f. HasFault seats f) }
     {
-        if seats == 0 || seats > 64 {
+        if seats == 0 || seats > MOST_SEATS {
             return Err(TurnFault::Seats);
         }
         let about = About {
@@ -106,6 +105,32 @@ impl<O: Object> Turn<O> {
         match turn.deal(alloc, place) {
             Ok(seats) => Ok((turn, seats)),
             Err(_) => Err(TurnFault::NoMemory),
+        }
+    }
+
+    // The turn, and the place at the table that keeps all its seats.
+    fn open(
+        alloc: Global,
+        about: About<O>,
+        state: O::State,
+    ) -> Result<(Turn<O>, Place<O>), AllocError>
+        requires opened { O.opens about.object state }
+        requires seats { (1 ≤ about.seats) × (about.seats ≤ 64) }
+        ensures { IfOk result (λ r. (r.0.about ≡ about) × (r.1.table_id ≡ r.0.table) × (r.1.me ≡ (starting about, []))) }
+    {
+        let log: Vec<Entry<O::Call, O::Reply>> = Vec::with_capacity(alloc, about.room)?;
+        let mut slots = Vec::with_capacity(alloc, 1)?;
+        slots.push_reserved(Some(Held { state, log }));
+        match Table::new(alloc, &[0], slots, &about) {
+            Ok((table, place)) => Ok((
+                Turn {
+                    table,
+                    about,
+                    sleepers: AtomicU64::new(0),
+                },
+                place,
+            )),
+            Err(Refused { slots: _ }) => Err(AllocError),
         }
     }
 
@@ -137,6 +162,7 @@ impl<O: Object> Turn<O> {
         shared.exchange(place, 0, None)
     }
 
+    // Takes the slot, and waits for it while another seat has it.
     fn take<R: Wait>(&self, rt: &R, place: &mut Place<O>) -> Held<O::State, O::Call, O::Reply>
         requires turn { place.old.table_id ≡ self.now.table }
         requires idle { IsIdle O.opens O.answers self.now.about place.old.me }
@@ -147,12 +173,32 @@ impl<O: Object> Turn<O> {
             if let Some(held) = self.try_take(place) {
                 return held;
             }
-            self.table.shared.park(rt, 0, 1);
+            if !self.looks_free() {
+                self.sleep(rt);
+            }
         }
         unreachable!()
     }
 
-    // Puts the value back, gives the slot back, and wakes one that waits.
+    // Looks for a short while whether the slot was given back.
+    fn looks_free(&self) -> bool {
+        for _ in 0..LOOKS {
+            if self.table.shared.peek(0) == 0 {
+                return true;
+            }
+            spin_loop();
+        }
+        false
+    }
+
+    // Sleeps while the slot is taken, until a seat gives it back.
+    fn sleep<R: Wait>(&self, rt: &R) {
+        self.sleepers.fetch_add(1, Ordering::SeqCst);
+        self.table.shared.park(rt, 0, 1);
+        self.sleepers.fetch_sub(1, Ordering::SeqCst);
+    }
+
+    // Puts the value back, gives the slot back, and wakes one thread that sleeps.
     fn give(&self, place: &mut Place<O>, held: Held<O::State, O::Call, O::Reply>)
         requires turn { place.old.table_id ≡ self.now.table }
         requires holds { MayGiveFrom O.opens O.answers place.old.me held }
@@ -162,7 +208,10 @@ impl<O: Object> Turn<O> {
         let shared = &self.table.shared;
         drop(shared.exchange(place, 0, Some(held)));
         shared.store::<Give>(place, 0, 0);
-        shared.wake_one(0);
+        // A thread counts itself before it looks at the word and sleeps. So one that is not counted yet finds the word 0.
+        if self.sleepers.load(Ordering::SeqCst) != 0 {
+            shared.wake_one(0);
+        }
     }
 
     // One call of the seat at this place, which may keep notes.
@@ -185,7 +234,8 @@ impl<O: Object> Turn<O> {
         result
     }
 
-    /// Makes the call. Where it is answered, its entry stands in the log, at the number that comes with the reply.
+    /// Makes the call, once no other seat has the slot. Where it is answered, its entry is in the log, and the number of
+    /// that entry comes with the reply. Where it is refused, no entry is made and the object's state is as before.
     pub fn call<R: Wait>(
         &self,
         rt: &R,
@@ -195,12 +245,27 @@ impl<O: Object> Turn<O> {
         requires turn { seat.old.turn ≡ self.now }
         requires call { O.fits self.now.about.object call }
         ensures same { (seat.new.turn ≡ seat.old.turn) × (seat.new.number ≡ seat.old.number) }
-        ensures told { SeatTells O.opens O.answers O.refuses O.wants_memory call seat.old result seat.new }
+
+        // What the seat has seen is a legal log, and begins with what it had seen before.
+        ensures legal { IsLegal (O.answers self.now.about.object) (O.opens self.now.about.object) seat.new.seen }
+        ensures seen { StartsWith seat.new.seen seat.old.seen }
+        // Its own entries are all those of what it has seen under its number.
+        ensures mine { seat.new.mine ≡ entries_by seat.old.number seat.new.seen }
+
+        // An answered call is the last entry that the seat has seen, and new; the number is that entry's.
+        ensures last { IfOk result (λ r. GrowsBy seat.old.seen (entry seat.old.number call r.1) seat.new.seen) }
+        ensures number { IfOk result (λ r. r.0 ≡ length seat.new.seen) }
+        // Its own entries have grown by this one alone.
+        ensures added { IfOk result (λ r. seat.new.mine ≡ seat.old.mine ++ entry seat.old.number call r.1 ∷ []) }
+
+        // A refused call made no entry. The cause holds in what the seat has seen.
+        ensures unchanged { OnErr result (seat.new.mine ≡ seat.old.mine) }
+        ensures cause { IfErr result (HasCause (O.opens self.now.about.object) (O.answers self.now.about.object) (O.refuses self.now.about.object) O.wants_memory self.now.about.room seat.old.number call seat.new.seen) }
     {
         self.run(rt, seat.number, &mut seat.place, call)
     }
 
-    /// The same call, after which this seat has seen all that the other had seen.
+    /// The same call, after which this seat has seen all that the other seat had seen. The other keeps its lists.
     pub fn meet<R: Wait>(
         &self,
         rt: &R,
@@ -211,36 +276,54 @@ impl<O: Object> Turn<O> {
         requires turn { (seat.old.turn ≡ self.now) × (other.old.turn ≡ self.now) }
         requires call { O.fits self.now.about.object call }
         ensures same { (seat.new.turn ≡ seat.old.turn) × (seat.new.number ≡ seat.old.number) }
-        ensures told { SeatTells O.opens O.answers O.refuses O.wants_memory call seat.old result seat.new }
-        ensures met { StartsWith seat.new.seen other.old.seen }
         ensures other { other.new ≡ other.old }
+        ensures met { StartsWith seat.new.seen other.old.seen }
+
+        // The rest is as for `call`.
+        ensures legal { IsLegal (O.answers self.now.about.object) (O.opens self.now.about.object) seat.new.seen }
+        ensures seen { StartsWith seat.new.seen seat.old.seen }
+        ensures mine { seat.new.mine ≡ entries_by seat.old.number seat.new.seen }
+        ensures last { IfOk result (λ r. GrowsBy seat.old.seen (entry seat.old.number call r.1) seat.new.seen) }
+        ensures number { IfOk result (λ r. r.0 ≡ length seat.new.seen) }
+        ensures added { IfOk result (λ r. seat.new.mine ≡ seat.old.mine ++ entry seat.old.number call r.1 ∷ []) }
+        ensures unchanged { OnErr result (seat.new.mine ≡ seat.old.mine) }
+        ensures cause { IfErr result (HasCause (O.opens self.now.about.object) (O.answers self.now.about.object) (O.refuses self.now.about.object) O.wants_memory self.now.about.room seat.old.number call seat.new.seen) }
     {
         let note = self.table.shared.split_seat::<Note>(&mut other.place);
         self.table.shared.join_seat::<Keep>(&mut seat.place, note);
         self.run(rt, seat.number, &mut seat.place, call)
     }
 
-    /// Ends the turn, and gives its state and the log that led there. It takes each seat that was made.
-    pub fn close(self, mut seats: Vec<Seat<O>>) -> (O::State, Vec<Entry<O::Call, O::Reply>>)
+    /// Ends the turn, and gives its state and the log that led there. It takes every seat that was made, and no memory.
+    pub fn close(self, mut seats: Vec<Seat<O>>) -> (O::State, Log<O::Call, O::Reply>)
         requires turn { All (λ s. s.turn ≡ self) seats.items }
-        requires all { (n : ℕ) → 1 ≤ n → n ≤ self.about.seats → (s : Seated O O.Call O.Reply) × Contains seats.items s × (s.number ≡ n) }
-        ensures legal { LeadsTo (O.answers self.about.object) (O.opens self.about.object) result.1.items result.0 }
-        ensures seats { All (λ s. StartsWith result.1.items s.seen × (s.mine ≡ entries_by s.number result.1.items)) seats.items }
-        ensures numbers { All (λ e. (1 ≤ e.who) × (e.who ≤ self.about.seats)) result.1.items }
+        requires all { (n : ℕ) → 1 ≤ n → n ≤ self.about.seats → HasNumber seats.items n }
+        ensures legal { LeadsTo (O.answers self.about.object) (O.opens self.about.object) result.1 result.0 }
+        // What each seat has seen is the front of the log, and its own entries are all those under its number.
+        ensures seen { All (λ s. StartsWith result.1 s.seen) seats.items }
+        ensures mine { All (λ s. s.mine ≡ entries_by s.number result.1) seats.items }
+        // Every entry is under a number of one of the seats, from 1 to their count.
+        ensures in_range { All (λ e. (1 ≤ e.who) × (e.who ≤ self.about.seats)) result.1 }
+        ensures callers { All (λ e. HasNumber seats.items e.who) result.1 }
     {
         let _ = &self.about;
         let Some(first) = seats.pop() else {
             unreachable!()
         };
         let mut place = self.gather(first, seats);
+        // No other seat is left that could have the slot.
         let Some(Held { state, log }) = self.try_take(&mut place) else {
             unreachable!()
         };
-        let Turn { table, about: _ } = self;
+        let Turn {
+            table,
+            about: _,
+            sleepers: _,
+        } = self;
         let mut closed = table.close();
         drop(closed.take(0));
         closed.free();
-        (state, log)
+        (state, Log::from_entries(log))
     }
 
     // One place that stands for all these seats.
@@ -271,7 +354,7 @@ fn answer<O: Object>(
     ensures room { vec_capacity held.old.log ≤ vec_capacity held.new.log }
     ensures answer { MatchResult result
         (λ r. (held.new.log.items ≡ held.old.log.items ++ entry who call r.1 ∷ []) × (r.0 ≡ length held.new.log.items) × O.answers object.now held.old.state who call r.1 held.new.state)
-        (λ f. (held.new.log.items ≡ held.old.log.items) × (held.new.state ≡ held.old.state) × Explains (O.refuses object.now held.old.state who call) O.wants_memory (vec_capacity held.old.log) (length held.old.log.items) f) }
+        (λ f. (held.new.log.items ≡ held.old.log.items) × (held.new.state ≡ held.old.state) × Explains (O.refuses object.now held.old.state who call) (O.wants_memory call) (vec_capacity held.old.log) (length held.old.log.items) f) }
 {
     if held.log.try_reserve(1).is_err() {
         return Err(CallFault::NoMemory);

@@ -1,4 +1,4 @@
-//! What a seat at the table knows. No value of these types is made but `About`.
+//! What a seat knows of the table. These types exist for the proofs: the only values that code makes are those of `About`.
 use crate::log::Entry;
 use std::collections::LinkedList;
 
@@ -6,17 +6,21 @@ use std::collections::LinkedList;
 #[derive(Drop)]
 pub struct About<O> {
     pub object: O,
+    /// How many seats were made.
     pub seats: u64,
+    /// How many entries the log has places for from the start.
     pub room: usize,
 }
 
-// A number, what its seat has seen, and what it has called.
+// The number of a seat, what it has seen of the log, and its own entries.
 pub struct Account<C, R> {
     pub number: u64,
     pub seen: LinkedList<Entry<C, R>>,
     pub mine: LinkedList<Entry<C, R>>,
 }
 
+// A seat at the table: its own account, the accounts of the seats that were joined to it, and whether it is the
+// holder of the slot.
 pub struct LiveSeat<O, C, R> {
     pub about: About<O>,
     pub own: Account<C, R>,
@@ -24,7 +28,7 @@ pub struct LiveSeat<O, C, R> {
     pub holds: bool,
 }
 
-// What one seat knows: nothing once it was joined to another.
+// What a seat knows: nothing any more, once it was joined to another.
 pub enum View<O, C, R> {
     Spent,
     Live(LiveSeat<O, C, R>),
