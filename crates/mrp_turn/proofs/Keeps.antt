@@ -17,7 +17,7 @@ use Rattle.mrp_turn.specs.declared.views.View.TheVariants.{Spent, Live}
 use Rattle.mrp_turn.specs.Lists.{Each, total}
 use Rattle.mrp_turn.specs.Log.{AreFrom, LeadsTo}
 use Rattle.mrp_turn.specs.Rule.{live, account, blanks, is_named, names, is_holder, seen_of, IsTrueOf, Knows, starting, Busy, FollowsRule}
-use Rattle.mrp_turn.specs.Steps.{holding, given, behind_first, first_seat, cut_left, cut_right, noted, joined, took, gave, looked, Looks}
+use Rattle.mrp_turn.specs.Steps.{holding, given, behind_first, first_seat, cut_left, cut_right, noted, joined, took, gave, looked}
 use Rattle.mrp_turn.proofs.Lists.{stays, only, inside, starts_all, Each-append, Each-map, total-append, total-set, term_le, terms_le}
 use Rattle.mrp_turn.proofs.Names.{is_named-self, apart, unnamed, notes_unnamed, blanks_above, blanks_once, blanks_true, note_none, all_true_more}
 

@@ -6,7 +6,7 @@ ghost use Rattle.mrp_turn.specs.Calls.{entry, Explains};
 use crate::log::{Entry, Held, Log};
 use crate::object::Object;
 use crate::seat::{Place, Seat};
-use crate::steps::{Cut, Give, Keep, Note, Take, TurnRule};
+use crate::steps::{Cut, Give, Keep, Look, Note, Take, TurnRule};
 use crate::views::{About, View};
 use atomic_table::{Refused, Table};
 use std::alloc::{AllocError, Global};
@@ -173,17 +173,21 @@ impl<O: Object> Turn<O> {
             if let Some(held) = self.try_take(place) {
                 return held;
             }
-            if !self.looks_free() {
+            if !self.looks_free(place) {
                 self.sleep(rt);
             }
         }
         unreachable!()
     }
 
-    // Looks for a short while whether the slot was given back.
-    fn looks_free(&self) -> bool {
+    // Looks for a short while whether the slot was given back. A look leaves the seat as it is.
+    fn looks_free(&self, place: &mut Place<O>) -> bool
+        requires turn { place.old.table_id ≡ self.now.table }
+        requires idle { IsIdle O.opens O.answers self.now.about place.old.me }
+        ensures same { (place.new.table_id ≡ place.old.table_id) × (place.new.me ≡ place.old.me) }
+    {
         for _ in 0..LOOKS {
-            if self.table.shared.peek(0) == 0 {
+            if self.table.shared.load::<Look<O>>(place, 0) == 0 {
                 return true;
             }
             spin_loop();
