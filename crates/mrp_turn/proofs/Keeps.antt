@@ -1,5 +1,5 @@
 -- Each step keeps the rule.
-use Rattle.std.proofs.Common.{◌≡◌, ◌≢◌, ℕ, ◌+◌, ◌<◌, ◌≤◌, ◌⊎◌, Bool, true, false, List, [], ◌∷◌, ◌++◌, get_or, set, sym, refl, ap, ◌∙◌, subst, ⊎_elim, inl, inr, arith, Option, Some, length-set, get_or-set_same, vec_capacity, true≢false}
+use Rattle.std.proofs.Common.{◌≡◌, ◌≢◌, ℕ, ◌+◌, ◌<◌, ◌≤◌, ◌⊎◌, Bool, true, false, List, [], ◌∷◌, ◌++◌, get_or, set, max, sym, refl, ap, ◌∙◌, subst, ⊎_elim, inl, inr, arith, Option, Some, length-set, get_or-set_same, vec_capacity, true≢false}
 use mathlib.Core.Logic.{dite}
 use mathlib.Core.Option.{none, some, some-injective}
 use native.Mathlib.Decide.{ℕ_discrete, dec_le}
@@ -82,13 +82,16 @@ module _ {O S C R : Type 0} (opens : O → S → Type 0) (answers : O → S → 
   first_knows key log a [] e h = (tt, tt)
   first_knows key log a (p ∷ ps) e h = (h.1, (e, (h.0, tt)))
 
-  -- The seat takes the slot where the word is 0
-  pub wins : (key : About O) (slots id : ℕ) (s : LiveSeat O C R) (c : List (ℕ × Home)) → s.holds ≡ false → 1 ≤ s.own.number
-      → Allows (Rule key) slots id (live s, c) 0 (λ _. 1) (took opens answers (step slots 0 1 0 none) (live s, c))
-  wins key slots id s c idle numbered st r wide at small =
+  -- The seat takes the slot where the word is 0. The word becomes at least k
+  pub wins : (key : About O) (slots id k : ℕ) (s : LiveSeat O C R) (c : List (ℕ × Home)) → 1 ≤ k → s.holds ≡ false → 1 ≤ s.own.number
+      → Allows (Rule key) slots id (live s, c) 0 (λ n. max n k) (took opens answers (step slots 0 k 0 none) (live s, c))
+  wins key slots id k s c some_mark idle numbered st r wide at small =
       let known : Knows key r.log (live s) = r.knows id (live s) at in
       let about = known.0 in
-      let one = get_or-set_same st.words 0 1 0 (omega (arith, r.one_word)) in
+      let was : ℕ = get_or st.words 0 0 in
+      let now : ℕ = max was k in
+      let marked : get_or (set st.words 0 now) 0 0 ≡ now = get_or-set_same st.words 0 now 0 (omega (arith, r.one_word)) in
+      let is_marked : get_or (set st.words 0 now) 0 0 ≢ 0 = λ (e : get_or (set st.words 0 now) 0 0 ≡ 0). absurd (omega (arith, marked, e, some_mark)) in
       ⊎_elim
       (λ free. let held : Held S C R = free.1.0 in let stores = free.1.2 in let w : V = live (holding s r.log) in (
         w,
@@ -99,12 +102,12 @@ module _ {O S C R : Type 0} (opens : O → S → Type 0) (answers : O → S → 
           state = r.state;
           legal = r.legal;
           numbered = r.numbered;
-          one_word = length-set st.words 0 1 ∙ r.one_word;
+          one_word = length-set st.words 0 now ∙ r.one_word;
           knows = stays (Knows key r.log) st.views id w (about, ((starts_all r.log, known.1.0.1), known.1.1)) (λ j v _. r.knows j v);
           once = λ n l u. omega (arith, total-set (names n) st.views id (live s) w at, r.once n l u);
           no_more = λ n l. omega (arith, total-set (names n) st.views id (live s) w at, r.no_more n l);
           word = inr (
-            one,
+            is_marked,
             (
               id,
               holding s r.log,
@@ -132,14 +135,23 @@ module _ {O S C R : Type 0} (opens : O → S → Type 0) (answers : O → S → 
           λ ne. absurd (ne free.0),
         ),
       ))
-      (λ busy. let b : Busy r.log st = busy.1 in let full : get_or st.words 0 0 ≡ 1 = busy.0 in (
+      (λ busy. let b : Busy r.log st = busy.1 in let full : was ≢ 0 = busy.0 in (
         live s,
         keeps,
         tt,
-        subst (λ (x : List ℕ × List V). Rule key record { words = x.0; homes = st.homes; views = x.1 })
-            (λ i. (sym (ap (λ n. set st.words 0 n) (sym full) ∙ set-get_or st.words 0 0) i, sym (set_again st.views id (live s) at) i)) r,
+        subst (λ (vs : List V). Rule key record { words = set st.words 0 now; homes = st.homes; views = vs }) (sym (set_again st.views id (live s) at)) (record {
+          log = r.log;
+          state = r.state;
+          legal = r.legal;
+          numbered = r.numbered;
+          one_word = length-set st.words 0 now ∙ r.one_word;
+          knows = r.knows;
+          once = r.once;
+          no_more = r.no_more;
+          word = inr (is_marked, b);
+        }),
         (
-          (λ z. absurd (omega (arith, full, z))),
+          (λ z. absurd (full z)),
           λ _. (
             refl,
             λ covers. dite (ℕ_discrete b.0 id)
@@ -163,7 +175,7 @@ module _ {O S C R : Type 0} (opens : O → S → Type 0) (answers : O → S → 
   -- The holder gives the slot back, with a log that goes on from what it has seen by entries of its own
   pub yields : (key : About O) (id : ℕ) (s : LiveSeat O C R) (held : Held S C R) (new : List (Entry C R)) → s.holds ≡ true → held.log.items ≡ s.own.seen ++ new
       → Each (λ e. e.who ≡ s.own.number) new → Each (λ p. p.number ≡ 0) s.kept → LeadsTo (answers s.about.object) (opens s.about.object) held.log.items held.state → s.about.room ≤ vec_capacity held.log
-      → Allows (Rule key) 1 id (live s, (0, Some held) ∷ []) 0 (λ _. 0) (λ _. gave (step 1 0 0 0 none) (live s, (0, Some held) ∷ []) 0)
+      → Allows (Rule key) 1 id (live s, (0, Some held) ∷ []) 0 (λ _. 0) (gave (step 1 0 0 0 none) (live s, (0, Some held) ∷ []))
   yields key id s held new holds grows ours notes legal room st r wide at small =
       let known : Knows key r.log (live s) = r.knows id (live s) at in
       let about = known.0 in

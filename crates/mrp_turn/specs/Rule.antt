@@ -1,5 +1,5 @@
--- The rule of the table. Its word is 1 while a seat holds the slot.
-use Rattle.std.specs.Prelude.{◌≡◌, ℕ, ◌≤◌, ◌<◌, ◌==◌, ◌⊎◌, List, [], ◌∷◌, length, slice_index, Bool, true, false, cond, Option, Some, vec_capacity, zero, suc}
+-- The rule of the table. Its word is 0 exactly where no seat holds the slot.
+use Rattle.std.specs.Prelude.{◌≡◌, ◌≢◌, ℕ, ◌≤◌, ◌<◌, ◌==◌, ◌⊎◌, List, [], ◌∷◌, length, slice_index, Bool, true, false, cond, Option, Some, vec_capacity, zero, suc}
 use mathlib.Core.Option.{some}
 use lib.ListN.{get_elem?}
 use Rattle.atomic_table.specs.Table.{State}
@@ -86,4 +86,4 @@ pub record FollowsRule {O S C R : Type 0} (opens : O → S → Type 0) (answers 
   -- each number from 1 to the count of seats is with one view, once, and no greater number is with any
   pub once : (n : ℕ) → 1 ≤ n → n ≤ key.seats → total (names n) s.views ≡ 1
   pub no_more : (n : ℕ) → key.seats < n → total (names n) s.views ≡ 0
-  pub word : ((slice_index s.words 0 ≡ 0) × Free key log state s) ⊎ ((slice_index s.words 0 ≡ 1) × Busy log s)
+  pub word : ((slice_index s.words 0 ≡ 0) × Free key log state s) ⊎ ((slice_index s.words 0 ≢ 0) × Busy log s)

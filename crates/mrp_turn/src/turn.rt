@@ -13,10 +13,15 @@ use std::alloc::{AllocError, Global};
 use std::hint::spin_loop;
 use std::marker::Model;
 use std::sync::Wait;
-use std::sync::atomic::{AtomicU64, Ordering};
 
 /// The most seats of a turn.
 pub const MOST_SEATS: u64 = 64;
+
+// The word of the table: no seat has the slot, or one has.
+const FREE: u64 = 0;
+const TAKEN: u64 = 1;
+// A seat has the slot, and threads may sleep until it is given back.
+const AWAITED: u64 = 2;
 
 // How often a thread that finds the slot taken looks again before it sleeps.
 const LOOKS: u32 = 100;
@@ -50,8 +55,6 @@ pub struct Turn<O: Object> {
         Global,
     >,
     about: About<O>,
-    // How many threads sleep until the slot is given back, or are about to.
-    sleepers: AtomicU64,
 }
 
 impl<O: Object> Model for Turn<O> {
@@ -122,14 +125,7 @@ impl<O: Object> Turn<O> {
         let mut slots = Vec::with_capacity(alloc, 1)?;
         slots.push_reserved(Some(Held { state, log }));
         match Table::new(alloc, &[0], slots, &about) {
-            Ok((table, place)) => Ok((
-                Turn {
-                    table,
-                    about,
-                    sleepers: AtomicU64::new(0),
-                },
-                place,
-            )),
+            Ok((table, place)) => Ok((Turn { table, about }, place)),
             Err(Refused { slots: _ }) => Err(AllocError),
         }
     }
@@ -147,16 +143,21 @@ impl<O: Object> Turn<O> {
         Ok(seats)
     }
 
-    // Takes the slot and the value in it, if no seat has it.
-    fn try_take(&self, place: &mut Place<O>) -> Option<Held<O::State, O::Call, O::Reply>>
+    // Takes the slot and the value in it, if no seat has it. The word becomes at least `mark`, also where one has.
+    fn try_take(
+        &self,
+        place: &mut Place<O>,
+        mark: u64,
+    ) -> Option<Held<O::State, O::Call, O::Reply>>
         requires turn { place.old.table_id ≡ self.now.table }
         requires idle { IsIdle O.opens O.answers self.now.about place.old.me }
+        requires mark { 1 ≤ mark }
         ensures same { place.new.table_id ≡ place.old.table_id }
         ensures taken { MatchOption result (Lost O.opens O.answers place.old.me place.new.me) (λ held. Taken O.opens O.answers place.old.me held place.new.me) }
     {
         let shared = &self.table.shared;
-        let found = shared.swap::<Take<O>>(place, 0, 1);
-        if found != 0 {
+        let found = shared.fetch_max::<Take<O>>(place, 0, mark);
+        if found != FREE {
             return None;
         }
         shared.exchange(place, 0, None)
@@ -169,40 +170,40 @@ impl<O: Object> Turn<O> {
         ensures same { place.new.table_id ≡ place.old.table_id }
         ensures taken { Taken O.opens O.answers place.old.me result place.new.me }
     {
+        if let Some(held) = self.try_take(place, TAKEN) {
+            return held;
+        }
+        let mut mark = if self.looks_free(place) { TAKEN } else { AWAITED };
         for _ in rt.forever() {
-            if let Some(held) = self.try_take(place) {
+            if let Some(held) = self.try_take(place, mark) {
                 return held;
             }
-            if !self.looks_free(place) {
-                self.sleep(rt);
-            }
+            // A thread that has slept leaves the mark, since others may sleep still.
+            mark = AWAITED;
+            self.table.shared.park(rt, 0, AWAITED as u32);
+            let _ = self.looks_free(place);
         }
         unreachable!()
     }
 
-    // Looks for a short while whether the slot was given back. A look leaves the seat as it is.
+    // Looks for a short while whether the slot was given back. Where others sleep for it, this thread does not look again.
+    // A look leaves the seat as it is.
     fn looks_free(&self, place: &mut Place<O>) -> bool
         requires turn { place.old.table_id ≡ self.now.table }
         requires idle { IsIdle O.opens O.answers self.now.about place.old.me }
         ensures same { (place.new.table_id ≡ place.old.table_id) × (place.new.me ≡ place.old.me) }
     {
         for _ in 0..LOOKS {
-            if self.table.shared.load::<Look<O>>(place, 0) == 0 {
-                return true;
+            let found = self.table.shared.load::<Look<O>>(place, 0);
+            if found != TAKEN {
+                return found == FREE;
             }
             spin_loop();
         }
         false
     }
 
-    // Sleeps while the slot is taken, until a seat gives it back.
-    fn sleep<R: Wait>(&self, rt: &R) {
-        self.sleepers.fetch_add(1, Ordering::SeqCst);
-        self.table.shared.park(rt, 0, 1);
-        self.sleepers.fetch_sub(1, Ordering::SeqCst);
-    }
-
-    // Puts the value back, gives the slot back, and wakes one thread that sleeps.
+    // Puts the value back and gives the slot back. Where threads may sleep for it, it wakes one.
     fn give(&self, place: &mut Place<O>, held: Held<O::State, O::Call, O::Reply>)
         requires turn { place.old.table_id ≡ self.now.table }
         requires holds { MayGiveFrom O.opens O.answers place.old.me held }
@@ -211,9 +212,8 @@ impl<O: Object> Turn<O> {
     {
         let shared = &self.table.shared;
         drop(shared.exchange(place, 0, Some(held)));
-        shared.store::<Give>(place, 0, 0);
-        // A thread counts itself before it looks at the word and sleeps. So one that is not counted yet finds the word 0.
-        if self.sleepers.load(Ordering::SeqCst) != 0 {
+        let found = shared.swap::<Give>(place, 0, FREE);
+        if found == AWAITED {
             shared.wake_one(0);
         }
     }
@@ -316,14 +316,10 @@ impl<O: Object> Turn<O> {
         };
         let mut place = self.gather(first, seats);
         // No other seat is left that could have the slot.
-        let Some(Held { state, log }) = self.try_take(&mut place) else {
+        let Some(Held { state, log }) = self.try_take(&mut place, TAKEN) else {
             unreachable!()
         };
-        let Turn {
-            table,
-            about: _,
-            sleepers: _,
-        } = self;
+        let Turn { table, about: _ } = self;
         let mut closed = table.close();
         drop(closed.take(0));
         closed.free();
