@@ -11,10 +11,10 @@ use Rattle.mrp_turn.specs.declared.turn.CallFault.TheVariants.{NoMemory, Refused
 use Rattle.mrp_turn.specs.declared.views.View.{View}
 use Rattle.mrp_turn.specs.declared.views.View.TheVariants.{Spent, Live}
 use Rattle.mrp_turn.specs.Lists.{Each, StartsWith}
-use Rattle.mrp_turn.specs.Log.{entries_by, Leads, LeadsTo}
+use Rattle.mrp_turn.specs.Log.{entry, entries_by, Leads, LeadsTo}
 use Rattle.mrp_turn.specs.Rule.{live, account, alone, IsTrueOf}
 use Rattle.mrp_turn.specs.Steps.{holding, given, Opens, MayGive}
-use Rattle.mrp_turn.specs.Calls.{entry, Explains, HasCause, Tells, IsAt}
+use Rattle.mrp_turn.specs.Calls.{Explains, HasCause, Tells, IsAt}
 use Rattle.mrp_turn.proofs.Lists.{starts_more, Each-map}
 use Rattle.mrp_turn.proofs.Names.{own_all}
 

@@ -1,4 +1,4 @@
--- What a call tells.
+-- What a call tells. Profile.
 use Rattle.std.specs.Prelude.{◌≡◌, ℕ, ◌≤◌, ◌⊎◌, List, [], ◌∷◌, ◌++◌, length, Option, Result, IfOk, IfErr, OnErr, false}
 use Rattle.atomic_table.specs.Table.{Me}
 use Rattle.mrp_turn.specs.declared.views.View.{View}
@@ -10,11 +10,8 @@ use Rattle.mrp_turn.specs.declared.log.Entry.{Entry}
 use Rattle.mrp_turn.specs.declared.turn.CallFault.{CallFault}
 use Rattle.mrp_turn.specs.declared.turn.CallFault.TheVariants.{NoMemory, Refused}
 use Rattle.mrp_turn.specs.Lists.{Each, StartsWith, Has}
-use Rattle.mrp_turn.specs.Log.{entries_by, LeadsTo, IsLegal}
+use Rattle.mrp_turn.specs.Log.{entry, entries_by, LeadsTo, IsLegal}
 use Rattle.mrp_turn.specs.Seen.{Seated}
-
-abbrev pub entry : {C R : Type 0} → ℕ → C → R → Entry C R
-entry who call reply = record { who = who; call = call; reply = reply }
 
 module _ {C R : Type 0} where
   -- the new list ends with the entry, and all that was in the old one stands before it

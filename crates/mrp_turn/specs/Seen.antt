@@ -1,4 +1,4 @@
--- What a clause sees of a turn and of a seat.
+-- What a clause sees of a turn and of a seat. Profile.
 use Rattle.std.specs.Prelude.{◌≡◌, ℕ, List, [], Contains}
 use Rattle.atomic_table.specs.Seated.{TableId}
 use Rattle.mrp_turn.specs.declared.log.Entry.{Entry}

@@ -1,4 +1,4 @@
--- What each step tells: of the step, the seat before, the number found and the seat after; and how views are cut and joined.
+-- What each step tells. Profile: of the step, the seat before, the number found and the seat after; and how views are cut and joined.
 use Rattle.std.specs.Prelude.{◌≡◌, ◌≢◌, ℕ, ◌≤◌, List, [], ◌∷◌, ◌++◌, Option, Some, None, vec_capacity, true, false}
 use Rattle.atomic_table.specs.Table.{Me, Step}
 use Rattle.mrp_turn.specs.declared.log.Entry.{Entry}
@@ -12,6 +12,7 @@ use Rattle.mrp_turn.specs.Lists.{Each, total}
 use Rattle.mrp_turn.specs.Log.{entries_by, AreFrom, LeadsTo, IsLegal}
 use Rattle.mrp_turn.specs.Rule.{live, account, alone, is_named, IsTrueOf}
 
+-- the list without its first element
 abbrev pub behind_first : {X : Type 0} → List X → List X
 behind_first [] = []
 behind_first (p ∷ ps) = ps
@@ -21,7 +22,7 @@ module _ {O C R : Type 0} where
   abbrev pub holding : LiveSeat O C R → List (Entry C R) → LiveSeat O C R
   holding s log = record s { own = account s.own.number log s.own.mine; holds = true }
 
-  -- the view stands for each number
+  -- the seat has an account of each number
   abbrev pub Covers : LiveSeat O C R → Type 0
   Covers s = (n : ℕ) → 1 ≤ n → n ≤ s.about.seats → 1 ≤ total (is_named n) (s.own ∷ s.kept)
 
@@ -29,11 +30,12 @@ module _ {O C R : Type 0} where
   abbrev pub given : LiveSeat O C R → List (Entry C R) → LiveSeat O C R
   given s log = alone s.about (account s.own.number log (entries_by s.own.number log))
 
+  -- the first of these accounts, as a seat
   abbrev pub first_seat : About O → List (Account C R) → View O C R
   first_seat key [] = Spent
   first_seat key (p ∷ ps) = live (alone key p)
 
-  -- the first of the seats that a view keeps is cut off
+  -- the first of the accounts that a seat keeps is cut off, as a seat of its own
   abbrev pub cut_left : View O C R → View O C R
   cut_left Spent = Spent
   cut_left (Live s) = live (record s { kept = behind_first s.kept })
@@ -47,6 +49,7 @@ module _ {O C R : Type 0} where
   noted Spent = Spent
   noted (Live s) = live (alone s.about (account 0 s.own.seen []))
 
+  -- one seat takes in the other, and keeps its accounts
   abbrev pub joined : View O C R → View O C R → View O C R
   joined Spent w = w
   joined (Live s) Spent = live s
@@ -58,10 +61,11 @@ module _ {O S C R : Type 0} (opens : O → S → Type 0) (answers : O → S → 
   Opens s held log = (held.log.items ≡ log) × LeadsTo (answers s.about.object) (opens s.about.object) log held.state × (s.about.room ≤ vec_capacity held.log)
       × AreFrom s.about.seats log × Each (IsTrueOf log) (s.own ∷ s.kept)
 
-  -- the slot was taken, with this value
+  -- the seat has taken the slot, with the value in it
   abbrev pub Won : LiveSeat O C R → List (ℕ × Option (Held S C R)) → Me (Option (Held S C R)) (View O C R) → Type 0
   Won s c n = (held : Held S C R) × (log : List (Entry C R)) × (n ≡ (live (holding s log), (0, Some held) ∷ c)) × Opens s held log
 
+  -- a take: it wins where it finds 0; elsewhere the seat is as before, and lacks the holder's number
   abbrev pub TookFrom : View O C R → List (ℕ × Option (Held S C R)) → ℕ → Me (Option (Held S C R)) (View O C R) → Type 0
   TookFrom Spent c found n = Unit {0}
   TookFrom (Live s) c found n = (found ≡ 0 → Won s c n) × (found ≢ 0 → (n ≡ (live s, c)) × ¬ Covers s)
@@ -70,6 +74,7 @@ module _ {O S C R : Type 0} (opens : O → S → Type 0) (answers : O → S → 
   took st m found n = TookFrom m.0 m.1 found n
 
 module _ {O S C R : Type 0} where
+  -- a give: the seat has seen the log that it gave back, and keeps no notes
   abbrev pub GaveThis : LiveSeat O C R → Option (Held S C R) → Me (Option (Held S C R)) (View O C R) → Type 0
   GaveThis s None n = Unit {0}
   GaveThis s (Some held) n = n ≡ (live (given s held.log.items), [])
@@ -91,6 +96,7 @@ module _ {O S C R : Type 0} (opens : O → S → Type 0) (answers : O → S → 
   abbrev pub Taken : Me (Option (Held S C R)) (View O C R) → Held S C R → Me (Option (Held S C R)) (View O C R) → Type 0
   Taken m held n = (s : LiveSeat O C R) → m ≡ (live s, []) → (log : List (Entry C R)) × (n ≡ (live (holding s log), (0, None) ∷ [])) × Opens opens answers s held log
 
+  -- the seat has not taken the slot
   abbrev pub Lost : Me (Option (Held S C R)) (View O C R) → Me (Option (Held S C R)) (View O C R) → Type 0
   Lost m n = (n ≡ m) × ((s : LiveSeat O C R) → m ≡ (live s, []) → ¬ Covers s)
 
@@ -99,18 +105,21 @@ module _ {O S C R : Type 0} (opens : O → S → Type 0) (answers : O → S → 
   MayGive s held = (s.holds ≡ true) × ((new : List (Entry C R)) × (held.log.items ≡ s.own.seen ++ new) × Each (λ e. e.who ≡ s.own.number) new) × Each (λ p. p.number ≡ 0) s.kept
       × LeadsTo (answers s.about.object) (opens s.about.object) held.log.items held.state × (s.about.room ≤ vec_capacity held.log)
 
+  -- the same, of the seat at the table
   abbrev pub MayGiveFrom : Me (Option (Held S C R)) (View O C R) → Held S C R → Type 0
   MayGiveFrom m held = (s : LiveSeat O C R) × (m ≡ (live s, (0, None) ∷ [])) × MayGive s held
 
 module _ {O S C R : Type 0} where
+  -- the seat has given back the slot with this value
   abbrev pub GivenFrom : Me (Option (Held S C R)) (View O C R) → Held S C R → Me (Option (Held S C R)) (View O C R) → Type 0
   GivenFrom m held n = (s : LiveSeat O C R) → m ≡ (live s, (0, None) ∷ []) → n ≡ (live (given s held.log.items), [])
 
 module _ {O S C R : Type 0} (opens : O → S → Type 0) (answers : O → S → ℕ → C → R → S → Type 0) where
-  -- what the seat has seen begins a legal log, and what it has called is the log's entries under its number
+  -- there is a legal log of which all the seat's accounts are true
   abbrev pub Looks : View O C R → Type 0
   Looks Spent = Unit {0}
   Looks (Live s) = (log : List (Entry C R)) × IsLegal (answers s.about.object) (opens s.about.object) log × AreFrom s.about.seats log × Each (IsTrueOf log) (s.own ∷ s.kept)
 
+  -- a look: the seat is as before, and its view meets the rule
   abbrev pub looked : Step (Option (Held S C R)) → Me (Option (Held S C R)) (View O C R) → ℕ → Me (Option (Held S C R)) (View O C R) → Type 0
   looked st m r n = (n ≡ m) × Looks m.0

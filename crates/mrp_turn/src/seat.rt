@@ -14,10 +14,12 @@ pub(crate) type Place<O> = atomic_table::Seat<
     View<O, <O as Object>::Call, <O as Object>::Reply>,
 >;
 
-/// One of a turn's seats. Contracts see its turn, its number, what it has seen and what it has called.
+/// One of a turn's seats, which one thread at a time makes calls with. Contracts see its turn, its number, what it has
+/// seen of the log, and its own entries; the last two have no bytes.
 #[derive(Drop)]
 pub struct Seat<O: Object> {
     pub(crate) number: u64,
+    // What its turn was told.
     about: Snapshot<About<O>>,
     pub(crate) place: Place<O>,
 }
@@ -35,6 +37,7 @@ impl<O: Object> Model for Seat<O> {
 }
 
 impl<O: Object> Seat<O> {
+    // The seat with this number over the place.
     pub(crate) fn at(number: u64, about: &About<O>, place: Place<O>) -> Seat<O>
         requires number { (1 ≤ number) × (number ≤ 64) }
         requires view { place.me ≡ (live (alone about.now (account number (seen_of place.me.0) (mine_of place.me.0))), []) }
@@ -48,6 +51,7 @@ impl<O: Object> Seat<O> {
         }
     }
 
+    // The place under the seat.
     pub(crate) fn into_place(self) -> Place<O>
         ensures { (result.table_id ≡ self.turn.table) × (1 ≤ self.number) × (result.me ≡ (live (alone self.turn.about (account self.number self.seen self.mine)), [])) }
     {
@@ -59,6 +63,7 @@ impl<O: Object> Seat<O> {
         place
     }
 
+    /// From 1 to the count of the turn's seats.
     pub fn number(&self) -> u64
         ensures { result ≡ self.now.number }
     {

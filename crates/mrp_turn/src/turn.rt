@@ -1,7 +1,8 @@
 //! The lock.
 ghost use Rattle.std.specs.Prelude.{◌≡◌, ℕ, ◌≤◌, ◌+◌, ◌<◌, IfOk, IfErr, OnOk, OnErr, MatchOption, MatchResult, vec_capacity, ◌++◌, ◌∷◌, [], length, slice_get, Some, All};
 ghost use Rattle.mrp_turn.specs.Seen.{Seated, newcomer};
-ghost use Rattle.mrp_turn.specs.Calls.{entry, Explains};
+ghost use Rattle.mrp_turn.specs.Log.{entry};
+ghost use Rattle.mrp_turn.specs.Calls.{Explains};
 
 use crate::log::{Entry, Held, Log};
 use crate::object::Object;
@@ -109,6 +110,13 @@ impl<O: Object> Turn<O> {
             Ok(seats) => Ok((turn, seats)),
             Err(_) => Err(TurnFault::NoMemory),
         }
+    }
+
+    /// The object under the lock.
+    pub fn object(&self) -> &O
+        ensures { result.now ≡ self.now.about.object }
+    {
+        &self.about.object
     }
 
     // The turn, and the place at the table that keeps all its seats.

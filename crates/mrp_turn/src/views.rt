@@ -1,4 +1,4 @@
-//! What a seat knows of the table. These types exist for the proofs: the only values that code makes are those of `About`.
+//! What a seat knows of the table. Of these types code makes values of `About` alone; the others are for the proofs.
 use crate::log::Entry;
 use std::collections::LinkedList;
 
