@@ -20,6 +20,7 @@ pub const MOST_SEATS: u64 = 64;
 
 // The word of the table: no seat has the slot, or one has.
 const FREE: u64 = 0;
+
 const TAKEN: u64 = 1;
 // A seat has the slot, and threads may sleep until it is given back.
 const AWAITED: u64 = 2;
@@ -152,11 +153,7 @@ impl<O: Object> Turn<O> {
     }
 
     // Takes the slot and the value in it, if no seat has it. The word becomes at least `mark`, also where one has.
-    fn try_take(
-        &self,
-        place: &mut Place<O>,
-        mark: u64,
-    ) -> Option<Held<O::State, O::Call, O::Reply>>
+    fn try_take(&self, place: &mut Place<O>, mark: u64) -> Option<Held<O::State, O::Call, O::Reply>>
         requires turn { place.old.table_id ≡ self.now.table }
         requires idle { IsIdle O.opens O.answers self.now.about place.old.me }
         requires mark { 1 ≤ mark }
@@ -181,7 +178,11 @@ impl<O: Object> Turn<O> {
         if let Some(held) = self.try_take(place, TAKEN) {
             return held;
         }
-        let mut mark = if self.looks_free(place) { TAKEN } else { AWAITED };
+        let mut mark = if self.looks_free(place) {
+            TAKEN
+        } else {
+            AWAITED
+        };
         for _ in rt.forever() {
             if let Some(held) = self.try_take(place, mark) {
                 return held;

@@ -7,12 +7,11 @@
 mod plain;
 mod turns;
 
-use std::env;
-use std::io;
 use std::rt::Runtime;
 use std::sync::Wait;
 use std::thread::Threads;
 use std::time::{Duration, Instant};
+use std::{env, io};
 
 // So many calls each thread makes where no number is given.
 const FEW: u64 = 100;
@@ -54,7 +53,9 @@ fn times<R: Runtime + AllocGlobal + Threads + Wait + Sync>(rt: &R, calls: u64) -
         let start = Instant::now(rt)?;
         let plain = plain::entries(rt, rt.alloc(), threads, calls)?;
         let by_lock = per_second(plain, start.elapsed(rt)?);
-        println!(rt; "{threads} threads: {by_turns} calls a second by turns, {by_lock} under a plain lock")?;
+        println!(rt;
+            "{threads} threads: {by_turns} calls a second by turns, {by_lock} under a plain lock"
+        )?;
     }
     Ok(())
 }

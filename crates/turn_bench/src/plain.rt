@@ -32,7 +32,7 @@ fn add_often<R: Wait>(rt: &R, count: &Mutex<Count>, who: u64, calls: u64) {
 }
 
 /// How many entries there are once so many threads have made so many calls each.
-pub fn entries<R: Threads + Wait + Sync>(
+pub(crate) fn entries<R: Threads + Wait + Sync>(
     rt: &R,
     alloc: Global,
     threads: u64,
@@ -44,8 +44,11 @@ pub fn entries<R: Threads + Wait + Sync>(
         log: Vec::with_capacity(alloc, room)?,
     });
     let shared = &count;
-    thread::map_indices(rt, alloc, threads as usize, &|i| {
-        add_often(rt, shared, i as u64, calls)
-    })?;
+    thread::map_indices(
+        rt,
+        alloc,
+        threads as usize,
+        &|i| { add_often(rt, shared, i as u64, calls) },
+    )?;
     Ok(count.into_inner().log.len())
 }

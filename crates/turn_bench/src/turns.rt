@@ -40,7 +40,7 @@ fn call_all<R: Threads + Wait + Sync>(
 }
 
 /// How many entries there are once so many threads have made so many calls each.
-pub fn entries<R: Threads + Wait + Sync>(
+pub(crate) fn entries<R: Threads + Wait + Sync>(
     rt: &R,
     alloc: Global,
     threads: u64,
