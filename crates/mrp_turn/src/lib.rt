@@ -15,5 +15,5 @@ mod views;
 pub use log::{Entry, Log};
 pub use object::Object;
 pub use seat::Seat;
-pub use turn::{CallFault, Turn, TurnFault};
+pub use turn::{CallFault, MOST_SEATS, Turn, TurnFault};
 pub use views::About;

@@ -31,17 +31,25 @@ impl<O: Object> Model for Seat<O> {
 
     ghost Value = { Seated O O.Call O.Reply };
 
-    ghost view = { λ s. record { turn = record { table = s.place.table_id; about = s.about.value }; number = s.number; seen = seen_of s.place.me.0; mine = mine_of s.place.me.0 } };
+    ghost view = { λ s. record {
+      turn = record { table = s.place.table_id; about = s.about.value };
+      number = s.number;
+      seen = seen_of s.place.me.0;
+      mine = mine_of s.place.me.0;
+    } };
 
-    ghost invariant = { λ s. (1 ≤ s.number) × (s.number ≤ 64) × (s.place.me ≡ (live (alone s.about.value (account s.number (seen_of s.place.me.0) (mine_of s.place.me.0))), [])) };
+    ghost invariant = { λ s. (1 ≤ s.number) × (s.number ≤ 64)
+        × (s.place.me ≡ (live (alone s.about.value (account s.number (seen_of s.place.me.0) (mine_of s.place.me.0))), [])) };
 }
 
 impl<O: Object> Seat<O> {
     // The seat with this number over the place.
     pub(crate) fn at(number: u64, about: &About<O>, place: Place<O>) -> Seat<O>
         requires number { (1 ≤ number) × (number ≤ 64) }
-        requires view { place.me ≡ (live (alone about.now (account number (seen_of place.me.0) (mine_of place.me.0))), []) }
-        ensures turn { (result.turn.table ≡ place.table_id) × (result.turn.about ≡ about.now) × (result.number ≡ number) }
+        requires view { place.me
+            ≡ (live (alone about.now (account number (seen_of place.me.0) (mine_of place.me.0))), []) }
+        ensures turn { (result.turn.table ≡ place.table_id)
+            × (result.turn.about ≡ about.now) × (result.number ≡ number) }
         ensures lists { (result.seen ≡ seen_of place.me.0) × (result.mine ≡ mine_of place.me.0) }
     {
         Seat {
@@ -53,7 +61,8 @@ impl<O: Object> Seat<O> {
 
     // The place under the seat.
     pub(crate) fn into_place(self) -> Place<O>
-        ensures { (result.table_id ≡ self.turn.table) × (1 ≤ self.number) × (result.me ≡ (live (alone self.turn.about (account self.number self.seen self.mine)), [])) }
+        ensures { (result.table_id ≡ self.turn.table) × (1 ≤ self.number)
+            × (result.me ≡ (live (alone self.turn.about (account self.number self.seen self.mine)), [])) }
     {
         let Seat {
             number: _,

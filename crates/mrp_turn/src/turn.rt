@@ -1,5 +1,6 @@
 //! The lock.
-ghost use Rattle.std.specs.Prelude.{◌≡◌, ℕ, ◌≤◌, ◌+◌, ◌<◌, IfOk, IfErr, OnOk, OnErr, MatchOption, MatchResult, vec_capacity, ◌++◌, ◌∷◌, [], length, slice_get, Some, All};
+ghost use Rattle.std.specs.Prelude.{◌≡◌, ℕ, ◌≤◌, ◌+◌, ◌<◌, ◌++◌, ◌∷◌, [], length, slice_get, All, vec_capacity};
+ghost use Rattle.std.specs.Prelude.{Some, IfOk, IfErr, OnOk, OnErr, MatchOption, MatchResult};
 ghost use Rattle.mrp_turn.specs.Seen.{Seated, newcomer};
 ghost use Rattle.mrp_turn.specs.Log.{entry};
 ghost use Rattle.mrp_turn.specs.Calls.{Explains};
@@ -67,7 +68,8 @@ impl<O: Object> Model for Turn<O> {
 
     ghost view = { λ t. record { table = t.table.shared.table_id; about = t.about } };
 
-    ghost invariant = { λ t. (t.table.shared.table_id.words ≡ 1) × (t.table.shared.table_id.slots ≡ 1) × (t.table.shared.key ≡ t.about) × (1 ≤ t.about.seats) × (t.about.seats ≤ 64) };
+    ghost invariant = { λ t. (t.table.shared.table_id.words ≡ 1) × (t.table.shared.table_id.slots ≡ 1)
+        × (t.table.shared.key ≡ t.about) × (1 ≤ t.about.seats) × (t.about.seats ≤ 64) };
 }
 
 impl<O: Object> Turn<O> {
@@ -90,10 +92,12 @@ impl<O: Object> Turn<O> {
     ) -> Result<(Turn<O>, Vec<Seat<O>>), TurnFault>
         requires { O.opens object state }
         ensures accepted { OnOk result ((1 ≤ seats) × (seats ≤ 64)) }
-        ensures about { IfOk result (λ r. r.0.about ≡ record { object = object; seats = seats; room = room }) }
+        ensures about { IfOk result
+            (λ r. r.0.about ≡ record { object = object; seats = seats; room = room }) }
         // As many seats as were asked for; the k-th has the number k, and has seen and called nothing.
         ensures count { IfOk result (λ r. length r.1.items ≡ seats) }
-        ensures seats { IfOk result (λ r. (k : ℕ) → k < seats → slice_get r.1.items k ≡ Some (newcomer r.0 (k + 1))) }
+        ensures seats { IfOk result
+            (λ r. (k : ℕ) → k < seats → slice_get r.1.items k ≡ Some (newcomer r.0 (k + 1))) }
         ensures fault { IfErr result (λ f. HasFault seats f) }
     {
         if seats == 0 || seats > MOST_SEATS {
@@ -128,7 +132,8 @@ impl<O: Object> Turn<O> {
     ) -> Result<(Turn<O>, Place<O>), AllocError>
         requires opened { O.opens about.object state }
         requires seats { (1 ≤ about.seats) × (about.seats ≤ 64) }
-        ensures { IfOk result (λ r. (r.0.about ≡ about) × (r.1.table_id ≡ r.0.table) × (r.1.me ≡ (starting about, []))) }
+        ensures { IfOk result (λ r. (r.0.about ≡ about)
+            × (r.1.table_id ≡ r.0.table) × (r.1.me ≡ (starting about, []))) }
     {
         let log: Vec<Entry<O::Call, O::Reply>> = Vec::with_capacity(alloc, about.room)?;
         let mut slots = Vec::with_capacity(alloc, 1)?;
@@ -142,7 +147,8 @@ impl<O: Object> Turn<O> {
     // Cuts the seats off the place that keeps them all.
     fn deal(&self, alloc: Global, mut place: Place<O>) -> Result<Vec<Seat<O>>, AllocError>
         requires { (place.table_id ≡ self.now.table) × (place.me ≡ (starting self.now.about, [])) }
-        ensures { IfOk result (λ v. (length v.items ≡ self.now.about.seats) × ((k : ℕ) → k < self.now.about.seats → slice_get v.items k ≡ Some (newcomer self.now (k + 1)))) }
+        ensures { IfOk result (λ v. (length v.items ≡ self.now.about.seats)
+            × ((k : ℕ) → k < self.now.about.seats → slice_get v.items k ≡ Some (newcomer self.now (k + 1)))) }
     {
         let mut seats = Vec::with_capacity(alloc, self.about.seats as usize)?;
         for n in 0..self.about.seats {
@@ -158,7 +164,9 @@ impl<O: Object> Turn<O> {
         requires idle { IsIdle O.opens O.answers self.now.about place.old.me }
         requires mark { 1 ≤ mark }
         ensures same { place.new.table_id ≡ place.old.table_id }
-        ensures taken { MatchOption result (Lost O.opens O.answers place.old.me place.new.me) (λ held. Taken O.opens O.answers place.old.me held place.new.me) }
+        ensures taken { MatchOption result
+            (Lost O.opens O.answers place.old.me place.new.me)
+            (λ held. Taken O.opens O.answers place.old.me held place.new.me) }
     {
         let shared = &self.table.shared;
         let found = shared.fetch_max::<Take<O>>(place, 0, mark);
@@ -239,7 +247,8 @@ impl<O: Object> Turn<O> {
         requires seat { IsAt self.now.about number place.old.me × (1 ≤ number) × (number ≤ 64) }
         requires call { O.fits self.now.about.object call }
         ensures same { place.new.table_id ≡ place.old.table_id }
-        ensures told { RunTells O.opens O.answers O.refuses O.wants_memory call place.old.me result place.new.me }
+        ensures told { RunTells
+            O.opens O.answers O.refuses O.wants_memory call place.old.me result place.new.me }
     {
         let mut held = self.take(rt, place);
         let result = answer(&self.about.object, &mut held, number, call);
@@ -260,20 +269,26 @@ impl<O: Object> Turn<O> {
         ensures same { (seat.new.turn ≡ seat.old.turn) × (seat.new.number ≡ seat.old.number) }
 
         // What the seat has seen is a legal log, and begins with what it had seen before.
-        ensures legal { IsLegal (O.answers self.now.about.object) (O.opens self.now.about.object) seat.new.seen }
+        ensures legal { IsLegal
+            (O.answers self.now.about.object) (O.opens self.now.about.object) seat.new.seen }
         ensures seen { StartsWith seat.new.seen seat.old.seen }
         // Its own entries are all those of what it has seen under its number.
         ensures mine { seat.new.mine ≡ entries_by seat.old.number seat.new.seen }
 
         // An answered call is the last entry that the seat has seen, and new; the number is that entry's.
-        ensures last { IfOk result (λ r. GrowsBy seat.old.seen (entry seat.old.number call r.1) seat.new.seen) }
+        ensures last { IfOk result
+            (λ r. GrowsBy seat.old.seen (entry seat.old.number call r.1) seat.new.seen) }
         ensures number { IfOk result (λ r. r.0 ≡ length seat.new.seen) }
         // Its own entries have grown by this one alone.
-        ensures added { IfOk result (λ r. seat.new.mine ≡ seat.old.mine ++ entry seat.old.number call r.1 ∷ []) }
+        ensures added { IfOk result
+            (λ r. seat.new.mine ≡ seat.old.mine ++ entry seat.old.number call r.1 ∷ []) }
 
         // A refused call made no entry. The cause holds in what the seat has seen.
         ensures unchanged { OnErr result (seat.new.mine ≡ seat.old.mine) }
-        ensures cause { IfErr result (HasCause (O.opens self.now.about.object) (O.answers self.now.about.object) (O.refuses self.now.about.object) O.wants_memory self.now.about.room seat.old.number call seat.new.seen) }
+        ensures cause { IfErr result (HasCause
+            (O.opens self.now.about.object) (O.answers self.now.about.object)
+            (O.refuses self.now.about.object) O.wants_memory
+            self.now.about.room seat.old.number call seat.new.seen) }
     {
         self.run(rt, seat.number, &mut seat.place, call)
     }
@@ -293,14 +308,20 @@ impl<O: Object> Turn<O> {
         ensures met { StartsWith seat.new.seen other.old.seen }
 
         // The rest is as for `call`.
-        ensures legal { IsLegal (O.answers self.now.about.object) (O.opens self.now.about.object) seat.new.seen }
+        ensures legal { IsLegal
+            (O.answers self.now.about.object) (O.opens self.now.about.object) seat.new.seen }
         ensures seen { StartsWith seat.new.seen seat.old.seen }
         ensures mine { seat.new.mine ≡ entries_by seat.old.number seat.new.seen }
-        ensures last { IfOk result (λ r. GrowsBy seat.old.seen (entry seat.old.number call r.1) seat.new.seen) }
+        ensures last { IfOk result
+            (λ r. GrowsBy seat.old.seen (entry seat.old.number call r.1) seat.new.seen) }
         ensures number { IfOk result (λ r. r.0 ≡ length seat.new.seen) }
-        ensures added { IfOk result (λ r. seat.new.mine ≡ seat.old.mine ++ entry seat.old.number call r.1 ∷ []) }
+        ensures added { IfOk result
+            (λ r. seat.new.mine ≡ seat.old.mine ++ entry seat.old.number call r.1 ∷ []) }
         ensures unchanged { OnErr result (seat.new.mine ≡ seat.old.mine) }
-        ensures cause { IfErr result (HasCause (O.opens self.now.about.object) (O.answers self.now.about.object) (O.refuses self.now.about.object) O.wants_memory self.now.about.room seat.old.number call seat.new.seen) }
+        ensures cause { IfErr result (HasCause
+            (O.opens self.now.about.object) (O.answers self.now.about.object)
+            (O.refuses self.now.about.object) O.wants_memory
+            self.now.about.room seat.old.number call seat.new.seen) }
     {
         let note = self.table.shared.split_seat::<Note>(&mut other.place);
         self.table.shared.join_seat::<Keep>(&mut seat.place, note);
@@ -311,7 +332,8 @@ impl<O: Object> Turn<O> {
     pub fn close(self, mut seats: Vec<Seat<O>>) -> (O::State, Log<O::Call, O::Reply>)
         requires turn { All (λ s. s.turn ≡ self) seats.items }
         requires all { (n : ℕ) → 1 ≤ n → n ≤ self.about.seats → HasNumber seats.items n }
-        ensures legal { LeadsTo (O.answers self.about.object) (O.opens self.about.object) result.1 result.0 }
+        ensures legal { LeadsTo
+            (O.answers self.about.object) (O.opens self.about.object) result.1 result.0 }
         // What each seat has seen is the front of the log, and its own entries are all those under its number.
         ensures seen { All (λ s. StartsWith result.1 s.seen) seats.items }
         ensures mine { All (λ s. s.mine ≡ entries_by s.number result.1) seats.items }
@@ -362,8 +384,12 @@ fn answer<O: Object>(
     requires who { (1 ≤ who) × (who ≤ 64) }
     ensures room { vec_capacity held.old.log ≤ vec_capacity held.new.log }
     ensures answer { MatchResult result
-        (λ r. (held.new.log.items ≡ held.old.log.items ++ entry who call r.1 ∷ []) × (r.0 ≡ length held.new.log.items) × O.answers object.now held.old.state who call r.1 held.new.state)
-        (λ f. (held.new.log.items ≡ held.old.log.items) × (held.new.state ≡ held.old.state) × Explains (O.refuses object.now held.old.state who call) (O.wants_memory call) (vec_capacity held.old.log) (length held.old.log.items) f) }
+        (λ r. (held.new.log.items ≡ held.old.log.items ++ entry who call r.1 ∷ [])
+        × (r.0 ≡ length held.new.log.items)
+        × O.answers object.now held.old.state who call r.1 held.new.state)
+        (λ f. (held.new.log.items ≡ held.old.log.items) × (held.new.state ≡ held.old.state)
+        × Explains (O.refuses object.now held.old.state who call) (O.wants_memory call)
+        (vec_capacity held.old.log) (length held.old.log.items) f) }
 {
     if held.log.try_reserve(1).is_err() {
         return Err(CallFault::NoMemory);
