@@ -19,11 +19,13 @@ use std::sync::Wait;
 /// The most seats of a turn.
 pub const MOST_SEATS: u64 = 64;
 
-// The word of the table: no seat has the slot, or one has.
+// The word of the table while no seat has the slot.
 const FREE: u64 = 0;
 
+// The word while a seat has the slot.
 const TAKEN: u64 = 1;
-// A seat has the slot, and threads may sleep until it is given back.
+
+// The word while a seat has the slot and threads may sleep until it is given back.
 const AWAITED: u64 = 2;
 
 // How often a thread that finds the slot taken looks again before it sleeps.
