@@ -1,0 +1,9 @@
+pub mod Accepted
+pub mod BillListed
+pub mod Climbs
+pub mod Coded
+pub mod Linked
+pub mod Listed
+pub mod Ordered
+pub mod Searches
+pub mod Stages

@@ -1,0 +1,9 @@
+pub mod Bill
+pub mod BillLists
+pub mod Climb
+pub mod Fault
+pub mod Links
+pub mod Lists
+pub mod Ranking
+pub mod Search
+pub mod Shop

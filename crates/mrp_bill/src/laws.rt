@@ -1,0 +1,35 @@
+//! Laws of the definitions, each the contract of a function that does nothing.
+
+ghost use Rattle.std.specs.Prelude.{◌≡◌, ◌<◌, ◌==◌, ℕ, List, length, map, filter, slice_index};
+ghost use Rattle.mrp_bill.specs.Bill.{AreCodes, AreWithin, IsCode, IsLoopPath, IsOrder, IsParent, NeedsItself, line_at, lines_of};
+ghost use Rattle.mrp_bill.specs.Shop.{IsShop};
+
+/// Codes that rise along each line, each above 0 one above a parent's, are the low-level codes, of
+/// which an item has one alone; and then no item needs itself.
+pub fn codes()
+    ensures no_loop { (lines : List _) (code : ℕ → ℕ) → AreCodes lines code → (i : ℕ) → NeedsItself lines i → ⊥ }
+    ensures greatest { (lines : List _) (code : ℕ → ℕ) → AreCodes lines code → (i : ℕ) → IsCode lines i (code i) }
+    ensures one { (lines : List _) (i m n : ℕ) → IsCode lines i m → IsCode lines i n → m ≡ n }
+{}
+
+/// Shops of equal tables are equal.
+pub fn shops()
+    ensures { (a b : _) → IsShop a → IsShop b → a.tables ≡ b.tables → a ≡ b }
+{}
+
+/// A loop's path is a chain that leads from its item to itself.
+pub fn paths()
+    ensures { (lines : List _) (path : List ℕ) → IsLoopPath lines path → NeedsItself lines (slice_index path 0) }
+{}
+
+/// The lines at the places to an item are the lines in which it is the component, in table order.
+pub fn lines()
+    ensures { (lines : List _) (i : ℕ) → map (line_at lines) (lines_of lines i) ≡ filter (λ line. line.component == i) lines }
+{}
+
+/// In an order of all items, each parent of an item has a place before the item's.
+pub fn orders()
+    ensures { (lines : List _) (count : ℕ) (order : List ℕ) → AreWithin count lines → IsOrder lines count order →
+        (k p : ℕ) → k < length order → IsParent lines p (slice_index order k) →
+        (j : ℕ) × (j < k) × (slice_index order j ≡ p) }
+{}

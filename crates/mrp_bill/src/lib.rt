@@ -1,0 +1,16 @@
+//! The bill of material: an accepted shop, in which no item needs itself, and the refusal of a loop.
+#![tactic(auto)]
+
+mod climb;
+mod codes;
+mod fault;
+pub mod laws;
+mod lists;
+mod ranks;
+mod search;
+mod shop;
+#[cfg(test)]
+mod tests;
+
+pub use fault::BillFault;
+pub use shop::{Bill, Shop};

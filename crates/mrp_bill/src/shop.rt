@@ -1,0 +1,123 @@
+//! A shop: tables in which no item needs itself.
+
+use crate::climb::order_of;
+use crate::codes::codes_of;
+use crate::fault::BillFault;
+use crate::lists::{Lists, lists_of};
+use crate::search::first_loop;
+use mrp_tables::Tables;
+use std::alloc::Global;
+use std::marker::Model;
+
+/// An accepted shop: tables in which no item needs itself, with the ways through their bill of
+/// material. Items are named by their places in the table, from 0.
+#[derive(Drop)]
+pub struct Shop {
+    tables: Tables,
+    codes: Vec<usize>,
+    order: Vec<usize>,
+    lists: Lists,
+}
+
+impl Model for Shop {
+    ghost use Rattle.mrp_bill.specs.Shop.{Shop};
+
+    ghost Value = { Shop };
+
+    ghost use Rattle.std.specs.Prelude.{length};
+    ghost use Rattle.mrp_bill.specs.Bill.{IsOrder};
+    ghost use Rattle.mrp_bill.specs.BillLists.{AreLists};
+    ghost use Rattle.mrp_bill.specs.Shop.{IsShop};
+
+    ghost view = { λ s. record { tables = s.tables; codes = s.codes.items } };
+
+    ghost invariant = { λ s. IsShop (record { tables = s.tables; codes = s.codes.items })
+        × IsOrder s.tables.bills (length s.tables.items) s.order.items
+        × AreLists s.tables.bills (length s.tables.items) s.lists };
+}
+
+impl Shop {
+    ghost use Rattle.std.specs.Prelude.{◌≡◌, ◌<◌, length};
+    ghost use Rattle.mrp_bill.specs.Bill.{IsOrder, children_of, lines_of, parents_of};
+    ghost use Rattle.mrp_bill.specs.Shop.{IsShop};
+
+    /// The tables.
+    pub fn tables(&self) -> &Tables
+        ensures value { result.now ≡ self.now.tables }
+        ensures accepted { IsShop self.now }
+    {
+        &self.tables
+    }
+
+    /// The items that an item is a component of, each once, in table order.
+    pub fn parents(&self, item: usize) -> &[usize]
+        requires { item < length self.now.tables.items }
+        ensures { result.now ≡ parents_of self.now.tables.bills (length self.now.tables.items) item }
+    {
+        self.lists.parents[item].as_slice()
+    }
+
+    /// The components of an item, each once, in table order.
+    pub fn children(&self, item: usize) -> &[usize]
+        requires { item < length self.now.tables.items }
+        ensures { result.now ≡ children_of self.now.tables.bills (length self.now.tables.items) item }
+    {
+        self.lists.children[item].as_slice()
+    }
+
+    /// The places in the bill table of the lines in which an item is the component, in table order.
+    pub fn lines_to(&self, item: usize) -> &[usize]
+        requires { item < length self.now.tables.items }
+        ensures { result.now ≡ lines_of self.now.tables.bills item }
+    {
+        self.lists.lines[item].as_slice()
+    }
+
+    /// All items, each once, in an order in which parents stand before their components.
+    pub fn order(&self) -> &[usize]
+        ensures { IsOrder self.now.tables.bills (length self.now.tables.items) result.now }
+    {
+        self.order.as_slice()
+    }
+
+    #[cfg(test)]
+    pub(crate) fn codes(&self) -> &[usize] {
+        self.codes.as_slice()
+    }
+}
+
+/// The bill of material.
+pub struct Bill;
+
+impl Bill {
+    ghost use Rattle.std.specs.Prelude.{◌≡◌, ℕ, IfOk, IfErr};
+    ghost use Rattle.mrp_bill.specs.Bill.{NeedsItself};
+    ghost use Rattle.mrp_bill.specs.Fault.{IsRefusal};
+    ghost use Rattle.mrp_bill.specs.Shop.{IsShop};
+
+    /// The shop of these tables, which are given up.
+    ///
+    /// Errors: `Loop` where an item needs itself, with a path that begins and ends at the first such
+    /// item in table order, and `NoMemory`. Where no item needs itself, want of memory is the only
+    /// refusal.
+    pub fn of(alloc: Global, tables: Tables) -> Result<Shop, BillFault>
+        ensures shop { IfOk result (λ shop. shop.tables ≡ tables) }
+        ensures accepted { IfOk result IsShop }
+        ensures no_loop { IfOk result (λ _. (i : ℕ) → NeedsItself tables.bills i → ⊥) }
+        ensures refused { IfErr result (IsRefusal tables.bills) }
+    {
+        let lists = lists_of(alloc, tables.items().len(), tables.bills())?;
+        let order = order_of(alloc, &lists.parents)?;
+        if order.closed {
+            let path = first_loop(alloc, &lists.parents, &lists.children, &order.items)?;
+            return Err(BillFault::Loop { path });
+        }
+        let codes = codes_of(alloc, &lists.parents, &order.items)?;
+        Ok(Shop {
+            tables,
+            codes,
+            order: order.items,
+            lists,
+        })
+    }
+}

@@ -1,0 +1,45 @@
+-- A cursor's next record, within the table's limit.
+use Rattle.std.proofs.Common.{◌≡◌, ◌≢◌, ◌==◌, ◌&&◌, eqb, Bool, true, false, length, Err, inl, inr, refl, sym, ap, ◌∙◌}
+use Rattle.std.specs.Prelude.{if◌then◌else◌}
+use Rattle.std.proofs.lemmas.Bool.{ne_eqb}
+use Rattle.mrp_rows.specs.declared.fault.Fault.{Fault}
+use Rattle.mrp_rows.specs.Left.{Cells, Left}
+use Rattle.mrp_rows.specs.Next.{NextIs}
+use Rattle.mrp_rows.specs.Columns.{width_of}
+use Rattle.mrp_tables.specs.Reading.{NextAdmitted, admitted, is_past}
+use Rattle.mrp_tables.specs.Stages.{record_limit}
+
+-- a refusal of the cursor, but for a record past the limit
+abbrev pub past_first : Fault → Fault
+past_first f = if (f.code == 6) && is_past (record_limit f.table) f.row then record { code = 20; table = f.table; row = f.row } else f
+
+same_fault : (a b : Fault) → a.code ≡ b.code → a.table ≡ b.table → a.row ≡ b.row → a ≡ b
+same_fault a b e f g = λ i. record { code = e i; table = f i; row = g i }
+
+stays : (f : Fault) → f.code ≡ 22 → past_first f ≡ f
+stays f memory = rw memory refl
+
+-- a record past its limit
+past : (f : Fault) (r : Cells) → f.code ≡ 6 → f.table ≡ r.table → f.row ≡ r.number → is_past (record_limit r.table) r.number ≡ true → admitted r ≡ Err (past_first f)
+past f r code table row h =
+    rw (code, table, row, h) refl
+
+-- a record within its limit, with another count of cells
+within : (f : Fault) (r : Cells) → f.code ≡ 6 → f.table ≡ r.table → f.row ≡ r.number → is_past (record_limit r.table) r.number ≡ false
+    → length r.cells ≢ width_of r.table → admitted r ≡ Err (past_first f)
+within f r code table row h wide =
+    let w : eqb (length r.cells) (width_of r.table) ≡ false = ne_eqb _ _ wide in
+    let kept : past_first f ≡ f = rw (code, table, row, h) refl in
+    let same : record { code = 6; table = r.table; row = r.number } ≡ f = same_fault _ f (sym code) (sym table) (sym row) in
+    rw (h, w, kept) (ap (λ g. Err g) same)
+
+either : (f : Fault) (r : Cells) → f.code ≡ 6 → f.table ≡ r.table → f.row ≡ r.number → length r.cells ≢ width_of r.table
+    → (b : Bool) → is_past (record_limit r.table) r.number ≡ b → admitted r ≡ Err (past_first f)
+either f r code table row wide true h = past f r code table row h
+either f r code table row wide false h = within f r code table row h wide
+
+pub refuses : (old new : Left) (f : Fault) → NextIs old (Err f) new → NextAdmitted old (Err (past_first f)) new
+refuses old new f (before, over, table, at, row, inl memory) = inl (ap (λ (g : Fault). g.code) (stays f memory) ∙ memory)
+refuses old new f (before, over, table, at, row, inr (code, cells, rest, left, wide)) =
+    let r : Cells = record { table = old.table; number = old.number; cells = cells } in
+    inr (cells, rest, left, either f r code at row wide (is_past (record_limit old.table) old.number) refl)

@@ -1,0 +1,149 @@
+-- A record's faults stand at the record.
+use Rattle.std.proofs.Common.{◌≡◌, ℕ, Bool, true, false, List, [], ◌∷◌, Result, Ok, Err, refl}
+use Rattle.std.specs.Prelude.{IfErr, codes, if◌then◌else◌, ◌&&◌, nat_lt, nat_eq, not, length, ◌==◌}
+use Rattle.std.specs.List.{list_any}
+use Rattle.std.specs.Cmp.Lexicographic.{pointwise}
+use Rattle.mrp_qty.specs.Reading.{◌>>=◌}
+use Rattle.mrp_cal.specs.Calendar.{ShopCalendar, is_monday, week_of}
+use Rattle.mrp_rows.specs.declared.fault.Fault.{Fault}
+use Rattle.mrp_rows.specs.Columns.{width_of}
+use Rattle.mrp_rows.specs.Left.{Cells}
+use Rattle.mrp_rows.specs.Cell.{blame, cell_at, date_cell, fault_at, name_of, number_cell, or_code, word_of}
+use Rattle.mrp_tables.specs.declared.item.Item.{Item}
+use Rattle.mrp_tables.specs.declared.rows.StockRow.{StockRow}
+use Rattle.mrp_tables.specs.Bills.{bill_row}
+use Rattle.mrp_tables.specs.Calendar.{holiday_row, start_cells, weeks_cells, workdays_cell, workdays_cells}
+use Rattle.mrp_tables.specs.Items.{class_words, greatest_size, is_master, is_master_at, item_cells, item_checked, item_row, known, least_size, names_of}
+use Rattle.mrp_tables.specs.Laws.{FaultsAtItsRecord, FaultsAtTheirRecords, IsAt}
+use Rattle.mrp_tables.specs.Master.{kind_words, master_row}
+use Rattle.mrp_tables.specs.Reading.{Reads, admitted, by_itself, is_past}
+use Rattle.mrp_tables.specs.Stages.{lot_words, most_safety, most_scrap, record_limit}
+use Rattle.mrp_tables.specs.Tables.{not_yet}
+use Rattle.mrp_tables.specs.Stock.{items_in_stock, stock_cells, stock_checked, stock_row}
+
+own : (r : Cells) (code : ℕ) → IsAt r (fault_at r code)
+own r code = record { table = refl; row = refl }
+
+-- a step of reading, and what follows
+pub step : {X Y : Type 0} (r : Cells) (x : Result X Fault) (next : X → Result Y Fault) → IfErr x (IsAt r) → ((a : X) → IfErr (next a) (IsAt r)) → IfErr (x >>= next) (IsAt r)
+step r (Ok a) next at h = h a
+step r (Err f) next at h = at
+
+-- a cell, and what follows
+cell : {X Y : Type 0} (r : Cells) (x : Result X ℕ) (next : X → Result Y Fault) → ((a : X) → IfErr (next a) (IsAt r)) → IfErr (blame r x >>= next) (IsAt r)
+cell r (Ok a) next h = h a
+cell r (Err code) next h = own r code
+
+blamed : {X : Type 0} (r : Cells) (x : Result X ℕ) → IfErr (blame r x) (IsAt r)
+blamed r (Ok a) = tt
+blamed r (Err code) = own r code
+
+-- a last check
+last : {Y : Type 0} (r : Cells) (code : ℕ) (b : Bool) (y : Y) → IfErr (if b then Err (fault_at r code) else Ok y) (IsAt r)
+last r code true y = own r code
+last r code false y = tt
+
+last_unless : {Y : Type 0} (r : Cells) (code : ℕ) (b : Bool) (y : Y) → IfErr (if b then Ok y else Err (fault_at r code)) (IsAt r)
+last_unless r code true y = tt
+last_unless r code false y = own r code
+
+admits : (r : Cells) (past wide : Bool) → is_past (record_limit r.table) r.number ≡ past → (length r.cells == width_of r.table) ≡ wide → IfErr (admitted r) (IsAt r)
+admits r true wide e w = rw e (own r 20)
+admits r false true e w = rw (e, w) tt
+admits r false false e w = rw (e, w) (own r 6)
+
+pub admitted_at : (r : Cells) → IfErr (admitted r) (IsAt r)
+admitted_at r = admits r (is_past (record_limit r.table) r.number) (length r.cells == width_of r.table) refl refl
+
+admits_same : (r : Cells) (past wide : Bool) → is_past (record_limit r.table) r.number ≡ past → (length r.cells == width_of r.table) ≡ wide → (c : Cells) → admitted r ≡ Ok c → r ≡ c
+admits_same r true wide e w c given = let refused : admitted r ≡ Err (fault_at r 20) = rw e refl in absurd cc
+admits_same r false true e w c given = let kept : admitted r ≡ Ok r = rw (e, w) refl in cc
+admits_same r false false e w c given = let refused : admitted r ≡ Err (fault_at r 6) = rw (e, w) refl in absurd cc
+
+-- what is admitted is the record
+pub admitted_same : (r c : Cells) → admitted r ≡ Ok c → r ≡ c
+admitted_same r c given = admits_same r (is_past (record_limit r.table) r.number) (length r.cells == width_of r.table) refl refl c given
+
+-- a record that is admitted and then read
+reads : {X : Type 0} (read : Reads X) → ((before : List X) (r : Cells) → IfErr (read before r) (IsAt r)) → FaultsAtItsRecord read
+reads read h before r = by (admitted r) refl (admitted_at r)
+  where
+    by : (a : Result Cells Fault) → admitted r ≡ a → IfErr a (IsAt r) → IfErr (a >>= read before) (IsAt r)
+    by (Ok c) e at = rw (← admitted_same r c e) (h before r)
+    by (Err f) e at = at
+
+pub not_yet_at : {X : Type 0} → FaultsAtItsRecord (not_yet {X = X})
+not_yet_at {X} = reads (not_yet {X = X}) (λ before r. own r 20)
+
+pub start_at : (r : Cells) → IfErr (start_cells r) (IsAt r)
+unfolding start_cells
+start_at r =
+    cell r (word_of (codes "start" ∷ []) (cell_at r 0)) _ (λ key.
+    cell r (date_cell (cell_at r 1)) _ (λ date. last_unless r 11 (is_monday date) date))
+
+pub weeks_at : (r : Cells) → IfErr (weeks_cells r) (IsAt r)
+unfolding weeks_cells
+weeks_at r = cell r (word_of (codes "weeks" ∷ []) (cell_at r 0)) _ (λ key. blamed r (number_cell 1 104 (cell_at r 1)))
+
+pub workdays_at : (r : Cells) → IfErr (workdays_cells r) (IsAt r)
+unfolding workdays_cells
+workdays_at r = cell r (word_of (codes "workdays" ∷ []) (cell_at r 0)) _ (λ key. blamed r (workdays_cell (cell_at r 1)))
+
+pub holiday_at : (r : Cells) → IfErr (holiday_row r) (IsAt r)
+unfolding holiday_row
+holiday_at r = cell r (word_of (codes "holiday" ∷ []) (cell_at r 0)) _ (λ key.
+    blamed r (date_cell (cell_at r 1)))
+
+bill_at : (items : List Item) (r : Cells) → IfErr (bill_row items r) (IsAt r)
+unfolding bill_row
+bill_at items r =
+    cell r (name_of (cell_at r 0)) _ (λ parent_name.
+    cell r (name_of (cell_at r 1)) _ (λ component_name.
+    cell r (number_cell 1 1000000 (cell_at r 2)) _ (λ per.
+    cell r (known items parent_name) _ (λ parent.
+    cell r (known items component_name) _ (λ component.
+    last r 19 (is_master_at items component) _)))))
+
+master_at : (calendar : ShopCalendar) (items : List Item) (r : Cells) → IfErr (master_row calendar items r) (IsAt r)
+unfolding master_row
+master_at calendar items r =
+    cell r (name_of (cell_at r 0)) _ (λ name.
+    cell r (word_of kind_words (cell_at r 1)) _ (λ kind.
+    cell r (date_cell (cell_at r 2)) _ (λ date.
+    cell r (number_cell 0 1000000000 (cell_at r 3)) _ (λ quantity.
+    cell r (known items name) _ (λ item.
+    cell r (or_code 15 (week_of calendar date)) _ (λ week.
+    last r 16 (not (is_master_at items item)) _))))))
+
+stock_at : (items : List Item) (before : List StockRow) (r : Cells) → IfErr (stock_row items before r) (IsAt r)
+unfolding stock_cells
+stock_at items before r = step r (stock_cells items r) (stock_checked before r)
+    (cell r (name_of (cell_at r 0)) _ (λ name.
+    cell r (number_cell 0 1000000000 (cell_at r 1)) _ (λ on_hand.
+    cell r (known items name) _ (λ item. tt))))
+    (λ row. last r 12 (list_any (nat_eq row.item) (items_in_stock before)) row)
+
+checked_at : (before : List Item) (r : Cells) (item : Item) (repeated : Bool) → list_any (pointwise nat_eq item.name) (names_of before) ≡ repeated → IfErr (item_checked before r item) (IsAt r)
+checked_at before r item true e = rw e (own r 12)
+checked_at before r item false e = rw e (last r 17 (is_master item.class && nat_lt 0 item.safety) item)
+
+item_at_record : (before : List Item) (r : Cells) → IfErr (item_row before r) (IsAt r)
+unfolding item_cells
+item_at_record before r = step r (item_cells r) (item_checked before r)
+    (cell r (name_of (cell_at r 0)) _ (λ name.
+    cell r (word_of class_words (cell_at r 1)) _ (λ class.
+    cell r (number_cell 0 104 (cell_at r 2)) _ (λ lead.
+    cell r (number_cell 0 most_scrap (cell_at r 3)) _ (λ scrap.
+    cell r (word_of lot_words (cell_at r 4)) _ (λ lot.
+    cell r (number_cell (least_size lot) (greatest_size lot) (cell_at r 5)) _ (λ size.
+    cell r (number_cell 0 most_safety (cell_at r 6)) _ (λ safety. tt))))))))
+    (λ item. checked_at before r item (list_any (pointwise nat_eq item.name) (names_of before)) refl)
+
+pub at_their_records : FaultsAtTheirRecords
+at_their_records = record {
+  holidays = reads (by_itself holiday_row) (λ before r. holiday_at r);
+  items = reads item_row item_at_record;
+  stock = λ items. reads (stock_row items) (stock_at items);
+  bills = λ items. reads (by_itself (bill_row items)) (λ before r. bill_at items r);
+  master = λ calendar items. reads (by_itself (master_row calendar items)) (λ before r. master_at calendar items r);
+}

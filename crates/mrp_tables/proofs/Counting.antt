@@ -1,0 +1,103 @@
+-- How many rows a table has: never more than its limit.
+use Rattle.std.proofs.Common.{◌≡◌, ℕ, ◌<◌, ◌≤◌, ◌+◌, Bool, true, false, List, [], ◌∷◌, ◌++◌, length, length-append, Some, Result, Ok, Err, refl, ap, arith}
+use Rattle.std.specs.Prelude.{if◌then◌else◌, nat_lt, nat_eq, IfOk}
+use Rattle.std.specs.Cmp.Lexicographic.{pointwise}
+use Rattle.std.proofs.lemmas.Bool.{ltb-false}
+use Rattle.mrp_qty.specs.Reading.{◌>>=◌}
+use Rattle.mrp_rows.specs.declared.fault.Fault.{Fault}
+use Rattle.mrp_rows.specs.declared.fault.Table.{Table}
+use Rattle.mrp_rows.specs.declared.fault.Table.TheVariants as t
+use Rattle.mrp_rows.specs.Columns.{columns_of}
+use Rattle.mrp_rows.specs.Left.{Cells, Left}
+use Rattle.mrp_rows.specs.Cell.{fault_at}
+use Rattle.mrp_rows.specs.Next.{after_header, header_fault, next_number, opened}
+use Rattle.mrp_rows.specs.Records.{records_of}
+use Rattle.mrp_tables.specs.Reading.{Gives, Reads, admitted, is_past, rows_from, rows_of}
+use Rattle.mrp_tables.specs.Stages.{record_limit}
+
+-- every limit is a number of a record
+limit_number : (table : Table) (limit : ℕ) → record_limit table ≡ Some limit → limit < 4294967294
+limit_number t.Calendar limit e = let same : 1003 ≡ limit = cc in omega arith
+limit_number t.Items limit e = let same : 20000 ≡ limit = cc in omega arith
+limit_number t.Centres limit e = let same : 0 ≡ limit = cc in omega arith
+limit_number t.Stock limit e = absurd cc
+limit_number t.Receipts limit e = let same : 0 ≡ limit = cc in omega arith
+limit_number t.Bills limit e = let same : 100000 ≡ limit = cc in omega arith
+limit_number t.Routings limit e = let same : 0 ≡ limit = cc in omega arith
+limit_number t.Master limit e = let same : 100000 ≡ limit = cc in omega arith
+limit_number t.Script limit e = let same : 0 ≡ limit = cc in omega arith
+limit_number t.Bundle limit e = absurd cc
+
+-- an admitted record is within the limit
+admitted_within : (r : Cells) (c : Cells) (past : Bool) → is_past (record_limit r.table) r.number ≡ past → admitted r ≡ Ok c → past ≡ false
+admitted_within r c true h e = let refused : admitted r ≡ Err (fault_at r 20) = rw h refl in absurd cc
+admitted_within r c false h e = refl
+
+-- the rows so far are fewer than the number of the next record
+record IsCounted {X : Type 0} (limit : ℕ) (rows : List X) (number : ℕ) : Type 0 where
+  few : length rows ≤ limit
+  at : length rows + 1 ≤ number
+
+more : {X : Type 0} (limit : ℕ) (rows : List X) (x : X) (number : ℕ) → limit < 4294967294 → nat_lt limit number ≡ false
+    → IsCounted limit rows number → IsCounted limit (rows ++ x ∷ []) (next_number number)
+more limit rows x number small within counted =
+    let below : number ≤ limit = ltb-false limit number within in
+    let long : length (rows ++ x ∷ []) ≡ length rows + 1 = length-append rows (x ∷ []) in
+    record { few = omega (arith, counted.at); at = omega (arith, counted.at) }
+
+-- a record's row is read, and what follows keeps to the limit
+after_row : {X : Type 0} (limit : ℕ) (next : X → Result (List X) Fault) (rows : List X)
+    → ((x : X) → next x ≡ Ok rows → length rows ≤ limit)
+    → (x : Result X Fault) → (x >>= next) ≡ Ok rows → length rows ≤ limit
+after_row limit next rows go (Err f) given = absurd cc
+after_row limit next rows go (Ok x) given = go x given
+
+-- a record is admitted, and what follows keeps to the limit
+after_admitted : {X : Type 0} (limit : ℕ) (next : Cells → Result (List X) Fault) (rows : List X) (r : Cells)
+    → (is_past (record_limit r.table) r.number ≡ false → (c : Cells) → next c ≡ Ok rows → length rows ≤ limit)
+    → (a : Result Cells Fault) → admitted r ≡ a → (a >>= next) ≡ Ok rows → length rows ≤ limit
+after_admitted limit next rows r go (Err f) is given = absurd cc
+after_admitted limit next rows r go (Ok c) is given =
+    go (admitted_within r c (is_past (record_limit r.table) r.number) refl is) c given
+
+-- the records behind a header are counted from 1
+by_header : (table : Table) (made all : Left) (same : Bool) → made.number ≡ 1 → (if same then Ok made else Err (header_fault table)) ≡ Ok all → 1 ≤ all.number
+by_header table made all true own e = let h : made ≡ all = cc in omega (arith, ap (λ (l : Left). l.number) h)
+by_header table made all false own e = absurd cc
+
+first : (table : Table) (records : List (List (List ℕ))) (all : Left) → after_header table records ≡ Ok all → 1 ≤ all.number
+first table [] all e = absurd cc
+first table (header ∷ records) all e =
+    by_header table (record { table = table; number = 1; left = records; is_over = false }) all (pointwise (pointwise nat_eq) header (columns_of table)) refl e
+
+counted_from : {X : Type 0} (read : Reads X) (table : Table) (limit : ℕ) → record_limit table ≡ Some limit
+    → (before : List X) (number : ℕ) (left : List (List (List ℕ))) (rows : List X) → IsCounted limit before number
+    → rows_from read table before number left ≡ Ok rows → length rows ≤ limit
+unfolding rows_from
+counted_from read table limit e before number [] rows counted given =
+    let same : before ≡ rows = cc in rw (← same) counted.few
+counted_from read table limit e before number (cells ∷ rest) rows counted given =
+    let r : Cells = record { table = table; number = number; cells = cells } in
+    after_admitted limit (λ c. read before c >>= λ x. rows_from read table (before ++ (x ∷ [])) (next_number number) rest) rows r
+    (λ past c admits.
+    let within : nat_lt limit number ≡ false = rw e at past in
+    after_row limit (λ x. rows_from read table (before ++ (x ∷ [])) (next_number number) rest) rows
+    (λ x rest_given. counted_from read table limit e (before ++ x ∷ []) (next_number number) rest rows (more limit before x number (limit_number table limit e) within counted) rest_given)
+    (read before c) admits)
+    (admitted r) refl given
+
+-- a table's rows are no more than its limit
+pub counted : {X : Type 0} (read : Reads X) (table : Table) (text : List ℕ) (rows : List X) (limit : ℕ)
+    → record_limit table ≡ Some limit → rows_of read table text ≡ Ok rows → length rows ≤ limit
+counted read table text rows limit e given = opens (opened table text) refl given
+  where
+    opens : (o : Result Left Fault) → opened table text ≡ o → (o >>= λ all. rows_from read table [] all.number all.left) ≡ Ok rows → length rows ≤ limit
+    opens (Err f) is all_given = absurd cc
+    opens (Ok all) is all_given =
+        counted_from read table limit e [] all.number all.left rows (record { few = omega arith; at = first table (records_of text) all is }) all_given
+
+-- the same of what a call returned
+pub counted_result : {X Y : Type 0} (view : Y → List X) (read : Reads X) (table : Table) (text : List ℕ) (limit : ℕ)
+    → record_limit table ≡ Some limit → (result : Result Y Fault) → Gives view result (rows_of read table text) → IfOk result (λ y. length (view y) ≤ limit)
+counted_result view read table text limit e (Ok y) given = counted read table text (view y) limit e given
+counted_result view read table text limit e (Err f) given = tt

@@ -1,0 +1,14 @@
+mod AdmittedFirst
+mod Admitting
+mod Blaming
+mod Counting
+mod Distinct
+mod Gathering
+mod Kept
+mod Opening
+mod OwnTable
+mod RowLaws
+mod SevenFlags
+mod Stocked
+mod TableLaws
+mod TellingTables

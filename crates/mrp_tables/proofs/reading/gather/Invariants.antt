@@ -1,0 +1,20 @@
+use Rattle.std.proofs.Common.{◌≡◌, length}
+use Rattle.mrp_rows.specs.Columns.{width_of}
+use Rattle.mrp_tables.specs.Reading.{rows_from}
+use Rattle.mrp_tables.proofs.Gathering.{IsLeft}
+use Rattle.mrp_tables.proofs.reading.gather.Given as goal
+
+abbrev pub invariant-loop-gathered : goal.invariant-loop-gathered
+invariant-loop-gathered g l =
+    let reads = g.G.TableRows.reads in
+    let rows = g.G.TableRows.rows in
+    let at = l.initial.cursor in
+    record {
+      same : reads l.gathered ≡ reads l.initial.gathered;
+      beside : g.G.TableRows.beside l.gathered ≡ g.G.TableRows.beside l.initial.gathered;
+      left : IsLeft (reads l.initial.gathered) at.table (rows l.gathered) l.cursor (rows_from (reads l.initial.gathered) at.table (rows l.initial.gathered) at.number at.left);
+      takes : g.G.TableRows.takes (width_of at.table);
+    }
+
+abbrev pub decreases-loop-gathered : goal.decreases-loop-gathered
+decreases-loop-gathered g l = length l.cursor.left

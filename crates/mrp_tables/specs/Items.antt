@@ -1,0 +1,80 @@
+-- The items (profile).
+use Rattle.std.specs.Prelude.{ℕ, ◌==◌, ◌&&◌, Bool, true, false, nat_lt, nat_eq, if◌then◌else◌, List, [], ◌∷◌, codes, map, position, slice_index_or, Option, Result, Ok, Err}
+use Rattle.std.specs.List.{list_any}
+use Rattle.std.specs.Cmp.Lexicographic.{pointwise}
+use Rattle.mrp_qty.specs.Reading.{◌>>=◌}
+use Rattle.mrp_rows.specs.declared.fault.Fault.{Fault}
+use Rattle.mrp_rows.specs.declared.fault.Table.TheVariants as t
+use Rattle.mrp_rows.specs.Left.{Cells}
+use Rattle.mrp_rows.specs.Cell.{cell_at, fault_at, blame, or_code, name_of, number_cell, word_of}
+use Rattle.mrp_tables.specs.declared.item.Class.{Class}
+use Rattle.mrp_tables.specs.declared.item.Class.TheVariants.{Master, Part}
+use Rattle.mrp_tables.specs.declared.item.LotRule.{LotRule}
+use Rattle.mrp_tables.specs.declared.item.LotRule.TheVariants.{LotForLot, Fixed, Period}
+use Rattle.mrp_tables.specs.declared.item.Item.{Item}
+use Rattle.mrp_tables.specs.Reading.{rows_of}
+use Rattle.mrp_tables.specs.Stages.{lot_words, most_scrap, most_safety}
+
+abbrev pub class_words : List (List ℕ)
+class_words = codes "master" ∷ codes "part" ∷ []
+
+abbrev pub class_at : ℕ → Class
+class_at place = if place == 0 then Master else Part
+
+abbrev pub is_master : Class → Bool
+is_master Master = true
+is_master Part = false
+
+-- the lot rule of a word's place and a size, which has no effect on lot for lot
+abbrev pub lot_at : ℕ → ℕ → LotRule
+lot_at place size = if place == 0 then LotForLot else if place == 1 then Fixed size else Period size
+
+-- the least and the greatest size of a lot rule: any for lot for lot, pieces for fixed lots, weeks for periods
+abbrev pub least_size : ℕ → ℕ
+least_size place = if place == 0 then 0 else 1
+
+abbrev pub greatest_size : ℕ → ℕ
+greatest_size place = if nat_lt place 2 then 1000000000 else 104
+
+-- a record's cells, from left to right
+unfoldable pub item_cells : Cells → Result Item Fault
+item_cells r = do
+  name ← blame r (name_of (cell_at r 0))
+  class ← blame r (word_of class_words (cell_at r 1))
+  lead ← blame r (number_cell 0 104 (cell_at r 2))
+  scrap ← blame r (number_cell 0 most_scrap (cell_at r 3))
+  lot ← blame r (word_of lot_words (cell_at r 4))
+  size ← blame r (number_cell (least_size lot) (greatest_size lot) (cell_at r 5))
+  safety ← blame r (number_cell 0 most_safety (cell_at r 6))
+  Ok (record { name = name; class = class_at class; lead = lead; scrap = scrap; lot = lot_at lot size; safety = safety })
+
+abbrev pub names_of : List Item → List (List ℕ)
+names_of items = map (λ i. i.name) items
+
+-- the place of a name among the items
+abbrev pub place_of : List ℕ → List Item → Option ℕ
+place_of name items = position (pointwise nat_eq name) (names_of items)
+
+-- the place of the item with a name, or code 13
+abbrev pub known : List Item → List ℕ → Result ℕ ℕ
+known items name = or_code 13 (place_of name items)
+
+-- the item at a place
+abbrev pub item_at : List Item → ℕ → Item
+item_at items place = slice_index_or items place (record { name = []; class = Part; lead = 0; scrap = 0; lot = LotForLot; safety = 0 })
+
+abbrev pub is_master_at : List Item → ℕ → Bool
+is_master_at items place = is_master (item_at items place).class
+
+-- no earlier item has the name, or code 12; a master item has no safety stock, or code 17
+abbrev pub item_checked : List Item → Cells → Item → Result Item Fault
+item_checked before r item =
+    if list_any (pointwise nat_eq item.name) (names_of before) then Err (fault_at r 12)
+    else if is_master item.class && nat_lt 0 item.safety then Err (fault_at r 17)
+    else Ok item
+
+abbrev pub item_row : List Item → Cells → Result Item Fault
+item_row before r = item_cells r >>= item_checked before r
+
+abbrev pub items_of : List ℕ → Result (List Item) Fault
+items_of text = rows_of item_row t.Items text

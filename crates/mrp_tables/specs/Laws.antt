@@ -1,0 +1,123 @@
+-- What holds of every table's rows, and of the tables of every bundle.
+use Rattle.std.specs.Prelude.{ℕ, ◌≡◌, ◌≢◌, ◌<◌, true, false, ◌+◌, min, List, [], ◌∷◌, length, map, take, slice_index_or, IfErr, Result, Ok, Err}
+use Rattle.mrp_qty.specs.Reading.{◌>>=◌}
+use Rattle.mrp_cal.specs.Calendar.{ShopCalendar}
+use Rattle.mrp_rows.specs.Bundle.{text_in}
+use Rattle.mrp_rows.specs.declared.fault.Fault.{Fault}
+use Rattle.mrp_rows.specs.declared.fault.Table.{Table}
+use Rattle.mrp_rows.specs.declared.fault.Table.TheVariants as t
+use Rattle.mrp_rows.specs.Columns.{width_of}
+use Rattle.mrp_rows.specs.Left.{Cells, Left}
+use Rattle.mrp_rows.specs.Cell.{fault_at}
+use Rattle.mrp_rows.specs.Next.{opened}
+use Rattle.mrp_rows.specs.Tables.{table_index}
+use Rattle.mrp_tables.specs.declared.item.Item.{Item}
+use Rattle.mrp_tables.specs.declared.rows.Centre.{Centre}
+use Rattle.mrp_tables.specs.declared.rows.Receipt.{Receipt}
+use Rattle.mrp_tables.specs.declared.rows.Operation.{Operation}
+use Rattle.mrp_tables.specs.declared.rows.ScriptRow.{ScriptRow}
+use Rattle.mrp_tables.specs.Bills.{bill_row, bills_of}
+use Rattle.mrp_tables.specs.Calendar.{calendar_of, holiday_row}
+use Rattle.mrp_tables.specs.Items.{item_row, items_of}
+use Rattle.mrp_tables.specs.Master.{master_of, master_row}
+use Rattle.mrp_tables.specs.Reading.{Reads, admitted, by_itself, is_past, rows_of}
+use Rattle.mrp_tables.specs.Stages.{record_limit}
+use Rattle.mrp_tables.specs.Stock.{stock_of, stock_row}
+use Rattle.mrp_tables.specs.Tables.{not_yet, tables_in}
+
+-- the number of the record at a place, counted from 0
+abbrev pub number_at : ℕ → ℕ
+number_at place = min (place + 1) 4294967295
+
+-- the record at a place of a table's records
+abbrev pub record_at : Table → List (List (List ℕ)) → ℕ → Cells
+record_at table records place = record { table = table; number = number_at place; cells = slice_index_or records place [] }
+
+-- what a record reads as after these rows: its count of cells comes before what the cells say
+abbrev pub read_one : {X : Type 0} → Reads X → List X → Cells → Result X Fault
+read_one read before r = admitted r >>= read before
+
+-- rows are records read one by one: there are as many, and each is what its record reads as after the rows before it
+pub record AreReadFrom {X : Type 0} (read : Reads X) (table : Table) (records : List (List (List ℕ))) (rows : List X) : Type 0 where
+  pub count : length rows ≡ length records
+  pub each : (place : ℕ) (d : X) → place < length rows → read_one read (take place rows) (record_at table records place) ≡ Ok (slice_index_or rows place d)
+
+-- a fault is that of the record at a place, and the records before it are read
+pub record IsFirstFault {X : Type 0} (read : Reads X) (table : Table) (records : List (List (List ℕ))) (f : Fault) : Type 0 where
+  pub place : ℕ
+  pub before : List X
+  pub within : place < length records
+  pub earlier : AreReadFrom read table (take place records) before
+  pub refused : read_one read before (record_at table records place) ≡ Err f
+
+-- records are read one by one, up to the first that is refused
+abbrev pub AreReadInTurn : {X : Type 0} → Reads X → Table → List (List (List ℕ)) → Result (List X) Fault → Type 0
+AreReadInTurn read table records (Ok rows) = AreReadFrom read table records rows
+AreReadInTurn read table records (Err f) = IsFirstFault read table records f
+
+-- a table's reading: its header first, and then its records in turn
+pub record IsReadInTurn {X : Type 0} (read : Reads X) (table : Table) (text : List ℕ) : Type 0 where
+  pub header : (f : Fault) → opened table text ≡ Err f → rows_of read table text ≡ Err f
+  pub records : (all : Left) → opened table text ≡ Ok all → AreReadInTurn read table all.left (rows_of read table text)
+
+-- a record past its table's limit is refused for that, whatever its cells; one within it that has not a cell for each column, for that; all others are read
+pub record IsAdmittedFirst {X : Type 0} (read : Reads X) (before : List X) (r : Cells) : Type 0 where
+  pub past : is_past (record_limit r.table) r.number ≡ true → read_one read before r ≡ Err (fault_at r 20)
+  pub wide : is_past (record_limit r.table) r.number ≡ false → length r.cells ≢ width_of r.table → read_one read before r ≡ Err (fault_at r 6)
+  pub admitted : is_past (record_limit r.table) r.number ≡ false → length r.cells ≡ width_of r.table → read_one read before r ≡ read before r
+
+-- a fault stands at a record
+pub record IsAt (r : Cells) (f : Fault) : Type 0 where
+  pub table : f.table ≡ r.table
+  pub row : f.row ≡ r.number
+
+-- each fault of a table's records stands at the record that is read
+abbrev pub FaultsAtItsRecord : {X : Type 0} → Reads X → Type 0
+FaultsAtItsRecord {X} read = (before : List X) (r : Cells) → IfErr (read_one read before r) (IsAt r)
+
+-- each table's faults stand at their records
+pub record FaultsAtTheirRecords : Type 0 where
+  pub holidays : FaultsAtItsRecord (by_itself holiday_row)
+  pub items : FaultsAtItsRecord item_row
+  pub stock : (items : List Item) → FaultsAtItsRecord (stock_row items)
+  pub bills : (items : List Item) → FaultsAtItsRecord (by_itself (bill_row items))
+  pub master : (calendar : ShopCalendar) (items : List Item) → FaultsAtItsRecord (by_itself (master_row calendar items))
+
+-- that a table is read whole, or its fault
+abbrev pub whole : {X : Type 0} → Result X Fault → Result (Unit {0}) Fault
+whole (Ok x) = Ok tt
+whole (Err f) = Err f
+
+-- whether a table is read whole, beside the earlier tables that it looks at
+abbrev pub reading_of : List (List ℕ) → Table → Result (Unit {0}) Fault
+reading_of texts t.Calendar = whole (calendar_of (text_in texts t.Calendar))
+reading_of texts t.Items = whole (items_of (text_in texts t.Items))
+reading_of texts t.Centres = whole (rows_of (not_yet {X = Centre}) t.Centres (text_in texts t.Centres))
+reading_of texts t.Stock = items_of (text_in texts t.Items) >>= λ items. whole (stock_of items (text_in texts t.Stock))
+reading_of texts t.Receipts = whole (rows_of (not_yet {X = Receipt}) t.Receipts (text_in texts t.Receipts))
+reading_of texts t.Bills = items_of (text_in texts t.Items) >>= λ items. whole (bills_of items (text_in texts t.Bills))
+reading_of texts t.Routings = whole (rows_of (not_yet {X = Operation}) t.Routings (text_in texts t.Routings))
+reading_of texts t.Master =
+    calendar_of (text_in texts t.Calendar) >>= λ calendar.
+    items_of (text_in texts t.Items) >>= λ items. whole (master_of calendar items (text_in texts t.Master))
+reading_of texts t.Script = whole (rows_of (not_yet {X = ScriptRow}) t.Script (text_in texts t.Script))
+reading_of texts t.Bundle = Ok tt
+
+-- the tables in the order of their faults
+abbrev pub table_order : List Table
+table_order =
+    t.Calendar ∷ t.Items ∷ t.Centres ∷ t.Stock ∷ t.Receipts ∷ t.Bills ∷ t.Routings ∷ t.Master ∷ t.Script ∷ []
+
+-- all are read whole, or the first fault
+abbrev pub all_whole : List (Result (Unit {0}) Fault) → Result (Unit {0}) Fault
+all_whole [] = Ok tt
+all_whole (r ∷ rest) = r >>= λ whole. all_whole rest
+
+-- a fault is told at its table, and the tables before it are all read whole
+pub record IsToldAtItsTable (texts : List (List ℕ)) (f : Fault) : Type 0 where
+  pub own : reading_of texts f.table ≡ Err f
+  pub earlier : all_whole (map (reading_of texts) (take (table_index f.table) table_order)) ≡ Ok tt
+
+-- a bundle's fault is that of its first table, in their order, that is not read whole
+abbrev pub IsFirstTablesFault : List (List ℕ) → Type 0
+IsFirstTablesFault texts = whole (tables_in texts) ≡ all_whole (map (reading_of texts) table_order)

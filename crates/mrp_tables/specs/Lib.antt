@@ -1,0 +1,12 @@
+pub mod Bills
+pub mod Calendar
+pub mod Facts
+pub mod Gathered
+pub mod Items
+pub mod Laws
+pub mod Master
+pub mod Reading
+pub mod Seen
+pub mod Stages
+pub mod Stock
+pub mod Tables

@@ -1,0 +1,38 @@
+-- The master schedule (APICS Dictionary: master production schedule; profile: its form).
+use Rattle.std.specs.Prelude.{ℕ, ◌==◌, not, nat_lt, if◌then◌else◌, List, [], ◌∷◌, codes, filter, Result, Ok, Err}
+use Rattle.mrp_qty.specs.Reading.{◌>>=◌}
+use Rattle.mrp_cal.specs.Calendar.{ShopCalendar, week_of}
+use Rattle.mrp_rows.specs.declared.fault.Fault.{Fault}
+use Rattle.mrp_rows.specs.declared.fault.Table.TheVariants as t
+use Rattle.mrp_rows.specs.Left.{Cells}
+use Rattle.mrp_rows.specs.Cell.{cell_at, fault_at, blame, or_code, name_of, number_cell, word_of, date_cell}
+use Rattle.mrp_tables.specs.declared.item.Item.{Item}
+use Rattle.mrp_tables.specs.declared.rows.MasterKind.{MasterKind}
+use Rattle.mrp_tables.specs.declared.rows.MasterKind.TheVariants.{Firm, Forecast}
+use Rattle.mrp_tables.specs.declared.rows.MasterRow.{MasterRow}
+use Rattle.mrp_tables.specs.Items.{known, is_master_at}
+use Rattle.mrp_tables.specs.Reading.{by_itself, rows_of}
+
+abbrev pub kind_words : List (List ℕ)
+kind_words = codes "firm" ∷ codes "forecast" ∷ []
+
+abbrev pub kind_at : ℕ → MasterKind
+kind_at place = if place == 0 then Firm else Forecast
+
+-- the cells from left to right; then an item that is there, a week of the horizon, and a master item
+unfoldable pub master_row : ShopCalendar → List Item → Cells → Result MasterRow Fault
+master_row calendar items r = do
+  name ← blame r (name_of (cell_at r 0))
+  kind ← blame r (word_of kind_words (cell_at r 1))
+  date ← blame r (date_cell (cell_at r 2))
+  quantity ← blame r (number_cell 0 1000000000 (cell_at r 3))
+  item ← blame r (known items name)
+  week ← blame r (or_code 15 (week_of calendar date))
+  if not (is_master_at items item) then Err (fault_at r 16) else Ok (record { number = r.number; item = item; kind = kind_at kind; week = week; quantity = quantity })
+
+-- a row of quantity 0 is checked like any other, and then counts as no row
+abbrev pub that_count : List MasterRow → List MasterRow
+that_count rows = filter (λ row. nat_lt 0 row.quantity) rows
+
+abbrev pub master_of : ShopCalendar → List Item → List ℕ → Result (List MasterRow) Fault
+master_of calendar items text = rows_of (by_itself (master_row calendar items)) t.Master text >>= λ rows. Ok (that_count rows)

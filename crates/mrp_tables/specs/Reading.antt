@@ -1,0 +1,66 @@
+-- Reading a table: its records in turn, each with the rows before it at hand, up to the first fault (profile).
+use Rattle.std.specs.Prelude.{ℕ, ◌≡◌, ◌⊎◌, ◌==◌, Bool, false, nat_lt, if◌then◌else◌, List, [], ◌∷◌, ◌++◌, length, Option, Some, None, Result, Ok, Err}
+use Rattle.mrp_qty.specs.Reading.{◌>>=◌}
+use Rattle.mrp_rows.specs.declared.fault.Fault.{Fault}
+use Rattle.mrp_rows.specs.declared.fault.Table.{Table}
+use Rattle.mrp_rows.specs.Columns.{width_of}
+use Rattle.mrp_rows.specs.Left.{Cells, Left}
+use Rattle.mrp_rows.specs.Next.{next_number, opened}
+use Rattle.mrp_rows.specs.Cell.{fault_at}
+use Rattle.mrp_tables.specs.Stages.{record_limit}
+
+abbrev pub is_past : Option ℕ → ℕ → Bool
+is_past None number = false
+is_past (Some limit) number = nat_lt limit number
+
+-- a record within its table's limit, or code 20, and with a cell for each column, or code 6
+abbrev pub admitted : Cells → Result Cells Fault
+admitted r =
+    if is_past (record_limit r.table) r.number then Err (fault_at r 20)
+    else if length r.cells == width_of r.table then Ok r
+    else Err (fault_at r 6)
+
+-- how a record is read, given the rows of the records before it
+abbrev pub Reads : Type 0 → Type 0
+Reads X = List X → Cells → Result X Fault
+
+-- a record that reads the same whatever the rows before it
+abbrev pub by_itself : {X : Type 0} → (Cells → Result X Fault) → Reads X
+by_itself read before r = read r
+
+-- the rows of the records that are left, after those before them
+unfoldable pub rows_from : {X : Type 0} → Reads X → Table → List X → ℕ → List (List (List ℕ)) → Result (List X) Fault
+rows_from read t before number [] = Ok before
+rows_from read t before number (cells ∷ rest) =
+    admitted (record { table = t; number = number; cells = cells }) >>= λ r.
+    read before r >>= λ x. rows_from read t (before ++ (x ∷ [])) (next_number number) rest
+
+-- a table's rows, or its first fault
+abbrev pub rows_of : {X : Type 0} → Reads X → Table → List ℕ → Result (List X) Fault
+rows_of read t text = opened t text >>= λ all. rows_from read t [] all.number all.left
+
+-- what a call returned, seen by view, is what reading gives, unless memory was refused
+abbrev pub Gives : {X Y : Type 0} → (X → Y) → Result X Fault → Result Y Fault → Type 0
+Gives view (Ok x) read = read ≡ Ok (view x)
+Gives view (Err f) read = (f.code ≡ 22) ⊎ (read ≡ Err f)
+
+-- adding a record's row: the row is what the record reads as, or nothing is added
+abbrev pub Adds : {X : Type 0} → Reads X → List X → Cells → Result (Unit {0}) Fault → List X → Type 0
+Adds {X} read old r (Ok u) new = (x : X) × (read old r ≡ Ok x) × (new ≡ old ++ (x ∷ []))
+Adds read old r (Err f) new = (new ≡ old) × ((f.code ≡ 22) ⊎ (read old r ≡ Err f))
+
+-- the next record of a table, admitted; none where none is left; or why it is refused
+abbrev pub NextAdmitted : Left → Result (Option Cells) Fault → Left → Type 0
+NextAdmitted old (Ok None) new = old.left ≡ []
+NextAdmitted old (Ok (Some r)) new =
+    (old.left ≡ r.cells ∷ new.left) × (r.table ≡ old.table) × (r.number ≡ old.number) × (admitted r ≡ Ok r)
+    × (new.number ≡ next_number old.number) × (new.table ≡ old.table) × (new.is_over ≡ false)
+NextAdmitted old (Err f) new =
+    (f.code ≡ 22)
+    ⊎ ((cells : List (List ℕ)) × (rest : List (List (List ℕ))) × (old.left ≡ cells ∷ rest)
+    × (admitted (record { table = old.table; number = old.number; cells = cells }) ≡ Err f))
+
+-- a step along the records that are left, unless memory was refused
+abbrev pub Steps : {X : Type 0} → (Left → Result (X × Left) Fault) → Left → Result X Fault → Left → Type 0
+Steps step old (Ok x) new = step old ≡ Ok (x, new)
+Steps step old (Err f) new = (f.code ≡ 22) ⊎ (step old ≡ Err f)

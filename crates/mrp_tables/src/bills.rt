@@ -1,0 +1,107 @@
+//! The bills' table.
+
+ghost use Rattle.std.specs.Prelude.{◌≡◌, length, IfOk};
+ghost use Rattle.mrp_tables.specs.Bills.{bill_row};
+ghost use Rattle.mrp_tables.specs.Facts.{IsBillLine};
+
+use crate::codes::{MASTER_COMPONENT, NO_MEMORY, UNKNOWN_ITEM};
+use crate::items::Items;
+use crate::reading::TableRows;
+use crate::rows::BillLine;
+use mrp_rows::{Fault, Row};
+use std::alloc::Global;
+use std::marker::Model;
+
+const MOST_PER: u64 = 1_000_000;
+
+/// The bill lines so far.
+#[derive(Drop)]
+pub(crate) struct Bills<'a> {
+    items: &'a Items,
+    lines: Vec<BillLine>,
+}
+
+impl<'a> Model for Bills<'a> {
+    ghost use Rattle.mrp_tables.specs.Gathered.{Gathered};
+    ghost use Rattle.mrp_tables.specs.declared.rows.BillLine.{BillLine};
+
+    ghost Value = { Gathered BillLine };
+
+    ghost view = { λ t. record { items = t.items.now; rows = t.lines.items } };
+
+    ghost use Rattle.std.specs.Prelude.{All};
+    ghost use Rattle.mrp_tables.specs.Facts.{IsBillLine};
+
+    ghost invariant = { λ t. All (IsBillLine t.items.now) t.lines.items };
+}
+
+impl<'a> TableRows for Bills<'a> {
+    type Line = BillLine;
+
+    ghost use Rattle.std.specs.Prelude.{◌≡◌};
+    ghost use Rattle.mrp_tables.specs.Bills.{bill_row};
+    ghost use Rattle.mrp_tables.specs.Reading.{by_itself};
+
+    ghost takes = { λ count. count ≡ 3 };
+
+    ghost rows = { λ t. t.rows };
+
+    ghost reads = { λ t. by_itself (bill_row t.items) };
+
+    ghost beside = { λ t. record { items = t.items; weeks = 0 } };
+
+    fn add(&mut self, row: &Row) -> Result<(), Fault> {
+        let line = bill_line(row, self.items)?;
+        if self.lines.push(line).is_err() {
+            return Err(row.fault(NO_MEMORY));
+        }
+        Ok(())
+    }
+}
+
+#[tactic(auto, unfolding(crate::specs::Bills::bill_row))]
+fn bill_line(row: &Row, items: &Items) -> Result<BillLine, Fault>
+    requires { length row.now.cells ≡ 3 }
+    ensures cells { result ≡ bill_row items.now row.now }
+    ensures within { IfOk result (IsBillLine items.now) }
+{
+    let parent_name = row.name(0)?;
+    let component_name = row.name(1)?;
+    let per = row.number(2, 1, MOST_PER)?;
+    let Some(parent) = items.find(&parent_name) else {
+        return Err(row.fault(UNKNOWN_ITEM));
+    };
+    let Some(component) = items.find(&component_name) else {
+        return Err(row.fault(UNKNOWN_ITEM));
+    };
+    if items.is_master(component) {
+        return Err(row.fault(MASTER_COMPONENT));
+    }
+    Ok(BillLine {
+        parent,
+        component,
+        per,
+    })
+}
+
+impl<'a> Bills<'a> {
+    ghost use Rattle.std.specs.Prelude.{◌≡◌, [], All};
+    ghost use Rattle.mrp_tables.specs.Facts.{IsBillLine};
+
+    pub(crate) fn new(alloc: Global, items: &'a Items) -> Bills<'a>
+        ensures { result ≡ record { items = items.now; rows = [] } }
+    {
+        Bills {
+            items,
+            lines: Vec::new(alloc),
+        }
+    }
+
+    pub(crate) fn into_lines(self) -> Vec<BillLine>
+        ensures rows { result.items ≡ self.entry.rows }
+        ensures within { All (IsBillLine self.entry.items) result.items }
+    {
+        let Bills { items: _, lines } = self;
+        lines
+    }
+}

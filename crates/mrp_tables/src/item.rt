@@ -1,0 +1,112 @@
+//! An item's record.
+
+ghost use Rattle.std.specs.Prelude.{◌≡◌, ◌==◌, if◌then◌else◌, ℕ, length};
+ghost use Rattle.std.specs.Int.{IsInRange};
+ghost use Rattle.mrp_tables.specs.Items.{class_at, greatest_size, least_size, lot_at};
+
+use crate::cells::{MOST_PIECES, quantity};
+use crate::stages::{LOT_WORDS, MOST_SAFETY, MOST_SCRAP};
+use mrp_qty::Qty;
+use mrp_rows::{Fault, Name, Row};
+
+/// Whether an item is planned by the master schedule or by its parents' requirements.
+#[derive(Clone, Copy, Debug, PartialEq, Eq)]
+pub enum Class {
+    /// Planned by the master schedule.
+    Master,
+    /// Planned by the requirements that its parents' orders cause.
+    Part,
+}
+
+/// How net requirements are put together into orders (APICS Dictionary: lot sizing).
+#[derive(Clone, Copy, Debug, PartialEq, Eq)]
+pub enum LotRule {
+    /// Each week's net requirement is an order.
+    LotForLot,
+    /// Orders of whole multiples of a size, in pieces.
+    Fixed(u64),
+    /// An order covers the net requirements of that many weeks.
+    Period(u64),
+}
+
+/// An item's master data.
+#[derive(Clone, Copy, Debug)]
+pub struct Item {
+    /// The item's name, no other item's.
+    pub name: Name,
+    /// Whether the master schedule plans it.
+    pub class: Class,
+    /// The lead time, in weeks, up to 104.
+    pub lead: u64,
+    /// The scrap, in pieces of a thousand, up to 900.
+    pub scrap: u64,
+    /// The lot rule.
+    pub lot: LotRule,
+    /// The safety stock, up to 10^9 pieces; 0 for a master item.
+    pub safety: Qty,
+}
+
+impl Item {
+    ghost use Rattle.std.specs.Prelude.{◌≡◌, length, IfOk};
+    ghost use Rattle.mrp_tables.specs.Facts.{IsItemUnlessStocked};
+    ghost use Rattle.mrp_tables.specs.Items.{item_cells};
+
+    // The cells of a record, from left to right.
+    #[tactic(auto, unfolding(crate::specs::Items::item_cells))]
+    pub(crate) fn of(row: &Row) -> Result<Item, Fault>
+        requires { length row.now.cells ≡ 7 }
+        ensures cells { result ≡ item_cells row.now }
+        ensures within { IfOk result IsItemUnlessStocked }
+    {
+        let name = row.name(0)?;
+        let class = row.word(1, &["master", "part"])?;
+        let lead = row.number(2, 0, 104)?;
+        let scrap = row.number(3, 0, MOST_SCRAP)?;
+        let lot = row.word(4, LOT_WORDS)?;
+        let size = row.number(5, least_size(lot), greatest_size(lot))?;
+        let safety = quantity(row, 6, MOST_SAFETY)?;
+        Ok(Item {
+            name,
+            class: class_at(class),
+            lead,
+            scrap,
+            lot: lot_at(lot, size),
+            safety,
+        })
+    }
+}
+
+fn class_at(place: usize) -> Class
+    ensures { result ≡ class_at place }
+{
+    if place == 0 {
+        Class::Master
+    } else {
+        Class::Part
+    }
+}
+
+fn least_size(lot: usize) -> u64
+    ensures { result ≡ least_size lot }
+{
+    if lot == 0 { 0 } else { 1 }
+}
+
+fn greatest_size(lot: usize) -> u64
+    ensures { result ≡ greatest_size lot }
+{
+    if lot < 2 { MOST_PIECES } else { 104 }
+}
+
+fn lot_at(lot: usize, size: u64) -> LotRule
+    requires { IsInRange (least_size lot) (greatest_size lot) size }
+    ensures rule { result ≡ lot_at lot size }
+    ensures fixed { (pieces : ℕ) → result ≡ LotRule.Fixed pieces → IsInRange 1 1000000000 pieces }
+    ensures period { (weeks : ℕ) → result ≡ LotRule.Period weeks → IsInRange 1 104 weeks }
+{
+    match lot {
+        0 => LotRule::LotForLot,
+        1 => LotRule::Fixed(size),
+        _ => LotRule::Period(size),
+    }
+}

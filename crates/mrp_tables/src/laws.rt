@@ -1,0 +1,35 @@
+//! What holds of every table's rows and of every bundle's tables, by the definitions alone.
+
+ghost use Rattle.std.specs.Prelude.{◌≡◌, ℕ, List, Err};
+ghost use Rattle.mrp_rows.specs.declared.fault.Fault.{Fault};
+ghost use Rattle.mrp_rows.specs.declared.fault.Table.{Table};
+ghost use Rattle.mrp_rows.specs.Left.{Cells};
+ghost use Rattle.mrp_tables.specs.Laws.{FaultsAtTheirRecords, IsAdmittedFirst, IsFirstTablesFault, IsReadInTurn, IsToldAtItsTable};
+ghost use Rattle.mrp_tables.specs.Reading.{Reads};
+ghost use Rattle.mrp_tables.specs.Tables.{tables_in};
+
+/// A table's rows are its records read one by one, each after the rows before it; a fault is the
+/// header's, or that of the first record that cannot be read after those before it.
+pub fn records_are_read_in_turn<T>()
+    ensures { (read : Reads T) (table : Table) (text : List ℕ) → IsReadInTurn read table text }
+{}
+
+/// The limit of records comes before the count of cells, and this before what the cells say.
+pub fn records_are_admitted_first<T>()
+    ensures { (read : Reads T) (before : List T) (r : Cells) → IsAdmittedFirst read before r }
+{}
+
+/// A fault of a record stands at the record's table and number.
+pub fn faults_stand_at_their_records()
+    ensures { FaultsAtTheirRecords }
+{}
+
+/// A bundle's fault is told at its table, and every table before that one is read whole.
+pub fn faults_are_told_at_their_tables()
+    ensures { (texts : List (List ℕ)) (f : Fault) → tables_in texts ≡ Err f → IsToldAtItsTable texts f }
+{}
+
+/// The tables are read in their order: the first one that is not read whole gives the fault.
+pub fn tables_are_read_in_turn()
+    ensures { (texts : List (List ℕ)) → IsFirstTablesFault texts }
+{}

@@ -1,0 +1,24 @@
+//! The typed tables of a bundle, or its first fault.
+#![tactic(auto)]
+
+mod bills;
+mod calendar;
+mod cells;
+mod codes;
+mod item;
+mod items;
+pub mod laws;
+mod master;
+mod reading;
+mod rows;
+mod stages;
+mod stock;
+mod tables;
+#[cfg(test)]
+mod tests;
+
+pub use item::{Class, Item, LotRule};
+pub use rows::{
+    BillLine, Call, Centre, MasterKind, MasterRow, Operation, Receipt, ScriptRow, StockRow,
+};
+pub use tables::Tables;

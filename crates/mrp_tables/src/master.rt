@@ -1,0 +1,135 @@
+//! The master schedule's table.
+
+ghost use Rattle.std.specs.Prelude.{◌≡◌, ◌==◌, if◌then◌else◌, length, IfOk};
+ghost use Rattle.mrp_tables.specs.Facts.{IsMasterRowIfAny};
+ghost use Rattle.mrp_tables.specs.Master.{kind_at, master_row, that_count};
+
+use crate::cells::{MOST_PIECES, quantity};
+use crate::codes::{DATE_OUTSIDE, NO_MEMORY, NOT_MASTER, UNKNOWN_ITEM};
+use crate::items::Items;
+use crate::reading::TableRows;
+use crate::rows::{MasterKind, MasterRow};
+use mrp_cal::Calendar;
+use mrp_rows::{Fault, Row};
+use std::alloc::Global;
+use std::marker::Model;
+
+/// The master rows so far, those of quantity 0 among them.
+#[derive(Drop)]
+pub(crate) struct Master<'a> {
+    calendar: &'a Calendar,
+    items: &'a Items,
+    rows: Vec<MasterRow>,
+}
+
+impl<'a> Model for Master<'a> {
+    ghost use Rattle.mrp_tables.specs.Gathered.{GatheredMaster};
+
+    ghost Value = { GatheredMaster };
+
+    ghost view = { λ t. record { calendar = t.calendar.now; items = t.items.now; rows = t.rows.items } };
+
+    ghost use Rattle.std.specs.Prelude.{All};
+    ghost use Rattle.mrp_tables.specs.Facts.{IsMasterRowIfAny};
+
+    ghost invariant = { λ t. All (IsMasterRowIfAny t.calendar.now.weeks t.items.now) t.rows.items };
+}
+
+impl<'a> TableRows for Master<'a> {
+    type Line = MasterRow;
+
+    ghost use Rattle.std.specs.Prelude.{◌≡◌};
+    ghost use Rattle.mrp_tables.specs.Master.{master_row};
+    ghost use Rattle.mrp_tables.specs.Reading.{by_itself};
+
+    ghost takes = { λ count. count ≡ 4 };
+
+    ghost rows = { λ t. t.rows };
+
+    ghost reads = { λ t. by_itself (master_row t.calendar t.items) };
+
+    ghost beside = { λ t. record { items = t.items; weeks = t.calendar.weeks } };
+
+    fn add(&mut self, row: &Row) -> Result<(), Fault> {
+        let master = master_row(row, self.calendar, self.items)?;
+        if self.rows.push(master).is_err() {
+            return Err(row.fault(NO_MEMORY));
+        }
+        Ok(())
+    }
+}
+
+fn kind_at(place: usize) -> MasterKind
+    ensures { result ≡ kind_at place }
+{
+    if place == 0 {
+        MasterKind::Firm
+    } else {
+        MasterKind::Forecast
+    }
+}
+
+#[tactic(auto, unfolding(crate::specs::Master::master_row))]
+fn master_row(row: &Row, calendar: &Calendar, items: &Items) -> Result<MasterRow, Fault>
+    requires { length row.now.cells ≡ 4 }
+    ensures cells { result ≡ master_row calendar.now items.now row.now }
+    ensures within { IfOk result (IsMasterRowIfAny calendar.now.weeks items.now) }
+{
+    let name = row.name(0)?;
+    let kind = row.word(1, &["firm", "forecast"])?;
+    let date = row.date(2)?;
+    let quantity = quantity(row, 3, MOST_PIECES)?;
+    let Some(item) = items.find(&name) else {
+        return Err(row.fault(UNKNOWN_ITEM));
+    };
+    let Some(week) = calendar.week_of(date) else {
+        return Err(row.fault(DATE_OUTSIDE));
+    };
+    if !items.is_master(item) {
+        return Err(row.fault(NOT_MASTER));
+    }
+    Ok(MasterRow {
+        number: row.fault(0).row,
+        item,
+        kind: kind_at(kind),
+        week,
+        quantity,
+    })
+}
+
+impl<'a> Master<'a> {
+    ghost use Rattle.std.specs.Prelude.{◌≡◌, ◌≤◌, [], All, length};
+    ghost use Rattle.mrp_tables.specs.Facts.{IsMasterRow};
+    ghost use Rattle.mrp_tables.specs.Master.{that_count};
+
+    pub(crate) fn new(alloc: Global, calendar: &'a Calendar, items: &'a Items) -> Master<'a>
+        ensures { result ≡ record { calendar = calendar.now; items = items.now; rows = [] } }
+    {
+        Master {
+            calendar,
+            items,
+            rows: Vec::new(alloc),
+        }
+    }
+
+    // The rows that count: a row of quantity 0 counts as none.
+    pub(crate) fn into_rows(self) -> Vec<MasterRow>
+        ensures rows { result.items ≡ that_count self.entry.rows }
+        ensures count { length result.items ≤ length self.entry.rows }
+        ensures within { All (IsMasterRow self.entry.calendar.weeks self.entry.items) result.items }
+    {
+        let Master {
+            calendar: _,
+            items: _,
+            rows,
+        } = self;
+        that_count(rows)
+    }
+}
+
+fn that_count(mut rows: Vec<MasterRow>) -> Vec<MasterRow>
+    ensures { result.items ≡ that_count rows.items }
+{
+    rows.retain(|row| row.quantity.value() > 0);
+    rows
+}

@@ -1,0 +1,167 @@
+//! Reading a table's records, one after the other.
+
+ghost use Rattle.std.specs.Prelude.{◌≡◌, ◌==◌, ◌&&◌, ◌≢◌, ◌≤◌, if◌then◌else◌, ℕ, [], length, IfOk, IfSome};
+ghost use Rattle.mrp_rows.specs.Bundle.{text_in};
+ghost use Rattle.mrp_rows.specs.Columns.{width_of};
+ghost use Rattle.mrp_tables.specs.Reading.{Adds, Gives, NextAdmitted, is_past, rows_from, rows_of};
+ghost use Rattle.mrp_tables.specs.Stages.{record_limit};
+
+use crate::codes::{COLUMNS, TOO_MANY};
+use crate::stages::most_records;
+use mrp_rows::{Cursor, Fault, Row, Sections, Table};
+use std::alloc::Global;
+use std::marker::Model;
+
+fn is_past_limit(table: Table, number: u32) -> bool
+    ensures { result ≡ is_past (record_limit table) number }
+{
+    match most_records(table) {
+        Some(limit) => limit < number,
+        None => false,
+    }
+}
+
+/// A table's next record, or None at the end.
+///
+/// Errors, at the record's number: 20, past the table's limit; then 6, another count of cells than
+/// the table has columns; 22, where memory is refused.
+pub(crate) fn next_record(cursor: &mut Cursor<'_>) -> Result<Option<Row>, Fault>
+    ensures next { NextAdmitted cursor.old result cursor.new }
+    ensures wide { IfOk result (λ next. IfSome next (λ r. length r.cells ≡ width_of cursor.old.table)) }
+    ensures table { cursor.new.table ≡ cursor.old.table }
+{
+    match cursor.next() {
+        Ok(Some(row)) => {
+            let past = row.fault(TOO_MANY);
+            if is_past_limit(past.table, past.row) {
+                Err(past)
+            } else {
+                Ok(Some(row))
+            }
+        }
+        Ok(None) => Ok(None),
+        Err(fault) => Err(past_first(fault)),
+    }
+}
+
+// A record past its table's limit is refused for that, whatever its cells.
+fn past_first(fault: Fault) -> Fault
+    ensures { result ≡ (if (fault.code == 6) && is_past (record_limit fault.table) fault.row then record { code = 20; table = fault.table; row = fault.row } else fault) }
+{
+    if fault.code == COLUMNS && is_past_limit(fault.table, fault.row) {
+        Fault {
+            code: TOO_MANY,
+            table: fault.table,
+            row: fault.row,
+        }
+    } else {
+        fault
+    }
+}
+
+/// What a table's records are gathered into.
+pub(crate) trait TableRows: Drop {
+    type Line;
+
+    ghost use Rattle.std.specs.Prelude.{◌≡◌, ℕ, List, length};
+    ghost use Rattle.mrp_tables.specs.Gathered.{Beside};
+    ghost use Rattle.mrp_tables.specs.Reading.{Adds, Reads};
+
+    // which counts of cells it takes
+    ghost takes: { ℕ → Type 0 };
+    // the rows so far
+    ghost rows: { Self → List Self.Line };
+    // how a record is read
+    ghost reads: { Self → Reads Self.Line };
+    // what it is read beside
+    ghost beside: { Self → Beside };
+
+    /// Adds the row of a record.
+    fn add(&mut self, row: &Row) -> Result<(), Fault>
+        requires { takes (length row.now.cells) }
+        ensures added { Adds (reads self.old) (rows self.old) row.now result (rows self.new) }
+        ensures same { reads self.new ≡ reads self.old }
+        ensures beside { beside self.new ≡ beside self.old };
+}
+
+/// The rows of the records that a cursor has left, behind those that are gathered already.
+pub(crate) fn gather<G: TableRows>(cursor: &mut Cursor<'_>, mut gathered: G) -> Result<G, Fault>
+    requires { G.takes (width_of cursor.old.table) }
+    ensures rows { Gives (λ g. G.rows g) result (rows_from (G.reads gathered) cursor.old.table (G.rows gathered) cursor.old.number cursor.old.left) }
+    ensures beside { IfOk result (λ g. G.beside g ≡ G.beside gathered) }
+{
+    while let Some(row) = next_record(cursor)? {
+        gathered.add(&row)?;
+    }
+    Ok(gathered)
+}
+
+/// A table's rows, or its first fault, memory aside.
+pub(crate) fn read_table<G: TableRows>(
+    alloc: Global,
+    sections: &Sections<'_>,
+    table: Table,
+    empty: G,
+) -> Result<G, Fault>
+    requires table { table ≢ Table.Bundle }
+    requires takes { G.takes (width_of table) }
+    requires empty { G.rows empty ≡ [] }
+    ensures rows { Gives (λ g. G.rows g) result (rows_of (G.reads empty) table (text_in sections.now table)) }
+    ensures count { (limit : ℕ) → record_limit table ≡ Some limit → IfOk result (λ g. length (G.rows g) ≤ limit) }
+    ensures beside { IfOk result (λ g. G.beside g ≡ G.beside empty) }
+{
+    let mut cursor = Cursor::new(alloc, sections, table)?;
+    gather(&mut cursor, empty)
+}
+
+/// The rows of a table that takes no record yet.
+#[derive(Drop)]
+pub(crate) struct NotYet<T> {
+    rows: Vec<T>,
+}
+
+impl<T> Model for NotYet<T> {
+    ghost use Rattle.std.specs.Prelude.{List};
+
+    ghost Value = { List T };
+
+    ghost view = { λ t. t.rows.items };
+}
+
+impl<T: Drop> TableRows for NotYet<T> {
+    type Line = T;
+
+    ghost use Rattle.mrp_tables.specs.Gathered.{nothing};
+    ghost use Rattle.mrp_tables.specs.Tables.{not_yet};
+
+    ghost takes = { λ count. Unit {0} };
+
+    ghost rows = { λ t. t };
+
+    ghost reads = { λ t. not_yet };
+
+    ghost beside = { λ t. nothing };
+
+    fn add(&mut self, row: &Row) -> Result<(), Fault> {
+        Err(row.fault(TOO_MANY))
+    }
+}
+
+impl<T> NotYet<T> {
+    ghost use Rattle.std.specs.Prelude.{◌≡◌, []};
+
+    pub(crate) fn new(alloc: Global) -> NotYet<T>
+        ensures { result ≡ [] }
+    {
+        NotYet {
+            rows: Vec::new(alloc),
+        }
+    }
+
+    pub(crate) fn into_rows(self) -> Vec<T>
+        ensures { result.items ≡ self }
+    {
+        let NotYet { rows } = self;
+        rows
+    }
+}

@@ -1,0 +1,126 @@
+//! The rows of the tables. Items and centres are named by their places in their tables, from 0,
+//! dates by their weeks, from 1.
+
+use mrp_qty::Qty;
+use mrp_rows::Name;
+
+/// A work centre.
+#[derive(Clone, Copy)]
+pub struct Centre {
+    /// The centre's name, no other centre's.
+    pub name: Name,
+    /// The minutes that it works on a shop day.
+    pub minutes: u64,
+}
+
+/// What is on hand of an item.
+#[derive(Clone, Copy, Debug, PartialEq, Eq)]
+pub struct StockRow {
+    /// The item.
+    pub item: usize,
+    /// What is on hand, in pieces.
+    pub on_hand: Qty,
+}
+
+/// An open receipt: an order that was released before the horizon began.
+#[derive(Clone, Copy)]
+pub struct Receipt {
+    /// The record's number in its table.
+    pub number: u32,
+    /// The item.
+    pub item: usize,
+    /// The order's name.
+    pub order: Name,
+    /// The week in which it is due.
+    pub week: u16,
+    /// The pieces, at least 1.
+    pub quantity: Qty,
+}
+
+/// A line of a bill of material.
+#[derive(Clone, Copy, Debug, PartialEq, Eq)]
+pub struct BillLine {
+    /// The item that is made.
+    pub parent: usize,
+    /// The item that goes into it.
+    pub component: usize,
+    /// The pieces of the component in a piece of the parent.
+    pub per: u64,
+}
+
+/// An operation of an item's routing.
+#[derive(Clone, Copy, Debug, PartialEq, Eq)]
+pub struct Operation {
+    /// The item that is made.
+    pub item: usize,
+    /// The operation's number in the item's routing.
+    pub operation: u64,
+    /// The work centre, by its place.
+    pub centre: usize,
+    /// The minutes that an order takes to set up.
+    pub setup: u64,
+    /// The thousandths of a minute that a piece takes.
+    pub run: u64,
+    /// The weeks from an order's release to the operation.
+    pub offset: u64,
+}
+
+/// What a row of the master schedule says.
+#[derive(Clone, Copy, Debug, PartialEq, Eq)]
+pub enum MasterKind {
+    /// An order of the master schedule, which planning may not change.
+    Firm,
+    /// A forecast of demand.
+    Forecast,
+}
+
+/// A row of the master schedule.
+#[derive(Clone, Copy, Debug, PartialEq, Eq)]
+pub struct MasterRow {
+    /// The record's number in its table.
+    pub number: u32,
+    /// The master item.
+    pub item: usize,
+    /// Whether it is an order or a forecast.
+    pub kind: MasterKind,
+    /// The week.
+    pub week: u16,
+    /// The pieces, at least 1.
+    pub quantity: Qty,
+}
+
+/// A call of a desk, as the script has it.
+#[derive(Clone, Copy, Debug, PartialEq, Eq)]
+pub enum Call {
+    /// Book a quantity of an item, due in a week.
+    Book {
+        item: usize,
+        week: u16,
+        quantity: Qty,
+    },
+    /// Cancel the booking of an entry.
+    Cancel {
+        entry: u64,
+    },
+    /// Ask what is available of an item in a week.
+    Ask {
+        item: usize,
+        week: u16,
+    },
+    /// Ask for the first week in which a quantity of an item is available.
+    When {
+        item: usize,
+        quantity: Qty,
+    },
+    /// Plan the bookings that stand.
+    Run,
+}
+
+/// A row of the script.
+#[derive(Clone, Copy, Debug, PartialEq, Eq)]
+pub struct ScriptRow {
+    /// The desk, from 1.
+    pub desk: u64,
+    /// What it calls.
+    pub call: Call,
+}

@@ -1,0 +1,236 @@
+//! The tables of a bundle.
+
+ghost use Rattle.std.specs.Prelude.{◌≡◌, ◌≤◌, All, IfOk, length};
+ghost use Rattle.mrp_rows.specs.Bundle.{text_in};
+ghost use Rattle.mrp_tables.specs.Calendar.{calendar_of};
+ghost use Rattle.mrp_tables.specs.Facts.{AllDiffer, IsBillLine, IsMasterRow, IsStockRow};
+ghost use Rattle.mrp_tables.specs.Reading.{Gives};
+ghost use Rattle.mrp_tables.specs.Seen.{head_of, middle_of, tail_of};
+ghost use Rattle.mrp_tables.specs.Stock.{items_in_stock};
+ghost use Rattle.mrp_tables.specs.Tables.{head_in, middle_in, tail_in};
+
+use crate::bills::Bills;
+use crate::calendar::calendar_in;
+use crate::item::Item;
+use crate::items::Items;
+use crate::master::Master;
+use crate::reading::{NotYet, read_table};
+use crate::rows::{BillLine, Centre, MasterRow, Operation, Receipt, ScriptRow, StockRow};
+use crate::stock::Stock;
+use mrp_cal::Calendar;
+use mrp_rows::{Cursor, Fault, Name, Sections, Table};
+use std::alloc::Global;
+use std::marker::Model;
+
+// The first three tables.
+#[derive(Drop)]
+pub(crate) struct Head {
+    calendar: Calendar,
+    items: Items,
+    centres: Vec<Centre>,
+}
+
+// The next three.
+#[derive(Drop)]
+pub(crate) struct Middle {
+    stock: Vec<StockRow>,
+    receipts: Vec<Receipt>,
+    bills: Vec<BillLine>,
+}
+
+// The last three.
+#[derive(Drop)]
+pub(crate) struct Tail {
+    routings: Vec<Operation>,
+    master: Vec<MasterRow>,
+    script: Vec<ScriptRow>,
+}
+
+#[tactic(auto, unfolding(crate::specs::Tables::head_in))]
+fn read_head(alloc: Global, sections: &Sections<'_>) -> Result<Head, Fault>
+    ensures head { Gives head_of result (head_in sections.now) }
+    ensures items { IfOk result (λ h. length h.items ≤ 20000) }
+{
+    let calendar = read_calendar(alloc, sections)?;
+    let items = read_table(alloc, sections, Table::Items, Items::new(alloc))?;
+    let centres = read_table(alloc, sections, Table::Centres, NotYet::new(alloc))?;
+    Ok(Head {
+        calendar,
+        items,
+        centres: centres.into_rows(),
+    })
+}
+
+fn read_calendar(alloc: Global, sections: &Sections<'_>) -> Result<Calendar, Fault>
+    ensures { Gives (λ c. c) result (calendar_of (text_in sections.now Table.Calendar)) }
+{
+    let mut cursor = Cursor::new(alloc, sections, Table::Calendar)?;
+    calendar_in(alloc, &mut cursor)
+}
+
+#[tactic(auto, unfolding(crate::specs::Tables::middle_in))]
+fn read_middle(alloc: Global, sections: &Sections<'_>, items: &Items) -> Result<Middle, Fault>
+    ensures middle { Gives middle_of result (middle_in sections.now items.now) }
+    ensures stock { IfOk result (λ m. All (IsStockRow items.now) m.stock.items) }
+    ensures stocked { IfOk result (λ m. AllDiffer (items_in_stock m.stock.items)) }
+    ensures bills { IfOk result (λ m. All (IsBillLine items.now) m.bills.items) }
+    ensures line_count { IfOk result (λ m. length m.bills.items ≤ 100000) }
+{
+    let stock = read_table(alloc, sections, Table::Stock, Stock::new(alloc, items))?;
+    let receipts = read_table(alloc, sections, Table::Receipts, NotYet::new(alloc))?;
+    let bills = read_table(alloc, sections, Table::Bills, Bills::new(alloc, items))?;
+    Ok(Middle {
+        stock: stock.into_rows(),
+        receipts: receipts.into_rows(),
+        bills: bills.into_lines(),
+    })
+}
+
+#[tactic(auto, unfolding(crate::specs::Tables::tail_in))]
+fn read_tail(
+    alloc: Global,
+    sections: &Sections<'_>,
+    calendar: &Calendar,
+    items: &Items,
+) -> Result<Tail, Fault>
+    ensures tail { Gives tail_of result (tail_in sections.now calendar.now items.now) }
+    ensures master { IfOk result (λ l. All (IsMasterRow calendar.now.weeks items.now) l.master.items) }
+    ensures master_count { IfOk result (λ l. length l.master.items ≤ 100000) }
+{
+    let routings = read_table(alloc, sections, Table::Routings, NotYet::new(alloc))?;
+    let master = read_table(
+        alloc,
+        sections,
+        Table::Master,
+        Master::new(alloc, calendar, items),
+    )?;
+    let script = read_table(alloc, sections, Table::Script, NotYet::new(alloc))?;
+    Ok(Tail {
+        routings: routings.into_rows(),
+        master: master.into_rows(),
+        script: script.into_rows(),
+    })
+}
+
+/// The typed tables of an accepted bundle, in which only a loop in the bills can still be wrong.
+#[derive(Drop)]
+pub struct Tables {
+    head: Head,
+    middle: Middle,
+    tail: Tail,
+}
+
+impl Model for Tables {
+    ghost use Rattle.mrp_tables.specs.Seen.{head_of, middle_of, tail_of};
+    ghost use Rattle.mrp_tables.specs.Tables.{AreTables, Tables, joined};
+
+    ghost Value = { Tables };
+
+    ghost view = { λ t. joined (head_of t.head) (middle_of t.middle) (tail_of t.tail) };
+
+    ghost invariant = { λ t. AreTables (joined (head_of t.head) (middle_of t.middle) (tail_of t.tail)) };
+}
+
+impl Tables {
+    ghost use Rattle.std.specs.Prelude.{◌≡◌, ◌<◌, ◌≤◌, All, IfSome, length};
+    ghost use Rattle.mrp_tables.specs.Facts.{AllDiffer, IsBillLine, IsItem, IsMasterRow, IsStockRow};
+    ghost use Rattle.mrp_tables.specs.Items.{names_of, place_of};
+    ghost use Rattle.mrp_tables.specs.Stock.{items_in_stock};
+    ghost use Rattle.mrp_tables.specs.Reading.{Gives};
+    ghost use Rattle.mrp_tables.specs.Tables.{tables_in};
+
+    /// The tables of a bundle's sections, or their first fault: table by table and record by
+    /// record, first what is wrong with the record (20, 6), then its cells from left to right
+    /// (7 to 11), then what they name (12 to 19).
+    ///
+    /// Errors: a fault, at its table and record; 22, where memory is refused.
+    #[tactic(auto, unfolding(crate::specs::Tables::tables_in))]
+    pub fn read(alloc: Global, sections: &Sections<'_>) -> Result<Tables, Fault>
+        ensures { Gives (λ t. t) result (tables_in sections.now) }
+    {
+        let head = read_head(alloc, sections)?;
+        let middle = read_middle(alloc, sections, &head.items)?;
+        let tail = read_tail(alloc, sections, &head.calendar, &head.items)?;
+        Ok(Tables { head, middle, tail })
+    }
+
+    /// The shop's calendar.
+    pub fn calendar(&self) -> &Calendar
+        ensures { result.now ≡ self.now.calendar }
+    {
+        &self.head.calendar
+    }
+
+    /// The items, in table order.
+    pub fn items(&self) -> &[Item]
+        ensures rows { result.now ≡ self.now.items }
+        ensures within { All IsItem result.now }
+        ensures names { AllDiffer (names_of result.now) }
+        ensures count { length result.now ≤ 20000 }
+    {
+        self.head.items.as_slice()
+    }
+
+    /// The place of the item with a name, from 0.
+    pub fn find(&self, name: &Name) -> Option<usize>
+        ensures place { result ≡ place_of name.now self.now.items }
+        ensures within { IfSome result (λ place. place < length self.now.items) }
+    {
+        self.head.items.find(name)
+    }
+
+    /// The work centres, in table order.
+    pub fn centres(&self) -> &[Centre]
+        ensures { result.now ≡ self.now.centres }
+    {
+        self.head.centres.as_slice()
+    }
+
+    /// What is on hand, in table order: each item at most once.
+    pub fn stock(&self) -> &[StockRow]
+        ensures rows { result.now ≡ self.now.stock }
+        ensures within { All (IsStockRow self.now.items) result.now }
+        ensures once { AllDiffer (items_in_stock result.now) }
+    {
+        self.middle.stock.as_slice()
+    }
+
+    /// The open receipts of at least one piece, in table order.
+    pub fn receipts(&self) -> &[Receipt]
+        ensures { result.now ≡ self.now.receipts }
+    {
+        self.middle.receipts.as_slice()
+    }
+
+    /// The bill lines, in table order: line n of the table is at place n - 1.
+    pub fn bills(&self) -> &[BillLine]
+        ensures rows { result.now ≡ self.now.bills }
+        ensures within { All (IsBillLine self.now.items) result.now }
+        ensures count { length result.now ≤ 100000 }
+    {
+        self.middle.bills.as_slice()
+    }
+
+    /// The operations of the routings, in table order.
+    pub fn routings(&self) -> &[Operation]
+        ensures { result.now ≡ self.now.routings }
+    {
+        self.tail.routings.as_slice()
+    }
+
+    /// The rows of the master schedule of at least one piece, in table order.
+    pub fn master(&self) -> &[MasterRow]
+        ensures rows { result.now ≡ self.now.master }
+        ensures within { All (IsMasterRow self.now.calendar.weeks self.now.items) result.now }
+        ensures count { length result.now ≤ 100000 }
+    {
+        self.tail.master.as_slice()
+    }
+
+    /// The desks' calls, in table order.
+    pub fn script(&self) -> &[ScriptRow]
+        ensures { result.now ≡ self.now.script }
+    {
+        self.tail.script.as_slice()
+    }
+}
