@@ -18,9 +18,11 @@ pub record ShopCalendar : Type 0 where
   pub workdays : List Bool
   pub holidays : List Bool
 
+-- weekdays are counted from Monday, which is 0
 abbrev pub is_monday : Date → Bool
 is_monday d = weekday_of d == 0
 
+-- some weekday is worked
 abbrev pub has_workday : List Bool → Bool
 has_workday workdays = list_any (λ worked. worked) workdays
 

@@ -14,6 +14,7 @@ abbrev pub IsCivilDay : ℤ → ℕ → ℕ → Type 0
 IsCivilDay year month day =
     IsYear year × IsInRange 1 12 month × IsInRange 1 (days_in_month year month) day
 
+-- a number is within two bounds, or it is not
 pub range_or_not : (low high n : ℕ) → IsInRange low high n ⊎ ¬ (IsInRange low high n)
 range_or_not low high n = elim (cases_lt n low) [
   | inl under ↦ inr (λ h. not-le_of_lt under h.0)
@@ -23,6 +24,7 @@ range_or_not low high n = elim (cases_lt n low) [
   ]
 ]
 
+-- the calendar has a year, or it has not
 pub year_or_not : (year : ℤ) → IsYear year ⊎ ¬ (IsYear year)
 year_or_not year =
     by_lt_z {P = IsYear year ⊎ ¬ (IsYear year)} year (neg_ℤ (pos 9999)) (λ under. inr (λ h. clash_ℤ under h.0))
@@ -47,5 +49,6 @@ date_where year month day (inl has) =
     Some (record { year = year; month = month; day = day; year_in = has.0; month_in = has.1; day_in = has.2 })
 date_where year month day (inr out) = None
 
+-- the date of a year, month and day; none where the calendar has no such day
 unfoldable pub civil_date : ℤ → ℕ → ℕ → Option Date
 civil_date year month day = date_where year month day (civil_or_not year month day)

@@ -14,6 +14,7 @@ value_after before (digit ∷ digits) = value_after (before * 10 + (digit - 48))
 abbrev pub value_of : List ℕ → ℕ
 value_of digits = value_after 0 digits
 
+-- that number, where it is no greater than this (profile)
 abbrev pub value_up_to : ℕ → List ℕ → Result ℕ NumberFault
 value_up_to max digits = if nat_le (value_of digits) max then Ok (value_of digits) else Err TooLarge
 

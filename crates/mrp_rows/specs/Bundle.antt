@@ -31,12 +31,14 @@ pub record Section : Type 0 where
 abbrev pub Parts : Type 0
 Parts = List ℕ × List Section
 
+-- lines in turn, cut at the section lines
 unfoldable pub parts_of : List (List ℕ) → Parts
 parts_of [] = ([], [])
 parts_of (l ∷ ls) =
     if is_section_line l then ([], record { line = l; text = (parts_of ls).0 } ∷ (parts_of ls).1)
     else (l ++ (parts_of ls).0, (parts_of ls).1)
 
+-- the parts of bytes, by their lines
 abbrev pub sections_in : List ℕ → Parts
 sections_in bytes = parts_of (lines_of bytes)
 
@@ -93,6 +95,7 @@ missing_section table = record { code = 4; table = table; row = 0 }
 abbrev pub Texts : Type 0
 Texts = List (Option (List ℕ))
 
+-- no table has a text yet
 abbrev pub no_texts : Texts
 no_texts = replicate 9 None
 
@@ -102,6 +105,7 @@ put_text texts text table =
     if is_some (slice_index_or texts (table_index table) None) then Err (section_twice table)
     else Ok (slice_set texts (table_index table) (Some text))
 
+-- a text goes to the place of the table that its section line names; one that names none is unknown
 abbrev pub put_named : Texts → ℕ → List ℕ → Option Table → Result Texts Fault
 put_named texts count text (Some table) = put_text texts text table
 put_named texts count text None = Err (unknown_section count)
@@ -112,10 +116,12 @@ put_all texts count [] = Ok texts
 put_all texts count (s ∷ rest) =
     put_named texts (count + 1) (section_text s.text) (table_of (line_text s.line)) >>= λ more. put_all more (count + 1) rest
 
+-- a table's text, or the fault that its section is missing
 abbrev pub text_or_missing : Table → Option (List ℕ) → Result (List ℕ) Fault
 text_or_missing table (Some text) = Ok text
 text_or_missing table None = Err (missing_section table)
 
+-- the text at a table's place
 abbrev pub text_at : Texts → Table → Result (List ℕ) Fault
 text_at texts table = text_or_missing table (slice_index_or texts (table_index table) None)
 

@@ -3,6 +3,7 @@ use Rattle.std.specs.Prelude.{ℕ, List, [], ◌∷◌, length, codes}
 use Rattle.mrp_rows.specs.declared.fault.Table.{Table}
 use Rattle.mrp_rows.specs.declared.fault.Table.TheVariants as t
 
+-- none for the bundle as a whole
 abbrev pub columns_of : Table → List (List ℕ)
 columns_of t.Calendar = codes "key" ∷ codes "value" ∷ []
 columns_of t.Items = codes "item" ∷ codes "class" ∷ codes "lead" ∷ codes "scrap" ∷ codes "lot" ∷ codes "size" ∷ codes "safety" ∷ []

@@ -18,7 +18,7 @@ table_name t.Master = codes "master"
 table_name t.Script = codes "script"
 table_name t.Bundle = codes "bundle"
 
--- the names of the faults by their codes, from 1 on
+-- the names of the faults by their codes, from 1 on; no fault has code 0
 abbrev pub fault_names : List (List ℕ)
 fault_names =
     codes "fault"

@@ -1,4 +1,4 @@
--- What a record and a cursor show.
+-- What a record and a cursor show (profile).
 use Rattle.std.specs.Prelude.{ℕ, Bool, List}
 use Rattle.mrp_rows.specs.declared.fault.Table.{Table}
 

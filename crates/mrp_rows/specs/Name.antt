@@ -2,6 +2,7 @@
 use Rattle.std.specs.Prelude.{ℕ, ◌==◌, ◌&&◌, ◌-◌, Bool, not, nat_le, if◌then◌else◌, List, length, slice_index, Option, Some, None}
 use Rattle.std.specs.List.{list_all}
 
+-- a byte from the space to the tilde
 abbrev pub is_printable : ℕ → Bool
 is_printable byte = nat_le 32 byte && nat_le byte 126
 
@@ -9,6 +10,7 @@ is_printable byte = nat_le 32 byte && nat_le byte 126
 abbrev pub has_name_ends : ℕ → ℕ → Bool
 has_name_ends first last = not (first == 32) && not (last == 32) && not (first == 91)
 
+-- a text is a name
 abbrev pub is_name : List ℕ → Bool
 is_name text =
     nat_le 1 (length text) && nat_le (length text) 32 && list_all is_printable text

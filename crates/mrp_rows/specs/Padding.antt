@@ -2,6 +2,7 @@
 use Rattle.std.specs.Prelude.{ℕ, ◌≡◌, ◌≤◌, ◌-◌, ◌++◌, List, length, take, replicate}
 use Rattle.std.proofs.Common.{arith, sym, length-take-le}
 
+-- a text with zeros up to 32 bytes
 abbrev pub padded : List ℕ → List ℕ
 padded text = text ++ replicate (32 - length text) 0
 

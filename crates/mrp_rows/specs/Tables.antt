@@ -1,8 +1,9 @@
--- The tables, and their places.
+-- The tables, and their places (profile).
 use Rattle.std.specs.Prelude.{ℕ}
 use Rattle.mrp_rows.specs.declared.fault.Table.{Table}
 use Rattle.mrp_rows.specs.declared.fault.Table.TheVariants as t
 
+-- a table's place in the order of faults, from 0; the bundle comes last
 abbrev pub table_index : Table → ℕ
 table_index t.Calendar = 0
 table_index t.Items = 1

@@ -14,6 +14,7 @@ mark = 239 ∷ 187 ∷ 191 ∷ []
 abbrev pub together : Parts → List ℕ
 together parts = parts.0 ++ flat_map (λ s. s.line ++ s.text) parts.1
 
+-- one of the lines is a section line
 abbrev pub has_section_line : List ℕ → Bool
 has_section_line bytes = list_any is_section_line (lines_of bytes)
 
@@ -39,6 +40,7 @@ NamesItsTable table = table ≢ t.Bundle → table_of (codes "[" ++ table_name t
 abbrev pub IsTextOf : List (List ℕ) → Section → Type 0
 IsTextOf texts s = (table : Table) × (table_of (line_text s.line) ≡ Some table) × (text_in texts table ≡ section_text s.text)
 
+-- each of the sections so
 abbrev pub AreTextsOf : List (List ℕ) → List Section → Type 0
 AreTextsOf texts [] = Unit {0}
 AreTextsOf texts (s ∷ sections) = IsTextOf texts s × AreTextsOf texts sections

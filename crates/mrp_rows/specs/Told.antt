@@ -6,6 +6,7 @@ use Rattle.std.specs.declared.io.ErrorKind.{ErrorKind}
 use Rattle.std.specs.declared.io.ErrorKind.TheVariants.{Interrupted}
 use Rattle.mrp_rows.specs.declared.told.Told.{Told}
 
+-- the reader or writer itself
 abbrev pub inner_of : {T : Type 0} → Told T → T
 inner_of told = told.inner
 
@@ -25,6 +26,7 @@ failures_of told = told.counts.failures
 abbrev pub moved_of : {T : Type 0} → Told T → ℕ
 moved_of told = told.counts.moved
 
+-- where a count stays
 abbrev pub greatest_count : ℕ
 greatest_count = 2 ^ 64 - 1
 
@@ -41,6 +43,7 @@ abbrev pub counted_if : Bool → ℕ → ℕ
 counted_if true before = counted 1 before
 counted_if false before = before
 
+-- the kind of error of a call that was interrupted
 abbrev pub is_interruption : ErrorKind → Bool
 is_interruption Interrupted = true
 is_interruption _ = false

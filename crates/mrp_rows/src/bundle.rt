@@ -12,6 +12,14 @@ ghost use Rattle.mrp_rows.specs.Placing.{texts_of, Places, PlacesAll, IsAtSectio
 use crate::fault::{Fault, Table};
 use std::marker::Model;
 
+const TEXT_BEFORE_SECTION: u8 = 1;
+
+const UNKNOWN_SECTION: u8 = 2;
+
+const SECTION_TWICE: u8 = 3;
+
+const MISSING_SECTION: u8 = 4;
+
 /// The texts of the nine tables' sections, borrowed from the bundle.
 ///
 /// Contracts see it as the list of the nine texts, in the order of the tables.
@@ -82,7 +90,8 @@ fn line_len(bytes: &[u8]) -> usize
     requires { 0 < length bytes.now }
     ensures within { result ≤ length bytes.now }
     ensures some { 0 < result }
-    ensures line { lines_of bytes.now ≡ take result bytes.now ∷ lines_of (drop result bytes.now) }
+    ensures line { lines_of bytes.now
+        ≡ take result bytes.now ∷ lines_of (drop result bytes.now) }
 {
     for (at, byte) in bytes.iter().enumerate() {
         if is_line_end(*byte) {
@@ -172,21 +181,22 @@ fn put_section<'a>(
     line: &[u8],
     text: &'a [u8],
 ) -> Result<(), Fault>
-    ensures placed { Places (texts_of texts.old) count text.now (table_of (line_text line.now)) result (texts_of texts.new) }
+    ensures placed { Places (texts_of texts.old) count text.now
+        (table_of (line_text line.now)) result (texts_of texts.new) }
     ensures count { OnOk result (taken texts.new ≡ taken texts.old + 1) }
     ensures within { OnOk result (taken texts.new ≤ 9) }
 {
     let (name, _) = line.split_at(name_len(line));
     let Some(table) = table_named(name) else {
         return Err(Fault {
-            code: 2,
+            code: UNKNOWN_SECTION,
             table: Table::Bundle,
             row: count,
         });
     };
     if texts[table.index()].is_some() {
         return Err(Fault {
-            code: 3,
+            code: SECTION_TWICE,
             table,
             row: 0,
         });
@@ -226,7 +236,7 @@ fn text_at<'a>(texts: &[Option<&'a [u8]>; 9], table: Table) -> Result<&'a [u8], 
     match texts[table.index()] {
         Some(text) => Ok(text),
         None => Err(Fault {
-            code: 4,
+            code: MISSING_SECTION,
             table,
             row: 0,
         }),
@@ -269,7 +279,7 @@ pub fn split_bundle(bundle: &[u8]) -> Result<Sections<'_>, Fault>
     let (front, sections) = bytes.split_at(before_section(bytes));
     if !are_line_ends(front) {
         return Err(Fault {
-            code: 1,
+            code: TEXT_BEFORE_SECTION,
             table: Table::Bundle,
             row: 0,
         });

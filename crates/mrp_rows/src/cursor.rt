@@ -50,7 +50,8 @@ impl<'a> Model for Cursor<'a> {
 impl<'a> Cursor<'a> {
     // At the front of a table's text, the header included.
     fn front(alloc: Global, text: &'a [u8], table: Table) -> Cursor<'a>
-        ensures { result ≡ record { table = table; number = 0; left = records_of text.now; is_over = false } }
+        ensures { result
+            ≡ record { table = table; number = 0; left = records_of text.now; is_over = false } }
     {
         let reader = ReaderBuilder::new()
             .has_headers(false)
@@ -72,7 +73,8 @@ impl<'a> Cursor<'a> {
     /// columns, also where there is no record; 22, where memory is refused.
     pub fn new(alloc: Global, sections: &Sections<'a>, table: Table) -> Result<Cursor<'a>, Fault>
         requires { table ≢ Table.Bundle }
-        ensures { GivesUnless (memory_fault table 0) result (opened table (text_in sections.now table)) }
+        ensures { GivesUnless (memory_fault table 0) result
+            (opened table (text_in sections.now table)) }
     {
         Cursor::over(alloc, sections.text_of(table), table)
     }

@@ -99,7 +99,8 @@ impl Row {
     /// Errors: 8, where it is empty or not digits alone; 11, where the number is outside the limits.
     pub fn number(&self, column: usize, least: u64, most: u64) -> Result<u64, Fault>
         requires { column < length self.now.cells }
-        ensures number { result ≡ blame self.now (number_cell least most (cell_at self.now column)) }
+        ensures number { result
+            ≡ blame self.now (number_cell least most (cell_at self.now column)) }
         ensures within { IfOk result (IsInRange least most) }
     {
         match read_number(self.cell(column), most) {
@@ -136,7 +137,8 @@ impl Row {
     #[tactic(auto, using(crate::proofs::WordPlaces::position_map))]
     pub fn word(&self, column: usize, words: &[&str]) -> Result<usize, Fault>
         requires { column < length self.now.cells }
-        ensures { result ≡ blame self.now (word_of (map (λ w. w.now) words.now) (cell_at self.now column)) }
+        ensures { result
+            ≡ blame self.now (word_of (map (λ w. w.now) words.now) (cell_at self.now column)) }
     {
         match place_of(self.cell(column), words) {
             Some(place) => Ok(place),

@@ -92,13 +92,17 @@ pub fn write_text<W: Write>(
     text: &[u8],
     tries: &mut Tries,
 ) -> Result<(), WriteFault>
-    ensures whole { OnOk result (Appends (W.contents (inner_of writer.old)) (W.contents (inner_of writer.new)) text.now) }
+    ensures whole { OnOk result (Appends
+        (W.contents (inner_of writer.old)) (W.contents (inner_of writer.new)) text.now) }
     ensures failures { OnOk result (failures_of writer.new ≡ failures_of writer.old) }
-    ensures interrupted { OnOk result (RisesBy (tries.old - tries.new) (interrupted_of writer.old) (interrupted_of writer.new)) }
+    ensures interrupted { OnOk result (RisesBy (tries.old - tries.new)
+        (interrupted_of writer.old) (interrupted_of writer.new)) }
     ensures tries { tries.new ≤ tries.old }
 
-    ensures front { OnErr result (WritesFront (W.contents (inner_of writer.old)) (W.contents (inner_of writer.new)) text.now) }
-    ensures refused { OnErr result (HasRisenBy 1 (failures_of writer.old) (failures_of writer.new) ⊎ HasRisenBy (tries.old + 1) (interrupted_of writer.old) (interrupted_of writer.new)) }
+    ensures front { OnErr result (WritesFront
+        (W.contents (inner_of writer.old)) (W.contents (inner_of writer.new)) text.now) }
+    ensures refused { OnErr result (HasRisenBy 1 (failures_of writer.old) (failures_of writer.new)
+        ⊎ HasRisenBy (tries.old + 1) (interrupted_of writer.old) (interrupted_of writer.new)) }
 {
     let mut at = 0;
     while at < text.len() {
@@ -125,12 +129,16 @@ fn read_piece<R: Read>(
     requires { 0 < length piece.old }
     ensures calls { calls_of reader.new ≡ counted 1 (calls_of reader.old) }
     ensures failures { OnOk result (failures_of reader.new ≡ failures_of reader.old) }
-    ensures behind { OnOk result ((given : List ℕ) × (bytes.new.items ≡ bytes.old.items ++ given)
-        × Takes (R.remaining (inner_of reader.old)) (R.remaining (inner_of reader.new)) (moved_of reader.old) (moved_of reader.new) given) }
+    ensures behind { OnOk result ((given : List ℕ)
+        × (bytes.new.items ≡ bytes.old.items ++ given)
+        × Takes (R.remaining (inner_of reader.old)) (R.remaining (inner_of reader.new))
+        (moved_of reader.old) (moved_of reader.new) given) }
     ensures end { result ≡ Ok false → IsAtEnd (R.remaining (inner_of reader.new)) }
     ensures nothing { result ≡ Ok false → vec_len bytes.new ≡ vec_len bytes.old }
-    ensures failed { result ≡ Err ReadFault.Read → HasRisenBy 1 (failures_of reader.old) (failures_of reader.new) }
-    ensures front { TakesFront (R.remaining (inner_of reader.old)) (R.remaining (inner_of reader.new)) (moved_of reader.old) (moved_of reader.new) }
+    ensures failed { result ≡ Err ReadFault.Read
+        → HasRisenBy 1 (failures_of reader.old) (failures_of reader.new) }
+    ensures front { TakesFront (R.remaining (inner_of reader.old)) (R.remaining (inner_of reader.new))
+        (moved_of reader.old) (moved_of reader.new) }
 {
     match reader.read(piece) {
         Ok(0) => Ok(false),
@@ -160,16 +168,19 @@ pub fn read_within<R: Read>(
     most_bytes: usize,
     most_calls: u32,
 ) -> Result<Vec<u8>, ReadFault>
-    ensures bytes { IfOk result (λ bytes. IfSome (R.remaining (inner_of reader.old)) (λ xs. bytes.items ≡ xs)) }
+    ensures bytes { IfOk result (λ bytes.
+        IfSome (R.remaining (inner_of reader.old)) (λ xs. bytes.items ≡ xs)) }
     ensures end { OnOk result (IsAtEnd (R.remaining (inner_of reader.new))) }
     ensures within { IfOk result (λ bytes. vec_len bytes ≤ most_bytes) }
     ensures calls { OnOk result (calls_of reader.new ≤ calls_of reader.old + most_calls) }
     ensures failures { OnOk result (failures_of reader.new ≡ failures_of reader.old) }
 
-    ensures refused { result ≡ Err ReadFault.Read → HasRisenBy 1 (failures_of reader.old) (failures_of reader.new)
+    ensures refused { result ≡ Err ReadFault.Read
+        → HasRisenBy 1 (failures_of reader.old) (failures_of reader.new)
         ⊎ HasRisenBy most_calls (calls_of reader.old) (calls_of reader.new)
         ⊎ HasRisenBy (most_bytes + 1) (moved_of reader.old) (moved_of reader.new) }
-    ensures front { TakesFront (R.remaining (inner_of reader.old)) (R.remaining (inner_of reader.new)) (moved_of reader.old) (moved_of reader.new) }
+    ensures front { TakesFront (R.remaining (inner_of reader.old)) (R.remaining (inner_of reader.new))
+        (moved_of reader.old) (moved_of reader.new) }
 {
     let mut piece = [0; PIECE];
     let mut bytes = Vec::new(alloc);
@@ -189,16 +200,19 @@ pub fn read_within<R: Read>(
 ///
 /// Errors: as of [`read_within`].
 pub fn read_bundle<R: Read>(alloc: Global, reader: &mut Told<R>) -> Result<Vec<u8>, ReadFault>
-    ensures bytes { IfOk result (λ bytes. IfSome (R.remaining (inner_of reader.old)) (λ xs. bytes.items ≡ xs)) }
+    ensures bytes { IfOk result (λ bytes.
+        IfSome (R.remaining (inner_of reader.old)) (λ xs. bytes.items ≡ xs)) }
     ensures end { OnOk result (IsAtEnd (R.remaining (inner_of reader.new))) }
     ensures within { IfOk result (λ bytes. vec_len bytes ≤ 67108864) }
     ensures calls { OnOk result (calls_of reader.new ≤ calls_of reader.old + 100000000) }
     ensures failures { OnOk result (failures_of reader.new ≡ failures_of reader.old) }
 
-    ensures refused { result ≡ Err ReadFault.Read → HasRisenBy 1 (failures_of reader.old) (failures_of reader.new)
+    ensures refused { result ≡ Err ReadFault.Read
+        → HasRisenBy 1 (failures_of reader.old) (failures_of reader.new)
         ⊎ HasRisenBy 100000000 (calls_of reader.old) (calls_of reader.new)
         ⊎ HasRisenBy 67108865 (moved_of reader.old) (moved_of reader.new) }
-    ensures front { TakesFront (R.remaining (inner_of reader.old)) (R.remaining (inner_of reader.new)) (moved_of reader.old) (moved_of reader.new) }
+    ensures front { TakesFront (R.remaining (inner_of reader.old)) (R.remaining (inner_of reader.new))
+        (moved_of reader.old) (moved_of reader.new) }
 {
     read_within(alloc, reader, GREATEST_BUNDLE, READ_CALLS)
 }

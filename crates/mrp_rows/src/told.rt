@@ -45,8 +45,10 @@ impl Counts {
     // Counts a call that had this outcome.
     fn count_call<X>(&mut self, outcome: &io::Result<X>)
         ensures calls { self.new.calls ≡ counted 1 self.old.calls }
-        ensures interrupted { self.new.interrupted ≡ counted_if (was_interrupted outcome.now) self.old.interrupted }
-        ensures failures { self.new.failures ≡ counted_if (has_failed outcome.now) self.old.failures }
+        ensures interrupted { self.new.interrupted
+            ≡ counted_if (was_interrupted outcome.now) self.old.interrupted }
+        ensures failures { self.new.failures
+            ≡ counted_if (has_failed outcome.now) self.old.failures }
         ensures moved { self.new.moved ≡ self.old.moved }
     {
         self.calls = self.calls.saturating_add(1);
@@ -134,10 +136,13 @@ impl<R: Read> Read for Told<R> {
 
     fn read(&mut self, buf: &mut [u8]) -> io::Result<usize>
         ensures bound { ReadsAtMost result buf.new }
-        ensures bytes { ReadConsumes (R.remaining (inner_of self.old)) (R.remaining (inner_of self.new)) result buf.new }
+        ensures bytes { ReadConsumes
+            (R.remaining (inner_of self.old)) (R.remaining (inner_of self.new)) result buf.new }
         ensures calls { calls_of self.new ≡ counted 1 (calls_of self.old) }
-        ensures interrupted { interrupted_of self.new ≡ counted_if (was_interrupted result) (interrupted_of self.old) }
-        ensures failures { failures_of self.new ≡ counted_if (has_failed result) (failures_of self.old) }
+        ensures interrupted { interrupted_of self.new
+            ≡ counted_if (was_interrupted result) (interrupted_of self.old) }
+        ensures failures { failures_of self.new
+            ≡ counted_if (has_failed result) (failures_of self.old) }
         ensures moved { moved_of self.new ≡ counted (moved_in result) (moved_of self.old) }
     {
         let outcome = self.inner.read(buf);
@@ -157,10 +162,13 @@ impl<W: Write> Write for Told<W> {
 
     fn write(&mut self, buf: &[u8]) -> io::Result<usize>
         ensures bound { WritesAtMost result buf.now }
-        ensures bytes { WriteAppends (W.contents (inner_of self.old)) (W.contents (inner_of self.new)) result buf.now }
+        ensures bytes { WriteAppends
+            (W.contents (inner_of self.old)) (W.contents (inner_of self.new)) result buf.now }
         ensures calls { calls_of self.new ≡ counted 1 (calls_of self.old) }
-        ensures interrupted { interrupted_of self.new ≡ counted_if (was_interrupted result) (interrupted_of self.old) }
-        ensures failures { failures_of self.new ≡ counted_if (write_has_failed (length buf.now) result) (failures_of self.old) }
+        ensures interrupted { interrupted_of self.new
+            ≡ counted_if (was_interrupted result) (interrupted_of self.old) }
+        ensures failures { failures_of self.new
+            ≡ counted_if (write_has_failed (length buf.now) result) (failures_of self.old) }
         ensures moved { moved_of self.new ≡ counted (moved_in result) (moved_of self.old) }
     {
         let outcome = self.inner.write(buf);
@@ -175,8 +183,10 @@ impl<W: Write> Write for Told<W> {
     fn flush(&mut self) -> io::Result<()>
         ensures bytes { Keeps (W.contents (inner_of self.old)) (W.contents (inner_of self.new)) }
         ensures calls { calls_of self.new ≡ counted 1 (calls_of self.old) }
-        ensures interrupted { interrupted_of self.new ≡ counted_if (was_interrupted result) (interrupted_of self.old) }
-        ensures failures { failures_of self.new ≡ counted_if (has_failed result) (failures_of self.old) }
+        ensures interrupted { interrupted_of self.new
+            ≡ counted_if (was_interrupted result) (interrupted_of self.old) }
+        ensures failures { failures_of self.new
+            ≡ counted_if (has_failed result) (failures_of self.old) }
         ensures moved { moved_of self.new ≡ moved_of self.old }
     {
         let outcome = self.inner.flush();

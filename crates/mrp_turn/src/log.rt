@@ -8,7 +8,9 @@ use std::marker::Model;
 pub struct Entry<C, R> {
     /// The number of the seat that called.
     pub who: u64,
+    /// What was called.
     pub call: C,
+    /// What the object answered.
     pub reply: R,
 }
 
@@ -35,6 +37,7 @@ impl<C, R> Log<C, R> {
         Log { entries }
     }
 
+    /// The entries, from the first on.
     pub fn entries(&self) -> &[Entry<C, R>]
         ensures { result.now ≡ self.now }
     {
@@ -49,12 +52,14 @@ impl<C, R> Log<C, R> {
         entries
     }
 
+    /// How many entries there are.
     pub fn len(&self) -> usize
         ensures { result ≡ length self.now }
     {
         self.entries.len()
     }
 
+    /// Whether no call was answered.
     pub fn is_empty(&self) -> bool
         ensures { IsTrue result ↔ (self.now ≡ []) }
     {

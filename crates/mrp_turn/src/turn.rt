@@ -36,6 +36,7 @@ const LOOKS: u32 = 100;
 pub enum TurnFault {
     /// The number of seats is 0 or over `MOST_SEATS`.
     Seats,
+    /// Memory for the turn, its seats or the places of its log was refused.
     NoMemory,
 }
 
@@ -84,7 +85,9 @@ impl<O: Object> Turn<O> {
     ghost use Rattle.mrp_turn.specs.Faults.{HasFault};
 
     /// A turn over the object, and its seats, numbered from 1. The log has places for `room` entries, and takes no memory
-    /// until it has more.
+    /// until it has more. The caller owes a state that the object opens with.
+    ///
+    /// Errors, in this order: `Seats` where the number of seats is 0 or over 64; `NoMemory` where memory is refused.
     pub fn new(
         alloc: Global,
         object: O,
@@ -260,6 +263,10 @@ impl<O: Object> Turn<O> {
 
     /// Makes the call, once no other seat has the slot. Where it is answered, its entry is in the log, and the number of
     /// that entry comes with the reply. Where it is refused, no entry is made and the object's state is as before.
+    /// The caller owes a seat of this turn and a call that fits the object.
+    ///
+    /// Errors: `NoMemory` where the log has no place left and could not grow, before the object is asked; `Refused` where
+    /// the object refuses the call.
     pub fn call<R: Wait>(
         &self,
         rt: &R,
@@ -296,6 +303,8 @@ impl<O: Object> Turn<O> {
     }
 
     /// The same call, after which this seat has seen all that the other seat had seen. The other keeps its lists.
+    ///
+    /// Errors: as of [`Turn::call`].
     pub fn meet<R: Wait>(
         &self,
         rt: &R,
@@ -330,7 +339,8 @@ impl<O: Object> Turn<O> {
         self.run(rt, seat.number, &mut seat.place, call)
     }
 
-    /// Ends the turn, and gives its state and the log that led there. It takes every seat that was made, and no memory.
+    /// Ends the turn, and gives its state and the log that led there. The caller owes every seat that was made. It takes
+    /// no memory.
     pub fn close(self, mut seats: Vec<Seat<O>>) -> (O::State, Log<O::Call, O::Reply>)
         requires turn { All (λ s. s.turn ≡ self) seats.items }
         requires all { (n : ℕ) → 1 ≤ n → n ≤ self.about.seats → HasNumber seats.items n }

@@ -5,6 +5,7 @@ use std::collections::LinkedList;
 /// What a turn is told once, when it is made.
 #[derive(Drop)]
 pub struct About<O> {
+    /// The object under the lock.
     pub object: O,
     /// How many seats were made.
     pub seats: u64,

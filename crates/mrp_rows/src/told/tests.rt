@@ -102,6 +102,7 @@ fn writes_of_no_byte_of_some_are_failures(rt: HostRuntime) {
         Turn::Moves(0),
         Turn::Interrupts,
         Turn::Fails,
+        Turn::Interrupts,
     ];
     let mut writer = fake_writer(rt.alloc(), &turns);
     assert_eq!(rt; writer.write(b"ab").ok(), Some(1));
@@ -112,12 +113,13 @@ fn writes_of_no_byte_of_some_are_failures(rt: HostRuntime) {
     assert_eq!(rt; writer.failures(), 1);
     assert_eq!(rt; writer.write(b"gh").ok(), None);
     assert_eq!(rt; writer.failures(), 2);
+    assert_eq!(rt; writer.write(b"").ok(), None);
     assert_eq!(rt; writer.write(b"").ok(), Some(0));
     assert_eq!(rt; writer.write(b"ij").ok(), Some(2));
     assert_eq!(rt; writer.flush().is_ok(), true);
     assert_eq!(rt; writer.failures(), 2);
-    assert_eq!(rt; writer.interrupted(), 1);
-    assert_eq!(rt; writer.calls(), 7);
+    assert_eq!(rt; writer.interrupted(), 2);
+    assert_eq!(rt; writer.calls(), 8);
     assert_eq!(rt; writer.into_inner().taken.as_slice(), b"aij".as_slice());
 }
 
