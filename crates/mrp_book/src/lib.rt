@@ -1,0 +1,6 @@
+//! The order book.
+#![tactic(auto)]
+
+mod order;
+
+pub use order::{Booking, Line, Snapshot};

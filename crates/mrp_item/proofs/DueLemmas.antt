@@ -1,0 +1,107 @@
+-- What is due, one row at a time.
+use Rattle.std.proofs.Common.{◌≡◌, ◌≢◌, ◌∙◌, ℕ, zero, suc, ◌+◌, ◌<◌, ◌≤◌, Bool, true, false, cond, eqb, List, [], ◌∷◌, ◌++◌, length, take, map, get_or, replicate, set, refl, sym, ap, arith}
+use Rattle.std.specs.Prelude.{filter, sum, sum_by}
+use Rattle.std.proofs.lemmas.List.{length-replicate, map-append, map-set, length-map, get_or-map, get_or-set_same, get_or-set_other, append-nil}
+use Rattle.std.proofs.lemmas.List.Elements.{filter_more}
+use Rattle.std.specs.Global.{Vec}
+use Rattle.std.proofs.lemmas.Bool.{eqb-true, eqb-false, eq-eqb, ne_eqb}
+use Rattle.std.proofs.lemmas.List.Sums.{sum_by-cons, sum_by_more, sum_by_more_le}
+use Rattle.mrp_phase.specs.Weeks.{row, in_week, with_week}
+use Rattle.mrp_phase.proofs.WeekRows.{row_is, row_same, with_week-row, in_week_row, in_week_changed, in_week_kept, in_week_replicate, length-with_week}
+use Rattle.mrp_item.specs.declared.due.Due.{Due}
+use Rattle.mrp_item.specs.Dues.{due_in, due_sum, dues_of, listed, with_due}
+
+-- a quantity that is due in a week, and 0 in another
+abbrev pub one_due : ℕ → Due → ℕ
+one_due week d = cond (eqb d.week week) d.quantity 0
+
+pub one_due-here : (d : Due) → one_due d.week d ≡ d.quantity
+one_due-here d = rw (eq-eqb d.week d.week refl) refl
+
+pub due_sum-by : (dues : List Due) (t : ℕ) → due_sum dues t ≡ sum_by (one_due t) dues
+due_sum-by [] t = refl
+due_sum-by (d ∷ dues) t = by (eqb d.week t) refl (due_sum-by dues t)
+  where
+    rest : List ℕ
+    rest = due_in t dues
+
+    by : (b : Bool) → eqb d.week t ≡ b → sum rest ≡ sum_by (one_due t) dues
+        → sum (map (λ (x : Due). x.quantity) (cond b (d ∷ filter (λ x. eqb x.week t) dues) (filter (λ x. eqb x.week t) dues))) ≡ sum_by (one_due t) (d ∷ dues)
+    by true e more = omega (arith, more, sum_by-cons (λ x. x) d.quantity rest, sum_by-cons (one_due t) d dues, ap (λ b. cond b d.quantity 0) e)
+    by false e more = omega (arith, more, sum_by-cons (one_due t) d dues, ap (λ b. cond b d.quantity 0) e)
+
+-- one more row
+pub due_sum_more : (dues : List Due) (k : ℕ) (d : Due) (t : ℕ) → k < length dues → due_sum (take (k + 1) dues) t ≡ due_sum (take k dues) t + one_due t (get_or dues k d)
+due_sum_more dues k d t h = due_sum-by (take (k + 1) dues) t ∙ sum_by_more (one_due t) dues k d h ∙ ap (λ n. n + one_due t (get_or dues k d)) (sym (due_sum-by (take k dues) t))
+
+pub due_sum_within : (dues : List Due) (k : ℕ) (d : Due) (t : ℕ) → k < length dues → due_sum (take k dues) t + one_due t (get_or dues k d) ≤ due_sum dues t
+due_sum_within dues k d t h = omega (arith, due_sum-by dues t, due_sum-by (take k dues) t, sum_by_more_le (one_due t) dues k d h)
+
+-- a row with one thing more that is due in one of its weeks
+pub with_due_row : (xs : List ℕ) (due : Due) (n : ℕ) → length xs ≡ n → 0 < due.week → due.week ≤ n
+    → with_week xs due.week (in_week xs due.week + due.quantity) ≡ row n (with_due xs due)
+with_due_row xs due n e a b =
+    row_is (with_week xs due.week (in_week xs due.week + due.quantity)) (with_due xs due) n (length-with_week xs due.week (in_week xs due.week + due.quantity) ∙ e)
+    (λ t c d. by t (eqb due.week t) refl)
+  where
+    by : (t : ℕ) (same : Bool) → eqb due.week t ≡ same → in_week (with_week xs due.week (in_week xs due.week + due.quantity)) t ≡ in_week xs t + cond same due.quantity 0
+    by t true f =
+        let same : due.week ≡ t = eqb-true due.week t f in
+        rw (← same) (in_week_changed xs due.week (in_week xs due.week + due.quantity) a (omega arith))
+    by t false f =
+        let other : t ≢ due.week = (let no : due.week ≢ t = eqb-false due.week t f in omega arith) in
+        in_week_kept xs due.week t (in_week xs due.week + due.quantity) other ∙ omega arith
+
+-- and one that is due in none of them
+pub without_due_row : (xs : List ℕ) (due : Due) (n : ℕ) → length xs ≡ n → (0 < due.week → due.week ≤ n → zero ≡ 1) → xs ≡ row n (with_due xs due)
+without_due_row xs due n e never =
+    row_is xs (with_due xs due) n e (λ t a b. by t a b (eqb due.week t) refl)
+  where
+    by : (t : ℕ) → 0 < t → t ≤ n → (same : Bool) → eqb due.week t ≡ same → in_week xs t ≡ in_week xs t + cond same due.quantity 0
+    by t a b true f =
+        let same : due.week ≡ t = eqb-true due.week t f in
+        absurd (let no : zero ≡ 1 = never (omega arith) (omega arith) in omega arith)
+    by t a b false f = omega arith
+
+-- the row of what is due in the rows so far, and in the next
+pub dated_more : (dues : List Due) (k : ℕ) (d : Due) (xs : List ℕ) (n : ℕ) → k < length dues → d ≡ get_or dues k d → xs ≡ row n (due_sum (take k dues))
+    → row n (with_due xs d) ≡ row n (due_sum (take (k + 1) dues))
+dated_more dues k d xs n h is so_far =
+    row_same (with_due xs d) (due_sum (take (k + 1) dues)) n
+    (λ t a b. ap (λ (x : Due). in_week xs t + one_due t x) is ∙ ap (λ ys. in_week ys t + one_due t (get_or dues k d)) so_far
+    ∙ ap (λ m. m + one_due t (get_or dues k d)) (in_week_row (due_sum (take k dues)) n t a b) ∙ sym (due_sum_more dues k d t h))
+
+pub dated_none : (n : ℕ) → replicate n 0 ≡ row n (due_sum [])
+dated_none n = row_is (replicate n 0) (due_sum []) n (length-replicate n 0) (λ t a b. in_week_replicate n t)
+
+-- one thing more that is due of an item, told of each item
+pub listed_add : (lists : List (Vec Due)) (at i : ℕ) (old new : Vec Due) (d : Due) → at < length lists → old ≡ get_or lists at old → new.items ≡ old.items ++ d ∷ []
+    → listed (map (λ v. v.items) (set lists at new)) i ≡ listed (map (λ v. v.items) lists) i ++ cond (eqb at i) (d ∷ []) []
+listed_add lists at i old new d h read pushed = by (eqb at i) refl
+  where
+    items : Vec Due → List Due
+    items v = v.items
+
+    before : listed (map (λ v. v.items) lists) at ≡ old.items
+    before = get_or-map (λ (v : Vec Due). v.items) lists at old [] h ∙ ap (λ (v : Vec Due). v.items) (sym read)
+
+    by : (same : Bool) → eqb at i ≡ same → listed (map (λ v. v.items) (set lists at new)) i ≡ listed (map (λ v. v.items) lists) i ++ cond same (d ∷ []) []
+    by true e =
+        let same : at ≡ i = eqb-true at i e in
+        let k : at < length (map (λ (w : Vec Due). w.items) lists) = omega (arith, length-map lists (λ w. w.items)) in
+        rw (← same) (rw (map-set (λ (w : Vec Due). w.items) lists at new) (get_or-set_same (map (λ w. w.items) lists) at new.items [] k) ∙ pushed ∙ ap (λ xs. xs ++ d ∷ []) (sym before))
+    by false e =
+        let other : i ≢ at = (let no : at ≢ i = eqb-false at i e in omega arith) in
+        rw (map-set (λ (w : Vec Due). w.items) lists at new) (get_or-set_other (map (λ w. w.items) lists) at i new.items [] other) ∙ sym (append-nil (listed (map (λ w. w.items) lists) i))
+
+-- what one more row says is due
+pub dues_more : {R : Type 0} (keep : R → Bool) (due : R → Due) (rows : List R) (k : ℕ) (d r : R) → k < length rows → r ≡ get_or rows k d
+    → dues_of keep due (take (k + 1) rows) ≡ dues_of keep due (take k rows) ++ cond (keep r) (due r ∷ []) []
+dues_more {R} keep due rows k d r h is =
+    ap (map due) (filter_more keep rows k d h ∙ ap (λ (x : R). filter keep (take k rows) ++ cond (keep x) (x ∷ []) []) (sym is))
+    ∙ map-append due (filter keep (take k rows)) (cond (keep r) (r ∷ []) [])
+    ∙ ap (λ xs. map due (filter keep (take k rows)) ++ xs) (by (keep r))
+  where
+    by : (b : Bool) → map due (cond b (r ∷ []) []) ≡ cond b (due r ∷ []) []
+    by true = refl
+    by false = refl

@@ -1,0 +1,43 @@
+-- The orders of a week, as a loop over weeks finds them.
+use Rattle.std.proofs.Common.{◌≡◌, ◌∙◌, ℕ, suc, ◌+◌, ◌-◌, ◌<◌, ◌≤◌, List, ◌++◌, map, refl, sym, ap, arith}
+use Rattle.std.specs.Prelude.{flat_map, sum_by}
+use Rattle.std.proofs.lemmas.Simd.{map-map}
+use Rattle.mrp_qty.specs.Quantity.{greatest_quantity}
+use Rattle.mrp_phase.specs.Weeks.{in_week, weeks}
+use Rattle.mrp_item.specs.declared.order.Order.{Order}
+use Rattle.mrp_item.specs.declared.order.OrderKind.TheVariants.{Firm}
+use Rattle.mrp_item.specs.declared.due.Due.{Due}
+use Rattle.mrp_item.specs.Inputs.{Inputs, horizon, item_at}
+use Rattle.mrp_item.specs.Rows.{firm_rows}
+use Rattle.mrp_item.specs.Dues.{due_in, firm_dues}
+use Rattle.mrp_item.specs.Orders.{order_of, firm_orders, planned_order, orders_due, orders_of}
+use Rattle.mrp_item.proofs.DueRows.{due_in-firm}
+use Rattle.mrp_item.proofs.Starts.{orders_more, starts_rise, start}
+
+firm_due : (s : Inputs) (i week : ℕ) (dues : List Due) → dues ≡ firm_dues s.tables.master i → map (order_of (item_at s i) Firm week) (due_in week dues) ≡ firm_orders s i week
+firm_due s i week dues is =
+    ap (λ (ds : List Due). map (order_of (item_at s i) Firm week) (due_in week ds)) is
+    ∙ ap (map (order_of (item_at s i) Firm week)) (due_in-firm s i week)
+    ∙ map-map (order_of (item_at s i) Firm week) (λ r. r.quantity) (firm_rows s i week)
+
+-- the orders of the weeks so far, and of the next
+pub week_more : (s : Inputs) (i k : ℕ) (receipts : List ℕ) (dues : List Due) (before received : ℕ) (item : _) → item ≡ item_at s i → dues ≡ firm_dues s.tables.master i
+    → before ≡ in_week receipts k → received ≡ in_week receipts (k + 1)
+    → flat_map (orders_due s i receipts) (weeks k) ++ (map (order_of item Firm (k + 1)) (due_in (k + 1) dues) ++ planned_order item (k + 1) before received)
+    ≡ flat_map (orders_due s i receipts) (weeks (k + 1))
+week_more s i k receipts dues before received item here is was now =
+    let next : k + 1 ≡ suc k = omega arith in
+    let back : in_week receipts (k + 1 - 1) ≡ in_week receipts k = ap (in_week receipts) (omega arith) in
+    ap (λ x. flat_map (orders_due s i receipts) (weeks k) ++ (map (order_of x Firm (k + 1)) (due_in (k + 1) dues) ++ planned_order x (k + 1) before received)) here
+    ∙ ap (λ n. flat_map (orders_due s i receipts) (weeks k) ++ (map (order_of (item_at s i) Firm (k + 1)) (due_in (k + 1) dues) ++ planned_order (item_at s i) (k + 1) n received)) (was ∙ sym back)
+    ∙ ap (λ n. flat_map (orders_due s i receipts) (weeks k) ++ (map (order_of (item_at s i) Firm (k + 1)) (due_in (k + 1) dues) ++ planned_order (item_at s i) (k + 1) (in_week receipts (k + 1 - 1)) n)) now
+    ∙ ap (λ xs. flat_map (orders_due s i receipts) (weeks k) ++ (xs ++ planned_order (item_at s i) (k + 1) (in_week receipts (k + 1 - 1)) (in_week receipts (k + 1)))) (firm_due s i (k + 1) dues is)
+    ∙ ap (λ n. flat_map (orders_due s i receipts) (weeks k) ++ orders_due s i receipts n) next
+    ∙ sym (orders_more (orders_due s i receipts) k)
+    ∙ ap (λ n. flat_map (orders_due s i receipts) (weeks n)) (sym next)
+
+-- too much by a week is too much in all
+pub week_past : (s : Inputs) (i k : ℕ) (receipts : List ℕ) (list : List Order) → list ≡ flat_map (orders_due s i receipts) (weeks (k + 1)) → k < horizon s
+    → greatest_quantity < sum_by start list → greatest_quantity < sum_by start (orders_of s i receipts)
+week_past s i k receipts list is within past =
+    omega (arith, past, ap (sum_by start) is, starts_rise (orders_due s i receipts) (k + 1) (horizon s) (omega arith))

@@ -1,0 +1,85 @@
+-- What an item's rows make of it.
+use Rattle.std.proofs.Common.{◌≡◌, ◌∙◌, ℕ, ◌+◌, ◌<◌, ◌≤◌, ◌⊎◌, inl, inr, Bool, true, false, suc, List, [], ◌∷◌, length, get_or, refl, sym, ap, arith}
+use Rattle.std.specs.Prelude.{◌||◌, ◌&&◌, sum, sum_by, nat_lt}
+use Rattle.std.specs.List.{list_all}
+use Rattle.std.proofs.lemmas.Bool.{lt-ltb, le-ltb}
+use Rattle.std.proofs.lemmas.List.Folds.{list_all-map}
+use Rattle.mrp_qty.specs.Quantity.{greatest_quantity}
+use Rattle.mrp_bill.specs.Bill.{parents_of}
+use Rattle.mrp_phase.specs.Weeks.{row, in_week, sum_to}
+use Rattle.mrp_phase.proofs.WeekRows.{length-row, sum_to_whole}
+use Rattle.mrp_item.specs.Inputs.{Inputs, count, horizon}
+use Rattle.mrp_item.specs.Rows.{scheduled_in, stock_of}
+use Rattle.mrp_item.specs.Orders.{orders_of}
+use Rattle.mrp_item.specs.Own.{AreWithin, ArePast, IsReady, own_gross}
+use Rattle.mrp_item.specs.Plan.{ItemPlan, IsRanked, Over, Planned, Blocked, gross_in, is_planned, is_too_large, item_plan, outcome_of, receipts_of}
+use Rattle.mrp_item.specs.Made.{AreParents, inputs_in, item_in}
+use Rattle.mrp_item.specs.declared.outcome.Outcome.{Outcome}
+use Rattle.mrp_item.proofs.Outcomes.{is_ready, not_ready}
+
+-- sums up to the last week are sums of rows
+whole : (xs : List ℕ) (n : ℕ) → length xs ≡ n → sum_to xs n ≡ sum xs
+whole xs n e = ap (sum_to xs) (sym e) ∙ sum_to_whole xs
+
+gross_whole : (s : Inputs) (i : ℕ) → sum_to (own_gross s i) (horizon s) ≡ sum (own_gross s i)
+gross_whole s i = whole (own_gross s i) (horizon s) (length-row (gross_in s i (outcome_of s)) (horizon s))
+
+scheduled_whole : (s : Inputs) (i : ℕ) → sum_to (stock_of s i).scheduled (horizon s) ≡ sum (stock_of s i).scheduled
+scheduled_whole s i = whole (stock_of s i).scheduled (horizon s) (length-row (scheduled_in s i) (horizon s))
+
+or_right : (a b : Bool) → b ≡ true → (a || b) ≡ true
+or_right true b e = refl
+or_right false b e = e
+
+-- an item's own plan, from its parents' outcomes
+abbrev pub own : Inputs → ℕ → ItemPlan
+own s i = item_plan s i (own_gross s i)
+
+over : (s : Inputs) (code : ℕ → ℕ) (i : ℕ) → IsRanked s code → IsReady s i → is_too_large s i (own s i) ≡ true → outcome_of s i ≡ Over
+over s code i ranked ready large = is_ready s code ranked i ready ∙ rw large refl
+
+-- requirements or supplies past the greatest quantity
+pub past-over : (s : Inputs) (code : ℕ → ℕ) (i : ℕ) → IsRanked s code → IsReady s i → ArePast s i (own_gross s i) → outcome_of s i ≡ Over
+past-over s code i ranked ready (inl h) =
+    over s code i ranked ready (rw (lt-ltb greatest_quantity (sum_to (own_gross s i) (horizon s) + (stock_of s i).safety) (omega (arith, h, gross_whole s i))) refl)
+past-over s code i ranked ready (inr h) =
+    over s code i ranked ready (or_right (nat_lt greatest_quantity (sum_to (own_gross s i) (horizon s) + (stock_of s i).safety)) _
+    (rw (lt-ltb greatest_quantity ((stock_of s i).on_hand + sum_to (stock_of s i).scheduled (horizon s) + in_week (receipts_of s i (own_gross s i)) (horizon s)) (omega (arith, h, scheduled_whole s i))) refl))
+
+-- requirements alone past it
+pub gross-over : (s : Inputs) (code : ℕ → ℕ) (i : ℕ) → IsRanked s code → IsReady s i → greatest_quantity < sum (own_gross s i) → outcome_of s i ≡ Over
+gross-over s code i ranked ready h = past-over s code i ranked ready (inl (omega (arith, h)))
+
+-- starts past it
+pub starts-over : (s : Inputs) (code : ℕ → ℕ) (i : ℕ) → IsRanked s code → IsReady s i → greatest_quantity < sum_by (λ o. o.start) (orders_of s i (receipts_of s i (own_gross s i))) → outcome_of s i ≡ Over
+starts-over s code i ranked ready h =
+    over s code i ranked ready (or_right (nat_lt greatest_quantity (sum_to (own_gross s i) (horizon s) + (stock_of s i).safety)) _
+    (or_right (nat_lt greatest_quantity ((stock_of s i).on_hand + sum_to (stock_of s i).scheduled (horizon s) + in_week (receipts_of s i (own_gross s i)) (horizon s))) _
+    (lt-ltb greatest_quantity (sum_by (λ o. o.start) (orders_of s i (receipts_of s i (own_gross s i)))) h)))
+
+-- all three within it
+pub within-planned : (s : Inputs) (code : ℕ → ℕ) (i : ℕ) → IsRanked s code → IsReady s i → AreWithin s i (own_gross s i)
+    → sum_by (λ o. o.start) (orders_of s i (receipts_of s i (own_gross s i))) ≤ greatest_quantity → outcome_of s i ≡ Planned (own s i)
+within-planned s code i ranked ready within starts =
+    let a = le-ltb greatest_quantity (sum_to (own_gross s i) (horizon s) + (stock_of s i).safety) (omega (arith, within.requirements, gross_whole s i)) in
+    let b = le-ltb greatest_quantity ((stock_of s i).on_hand + sum_to (stock_of s i).scheduled (horizon s) + in_week (receipts_of s i (own_gross s i)) (horizon s)) (omega (arith, within.supplies, scheduled_whole s i)) in
+    let d = le-ltb greatest_quantity (sum_by (λ o. o.start) (orders_of s i (receipts_of s i (own_gross s i)))) starts in
+    let small : is_too_large s i (own s i) ≡ false = rw (a, b, d) refl in
+    is_ready s code ranked i ready ∙ rw small refl
+
+-- parents that are told one by one
+each_same : (s : Inputs) (parents : List Outcome) → ((k : ℕ) (d : Outcome) → k < length parents → inputs_in (get_or parents k d) ≡ s)
+    → list_all (λ o. is_planned (outcome_of (inputs_in o) (item_in o))) parents ≡ list_all (λ o. is_planned (outcome_of s (item_in o))) parents
+each_same s [] same = refl
+each_same s (o ∷ parents) same =
+    let here : inputs_in o ≡ s = same 0 o (omega arith) in
+    ap (λ (x : Inputs). is_planned (outcome_of x (item_in o)) && list_all (λ o. is_planned (outcome_of (inputs_in o) (item_in o))) parents) here
+    ∙ ap (λ b. is_planned (outcome_of s (item_in o)) && b) (each_same s parents (λ k d h. same (suc k) d (omega arith)))
+
+pub told : (s : Inputs) (i : ℕ) (parents : List Outcome) → AreParents s i parents
+    → list_all (λ o. is_planned (outcome_of (inputs_in o) (item_in o))) parents ≡ list_all (λ p. is_planned (outcome_of s p)) (parents_of s.tables.bills (count s) i)
+told s i parents are =
+    each_same s parents are.inputs ∙ sym (list_all-map (λ p. is_planned (outcome_of s p)) item_in parents) ∙ ap (list_all (λ p. is_planned (outcome_of s p))) are.items
+
+pub blocked : (s : Inputs) (code : ℕ → ℕ) (i : ℕ) → IsRanked s code → list_all (λ p. is_planned (outcome_of s p)) (parents_of s.tables.bills (count s) i) ≡ false → outcome_of s i ≡ Blocked
+blocked s code i ranked e = not_ready s code ranked i e

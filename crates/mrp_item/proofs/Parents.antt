@@ -1,0 +1,142 @@
+-- The parents of an item and the lines to it, by their places.
+use Rattle.std.proofs.Common.{◌≡◌, ◌≢◌, ◌∙◌, ℕ, zero, suc, ◌+◌, ◌-◌, ◌<◌, ◌≤◌, ◌⊎◌, inl, inr, Bool, true, false, cond, eqb, List, [], ◌∷◌, ◌++◌, length, take, map, get_or, refl, sym, ap, arith, append-nil, take_all}
+use Rattle.std.specs.Prelude.{filter, ◌||◌, ◌&&◌, All}
+use Rattle.std.specs.List.{range_with_len}
+use Rattle.std.proofs.lemmas.Bool.{eqb-true, eqb-false, eq-eqb}
+use Rattle.std.proofs.lemmas.List.{get_or-map, length-map, map-append}
+use Rattle.std.proofs.lemmas.List.Elements.{All-get_or, filter_more}
+use Rattle.mrp_tables.specs.declared.rows.BillLine.{BillLine}
+use Rattle.mrp_bill.specs.Bill.{is_parent, IsParent, parents_of, line_at, lines_of}
+use Rattle.mrp_phase.specs.Weeks.{row}
+use Rattle.mrp_item.specs.Inputs.{Inputs, count, horizon}
+use Rattle.mrp_item.specs.Orders.{started_in}
+use Rattle.mrp_item.specs.Plan.{outcome_of, plan_in}
+use Rattle.mrp_item.specs.Made.{AreParents, inputs_in, item_in, starts_in}
+use Rattle.mrp_item.specs.declared.outcome.Outcome.{Outcome}
+
+-- the numbers of a range that pass
+pub kept_at : (p : ℕ → Bool) (a n k : ℕ) → k < length (filter p (range_with_len a n))
+    → (a ≤ get_or (filter p (range_with_len a n)) k 0) × (get_or (filter p (range_with_len a n)) k 0 < a + n) × (p (get_or (filter p (range_with_len a n)) k 0) ≡ true)
+kept_at p a zero k h = absurd (omega arith)
+kept_at p a (suc n) k h = by (p a) refl k h (λ j h. kept_at p (a + 1) n j h)
+  where
+    rest : List ℕ
+    rest = filter p (range_with_len (a + 1) n)
+
+    by : (b : Bool) → p a ≡ b → (k : ℕ) → k < length (cond b (a ∷ rest) rest)
+        → ((j : ℕ) → j < length rest → (a + 1 ≤ get_or rest j 0) × (get_or rest j 0 < a + 1 + n) × (p (get_or rest j 0) ≡ true))
+        → (a ≤ get_or (cond b (a ∷ rest) rest) k 0) × (get_or (cond b (a ∷ rest) rest) k 0 < a + suc n) × (p (get_or (cond b (a ∷ rest) rest) k 0) ≡ true)
+    by true e zero h more = (omega arith, omega arith, e)
+    by true e (suc k) h more = let (low, high, same) = more k (omega arith) in (omega arith, omega arith, same)
+    by false e k h more = let (low, high, same) = more k h in (omega arith, omega arith, same)
+
+-- they rise
+pub kept_rise : (p : ℕ → Bool) (a n i j : ℕ) → i ≤ j → j < length (filter p (range_with_len a n))
+    → get_or (filter p (range_with_len a n)) i 0 ≤ get_or (filter p (range_with_len a n)) j 0
+kept_rise p a zero i j le h = absurd (omega arith)
+kept_rise p a (suc n) i j le h = by (p a) i j le h (λ i j le h. kept_rise p (a + 1) n i j le h) (λ j h. (kept_at p (a + 1) n j h).0)
+  where
+    rest : List ℕ
+    rest = filter p (range_with_len (a + 1) n)
+
+    by : (b : Bool) (i j : ℕ) → i ≤ j → j < length (cond b (a ∷ rest) rest) → ((i j : ℕ) → i ≤ j → j < length rest → get_or rest i 0 ≤ get_or rest j 0)
+        → ((j : ℕ) → j < length rest → a + 1 ≤ get_or rest j 0) → get_or (cond b (a ∷ rest) rest) i 0 ≤ get_or (cond b (a ∷ rest) rest) j 0
+    by true zero zero le h more above = omega arith
+    by true zero (suc j) le h more above = let low = above j (omega arith) in omega arith
+    by true (suc i) zero le h more above = absurd (omega arith)
+    by true (suc i) (suc j) le h more above = more i j (omega arith) (omega arith)
+    by false i j le h more above = more i j le h
+
+-- and each that passes is there
+pub kept_there : (p : ℕ → Bool) (a n x : ℕ) → a ≤ x → x < a + n → p x ≡ true
+    → (k : ℕ) × (k < length (filter p (range_with_len a n))) × (get_or (filter p (range_with_len a n)) k 0 ≡ x)
+kept_there p a zero x low high e = absurd (omega arith)
+kept_there p a (suc n) x low high e = by (p a) refl (eqb a x) refl (λ above. kept_there p (a + 1) n x above (omega arith) e)
+  where
+    rest : List ℕ
+    rest = filter p (range_with_len (a + 1) n)
+
+    by : (b : Bool) → p a ≡ b → (same : Bool) → eqb a x ≡ same → (a + 1 ≤ x → (k : ℕ) × (k < length rest) × (get_or rest k 0 ≡ x))
+        → (k : ℕ) × (k < length (cond b (a ∷ rest) rest)) × (get_or (cond b (a ∷ rest) rest) k 0 ≡ x)
+    by true f true i more = (0, omega arith, eqb-true a x i)
+    by true f false i more =
+        let other : a ≢ x = eqb-false a x i in
+        let (k, within, is) = more (omega arith) in
+        (suc k, omega arith, is)
+    by false f true i more = absurd (let yes : p a ≡ true = ap p (eqb-true a x i) ∙ e in cc)
+    by false f false i more =
+        let other : a ≢ x = eqb-false a x i in
+        more (omega arith)
+
+-- a line's parent is a parent of its component
+pub line-parent : (lines : List BillLine) (k i : ℕ) (d : BillLine) → k < length lines → (get_or lines k d).component ≡ i → IsParent lines (get_or lines k d).parent i
+line-parent [] k i d h e = absurd (omega arith)
+line-parent (line ∷ lines) zero i d h e = rw (eq-eqb line.parent line.parent refl, eq-eqb line.component i e) refl
+line-parent (line ∷ lines) (suc k) i d h e = by (eqb line.parent (get_or lines k d).parent && eqb line.component i) (line-parent lines k i d (omega arith) e)
+  where
+    by : (b : Bool) → is_parent lines (get_or lines k d).parent i ≡ true → (b || is_parent lines (get_or lines k d).parent i) ≡ true
+    by true more = refl
+    by false more = more
+
+range_from : (a n m : ℕ) → a + n ≡ m → range_with_len a (suc n) ≡ range_with_len a n ++ m ∷ []
+range_from a zero m e = ap (λ (x : ℕ). x ∷ []) (let same : a ≡ m = omega arith in same)
+range_from a (suc n) m e = ap (λ (xs : List ℕ). a ∷ xs) (range_from (a + 1) n m (omega arith))
+
+range_more : (n : ℕ) → range_with_len 0 (suc n) ≡ range_with_len 0 n ++ n ∷ []
+range_more n = range_from 0 n n (omega arith)
+
+split : (p : ℕ → Bool) (xs : List ℕ) (x : ℕ) → filter p (xs ++ x ∷ []) ≡ filter p xs ++ cond (p x) (x ∷ []) []
+split p [] x = refl
+split p (y ∷ xs) x = case (p y) (split p xs x)
+  where
+    case : (b : Bool) → filter p (xs ++ x ∷ []) ≡ filter p xs ++ cond (p x) (x ∷ []) [] → cond b (y ∷ filter p (xs ++ x ∷ [])) (filter p (xs ++ x ∷ [])) ≡ cond b (y ∷ filter p xs) (filter p xs) ++ cond (p x) (x ∷ []) []
+    case true more = ap (λ (zs : List ℕ). y ∷ zs) more
+    case false more = more
+
+-- the lines at the places of the lines to an item are the lines to it
+lines_to_front : (lines : List BillLine) (i n : ℕ) (d : BillLine) → n ≤ length lines
+    → map (line_at lines) (filter (λ place. eqb (line_at lines place).component i) (range_with_len 0 n)) ≡ filter (λ line. eqb line.component i) (take n lines)
+lines_to_front lines i zero d h = by lines
+  where
+    by : (xs : List BillLine) → [] ≡ filter (λ (line : BillLine). eqb line.component i) (take 0 xs)
+    by [] = refl
+    by (x ∷ xs) = refl
+lines_to_front lines i (suc n) d h =
+    ap (map (line_at lines)) (ap (filter p) (range_more n) ∙ split p (range_with_len 0 n) n)
+    ∙ map-append (line_at lines) (filter p (range_with_len 0 n)) (cond (p n) (n ∷ []) [])
+    ∙ ap (λ (xs : List BillLine). xs ++ map (line_at lines) (cond (p n) (n ∷ []) [])) (lines_to_front lines i n d (omega arith))
+    ∙ ap (λ (xs : List BillLine). filter q (take n lines) ++ xs) (one (p n))
+    ∙ sym (filter_more q lines n (record { parent = 0; component = 0; per = 0 }) (omega arith))
+    ∙ ap (λ k. filter q (take k lines)) (let next : n + 1 ≡ suc n = omega arith in next)
+  where
+    p : ℕ → Bool
+    p place = eqb (line_at lines place).component i
+
+    q : BillLine → Bool
+    q line = eqb line.component i
+
+    one : (b : Bool) → map (line_at lines) (cond b (n ∷ []) []) ≡ cond b (line_at lines n ∷ []) []
+    one true = refl
+    one false = refl
+
+pub lines-at : (lines : List BillLine) (i : ℕ) → map (line_at lines) (lines_of lines i) ≡ filter (λ line. eqb line.component i) lines
+lines-at lines i =
+    lines_to_front lines i (length lines) (record { parent = 0; component = 0; per = 0 }) (omega arith)
+    ∙ ap (filter (λ line. eqb line.component i)) (take_all (length lines) lines (omega arith))
+
+-- what starts of a parent, by the parent's place
+pub starts-of : (s : Inputs) (i parent k : ℕ) (parents : List Outcome) (rows : List ℕ) → AreParents s i parents → k < length parents
+    → get_or (parents_of s.tables.bills (count s) i) k 0 ≡ parent → ((d : Outcome) → rows ≡ starts_in (get_or parents k d))
+    → rows ≡ row (horizon s) (started_in (plan_in (outcome_of s parent)).orders)
+starts-of s i parent k [] rows are h is starts = absurd (omega arith)
+starts-of s i parent k (first ∷ others) rows are h is starts =
+    let parents = first ∷ others in
+    let o = get_or parents k first in
+    let item : item_in o ≡ parent = sym (get_or-map item_in parents k first 0 h) ∙ ap (λ xs. get_or xs k 0) are.items ∙ is in
+    let inputs : inputs_in o ≡ s = All-get_or (λ (o : Outcome). inputs_in o ≡ s) parents k first h are.inputs in
+    starts first
+    ∙ ap (λ (x : Inputs). row (horizon x) (started_in (plan_in (outcome_of x (item_in o))).orders)) inputs
+    ∙ ap (λ n. row (horizon s) (started_in (plan_in (outcome_of s n)).orders)) item
+
+pub length-parents : (s : Inputs) (i : ℕ) (parents : List Outcome) → AreParents s i parents → length (parents_of s.tables.bills (count s) i) ≡ length parents
+length-parents s i parents are = ap length (sym are.items) ∙ length-map parents item_in

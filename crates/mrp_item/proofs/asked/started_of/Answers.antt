@@ -1,0 +1,37 @@
+use Rattle.std.proofs.Common.{◌≡◌, ◌∙◌, ◌<◌, List, ℕ, length, get_or, sym, ap, arith}
+use Rattle.mrp_tables.specs.Tables.{Tables}
+use Rattle.mrp_bill.specs.Bill.{is_parent, parents_of}
+use Rattle.mrp_item.specs.Inputs.{count}
+use Rattle.mrp_item.proofs.Parents.{kept_rise, kept_there, starts-of, length-parents}
+use Rattle.mrp_item.proofs.asked.started_of.Goals as goal
+
+pub place_of-requires-clause-rises : goal.place_of-requires-clause-rises
+place_of-requires-clause-rises c =
+    let s = c.args.inputs.now in
+    let i = c.args.item in
+    let is : c.parents.result.now ≡ parents_of s.tables.bills (count s) i = c.parents.ensures ∙ ap (λ (t : Tables). parents_of t.bills (length t.items) i) c.shop.ensures.tables in
+    rw is (kept_rise (λ p. is_parent s.tables.bills p i) 0 (count s))
+
+pub place_of-requires-clause-there : goal.place_of-requires-clause-there
+place_of-requires-clause-there c =
+    let s = c.args.inputs.now in
+    let i = c.args.item in
+    let is : c.parents.result.now ≡ parents_of s.tables.bills (count s) i = c.parents.ensures ∙ ap (λ (t : Tables). parents_of t.bills (length t.items) i) c.shop.ensures.tables in
+    let within : c.args.parent < count s = c.shop.ensures.parents c.args.parent i c.requires.parent in
+    rw is (kept_there (λ p. is_parent s.tables.bills p i) 0 (count s) c.args.parent (omega arith) (omega arith) c.requires.parent)
+
+pub started_at-requires-clause-within : goal.started_at-requires-clause-within
+started_at-requires-clause-within c =
+    let s = c.args.inputs.now in
+    let i = c.args.item in
+    let is : c.parents.result.now ≡ parents_of s.tables.bills (count s) i = c.parents.ensures ∙ ap (λ (t : Tables). parents_of t.bills (length t.items) i) c.shop.ensures.tables in
+    omega (arith, c.place_of.ensures.within, ap length is, length-parents s i c.args.parents.now c.requires.parents)
+
+pub returns : goal.returns
+returns c =
+    let s = c.args.inputs.now in
+    let i = c.args.item in
+    let is : c.parents.result.now ≡ parents_of s.tables.bills (count s) i = c.parents.ensures ∙ ap (λ (t : Tables). parents_of t.bills (length t.items) i) c.shop.ensures.tables in
+    let within : c.place_of.result < length c.args.parents.now = omega (arith, c.place_of.ensures.within, ap length is, length-parents s i c.args.parents.now c.requires.parents) in
+    starts-of s i c.args.parent c.place_of.result c.args.parents.now c.started_at.result.now c.requires.parents within
+    (ap (λ (xs : List ℕ). get_or xs c.place_of.result 0) (sym is) ∙ c.place_of.ensures.found) c.started_at.ensures

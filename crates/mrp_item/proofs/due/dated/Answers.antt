@@ -1,0 +1,36 @@
+use Rattle.std.proofs.Common.{◌≡◌, ◌∙◌, length, take, ap, arith}
+use Rattle.mrp_phase.proofs.WeekRows.{length-row, in_week_row}
+use Rattle.mrp_phase.specs.Weeks.{in_week}
+use Rattle.mrp_item.specs.Dues.{due_sum}
+use Rattle.mrp_item.proofs.DueLemmas.{dated_more, dated_none, due_sum_within, one_due, one_due-here}
+use Rattle.mrp_item.proofs.due.dated.Goals as goal
+
+pub loop-next-init : goal.loop-next-init
+loop-next-init c = c.in_ok-due.ensures ∙ dated_none c.args.weeks
+
+pub add_due-requires : goal.add_due-requires
+add_due-requires c = ap length c.loop-next.invariant ∙ length-row (due_sum _) c.args.weeks
+
+pub loop-next-preserved : goal.loop-next-preserved
+loop-next-preserved c =
+    c.in-Some.ensures.added
+    ∙ dated_more c.args.dues.now c.loop-next.next-index c.next-item.result c.loop-next.due c.args.weeks c.loop-next-test.true c.next-item.is c.loop-next.invariant
+
+pub returns-in_default-clause-over : goal.returns-in_default-clause-over
+returns-in_default-clause-over c = λ _.
+    let next = c.next-item.result in
+    let none = c.in_default.ensures.none in
+    let dues = c.args.dues.now in (
+      next.week,
+      none.0,
+      none.1,
+      omega (
+        arith,
+        none.2,
+        ap (λ xs. in_week xs next.week) c.loop-next.invariant,
+        in_week_row (due_sum (take c.loop-next.next-index dues)) c.args.weeks next.week none.0 none.1,
+        due_sum_within dues c.loop-next.next-index next next.week c.loop-next-test.true,
+        ap (one_due next.week) c.next-item.is,
+        one_due-here next,
+      ),
+    )

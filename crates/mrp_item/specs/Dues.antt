@@ -1,0 +1,50 @@
+-- What is due of an item, row by row.
+use Rattle.std.specs.Prelude.{ℕ, ◌==◌, ◌&&◌, ◌+◌, if◌then◌else◌, Bool, List, [], map, filter, sum}
+use Rattle.std.specs.List.{slice_index_or}
+use Rattle.mrp_phase.specs.Weeks.{in_week}
+use Rattle.mrp_tables.specs.declared.rows.MasterRow.{MasterRow}
+use Rattle.mrp_tables.specs.declared.rows.Receipt.{Receipt}
+use Rattle.mrp_book.specs.declared.order.Booking.{Booking}
+use Rattle.mrp_item.specs.declared.due.Due.{Due}
+use Rattle.mrp_item.specs.Rows.{is_firm, is_forecast}
+
+-- the quantities that are due in a week, in order
+abbrev pub due_in : ℕ → List Due → List ℕ
+due_in week dues = map (λ d. d.quantity) (filter (λ d. d.week == week) dues)
+
+abbrev pub due_sum : List Due → ℕ → ℕ
+due_sum dues week = sum (due_in week dues)
+
+-- what a row has in a week, and one more thing that is due
+abbrev pub with_due : List ℕ → Due → ℕ → ℕ
+with_due xs due week = in_week xs week + (if due.week == week then due.quantity else 0)
+
+-- what each of some rows says is due
+abbrev pub dues_of : {R : Type 0} → (R → Bool) → (R → Due) → List R → List Due
+dues_of keep due rows = map due (filter keep rows)
+
+abbrev pub master_due : MasterRow → Due
+master_due r = record { week = r.week; quantity = r.quantity }
+
+abbrev pub receipt_due : Receipt → Due
+receipt_due r = record { week = r.week; quantity = r.quantity }
+
+abbrev pub booking_due : Booking → Due
+booking_due b = record { week = b.line.week; quantity = b.line.quantity }
+
+-- what is due of an item: its firm rows, its forecasts, its open receipts, its bookings
+abbrev pub firm_dues : List MasterRow → ℕ → List Due
+firm_dues rows i = dues_of (λ r. (r.item == i) && is_firm r.kind) master_due rows
+
+abbrev pub forecast_dues : List MasterRow → ℕ → List Due
+forecast_dues rows i = dues_of (λ r. (r.item == i) && is_forecast r.kind) master_due rows
+
+abbrev pub receipt_dues : List Receipt → ℕ → List Due
+receipt_dues rows i = dues_of (λ r. r.item == i) receipt_due rows
+
+abbrev pub booking_dues : List Booking → ℕ → List Due
+booking_dues rows i = dues_of (λ b. b.line.item == i) booking_due rows
+
+-- the list of an item, and nothing past the last item
+abbrev pub listed : List (List Due) → ℕ → List Due
+listed lists i = slice_index_or lists i []

@@ -1,0 +1,16 @@
+pub mod Stops
+pub mod Inputs
+pub mod Rows
+pub mod Dues
+pub mod Limits
+pub mod Lot
+pub mod Orders
+pub mod Recursion
+pub mod Plan
+pub mod View
+pub mod Places
+pub mod Kept
+pub mod Own
+pub mod Whole
+pub mod Made
+pub mod Asked

@@ -1,0 +1,17 @@
+-- The limits of an item that planning rests on.
+use Rattle.std.specs.Prelude.{ℕ, ◌<◌, ◌≤◌, ⊤}
+use Rattle.mrp_tables.specs.declared.item.LotRule.{LotRule}
+use Rattle.mrp_tables.specs.declared.item.LotRule.TheVariants.{LotForLot, Fixed, Period}
+use Rattle.mrp_tables.specs.declared.item.Item.{Item}
+
+-- a lot rule's size is at least 1
+abbrev pub IsSized : LotRule → Type 0
+IsSized LotForLot = ⊤
+IsSized (Fixed size) = 0 < size
+IsSized (Period n) = 0 < n
+
+-- scrap, lead and lot size
+pub record IsPlannable (item : Item) : Type 0 where
+  pub scrap : item.scrap ≤ 900
+  pub lead : item.lead ≤ 104
+  pub sized : IsSized item.lot

@@ -1,0 +1,66 @@
+-- What the tables and the bookings say of an item in a week.
+use Rattle.std.specs.Prelude.{ℕ, ◌==◌, ◌&&◌, Bool, true, false, if◌then◌else◌, List, filter, sum_by, max}
+use Rattle.mrp_tables.specs.declared.rows.StockRow.{StockRow}
+use Rattle.mrp_tables.specs.declared.rows.BillLine.{BillLine}
+use Rattle.mrp_tables.specs.declared.rows.Receipt.{Receipt}
+use Rattle.mrp_tables.specs.declared.rows.MasterKind.{MasterKind}
+use Rattle.mrp_tables.specs.declared.rows.MasterKind.TheVariants.{Firm, Forecast}
+use Rattle.mrp_tables.specs.declared.rows.MasterRow.{MasterRow}
+use Rattle.mrp_book.specs.declared.order.Booking.{Booking}
+use Rattle.mrp_phase.specs.Weeks.{row}
+use Rattle.mrp_net.specs.declared.stock.Stock.{Stock}
+use Rattle.mrp_item.specs.Inputs.{Inputs, horizon, item_at, is_master}
+
+abbrev pub is_firm : MasterKind → Bool
+is_firm Firm = true
+is_firm Forecast = false
+
+abbrev pub is_forecast : MasterKind → Bool
+is_forecast Firm = false
+is_forecast Forecast = true
+
+-- the firm rows of an item that are due in a week, in table order (Orlicky: master production schedule)
+abbrev pub firm_rows : Inputs → ℕ → ℕ → List MasterRow
+firm_rows s i week = filter (λ r. (r.item == i) && (r.week == week) && is_firm r.kind) s.tables.master
+
+abbrev pub forecast_rows : Inputs → ℕ → ℕ → List MasterRow
+forecast_rows s i week = filter (λ r. (r.item == i) && (r.week == week) && is_forecast r.kind) s.tables.master
+
+-- the open receipts of an item that are due in a week, in table order (Orlicky: scheduled receipts)
+abbrev pub open_receipts : Inputs → ℕ → ℕ → List Receipt
+open_receipts s i week = filter (λ r. (r.item == i) && (r.week == week)) s.tables.receipts
+
+-- the standing bookings of an item that are due in a week
+abbrev pub bookings_due : Inputs → ℕ → ℕ → List Booking
+bookings_due s i week = filter (λ b. (b.line.item == i) && (b.line.week == week)) s.standing
+
+-- the bill lines in which an item is the component
+abbrev pub lines_to : Inputs → ℕ → List BillLine
+lines_to s i = filter (λ line. line.component == i) s.tables.bills
+
+-- what is forecast of an item in a week: the rows of one week add up
+abbrev pub forecast : Inputs → ℕ → ℕ → ℕ
+forecast s i week = sum_by (λ r. r.quantity) (forecast_rows s i week)
+
+-- what is booked of an item for a week
+abbrev pub booked : Inputs → ℕ → ℕ → ℕ
+booked s i week = sum_by (λ b. b.line.quantity) (bookings_due s i week)
+
+-- the demand of a master item in a week: the greater of its forecast and its standing bookings (profile)
+abbrev pub demand : Inputs → ℕ → ℕ → ℕ
+demand s i week = max (forecast s i week) (booked s i week)
+
+-- what is scheduled for an item in a week: the firm rows of a master item, the open receipts of another
+-- (Orlicky: scheduled receipts)
+abbrev pub scheduled_in : Inputs → ℕ → ℕ → ℕ
+scheduled_in s i week =
+    if is_master s i then sum_by (λ r. r.quantity) (firm_rows s i week)
+    else sum_by (λ r. r.quantity) (open_receipts s i week)
+
+-- what is on hand of an item; one without a stock record has 0
+abbrev pub on_hand : Inputs → ℕ → ℕ
+on_hand s i = sum_by (λ r. r.on_hand) (filter (λ r. r.item == i) s.tables.stock)
+
+-- what an item has without planning
+abbrev pub stock_of : Inputs → ℕ → Stock
+stock_of s i = record { on_hand = on_hand s i; safety = (item_at s i).safety; scheduled = row (horizon s) (scheduled_in s i) }

@@ -1,0 +1,113 @@
+//! What the parents' orders ask of an item.
+
+ghost use Rattle.std.specs.Prelude.{◌≡◌, ◌≤◌, ◌<◌, ◌+◌, ◌*◌, ℕ, true, length, sum, sum_by, slice_index, IfOk, IfErr, OnSome, IfNone};
+ghost use Rattle.std.specs.List.{list_all, slice_index_or};
+ghost use Rattle.mrp_qty.specs.Quantity.{greatest_quantity};
+ghost use Rattle.mrp_phase.specs.Weeks.{in_week, row};
+ghost use Rattle.mrp_item.specs.Asked.{asked_in, with_asked};
+ghost use Rattle.mrp_item.specs.Inputs.{count, horizon};
+ghost use Rattle.mrp_bill.specs.Bill.{IsParent, line_at};
+ghost use Rattle.mrp_item.specs.Orders.{started_in};
+ghost use Rattle.mrp_item.specs.Plan.{outcome_of, plan_in};
+ghost use Rattle.mrp_item.specs.Made.{AreParents, has_plan, starts_in};
+
+use crate::due::nothing;
+use crate::inputs::Inputs;
+use crate::outcome::Outcome;
+use crate::stop::Stop;
+use mrp_phase::Weeks;
+use mrp_qty::Qty;
+use mrp_tables::BillLine;
+use std::alloc::Global;
+
+// The place of a number in numbers that rise, among which it is.
+fn place_of(numbers: &[usize], number: usize) -> usize
+    requires rises { (i j : ℕ) → i ≤ j → j < length numbers.now → slice_index numbers.now i ≤ slice_index numbers.now j }
+    requires there { (k : ℕ) × (k < length numbers.now) × (slice_index numbers.now k ≡ number) }
+    ensures within { result < length numbers.now }
+    ensures found { slice_index numbers.now result ≡ number }
+{
+    match numbers.binary_search(&number) {
+        Ok(place) => place,
+        Err(_) => 0,
+    }
+}
+
+// What starts of a planned parent in each week.
+fn started_at(parents: &[Outcome], place: usize) -> &[Qty]
+    requires within { place < length parents.now }
+    requires planned { list_all has_plan parents.now ≡ true }
+    ensures { (d : _) → result.now ≡ starts_in (slice_index_or parents.now place d) }
+{
+    match &parents[place] {
+        Outcome::Planned(planned) => planned.started().as_slice(),
+        Outcome::Over(_) | Outcome::Blocked(_) => &[],
+    }
+}
+
+// Adds what a line asks in each week: what starts of the parent, times the quantity per.
+fn add_asked(asked: &mut [Qty], started: &[Qty], per: u64) -> Option<()>
+    requires { length started.now ≡ length asked.old }
+    ensures added { OnSome result (asked.new ≡ row (length asked.old) (with_asked asked.old started.now per)) }
+    ensures none { IfNone result ((week : ℕ) × (0 < week) × (week ≤ length asked.old) × (greatest_quantity < with_asked asked.old started.now per week)) }
+{
+    for i in 0..asked.len() {
+        let more = started[i].times(per)?;
+        asked[i] = asked[i].add(more)?;
+    }
+    Some(())
+}
+
+// The same, in a list of weeks.
+fn add_line(asked: &mut Vec<Qty>, started: &[Qty], per: u64) -> Option<()>
+    requires { length started.now ≡ length asked.old.items }
+    ensures added { OnSome result (asked.new.items ≡ row (length asked.old.items) (with_asked asked.old.items started.now per)) }
+    ensures none { IfNone result ((week : ℕ) × (0 < week) × (week ≤ length asked.old.items) × (greatest_quantity < with_asked asked.old.items started.now per week)) }
+{
+    add_asked(asked, started, per)
+}
+
+// What starts in each week of a parent of an item.
+fn started_of<'a>(inputs: &Inputs, item: usize, parents: &'a [Outcome], parent: usize) -> &'a [Qty]
+    requires item { item < count inputs.now }
+    requires parents { AreParents inputs.now item parents.now }
+    requires planned { list_all has_plan parents.now ≡ true }
+    requires parent { IsParent inputs.now.tables.bills parent item }
+    ensures { result.now ≡ row (horizon inputs.now) (started_in (plan_in (outcome_of inputs.now parent)).orders) }
+{
+    started_at(parents, place_of(inputs.shop().parents(item), parent))
+}
+
+// The line at a place of the bill table.
+fn line_of(bills: &[BillLine], place: usize) -> BillLine
+    requires { place < length bills.now }
+    ensures { result ≡ line_at bills.now place }
+{
+    bills[place]
+}
+
+// What the lines to an item ask in each week, from its parents' outcomes.
+pub fn asked_row(
+    alloc: Global,
+    inputs: &Inputs,
+    item: usize,
+    parents: &[Outcome],
+) -> Result<Weeks<Qty>, Stop>
+    requires item { item < count inputs.now }
+    requires parents { AreParents inputs.now item parents.now }
+    requires planned { list_all has_plan parents.now ≡ true }
+    ensures value { IfOk result (λ w. w ≡ row (horizon inputs.now) (asked_in inputs.now item)) }
+    ensures over { IfErr result (λ stop. stop ≡ Stop.Over → greatest_quantity < sum (row (horizon inputs.now) (asked_in inputs.now item))) }
+{
+    let bills = inputs.shop().tables().bills();
+    let weeks = inputs.weeks();
+    let mut asked = nothing(alloc, weeks)?.into_vec();
+    for place in inputs.shop().lines_to(item) {
+        let line = line_of(bills, *place);
+        let started = started_of(inputs, item, parents, line.parent);
+        let Some(()) = add_line(&mut asked, started, line.per) else {
+            return Err(Stop::Over);
+        };
+    }
+    Ok(Weeks::from_vec(asked))
+}

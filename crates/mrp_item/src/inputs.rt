@@ -1,0 +1,149 @@
+//! What a plan is made from.
+
+use crate::due::{Due, DueLists};
+use crate::grouping::{
+    bookings_by_item, firm_by_item, forecasts_by_item, on_hand_by_item, receipts_by_item,
+};
+use mrp_bill::Shop;
+use mrp_book::Snapshot;
+use mrp_qty::{NoMemory, Qty};
+use mrp_tables::Item;
+use std::alloc::Global;
+use std::marker::Model;
+use std::sync::Arc;
+
+/// What a plan is made from: a shop, and what stands of its order book.
+#[derive(Drop)]
+pub struct Inputs {
+    shop: Arc<Shop>,
+    snapshot: Snapshot,
+    firm: DueLists,
+    forecasts: DueLists,
+    receipts: DueLists,
+    bookings: DueLists,
+    on_hand: Vec<Option<Qty>>,
+}
+
+impl Model for Inputs {
+    ghost use Rattle.mrp_item.specs.Inputs.{Inputs};
+
+    ghost Value = { Inputs };
+
+    ghost use Rattle.mrp_item.specs.View.{inputs_view, KeepsRows};
+
+    ghost view = { inputs_view };
+
+    ghost invariant = { KeepsRows };
+}
+
+impl Inputs {
+    ghost use Rattle.std.specs.Prelude.{◌≡◌, ◌≤◌, ◌<◌, IfOk, slice_index};
+    ghost use Rattle.mrp_qty.specs.Quantity.{quantity_of};
+    ghost use Rattle.mrp_item.specs.Inputs.{count, horizon, inputs_of, item_at};
+    ghost use Rattle.mrp_item.specs.Limits.{IsPlannable};
+    ghost use Rattle.mrp_item.specs.Rows.{on_hand};
+    ghost use Rattle.mrp_item.specs.Dues.{firm_dues, forecast_dues, receipt_dues, booking_dues};
+    ghost use Rattle.mrp_item.specs.Plan.{IsRanked, HasParents};
+
+    /// The inputs of a shop and a snapshot of its order book.
+    ///
+    /// Errors: `NoMemory` where memory is refused.
+    pub fn new(alloc: Global, shop: Arc<Shop>, snapshot: Snapshot) -> Result<Arc<Inputs>, NoMemory>
+        ensures { IfOk result (λ inputs. inputs.value ≡ inputs_of shop.value.tables snapshot) }
+    {
+        let tables = shop.tables();
+        let _within = tables.bills();
+        let count = tables.items().len();
+        let firm = firm_by_item(alloc, count, tables.master())?;
+        let forecasts = forecasts_by_item(alloc, count, tables.master())?;
+        let receipts = receipts_by_item(alloc, count, tables.receipts())?;
+        let bookings = bookings_by_item(alloc, count, snapshot.standing())?;
+        let on_hand = on_hand_by_item(alloc, count, tables.stock())?;
+        let inputs = Inputs {
+            shop,
+            snapshot,
+            firm,
+            forecasts,
+            receipts,
+            bookings,
+            on_hand,
+        };
+        Ok(Arc::new(alloc, inputs)?)
+    }
+
+    /// The shop.
+    pub fn shop(&self) -> &Shop
+        ensures tables { result.now.tables ≡ self.now.tables }
+        ensures ranked { IsRanked self.now (slice_index result.now.codes) }
+        ensures parents { HasParents self.now }
+    {
+        let _rows = &self.firm;
+        &self.shop
+    }
+
+    /// What stands of the order book.
+    pub fn snapshot(&self) -> &Snapshot
+        ensures front { result.now.front ≡ self.now.front }
+        ensures standing { result.now.standing ≡ self.now.standing }
+    {
+        &self.snapshot
+    }
+
+    // The weeks of the horizon.
+    pub(crate) fn weeks(&self) -> u16
+        ensures value { result ≡ horizon self.now }
+        ensures first { 0 < result }
+        ensures within { result ≤ 104 }
+    {
+        self.shop().tables().calendar().weeks()
+    }
+
+    // An item's master data.
+    pub(crate) fn entry(&self, item: usize) -> Item
+        requires { item < count self.now }
+        ensures value { result ≡ item_at self.now item }
+        ensures within { IsPlannable result }
+    {
+        self.shop().tables().items()[item]
+    }
+
+    // The firm rows of an item.
+    pub(crate) fn firm(&self, item: usize) -> &[Due]
+        requires { item < count self.now }
+        ensures { result.now ≡ firm_dues self.now.tables.master item }
+    {
+        self.firm.of(item)
+    }
+
+    // The forecasts of an item.
+    pub(crate) fn forecasts(&self, item: usize) -> &[Due]
+        requires { item < count self.now }
+        ensures { result.now ≡ forecast_dues self.now.tables.master item }
+    {
+        self.forecasts.of(item)
+    }
+
+    // The open receipts of an item.
+    pub(crate) fn receipts(&self, item: usize) -> &[Due]
+        requires { item < count self.now }
+        ensures { result.now ≡ receipt_dues self.now.tables.receipts item }
+    {
+        self.receipts.of(item)
+    }
+
+    // The bookings of an item.
+    pub(crate) fn bookings(&self, item: usize) -> &[Due]
+        requires { item < count self.now }
+        ensures { result.now ≡ booking_dues self.now.standing item }
+    {
+        self.bookings.of(item)
+    }
+
+    // What is on hand of an item; None past the greatest quantity.
+    pub(crate) fn on_hand(&self, item: usize) -> Option<Qty>
+        requires { item < count self.now }
+        ensures { result ≡ quantity_of (on_hand self.now item) }
+    {
+        self.on_hand[item]
+    }
+}

@@ -1,0 +1,193 @@
+//! The orders of an item, from its firm rows and its planned receipts.
+
+ghost use Rattle.std.specs.Prelude.{◌≡◌, ◌≤◌, ◌<◌, ◌+◌, ◌-◌, ◌++◌, ◌∷◌, [], length, map, max, sum_by, IfOk, OnOk, IfErr, MatchOption};
+ghost use Rattle.mrp_qty.specs.Quantity.{greatest_quantity, quantity_of};
+ghost use Rattle.mrp_item.specs.Limits.{IsPlannable};
+ghost use Rattle.mrp_item.specs.Inputs.{count, horizon};
+ghost use Rattle.mrp_item.specs.Dues.{due_in};
+ghost use Rattle.mrp_item.specs.Orders.{order_of, orders_due, orders_of, planned_order, start_of};
+ghost use Rattle.mrp_item.specs.declared.order.OrderKind.TheVariants.{Firm};
+
+use crate::due::Due;
+use crate::inputs::Inputs;
+use crate::order::{Order, OrderKind};
+use crate::stop::Stop;
+use mrp_phase::Weeks;
+use mrp_qty::{NoMemory, Qty};
+use mrp_tables::Item;
+use std::alloc::Global;
+use std::marker::Model;
+
+// Orders, and what starts of them in all.
+#[derive(Drop)]
+pub struct OrderList {
+    orders: Vec<Order>,
+    started: Qty,
+}
+
+impl Model for OrderList {
+    ghost use Rattle.std.specs.Prelude.{◌≡◌, List, sum_by};
+    ghost use Rattle.mrp_item.specs.declared.order.Order.{Order};
+
+    ghost Value = { List Order };
+
+    ghost view = { λ o. o.orders.items };
+
+    ghost invariant = { λ o. o.started ≡ sum_by (λ x. x.start) o.orders.items };
+}
+
+// What has to start so that a quantity is left after scrap; None past the greatest quantity.
+fn start_for(quantity: Qty, scrap: u64) -> Option<Qty>
+    requires { scrap ≤ 900 }
+    ensures { result ≡ quantity_of (start_of scrap quantity) }
+{
+    Qty::new((quantity.value() * 1000).div_ceil(1000 - scrap))
+}
+
+// An order for a quantity that is due in a week; None where its start passes the greatest quantity.
+fn order(item: &Item, kind: OrderKind, due: u16, quantity: Qty) -> Option<Order>
+    requires { IsPlannable item.now }
+    ensures { MatchOption result (greatest_quantity < start_of item.now.scrap quantity) (λ order. order ≡ order_of item.now kind due quantity) }
+{
+    let start = start_for(quantity, item.scrap)?;
+    let lead = item.lead as u16;
+    Some(Order {
+        kind,
+        due,
+        quantity,
+        start,
+        release: due.saturating_sub(lead).max(1),
+        late: (1 + lead).saturating_sub(due),
+    })
+}
+
+impl OrderList {
+    // No orders, with room for so many.
+    fn with_room(alloc: Global, room: usize) -> Result<OrderList, NoMemory>
+        ensures { IfOk result (λ list. list ≡ []) }
+    {
+        Ok(OrderList {
+            orders: Vec::with_capacity(alloc, room)?,
+            started: Qty::new(0).unwrap(),
+        })
+    }
+
+    // The orders.
+    pub fn into_vec(self) -> Vec<Order>
+        ensures orders { result.items ≡ self }
+        ensures within { sum_by (λ order. order.start) self ≤ greatest_quantity }
+    {
+        let OrderList { orders, started } = self;
+        let _within = started.value();
+        orders
+    }
+
+    // Puts an order at the end.
+    fn push(&mut self, order: Order) -> Result<(), Stop>
+        ensures added { OnOk result (self.new ≡ self.old ++ order ∷ []) }
+        ensures over { IfErr result (λ stop. stop ≡ Stop.Over → greatest_quantity < sum_by (λ x. x.start) self.old + order.start) }
+    {
+        let Some(started) = self.started.add(order.start) else {
+            return Err(Stop::Over);
+        };
+        self.orders.push(order)?;
+        self.started = started;
+        Ok(())
+    }
+
+    // Puts an order of an item at the end.
+    fn add(&mut self, item: &Item, kind: OrderKind, due: u16, quantity: Qty) -> Result<(), Stop>
+        requires { IsPlannable item.now }
+        ensures added { OnOk result (self.new ≡ self.old ++ order_of item.now kind due quantity ∷ []) }
+        ensures over { IfErr result (λ stop. stop ≡ Stop.Over → greatest_quantity < sum_by (λ x. x.start) self.old + start_of item.now.scrap quantity) }
+    {
+        match order(item, kind, due, quantity) {
+            Some(order) => self.push(order),
+            None => Err(Stop::Over),
+        }
+    }
+
+    // Puts the firm orders of a week at the end.
+    fn add_firm(&mut self, item: &Item, week: u16, dues: &[Due]) -> Result<(), Stop>
+        requires { IsPlannable item.now }
+        ensures added { OnOk result (self.new ≡ self.old ++ map (order_of item.now Firm week) (due_in week dues.now)) }
+        ensures over { IfErr result (λ stop. stop ≡ Stop.Over → greatest_quantity < sum_by (λ x. x.start) (self.old ++ map (order_of item.now Firm week) (due_in week dues.now))) }
+    {
+        for due in dues {
+            if due.week == week {
+                self.add(item, OrderKind::Firm, week, due.quantity)?;
+            }
+        }
+        Ok(())
+    }
+
+    // Puts the planned order of a week at the end, if there is one.
+    fn add_planned(
+        &mut self,
+        item: &Item,
+        week: u16,
+        before: Qty,
+        received: Qty,
+    ) -> Result<(), Stop>
+        requires { IsPlannable item.now }
+        ensures added { OnOk result (self.new ≡ self.old ++ planned_order item.now week before received) }
+        ensures over { IfErr result (λ stop. stop ≡ Stop.Over → greatest_quantity < sum_by (λ x. x.start) (self.old ++ planned_order item.now week before received)) }
+    {
+        let more = received.value().saturating_sub(before.value());
+        if more == 0 {
+            return Ok(());
+        }
+        let quantity = Qty::new(more).unwrap();
+        self.add(item, OrderKind::Planned, week, quantity)
+    }
+
+    // Puts the orders of a week at the end: the firm ones, then the planned one.
+    fn add_week(
+        &mut self,
+        item: &Item,
+        week: u16,
+        dues: &[Due],
+        before: Qty,
+        received: Qty,
+    ) -> Result<(), Stop>
+        requires { IsPlannable item.now }
+        ensures added { OnOk result (self.new ≡ self.old ++ (map (order_of item.now Firm week) (due_in week dues.now) ++ planned_order item.now week before received)) }
+        ensures over { IfErr result (λ stop. stop ≡ Stop.Over → greatest_quantity < sum_by (λ x. x.start) (self.old ++ (map (order_of item.now Firm week) (due_in week dues.now) ++ planned_order item.now week before received))) }
+    {
+        self.add_firm(item, week, dues)?;
+        self.add_planned(item, week, before, received)
+    }
+}
+
+// In how many weeks receipts are above those before.
+fn rises(receipts: &[Qty]) -> usize {
+    receipts
+        .windows(2)
+        .filter(|pair| pair[0] != pair[1])
+        .count()
+        + 1
+}
+
+// The orders of an item, from its receipts up to each week.
+pub fn orders_for(
+    alloc: Global,
+    inputs: &Inputs,
+    item: usize,
+    receipts: &[Qty],
+) -> Result<OrderList, Stop>
+    requires item { item < count inputs.now }
+    requires weeks { length receipts.now ≡ horizon inputs.now }
+    ensures value { IfOk result (λ list. list ≡ orders_of inputs.now item receipts.now) }
+    ensures over { IfErr result (λ stop. stop ≡ Stop.Over → greatest_quantity < sum_by (λ order. order.start) (orders_of inputs.now item receipts.now)) }
+{
+    let entry = inputs.entry(item);
+    let dues = inputs.firm(item);
+    let mut list = OrderList::with_room(alloc, dues.len().saturating_add(rises(receipts)))?;
+    let mut before = Qty::new(0).unwrap();
+    for place in 0..inputs.weeks() {
+        let received = receipts[usize::from(place)];
+        list.add_week(&entry, place + 1, dues, before, received)?;
+        before = received;
+    }
+    Ok(list)
+}

@@ -1,0 +1,90 @@
+//! The plan of every item.
+
+use crate::inputs::Inputs;
+use crate::order::Order;
+use crate::outcome::{Outcome, Planned};
+use std::marker::Model;
+use std::sync::Arc;
+
+/// The plan of every item, for the inputs that it holds.
+#[derive(Drop)]
+pub struct Plan {
+    inputs: Arc<Inputs>,
+    outcomes: Vec<Outcome>,
+}
+
+impl Model for Plan {
+    ghost use Rattle.mrp_item.specs.Places.{WholePlan};
+
+    ghost Value = { WholePlan };
+
+    ghost use Rattle.mrp_item.specs.Whole.{IsWhole, whole_view};
+
+    ghost view = { whole_view };
+
+    ghost invariant = { IsWhole };
+}
+
+impl Plan {
+    ghost use Rattle.std.specs.Prelude.{◌≡◌, ◌<◌, All, IfOk, IfErr, Ok, Err, length, map};
+    ghost use Rattle.std.specs.List.{range_with_len};
+    ghost use Rattle.mrp_item.specs.Inputs.{count, places};
+    ghost use Rattle.mrp_item.specs.Made.{inputs_in, item_in};
+    ghost use Rattle.mrp_item.specs.Plan.{outcome_of, plan_in, plan_of};
+
+    /// The plan that every item's outcome makes, in table order, or the first item that is over. It
+    /// takes no memory. It needs the outcomes of all items, in table order, of equal inputs.
+    pub fn of(inputs: Arc<Inputs>, outcomes: Vec<Outcome>) -> Result<Plan, usize>
+        requires items { map item_in outcomes.items ≡ places inputs.value }
+        requires inputs { All (λ o. inputs_in o ≡ inputs.value) outcomes.items }
+        ensures plan { IfOk result (λ plan. plan_of inputs.value ≡ Ok plan.plans) }
+        ensures inputs { IfOk result (λ plan. plan.inputs ≡ inputs.value) }
+        ensures over { IfErr result (λ item. plan_of inputs.value ≡ Err item) }
+    {
+        let all = outcomes.as_slice();
+        for outcome in all {
+            if outcome.is_over() {
+                return Err(outcome.item());
+            }
+        }
+        Ok(Plan { inputs, outcomes })
+    }
+
+    /// What the items are planned from.
+    pub fn inputs(&self) -> &Arc<Inputs>
+        ensures inputs { result.now.value ≡ self.now.inputs }
+        ensures plan { plan_of self.now.inputs ≡ Ok self.now.plans }
+    {
+        &self.inputs
+    }
+
+    /// The plan of an item, by its place.
+    pub fn item(&self, item: usize) -> &Planned
+        requires { item < count self.now.inputs }
+        ensures { result.now ≡ record { inputs = self.now.inputs; item = item; plan = plan_in (outcome_of self.now.inputs item) } }
+    {
+        let _ranked = self.inputs.shop();
+        match &self.outcomes[item] {
+            Outcome::Planned(planned) => {
+                let _outcome = planned.inputs();
+                planned
+            }
+            Outcome::Over(over) => {
+                let _outcome = over.inputs();
+                unreachable!()
+            }
+            Outcome::Blocked(blocked) => {
+                let _outcome = blocked.inputs();
+                unreachable!()
+            }
+        }
+    }
+
+    /// The orders of an item, by its place: by due week, firm ones first.
+    pub fn orders(&self, item: usize) -> &[Order]
+        requires { item < count self.now.inputs }
+        ensures { result.now ≡ (plan_in (outcome_of self.now.inputs item)).orders }
+    {
+        self.item(item).orders()
+    }
+}

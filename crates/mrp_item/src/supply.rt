@@ -1,0 +1,81 @@
+//! What an item has without planning, and what is demanded of a master item.
+
+ghost use Rattle.std.specs.Prelude.{◌≡◌, ◌<◌, ◌+◌, ℕ, length, max, sum, IfOk, IfErr};
+ghost use Rattle.mrp_qty.specs.Quantity.{greatest_quantity};
+ghost use Rattle.mrp_phase.specs.Weeks.{in_week, row};
+ghost use Rattle.mrp_item.specs.Inputs.{count, horizon, is_master, is_master_class};
+ghost use Rattle.mrp_item.specs.Rows.{demand, scheduled_in, stock_of};
+ghost use Rattle.mrp_item.specs.Dues.{due_sum};
+
+use crate::due::{Due, dated};
+use crate::inputs::Inputs;
+use crate::stop::Stop;
+use mrp_net::Stock;
+use mrp_phase::Weeks;
+use mrp_qty::{NoMemory, Qty};
+use mrp_tables::Class;
+use std::alloc::Global;
+
+pub fn is_master_item(class: Class) -> bool
+    ensures { result ≡ is_master_class class }
+{
+    match class {
+        Class::Master => true,
+        Class::Part => false,
+    }
+}
+
+// The firm rows of a master item, and the open receipts of another.
+fn scheduled_dues(inputs: &Inputs, item: usize) -> &[Due]
+    requires { item < count inputs.now }
+    ensures { (week : ℕ) → due_sum result.now week ≡ scheduled_in inputs.now item week }
+{
+    if is_master_item(inputs.entry(item).class) {
+        inputs.firm(item)
+    } else {
+        inputs.receipts(item)
+    }
+}
+
+// What an item has without planning.
+pub fn stock_for(alloc: Global, inputs: &Inputs, item: usize) -> Result<Stock, Stop>
+    requires { item < count inputs.now }
+    ensures value { IfOk result (λ stock. stock ≡ stock_of inputs.now item) }
+    ensures over { IfErr result (λ stop. stop ≡ Stop.Over → greatest_quantity < (stock_of inputs.now item).on_hand + sum (stock_of inputs.now item).scheduled) }
+{
+    let entry = inputs.entry(item);
+    let Some(on_hand) = inputs.on_hand(item) else {
+        return Err(Stop::Over);
+    };
+    let scheduled = dated(alloc, inputs.weeks(), scheduled_dues(inputs, item))?;
+    Ok(Stock {
+        on_hand,
+        safety: entry.safety,
+        scheduled,
+    })
+}
+
+// The greater of two rows in each week.
+#[tactic(auto, using(mrp_phase::proofs::WeekRows::row_none, mrp_phase::proofs::WeekRows::row_more, mrp_phase::proofs::WeekRows::in_week_next))]
+fn higher(alloc: Global, one: &[Qty], other: &[Qty]) -> Result<Weeks<Qty>, NoMemory>
+    requires { length other.now ≡ length one.now }
+    ensures { IfOk result (λ w. w ≡ row (length one.now) (λ week. max (in_week one.now week) (in_week other.now week))) }
+{
+    let mut greater = Vec::with_capacity(alloc, one.len())?;
+    for i in 0..one.len() {
+        greater.push(one[i].max(other[i]))?;
+    }
+    Ok(Weeks::from_vec(greater))
+}
+
+// What is demanded of a master item in each week.
+pub fn demand_row(alloc: Global, inputs: &Inputs, item: usize) -> Result<Weeks<Qty>, Stop>
+    requires { item < count inputs.now }
+    ensures value { IfOk result (λ w. w ≡ row (horizon inputs.now) (demand inputs.now item)) }
+    ensures over { IfErr result (λ stop. stop ≡ Stop.Over → greatest_quantity < sum (row (horizon inputs.now) (demand inputs.now item))) }
+{
+    let weeks = inputs.weeks();
+    let forecast = dated(alloc, weeks, inputs.forecasts(item))?;
+    let booked = dated(alloc, weeks, inputs.bookings(item))?;
+    Ok(higher(alloc, forecast.as_slice(), booked.as_slice())?)
+}

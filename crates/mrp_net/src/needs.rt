@@ -1,0 +1,115 @@
+//! What an item needs up to each week.
+
+ghost use Rattle.std.specs.Prelude.{◌≡◌, ◌≤◌, ◌<◌, ◌+◌, ◌-◌, ◌⊎◌, length, sum, IfOk, OnOk, IsErrOf};
+ghost use Rattle.mrp_qty.specs.Quantity.{greatest_quantity};
+ghost use Rattle.mrp_phase.specs.Weeks.{in_week, row};
+ghost use Rattle.mrp_net.specs.Need.{IsNeed, need};
+
+use crate::fault::NetFault;
+use crate::stock::Stock;
+use mrp_phase::Weeks;
+use mrp_qty::Qty;
+use std::alloc::Global;
+use std::marker::Model;
+
+/// What is needed up to each week, beyond what is there. It does not fall.
+#[derive(Drop)]
+pub struct NeedRow {
+    needs: Vec<Qty>,
+}
+
+impl Model for NeedRow {
+    ghost use Rattle.std.specs.Prelude.{ℕ, List, length};
+    ghost use Rattle.mrp_phase.specs.Weeks.{in_week};
+    ghost use Rattle.mrp_net.specs.Need.{IsNeed};
+
+    ghost Value = { List ℕ };
+
+    ghost view = { λ n. n.needs.items };
+
+    ghost invariant = { λ n. IsNeed (length n.needs.items) (in_week n.needs.items) };
+}
+
+impl NeedRow {
+    /// The needs up to each week, from week 1 on.
+    pub fn as_slice(&self) -> &[Qty]
+        ensures value { result.now ≡ self.now }
+        ensures rises { IsNeed (length result.now) (in_week result.now) }
+    {
+        self.needs.as_slice()
+    }
+}
+
+// Requirements and supplies up to a week, and the greatest shortage so far.
+#[derive(Clone, Copy)]
+struct SoFar {
+    required: Qty,
+    supplied: Qty,
+    shortage: Qty,
+}
+
+// By how much one quantity is above another, or 0.
+fn excess(required: Qty, supplied: Qty) -> Qty
+    ensures { result ≡ required - supplied }
+{
+    let more = required.value().saturating_sub(supplied.value());
+    Qty::new(more).unwrap()
+}
+
+impl SoFar {
+    ghost use Rattle.std.specs.Prelude.{◌≡◌, ◌<◌, ◌+◌, ◌⊎◌, MatchOption};
+    ghost use Rattle.mrp_qty.specs.Quantity.{greatest_quantity};
+    ghost use Rattle.mrp_net.specs.SoFar.{AddsWeek, IsStart};
+
+    // Before the first week.
+    fn start(safety: Qty, on_hand: Qty) -> SoFar
+        ensures { IsStart safety on_hand result }
+    {
+        let shortage = excess(safety, safety);
+        let _limits = (safety.value(), on_hand.value());
+        SoFar {
+            required: safety,
+            supplied: on_hand,
+            shortage,
+        }
+    }
+
+    // One more week; None where requirements or supplies pass the greatest quantity.
+    fn with(self, gross: Qty, scheduled: Qty) -> Option<SoFar>
+        ensures { MatchOption result ((greatest_quantity < self.required + gross) ⊎ (greatest_quantity < self.supplied + scheduled)) (AddsWeek self gross scheduled) }
+    {
+        let required = self.required.add(gross)?;
+        let supplied = self.supplied.add(scheduled)?;
+        Some(SoFar {
+            required,
+            supplied,
+            shortage: self.shortage.max(excess(required, supplied)),
+        })
+    }
+}
+
+/// The net requirements up to each week, by the gross requirements of each (Orlicky: netting).
+///
+/// Errors: `TooLarge` where gross requirements and safety stock, or what is on hand and scheduled,
+/// add up to more than the greatest quantity, `NoMemory` where the row's memory is refused.
+#[tactic(auto, using(mrp_phase::proofs::WeekRows::row_none, mrp_phase::proofs::WeekRows::row_more, mrp_phase::proofs::WeekRows::sum_to_whole, mrp_phase::proofs::WeekRows::sum_to_next, mrp_phase::proofs::WeekRows::in_week_next, mrp_phase::proofs::WeekRows::greatest_none, mrp_phase::proofs::WeekRows::greatest_more))]
+pub fn need(alloc: Global, gross: &Weeks<Qty>, stock: &Stock) -> Result<NeedRow, NetFault>
+    requires { length stock.now.scheduled ≡ length gross.now }
+    ensures value { IfOk result (λ n. n ≡ row (length gross.now) (need stock.now gross.now)) }
+    ensures requirements { OnOk result (sum gross.now + stock.now.safety ≤ greatest_quantity) }
+    ensures supplies { OnOk result (stock.now.on_hand + sum stock.now.scheduled ≤ greatest_quantity) }
+    ensures too_large { IsErrOf result NetFault.TooLarge → (greatest_quantity < sum gross.now + stock.now.safety) ⊎ (greatest_quantity < stock.now.on_hand + sum stock.now.scheduled) }
+{
+    let gross = gross.as_slice();
+    let scheduled = stock.scheduled.as_slice();
+    let mut needs = Vec::with_capacity(alloc, gross.len())?;
+    let mut so_far = SoFar::start(stock.safety, stock.on_hand);
+    for i in 0..gross.len() {
+        let Some(next) = so_far.with(gross[i], scheduled[i]) else {
+            return Err(NetFault::TooLarge);
+        };
+        so_far = next;
+        needs.push(so_far.shortage)?;
+    }
+    Ok(NeedRow { needs })
+}

@@ -1,0 +1,34 @@
+//! Why a row is refused.
+
+ghost use Rattle.std.specs.Prelude.{◌≡◌};
+ghost use Rattle.mrp_phase.specs.declared.fault.PhaseFault.TheVariants.{NoMemory};
+
+use std::alloc::{AllocError, AllocFailed};
+use thiserror::Error;
+
+/// Why a row over weeks could not be made.
+#[derive(Clone, Copy, Debug, PartialEq, Eq, Error)]
+pub enum PhaseFault {
+    /// A sum passes the greatest quantity.
+    #[error("a sum over weeks is too large")]
+    TooLarge,
+    /// A growth of memory was refused.
+    #[error("no memory")]
+    NoMemory,
+}
+
+impl From<AllocError> for PhaseFault {
+    ghost from_gives = { λ _ e. e ≡ NoMemory };
+
+    fn from(_refused: AllocError) -> PhaseFault {
+        PhaseFault::NoMemory
+    }
+}
+
+impl<T: Drop> From<AllocFailed<T>> for PhaseFault {
+    ghost from_gives = { λ _ e. e ≡ NoMemory };
+
+    fn from(_refused: AllocFailed<T>) -> PhaseFault {
+        PhaseFault::NoMemory
+    }
+}

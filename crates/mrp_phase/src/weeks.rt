@@ -1,0 +1,208 @@
+//! Rows over weeks.
+
+ghost use Rattle.std.specs.Prelude.{◌≡◌, ◌≤◌, ◌<◌, ◌+◌, ◌↔◌, length, sum, replicate, IfOk, OnOk, OnSome, IfNone, IsSome, IsErrOf, IsOkUnless};
+ghost use Rattle.mrp_qty.specs.Quantity.{greatest_quantity};
+ghost use Rattle.mrp_phase.specs.Weeks.{greatest_to, in_week, row, sum_to, with_week};
+
+use crate::fault::PhaseFault;
+use mrp_qty::Qty;
+use std::alloc::Global;
+use std::marker::Model;
+
+/// A value for each week of a horizon. Weeks count from 1 (Orlicky: time phasing).
+#[derive(Drop)]
+pub struct Weeks<T> {
+    values: Vec<T>,
+}
+
+impl<T> Model for Weeks<T> {
+    ghost use Rattle.std.specs.Prelude.{List};
+
+    ghost Value = { List T };
+
+    ghost view = { λ w. w.values.items };
+}
+
+impl<T> Weeks<T> {
+    /// The row that has these values, from week 1 on. It takes no memory.
+    pub fn from_vec(values: Vec<T>) -> Weeks<T>
+        ensures { result ≡ values.items }
+    {
+        Self { values }
+    }
+
+    /// The values, from week 1 on. It takes no memory.
+    pub fn into_vec(self) -> Vec<T>
+        ensures { result.items ≡ self }
+    {
+        let Weeks { values } = self;
+        values
+    }
+
+    /// The values, from week 1 on.
+    pub fn as_slice(&self) -> &[T]
+        ensures { result.now ≡ self.now }
+    {
+        self.values.as_slice()
+    }
+
+    /// The number of weeks.
+    pub fn weeks(&self) -> usize
+        ensures { result ≡ length self.now }
+    {
+        self.values.len()
+    }
+}
+
+fn nothing() -> Qty
+    ensures { result ≡ 0 }
+{
+    Qty::new(0).unwrap()
+}
+
+impl Weeks<Qty> {
+    /// Nothing in each of so many weeks.
+    ///
+    /// Errors: `NoMemory` where the row's memory is refused.
+    pub fn zero(alloc: Global, weeks: u16) -> Result<Weeks<Qty>, PhaseFault>
+        ensures value { IfOk result (λ w. w ≡ replicate weeks 0) }
+        ensures memory { IsOkUnless result PhaseFault.NoMemory }
+    {
+        let quantities = vec![in alloc; nothing(); usize::from(weeks)]?;
+        Ok(Weeks::from_vec(quantities))
+    }
+
+    /// The sums up to each week.
+    ///
+    /// Errors: `TooLarge` where a sum passes the greatest quantity, `NoMemory` where the row's
+    /// memory is refused.
+    #[tactic(auto, using(crate::proofs::WeekRows::row_none, crate::proofs::WeekRows::row_more, crate::proofs::WeekRows::sum_to_whole, std::proofs::lemmas::List::Sums::sum_by_more))]
+    pub fn cumulative(&self, alloc: Global) -> Result<Weeks<Qty>, PhaseFault>
+        ensures sums { IfOk result (λ w. w ≡ row (length self.now) (sum_to self.now)) }
+        ensures within { OnOk result (sum self.now ≤ greatest_quantity) }
+        ensures too_large { IsErrOf result PhaseFault.TooLarge → greatest_quantity < sum self.now }
+    {
+        let quantities = self.as_slice();
+        let mut sums = Vec::with_capacity(alloc, quantities.len())?;
+        let mut so_far = nothing();
+        for quantity in quantities {
+            so_far = so_far.add(*quantity).ok_or(PhaseFault::TooLarge)?;
+            sums.push(so_far)?;
+        }
+        Ok(Weeks::from_vec(sums))
+    }
+
+    /// The greatest quantities up to each week.
+    ///
+    /// Errors: `NoMemory` where the row's memory is refused.
+    #[tactic(auto, using(crate::proofs::WeekRows::row_none, crate::proofs::WeekRows::row_more, crate::proofs::WeekRows::greatest_none, crate::proofs::WeekRows::greatest_more, crate::proofs::WeekRows::in_week_next))]
+    pub fn prefix_max(&self, alloc: Global) -> Result<Weeks<Qty>, PhaseFault>
+        ensures value { IfOk result (λ w. w ≡ row (length self.now) (greatest_to (in_week self.now))) }
+        ensures memory { IsOkUnless result PhaseFault.NoMemory }
+    {
+        let quantities = self.as_slice();
+        let mut greatest = Vec::with_capacity(alloc, quantities.len())?;
+        let mut so_far = nothing();
+        for quantity in quantities {
+            so_far = so_far.max(*quantity);
+            greatest.push(so_far)?;
+        }
+        Ok(Weeks::from_vec(greatest))
+    }
+
+    /// The quantity of a week.
+    #[tactic(auto, using(crate::proofs::WeekRows::in_week_at))]
+    pub fn at(&self, week: u16) -> Qty
+        requires first { 0 < week }
+        requires last { week ≤ length self.now }
+        ensures { result ≡ in_week self.now week }
+    {
+        self.values[usize::from(week) - 1]
+    }
+
+    /// Adds to the quantity of a week; None, and nothing changed, where the sum passes 10^15.
+    #[tactic(auto, using(crate::proofs::WeekRows::in_week_at, crate::proofs::WeekRows::with_week_at))]
+    pub fn add_at(&mut self, week: u16, more: Qty) -> Option<()>
+        requires first { 0 < week }
+        requires last { week ≤ length self.old }
+        ensures fits { IsSome result ↔ (in_week self.old week + more ≤ greatest_quantity) }
+        ensures added { OnSome result (self.new ≡ with_week self.old week (in_week self.old week + more)) }
+        ensures unchanged { IfNone result (self.new ≡ self.old) }
+    {
+        let place = usize::from(week) - 1;
+        self.values[place] = self.values[place].add(more)?;
+        Some(())
+    }
+}
+
+#[cfg(test)]
+mod tests {
+    use super::*;
+    use std::test::Fail;
+
+    fn row_of(alloc: Global, quantities: &[u64]) -> Result<Weeks<Qty>, Fail> {
+        let mut values = Vec::new(alloc);
+        for quantity in quantities {
+            values.push(Qty::new(*quantity).ok_or("a quantity")?)?;
+        }
+        Ok(Weeks::from_vec(values))
+    }
+
+    #[test]
+    fn sums_grow_week_by_week(rt: HostRuntime) -> Result<(), Fail> {
+        let row = row_of(rt.alloc(), &[10, 8, 12, 6, 25, 0])?;
+        let sums = row_of(rt.alloc(), &[10, 18, 30, 36, 61, 61])?;
+        assert_eq!(rt; row.cumulative(rt.alloc())?.as_slice(), sums.as_slice());
+        Ok(())
+    }
+
+    #[test]
+    fn greatest_quantities_grow_week_by_week(rt: HostRuntime) -> Result<(), Fail> {
+        let row = row_of(rt.alloc(), &[1, 21, 6, 29, 29, 29])?;
+        let greatest = row_of(rt.alloc(), &[1, 21, 21, 29, 29, 29])?;
+        assert_eq!(rt; row.prefix_max(rt.alloc())?.as_slice(), greatest.as_slice());
+        Ok(())
+    }
+
+    #[test]
+    fn a_sum_past_the_greatest_quantity_is_not_added(rt: HostRuntime) -> Result<(), Fail> {
+        let mut row = row_of(rt.alloc(), &[7, 1, 7])?;
+        assert_eq!(rt; row.weeks(), 3);
+        let greatest = Qty::new(1_000_000_000_000_000).ok_or("a quantity")?;
+        assert_eq!(rt; row.add_at(2, greatest), None);
+        assert_eq!(rt; row.as_slice(), row_of(rt.alloc(), &[7, 1, 7])?.as_slice());
+        Ok(())
+    }
+
+    #[test]
+    fn a_quantity_is_added_in_one_week(rt: HostRuntime) -> Result<(), Fail> {
+        let mut row = Weeks::zero(rt.alloc(), 3)?;
+        let five = Qty::new(5).ok_or("a quantity")?;
+        assert_eq!(rt; row.weeks(), 3);
+        assert_eq!(rt; row.add_at(2, five), Some(()));
+        assert_eq!(rt; row.weeks(), 3);
+        assert_eq!(rt; row.add_at(2, five), Some(()));
+        assert_eq!(rt; row.weeks(), 3);
+        assert_eq!(rt; row.at(2).value(), 10);
+        assert_eq!(rt;
+            row.into_vec().as_slice(),
+            row_of(rt.alloc(), &[0, 10, 0])?.as_slice()
+        );
+        Ok(())
+    }
+
+    #[test]
+    fn sums_reach_the_greatest_quantity_and_no_more(rt: HostRuntime) -> Result<(), Fail> {
+        let reached = row_of(rt.alloc(), &[999_999_999_999_999, 1])?;
+        assert_eq!(rt;
+            reached.cumulative(rt.alloc())?.as_slice(),
+            row_of(rt.alloc(), &[999_999_999_999_999, 1_000_000_000_000_000])?.as_slice()
+        );
+        let passed = row_of(rt.alloc(), &[999_999_999_999_999, 1, 1])?;
+        assert_eq!(rt;
+            passed.cumulative(rt.alloc()).err(),
+            Some(PhaseFault::TooLarge)
+        );
+        Ok(())
+    }
+}
