@@ -1,6 +1,6 @@
 -- What lines ask, one week and one line at a time.
-use Rattle.std.proofs.Common.{◌≡◌, ◌≢◌, ◌∙◌, ℕ, zero, suc, ◌+◌, ◌-◌, ◌*◌, ◌<◌, ◌≤◌, ◌⊎◌, inl, inr, Bool, true, false, cond, eqb, List, [], ◌∷◌, ◌++◌, length, take, map, get_or, refl, sym, ap, arith}
-use Rattle.std.specs.Prelude.{filter, sum, sum_by, replicate}
+use Rattle.std.proofs.Common.{◌≡◌, ◌∙◌, ℕ, ◌+◌, ◌-◌, ◌*◌, ◌<◌, ◌≤◌, List, [], ◌∷◌, length, take, map, get_or, sym, ap, arith}
+use Rattle.std.specs.Prelude.{sum, sum_by, replicate}
 use Rattle.mrp_qty.specs.Quantity.{greatest_quantity}
 use Rattle.mrp_phase.specs.Weeks.{row, in_week}
 use Rattle.mrp_phase.proofs.WeekRows.{in_week_next, row_is, row_same, in_week_row, length-row, sum-row_above, in_week_at, in_week_replicate}

@@ -1,5 +1,5 @@
 -- A sample shop, and its plan by computation.
-use Rattle.std.proofs.Common.{◌≡◌, ℕ, List, [], ◌∷◌, refl, rules, true, false}
+use Rattle.std.proofs.Common.{◌≡◌, ℕ, [], ◌∷◌, refl, rules, true, false}
 use Rattle.std.specs.Prelude.{Ok, pos, codes}
 use Rattle.jiff.specs.Types.{Date}
 use Rattle.mrp_cal.specs.Calendar.{ShopCalendar}

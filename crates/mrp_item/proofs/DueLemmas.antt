@@ -1,13 +1,13 @@
 -- What is due, one row at a time.
-use Rattle.std.proofs.Common.{◌≡◌, ◌≢◌, ◌∙◌, ℕ, zero, suc, ◌+◌, ◌<◌, ◌≤◌, Bool, true, false, cond, eqb, List, [], ◌∷◌, ◌++◌, length, take, map, get_or, replicate, set, refl, sym, ap, arith}
+use Rattle.std.proofs.Common.{◌≡◌, ◌≢◌, ◌∙◌, ℕ, zero, ◌+◌, ◌<◌, ◌≤◌, Bool, true, false, cond, eqb, List, [], ◌∷◌, ◌++◌, length, take, map, get_or, replicate, set, refl, sym, ap, arith}
 use Rattle.std.specs.Prelude.{filter, sum, sum_by}
 use Rattle.std.proofs.lemmas.List.{length-replicate, map-append, map-set, length-map, get_or-map, get_or-set_same, get_or-set_other, append-nil}
 use Rattle.std.proofs.lemmas.List.Elements.{filter_more}
 use Rattle.std.specs.Global.{Vec}
-use Rattle.std.proofs.lemmas.Bool.{eqb-true, eqb-false, eq-eqb, ne_eqb}
+use Rattle.std.proofs.lemmas.Bool.{eqb-true, eqb-false, eq-eqb}
 use Rattle.std.proofs.lemmas.List.Sums.{sum_by-cons, sum_by_more, sum_by_more_le}
 use Rattle.mrp_phase.specs.Weeks.{row, in_week, with_week}
-use Rattle.mrp_phase.proofs.WeekRows.{row_is, row_same, with_week-row, in_week_row, in_week_changed, in_week_kept, in_week_replicate, length-with_week}
+use Rattle.mrp_phase.proofs.WeekRows.{row_is, row_same, in_week_row, in_week_changed, in_week_kept, in_week_replicate, length-with_week}
 use Rattle.mrp_item.specs.declared.due.Due.{Due}
 use Rattle.mrp_item.specs.Dues.{due_in, due_sum, dues_of, listed, with_due}
 

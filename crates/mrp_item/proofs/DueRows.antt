@@ -1,5 +1,5 @@
 -- What is due of an item is what its rows say.
-use Rattle.std.proofs.Common.{◌≡◌, ◌∙◌, ℕ, ◌+◌, ◌<◌, ◌≤◌, max, Bool, true, false, cond, eqb, List, [], ◌∷◌, map, refl, sym, ap, arith}
+use Rattle.std.proofs.Common.{◌≡◌, ◌∙◌, ℕ, ◌<◌, ◌≤◌, Bool, true, false, cond, eqb, List, [], ◌∷◌, map, refl, sym, ap, arith}
 use Rattle.std.specs.Prelude.{filter, sum, sum_by, ◌&&◌, nat_le, Some, None}
 use Rattle.std.proofs.lemmas.List.Sums.{sum-map}
 use Rattle.mrp_qty.specs.Quantity.{greatest_quantity, quantity_of}

@@ -5,6 +5,7 @@ pub mod OrderWeeks
 pub mod Asks
 pub mod Parents
 pub mod StartedRows
+pub mod PlannedStock
 pub mod ReceiptRows
 pub mod OwnPlan
 pub mod Firsts

@@ -2,11 +2,10 @@
 use Rattle.std.proofs.Common.{◌≡◌, ℕ, List, [], ◌∷◌, refl, map}
 use Rattle.std.specs.Prelude.{Ok, Err, None}
 use Rattle.mrp_tables.specs.declared.item.Class.TheVariants.{Master, Part}
-use Rattle.mrp_tables.specs.declared.item.LotRule.TheVariants.{LotForLot, Fixed, Period}
+use Rattle.mrp_tables.specs.declared.item.LotRule.TheVariants.{LotForLot, Fixed}
 use Rattle.mrp_tables.specs.declared.item.Item.{Item}
 use Rattle.mrp_tables.specs.declared.rows.BillLine.{BillLine}
 use Rattle.mrp_tables.specs.declared.rows.MasterRow.{MasterRow}
-use Rattle.mrp_tables.specs.declared.rows.Receipt.{Receipt}
 use Rattle.mrp_tables.specs.declared.rows.StockRow.{StockRow}
 use Rattle.mrp_book.specs.declared.order.Booking.{Booking}
 use Rattle.mrp_phase.specs.Weeks.{row, in_week, greatest_to}

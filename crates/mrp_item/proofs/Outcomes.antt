@@ -1,5 +1,5 @@
 -- Outcomes: what they unfold to, and where they are Over and Blocked.
-use Rattle.std.proofs.Common.{◌≡◌, ◌≢◌, ◌∙◌, ◌+◌, ◌<◌, ◌≤◌, ℕ, zero, suc, sym, ap, refl, length, arith, Bool, true, false, cond, List, [], ◌∷◌, ◌⊎◌, inl, inr, eqb}
+use Rattle.std.proofs.Common.{◌≡◌, ◌≢◌, ◌∙◌, ◌+◌, ◌<◌, ◌≤◌, ℕ, zero, suc, sym, ap, refl, arith, Bool, true, false, cond, List, [], ◌∷◌, ◌⊎◌, inl, inr, eqb}
 use Rattle.std.specs.Prelude.{filter, find, map, IsTrue, ◌&&◌, ◌↔◌, Option, Some, None, Err}
 use Rattle.std.specs.List.{list_all, range_with_len}
 use Rattle.std.proofs.lemmas.Bool.{eqb-true, eqb-false}

@@ -1,12 +1,12 @@
 -- What an item's rows make of it.
-use Rattle.std.proofs.Common.{◌≡◌, ◌∙◌, ℕ, ◌+◌, ◌<◌, ◌≤◌, ◌⊎◌, inl, inr, Bool, true, false, suc, List, [], ◌∷◌, length, get_or, refl, sym, ap, arith}
+use Rattle.std.proofs.Common.{◌≡◌, ◌∙◌, ℕ, ◌+◌, ◌<◌, ◌≤◌, inl, inr, Bool, true, false, suc, List, [], ◌∷◌, length, get_or, refl, sym, ap, arith}
 use Rattle.std.specs.Prelude.{◌||◌, ◌&&◌, sum, sum_by, nat_lt}
 use Rattle.std.specs.List.{list_all}
 use Rattle.std.proofs.lemmas.Bool.{lt-ltb, le-ltb}
 use Rattle.std.proofs.lemmas.List.Folds.{list_all-map}
 use Rattle.mrp_qty.specs.Quantity.{greatest_quantity}
 use Rattle.mrp_bill.specs.Bill.{parents_of}
-use Rattle.mrp_phase.specs.Weeks.{row, in_week, sum_to}
+use Rattle.mrp_phase.specs.Weeks.{in_week, sum_to}
 use Rattle.mrp_phase.proofs.WeekRows.{length-row, sum_to_whole}
 use Rattle.mrp_item.specs.Inputs.{Inputs, count, horizon}
 use Rattle.mrp_item.specs.Rows.{scheduled_in, stock_of}

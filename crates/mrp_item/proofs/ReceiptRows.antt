@@ -1,5 +1,5 @@
 -- An item's receipts, from its need.
-use Rattle.std.proofs.Common.{◌≡◌, ◌∙◌, ℕ, ◌+◌, ◌<◌, ◌≤◌, List, length, Bool, true, false, cond, refl, sym, ap, arith}
+use Rattle.std.proofs.Common.{◌≡◌, ◌∙◌, ℕ, ◌<◌, ◌≤◌, List, length, Bool, true, false, cond, refl, sym, ap, arith}
 use Rattle.std.specs.Prelude.{nat_le, Some, None}
 use Rattle.std.proofs.lemmas.Bool.{leb-true}
 use Rattle.mrp_qty.specs.Quantity.{greatest_quantity, quantity_of}

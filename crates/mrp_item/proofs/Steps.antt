@@ -1,12 +1,12 @@
 -- An item's step looks at its parents' outcomes alone.
-use Rattle.std.proofs.Common.{◌≡◌, ◌∙◌, ℕ, ◌+◌, Bool, true, false, cond, eqb, List, [], ◌∷◌, refl, sym, ap, length}
+use Rattle.std.proofs.Common.{◌≡◌, ◌∙◌, ℕ, Bool, true, false, cond, eqb, List, [], ◌∷◌, refl, sym, ap}
 use Rattle.std.specs.Prelude.{filter, sum_by, ◌==◌, ◌&&◌, ◌||◌, IsTrue}
 use Rattle.std.specs.List.{list_all, range_with_len}
 use Rattle.std.proofs.lemmas.Bool.{eq-eqb}
 use Rattle.std.proofs.lemmas.List.Sums.{sum_by-cons}
 use Rattle.mrp_tables.specs.declared.rows.BillLine.{BillLine}
 use Rattle.mrp_bill.specs.Bill.{is_parent, IsParent}
-use Rattle.mrp_item.specs.Inputs.{Inputs, count, horizon, is_master}
+use Rattle.mrp_item.specs.Inputs.{Inputs, count, is_master}
 use Rattle.mrp_item.specs.Rows.{demand}
 use Rattle.mrp_item.specs.Plan.{Outcome, is_planned, asked_by, gross_in, outcome_step}
 use Rattle.mrp_item.specs.Recursion.{IsLocal}

@@ -1,7 +1,7 @@
 -- What the types of outcomes keep.
-use Rattle.std.specs.Prelude.{ℕ, ◌≡◌, ◌<◌}
+use Rattle.std.specs.Prelude.{◌≡◌, ◌<◌}
 use Rattle.mrp_phase.specs.Weeks.{row}
-use Rattle.mrp_item.specs.Inputs.{Inputs, count, horizon}
+use Rattle.mrp_item.specs.Inputs.{count, horizon}
 use Rattle.mrp_item.specs.Orders.{started_in}
 use Rattle.mrp_item.specs.Places.{PlannedItem}
 use Rattle.mrp_item.specs.Plan as plan

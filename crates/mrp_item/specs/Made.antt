@@ -1,5 +1,5 @@
 -- Outcomes as a program holds them, with the inputs that they are of.
-use Rattle.std.specs.Prelude.{ℕ, ◌≡◌, ◌<◌, Bool, true, false, List, map, All}
+use Rattle.std.specs.Prelude.{ℕ, ◌≡◌, Bool, true, false, List, map, All}
 use Rattle.mrp_bill.specs.Bill.{parents_of}
 use Rattle.mrp_phase.specs.Weeks.{row}
 use Rattle.mrp_item.specs.Inputs.{Inputs, count, horizon}

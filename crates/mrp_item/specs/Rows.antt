@@ -1,6 +1,5 @@
 -- What the tables and the bookings say of an item in a week.
 use Rattle.std.specs.Prelude.{ℕ, ◌==◌, ◌&&◌, Bool, true, false, if◌then◌else◌, List, filter, sum_by, max}
-use Rattle.mrp_tables.specs.declared.rows.StockRow.{StockRow}
 use Rattle.mrp_tables.specs.declared.rows.BillLine.{BillLine}
 use Rattle.mrp_tables.specs.declared.rows.Receipt.{Receipt}
 use Rattle.mrp_tables.specs.declared.rows.MasterKind.{MasterKind}

@@ -1,5 +1,5 @@
 -- What a plan of every item keeps.
-use Rattle.std.specs.Prelude.{ℕ, ◌≡◌, All, map, None}
+use Rattle.std.specs.Prelude.{◌≡◌, All, map, None}
 use Rattle.mrp_item.specs.Inputs.{places}
 use Rattle.mrp_item.specs.Places.{WholePlan}
 use Rattle.mrp_item.specs.Plan.{first_over, outcome_of, plan_in}

@@ -11,6 +11,7 @@ mod orders;
 mod outcome;
 mod plan;
 mod planning;
+mod stocked;
 mod stop;
 mod supply;
 

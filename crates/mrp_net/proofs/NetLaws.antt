@@ -1,5 +1,5 @@
 -- Laws of the need.
-use Rattle.std.proofs.Common.{◌≡◌, ℕ, zero, suc, ◌+◌, ◌≤◌, ◌<◌, List, length, sym, arith}
+use Rattle.std.proofs.Common.{◌≡◌, ℕ, zero, suc, ◌+◌, List, length, sym, arith}
 use Rattle.mrp_phase.specs.Weeks.{row, in_week, sum_to}
 use Rattle.mrp_phase.proofs.WeekRows.{in_week_row, length-row, greatest_none, greatest_suc, greatest_rises, sum_to_suc}
 use Rattle.mrp_net.specs.declared.stock.Stock.{Stock}

@@ -1,4 +1,4 @@
-use Rattle.std.proofs.Common.{◌≡◌, ◌∙◌, ◌+◌, ◌<◌, ◌≤◌, ◌*◌, ◌^◌, ℕ, List, length, take, get_or, take_all, sym, ap, arith, refl, eqb}
+use Rattle.std.proofs.Common.{◌≡◌, ◌∙◌, ◌<◌, ◌≤◌, ℕ, List, length, take, get_or, take_all, sym, ap, arith, eqb}
 use Rattle.std.proofs.lemmas.Bool.{eqb-true}
 use Rattle.mrp_tables.specs.Tables.{Tables}
 use Rattle.mrp_tables.specs.declared.rows.BillLine.{BillLine}

@@ -1,4 +1,4 @@
-use Rattle.std.proofs.Common.{◌≡◌, ◌∙◌, length, take, ap, arith}
+use Rattle.std.proofs.Common.{◌∙◌, length, take, ap, arith}
 use Rattle.mrp_phase.proofs.WeekRows.{length-row, in_week_row}
 use Rattle.mrp_phase.specs.Weeks.{in_week}
 use Rattle.mrp_item.specs.Dues.{due_sum}

@@ -1,4 +1,4 @@
-use Rattle.std.proofs.Common.{◌∙◌, ◌<◌, suc, sym, length, arith}
+use Rattle.std.proofs.Common.{◌∙◌, ◌<◌, suc, sym, arith}
 use Rattle.mrp_bill.specs.Bill.{IsParent}
 use Rattle.mrp_item.specs.Plan.{outcome_of, outcome_step, Blocked}
 use Rattle.mrp_item.specs.Inputs.{count}

@@ -1,14 +1,13 @@
 use Rattle.std.proofs.Common.{◌≡◌, ◌∙◌, ◌+◌, ◌++◌, ◌<◌, List, map, length, get_or, sym, ap, arith, rules}
-use Rattle.std.specs.Prelude.{flat_map}
 use Rattle.std.proofs.lemmas.Result.{err_from_is_err_and}
 use Rattle.std.proofs.lemmas.Grind.{get_or_default_zero}
-use Rattle.mrp_phase.specs.Weeks.{in_week, weeks}
+use Rattle.mrp_phase.specs.Weeks.{in_week}
 use Rattle.mrp_phase.proofs.WeekRows.{in_week_next}
 use Rattle.mrp_item.specs.declared.order.Order.{Order}
 use Rattle.mrp_item.specs.declared.order.OrderKind.TheVariants.{Firm}
 use Rattle.mrp_item.specs.Inputs.{horizon}
 use Rattle.mrp_item.specs.Dues.{due_in}
-use Rattle.mrp_item.specs.Orders.{order_of, orders_due, planned_order}
+use Rattle.mrp_item.specs.Orders.{order_of, planned_order}
 use Rattle.mrp_item.proofs.OrderWeeks.{week_more, week_past}
 use Rattle.mrp_item.proofs.orders.orders_for.Goals as goal
 

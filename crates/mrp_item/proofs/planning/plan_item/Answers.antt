@@ -1,8 +1,5 @@
-use Rattle.std.proofs.Common.{◌≡◌, ◌∙◌, sym, ap}
+use Rattle.std.proofs.Common.{◌≡◌, ◌∙◌, sym}
 use Rattle.std.specs.Prelude.{slice_index}
-use Rattle.mrp_item.specs.Inputs.{Inputs}
-use Rattle.mrp_item.specs.Own.{IsReady}
-use Rattle.mrp_item.specs.Plan.{outcome_of}
 use Rattle.mrp_item.proofs.OwnPlan.{blocked, told}
 use Rattle.mrp_item.proofs.planning.plan_item.Goals as goal
 

@@ -1,16 +1,14 @@
-use Rattle.std.proofs.Common.{◌≡◌, ◌∙◌, ◌+◌, ◌<◌, ◌≤◌, ◌⊎◌, ℕ, inl, inr, length, refl, sym, ap, arith}
+use Rattle.std.proofs.Common.{◌≡◌, ◌∙◌, ◌+◌, ◌<◌, inr, length, sym, ap, arith}
 use Rattle.std.specs.Prelude.{sum}
-use Rattle.std.proofs.lemmas.Bool.{cases_lt}
 use Rattle.std.proofs.lemmas.Result.{err_from_is_err_and}
-use Rattle.mrp_qty.specs.Quantity.{greatest_quantity}
-use Rattle.mrp_phase.specs.Weeks.{row, in_week}
+use Rattle.mrp_phase.specs.Weeks.{in_week}
 use Rattle.mrp_phase.proofs.WeekRows.{length-row}
 use Rattle.mrp_net.specs.declared.stock.Stock.{Stock}
 use Rattle.mrp_lots.specs.Lots.{receipts}
 use Rattle.mrp_lots.specs.LotLaws.{quantity_of-none}
 use Rattle.mrp_item.specs.Inputs.{horizon, item_at}
 use Rattle.mrp_item.specs.Lot.{rule_of}
-use Rattle.mrp_item.specs.Rows.{scheduled_in, stock_of}
+use Rattle.mrp_item.specs.Rows.{scheduled_in}
 use Rattle.mrp_item.specs.Plan.{needs_of, receipts_of}
 use Rattle.mrp_item.proofs.ReceiptRows.{last_is, length-needs, needs_are, quantity_of-within, receipts_are, stop_of-over}
 use Rattle.mrp_item.proofs.planning.receipts_row.Goals as goal

@@ -1,6 +1,5 @@
-use Rattle.std.proofs.Common.{◌≡◌, ◌∙◌, ◌<◌, ◌≤◌, ◌+◌, ℕ, arith, ap, sym}
+use Rattle.std.proofs.Common.{◌≡◌, ◌∙◌, arith, ap}
 use Rattle.std.proofs.lemmas.Result.{err_from_is_err_and}
-use Rattle.mrp_net.specs.declared.stock.Stock.{Stock}
 use Rattle.mrp_phase.specs.Weeks.{row}
 use Rattle.mrp_item.specs.Inputs.{horizon, item_at}
 use Rattle.mrp_item.specs.Rows.{on_hand, scheduled_in}

@@ -1,6 +1,5 @@
-use Rattle.std.proofs.Common.{◌∙◌, length, ap, sym}
+use Rattle.std.proofs.Common.{length, sym}
 use Rattle.mrp_phase.specs.Weeks.{in_week}
-use Rattle.mrp_lots.specs.Lots.{receipts}
 use Rattle.mrp_lots.specs.LotLaws.{receipts-past}
 use Rattle.mrp_lots.proofs.sizing.receipts.Goals as goal
 

@@ -1,4 +1,4 @@
-use Rattle.std.proofs.Common.{◌≡◌, ◌∙◌, ℕ, ◌<◌, List, length, ap, sym, arith}
+use Rattle.std.proofs.Common.{◌≡◌, ◌∙◌, List, length, ap, arith}
 use Rattle.std.specs.Prelude.{filter, sum_by, ◌==◌}
 use Rattle.mrp_qty.specs.Quantity.{quantity_of}
 use Rattle.mrp_tables.specs.Tables.{Tables}

@@ -1,9 +1,7 @@
-use Rattle.std.proofs.Common.{◌≡◌, ap, arith, rules}
-use Rattle.std.specs.Prelude.{sum_by}
 use Rattle.std.proofs.lemmas.Result.{err_from_is_err_and}
 use Rattle.mrp_item.specs.declared.order.OrderKind.TheVariants.{Firm}
 use Rattle.mrp_item.specs.Orders.{order_of}
-use Rattle.mrp_item.proofs.Starts.{firm_past, start}
+use Rattle.mrp_item.proofs.Starts.{firm_past}
 use Rattle.mrp_item.proofs.orders.OrderList.add_firm.Goals as goal
 
 pub returns-in_err-add-clause-over : goal.returns-in_err-add-clause-over

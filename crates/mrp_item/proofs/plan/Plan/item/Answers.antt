@@ -3,7 +3,7 @@ use Rattle.std.specs.Prelude.{slice_index}
 use Rattle.mrp_item.specs.Inputs.{Inputs, count}
 use Rattle.mrp_item.specs.Made.{inputs_in, item_in}
 use Rattle.mrp_item.specs.Places.{PlannedItem}
-use Rattle.mrp_item.specs.Plan.{Over, Blocked, Planned, ItemPlan, Outcome, outcome_of, plan_in}
+use Rattle.mrp_item.specs.Plan.{Over, Blocked, outcome_of, plan_in}
 use Rattle.mrp_item.proofs.Firsts.{at_place, inputs_at, length-all}
 use Rattle.mrp_item.proofs.Outcomes.{all-planned}
 use Rattle.mrp_item.proofs.plan.Plan.item.Goals as goal

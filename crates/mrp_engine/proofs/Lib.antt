@@ -1,0 +1,4 @@
+pub mod ShopFaults
+pub mod OneOutcome
+pub mod DayRuns
+pub mod PlanOrder

@@ -1,0 +1,5 @@
+pub mod Day
+pub mod Opened
+pub mod Run
+pub mod Planned
+pub mod Finished

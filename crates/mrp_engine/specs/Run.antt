@@ -1,0 +1,52 @@
+-- What a day's run leaves of its reader and its writer.
+use Rattle.std.specs.Prelude.{ℕ, ◌≡◌, ◌≢◌, ◌⊎◌, List, Option, IfSome, Result, Ok, Err, ⊤}
+use Rattle.mrp_rows.specs.declared.told.Told.{Told}
+use Rattle.mrp_rows.specs.Told.{calls_of, failures_of, moved_of, HasRisenBy}
+use Rattle.mrp_bill.specs.Shop.{Shop}
+use Rattle.mrp_report.specs.Written.{HasTakenFront}
+use Rattle.mrp_engine.specs.declared.fault.DayFault.{DayFault}
+use Rattle.mrp_engine.specs.declared.fault.DayFault.TheVariants.{Refused, TooLarge, Read, Write, NoMemory}
+use Rattle.mrp_engine.specs.Day.{IsAccepted, IsDay, IsRefused}
+
+-- a bundle is what a reader had left, where the reader tells it
+abbrev pub IsRead : Option (List ℕ) → List ℕ → Type 0
+IsRead given bundle = IfSome given (λ bytes. bundle ≡ bytes)
+
+-- a reader failed, passed its limit of calls, or gave more bytes than a bundle may have
+abbrev pub HasPassedLimits : {R : Type 0} → Told R → Told R → Type 0
+HasPassedLimits old new =
+    HasRisenBy 1 (failures_of old) (failures_of new) ⊎ HasRisenBy 100000000 (calls_of old) (calls_of new) ⊎ HasRisenBy 67108865 (moved_of old) (moved_of new)
+
+-- the shop of the bundle that was read, or why the bundle is refused; or the reader or memory failed
+abbrev pub ReadsShop : Option (List ℕ) → Result Shop DayFault → Type 0
+ReadsShop given (Ok shop) = (bundle : List ℕ) × IsRead given bundle × IsAccepted bundle shop.tables
+ReadsShop given (Err (Refused f)) = (bundle : List ℕ) × IsRead given bundle × IsRefused bundle f × (f.code ≢ 22)
+ReadsShop given (Err (TooLarge name)) = ⊥
+ReadsShop given (Err Read) = ⊤
+ReadsShop given (Err Write) = ⊥
+ReadsShop given (Err NoMemory) = ⊤
+
+-- the text of the day of the bundle that was read
+abbrev pub TellsDay : Option (List ℕ) → List ℕ → Type 0
+TellsDay given text = (bundle : List ℕ) × IsRead given bundle × IsDay bundle text
+
+-- a writer took a front of the text of the day
+abbrev pub WritesDayFront : {W : Type 0} → (W → Option (List ℕ)) → Option (List ℕ) → Told W → Told W → Type 0
+WritesDayFront contents given old new = (text : List ℕ) × TellsDay given text × HasTakenFront contents old new text
+
+-- a refusal before anything is written
+abbrev pub IsBeforeWriting : DayFault → Type 0
+IsBeforeWriting (Refused f) = ⊤
+IsBeforeWriting (TooLarge name) = ⊤
+IsBeforeWriting Read = ⊤
+IsBeforeWriting Write = ⊥
+IsBeforeWriting NoMemory = ⊥
+
+-- an end after the reader was read to its end
+abbrev pub IsAfterReading : Result (Unit {0}) DayFault → Type 0
+IsAfterReading (Ok u) = ⊤
+IsAfterReading (Err (Refused f)) = ⊤
+IsAfterReading (Err (TooLarge name)) = ⊤
+IsAfterReading (Err Read) = ⊥
+IsAfterReading (Err Write) = ⊤
+IsAfterReading (Err NoMemory) = ⊥

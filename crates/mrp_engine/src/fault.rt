@@ -1,0 +1,25 @@
+//! Why a day was not written whole.
+
+use mrp_rows::{Fault, Name};
+use thiserror::Error;
+
+/// Why a day was not written whole.
+#[derive(Clone, Copy, Debug, PartialEq, Eq, Error)]
+pub enum DayFault {
+    /// The bundle has this fault; never want of memory. Nothing was written.
+    #[error("refused")]
+    Refused(Fault),
+    /// The plan of this item gets too large, and of no item above it; it is the first such item in
+    /// table order. Nothing was written.
+    #[error("too large")]
+    TooLarge(Name),
+    /// The reader failed, or passed a limit. Nothing was written.
+    #[error("read failed")]
+    Read,
+    /// The writer failed, or was interrupted too often. A front of the text was written.
+    #[error("write failed")]
+    Write,
+    /// A growth of memory was refused. Nothing, or a front of the text was written.
+    #[error("no memory")]
+    NoMemory,
+}

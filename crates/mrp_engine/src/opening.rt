@@ -1,0 +1,69 @@
+//! The shop of a bundle.
+
+ghost use Rattle.std.specs.Prelude.{◌≡◌, ◌<◌, length, slice_index};
+ghost use Rattle.mrp_engine.specs.Day.{loop_fault};
+ghost use Rattle.mrp_engine.specs.Opened.{Closes, Opens, OpensTables};
+
+use crate::fault::DayFault;
+use mrp_bill::{Bill, BillFault, Shop};
+use mrp_rows::{Fault, Table, split_bundle};
+use mrp_tables::Tables;
+use std::alloc::Global;
+
+// The codes of faults that are told apart here.
+const LOOP: u8 = 21;
+
+const NO_MEMORY: u8 = 22;
+
+// Why a day is refused: the bundle's fault, or want of memory.
+fn refusal(fault: Fault) -> DayFault
+    ensures { Closes fault result }
+{
+    if fault.code == NO_MEMORY {
+        DayFault::NoMemory
+    } else {
+        DayFault::Refused(fault)
+    }
+}
+
+// The fault of a loop, by its path.
+fn loop_at(path: &[usize]) -> Fault
+    requires some { 0 < length path.now }
+    requires within { slice_index path.now 0 < 20000 }
+    ensures { result ≡ loop_fault (slice_index path.now 0) }
+{
+    Fault {
+        code: LOOP,
+        table: Table::Items,
+        row: path[0] as u32 + 1,
+    }
+}
+
+// The shop of tables.
+fn shop_of(alloc: Global, tables: Tables) -> Result<Shop, DayFault>
+    ensures { OpensTables tables result }
+{
+    let _items = tables.items();
+    let _lines = tables.bills();
+    match Bill::of(alloc, tables) {
+        Ok(shop) => Ok(shop),
+        Err(BillFault::Loop { path }) => Err(DayFault::Refused(loop_at(&path))),
+        Err(BillFault::NoMemory) => Err(DayFault::NoMemory),
+    }
+}
+
+/// The shop of a bundle.
+///
+/// Errors: `Refused` with the bundle's first fault, the loop last, and `NoMemory`.
+pub fn open_shop(alloc: Global, bundle: &[u8]) -> Result<Shop, DayFault>
+    ensures { Opens bundle.now result }
+{
+    let sections = match split_bundle(bundle) {
+        Ok(sections) => sections,
+        Err(fault) => return Err(refusal(fault)),
+    };
+    match Tables::read(alloc, &sections) {
+        Ok(tables) => shop_of(alloc, tables),
+        Err(fault) => Err(refusal(fault)),
+    }
+}

@@ -1,0 +1,112 @@
+//! What the words of the command line ask for.
+
+ghost use Rattle.std.specs.Prelude.{IfOk};
+ghost use Rattle.mrp_main.specs.Request.{IsRequest};
+
+use clap::error::ErrorKind;
+use clap::{Arg, ArgAction, ArgMatches, Command, Error};
+use mrp_qty::NoMemory;
+use std::alloc::{AllocError, Global};
+use std::convert::AsStr;
+
+// How the program is called.
+const ABOUT: &str =
+    "Plans a shop's materials: reads the tables of a bundle, and writes what to make and when.";
+
+const ABOUT_PLAN: &str = "Reads a bundle from standard input and writes its plan to standard output.
+
+A bundle is a text of nine sections, each a line with its name in brackets, as [items], and the rows
+of a csv table. The plan is a text of sections in the same form: [run] says what was planned from,
+and [plan] has a row for each item and week, with what is required, what comes in, what starts and
+what is left.";
+
+const EXAMPLE: &str = "Example:
+  mrp plan < shop.bundle > shop.plan
+
+Exit status: 0 done, 1 refused, 2 usage, 3 no memory, 4 read or write failed.";
+
+/// What the words ask for.
+pub enum Request {
+    /// Plan the bundle of the input, by so many workers, 1 to 64.
+    Plan { workers: usize },
+}
+
+/// Why words ask for nothing that can be done.
+#[derive(Drop)]
+pub enum NoRequest {
+    /// They ask for this text.
+    Help(String),
+    /// They are wrong, as this text says.
+    Usage(String),
+    /// A growth of memory was refused.
+    NoMemory,
+}
+
+impl From<AllocError> for NoRequest {
+    fn from(_refused: AllocError) -> NoRequest {
+        NoRequest::NoMemory
+    }
+}
+
+fn workers<'a>(alloc: Global) -> Arg<'a> {
+    Arg::new(alloc, "workers")
+        .long("workers")
+        .value_name("N")
+        .action(ArgAction::Set)
+        .value_parser(clap::value_parser!(u64).range(1..=64))
+        .default_value("1")
+        .help("How many workers plan side by side, 1 to 64")
+}
+
+fn command<'a>(alloc: Global) -> Result<Command<'a>, AllocError> {
+    let plan = Command::new(alloc, "plan")
+        .about("Plans a bundle from standard input")
+        .long_about(ABOUT_PLAN)
+        .after_help(EXAMPLE)
+        .arg(workers(alloc))?;
+    Command::new(alloc, "mrp")
+        .about(ABOUT)
+        .after_help(EXAMPLE)
+        .bin_name("mrp")?
+        .no_binary_name(true)
+        .subcommand_required(true)
+        .subcommand(plan)
+}
+
+// Why clap gave no matches, as the text that it has for it.
+fn no_request(alloc: Global, error: &Error) -> Result<NoRequest, AllocError> {
+    if matches!(error.kind(), ErrorKind::OutOfMemory) {
+        return Ok(NoRequest::NoMemory);
+    }
+    let text = error.to_string(alloc)?;
+    if error.use_stderr() {
+        Ok(NoRequest::Usage(text))
+    } else {
+        Ok(NoRequest::Help(text))
+    }
+}
+
+fn request_of(matches: &ArgMatches<'_>) -> Request
+    ensures { IsRequest result }
+{
+    let asked = match matches.subcommand_matches("plan") {
+        Some(plan) => plan.get_one::<u64>("workers"),
+        None => None,
+    };
+    match asked {
+        Some(workers) if (1..=64).contains(&workers) => Request::Plan {
+            workers: workers as usize,
+        },
+        _ => Request::Plan { workers: 1 },
+    }
+}
+
+/// What the words behind the program's name ask for.
+pub fn read_words<S: AsStr>(alloc: Global, words: &[S]) -> Result<Request, NoRequest>
+    ensures { IfOk result IsRequest }
+{
+    match command(alloc)?.try_get_matches_from(words) {
+        Ok(matches) => Ok(request_of(&matches)),
+        Err(error) => Err(no_request(alloc, &error)?),
+    }
+}

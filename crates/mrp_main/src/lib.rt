@@ -1,0 +1,8 @@
+//! The program's commands: from its words to what it writes and its exit status.
+#![tactic(auto)]
+
+mod command;
+mod run;
+mod status;
+
+pub use run::run_words;

@@ -1,0 +1,133 @@
+//! What the words ask for, done over an input, an output and an error stream.
+
+ghost use Rattle.std.specs.Prelude.{◌≡◌, ◌<◌, ◌⊎◌, ℕ, List};
+ghost use Rattle.std.specs.Int.{IsInRange};
+ghost use Rattle.mrp_rows.specs.Told.{inner_of};
+ghost use Rattle.mrp_report.specs.Written.{HasTakenWhole};
+ghost use Rattle.mrp_engine.specs.Run.{TellsDay};
+ghost use Rattle.mrp_main.specs.Status.{IsStatusOf};
+
+use crate::command::{NoRequest, Request, read_words};
+use crate::status::Status;
+use mrp_engine::{DayFault, run_day};
+use mrp_rows::{Fault, Told, Tries, fault_text, write_text};
+use std::alloc::Global;
+use std::convert::AsStr;
+use std::io::{Read, Write};
+
+// Writes a line to the error stream: pieces of text, and a line feed. Its failure is no matter.
+fn tell<E: Write>(errors: &mut Told<E>, pieces: &[&[u8]]) {
+    let mut tries = Tries::new();
+    for piece in pieces {
+        let _ = write_text(errors, piece, &mut tries);
+    }
+    let _ = write_text(errors, b"\n", &mut tries);
+}
+
+fn tell_no_memory<E: Write>(errors: &mut Told<E>) -> Status
+    ensures { result ≡ Status.NoMemory }
+{
+    tell(errors, &[b"no memory"]);
+    Status::NoMemory
+}
+
+fn tell_refused<E: Write>(alloc: Global, fault: &Fault, errors: &mut Told<E>) -> Status
+    ensures { (result ≡ Status.Refused) ⊎ (result ≡ Status.NoMemory) }
+{
+    match fault_text(alloc, fault) {
+        Ok(text) => {
+            tell(errors, &[b"refused: ", text.as_bytes()]);
+            Status::Refused
+        }
+        Err(_) => tell_no_memory(errors),
+    }
+}
+
+// Says on the error stream why a day was not written, and with what status the program ends.
+fn tell_day<E: Write>(alloc: Global, fault: &DayFault, errors: &mut Told<E>) -> Status
+    ensures { IsStatusOf fault.now result }
+{
+    match fault {
+        DayFault::Refused(fault) => tell_refused(alloc, fault, errors),
+        DayFault::TooLarge(name) => {
+            tell(errors, &[b"too large: ", name.as_bytes()]);
+            Status::Refused
+        }
+        DayFault::Read => {
+            tell(errors, &[b"read failed"]);
+            Status::Stream
+        }
+        DayFault::Write => {
+            tell(errors, &[b"write failed"]);
+            Status::Stream
+        }
+        DayFault::NoMemory => tell_no_memory(errors),
+    }
+}
+
+// Writes the help that was asked for.
+fn write_help<W: Write, E: Write>(
+    text: &str,
+    output: &mut Told<W>,
+    errors: &mut Told<E>,
+) -> Status {
+    match write_text(output, text.as_bytes(), &mut Tries::new()) {
+        Ok(()) => Status::Done,
+        Err(_) => {
+            tell(errors, &[b"write failed"]);
+            Status::Stream
+        }
+    }
+}
+
+fn tell_usage<E: Write>(text: &str, errors: &mut Told<E>) -> Status {
+    let _ = write_text(errors, text.as_bytes(), &mut Tries::new());
+    Status::Usage
+}
+
+// Plans the bundle of the input, and says on the error stream why it could not.
+fn plan<R: Read, W: Write, E: Write>(
+    rt: &impl Alloc,
+    alloc: Global,
+    workers: usize,
+    input: &mut Told<R>,
+    output: &mut Told<W>,
+    errors: &mut Told<E>,
+) -> Status
+    requires workers { IsInRange 1 64 workers }
+    ensures done { result ≡ Status.Done → (text : List ℕ) × TellsDay (R.remaining (inner_of input.old)) text × HasTakenWhole W.contents output.old output.new text }
+    ensures refused { result ≡ Status.Refused → output.new ≡ output.old }
+{
+    match run_day(rt, alloc, input, output, workers) {
+        Ok(()) => Status::Done,
+        Err(fault) => tell_day(alloc, &fault, errors),
+    }
+}
+
+/// Does what the words behind the program's name ask for, as `plan --workers 2`, over an input, an
+/// output and an error stream, and gives the exit status.
+///
+/// The status is 0 where it was done, 1 where the bundle was refused or its plan gets too large, 2
+/// for wrong words, 3 where memory was refused, and 4 where reading or writing failed. A line on the
+/// error stream says why; its failure does not change the status.
+pub fn run_words<S: AsStr, R: Read, W: Write, E: Write>(
+    rt: &impl Alloc,
+    alloc: Global,
+    words: &[S],
+    input: &mut Told<R>,
+    output: &mut Told<W>,
+    errors: &mut Told<E>,
+) -> u8
+    ensures { result < 5 }
+{
+    let status = match read_words(alloc, words) {
+        Ok(Request::Plan { workers }) => plan(rt, alloc, workers, input, output, errors),
+        Err(NoRequest::Help(text)) => write_help(&text, output, errors),
+        Err(NoRequest::Usage(text)) => tell_usage(&text, errors),
+        Err(NoRequest::NoMemory) => tell_no_memory(errors),
+    };
+    status.code()
+}
+
+#[cfg(test)]
+mod tests;

@@ -1,0 +1,90 @@
+//! Shops for tests.
+
+// Bicycles, planned lot for lot.
+pub const BICYCLE: &str = "\
+[calendar]\n\
+key,value\n\
+start,2025-01-06\n\
+weeks,6\n\
+workdays,1111100\n\
+holiday,2025-01-20\n\
+[items]\n\
+item,class,lead,scrap,lot,size,safety\n\
+BIKE,master,1,0,lfl,0,0\n\
+FRAME,part,1,0,lfl,0,0\n\
+WHEEL,part,1,0,lfl,0,0\n\
+[centres]\n\
+centre,minutes\n\
+[stock]\n\
+item,onhand\n\
+BIKE,10\n\
+[receipts]\n\
+item,order,date,quantity\n\
+[bills]\n\
+parent,component,per\n\
+BIKE,FRAME,1\n\
+BIKE,WHEEL,2\n\
+[routings]\n\
+item,op,centre,setup,run,offset\n\
+[master]\n\
+item,row,date,quantity\n\
+BIKE,firm,2025-01-20,20\n\
+BIKE,firm,2025-02-03,20\n\
+BIKE,forecast,2025-01-13,8\n\
+BIKE,forecast,2025-01-27,6\n\
+[script]\n\
+desk,call,item,date,quantity,number\n";
+
+// What planning the bicycles writes.
+pub const BICYCLE_REPORT: &str = "\
+[run]\n\
+front,standing\n\
+1,0\n\
+[plan]\n\
+item,week,gross,open,firm,planned,start,balance\n\
+BIKE,1,0,0,0,0,0,10\n\
+BIKE,2,8,0,0,0,20,2\n\
+BIKE,3,0,0,20,0,0,22\n\
+BIKE,4,6,0,0,0,20,16\n\
+BIKE,5,0,0,20,0,0,36\n\
+BIKE,6,0,0,0,0,0,36\n\
+FRAME,1,0,0,0,0,20,0\n\
+FRAME,2,20,0,0,20,0,0\n\
+FRAME,3,0,0,0,0,20,0\n\
+FRAME,4,20,0,0,20,0,0\n\
+FRAME,5,0,0,0,0,0,0\n\
+FRAME,6,0,0,0,0,0,0\n\
+WHEEL,1,0,0,0,0,40,0\n\
+WHEEL,2,40,0,0,40,0,0\n\
+WHEEL,3,0,0,0,0,40,0\n\
+WHEEL,4,40,0,0,40,0,0\n\
+WHEEL,5,0,0,0,0,0,0\n\
+WHEEL,6,0,0,0,0,0,0\n";
+
+// The bicycles' calendar.
+pub const CALENDAR: &str = "\
+[calendar]\n\
+key,value\n\
+start,2025-01-06\n\
+weeks,6\n\
+workdays,1111100\n\
+holiday,2025-01-20\n";
+
+// The other tables, without records.
+pub const EMPTY_TABLES: &str = "\
+[items]\n\
+item,class,lead,scrap,lot,size,safety\n\
+[centres]\n\
+centre,minutes\n\
+[stock]\n\
+item,onhand\n\
+[receipts]\n\
+item,order,date,quantity\n\
+[bills]\n\
+parent,component,per\n\
+[routings]\n\
+item,op,centre,setup,run,offset\n\
+[master]\n\
+item,row,date,quantity\n\
+[script]\n\
+desk,call,item,date,quantity,number\n";

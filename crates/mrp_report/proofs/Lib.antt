@@ -1,0 +1,6 @@
+pub mod PageRows
+pub mod SheetRows
+pub mod RowTexts
+pub mod PlanSheets
+pub mod Progress
+pub mod ReportSoFar

@@ -1,0 +1,142 @@
+-- A report is written page by page.
+use Rattle.std.proofs.Common.{◌≡◌, ◌∙◌, ℕ, ◌+◌, ◌-◌, ◌≤◌, List, [], ◌++◌, take, length, Option, Some, None, sym, ap, subst, inl, inr, refl, arith, append_assoc}
+use Rattle.std.proofs.Math.Seq.{take-append_seam, take-append-add}
+use Rattle.std.proofs.lemmas.List.{append-nil, take-append-le, length-append}
+use Rattle.std.specs.Prelude.{Result, Ok, Err, OnOk, OnErr}
+use Rattle.std.specs.Io.KnownBytes.{Appends}
+use Rattle.mrp_rows.specs.declared.told.Told.{Told}
+use Rattle.mrp_rows.specs.Told.{inner_of, failures_of, interrupted_of, HasRisenBy}
+use Rattle.mrp_rows.specs.Streams.{RisesBy}
+use Rattle.mrp_report.specs.Written.{HasTaken, HasTakenFront, HasTakenWhole, HasGivenUp, PassesOn}
+
+appends-none : (a : Option (List ℕ)) → Appends a a []
+appends-none None = tt
+appends-none (Some x) = sym (append-nil x)
+
+appends-both : (a b c : Option (List ℕ)) (s t : List ℕ) → Appends a b s → Appends b c t → Appends a c (s ++ t)
+appends-both None b c s t p q = tt
+appends-both (Some x) None c s t p q = absurd p
+appends-both (Some x) (Some y) None s t p q = absurd q
+appends-both (Some x) (Some y) (Some z) s t p q = q ∙ ap (λ (l : List ℕ). l ++ t) p ∙ append_assoc x s t
+
+rises-none : (n : ℕ) → RisesBy 0 n n
+rises-none n = (omega arith, omega arith)
+
+rises-both : (m n a b c : ℕ) → RisesBy m a b → RisesBy n b c → RisesBy (m + n) a c
+rises-both m n a b c p q = (omega (arith, p.0, p.1, q.0), omega (arith, p.1, q.1))
+
+risen-after : (m n a b c : ℕ) → RisesBy m a b → HasRisenBy n b c → HasRisenBy (m + n) a c
+risen-after m n a b c p q = omega (arith, p.0, p.1, q)
+
+-- a part of a text that has been passed on, and the rest on the page
+pub record IsWritten {W : Type 0} (contents : W → Option (List ℕ)) (start now : Told W) (tries : ℕ) (page text : List ℕ) : Type 0 where
+  pub passed : List ℕ
+  pub split : text ≡ passed ++ page
+  pub taken : HasTaken contents start now passed (1000000 - tries)
+  pub within : tries ≤ 1000000
+
+taken-none : {W : Type 0} (contents : W → Option (List ℕ)) (w : Told W) → HasTaken contents w w [] 0
+taken-none contents w = record {
+  bytes = appends-none (contents (inner_of w));
+  failures = refl;
+  interrupted = rises-none (interrupted_of w);
+}
+
+taken-both : {W : Type 0} (contents : W → Option (List ℕ)) (a b c : Told W) (s t : List ℕ) (m n : ℕ) → HasTaken contents a b s m → HasTaken contents b c t n → HasTaken contents a c (s ++ t) (m + n)
+taken-both contents a b c s t m n p q = record {
+  bytes = appends-both (contents (inner_of a)) (contents (inner_of b)) (contents (inner_of c)) s t p.bytes q.bytes;
+  failures = q.failures ∙ p.failures;
+  interrupted = rises-both m n (interrupted_of a) (interrupted_of b) (interrupted_of c) p.interrupted q.interrupted;
+}
+
+-- nothing was passed on yet
+pub written-none : {W : Type 0} (contents : W → Option (List ℕ)) (w : Told W) (tries : ℕ) (page text : List ℕ) → tries ≡ 1000000 → page ≡ text → IsWritten contents w w tries page text
+written-none {W} contents w tries page text all same =
+    let none : 0 ≡ 1000000 - tries = omega (arith, all) in
+    record {
+      passed = [];
+      split = sym same;
+      taken = subst (λ (n : ℕ). HasTaken contents w w [] n) none (taken-none contents w);
+      within = omega (arith, all);
+    }
+
+-- more was put on the page
+pub written-more : {W : Type 0} (contents : W → Option (List ℕ)) (start now : Told W) (tries : ℕ) (page next text more : List ℕ) → IsWritten contents start now tries page text → next ≡ page ++ more
+    → IsWritten contents start now tries next (text ++ more)
+written-more contents start now tries page next text more w adds = record {
+  passed = w.passed;
+  split = ap (λ (t : List ℕ). t ++ more) w.split ∙ append_assoc w.passed page more ∙ ap (λ (t : List ℕ). w.passed ++ t) (sym adds);
+  taken = w.taken;
+  within = w.within;
+}
+
+-- some of the page was passed on
+pub written-passed : {W : Type 0} (contents : W → Option (List ℕ)) (start now then : Told W) (tries fewer : ℕ) (page left text : List ℕ) → IsWritten contents start now tries page text → fewer ≤ tries
+    → PassesOn contents now then page left (tries - fewer) → IsWritten contents start then fewer left text
+written-passed {W} contents start now then tries fewer page left text w less p =
+    let tried : 1000000 - tries + (tries - fewer) ≡ 1000000 - fewer = omega (arith, less, w.within) in
+    record {
+      passed = w.passed ++ p.passed;
+      split = w.split ∙ ap (λ (t : List ℕ). w.passed ++ t) p.split ∙ sym (append_assoc w.passed p.passed left);
+      taken = subst (λ (n : ℕ). HasTaken contents start then (w.passed ++ p.passed) n) tried (taken-both contents start now then w.passed p.passed (1000000 - tries) (tries - fewer) w.taken p.taken);
+      within = omega (arith, less, w.within);
+    }
+
+take-behind : (s t u : List ℕ) (n : ℕ) → n ≤ length t → take (length s + n) (s ++ (t ++ u)) ≡ s ++ take n t
+take-behind s t u n h = take-append-add s (t ++ u) n ∙ ap (λ (l : List ℕ). s ++ l) (take-append-le n t u h)
+
+-- what was passed on is a front of the whole
+pub front-now : {W : Type 0} (contents : W → Option (List ℕ)) (start now : Told W) (tries : ℕ) (page text rest whole : List ℕ) → IsWritten contents start now tries page text → whole ≡ text ++ rest
+    → HasTakenFront contents start now whole
+front-now contents start now tries page text rest whole w is =
+    let split : whole ≡ w.passed ++ (page ++ rest) = is ∙ ap (λ (t : List ℕ). t ++ rest) w.split ∙ append_assoc w.passed page rest in (
+      length w.passed,
+      omega (arith, ap (length {A = ℕ}) split, length-append w.passed (page ++ rest)),
+      subst (λ (t : List ℕ). Appends (contents (inner_of start)) (contents (inner_of now)) t)
+          (sym (ap (take (length w.passed)) split ∙ take-append_seam w.passed (page ++ rest))) w.taken.bytes,
+    )
+
+-- and so it is with a front of the page
+pub front-then : {W : Type 0} (contents : W → Option (List ℕ)) (start now then : Told W) (tries : ℕ) (page text rest whole : List ℕ) → IsWritten contents start now tries page text → whole ≡ text ++ rest
+    → HasTakenFront contents now then page → HasTakenFront contents start then whole
+front-then contents start now then tries page text rest whole w is (n, within, bytes) =
+    let split : whole ≡ w.passed ++ (page ++ rest) = is ∙ ap (λ (t : List ℕ). t ++ rest) w.split ∙ append_assoc w.passed page rest in (
+      length w.passed + n,
+      omega (arith, within, ap (length {A = ℕ}) split, length-append w.passed (page ++ rest), length-append page rest),
+      subst (λ (t : List ℕ). Appends (contents (inner_of start)) (contents (inner_of then)) t)
+          (sym (ap (take (length w.passed + n)) split ∙ take-behind w.passed page rest n within))
+          (appends-both (contents (inner_of start)) (contents (inner_of now)) (contents (inner_of then)) w.passed (take n page) w.taken.bytes bytes),
+    )
+
+-- a writer that gave up in the last part gave up in the whole
+pub given-up : {W : Type 0} (contents : W → Option (List ℕ)) (start now then : Told W) (tries : ℕ) (page text : List ℕ) → IsWritten contents start now tries page text
+    → HasGivenUp now then tries → HasGivenUp start then 1000000
+given-up contents start now then tries page text w (inl failed) =
+    inl (subst (λ (n : ℕ). HasRisenBy 1 n (failures_of then)) w.taken.failures failed)
+given-up contents start now then tries page text w (inr more) =
+    let tried : 1000000 - tries + (tries + 1) ≡ 1000000 + 1 = omega (arith, w.within) in
+    inr (subst (λ (n : ℕ). HasRisenBy n (interrupted_of start) (interrupted_of then)) tried
+    (risen-after (1000000 - tries) (tries + 1) (interrupted_of start) (interrupted_of now) (interrupted_of then) w.taken.interrupted more))
+
+-- the last page was written
+pub written-whole : {W : Type 0} (contents : W → Option (List ℕ)) (start now then : Told W) (tries fewer : ℕ) (page text : List ℕ) → IsWritten contents start now tries page text → fewer ≤ tries
+    → HasTaken contents now then page (tries - fewer) → HasTakenWhole contents start then text
+written-whole {W} contents start now then tries fewer page text w less p = (
+  1000000 - tries + (tries - fewer),
+  omega (arith, less, w.within),
+  subst (λ (t : List ℕ). HasTaken contents start then t (1000000 - tries + (tries - fewer))) (sym w.split)
+      (taken-both contents start now then w.passed page (1000000 - tries) (tries - fewer) w.taken p),
+)
+
+-- what holds holds at an error, and what follows follows there
+pub on-err : {T E P : Type 0} (r : Result T E) → P → OnErr r P
+on-err (Ok x) p = tt
+on-err (Err e) p = p
+
+pub on-err-then : {T E P Q : Type 0} (r : Result T E) → (P → Q) → OnErr r P → OnErr r Q
+on-err-then (Ok x) f p = tt
+on-err-then (Err e) f p = f p
+
+pub on-ok-then : {T E P Q : Type 0} (r : Result T E) → (P → Q) → OnOk r P → OnOk r Q
+on-ok-then (Ok x) f p = f p
+on-ok-then (Err e) f p = tt

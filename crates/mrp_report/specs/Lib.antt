@@ -1,0 +1,9 @@
+pub mod Section
+pub mod RunText
+pub mod PlanText
+pub mod PageWriter
+pub mod PageView
+pub mod Written
+pub mod PlanRows
+pub mod ReportText
+pub mod Sheet
