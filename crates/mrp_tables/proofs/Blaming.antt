@@ -141,6 +141,9 @@ item_at_record before r = step r (item_cells r) (item_checked before r)
 
 pub at_their_records : FaultsAtTheirRecords
 at_their_records = record {
+  start = reads (by_itself start_cells) (λ before r. start_at r);
+  weeks = reads (by_itself weeks_cells) (λ before r. weeks_at r);
+  workdays = reads (by_itself workdays_cells) (λ before r. workdays_at r);
   holidays = reads (by_itself holiday_row) (λ before r. holiday_at r);
   items = reads item_row item_at_record;
   stock = λ items. reads (stock_row items) (stock_at items);

@@ -17,7 +17,7 @@ use Rattle.mrp_tables.specs.declared.rows.Receipt.{Receipt}
 use Rattle.mrp_tables.specs.declared.rows.Operation.{Operation}
 use Rattle.mrp_tables.specs.declared.rows.ScriptRow.{ScriptRow}
 use Rattle.mrp_tables.specs.Bills.{bill_row, bills_of}
-use Rattle.mrp_tables.specs.Calendar.{calendar_of, holiday_row}
+use Rattle.mrp_tables.specs.Calendar.{calendar_of, holiday_row, start_cells, weeks_cells, workdays_cells}
 use Rattle.mrp_tables.specs.Items.{item_row, items_of}
 use Rattle.mrp_tables.specs.Master.{master_of, master_row}
 use Rattle.mrp_tables.specs.Reading.{Reads, admitted, by_itself, is_past, rows_of}
@@ -77,6 +77,9 @@ FaultsAtItsRecord {X} read = (before : List X) (r : Cells) → IfErr (read_one r
 
 -- each table's faults stand at their records
 pub record FaultsAtTheirRecords : Type 0 where
+  pub start : FaultsAtItsRecord (by_itself start_cells)
+  pub weeks : FaultsAtItsRecord (by_itself weeks_cells)
+  pub workdays : FaultsAtItsRecord (by_itself workdays_cells)
   pub holidays : FaultsAtItsRecord (by_itself holiday_row)
   pub items : FaultsAtItsRecord item_row
   pub stock : (items : List Item) → FaultsAtItsRecord (stock_row items)

@@ -139,11 +139,12 @@ impl Tables {
     ghost use Rattle.mrp_tables.specs.Reading.{Gives};
     ghost use Rattle.mrp_tables.specs.Tables.{tables_in};
 
-    /// The tables of a bundle's sections, or their first fault: table by table and record by
-    /// record, first what is wrong with the record (20, 6), then its cells from left to right
-    /// (7 to 11), then what they name (12 to 19).
+    /// The tables of a bundle's sections, or their first fault: table by table, first the header
+    /// (5), then record by record what is wrong with the record (20, 6), with its cells from left to
+    /// right (7 to 11) and with what they name (12 to 19). A calendar of fewer than three records has
+    /// 6 at the first that is missing.
     ///
-    /// Errors: a fault, at its table and record; 22, where memory is refused.
+    /// Errors: a fault, at its table and record, the header's at row 0; 22, where memory is refused.
     #[tactic(auto, unfolding(crate::specs::Tables::tables_in))]
     pub fn read(alloc: Global, sections: &Sections<'_>) -> Result<Tables, Fault>
         ensures { Gives (λ t. t) result (tables_in sections.now) }

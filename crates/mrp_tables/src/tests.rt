@@ -152,6 +152,12 @@ const CELLS: &[Change] = &[
     ("BIKE,10", "BIKE,1000000000", "accepted"),
     ("BIKE,10", "BIKE,1000000001", "11 range stock 1"),
     ("BIKE,10", "BIKE,0", "accepted"),
+    ("BIKE,10", "BIKE,0000000000000000000010", "accepted"),
+    (
+        "BIKE,10",
+        "BIKE,00000000000000000000010000000001",
+        "11 range stock 1",
+    ),
     ("BIKE,10", "BIKE,-1", "8 number stock 1"),
     ("BIKE,10", "BIKE,", "8 number stock 1"),
     ("BIKE,10", ",10", "7 name stock 1"),
@@ -294,6 +300,11 @@ const SHAPES: &[Change] = &[
     ("item,row,date", "item,kind,date", "5 header master 0"),
     ("desk,call,item", "desk,item,call", "5 header script 0"),
     ("item,onhand", "\"item\",\"onhand\"", "accepted"),
+    (
+        "item,onhand\nBIKE,10\n",
+        "item,onhand\r\n\r\n\"BIKE\",\"10\"\r\n\n",
+        "accepted",
+    ),
     ("item,onhand", "\n\n\u{feff}item,onhand", "accepted"),
 ];
 
@@ -551,6 +562,62 @@ fn rows_of_no_pieces_are_checked_and_do_not_count(rt: HostRuntime) -> Result<(),
         .map(|row| (row.number, row.week, row.quantity.value()));
     assert!(rt; rows.eq([(1, 3, 20), (3, 2, 8), (4, 4, 6)]));
     answers(&rt, alloc, NO_PIECES)
+}
+
+// The small shop's calendar, and no record in any other table.
+const NO_RECORDS: &str =
+    "[calendar]\nkey,value\nstart,2025-01-06\nweeks,6\nworkdays,1111100\nholiday,2025-01-20\n[items]\nitem,class,lead,scrap,lot,size,safety\n[centres]\ncentre,minutes\n[stock]\nitem,onhand\n[receipts]\nitem,order,date,quantity\n[bills]\nparent,component,per\n[routings]\nitem,op,centre,setup,run,offset\n[master]\nitem,row,date,quantity\n[script]\ndesk,call,item,date,quantity,number\n";
+
+#[test]
+fn tables_of_headers_alone_are_accepted(rt: HostRuntime) -> Result<(), Fail> {
+    let shop = read(rt.alloc(), NO_RECORDS)?;
+    assert_eq!(rt; shop.calendar().weeks(), 6);
+    assert_eq!(rt; shop.items().len(), 0);
+    assert_eq!(rt; shop.stock().len(), 0);
+    assert_eq!(rt; shop.bills().len(), 0);
+    assert_eq!(rt; shop.master().len(), 0);
+    assert_eq!(rt; shop.find(&name("BIKE")?), None);
+    Ok(())
+}
+
+#[test]
+fn a_name_in_quotes_may_have_a_comma(rt: HostRuntime) -> Result<(), Fail> {
+    let alloc = rt.alloc();
+    let shop = shop_with(alloc, "[centres]", "\"A,B\",part,0,0,lfl,0,0\n[centres]")?;
+    let shop = read(alloc, shop.as_str())?;
+    assert_eq!(rt; shop.find(&name("A,B")?), Some(3));
+    Ok(())
+}
+
+// The small shop, in which a line of its text stands so many times.
+fn shop_with_many(alloc: Global, line: &str, count: usize) -> Result<String, Fail> {
+    let mut lines = String::new(alloc);
+    for _ in 0..count {
+        lines.push_str(line)?;
+    }
+    shop_with(alloc, line, lines.as_str())
+}
+
+#[test]
+fn a_record_past_its_tables_limit_is_refused(rt: HostRuntime) -> Result<(), Fail> {
+    let alloc = rt.alloc();
+    for (line, count, want) in [
+        ("holiday,2025-01-20\n", 1_000, "accepted"),
+        ("holiday,2025-01-20\n", 1_001, "20 too-many calendar 1004"),
+        ("BIKE,WHEEL,2\n", 99_999, "accepted"),
+        ("BIKE,WHEEL,2\n", 100_000, "20 too-many bills 100001"),
+        ("BIKE,forecast,2025-01-27,6\n", 99_997, "accepted"),
+        (
+            "BIKE,forecast,2025-01-27,6\n",
+            99_998,
+            "20 too-many master 100001",
+        ),
+    ] {
+        let shop = shop_with_many(alloc, line, count)?;
+        let text = told(alloc, shop.as_str())?;
+        assert_eq!(rt; text.as_str(), want, "{line}");
+    }
+    Ok(())
 }
 
 #[test]
