@@ -4,10 +4,10 @@ use Rattle.std.specs.Prelude.{if◌then◌else◌}
 use Rattle.std.proofs.lemmas.Bool.{ne_eqb}
 use Rattle.mrp_rows.specs.declared.fault.Fault.{Fault}
 use Rattle.mrp_rows.specs.Left.{Cells, Left}
-use Rattle.mrp_rows.specs.Next.{NextIs}
+use Rattle.mrp_rows.specs.Next.{NextIs, memory_fault}
 use Rattle.mrp_rows.specs.Columns.{width_of}
 use Rattle.mrp_tables.specs.Reading.{NextAdmitted, admitted, is_past}
-use Rattle.mrp_tables.specs.Stages.{record_limit}
+use Rattle.mrp_tables.specs.Limits.{record_limit}
 
 -- a refusal of the cursor, but for a record past the limit
 abbrev pub past_first : Fault → Fault
@@ -38,8 +38,12 @@ either : (f : Fault) (r : Cells) → f.code ≡ 6 → f.table ≡ r.table → f.
 either f r code table row wide true h = past f r code table row h
 either f r code table row wide false h = within f r code table row h wide
 
+-- a refusal of memory stays, at the record
+memory : (f : Fault) (old : Left) → f.code ≡ 22 → f.table ≡ old.table → f.row ≡ old.number → past_first f ≡ memory_fault old.table old.number
+memory f old code at row = stays f code ∙ same_fault f (memory_fault old.table old.number) code at row
+
 pub refuses : (old new : Left) (f : Fault) → NextIs old (Err f) new → NextAdmitted old (Err (past_first f)) new
-refuses old new f (before, over, table, at, row, inl memory) = inl (ap (λ (g : Fault). g.code) (stays f memory) ∙ memory)
+refuses old new f (before, over, table, at, row, inl code) = inl (memory f old code at row)
 refuses old new f (before, over, table, at, row, inr (code, cells, rest, left, wide)) =
     let r : Cells = record { table = old.table; number = old.number; cells = cells } in
     inr (cells, rest, left, either f r code at row wide (is_past (record_limit old.table) old.number) refl)

@@ -4,6 +4,7 @@ use Rattle.std.specs.Prelude.{IfErr, codes, if◌then◌else◌, ◌&&◌, nat_l
 use Rattle.std.specs.List.{list_any}
 use Rattle.std.specs.Cmp.Lexicographic.{pointwise}
 use Rattle.mrp_qty.specs.Reading.{◌>>=◌}
+use Rattle.jiff.specs.Types.{Date}
 use Rattle.mrp_cal.specs.Calendar.{ShopCalendar, is_monday, week_of}
 use Rattle.mrp_rows.specs.declared.fault.Fault.{Fault}
 use Rattle.mrp_rows.specs.Columns.{width_of}
@@ -17,8 +18,11 @@ use Rattle.mrp_tables.specs.Items.{class_words, greatest_size, is_master, is_mas
 use Rattle.mrp_tables.specs.Laws.{FaultsAtItsRecord, FaultsAtTheirRecords, IsAt}
 use Rattle.mrp_tables.specs.Master.{kind_words, master_row}
 use Rattle.mrp_tables.specs.Reading.{Reads, admitted, by_itself, is_past}
-use Rattle.mrp_tables.specs.Stages.{lot_words, most_safety, most_scrap, record_limit}
-use Rattle.mrp_tables.specs.Tables.{not_yet}
+use Rattle.mrp_tables.specs.declared.rows.ScriptCall.{ScriptCall}
+use Rattle.mrp_tables.specs.declared.rows.ScriptCall.TheVariants as call
+use Rattle.mrp_tables.specs.Script.{ask_cells, book_cells, call_at, cancel_cells, mastered, script_row, spot_of, when_cells}
+use Rattle.mrp_tables.specs.Limits.{call_words, lot_words, most_safety, most_scrap, record_limit}
+use Rattle.mrp_tables.specs.Tables.{untaken}
 use Rattle.mrp_tables.specs.Stock.{items_in_stock, stock_cells, stock_checked, stock_row}
 
 own : (r : Cells) (code : ℕ) → IsAt r (fault_at r code)
@@ -72,8 +76,8 @@ reads read h before r = by (admitted r) refl (admitted_at r)
     by (Ok c) e at = rw (← admitted_same r c e) (h before r)
     by (Err f) e at = at
 
-pub not_yet_at : {X : Type 0} → FaultsAtItsRecord (not_yet {X = X})
-not_yet_at {X} = reads (not_yet {X = X}) (λ before r. own r 20)
+pub untaken_at : {X : Type 0} → FaultsAtItsRecord (untaken {X = X})
+untaken_at {X} = reads (untaken {X = X}) (λ before r. own r 20)
 
 pub start_at : (r : Cells) → IfErr (start_cells r) (IsAt r)
 unfolding start_cells
@@ -139,6 +143,59 @@ item_at_record before r = step r (item_cells r) (item_checked before r)
     cell r (number_cell 0 most_safety (cell_at r 6)) _ (λ safety. tt))))))))
     (λ item. checked_at before r item (list_any (pointwise nat_eq item.name) (names_of before)) refl)
 
+spot_at : (calendar : ShopCalendar) (items : List Item) (r : Cells) (name : List ℕ) (date : Date) → IfErr (spot_of calendar items r name date) (IsAt r)
+unfolding spot_of
+spot_at calendar items r name date =
+    cell r (known items name) _ (λ item.
+    cell r (or_code 15 (week_of calendar date)) _ (λ week.
+    cell r (mastered items item) _ (λ master. tt)))
+
+book_at : (calendar : ShopCalendar) (items : List Item) (r : Cells) → IfErr (book_cells calendar items r) (IsAt r)
+unfolding book_cells
+book_at calendar items r =
+    cell r (name_of (cell_at r 2)) _ (λ name.
+    cell r (date_cell (cell_at r 3)) _ (λ date.
+    cell r (number_cell 1 1000000000 (cell_at r 4)) _ (λ quantity.
+    step r (spot_of calendar items r name date) _ (spot_at calendar items r name date) (λ spot. tt))))
+
+cancel_at : (r : Cells) → IfErr (cancel_cells r) (IsAt r)
+unfolding cancel_cells
+cancel_at r = cell r (number_cell 1 1000000 (cell_at r 5)) _ (λ entry. tt)
+
+ask_at : (calendar : ShopCalendar) (items : List Item) (r : Cells) → IfErr (ask_cells calendar items r) (IsAt r)
+unfolding ask_cells
+ask_at calendar items r =
+    cell r (name_of (cell_at r 2)) _ (λ name.
+    cell r (date_cell (cell_at r 3)) _ (λ date.
+    step r (spot_of calendar items r name date) _ (spot_at calendar items r name date) (λ spot. tt)))
+
+when_at : (items : List Item) (r : Cells) → IfErr (when_cells items r) (IsAt r)
+unfolding when_cells
+when_at items r =
+    cell r (name_of (cell_at r 2)) _ (λ name.
+    cell r (number_cell 1 1000000000 (cell_at r 4)) _ (λ quantity.
+    cell r (known items name) _ (λ item.
+    cell r (mastered items item) _ (λ master. tt))))
+
+-- one of two readings
+one_of : {X : Type 0} (r : Cells) (b : Bool) (x y : Result X Fault) → IfErr x (IsAt r) → IfErr y (IsAt r) → IfErr (if b then x else y) (IsAt r)
+one_of r true x y h k = h
+one_of r false x y h k = k
+
+call_at_record : (calendar : ShopCalendar) (items : List Item) (r : Cells) (place : ℕ) → IfErr (call_at calendar items r place) (IsAt r)
+call_at_record calendar items r place =
+    one_of r (place == 0) _ _ (book_at calendar items r)
+    (one_of r (place == 1) _ _ (cancel_at r)
+    (one_of r (place == 2) _ _ (ask_at calendar items r)
+    (one_of {X = ScriptCall} r (place == 3) (Ok call.Run) (when_cells items r) tt (when_at items r))))
+
+script_at : (calendar : ShopCalendar) (items : List Item) (r : Cells) → IfErr (script_row calendar items r) (IsAt r)
+unfolding script_row
+script_at calendar items r =
+    cell r (number_cell 1 64 (cell_at r 0)) _ (λ desk.
+    cell r (word_of call_words (cell_at r 1)) _ (λ place.
+    step r (call_at calendar items r place) _ (call_at_record calendar items r place) (λ own. tt)))
+
 pub at_their_records : FaultsAtTheirRecords
 at_their_records = record {
   start = reads (by_itself start_cells) (λ before r. start_at r);
@@ -149,4 +206,5 @@ at_their_records = record {
   stock = λ items. reads (stock_row items) (stock_at items);
   bills = λ items. reads (by_itself (bill_row items)) (λ before r. bill_at items r);
   master = λ calendar items. reads (by_itself (master_row calendar items)) (λ before r. master_at calendar items r);
+  script = λ calendar items. reads (by_itself (script_row calendar items)) (λ before r. script_at calendar items r);
 }

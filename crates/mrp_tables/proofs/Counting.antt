@@ -13,7 +13,7 @@ use Rattle.mrp_rows.specs.Cell.{fault_at}
 use Rattle.mrp_rows.specs.Next.{after_header, header_fault, next_number, opened}
 use Rattle.mrp_rows.specs.Records.{records_of}
 use Rattle.mrp_tables.specs.Reading.{Gives, Reads, admitted, is_past, rows_from, rows_of}
-use Rattle.mrp_tables.specs.Stages.{record_limit}
+use Rattle.mrp_tables.specs.Limits.{record_limit}
 
 -- every limit is a number of a record
 limit_number : (table : Table) (limit : ℕ) → record_limit table ≡ Some limit → limit < 4294967294
@@ -25,7 +25,7 @@ limit_number t.Receipts limit e = let same : 0 ≡ limit = cc in omega arith
 limit_number t.Bills limit e = let same : 100000 ≡ limit = cc in omega arith
 limit_number t.Routings limit e = let same : 0 ≡ limit = cc in omega arith
 limit_number t.Master limit e = let same : 100000 ≡ limit = cc in omega arith
-limit_number t.Script limit e = let same : 0 ≡ limit = cc in omega arith
+limit_number t.Script limit e = let same : 100000 ≡ limit = cc in omega arith
 limit_number t.Bundle limit e = absurd cc
 
 -- an admitted record is within the limit
@@ -97,7 +97,12 @@ counted read table text rows limit e given = opens (opened table text) refl give
         counted_from read table limit e [] all.number all.left rows (record { few = omega arith; at = first table (records_of text) all is }) all_given
 
 -- the same of what a call returned
-pub counted_result : {X Y : Type 0} (view : Y → List X) (read : Reads X) (table : Table) (text : List ℕ) (limit : ℕ)
-    → record_limit table ≡ Some limit → (result : Result Y Fault) → Gives view result (rows_of read table text) → IfOk result (λ y. length (view y) ≤ limit)
-counted_result view read table text limit e (Ok y) given = counted read table text (view y) limit e given
-counted_result view read table text limit e (Err f) given = tt
+pub counted_result : {X Y : Type 0} (IsRefusal : Fault → Type 0) (view : Y → List X) (read : Reads X) (table : Table) (text : List ℕ) (limit : ℕ)
+    → record_limit table ≡ Some limit → (result : Result Y Fault) → Gives IsRefusal view result (rows_of read table text) → IfOk result (λ y. length (view y) ≤ limit)
+counted_result IsRefusal view read table text limit e (Ok y) given = counted read table text (view y) limit e given
+counted_result IsRefusal view read table text limit e (Err f) given = tt
+
+-- a table that takes no record has no row
+pub no_rows : {X : Type 0} (rows : List X) → length rows ≤ 0 → rows ≡ []
+no_rows [] few = refl
+no_rows (x ∷ rows) few = absurd (omega (arith, few))

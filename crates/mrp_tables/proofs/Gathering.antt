@@ -1,11 +1,13 @@
 -- Gathering a table's rows, one record after the other.
-use Rattle.std.proofs.Common.{◌≡◌, ◌⊎◌, List, [], ◌∷◌, ◌++◌, Some, None, Result, Ok, Err, inl, inr, refl, sym, ap, ◌∙◌}
+use Rattle.std.proofs.Common.{◌≡◌, ◌⊎◌, ℕ, List, [], ◌∷◌, ◌++◌, Some, None, Result, Ok, Err, inl, inr, refl, sym, ap, ◌∙◌, append_assoc}
 use Rattle.mrp_qty.specs.Reading.{◌>>=◌}
 use Rattle.mrp_rows.specs.declared.fault.Fault.{Fault}
 use Rattle.mrp_rows.specs.declared.fault.Table.{Table}
 use Rattle.mrp_rows.specs.Left.{Cells, Left}
-use Rattle.mrp_rows.specs.Next.{next_number}
-use Rattle.mrp_tables.specs.Reading.{Adds, NextAdmitted, Reads, admitted, rows_from}
+use Rattle.mrp_rows.specs.Next.{memory_fault, next_number}
+use Rattle.mrp_tables.specs.Laws.{read_one}
+use Rattle.mrp_tables.specs.Reading.{Adds, IsRefusedBehind, NextAdmitted, Reads, admitted, number_behind, rows_from}
+use Rattle.mrp_tables.proofs.RowLaws.{Records, bind_assoc, whole_step}
 
 -- a table is read, but for the records that a cursor has left
 pub record IsLeft {X : Type 0} (read : Reads X) (t : Table) (before : List X) (c : Left) (total : Result (List X) Fault) : Type 0 where
@@ -36,18 +38,83 @@ adds read t before after old new r total u h given (x, reads, grown) = record {
   table = given.5 ∙ h.table;
 }
 
+-- the records before a cursor's place are read
+pub record IsDone {X : Type 0} (read : Reads X) (t : Table) (start : List X) (first : ℕ) (all : Records) (before : List X) (c : Left) : Type 0 where
+  pub done : Records
+  pub parts : all ≡ done ++ c.left
+  pub are_read : rows_from read t start first done ≡ Ok before
+  pub at : c.number ≡ number_behind first done
+
+-- none is read
+pub begun : {X : Type 0} (read : Reads X) (t : Table) (start : List X) (c : Left) → IsDone read t start c.number c.left start c
+unfolding rows_from
+begun read t start c = record { done = []; parts = refl; are_read = refl; at = refl }
+
+number_behind-more : (done : Records) (first : ℕ) (cells : List (List ℕ)) → number_behind first (done ++ cells ∷ []) ≡ next_number (number_behind first done)
+number_behind-more [] first cells = refl
+number_behind-more (d ∷ done) first cells = number_behind-more done (next_number first) cells
+
+-- one more record is read
+one_more : {X : Type 0} (read : Reads X) (t : Table) (done : Records) (start : List X) (first : ℕ) (before : List X) (cells : List (List ℕ)) (x : X)
+    → rows_from read t start first done ≡ Ok before
+    → read_one read before (record { table = t; number = number_behind first done; cells = cells }) ≡ Ok x
+    → rows_from read t start first (done ++ cells ∷ []) ≡ Ok (before ++ x ∷ [])
+unfolding rows_from
+one_more {X} read t [] start first before cells x are reads =
+    let r : Cells = record { table = t; number = first; cells = cells } in
+    let next : X → Result (List X) Fault = λ y. rows_from read t (start ++ (y ∷ [])) (next_number first) [] in
+    let same : start ≡ before = cc in
+    let one : read_one read start r ≡ Ok x = rw same reads in
+    sym (bind_assoc (admitted r) (read start) next) ∙ ap (λ (y : Result X Fault). y >>= next) one ∙ ap (λ (rows : List X). Ok (rows ++ x ∷ [])) same
+one_more {X} read t (d ∷ done) start first before cells x are reads =
+    let r : Cells = record { table = t; number = first; cells = d } in
+    let next : X → Result (List X) Fault = λ y. rows_from read t (start ++ (y ∷ [])) (next_number first) done in
+    let longer : X → Result (List X) Fault = λ y. rows_from read t (start ++ (y ∷ [])) (next_number first) (done ++ cells ∷ []) in
+    let step = whole_step (read_one read start r) next before (bind_assoc (admitted r) (read start) next ∙ are) in
+    sym (bind_assoc (admitted r) (read start) longer) ∙ ap (λ (y : Result X Fault). y >>= longer) step.1
+    ∙ one_more read t done (start ++ step.0 ∷ []) (next_number first) before cells x step.2 reads
+
+pub adds_done : {X : Type 0} (read : Reads X) (t : Table) (start : List X) (first : ℕ) (all : Records) (before after : List X) (old new : Left) (r : Cells) (u : Unit {0})
+    → old.table ≡ t → IsDone read t start first all before old → NextAdmitted old (Ok (Some r)) new → Adds read before r (Ok u) after
+    → IsDone read t start first all after new
+adds_done read t start first all before after old new r u own h (left, table, number, within, next, same_table, usable) (x, reads, grown) =
+    let made : Cells = record { table = t; number = number_behind first h.done; cells = r.cells } in
+    let same : made ≡ r = same_cells made r (sym (table ∙ own)) (sym (number ∙ h.at)) refl in
+    let one : read_one read before made ≡ Ok x = ap (read_one read before) same ∙ rw within reads in
+    record {
+      done = h.done ++ r.cells ∷ [];
+      parts = h.parts ∙ ap (λ (rest : Records). h.done ++ rest) left ∙ sym (append_assoc h.done (r.cells ∷ []) new.left);
+      are_read = rw grown (one_more read t h.done start first before r.cells x h.are_read one);
+      at = next ∙ ap next_number h.at ∙ sym (number_behind-more h.done first r.cells);
+    }
+
+-- memory is refused at a cursor's place
+behind : {X : Type 0} (read : Reads X) (t : Table) (start : List X) (first : ℕ) (all : Records) (before : List X) (c : Left) (f : Fault)
+    → IsDone read t start first all before c → c.table ≡ t → f ≡ memory_fault c.table c.number → IsRefusedBehind read t start first all f
+behind read t start first all before c f h own e = record {
+  done = h.done;
+  rest = c.left;
+  rows = before;
+  parts = h.parts;
+  are_read = h.are_read;
+  fault = e ∙ (λ i. memory_fault (own i) (h.at i));
+}
+
 -- a row is refused
-pub refuses : {X : Type 0} (read : Reads X) (t : Table) (before after : List X) (old new : Left) (r : Cells) (total : Result (List X) Fault) (f : Fault)
-    → IsLeft read t before old total → NextAdmitted old (Ok (Some r)) new → Adds read before r (Err f) after → (f.code ≡ 22) ⊎ (total ≡ Err f)
-refuses read t before after old new r total f h given (same, inl memory) = inl memory
-refuses read t before after old new r total f h given (same, inr why) = inr (sym (rw why at (begins read t before old new r total h given)))
+pub refuses : {X : Type 0} (read : Reads X) (t : Table) (start : List X) (first : ℕ) (all : Records) (before after : List X) (old new : Left) (r : Cells) (total : Result (List X) Fault) (f : Fault)
+    → IsLeft read t before old total → IsDone read t start first all before old → NextAdmitted old (Ok (Some r)) new → Adds read before r (Err f) after
+    → IsRefusedBehind read t start first all f ⊎ (total ≡ Err f)
+refuses read t start first all before after old new r total f h d given (same, inl memory) =
+    inl (behind read t start first all before old f d h.table (memory ∙ (λ i. memory_fault (given.1 i) (given.2 i))))
+refuses read t start first all before after old new r total f h d given (same, inr why) = inr (sym (rw why at (begins read t before old new r total h given)))
 
 -- the next record is refused
-pub stops : {X : Type 0} (read : Reads X) (t : Table) (before : List X) (old new : Left) (total : Result (List X) Fault) (f : Fault)
-    → IsLeft read t before old total → NextAdmitted old (Err f) new → (f.code ≡ 22) ⊎ (total ≡ Err f)
+pub stops : {X : Type 0} (read : Reads X) (t : Table) (start : List X) (first : ℕ) (all : Records) (before : List X) (old new : Left) (total : Result (List X) Fault) (f : Fault)
+    → IsLeft read t before old total → IsDone read t start first all before old → NextAdmitted old (Err f) new
+    → IsRefusedBehind read t start first all f ⊎ (total ≡ Err f)
 unfolding rows_from
-stops read t before old new total f h (inl memory) = inl memory
-stops read t before old new total f h (inr (cells, rest, left, why)) =
+stops read t start first all before old new total f h d (inl memory) = inl (behind read t start first all before old f d h.table memory)
+stops read t start first all before old new total f h d (inr (cells, rest, left, why)) =
     let opened : rows_from read t before old.number old.left ≡ Err f = rw (left, ← h.table, why) refl in
     inr (sym h.left ∙ opened)
 

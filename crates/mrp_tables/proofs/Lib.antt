@@ -1,3 +1,4 @@
+mod AcceptedTables
 mod AdmittedFirst
 mod Admitting
 mod Blaming
@@ -8,6 +9,7 @@ mod Kept
 mod Opening
 mod OwnTable
 mod RowLaws
+mod Refused
 mod SevenFlags
 mod Stocked
 mod TableLaws

@@ -6,8 +6,11 @@ use Rattle.mrp_tables.specs.declared.item.LotRule.TheVariants.{Fixed, Period}
 use Rattle.mrp_tables.specs.declared.rows.StockRow.{StockRow}
 use Rattle.mrp_tables.specs.declared.rows.BillLine.{BillLine}
 use Rattle.mrp_tables.specs.declared.rows.MasterRow.{MasterRow}
+use Rattle.mrp_tables.specs.declared.rows.ScriptCall.{ScriptCall}
+use Rattle.mrp_tables.specs.declared.rows.ScriptCall.TheVariants as call
+use Rattle.mrp_tables.specs.declared.rows.ScriptRow.{ScriptRow}
 use Rattle.mrp_tables.specs.Items.{is_master, is_master_at}
-use Rattle.mrp_tables.specs.Stages.{most_safety, most_scrap}
+use Rattle.mrp_tables.specs.Limits.{most_safety, most_scrap}
 
 -- no two of a list are the same
 abbrev pub AllDiffer : {X : Type 0} → List X → Type 0
@@ -48,3 +51,20 @@ pub record IsMasterRow (weeks : ℕ) (items : List Item) (row : MasterRow) : Typ
 -- what is read of a row of the master schedule: a row, if it has a piece
 abbrev pub IsMasterRowIfAny : ℕ → List Item → MasterRow → Type 0
 IsMasterRowIfAny weeks items row = 0 < row.quantity → IsMasterRow weeks items row
+
+-- a master item that is there
+pub record IsMasterItem (items : List Item) (place : ℕ) : Type 0 where
+  pub there : place < length items
+  pub master : is_master_at items place ≡ true
+
+-- a call of a script: of master items, in weeks of the horizon, of at least one piece; of an entry by its number
+pub record IsScriptCall (weeks : ℕ) (items : List Item) (given : ScriptCall) : Type 0 where
+  pub book : (item week quantity : ℕ) → given ≡ call.Book item week quantity → IsMasterItem items item × IsInRange 1 weeks week × IsInRange 1 1000000000 quantity
+  pub cancel : (entry : ℕ) → given ≡ call.Cancel entry → IsInRange 1 1000000 entry
+  pub ask : (item week : ℕ) → given ≡ call.Ask item week → IsMasterItem items item × IsInRange 1 weeks week
+  pub when : (item quantity : ℕ) → given ≡ call.When item quantity → IsMasterItem items item × IsInRange 1 1000000000 quantity
+
+-- a row of the script: the call of a desk
+pub record IsScriptRow (weeks : ℕ) (items : List Item) (row : ScriptRow) : Type 0 where
+  pub desk : IsInRange 1 64 row.desk
+  pub call : IsScriptCall weeks items row.call

@@ -2,17 +2,16 @@
 use Rattle.std.specs.Prelude.{ℕ, List, []}
 use Rattle.mrp_cal.specs.Calendar.{ShopCalendar}
 use Rattle.mrp_tables.specs.declared.item.Item.{Item}
-use Rattle.mrp_tables.specs.declared.rows.MasterRow.{MasterRow}
 
 pub record Gathered (X : Type 0) : Type 0 where
   pub items : List Item
   pub rows : List X
 
--- the master rows so far, beside the calendar and the items
-pub record GatheredMaster : Type 0 where
+-- rows with dates so far, beside the calendar and the items
+pub record GatheredByDate (X : Type 0) : Type 0 where
   pub calendar : ShopCalendar
   pub items : List Item
-  pub rows : List MasterRow
+  pub rows : List X
 
 -- what a table is read beside: the items, and the weeks of the horizon
 pub record Beside : Type 0 where

@@ -13,7 +13,7 @@ use Rattle.mrp_tables.specs.declared.item.LotRule.{LotRule}
 use Rattle.mrp_tables.specs.declared.item.LotRule.TheVariants.{LotForLot, Fixed, Period}
 use Rattle.mrp_tables.specs.declared.item.Item.{Item}
 use Rattle.mrp_tables.specs.Reading.{rows_of}
-use Rattle.mrp_tables.specs.Stages.{lot_words, most_scrap, most_safety}
+use Rattle.mrp_tables.specs.Limits.{lot_words, most_scrap, most_safety}
 
 abbrev pub class_words : List (List ℕ)
 class_words = codes "master" ∷ codes "part" ∷ []

@@ -15,15 +15,15 @@ use Rattle.mrp_tables.specs.declared.item.Item.{Item}
 use Rattle.mrp_tables.specs.declared.rows.Centre.{Centre}
 use Rattle.mrp_tables.specs.declared.rows.Receipt.{Receipt}
 use Rattle.mrp_tables.specs.declared.rows.Operation.{Operation}
-use Rattle.mrp_tables.specs.declared.rows.ScriptRow.{ScriptRow}
 use Rattle.mrp_tables.specs.Bills.{bill_row, bills_of}
 use Rattle.mrp_tables.specs.Calendar.{calendar_of, holiday_row, start_cells, weeks_cells, workdays_cells}
 use Rattle.mrp_tables.specs.Items.{item_row, items_of}
 use Rattle.mrp_tables.specs.Master.{master_of, master_row}
-use Rattle.mrp_tables.specs.Reading.{Reads, admitted, by_itself, is_past, rows_of}
-use Rattle.mrp_tables.specs.Stages.{record_limit}
+use Rattle.mrp_tables.specs.Reading.{IsMemoryFault, IsRefusedIn, Reads, admitted, by_itself, is_past, rows_of}
+use Rattle.mrp_tables.specs.Script.{script_of, script_row}
+use Rattle.mrp_tables.specs.Limits.{record_limit}
 use Rattle.mrp_tables.specs.Stock.{stock_of, stock_row}
-use Rattle.mrp_tables.specs.Tables.{not_yet, tables_in}
+use Rattle.mrp_tables.specs.Tables.{Tables, untaken, tables_in}
 
 -- the number of the record at a place, counted from 0
 abbrev pub number_at : ℕ → ℕ
@@ -85,6 +85,7 @@ pub record FaultsAtTheirRecords : Type 0 where
   pub stock : (items : List Item) → FaultsAtItsRecord (stock_row items)
   pub bills : (items : List Item) → FaultsAtItsRecord (by_itself (bill_row items))
   pub master : (calendar : ShopCalendar) (items : List Item) → FaultsAtItsRecord (by_itself (master_row calendar items))
+  pub script : (calendar : ShopCalendar) (items : List Item) → FaultsAtItsRecord (by_itself (script_row calendar items))
 
 -- that a table is read whole, or its fault
 abbrev pub whole : {X : Type 0} → Result X Fault → Result (Unit {0}) Fault
@@ -95,16 +96,30 @@ whole (Err f) = Err f
 abbrev pub reading_of : List (List ℕ) → Table → Result (Unit {0}) Fault
 reading_of texts t.Calendar = whole (calendar_of (text_in texts t.Calendar))
 reading_of texts t.Items = whole (items_of (text_in texts t.Items))
-reading_of texts t.Centres = whole (rows_of (not_yet {X = Centre}) t.Centres (text_in texts t.Centres))
+reading_of texts t.Centres = whole (rows_of (untaken {X = Centre}) t.Centres (text_in texts t.Centres))
 reading_of texts t.Stock = items_of (text_in texts t.Items) >>= λ items. whole (stock_of items (text_in texts t.Stock))
-reading_of texts t.Receipts = whole (rows_of (not_yet {X = Receipt}) t.Receipts (text_in texts t.Receipts))
+reading_of texts t.Receipts = whole (rows_of (untaken {X = Receipt}) t.Receipts (text_in texts t.Receipts))
 reading_of texts t.Bills = items_of (text_in texts t.Items) >>= λ items. whole (bills_of items (text_in texts t.Bills))
-reading_of texts t.Routings = whole (rows_of (not_yet {X = Operation}) t.Routings (text_in texts t.Routings))
+reading_of texts t.Routings = whole (rows_of (untaken {X = Operation}) t.Routings (text_in texts t.Routings))
 reading_of texts t.Master =
     calendar_of (text_in texts t.Calendar) >>= λ calendar.
     items_of (text_in texts t.Items) >>= λ items. whole (master_of calendar items (text_in texts t.Master))
-reading_of texts t.Script = whole (rows_of (not_yet {X = ScriptRow}) t.Script (text_in texts t.Script))
+reading_of texts t.Script =
+    calendar_of (text_in texts t.Calendar) >>= λ calendar.
+    items_of (text_in texts t.Items) >>= λ items. whole (script_of calendar items (text_in texts t.Script))
 reading_of texts t.Bundle = Ok tt
+
+-- each table of a bundle is what its own text reads as, beside the earlier tables that it looks at
+pub record AreOfTheirTexts (texts : List (List ℕ)) (tables : Tables) : Type 0 where
+  pub calendar : calendar_of (text_in texts t.Calendar) ≡ Ok tables.calendar
+  pub items : items_of (text_in texts t.Items) ≡ Ok tables.items
+  pub centres : rows_of untaken t.Centres (text_in texts t.Centres) ≡ Ok tables.centres
+  pub stock : stock_of tables.items (text_in texts t.Stock) ≡ Ok tables.stock
+  pub receipts : rows_of untaken t.Receipts (text_in texts t.Receipts) ≡ Ok tables.receipts
+  pub bills : bills_of tables.items (text_in texts t.Bills) ≡ Ok tables.bills
+  pub routings : rows_of untaken t.Routings (text_in texts t.Routings) ≡ Ok tables.routings
+  pub master : master_of tables.calendar tables.items (text_in texts t.Master) ≡ Ok tables.master
+  pub script : script_of tables.calendar tables.items (text_in texts t.Script) ≡ Ok tables.script
 
 -- the tables in the order of their faults
 abbrev pub table_order : List Table
@@ -119,6 +134,33 @@ all_whole (r ∷ rest) = r >>= λ whole. all_whole rest
 -- a fault is told at its table, and the tables before it are all read whole
 pub record IsToldAtItsTable (texts : List (List ℕ)) (f : Fault) : Type 0 where
   pub own : reading_of texts f.table ≡ Err f
+  pub earlier : all_whole (map (reading_of texts) (take (table_index f.table) table_order)) ≡ Ok tt
+
+-- memory was refused while a table was read: for its header, or for a record behind those that are read; in the calendar for any
+abbrev pub IsRefusedAt : List (List ℕ) → Fault → Table → Type 0
+IsRefusedAt texts f t.Calendar = IsMemoryFault t.Calendar f
+IsRefusedAt texts f t.Items = IsRefusedIn item_row t.Items (text_in texts t.Items) f
+IsRefusedAt texts f t.Centres = IsRefusedIn (untaken {X = Centre}) t.Centres (text_in texts t.Centres) f
+IsRefusedAt texts f t.Stock =
+    (items : List Item) × (items_of (text_in texts t.Items) ≡ Ok items) × IsRefusedIn (stock_row items) t.Stock (text_in texts t.Stock) f
+IsRefusedAt texts f t.Receipts = IsRefusedIn (untaken {X = Receipt}) t.Receipts (text_in texts t.Receipts) f
+IsRefusedAt texts f t.Bills =
+    (items : List Item) × (items_of (text_in texts t.Items) ≡ Ok items) × IsRefusedIn (by_itself (bill_row items)) t.Bills (text_in texts t.Bills) f
+IsRefusedAt texts f t.Routings = IsRefusedIn (untaken {X = Operation}) t.Routings (text_in texts t.Routings) f
+IsRefusedAt texts f t.Master =
+    (calendar : ShopCalendar) × (calendar_of (text_in texts t.Calendar) ≡ Ok calendar)
+    × (items : List Item) × (items_of (text_in texts t.Items) ≡ Ok items)
+    × IsRefusedIn (by_itself (master_row calendar items)) t.Master (text_in texts t.Master) f
+IsRefusedAt texts f t.Script =
+    (calendar : ShopCalendar) × (calendar_of (text_in texts t.Calendar) ≡ Ok calendar)
+    × (items : List Item) × (items_of (text_in texts t.Items) ≡ Ok items)
+    × IsRefusedIn (by_itself (script_row calendar items)) t.Script (text_in texts t.Script) f
+IsRefusedAt texts f t.Bundle = ⊥
+
+-- memory was refused while a table was read: the records before the fault's are read, and the tables before it are all read whole
+pub record IsMemoryRefusal (texts : List (List ℕ)) (f : Fault) : Type 0 where
+  pub code : f.code ≡ 22
+  pub at : IsRefusedAt texts f f.table
   pub earlier : all_whole (map (reading_of texts) (take (table_index f.table) table_order)) ≡ Ok tt
 
 -- a bundle's fault is that of its first table, in their order, that is not read whole

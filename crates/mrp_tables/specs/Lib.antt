@@ -4,9 +4,10 @@ pub mod Facts
 pub mod Gathered
 pub mod Items
 pub mod Laws
+pub mod Limits
 pub mod Master
 pub mod Reading
+pub mod Script
 pub mod Seen
-pub mod Stages
 pub mod Stock
 pub mod Tables

@@ -5,9 +5,9 @@ use Rattle.mrp_rows.specs.declared.fault.Fault.{Fault}
 use Rattle.mrp_rows.specs.declared.fault.Table.{Table}
 use Rattle.mrp_rows.specs.Columns.{width_of}
 use Rattle.mrp_rows.specs.Left.{Cells, Left}
-use Rattle.mrp_rows.specs.Next.{next_number, opened}
+use Rattle.mrp_rows.specs.Next.{memory_fault, next_number, opened}
 use Rattle.mrp_rows.specs.Cell.{fault_at}
-use Rattle.mrp_tables.specs.Stages.{record_limit}
+use Rattle.mrp_tables.specs.Limits.{record_limit}
 
 abbrev pub is_past : Option ℕ → ℕ → Bool
 is_past None number = false
@@ -39,28 +39,52 @@ rows_from read t before number (cells ∷ rest) =
 abbrev pub rows_of : {X : Type 0} → Reads X → Table → List ℕ → Result (List X) Fault
 rows_of read t text = opened t text >>= λ all. rows_from read t [] all.number all.left
 
--- what a call returned, seen by view, is what reading gives, unless memory was refused
-abbrev pub Gives : {X Y : Type 0} → (X → Y) → Result X Fault → Result Y Fault → Type 0
-Gives view (Ok x) read = read ≡ Ok (view x)
-Gives view (Err f) read = (f.code ≡ 22) ⊎ (read ≡ Err f)
+-- memory was refused while a table was read
+pub record IsMemoryFault (own : Table) (f : Fault) : Type 0 where
+  pub code : f.code ≡ 22
+  pub table : f.table ≡ own
 
--- adding a record's row: the row is what the record reads as, or nothing is added
+-- the number of the record behind these
+abbrev pub number_behind : ℕ → List (List (List ℕ)) → ℕ
+number_behind number [] = number
+number_behind number (cells ∷ done) = number_behind (next_number number) done
+
+-- memory was refused for one of the records that are left, or for their end: those before it are read
+pub record IsRefusedBehind {X : Type 0} (read : Reads X) (own : Table) (before : List X) (number : ℕ) (left : List (List (List ℕ))) (f : Fault) : Type 0 where
+  pub done : List (List (List ℕ))
+  pub rest : List (List (List ℕ))
+  pub rows : List X
+  pub parts : left ≡ done ++ rest
+  pub are_read : rows_from read own before number done ≡ Ok rows
+  pub fault : f ≡ memory_fault own (number_behind number done)
+
+-- memory was refused for a table's header, or for a record behind those that are read
+abbrev pub IsRefusedIn : {X : Type 0} → Reads X → Table → List ℕ → Fault → Type 0
+IsRefusedIn read own text f =
+    (f ≡ memory_fault own 0) ⊎ ((all : Left) × (opened own text ≡ Ok all) × IsRefusedBehind read own [] all.number all.left f)
+
+-- what a call returned, seen by view, is what reading gives, unless memory was refused: then its fault is one of these
+abbrev pub Gives : {X Y : Type 0} → (Fault → Type 0) → (X → Y) → Result X Fault → Result Y Fault → Type 0
+Gives IsRefusal view (Ok x) read = read ≡ Ok (view x)
+Gives IsRefusal view (Err f) read = IsRefusal f ⊎ (read ≡ Err f)
+
+-- adding a record's row: the row is what the record reads as, or nothing is added; where memory was refused, the fault is at the record
 abbrev pub Adds : {X : Type 0} → Reads X → List X → Cells → Result (Unit {0}) Fault → List X → Type 0
 Adds {X} read old r (Ok u) new = (x : X) × (read old r ≡ Ok x) × (new ≡ old ++ (x ∷ []))
-Adds read old r (Err f) new = (new ≡ old) × ((f.code ≡ 22) ⊎ (read old r ≡ Err f))
+Adds read old r (Err f) new = (new ≡ old) × ((f ≡ fault_at r 22) ⊎ (read old r ≡ Err f))
 
--- the next record of a table, admitted; none where none is left; or why it is refused
+-- the next record of a table, admitted; none where none is left; or why it is refused: for want of memory at its number
 abbrev pub NextAdmitted : Left → Result (Option Cells) Fault → Left → Type 0
 NextAdmitted old (Ok None) new = old.left ≡ []
 NextAdmitted old (Ok (Some r)) new =
     (old.left ≡ r.cells ∷ new.left) × (r.table ≡ old.table) × (r.number ≡ old.number) × (admitted r ≡ Ok r)
     × (new.number ≡ next_number old.number) × (new.table ≡ old.table) × (new.is_over ≡ false)
 NextAdmitted old (Err f) new =
-    (f.code ≡ 22)
+    (f ≡ memory_fault old.table old.number)
     ⊎ ((cells : List (List ℕ)) × (rest : List (List (List ℕ))) × (old.left ≡ cells ∷ rest)
     × (admitted (record { table = old.table; number = old.number; cells = cells }) ≡ Err f))
 
--- a step along the records that are left, unless memory was refused
+-- a step along the records that are left, unless memory was refused at the first of them
 abbrev pub Steps : {X : Type 0} → (Left → Result (X × Left) Fault) → Left → Result X Fault → Left → Type 0
 Steps step old (Ok x) new = step old ≡ Ok (x, new)
-Steps step old (Err f) new = (f.code ≡ 22) ⊎ (step old ≡ Err f)
+Steps step old (Err f) new = (f ≡ memory_fault old.table old.number) ⊎ (step old ≡ Err f)

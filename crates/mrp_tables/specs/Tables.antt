@@ -1,5 +1,5 @@
 -- The typed tables of a bundle (profile).
-use Rattle.std.specs.Prelude.{ℕ, ◌≤◌, List, All, length, Result, Ok, Err}
+use Rattle.std.specs.Prelude.{ℕ, ◌≡◌, ◌≤◌, List, [], All, length, Result, Ok, Err}
 use Rattle.mrp_qty.specs.Reading.{◌>>=◌}
 use Rattle.mrp_cal.specs.Calendar.{ShopCalendar}
 use Rattle.mrp_rows.specs.Bundle.{bundle_of, text_in}
@@ -17,10 +17,11 @@ use Rattle.mrp_tables.specs.declared.rows.MasterRow.{MasterRow}
 use Rattle.mrp_tables.specs.declared.rows.ScriptRow.{ScriptRow}
 use Rattle.mrp_tables.specs.Bills.{bills_of}
 use Rattle.mrp_tables.specs.Calendar.{calendar_of}
-use Rattle.mrp_tables.specs.Facts.{AllDiffer, IsBillLine, IsItem, IsMasterRow, IsStockRow}
+use Rattle.mrp_tables.specs.Facts.{AllDiffer, IsBillLine, IsItem, IsMasterRow, IsScriptRow, IsStockRow}
 use Rattle.mrp_tables.specs.Items.{items_of, names_of}
 use Rattle.mrp_tables.specs.Master.{master_of}
 use Rattle.mrp_tables.specs.Reading.{rows_of}
+use Rattle.mrp_tables.specs.Script.{script_of}
 use Rattle.mrp_tables.specs.Stock.{items_in_stock, stock_of}
 
 -- the tables, each as its rows in table order
@@ -35,9 +36,9 @@ pub record Tables : Type 0 where
   pub master : List MasterRow
   pub script : List ScriptRow
 
--- a record of a table that takes none yet: its limit refuses it before it is read
-abbrev pub not_yet : {X : Type 0} → List X → Cells → Result X Fault
-not_yet before r = Err (fault_at r 20)
+-- a record of a table that takes none: its limit refuses it before it is read
+abbrev pub untaken : {X : Type 0} → List X → Cells → Result X Fault
+untaken before r = Err (fault_at r 20)
 
 -- the first three tables, the next, and the last
 pub record Head : Type 0 where
@@ -59,21 +60,21 @@ unfoldable pub head_in : List (List ℕ) → Result Head Fault
 head_in texts = do
   calendar ← calendar_of (text_in texts t.Calendar)
   items ← items_of (text_in texts t.Items)
-  centres ← rows_of not_yet t.Centres (text_in texts t.Centres)
+  centres ← rows_of untaken t.Centres (text_in texts t.Centres)
   Ok (record { calendar = calendar; items = items; centres = centres })
 
 unfoldable pub middle_in : List (List ℕ) → List Item → Result Middle Fault
 middle_in texts items = do
   stock ← stock_of items (text_in texts t.Stock)
-  receipts ← rows_of not_yet t.Receipts (text_in texts t.Receipts)
+  receipts ← rows_of untaken t.Receipts (text_in texts t.Receipts)
   bills ← bills_of items (text_in texts t.Bills)
   Ok (record { stock = stock; receipts = receipts; bills = bills })
 
 unfoldable pub tail_in : List (List ℕ) → ShopCalendar → List Item → Result Tail Fault
 tail_in texts calendar items = do
-  routings ← rows_of not_yet t.Routings (text_in texts t.Routings)
+  routings ← rows_of untaken t.Routings (text_in texts t.Routings)
   master ← master_of calendar items (text_in texts t.Master)
-  script ← rows_of not_yet t.Script (text_in texts t.Script)
+  script ← script_of calendar items (text_in texts t.Script)
   Ok (record { routings = routings; master = master; script = script })
 
 abbrev pub joined : Head → Middle → Tail → Tables
@@ -89,17 +90,22 @@ joined h m l = record {
   script = l.script;
 }
 
--- what accepted tables keep: rows within their limits, of items that are there and weeks of the horizon; names that differ, and items that stand in the stock at most once; no more rows than the limits
+-- what accepted tables keep: rows within their limits, of items that are there and weeks of the horizon; names that differ, and items that stand in the stock at most once; no more rows than the limits, so none of a table that takes no record
 pub record AreTables (t : Tables) : Type 0 where
   pub items : All IsItem t.items
   pub names : AllDiffer (names_of t.items)
   pub item_count : length t.items ≤ 20000
+  pub centres : t.centres ≡ []
   pub stock : All (IsStockRow t.items) t.stock
   pub stocked : AllDiffer (items_in_stock t.stock)
+  pub receipts : t.receipts ≡ []
   pub bills : All (IsBillLine t.items) t.bills
   pub line_count : length t.bills ≤ 100000
+  pub routings : t.routings ≡ []
   pub master : All (IsMasterRow t.calendar.weeks t.items) t.master
   pub master_count : length t.master ≤ 100000
+  pub script : All (IsScriptRow t.calendar.weeks t.items) t.script
+  pub script_count : length t.script ≤ 100000
 
 -- the tables of the sections' texts, in the order of their faults
 unfoldable pub tables_in : List (List ℕ) → Result Tables Fault

@@ -8,7 +8,7 @@ ghost use Rattle.mrp_cal.specs.DateText.{IsPlanningYear};
 ghost use Rattle.mrp_rows.specs.Columns.{width_of};
 ghost use Rattle.mrp_rows.specs.Cell.{blame, cell_at};
 ghost use Rattle.mrp_tables.specs.Calendar.{are_flags, calendar_in, flags_of, holiday_row, keyed, next_as, next_of, start_cells, weeks_cells, workdays_cell, workdays_cells};
-ghost use Rattle.mrp_tables.specs.Reading.{Gives, Steps};
+ghost use Rattle.mrp_tables.specs.Reading.{Gives, IsMemoryFault, Steps};
 
 use crate::codes::{COLUMNS, NO_MEMORY, RANGE, WORD};
 use crate::reading::{TableRows, gather, next_record};
@@ -192,7 +192,7 @@ impl TableRows for Holidays {
 #[tactic(auto, unfolding(crate::specs::Calendar::calendar_in, mrp_cal::specs::Calendar::calendar_of))]
 pub(crate) fn calendar_in(alloc: Global, cursor: &mut Cursor<'_>) -> Result<Calendar, Fault>
     requires { width_of cursor.old.table ≡ 2 }
-    ensures { Gives (λ c. c) result (calendar_in cursor.old) }
+    ensures { Gives (IsMemoryFault cursor.old.table) (λ c. c) result (calendar_in cursor.old) }
 {
     let start = next_start(cursor)?;
     let weeks = next_weeks(cursor)?;

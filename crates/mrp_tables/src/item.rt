@@ -5,7 +5,7 @@ ghost use Rattle.std.specs.Int.{IsInRange};
 ghost use Rattle.mrp_tables.specs.Items.{class_at, greatest_size, least_size, lot_at};
 
 use crate::cells::{MOST_PIECES, quantity};
-use crate::stages::{LOT_WORDS, MOST_SAFETY, MOST_SCRAP};
+use crate::limits::{LOT_WORDS, MOST_SAFETY, MOST_SCRAP};
 use mrp_qty::Qty;
 use mrp_rows::{Fault, Name, Row};
 
@@ -64,7 +64,7 @@ impl Item {
         let scrap = row.number(3, 0, MOST_SCRAP)?;
         let lot = row.word(4, LOT_WORDS)?;
         let size = row.number(5, least_size(lot), greatest_size(lot))?;
-        let safety = quantity(row, 6, MOST_SAFETY)?;
+        let safety = quantity(row, 6, 0, MOST_SAFETY)?;
         Ok(Item {
             name,
             class: class_at(class),

@@ -1,12 +1,12 @@
 //! What holds of every table's rows and of every bundle's tables, by the definitions alone.
 
-ghost use Rattle.std.specs.Prelude.{◌≡◌, ℕ, List, Err};
+ghost use Rattle.std.specs.Prelude.{◌≡◌, ℕ, List, Ok, Err};
 ghost use Rattle.mrp_rows.specs.declared.fault.Fault.{Fault};
 ghost use Rattle.mrp_rows.specs.declared.fault.Table.{Table};
 ghost use Rattle.mrp_rows.specs.Left.{Cells};
-ghost use Rattle.mrp_tables.specs.Laws.{FaultsAtTheirRecords, IsAdmittedFirst, IsFirstTablesFault, IsReadInTurn, IsToldAtItsTable};
+ghost use Rattle.mrp_tables.specs.Laws.{AreOfTheirTexts, FaultsAtTheirRecords, IsAdmittedFirst, IsFirstTablesFault, IsReadInTurn, IsToldAtItsTable};
 ghost use Rattle.mrp_tables.specs.Reading.{Reads};
-ghost use Rattle.mrp_tables.specs.Tables.{tables_in};
+ghost use Rattle.mrp_tables.specs.Tables.{Tables, tables_in};
 
 /// A table's rows are its records read one by one, each after the rows before it; a fault is the
 /// header's, or that of the first record that cannot be read after those before it.
@@ -32,4 +32,11 @@ pub fn faults_are_told_at_their_tables()
 /// The tables are read in their order: the first one that is not read whole gives the fault.
 pub fn tables_are_read_in_turn()
     ensures { (texts : List (List ℕ)) → IsFirstTablesFault texts }
+{}
+
+/// Each table of an accepted bundle is what its own text reads as: the calendar and the items by
+/// themselves, and the others beside them.
+pub fn accepted_tables_are_of_their_texts()
+    ensures { (texts : List (List ℕ)) (tables : Tables) → tables_in texts ≡ Ok tables
+        → AreOfTheirTexts texts tables }
 {}

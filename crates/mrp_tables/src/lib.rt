@@ -8,10 +8,11 @@ mod codes;
 mod item;
 mod items;
 pub mod laws;
+mod limits;
 mod master;
 mod reading;
 mod rows;
-mod stages;
+mod script;
 mod stock;
 mod tables;
 #[cfg(test)]
@@ -19,6 +20,6 @@ mod tests;
 
 pub use item::{Class, Item, LotRule};
 pub use rows::{
-    BillLine, Call, Centre, MasterKind, MasterRow, Operation, Receipt, ScriptRow, StockRow,
+    BillLine, Centre, MasterKind, MasterRow, Operation, Receipt, ScriptCall, ScriptRow, StockRow,
 };
 pub use tables::Tables;

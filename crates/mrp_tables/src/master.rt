@@ -23,9 +23,10 @@ pub(crate) struct Master<'a> {
 }
 
 impl<'a> Model for Master<'a> {
-    ghost use Rattle.mrp_tables.specs.Gathered.{GatheredMaster};
+    ghost use Rattle.mrp_tables.specs.Gathered.{GatheredByDate};
+    ghost use Rattle.mrp_tables.specs.declared.rows.MasterRow.{MasterRow};
 
-    ghost Value = { GatheredMaster };
+    ghost Value = { GatheredByDate MasterRow };
 
     ghost view = { λ t. record { calendar = t.calendar.now; items = t.items.now; rows = t.rows.items } };
 
@@ -78,7 +79,7 @@ fn master_row(row: &Row, calendar: &Calendar, items: &Items) -> Result<MasterRow
     let name = row.name(0)?;
     let kind = row.word(1, &["firm", "forecast"])?;
     let date = row.date(2)?;
-    let quantity = quantity(row, 3, MOST_PIECES)?;
+    let quantity = quantity(row, 3, 0, MOST_PIECES)?;
     let Some(item) = items.find(&name) else {
         return Err(row.fault(UNKNOWN_ITEM));
     };

@@ -3,11 +3,11 @@
 ghost use Rattle.std.specs.Prelude.{◌≡◌, ◌==◌, ◌&&◌, ◌≢◌, ◌≤◌, if◌then◌else◌, ℕ, [], length, IfOk, IfSome};
 ghost use Rattle.mrp_rows.specs.Bundle.{text_in};
 ghost use Rattle.mrp_rows.specs.Columns.{width_of};
-ghost use Rattle.mrp_tables.specs.Reading.{Adds, Gives, NextAdmitted, is_past, rows_from, rows_of};
-ghost use Rattle.mrp_tables.specs.Stages.{record_limit};
+ghost use Rattle.mrp_tables.specs.Reading.{Adds, Gives, IsRefusedBehind, IsRefusedIn, NextAdmitted, is_past, rows_from, rows_of};
+ghost use Rattle.mrp_tables.specs.Limits.{record_limit};
 
 use crate::codes::{COLUMNS, TOO_MANY};
-use crate::stages::most_records;
+use crate::limits::most_records;
 use mrp_rows::{Cursor, Fault, Row, Sections, Table};
 use std::alloc::Global;
 use std::marker::Model;
@@ -87,7 +87,12 @@ pub(crate) trait TableRows: Drop {
 /// The rows of the records that a cursor has left, behind those that are gathered already.
 pub(crate) fn gather<G: TableRows>(cursor: &mut Cursor<'_>, mut gathered: G) -> Result<G, Fault>
     requires { G.takes (width_of cursor.old.table) }
-    ensures rows { Gives (λ g. G.rows g) result (rows_from (G.reads gathered) cursor.old.table (G.rows gathered) cursor.old.number cursor.old.left) }
+    ensures rows { Gives
+        (IsRefusedBehind (G.reads gathered) cursor.old.table (G.rows gathered)
+        cursor.old.number cursor.old.left)
+        (λ g. G.rows g) result
+        (rows_from (G.reads gathered) cursor.old.table (G.rows gathered)
+        cursor.old.number cursor.old.left) }
     ensures beside { IfOk result (λ g. G.beside g ≡ G.beside gathered) }
 {
     while let Some(row) = next_record(cursor)? {
@@ -106,7 +111,8 @@ pub(crate) fn read_table<G: TableRows>(
     requires table { table ≢ Table.Bundle }
     requires takes { G.takes (width_of table) }
     requires empty { G.rows empty ≡ [] }
-    ensures rows { Gives (λ g. G.rows g) result (rows_of (G.reads empty) table (text_in sections.now table)) }
+    ensures rows { Gives (IsRefusedIn (G.reads empty) table (text_in sections.now table))
+        (λ g. G.rows g) result (rows_of (G.reads empty) table (text_in sections.now table)) }
     ensures count { (limit : ℕ) → record_limit table ≡ Some limit → IfOk result (λ g. length (G.rows g) ≤ limit) }
     ensures beside { IfOk result (λ g. G.beside g ≡ G.beside empty) }
 {
@@ -114,13 +120,13 @@ pub(crate) fn read_table<G: TableRows>(
     gather(&mut cursor, empty)
 }
 
-/// The rows of a table that takes no record yet.
+/// The rows of a table that takes no record.
 #[derive(Drop)]
-pub(crate) struct NotYet<T> {
+pub(crate) struct Untaken<T> {
     rows: Vec<T>,
 }
 
-impl<T> Model for NotYet<T> {
+impl<T> Model for Untaken<T> {
     ghost use Rattle.std.specs.Prelude.{List};
 
     ghost Value = { List T };
@@ -128,17 +134,17 @@ impl<T> Model for NotYet<T> {
     ghost view = { λ t. t.rows.items };
 }
 
-impl<T: Drop> TableRows for NotYet<T> {
+impl<T: Drop> TableRows for Untaken<T> {
     type Line = T;
 
     ghost use Rattle.mrp_tables.specs.Gathered.{nothing};
-    ghost use Rattle.mrp_tables.specs.Tables.{not_yet};
+    ghost use Rattle.mrp_tables.specs.Tables.{untaken};
 
     ghost takes = { λ count. Unit {0} };
 
     ghost rows = { λ t. t };
 
-    ghost reads = { λ t. not_yet };
+    ghost reads = { λ t. untaken };
 
     ghost beside = { λ t. nothing };
 
@@ -147,13 +153,13 @@ impl<T: Drop> TableRows for NotYet<T> {
     }
 }
 
-impl<T> NotYet<T> {
+impl<T> Untaken<T> {
     ghost use Rattle.std.specs.Prelude.{◌≡◌, []};
 
-    pub(crate) fn new(alloc: Global) -> NotYet<T>
+    pub(crate) fn new(alloc: Global) -> Untaken<T>
         ensures { result ≡ [] }
     {
-        NotYet {
+        Untaken {
             rows: Vec::new(alloc),
         }
     }
@@ -161,7 +167,7 @@ impl<T> NotYet<T> {
     pub(crate) fn into_rows(self) -> Vec<T>
         ensures { result.items ≡ self }
     {
-        let NotYet { rows } = self;
+        let Untaken { rows } = self;
         rows
     }
 }

@@ -5,7 +5,7 @@ use mrp_qty::Qty;
 use mrp_rows::Name;
 
 /// A work centre.
-#[derive(Clone, Copy)]
+#[derive(Clone, Copy, Debug)]
 pub struct Centre {
     /// The centre's name, no other centre's.
     pub name: Name,
@@ -23,7 +23,7 @@ pub struct StockRow {
 }
 
 /// An open receipt: an order that was released before the horizon began.
-#[derive(Clone, Copy)]
+#[derive(Clone, Copy, Debug)]
 pub struct Receipt {
     /// The record's number in its table.
     pub number: u32,
@@ -91,36 +91,44 @@ pub struct MasterRow {
 
 /// A call of a desk, as the script has it.
 #[derive(Clone, Copy, Debug, PartialEq, Eq)]
-pub enum Call {
-    /// Book a quantity of an item, due in a week.
+pub enum ScriptCall {
+    /// Book a quantity of a master item, due in a week.
     Book {
+        /// The master item, by its place.
         item: usize,
+        /// The week in which it is due.
         week: u16,
+        /// The pieces, 1 to 10^9.
         quantity: Qty,
     },
     /// Cancel the booking of an entry.
     Cancel {
+        /// The entry's number, 1 to 1,000,000.
         entry: u64,
     },
-    /// Ask what is available of an item in a week.
+    /// Ask what is available to promise of a master item in a week.
     Ask {
+        /// The master item, by its place.
         item: usize,
+        /// The week.
         week: u16,
     },
-    /// Ask for the first week in which a quantity of an item is available.
+    /// Ask for the first week in which a quantity of a master item is available to promise.
     When {
+        /// The master item, by its place.
         item: usize,
+        /// The pieces, 1 to 10^9.
         quantity: Qty,
     },
-    /// Plan the bookings that stand.
+    /// Take a snapshot of the standing bookings, and plan it.
     Run,
 }
 
 /// A row of the script.
 #[derive(Clone, Copy, Debug, PartialEq, Eq)]
 pub struct ScriptRow {
-    /// The desk, from 1.
+    /// The desk, 1 to 64.
     pub desk: u64,
     /// What it calls.
-    pub call: Call,
+    pub call: ScriptCall,
 }

@@ -77,7 +77,7 @@ fn stock_cells(row: &Row, items: &Items) -> Result<StockRow, Fault>
     ensures within { IfOk result (IsStockRow items.now) }
 {
     let name = row.name(0)?;
-    let on_hand = quantity(row, 1, MOST_PIECES)?;
+    let on_hand = quantity(row, 1, 0, MOST_PIECES)?;
     match items.find(&name) {
         Some(item) => Ok(StockRow { item, on_hand }),
         None => Err(row.fault(UNKNOWN_ITEM)),

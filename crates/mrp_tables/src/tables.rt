@@ -1,10 +1,11 @@
 //! The tables of a bundle.
 
-ghost use Rattle.std.specs.Prelude.{◌≡◌, ◌≤◌, All, IfOk, length};
+ghost use Rattle.std.specs.Prelude.{◌≡◌, ◌≤◌, [], All, IfOk, IsOk, Ok, length};
 ghost use Rattle.mrp_rows.specs.Bundle.{text_in};
 ghost use Rattle.mrp_tables.specs.Calendar.{calendar_of};
-ghost use Rattle.mrp_tables.specs.Facts.{AllDiffer, IsBillLine, IsMasterRow, IsStockRow};
-ghost use Rattle.mrp_tables.specs.Reading.{Gives};
+ghost use Rattle.mrp_tables.specs.Facts.{AllDiffer, IsBillLine, IsMasterRow, IsScriptRow, IsStockRow};
+ghost use Rattle.mrp_tables.specs.Laws.{IsMemoryRefusal};
+ghost use Rattle.mrp_tables.specs.Reading.{Gives, IsMemoryFault};
 ghost use Rattle.mrp_tables.specs.Seen.{head_of, middle_of, tail_of};
 ghost use Rattle.mrp_tables.specs.Stock.{items_in_stock};
 ghost use Rattle.mrp_tables.specs.Tables.{head_in, middle_in, tail_in};
@@ -14,8 +15,9 @@ use crate::calendar::calendar_in;
 use crate::item::Item;
 use crate::items::Items;
 use crate::master::Master;
-use crate::reading::{NotYet, read_table};
+use crate::reading::{Untaken, read_table};
 use crate::rows::{BillLine, Centre, MasterRow, Operation, Receipt, ScriptRow, StockRow};
+use crate::script::Script;
 use crate::stock::Stock;
 use mrp_cal::Calendar;
 use mrp_rows::{Cursor, Fault, Name, Sections, Table};
@@ -48,12 +50,13 @@ pub(crate) struct Tail {
 
 #[tactic(auto, unfolding(crate::specs::Tables::head_in))]
 fn read_head(alloc: Global, sections: &Sections<'_>) -> Result<Head, Fault>
-    ensures head { Gives head_of result (head_in sections.now) }
+    ensures head { Gives (IsMemoryRefusal sections.now) head_of result (head_in sections.now) }
     ensures items { IfOk result (λ h. length h.items ≤ 20000) }
+    ensures centres { IfOk result (λ h. h.centres.items ≡ []) }
 {
     let calendar = read_calendar(alloc, sections)?;
     let items = read_table(alloc, sections, Table::Items, Items::new(alloc))?;
-    let centres = read_table(alloc, sections, Table::Centres, NotYet::new(alloc))?;
+    let centres = read_table(alloc, sections, Table::Centres, Untaken::new(alloc))?;
     Ok(Head {
         calendar,
         items,
@@ -62,22 +65,27 @@ fn read_head(alloc: Global, sections: &Sections<'_>) -> Result<Head, Fault>
 }
 
 fn read_calendar(alloc: Global, sections: &Sections<'_>) -> Result<Calendar, Fault>
-    ensures { Gives (λ c. c) result (calendar_of (text_in sections.now Table.Calendar)) }
+    ensures { Gives (IsMemoryFault Table.Calendar) (λ c. c) result
+        (calendar_of (text_in sections.now Table.Calendar)) }
 {
     let mut cursor = Cursor::new(alloc, sections, Table::Calendar)?;
     calendar_in(alloc, &mut cursor)
 }
 
 #[tactic(auto, unfolding(crate::specs::Tables::middle_in))]
-fn read_middle(alloc: Global, sections: &Sections<'_>, items: &Items) -> Result<Middle, Fault>
-    ensures middle { Gives middle_of result (middle_in sections.now items.now) }
-    ensures stock { IfOk result (λ m. All (IsStockRow items.now) m.stock.items) }
+fn read_middle(alloc: Global, sections: &Sections<'_>, head: &Head) -> Result<Middle, Fault>
+    requires head { head_in sections.now ≡ Ok (head_of head.now) }
+    ensures middle { Gives (IsMemoryRefusal sections.now) middle_of result
+        (middle_in sections.now head.now.items) }
+    ensures stock { IfOk result (λ m. All (IsStockRow head.now.items) m.stock.items) }
     ensures stocked { IfOk result (λ m. AllDiffer (items_in_stock m.stock.items)) }
-    ensures bills { IfOk result (λ m. All (IsBillLine items.now) m.bills.items) }
+    ensures bills { IfOk result (λ m. All (IsBillLine head.now.items) m.bills.items) }
     ensures line_count { IfOk result (λ m. length m.bills.items ≤ 100000) }
+    ensures receipts { IfOk result (λ m. m.receipts.items ≡ []) }
 {
+    let items = &head.items;
     let stock = read_table(alloc, sections, Table::Stock, Stock::new(alloc, items))?;
-    let receipts = read_table(alloc, sections, Table::Receipts, NotYet::new(alloc))?;
+    let receipts = read_table(alloc, sections, Table::Receipts, Untaken::new(alloc))?;
     let bills = read_table(alloc, sections, Table::Bills, Bills::new(alloc, items))?;
     Ok(Middle {
         stock: stock.into_rows(),
@@ -87,24 +95,34 @@ fn read_middle(alloc: Global, sections: &Sections<'_>, items: &Items) -> Result<
 }
 
 #[tactic(auto, unfolding(crate::specs::Tables::tail_in))]
-fn read_tail(
-    alloc: Global,
-    sections: &Sections<'_>,
-    calendar: &Calendar,
-    items: &Items,
-) -> Result<Tail, Fault>
-    ensures tail { Gives tail_of result (tail_in sections.now calendar.now items.now) }
-    ensures master { IfOk result (λ l. All (IsMasterRow calendar.now.weeks items.now) l.master.items) }
+fn read_tail(alloc: Global, sections: &Sections<'_>, head: &Head) -> Result<Tail, Fault>
+    requires head { head_in sections.now ≡ Ok (head_of head.now) }
+    requires middle { IsOk (middle_in sections.now head.now.items) }
+    ensures tail { Gives (IsMemoryRefusal sections.now) tail_of result
+        (tail_in sections.now head.now.calendar head.now.items) }
+    ensures master { IfOk result (λ l.
+        All (IsMasterRow head.now.calendar.weeks head.now.items) l.master.items) }
     ensures master_count { IfOk result (λ l. length l.master.items ≤ 100000) }
+    ensures routings { IfOk result (λ l. l.routings.items ≡ []) }
+    ensures script { IfOk result (λ l.
+        All (IsScriptRow head.now.calendar.weeks head.now.items) l.script.items) }
+    ensures script_count { IfOk result (λ l. length l.script.items ≤ 100000) }
 {
-    let routings = read_table(alloc, sections, Table::Routings, NotYet::new(alloc))?;
+    let calendar = &head.calendar;
+    let items = &head.items;
+    let routings = read_table(alloc, sections, Table::Routings, Untaken::new(alloc))?;
     let master = read_table(
         alloc,
         sections,
         Table::Master,
         Master::new(alloc, calendar, items),
     )?;
-    let script = read_table(alloc, sections, Table::Script, NotYet::new(alloc))?;
+    let script = read_table(
+        alloc,
+        sections,
+        Table::Script,
+        Script::new(alloc, calendar, items),
+    )?;
     Ok(Tail {
         routings: routings.into_rows(),
         master: master.into_rows(),
@@ -132,10 +150,11 @@ impl Model for Tables {
 }
 
 impl Tables {
-    ghost use Rattle.std.specs.Prelude.{◌≡◌, ◌<◌, ◌≤◌, All, IfSome, length};
-    ghost use Rattle.mrp_tables.specs.Facts.{AllDiffer, IsBillLine, IsItem, IsMasterRow, IsStockRow};
+    ghost use Rattle.std.specs.Prelude.{◌≡◌, ◌<◌, ◌≤◌, [], All, IfSome, length};
+    ghost use Rattle.mrp_tables.specs.Facts.{AllDiffer, IsBillLine, IsItem, IsMasterRow, IsScriptRow, IsStockRow};
     ghost use Rattle.mrp_tables.specs.Items.{names_of, place_of};
     ghost use Rattle.mrp_tables.specs.Stock.{items_in_stock};
+    ghost use Rattle.mrp_tables.specs.Laws.{IsMemoryRefusal};
     ghost use Rattle.mrp_tables.specs.Reading.{Gives};
     ghost use Rattle.mrp_tables.specs.Tables.{tables_in};
 
@@ -144,14 +163,15 @@ impl Tables {
     /// right (7 to 11) and with what they name (12 to 19). A calendar of fewer than three records has
     /// 6 at the first that is missing.
     ///
-    /// Errors: a fault, at its table and record, the header's at row 0; 22, where memory is refused.
+    /// Errors: a fault, at its table and record, the header's at row 0; 22, where memory is refused,
+    /// at the table and record that are being read.
     #[tactic(auto, unfolding(crate::specs::Tables::tables_in))]
     pub fn read(alloc: Global, sections: &Sections<'_>) -> Result<Tables, Fault>
-        ensures { Gives (λ t. t) result (tables_in sections.now) }
+        ensures { Gives (IsMemoryRefusal sections.now) (λ t. t) result (tables_in sections.now) }
     {
         let head = read_head(alloc, sections)?;
-        let middle = read_middle(alloc, sections, &head.items)?;
-        let tail = read_tail(alloc, sections, &head.calendar, &head.items)?;
+        let middle = read_middle(alloc, sections, &head)?;
+        let tail = read_tail(alloc, sections, &head)?;
         Ok(Tables { head, middle, tail })
     }
 
@@ -180,9 +200,10 @@ impl Tables {
         self.head.items.find(name)
     }
 
-    /// The work centres, in table order.
+    /// The work centres, in table order: none, since their table takes no record.
     pub fn centres(&self) -> &[Centre]
-        ensures { result.now ≡ self.now.centres }
+        ensures rows { result.now ≡ self.now.centres }
+        ensures none { result.now ≡ [] }
     {
         self.head.centres.as_slice()
     }
@@ -196,9 +217,11 @@ impl Tables {
         self.middle.stock.as_slice()
     }
 
-    /// The open receipts of at least one piece, in table order.
+    /// The open receipts of at least one piece, in table order: none, since their table takes no
+    /// record.
     pub fn receipts(&self) -> &[Receipt]
-        ensures { result.now ≡ self.now.receipts }
+        ensures rows { result.now ≡ self.now.receipts }
+        ensures none { result.now ≡ [] }
     {
         self.middle.receipts.as_slice()
     }
@@ -212,9 +235,10 @@ impl Tables {
         self.middle.bills.as_slice()
     }
 
-    /// The operations of the routings, in table order.
+    /// The operations of the routings, in table order: none, since their table takes no record.
     pub fn routings(&self) -> &[Operation]
-        ensures { result.now ≡ self.now.routings }
+        ensures rows { result.now ≡ self.now.routings }
+        ensures none { result.now ≡ [] }
     {
         self.tail.routings.as_slice()
     }
@@ -230,7 +254,9 @@ impl Tables {
 
     /// The desks' calls, in table order.
     pub fn script(&self) -> &[ScriptRow]
-        ensures { result.now ≡ self.now.script }
+        ensures rows { result.now ≡ self.now.script }
+        ensures within { All (IsScriptRow self.now.calendar.weeks self.now.items) result.now }
+        ensures count { length result.now ≤ 100000 }
     {
         self.tail.script.as_slice()
     }

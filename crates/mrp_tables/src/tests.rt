@@ -6,6 +6,8 @@ use std::alloc::Global;
 use std::process::Abort;
 use std::test::Fail;
 
+mod script;
+
 // A small bicycle shop.
 const SHOP: &str =
     "[calendar]\nkey,value\nstart,2025-01-06\nweeks,6\nworkdays,1111100\nholiday,2025-01-20\n[items]\nitem,class,lead,scrap,lot,size,safety\nBIKE,master,1,0,lfl,0,0\nFRAME,part,1,0,lfl,0,0\nWHEEL,part,1,0,lfl,0,0\n[centres]\ncentre,minutes\n[stock]\nitem,onhand\nBIKE,10\n[receipts]\nitem,order,date,quantity\n[bills]\nparent,component,per\nBIKE,FRAME,1\nBIKE,WHEEL,2\n[routings]\nitem,op,centre,setup,run,offset\n[master]\nitem,row,date,quantity\nBIKE,firm,2025-01-20,20\nBIKE,firm,2025-02-03,20\nBIKE,forecast,2025-01-13,8\nBIKE,forecast,2025-01-27,6\n[script]\ndesk,call,item,date,quantity,number\n";
@@ -58,6 +60,38 @@ fn a_small_shop_gives_its_rows(rt: HostRuntime) -> Result<(), Fail> {
     assert_eq!(rt; calendar.weeks(), 6);
     assert_eq!(rt; calendar.week_of(date(2025, 2, 16)), Some(6));
     assert_eq!(rt; calendar.week_of(date(2025, 2, 17)), None);
+    let stock = shop
+        .stock()
+        .iter()
+        .map(|row| (row.item, row.on_hand.value()));
+    assert!(rt; stock.eq([(0, 10)]));
+    let lines = shop
+        .bills()
+        .iter()
+        .map(|line| (line.parent, line.component, line.per));
+    assert!(rt; lines.eq([(0, 1, 1), (0, 2, 2)]));
+    let weeks = shop
+        .master()
+        .iter()
+        .map(|row| (row.week, row.quantity.value()));
+    assert!(rt; weeks.eq([(3, 20), (5, 20), (2, 8), (4, 6)]));
+    let kinds = shop
+        .master()
+        .iter()
+        .map(|row| (row.number, row.item, row.kind));
+    let wanted = [
+        (1, 0, MasterKind::Firm),
+        (2, 0, MasterKind::Firm),
+        (3, 0, MasterKind::Forecast),
+        (4, 0, MasterKind::Forecast),
+    ];
+    assert!(rt; kinds.eq(wanted));
+    Ok(())
+}
+
+#[test]
+fn a_small_shop_gives_its_items(rt: HostRuntime) -> Result<(), Fail> {
+    let shop = read(rt.alloc(), SHOP)?;
     let mut items = shop.items().iter();
     for (word, class) in [
         ("BIKE", Class::Master),
@@ -72,33 +106,12 @@ fn a_small_shop_gives_its_rows(rt: HostRuntime) -> Result<(), Fail> {
         assert_eq!(rt; item.safety.value(), 0);
     }
     assert_eq!(rt; shop.items().len(), 3);
-    let stock = shop
-        .stock()
-        .iter()
-        .map(|row| (row.item, row.on_hand.value()));
-    assert!(rt; stock.eq([(0, 10)]));
-    let lines = shop
-        .bills()
-        .iter()
-        .map(|line| (line.parent, line.component, line.per));
-    assert!(rt; lines.eq([(0, 1, 1), (0, 2, 2)]));
-    let master = shop
-        .master()
-        .iter()
-        .map(|row| (row.number, row.item, row.kind));
-    assert!(rt;
-        master.eq([
-            (1, 0, MasterKind::Firm),
-            (2, 0, MasterKind::Firm),
-            (3, 0, MasterKind::Forecast),
-            (4, 0, MasterKind::Forecast),
-        ])
-    );
-    let weeks = shop
-        .master()
-        .iter()
-        .map(|row| (row.week, row.quantity.value()));
-    assert!(rt; weeks.eq([(3, 20), (5, 20), (2, 8), (4, 6)]));
+    Ok(())
+}
+
+#[test]
+fn a_small_shop_without_other_records_has_no_other_rows(rt: HostRuntime) -> Result<(), Fail> {
+    let shop = read(rt.alloc(), SHOP)?;
     assert_eq!(rt; shop.centres().len(), 0);
     assert_eq!(rt; shop.receipts().len(), 0);
     assert_eq!(rt; shop.routings().len(), 0);
@@ -313,12 +326,7 @@ fn records_have_a_cell_for_each_column_below_the_right_header(rt: HostRuntime) -
     answers(&rt, rt.alloc(), SHAPES)
 }
 
-const STILL_TO_COME: &[Change] = &[
-    (
-        "quantity,number\n",
-        "quantity,number\n1,run,,,,\n",
-        "20 too-many script 1",
-    ),
+const NOT_TAKEN: &[Change] = &[
     (
         "date,quantity\n[bills]",
         "date,quantity\nFRAME,R1,2025-01-22,15\n[bills]",
@@ -362,8 +370,8 @@ const STILL_TO_COME: &[Change] = &[
 ];
 
 #[test]
-fn what_is_still_to_come_is_refused_at_its_first_record(rt: HostRuntime) -> Result<(), Fail> {
-    answers(&rt, rt.alloc(), STILL_TO_COME)
+fn what_is_not_taken_is_refused_at_its_first_record(rt: HostRuntime) -> Result<(), Fail> {
+    answers(&rt, rt.alloc(), NOT_TAKEN)
 }
 
 const CALENDARS: &[Change] = &[
@@ -514,11 +522,6 @@ const FIRST_OF_TWO: &[Change] = &[
         "8 number stock 1",
     ),
     // Past the limit before the count of cells.
-    (
-        "quantity,number\n",
-        "quantity,number\n1,run\n",
-        "20 too-many script 1",
-    ),
     (
         "centre,minutes\n",
         "centre,minutes\nWELD\n",

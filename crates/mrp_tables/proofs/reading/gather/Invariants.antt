@@ -1,7 +1,7 @@
 use Rattle.std.proofs.Common.{◌≡◌, length}
 use Rattle.mrp_rows.specs.Columns.{width_of}
 use Rattle.mrp_tables.specs.Reading.{rows_from}
-use Rattle.mrp_tables.proofs.Gathering.{IsLeft}
+use Rattle.mrp_tables.proofs.Gathering.{IsDone, IsLeft}
 use Rattle.mrp_tables.proofs.reading.gather.Given as goal
 
 abbrev pub invariant-loop-gathered : goal.invariant-loop-gathered
@@ -13,6 +13,7 @@ invariant-loop-gathered g l =
       same : reads l.gathered ≡ reads l.initial.gathered;
       beside : g.G.TableRows.beside l.gathered ≡ g.G.TableRows.beside l.initial.gathered;
       left : IsLeft (reads l.initial.gathered) at.table (rows l.gathered) l.cursor (rows_from (reads l.initial.gathered) at.table (rows l.initial.gathered) at.number at.left);
+      done : IsDone (reads l.initial.gathered) at.table (rows l.initial.gathered) at.number at.left (rows l.gathered) l.cursor;
       takes : g.G.TableRows.takes (width_of at.table);
     }
 

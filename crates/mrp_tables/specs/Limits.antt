@@ -1,9 +1,9 @@
--- What the program does not take yet: each is a limit that a later stage raises.
+-- What the program takes: the limits of the tables' records, words and numbers (profile).
 use Rattle.std.specs.Prelude.{ℕ, List, [], ◌∷◌, codes, Option, Some, None}
 use Rattle.mrp_rows.specs.declared.fault.Table.{Table}
 use Rattle.mrp_rows.specs.declared.fault.Table.TheVariants as t
 
--- the most records that a table has, where it has a limit: centres, receipts, routings and calls are still to come
+-- the most records that a table has, where it has a limit: centres, receipts and routings take none
 abbrev pub record_limit : Table → Option ℕ
 record_limit t.Calendar = Some 1003
 record_limit t.Items = Some 20000
@@ -13,17 +13,21 @@ record_limit t.Receipts = Some 0
 record_limit t.Bills = Some 100000
 record_limit t.Routings = Some 0
 record_limit t.Master = Some 100000
-record_limit t.Script = Some 0
+record_limit t.Script = Some 100000
 record_limit t.Bundle = None
 
--- the words for the lot rules, in the order of their places: fixed and period lots are still to come
+-- the words for the lot rules that are taken: no fixed or period lots
 abbrev pub lot_words : List (List ℕ)
 lot_words = codes "lfl" ∷ []
+
+-- the words for the calls of a script that are taken, in the order of their places: all but `when`, whose place is behind them
+abbrev pub call_words : List (List ℕ)
+call_words = codes "book" ∷ codes "cancel" ∷ codes "ask" ∷ codes "run" ∷ []
 
 -- the most scrap in a thousand
 abbrev pub most_scrap : ℕ
 most_scrap = 0
 
--- the most safety stock
+-- the most safety stock, in pieces
 abbrev pub most_safety : ℕ
 most_safety = 0

@@ -1,0 +1,7 @@
+use Rattle.mrp_rows.specs.Bundle.{text_in}
+use Rattle.mrp_rows.specs.declared.fault.Table.TheVariants as t
+use Rattle.mrp_tables.proofs.Opening.{calendar-read}
+use Rattle.mrp_tables.proofs.tables.read_calendar.Goals as goal
+
+pub returns : goal.returns
+returns c = calendar-read (λ x. x) (text_in c.args.sections.now t.Calendar) c.in_ok-cursor.cursor c.calendar_in.result c.in_ok-cursor.ensures c.calendar_in.ensures
