@@ -1,0 +1,4 @@
+pub mod Available
+pub mod Accepted
+pub mod OnHand
+pub mod Supplied

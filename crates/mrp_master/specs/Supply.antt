@@ -1,0 +1,82 @@
+-- Supply, cover, and what is available to promise (APICS Dictionary: available-to-promise; profile: its exact rules).
+use Rattle.std.specs.Prelude.{ℕ, ◌≡◌, ◌≤◌, ◌+◌, ◌-◌, ◌==◌, ◌&&◌, Bool, true, false, IsTrue, if◌then◌else◌, nat_le, List, [], ◌∷◌, ◌++◌, map, filter, sum_by, length}
+use Rattle.std.specs.List.{slice_index_or, range_with_len}
+use Rattle.mrp_qty.specs.Quantity.{greatest_quantity}
+use Rattle.mrp_tables.specs.declared.rows.MasterKind.{MasterKind}
+use Rattle.mrp_tables.specs.declared.rows.MasterKind.TheVariants.{Firm, Forecast}
+use Rattle.mrp_tables.specs.declared.rows.MasterRow.{MasterRow}
+use Rattle.mrp_tables.specs.declared.rows.StockRow.{StockRow}
+use Rattle.mrp_tables.specs.Items.{is_master}
+use Rattle.mrp_tables.specs.Tables.{Tables}
+use Rattle.mrp_master.specs.declared.line.Line.{Line}
+
+-- what promising reads of the tables: the weeks, which items are master items, what is on hand of each item, and the firm rows
+pub record Supply : Type 0 where
+  pub weeks : ℕ
+  pub masters : List Bool
+  pub on_hand : List ℕ
+  pub firm : List Line
+
+abbrev pub IsMaster : Supply → ℕ → Type 0
+IsMaster s item = IsTrue (slice_index_or s.masters item false)
+
+abbrev pub IsWeek : Supply → ℕ → Type 0
+IsWeek s week = (1 ≤ week) × (week ≤ s.weeks)
+
+abbrev pub line : ℕ → ℕ → ℕ → Line
+line item week quantity = record { item = item; week = week; quantity = quantity }
+
+-- the quantity of an item that is due up to a week
+abbrev pub due_by : ℕ → ℕ → List Line → ℕ
+due_by item week lines = sum_by (λ l. if (l.item == item) && nat_le l.week week then l.quantity else 0) lines
+
+-- the supply of an item up to a week: what is on hand, and the firm rows up to the week
+abbrev pub supply : Supply → ℕ → ℕ → ℕ
+supply s item week = slice_index_or s.on_hand item 0 + due_by item week s.firm
+
+-- of no master item is more due up to any week than its supply up to that week
+abbrev pub IsCovered : Supply → List Line → Type 0
+IsCovered s booked = (item week : ℕ) → IsMaster s item → IsWeek s week → due_by item week booked ≤ supply s item week
+
+-- available to promise: the greatest quantity of which one more booking leaves all covered
+pub record IsAvailable (s : Supply) (booked : List Line) (item week quantity : ℕ) : Type 0 where
+  pub fits : IsCovered s (booked ++ line item week quantity ∷ [])
+  pub greatest : (more : ℕ) → IsCovered s (booked ++ line item week more ∷ []) → more ≤ quantity
+
+-- the least value of f from a week to the last one
+pub record IsLeastFrom (f : ℕ → ℕ) (week last least : ℕ) : Type 0 where
+  pub below : (t : ℕ) → week ≤ t → t ≤ last → least ≤ f t
+  pub reached : (t : ℕ) × (week ≤ t) × (t ≤ last) × (f t ≡ least)
+
+-- supply less bookings, up to a week
+abbrev pub uncommitted : Supply → List Line → ℕ → ℕ → ℕ
+uncommitted s booked item week = supply s item week - due_by item week booked
+
+-- What the tables say.
+
+abbrev pub is_firm : MasterKind → Bool
+is_firm Firm = true
+is_firm Forecast = false
+
+-- what is on hand of an item; one without a stock record has 0
+abbrev pub on_hand_of : List StockRow → ℕ → ℕ
+on_hand_of rows item = sum_by (λ r. r.on_hand) (filter (λ r. r.item == item) rows)
+
+-- the firm rows of the master schedule
+abbrev pub firm_lines : List MasterRow → List Line
+firm_lines rows = map (λ r. line r.item r.week r.quantity) (filter (λ r. is_firm r.kind) rows)
+
+-- what promising reads of the tables
+abbrev pub supply_of : Tables → Supply
+supply_of t = record {
+  weeks = t.calendar.weeks;
+  masters = map (λ item. is_master item.class) t.items;
+  on_hand = map (on_hand_of t.stock) (range_with_len 0 (length t.items));
+  firm = firm_lines t.master;
+}
+
+-- what the supply of a shop keeps: weeks of a horizon, and no sum past the greatest quantity
+pub record IsSupply (s : Supply) : Type 0 where
+  pub first : 1 ≤ s.weeks
+  pub last : s.weeks ≤ 104
+  pub little : (item week : ℕ) → supply s item week ≤ greatest_quantity

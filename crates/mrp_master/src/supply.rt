@@ -1,0 +1,169 @@
+//! What promising reads of a shop.
+
+ghost use Rattle.std.specs.Prelude.{◌≡◌, ◌≤◌, All, IfOk, length, map};
+ghost use Rattle.std.specs.List.{range_with_len};
+ghost use Rattle.mrp_qty.specs.Quantity.{greatest_quantity};
+ghost use Rattle.mrp_tables.specs.Facts.{AllDiffer, IsStockRow};
+ghost use Rattle.mrp_tables.specs.Items.{is_master};
+ghost use Rattle.mrp_tables.specs.Stock.{items_in_stock};
+ghost use Rattle.mrp_master.specs.Supply.{due_by, firm_lines, is_firm, line, on_hand_of};
+
+use crate::line::{Line, is_master};
+use mrp_bill::Shop;
+use mrp_qty::{NoMemory, Qty};
+use mrp_tables::{Item, MasterKind, MasterRow, StockRow};
+use std::alloc::Global;
+use std::marker::Model;
+
+/// What promising reads of a shop: the weeks, which items are master items, what is on hand of each
+/// item, and the firm rows.
+#[derive(Drop)]
+pub struct Supply {
+    weeks: u16,
+    masters: Vec<bool>,
+    on_hand: Vec<Qty>,
+    firm: Vec<Line>,
+}
+
+impl Model for Supply {
+    ghost use Rattle.mrp_master.specs.Supply.{IsSupply, Supply};
+
+    ghost Value = { Supply };
+
+    ghost view = { λ s. record { weeks = s.weeks; masters = s.masters.items; on_hand = s.on_hand.items; firm = s.firm.items } };
+
+    ghost invariant = { λ s. IsSupply (record { weeks = s.weeks; masters = s.masters.items; on_hand = s.on_hand.items; firm = s.firm.items }) };
+}
+
+impl Supply {
+    ghost use Rattle.std.specs.Prelude.{◌≡◌, ◌≤◌, IfOk, false};
+    ghost use Rattle.std.specs.List.{slice_index_or};
+    ghost use Rattle.mrp_master.specs.Supply.{IsSupply, supply, supply_of};
+
+    /// What promising reads of a shop.
+    ///
+    /// Errors: `NoMemory` where memory is refused.
+    pub fn of(alloc: Global, shop: &Shop) -> Result<Supply, NoMemory>
+        ensures { IfOk result (λ s. s ≡ supply_of shop.now.tables) }
+    {
+        let tables = shop.tables();
+        let items = tables.items();
+        Ok(Supply {
+            weeks: tables.calendar().weeks(),
+            masters: masters(alloc, items)?,
+            on_hand: on_hand(alloc, items, tables.stock())?,
+            firm: firm_lines(alloc, tables.master())?,
+        })
+    }
+
+    /// The weeks of the horizon.
+    pub fn weeks(&self) -> u16
+        ensures value { result ≡ self.now.weeks }
+        ensures kept { IsSupply self.now }
+    {
+        self.weeks
+    }
+
+    /// Whether the shop has the item, and it is a master item.
+    pub fn is_master(&self, item: usize) -> bool
+        ensures { result ≡ slice_index_or self.now.masters item false }
+    {
+        match self.masters.get(item) {
+            Some(is_master) => *is_master,
+            None => false,
+        }
+    }
+
+    /// The supply of an item up to a week, in pieces: what is on hand, and the firm rows up to the
+    /// week.
+    pub fn up_to(&self, item: usize, week: u16) -> Qty
+        ensures { result ≡ supply self.now item week }
+    {
+        let on_hand = match self.on_hand.get(item) {
+            Some(on_hand) => on_hand.value(),
+            None => 0,
+        };
+        quantity(on_hand + due_by(item, week, &self.firm))
+    }
+}
+
+// A number of pieces as a quantity.
+fn quantity(pieces: u64) -> Qty
+    requires { pieces ≤ greatest_quantity }
+    ensures { result ≡ pieces }
+{
+    match Qty::new(pieces) {
+        Some(quantity) => quantity,
+        None => unreachable!(),
+    }
+}
+
+// What is due of an item up to a week.
+fn due_by(item: usize, week: u16, lines: &[Line]) -> u64
+    requires { due_by item week lines.now ≤ greatest_quantity }
+    ensures { result ≡ due_by item week lines.now }
+{
+    let mut due = 0;
+    for line in lines {
+        if line.item == item && line.week <= week {
+            due += line.quantity.value();
+        }
+    }
+    due
+}
+
+// For each item, whether it is a master item.
+fn masters(alloc: Global, items: &[Item]) -> Result<Vec<bool>, NoMemory>
+    ensures { IfOk result (λ masters. masters.items ≡ map (λ item. is_master item.class) items.now) }
+{
+    let masters = items
+        .iter()
+        .map(|item| is_master(item.class))
+        .collect(alloc)?;
+    Ok(masters)
+}
+
+// What is on hand of each item.
+fn on_hand(alloc: Global, items: &[Item], rows: &[StockRow]) -> Result<Vec<Qty>, NoMemory>
+    requires within { All (IsStockRow items.now) rows.now }
+    requires once { AllDiffer (items_in_stock rows.now) }
+    ensures { IfOk result (λ on_hand. on_hand.items ≡ map (on_hand_of rows.now) (range_with_len 0 (length items.now))) }
+{
+    let mut on_hand = vec![in alloc; quantity(0); items.len()]?;
+    for row in rows {
+        on_hand[row.item] = row.on_hand;
+    }
+    Ok(on_hand)
+}
+
+fn is_firm(kind: MasterKind) -> bool
+    ensures { result ≡ is_firm kind }
+{
+    match kind {
+        MasterKind::Firm => true,
+        MasterKind::Forecast => false,
+    }
+}
+
+fn line_of(row: &MasterRow) -> Line
+    ensures { result ≡ line row.now.item row.now.week row.now.quantity }
+{
+    Line {
+        item: row.item,
+        week: row.week,
+        quantity: row.quantity,
+    }
+}
+
+// The firm rows, as lines.
+fn firm_lines(alloc: Global, rows: &[MasterRow]) -> Result<Vec<Line>, NoMemory>
+    ensures { IfOk result (λ lines. lines.items ≡ firm_lines rows.now) }
+{
+    let mut lines = Vec::new(alloc);
+    for row in rows {
+        if is_firm(row.kind) {
+            lines.push(line_of(row))?;
+        }
+    }
+    Ok(lines)
+}
