@@ -1,1 +1,4 @@
 pub mod Snapshot
+pub mod Standing
+pub mod History
+pub mod Books

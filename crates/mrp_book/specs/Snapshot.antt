@@ -1,6 +1,6 @@
 -- What stands of the bookings at an entry of the order book (profile).
 use Rattle.std.specs.Prelude.{ℕ, List}
-use Rattle.mrp_book.specs.declared.order.Booking.{Booking}
+use Rattle.mrp_book.specs.declared.booking.Booking.{Booking}
 
 -- the entry's number, and the bookings that stand, by their numbers
 pub record Snapshot : Type 0 where

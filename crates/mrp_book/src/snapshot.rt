@@ -1,31 +1,10 @@
-//! Bookings, and what stands of them.
+//! What stands of the bookings at an entry of the order book.
 
-use mrp_qty::{NoMemory, Qty};
+use crate::booking::Booking;
+use mrp_qty::NoMemory;
 use std::alloc::Global;
 use std::marker::Model;
 use std::sync::Arc;
-
-/// A quantity of an item that is due in a week.
-#[derive(Clone, Copy, Debug, PartialEq, Eq)]
-pub struct Line {
-    /// The master item, by its place.
-    pub item: usize,
-    /// The week, from 1.
-    pub week: u16,
-    /// The pieces.
-    pub quantity: Qty,
-}
-
-/// A booking: the number of its entry, the desk that made it, and what is booked.
-#[derive(Clone, Copy, Debug, PartialEq, Eq)]
-pub struct Booking {
-    /// The number of the entry that made it.
-    pub number: u64,
-    /// The desk that made it.
-    pub desk: u64,
-    /// What is booked.
-    pub line: Line,
-}
 
 /// What stands at an entry of the book: the entry's number, and the standing bookings.
 #[derive(Drop)]
@@ -70,5 +49,17 @@ impl Snapshot {
         ensures { result.now ≡ self.now.standing }
     {
         self.standing.as_slice()
+    }
+
+    /// An equal snapshot, which shares the bookings.
+    ///
+    /// Errors: `NoMemory` where the count of sharers could not rise.
+    pub fn copy(&self) -> Result<Snapshot, NoMemory>
+        ensures { IfOk result (λ s. s ≡ self.now) }
+    {
+        Ok(Snapshot {
+            front: self.front,
+            standing: self.standing.clone()?,
+        })
     }
 }

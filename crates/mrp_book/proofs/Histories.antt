@@ -1,0 +1,122 @@
+-- Legal histories: each prefix is covered, and the calls decide the replies.
+use Rattle.std.proofs.Common.{ℕ, ◌≡◌, ◌≤◌, ◌<◌, ◌⊎◌, inl, inr, true, false, if◌then◌else◌, nat_le, List, [], ◌∷◌, ◌++◌, Option, Some, None, arith, refl, sym, ◌∙◌, ap, subst}
+use Rattle.std.proofs.lemmas.Bool.Decides.{nat_tests}
+use Rattle.std.proofs.lemmas.List.{append-nil, map-append}
+use Rattle.mrp_turn.specs.declared.log.Entry.{Entry}
+use Rattle.mrp_book.specs.declared.call.Call.{Call}
+use Rattle.mrp_book.specs.declared.call.Call.TheVariants as call
+use Rattle.mrp_book.specs.declared.reply.Reply.{Reply}
+use Rattle.mrp_book.specs.declared.reply.Reply.TheVariants as reply
+use Rattle.mrp_master.specs.declared.line.Line.{Line}
+use Rattle.mrp_master.specs.Supply.{Supply, IsCovered}
+use Rattle.mrp_book.specs.Standing.{History, standing, kept, booking_of, booked, lines_of}
+use Rattle.mrp_book.specs.History.{next_number, IsEarliest, week_reply, IsReply, MayFollow, IsLegal, asked}
+use Rattle.mrp_master.proofs.Available.{available_unique}
+use Rattle.mrp_book.proofs.Logs.{InTurn, walk, each-none, each-more, each-front, one-more}
+use Rattle.mrp_book.proofs.Standings.{standing-more, not_cancelled, covered-fewer, covered-less}
+
+pub le_or_lt : (a b : ℕ) → (a ≤ b) ⊎ (b < a)
+le_or_lt a b = grind (arith, nat_tests)
+
+abbrev pub E : Type 0
+E = Entry Call Reply
+
+-- the entries in turn
+abbrev pub IsLegalFrom : Supply → History → History → Type 0
+IsLegalFrom s before h = InTurn (MayFollow s) before h
+
+module _ (s : Supply) where
+  -- a history with no entry is legal, and one more entry that may follow keeps it so
+  pub legal-none : IsLegal s []
+  legal-none = each-none (MayFollow s)
+
+  pub legal-more : (h : History) (e : E) → IsLegal s h → MayFollow s h e → IsLegal s (h ++ e ∷ [])
+  legal-more h e legal m = each-more (MayFollow s) h e legal m
+
+  -- the front of a legal history is legal
+  pub legal-front : (h more : History) → IsLegal s (h ++ more) → IsLegal s h
+  legal-front h more legal = each-front (MayFollow s) h more legal
+
+  -- Each prefix is covered.
+
+  made : (h : History) (desk : ℕ) (c : Call) (r : Reply) → IsReply s h desk c r → IsCovered s (booked h) → IsCovered s (lines_of (standing h ++ kept [] (booking_of desk c r)))
+  made h desk (call.Book l) r (a, available, e) covered =
+      let P : Reply → Type 0 = λ r. IsCovered s (lines_of (standing h ++ kept [] (booking_of desk (call.Book l) r))) in
+      subst P (sym e) (elim (le_or_lt l.quantity a) [
+        | inl enough ↦
+            let t : nat_le l.quantity a ≡ true = grind (arith, nat_tests) in
+            let yes : P (reply.Booked (next_number h)) = subst (IsCovered s) (sym (map-append (λ b. b.line) (standing h) (record { number = next_number h; desk = desk; line = l } ∷ []))) (covered-less s (booked h) l.item l.week l.quantity a enough available.fits) in
+            subst (λ v. P (if v then reply.Booked (next_number h) else reply.Short a)) (sym t) yes
+        | inr short ↦
+            let t : nat_le l.quantity a ≡ false = grind (arith, nat_tests) in
+            let no : P (reply.Short a) = subst (λ x. IsCovered s (lines_of x)) (sym (append-nil (standing h))) covered in
+            subst (λ v. P (if v then reply.Booked (next_number h) else reply.Short a)) (sym t) no
+      ])
+  made h desk (call.Cancel n) r e covered = subst (λ x. IsCovered s (lines_of x)) (sym (append-nil (standing h))) covered
+  made h desk (call.Ask p) r e covered = subst (λ x. IsCovered s (lines_of x)) (sym (append-nil (standing h))) covered
+  made h desk (call.When w) r e covered = subst (λ x. IsCovered s (lines_of x)) (sym (append-nil (standing h))) covered
+  made h desk call.Snapshot r e covered = subst (λ x. IsCovered s (lines_of x)) (sym (append-nil (standing h))) covered
+  made h desk call.Front r e covered = subst (λ x. IsCovered s (lines_of x)) (sym (append-nil (standing h))) covered
+
+  pub covered-more : (h : History) (e : E) → MayFollow s h e → IsCovered s (booked h) → IsCovered s (booked (h ++ e ∷ []))
+  covered-more h e m covered =
+      subst (λ x. IsCovered s (lines_of x)) (sym (standing-more h e))
+      (covered-fewer s (not_cancelled e.call e.reply) (standing h) (kept [] (booking_of e.who e.call e.reply)) (made h e.who e.call e.reply m.1 covered))
+
+  covered-from : (before h : History) → IsLegalFrom s before h → IsCovered s (booked before) → IsCovered s (booked (before ++ h))
+  covered-from before [] w covered = subst (λ x. IsCovered s (booked x)) (sym (append-nil before)) covered
+  covered-from before (e ∷ h) w covered = subst (λ x. IsCovered s (booked x)) (sym (one-more before e h)) (covered-from (before ++ e ∷ []) h w.1 (covered-more before e w.0 covered))
+
+  nothing-covered : IsCovered s (booked [])
+  unfolding standing
+  nothing-covered i t m w = omega arith
+
+  -- a legal history is covered, and so is each front of it
+  pub legal-covered : (h : History) → IsLegal s h → IsCovered s (booked h)
+  legal-covered h legal = covered-from [] h (walk (MayFollow s) [] h legal) nothing-covered
+
+  pub prefix-covered : (h more : History) → IsLegal s (h ++ more) → IsCovered s (booked h)
+  prefix-covered h more legal = legal-covered h (legal-front h more legal)
+
+  -- The calls decide the replies.
+
+  earliest-unique : (lines : List Line) (item q : ℕ) (v w : Option ℕ) → IsEarliest s lines item q v → IsEarliest s lines item q w → v ≡ w
+  earliest-unique lines item q None None a b = refl
+  earliest-unique lines item q None (Some w) a b = absurd (a w b.0 b.1)
+  earliest-unique lines item q (Some v) None a b = absurd (b v a.0 a.1)
+  earliest-unique lines item q (Some v) (Some w) a b = elim (le_or_lt v w) [
+    | inl less ↦ elim (le_or_lt w v) [
+      | inl more ↦ let e : v ≡ w = omega arith in ap Some e
+      | inr sooner ↦ absurd (b.2 v a.0 sooner a.1)
+    ]
+    | inr sooner ↦ absurd (a.2 w b.0 sooner b.1)
+  ]
+
+  pub reply-unique : (h : History) (desk : ℕ) (c : Call) (q r : Reply) → IsReply s h desk c q → IsReply s h desk c r → q ≡ r
+  reply-unique h desk (call.Book l) q r (a, x, e) (b, y, f) =
+      e ∙ ap (λ n. if nat_le l.quantity n then reply.Booked (next_number h) else reply.Short n) (available_unique s (booked h) l.item l.week a b x y) ∙ sym f
+  reply-unique h desk (call.Cancel n) q r e f = e ∙ sym f
+  reply-unique h desk (call.Ask p) q r (a, x, e) (b, y, f) = e ∙ ap reply.Available (available_unique s (booked h) p.item p.week a b x y) ∙ sym f
+  reply-unique h desk (call.When w) q r (a, x, e) (b, y, f) = e ∙ ap week_reply (earliest-unique (booked h) w.item w.quantity a b x y) ∙ sym f
+  reply-unique h desk call.Snapshot q r e f = e ∙ sym f
+  reply-unique h desk call.Front q r e f = e ∙ sym f
+
+  abbrev one_asked : E → ℕ × Call
+  one_asked e = (e.who, e.call)
+
+  unique-from : (before g h : History) → IsLegalFrom s before g → IsLegalFrom s before h → asked g ≡ asked h → g ≡ h
+  unique-from before [] [] v w same = refl
+  unique-from before [] (f ∷ h) v w same = cc
+  unique-from before (e ∷ g) [] v w same = cc
+  unique-from before (e ∷ g) (f ∷ h) v w same =
+      let p : one_asked e ≡ one_asked f = cc in
+      let rest : asked g ≡ asked h = cc in
+      let P : ℕ × Call → Type 0 = λ a. IsReply s before a.0 a.1 f.reply in
+      let r : e.reply ≡ f.reply = reply-unique before e.who e.call e.reply f.reply v.0.1 (subst P (sym p) w.0.1) in
+      let ef : e ≡ f = λ i. record { who = (p i).0; call = (p i).1; reply = r i } in
+      let more : g ≡ h = unique-from (before ++ e ∷ []) g h v.1 (subst (λ x. IsLegalFrom s (before ++ x ∷ []) h) (sym ef) w.1) rest in
+      λ i. ef i ∷ more i
+
+  -- legal histories with the same calls are the same
+  pub history-unique : (g h : History) → IsLegal s g → IsLegal s h → asked g ≡ asked h → g ≡ h
+  history-unique g h v w same = unique-from [] g h (walk (MayFollow s) [] g v) (walk (MayFollow s) [] h w) same

@@ -1,0 +1,77 @@
+-- What legal histories keep: what was promised, what was snapped, and who called.
+use Rattle.std.proofs.Common.{ℕ, ◌≡◌, ◌≤◌, ◌+◌, ◌==◌, inl, inr, true, false, if◌then◌else◌, nat_le, List, [], ◌∷◌, ◌++◌, find, take, length, Option, Some, None, arith, refl, sym, ◌∙◌, ap, subst}
+use Rattle.std.proofs.lemmas.Bool.Decides.{nat_tests}
+use Rattle.std.proofs.lemmas.List.{length_push, take_at}
+use Rattle.mrp_turn.specs.Log.{entry, AreFrom}
+use Rattle.mrp_master.specs.declared.line.Line.{Line}
+use Rattle.mrp_master.specs.Supply.{Supply}
+use Rattle.mrp_book.specs.declared.booking.Booking.{Booking}
+use Rattle.mrp_book.specs.declared.call.Call.{Call}
+use Rattle.mrp_book.specs.declared.call.Call.TheVariants as call
+use Rattle.mrp_book.specs.declared.reply.Reply.{Reply}
+use Rattle.mrp_book.specs.declared.reply.Reply.TheVariants as reply
+use Rattle.mrp_book.specs.Snapshot.{Snapshot}
+use Rattle.mrp_book.specs.Standing.{History, standing, booked}
+use Rattle.mrp_book.specs.History.{next_number, CanPromise, cancel_reply, week_reply, IsReply, IsLegal, MayFollow}
+use Rattle.mrp_book.proofs.Logs.{walk, one-more}
+use Rattle.mrp_book.proofs.Standings.{standing_after}
+use Rattle.mrp_book.proofs.Histories.{IsLegalFrom, le_or_lt}
+
+module _ (s : Supply) where
+  accepted : (h : History) (desk number : ℕ) (l : Line) → IsReply s h desk (call.Book l) (reply.Booked number) → CanPromise s (booked h) l.item l.quantity l.week × (number ≡ next_number h)
+  accepted h desk number l (a, available, e) = elim (le_or_lt l.quantity a) [
+    | inl enough ↦
+        let t : nat_le l.quantity a ≡ true = grind (arith, nat_tests) in
+        let same : reply.Booked number ≡ reply.Booked (next_number h) = e ∙ ap (λ v. if v then reply.Booked (next_number h) else reply.Short a) t in
+        ((a, available, enough), cc)
+    | inr short ↦
+        let t : nat_le l.quantity a ≡ false = grind (arith, nat_tests) in
+        let same : reply.Booked number ≡ reply.Short a = e ∙ ap (λ v. if v then reply.Booked (next_number h) else reply.Short a) t in
+        absurd cc
+  ]
+
+  -- no accepted booking exceeded what was then available
+  pub booked_within : (before after : History) (desk number : ℕ) (l : Line) → IsLegal s (before ++ entry desk (call.Book l) (reply.Booked number) ∷ after) → CanPromise s (booked before) l.item l.quantity l.week × (number ≡ next_number before)
+  booked_within before after desk number l legal = accepted before desk number l (legal before (entry desk (call.Book l) (reply.Booked number)) after refl).1
+
+  cancel_takes_none : (desk : ℕ) (o : Option Booking) (t : Snapshot) → reply.Taken t ≡ cancel_reply desk o → ⊥
+  cancel_takes_none desk None t e = cc
+  cancel_takes_none desk (Some b) t e = (elim (b.desk == desk) as (λ v. reply.Taken t ≡ (if v then reply.Cancelled else reply.NotYours) → ⊥) [ true ↦ λ e. cc | false ↦ λ e. cc ]) e
+
+  when_takes_none : (o : Option ℕ) (t : Snapshot) → reply.Taken t ≡ week_reply o → ⊥
+  when_takes_none None t e = cc
+  when_takes_none (Some w) t e = cc
+
+  -- a snapshot is what a call for it is answered, and no other call
+  taken : (h : History) (desk : ℕ) (c : Call) (t : Snapshot) → IsReply s h desk c (reply.Taken t) → (c ≡ call.Snapshot) × (t ≡ record { front = next_number h; standing = standing h })
+  taken h desk (call.Book l) t (a, available, e) = absurd ((elim (nat_le l.quantity a) as (λ v. reply.Taken t ≡ (if v then reply.Booked (next_number h) else reply.Short a) → ⊥) [ true ↦ λ e. cc | false ↦ λ e. cc ]) e)
+  taken h desk (call.Cancel n) t e = absurd (cancel_takes_none desk (find (λ b. b.number == n) (standing h)) t e)
+  taken h desk (call.Ask p) t (a, available, e) = absurd cc
+  taken h desk (call.When w) t (week, earliest, e) = absurd (when_takes_none week t e)
+  taken h desk call.Snapshot t e = (refl, cc)
+  taken h desk call.Front t e = absurd cc
+
+  front_stands : (before after : History) (desk : ℕ) (c : Call) (r : Reply) → c ≡ call.Snapshot → standing (take (next_number before) (before ++ entry desk c r ∷ after)) ≡ standing before
+  front_stands before after desk c r is =
+      let e = entry desk c r in
+      let long : length (before ++ e ∷ []) ≡ length before + 1 = length_push before e in
+      ap (λ x. standing (take (next_number before) x)) (one-more before e after)
+      ∙ ap standing (take_at (before ++ e ∷ []) after (next_number before) long)
+      ∙ ap (λ x. standing (before ++ entry desk x r ∷ [])) is
+      ∙ standing_after before desk call.Snapshot r
+
+  pub snapped : (before after : History) (desk : ℕ) (c : Call) (t : Snapshot) → IsLegal s (before ++ entry desk c (reply.Taken t) ∷ after)
+      → (t.front ≡ next_number before) × (t.standing ≡ standing before) × (t.standing ≡ standing (take t.front (before ++ entry desk c (reply.Taken t) ∷ after)))
+  snapped before after desk c t legal =
+      let h = before ++ entry desk c (reply.Taken t) ∷ after in
+      let is = taken before desk c t (legal before (entry desk c (reply.Taken t)) after refl).1 in
+      let front : t.front ≡ next_number before = ap (λ x. x.front) is.1 in
+      let stands : t.standing ≡ standing before = ap (λ x. x.standing) is.1 in
+      (front, stands, stands ∙ sym (front_stands before after desk c (reply.Taken t) is.0) ∙ ap (λ n. standing (take n h)) (sym front))
+
+  desks_from : (before h : History) → IsLegalFrom s before h → AreFrom 64 h
+  desks_from before [] w = tt
+  desks_from before (e ∷ h) w = (w.0.0, desks_from (before ++ e ∷ []) h w.1)
+
+  pub desks : (h : History) → IsLegal s h → AreFrom 64 h
+  desks h legal = desks_from [] h (walk (MayFollow s) [] h legal)

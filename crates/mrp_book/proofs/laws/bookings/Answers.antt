@@ -1,0 +1,12 @@
+use Rattle.mrp_book.proofs.Promised.{booked_within}
+use Rattle.mrp_book.proofs.Standings.{standing_after}
+use Rattle.mrp_book.proofs.laws.bookings.Goals as goal
+
+pub returns-clause-within : goal.returns-clause-within
+returns-clause-within c = λ s before after desk number l legal. (booked_within s before after desk number l legal).0
+
+pub returns-clause-number : goal.returns-clause-number
+returns-clause-number c = λ s before after desk number l legal. (booked_within s before after desk number l legal).1
+
+pub returns-clause-stands : goal.returns-clause-stands
+returns-clause-stands c = standing_after

@@ -1,0 +1,18 @@
+use Rattle.mrp_book.proofs.Histories.{prefix-covered, legal-more, reply-unique, history-unique}
+use Rattle.mrp_book.proofs.Promised.{desks}
+use Rattle.mrp_book.proofs.laws.histories.Goals as goal
+
+pub returns-clause-covered : goal.returns-clause-covered
+returns-clause-covered c = prefix-covered
+
+pub returns-clause-more : goal.returns-clause-more
+returns-clause-more c = legal-more
+
+pub returns-clause-one_reply : goal.returns-clause-one_reply
+returns-clause-one_reply c = reply-unique
+
+pub returns-clause-one_history : goal.returns-clause-one_history
+returns-clause-one_history c = history-unique
+
+pub returns-clause-desks : goal.returns-clause-desks
+returns-clause-desks c = desks
