@@ -99,10 +99,8 @@ fn last_place(place: usize, weeks: u64, horizon: usize) -> usize
     ensures { result + 1 ≡ last_of horizon weeks (place + 1) }
 {
     let left = horizon - place - 1;
-    match usize::try_from(weeks - 1) {
-        Ok(more) => place + more.min(left),
-        Err(_) => place + left,
-    }
+    let more = (weeks - 1) as usize;
+    place + more.min(left)
 }
 
 impl Lot for Period {

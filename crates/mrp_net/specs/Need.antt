@@ -16,9 +16,13 @@ need stock gross week = greatest_to (shortage stock gross) week
 abbrev pub IsNeed : ℕ → (ℕ → ℕ) → Type 0
 IsNeed horizon need = (s t : ℕ) → s ≤ t → t ≤ horizon → need s ≤ need t
 
+-- what is on hand, scheduled and planned up to a week, given the planned receipts up to it
+abbrev pub supply : Stock → ℕ → ℕ → ℕ
+supply stock received week = stock.on_hand + sum_to stock.scheduled week + received
+
 -- what is left at a week's end, given the planned receipts up to it (APICS Dictionary: projected available balance)
 abbrev pub balance : Stock → List ℕ → ℕ → ℕ → ℕ
-balance stock gross received week = (stock.on_hand + sum_to stock.scheduled week + received) - sum_to gross week
+balance stock gross received week = supply stock received week - sum_to gross week
 
 -- the net requirement of a week, given the balance before it (Orlicky: netting, week by week)
 abbrev pub net : Stock → List ℕ → ℕ → ℕ → ℕ

@@ -1,11 +1,15 @@
 //! Netting: what an item needs beyond what it has.
 #![tactic(auto)]
 
+mod balances;
 mod fault;
 pub mod laws;
 mod needs;
 mod stock;
+#[cfg(test)]
+mod tests;
 
+pub use balances::balance_row;
 pub use fault::NetFault;
 pub use needs::{NeedRow, need};
 pub use stock::Stock;

@@ -42,7 +42,7 @@ impl NeedRow {
 
 // Requirements and supplies up to a week, and the greatest shortage so far.
 #[derive(Clone, Copy)]
-struct SoFar {
+pub(crate) struct SoFar {
     required: Qty,
     supplied: Qty,
     shortage: Qty,
@@ -57,12 +57,12 @@ fn excess(required: Qty, supplied: Qty) -> Qty
 }
 
 impl SoFar {
-    ghost use Rattle.std.specs.Prelude.{◌≡◌, ◌<◌, ◌+◌, ◌⊎◌, MatchOption};
+    ghost use Rattle.std.specs.Prelude.{◌≡◌, ◌≤◌, ◌<◌, ◌+◌, ◌-◌, ◌⊎◌, MatchOption, OnSome};
     ghost use Rattle.mrp_qty.specs.Quantity.{greatest_quantity};
     ghost use Rattle.mrp_net.specs.SoFar.{AddsWeek, IsStart};
 
     // Before the first week.
-    fn start(safety: Qty, on_hand: Qty) -> SoFar
+    pub(crate) fn start(safety: Qty, on_hand: Qty) -> SoFar
         ensures { IsStart safety on_hand result }
     {
         let shortage = excess(safety, safety);
@@ -75,7 +75,7 @@ impl SoFar {
     }
 
     // One more week; None where requirements or supplies pass the greatest quantity.
-    fn with(self, gross: Qty, scheduled: Qty) -> Option<SoFar>
+    pub(crate) fn with(self, gross: Qty, scheduled: Qty) -> Option<SoFar>
         ensures { MatchOption result ((greatest_quantity < self.required + gross) ⊎ (greatest_quantity < self.supplied + scheduled)) (AddsWeek self gross scheduled) }
     {
         let required = self.required.add(gross)?;
@@ -85,6 +85,16 @@ impl SoFar {
             supplied,
             shortage: self.shortage.max(excess(required, supplied)),
         })
+    }
+
+    // What is left once the planned receipts are in, the safety stock counted as left; None where
+    // supplies pass the greatest quantity.
+    pub(crate) fn balance(&self, safety: Qty, received: Qty) -> Option<Qty>
+        ensures balance { MatchOption result (greatest_quantity < self.now.supplied + received) (λ balance. balance ≡ (self.now.supplied + received) - (self.now.required - safety)) }
+        ensures within { OnSome result (self.now.supplied + received ≤ greatest_quantity) }
+    {
+        let supplied = self.supplied.add(received)?;
+        Some(excess(supplied, excess(self.required, safety)))
     }
 }
 

@@ -1,0 +1,52 @@
+//! What is left of an item at the end of each week.
+
+ghost use Rattle.std.specs.Prelude.{◌≡◌, ◌≤◌, ◌<◌, ◌+◌, ◌⊎◌, ℕ, length, sum, IfOk, OnOk, IsErrOf};
+ghost use Rattle.mrp_qty.specs.Quantity.{greatest_quantity};
+ghost use Rattle.mrp_phase.specs.Weeks.{in_week, row, sum_to};
+ghost use Rattle.mrp_net.specs.Need.{balance, supply};
+
+use crate::fault::NetFault;
+use crate::needs::SoFar;
+use crate::stock::Stock;
+use mrp_phase::Weeks;
+use mrp_qty::Qty;
+use std::alloc::Global;
+
+/// What is left at the end of each week, by the gross requirements of each and the planned receipts
+/// up to each (APICS Dictionary: projected available balance). Where requirements are above all
+/// supplies nothing is left.
+///
+/// Errors: `TooLarge` where gross requirements and safety stock, or what is on hand, scheduled and
+/// planned up to some week, add up to more than the greatest quantity, `NoMemory` where the row's
+/// memory is refused.
+#[tactic(auto, using(mrp_phase::proofs::WeekRows::row_none, mrp_phase::proofs::WeekRows::row_more, mrp_phase::proofs::WeekRows::sum_to_whole, mrp_phase::proofs::WeekRows::sum_to_next, mrp_phase::proofs::WeekRows::in_week_next))]
+pub fn balance_row(
+    alloc: Global,
+    gross: &Weeks<Qty>,
+    stock: &Stock,
+    receipts: &Weeks<Qty>,
+) -> Result<Weeks<Qty>, NetFault>
+    requires scheduled { length stock.now.scheduled ≡ length gross.now }
+    requires receipts { length receipts.now ≡ length gross.now }
+    ensures value { IfOk result (λ w. w ≡ row (length gross.now) (λ week. balance stock.now gross.now (in_week receipts.now week) week)) }
+    ensures requirements { OnOk result (sum gross.now + stock.now.safety ≤ greatest_quantity) }
+    ensures supplies { OnOk result ((week : ℕ) → 0 < week → week ≤ length gross.now → supply stock.now (in_week receipts.now week) week ≤ greatest_quantity) }
+    ensures too_large { IsErrOf result NetFault.TooLarge → (greatest_quantity < sum gross.now + stock.now.safety) ⊎ ((week : ℕ) × (0 < week) × (week ≤ length gross.now) × (greatest_quantity < supply stock.now (in_week receipts.now week) week)) }
+{
+    let gross = gross.as_slice();
+    let scheduled = stock.scheduled.as_slice();
+    let received = receipts.as_slice();
+    let mut balances = Vec::with_capacity(alloc, gross.len())?;
+    let mut so_far = SoFar::start(stock.safety, stock.on_hand);
+    for i in 0..gross.len() {
+        let Some(next) = so_far.with(gross[i], scheduled[i]) else {
+            return Err(NetFault::TooLarge);
+        };
+        let Some(balance) = next.balance(stock.safety, received[i]) else {
+            return Err(NetFault::TooLarge);
+        };
+        so_far = next;
+        balances.push(balance)?;
+    }
+    Ok(Weeks::from_vec(balances))
+}
