@@ -12,7 +12,7 @@ use Rattle.mrp_tables.specs.declared.rows.BillLine.{BillLine}
 use Rattle.mrp_tables.specs.declared.rows.MasterKind.TheVariants as kind
 use Rattle.mrp_tables.specs.declared.rows.MasterRow.{MasterRow}
 use Rattle.mrp_tables.specs.declared.rows.Receipt.{Receipt}
-use Rattle.mrp_book.specs.declared.order.Booking.{Booking}
+use Rattle.mrp_book.specs.declared.booking.Booking.{Booking}
 use Rattle.mrp_phase.specs.Weeks.{row, in_week, greatest_to}
 use Rattle.mrp_net.specs.Need.{need, shortage}
 use Rattle.mrp_lots.specs.Lots.{receipts}

@@ -7,7 +7,7 @@ use Rattle.mrp_phase.specs.Weeks.{row}
 use Rattle.mrp_phase.proofs.WeekRows.{row_same, sum-row_above}
 use Rattle.mrp_tables.specs.declared.rows.MasterRow.{MasterRow}
 use Rattle.mrp_tables.specs.declared.rows.Receipt.{Receipt}
-use Rattle.mrp_book.specs.declared.order.Booking.{Booking}
+use Rattle.mrp_book.specs.declared.booking.Booking.{Booking}
 use Rattle.mrp_item.specs.declared.due.Due.{Due}
 use Rattle.mrp_item.specs.Inputs.{Inputs}
 use Rattle.mrp_item.specs.Rows.{firm_rows, forecast_rows, open_receipts, bookings_due, forecast, booked, is_firm, is_forecast}

@@ -17,3 +17,4 @@ pub mod Outcomes
 pub mod OrderLaws
 pub mod BicycleShop
 pub mod OtherShops
+pub mod OutcomeLists

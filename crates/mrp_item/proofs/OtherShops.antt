@@ -7,7 +7,7 @@ use Rattle.mrp_tables.specs.declared.item.Item.{Item}
 use Rattle.mrp_tables.specs.declared.rows.BillLine.{BillLine}
 use Rattle.mrp_tables.specs.declared.rows.MasterRow.{MasterRow}
 use Rattle.mrp_tables.specs.declared.rows.StockRow.{StockRow}
-use Rattle.mrp_book.specs.declared.order.Booking.{Booking}
+use Rattle.mrp_book.specs.declared.booking.Booking.{Booking}
 use Rattle.mrp_phase.specs.Weeks.{row, in_week, greatest_to}
 use Rattle.mrp_lots.specs.Lots.{receipts}
 use Rattle.mrp_item.specs.Inputs.{Inputs}

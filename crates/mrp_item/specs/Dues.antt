@@ -4,7 +4,7 @@ use Rattle.std.specs.List.{slice_index_or}
 use Rattle.mrp_phase.specs.Weeks.{in_week}
 use Rattle.mrp_tables.specs.declared.rows.MasterRow.{MasterRow}
 use Rattle.mrp_tables.specs.declared.rows.Receipt.{Receipt}
-use Rattle.mrp_book.specs.declared.order.Booking.{Booking}
+use Rattle.mrp_book.specs.declared.booking.Booking.{Booking}
 use Rattle.mrp_item.specs.declared.due.Due.{Due}
 use Rattle.mrp_item.specs.Rows.{is_firm, is_forecast}
 

@@ -1,12 +1,12 @@
 -- What a plan is made from.
-use Rattle.std.specs.Prelude.{ℕ, List, [], length, Bool, true, false}
+use Rattle.std.specs.Prelude.{ℕ, List, [], length, Bool}
 use Rattle.std.specs.List.{slice_index_or, range_with_len}
 use Rattle.mrp_tables.specs.Tables.{Tables}
-use Rattle.mrp_tables.specs.declared.item.Class.{Class}
-use Rattle.mrp_tables.specs.declared.item.Class.TheVariants.{Master, Part}
+use Rattle.mrp_tables.specs.Items as items
+use Rattle.mrp_tables.specs.declared.item.Class.TheVariants.{Part}
 use Rattle.mrp_tables.specs.declared.item.LotRule.TheVariants.{LotForLot}
 use Rattle.mrp_tables.specs.declared.item.Item.{Item}
-use Rattle.mrp_book.specs.declared.order.Booking.{Booking}
+use Rattle.mrp_book.specs.declared.booking.Booking.{Booking}
 use Rattle.mrp_book.specs.Snapshot.{Snapshot}
 
 -- the tables, the entry of the order book that is planned from, and the bookings that stand there
@@ -30,13 +30,9 @@ horizon s = s.tables.calendar.weeks
 abbrev pub item_at : Inputs → ℕ → Item
 item_at s i = slice_index_or s.tables.items i (record { name = []; class = Part; lead = 0; scrap = 0; lot = LotForLot; safety = 0 })
 
-abbrev pub is_master_class : Class → Bool
-is_master_class Master = true
-is_master_class Part = false
-
 -- an item that the master schedule plans (APICS Dictionary: master schedule item)
 abbrev pub is_master : Inputs → ℕ → Bool
-is_master s i = is_master_class (item_at s i).class
+is_master s i = items.is_master (item_at s i).class
 
 -- the inputs of tables and a snapshot of the order book
 abbrev pub inputs_of : Tables → Snapshot → Inputs

@@ -5,14 +5,15 @@ use Rattle.mrp_tables.specs.declared.rows.Receipt.{Receipt}
 use Rattle.mrp_tables.specs.declared.rows.MasterKind.{MasterKind}
 use Rattle.mrp_tables.specs.declared.rows.MasterKind.TheVariants.{Firm, Forecast}
 use Rattle.mrp_tables.specs.declared.rows.MasterRow.{MasterRow}
-use Rattle.mrp_book.specs.declared.order.Booking.{Booking}
+use Rattle.mrp_master.specs.Supply as supply
+use Rattle.mrp_master.specs.Supply.{on_hand_of}
+use Rattle.mrp_book.specs.declared.booking.Booking.{Booking}
 use Rattle.mrp_phase.specs.Weeks.{row}
 use Rattle.mrp_net.specs.declared.stock.Stock.{Stock}
 use Rattle.mrp_item.specs.Inputs.{Inputs, horizon, item_at, is_master}
 
 abbrev pub is_firm : MasterKind → Bool
-is_firm Firm = true
-is_firm Forecast = false
+is_firm kind = supply.is_firm kind
 
 abbrev pub is_forecast : MasterKind → Bool
 is_forecast Firm = false
@@ -58,7 +59,7 @@ scheduled_in s i week =
 
 -- what is on hand of an item; one without a stock record has 0
 abbrev pub on_hand : Inputs → ℕ → ℕ
-on_hand s i = sum_by (λ r. r.on_hand) (filter (λ r. r.item == i) s.tables.stock)
+on_hand s i = on_hand_of s.tables.stock i
 
 -- what an item has without planning
 abbrev pub stock_of : Inputs → ℕ → Stock

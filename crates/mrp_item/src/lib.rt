@@ -2,6 +2,7 @@
 #![tactic(auto)]
 
 mod asked;
+mod blocked;
 mod due;
 mod grouping;
 mod inputs;
@@ -9,14 +10,19 @@ pub mod laws;
 mod order;
 mod orders;
 mod outcome;
+mod over;
 mod plan;
 mod planning;
 mod stocked;
 mod stop;
 mod supply;
+#[cfg(test)]
+mod tests;
 
+pub use blocked::BlockedItem;
 pub use inputs::Inputs;
 pub use order::{Order, OrderKind};
-pub use outcome::{BlockedItem, Outcome, OverItem, Planned};
+pub use outcome::{Outcome, Planned};
+pub use over::OverItem;
 pub use plan::Plan;
 pub use planning::plan_item;

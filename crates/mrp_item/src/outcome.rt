@@ -1,7 +1,9 @@
 //! What planning makes of an item.
 
+use crate::blocked::BlockedItem;
 use crate::inputs::Inputs;
 use crate::order::Order;
+use crate::over::OverItem;
 use mrp_phase::Weeks;
 use mrp_qty::{NoMemory, Qty};
 use std::marker::Model;
@@ -111,102 +113,6 @@ impl Planned {
     }
 }
 
-/// An item that is over, for the inputs that it holds.
-#[derive(Drop)]
-pub struct OverItem {
-    inputs: Arc<Inputs>,
-    item: usize,
-}
-
-impl Model for OverItem {
-    ghost use Rattle.std.specs.Prelude.{◌≡◌};
-    ghost use Rattle.mrp_item.specs.Places.{ItemOf};
-    ghost use Rattle.mrp_item.specs.Plan.{Over, outcome_of};
-
-    ghost Value = { ItemOf };
-
-    ghost view = { λ o. record { inputs = o.inputs.value; item = o.item } };
-
-    ghost invariant = { λ o. outcome_of o.inputs.value o.item ≡ Over };
-}
-
-impl OverItem {
-    ghost use Rattle.std.specs.Prelude.{◌≡◌};
-    ghost use Rattle.mrp_item.specs.Plan.{Over, outcome_of};
-
-    // An item that is over.
-    pub(crate) fn new(inputs: Arc<Inputs>, item: usize) -> OverItem
-        requires { outcome_of inputs.value item ≡ Over }
-        ensures { result ≡ record { inputs = inputs.value; item = item } }
-    {
-        OverItem { inputs, item }
-    }
-
-    /// What the item is planned from.
-    pub fn inputs(&self) -> &Arc<Inputs>
-        ensures inputs { result.now.value ≡ self.now.inputs }
-        ensures outcome { outcome_of self.now.inputs self.now.item ≡ Over }
-    {
-        &self.inputs
-    }
-
-    /// The item, by its place.
-    pub fn item(&self) -> usize
-        ensures item { result ≡ self.now.item }
-        ensures outcome { outcome_of self.now.inputs self.now.item ≡ Over }
-    {
-        self.item
-    }
-}
-
-/// An item with one above it that is over, for the inputs that it holds.
-#[derive(Drop)]
-pub struct BlockedItem {
-    inputs: Arc<Inputs>,
-    item: usize,
-}
-
-impl Model for BlockedItem {
-    ghost use Rattle.std.specs.Prelude.{◌≡◌};
-    ghost use Rattle.mrp_item.specs.Places.{ItemOf};
-    ghost use Rattle.mrp_item.specs.Plan.{Blocked, outcome_of};
-
-    ghost Value = { ItemOf };
-
-    ghost view = { λ b. record { inputs = b.inputs.value; item = b.item } };
-
-    ghost invariant = { λ b. outcome_of b.inputs.value b.item ≡ Blocked };
-}
-
-impl BlockedItem {
-    ghost use Rattle.std.specs.Prelude.{◌≡◌};
-    ghost use Rattle.mrp_item.specs.Plan.{Blocked, outcome_of};
-
-    // An item that is blocked.
-    pub(crate) fn new(inputs: Arc<Inputs>, item: usize) -> BlockedItem
-        requires { outcome_of inputs.value item ≡ Blocked }
-        ensures { result ≡ record { inputs = inputs.value; item = item } }
-    {
-        BlockedItem { inputs, item }
-    }
-
-    /// What the item is planned from.
-    pub fn inputs(&self) -> &Arc<Inputs>
-        ensures inputs { result.now.value ≡ self.now.inputs }
-        ensures outcome { outcome_of self.now.inputs self.now.item ≡ Blocked }
-    {
-        &self.inputs
-    }
-
-    /// The item, by its place.
-    pub fn item(&self) -> usize
-        ensures item { result ≡ self.now.item }
-        ensures outcome { outcome_of self.now.inputs self.now.item ≡ Blocked }
-    {
-        self.item
-    }
-}
-
 /// What planning makes of an item, for the inputs that it holds (profile): the variant is the
 /// item's.
 #[derive(Drop)]
@@ -257,7 +163,7 @@ impl Outcome {
                 true
             }
             Outcome::Over(over) => {
-                let _over = over.inputs();
+                let _over = over.item();
                 false
             }
             Outcome::Blocked(blocked) => {
@@ -273,7 +179,7 @@ impl Outcome {
     {
         match self {
             Outcome::Planned(planned) => {
-                let _plan = planned.inputs();
+                let _plan = planned.orders();
                 false
             }
             Outcome::Over(over) => {

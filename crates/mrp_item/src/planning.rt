@@ -15,11 +15,13 @@ ghost use Rattle.mrp_item.specs.Plan as plan;
 ghost use Rattle.mrp_item.specs.Plan.{is_planned, outcome_of, receipts_of};
 
 use crate::asked::asked_row;
+use crate::blocked::BlockedItem;
 use crate::due::{Due, add_due, nothing};
 use crate::inputs::Inputs;
 use crate::order::Order;
 use crate::orders::orders_for;
-use crate::outcome::{BlockedItem, Outcome, OverItem, Planned};
+use crate::outcome::{Outcome, Planned};
+use crate::over::OverItem;
 use crate::stop::Stop;
 use crate::supply::{demand_row, is_master_item, stock_for};
 use mrp_lots::{Fixed, LotForLot, Period, receipts};

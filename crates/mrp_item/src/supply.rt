@@ -3,7 +3,8 @@
 ghost use Rattle.std.specs.Prelude.{◌≡◌, ◌<◌, ◌+◌, ℕ, length, max, sum, IfOk, IfErr};
 ghost use Rattle.mrp_qty.specs.Quantity.{greatest_quantity};
 ghost use Rattle.mrp_phase.specs.Weeks.{in_week, row};
-ghost use Rattle.mrp_item.specs.Inputs.{count, horizon, is_master, is_master_class};
+ghost use Rattle.mrp_tables.specs.Items.{is_master};
+ghost use Rattle.mrp_item.specs.Inputs.{count, horizon};
 ghost use Rattle.mrp_item.specs.Rows.{demand, scheduled_in, stock_of};
 ghost use Rattle.mrp_item.specs.Dues.{due_sum};
 
@@ -17,7 +18,7 @@ use mrp_tables::Class;
 use std::alloc::Global;
 
 pub fn is_master_item(class: Class) -> bool
-    ensures { result ≡ is_master_class class }
+    ensures { result ≡ is_master class }
 {
     match class {
         Class::Master => true,

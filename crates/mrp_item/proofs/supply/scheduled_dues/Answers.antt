@@ -1,5 +1,6 @@
 use Rattle.std.proofs.Common.{◌≡◌, ◌∙◌, ap, sym, refl, true, false}
-use Rattle.mrp_item.specs.Inputs.{is_master, is_master_class}
+use Rattle.mrp_tables.specs.Items as items
+use Rattle.mrp_item.specs.Inputs.{is_master}
 use Rattle.mrp_item.specs.Dues.{due_sum}
 use Rattle.mrp_item.proofs.DueRows.{due_sum-firm, due_sum-receipts}
 use Rattle.mrp_item.proofs.supply.scheduled_dues.Goals as goal
@@ -8,12 +9,12 @@ pub returns-then-is_master_item : goal.returns-then-is_master_item
 returns-then-is_master_item c = λ week.
     let s = c.args.inputs.now in
     let i = c.args.item in
-    let master : is_master s i ≡ true = sym (ap (λ e. is_master_class e.class) c.entry.ensures.value) ∙ sym c.is_master_item.ensures ∙ c.if-is_master_item.true in
+    let master : is_master s i ≡ true = sym (ap (λ e. items.is_master e.class) c.entry.ensures.value) ∙ sym c.is_master_item.ensures ∙ c.if-is_master_item.true in
     ap (λ dues. due_sum dues week) c.firm.ensures ∙ due_sum-firm s i week ∙ rw master refl
 
 pub returns-else-is_master_item : goal.returns-else-is_master_item
 returns-else-is_master_item c = λ week.
     let s = c.args.inputs.now in
     let i = c.args.item in
-    let part : is_master s i ≡ false = sym (ap (λ e. is_master_class e.class) c.entry.ensures.value) ∙ sym c.is_master_item.ensures ∙ c.if-is_master_item.false in
+    let part : is_master s i ≡ false = sym (ap (λ e. items.is_master e.class) c.entry.ensures.value) ∙ sym c.is_master_item.ensures ∙ c.if-is_master_item.false in
     ap (λ dues. due_sum dues week) c.receipts.ensures ∙ due_sum-receipts s i week ∙ rw part refl

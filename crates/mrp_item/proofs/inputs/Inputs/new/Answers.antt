@@ -16,7 +16,7 @@ invariant_of-inputs c =
     let count : length c.items-count.result.now ≡ length c.args.shop.value.tables.items = ap length (c.items-count.ensures.rows ∙ ap (λ (t : Tables). t.items) tables) in
     let master = c.master.ensures.rows ∙ ap (λ (t : Tables). t.master) tables in
     let master_again = c.master-2.ensures.rows ∙ ap (λ (t : Tables). t.master) tables in
-    let receipts = c.receipts.ensures ∙ ap (λ (t : Tables). t.receipts) tables in
+    let receipts = c.receipts.ensures.rows ∙ ap (λ (t : Tables). t.receipts) tables in
     let stock = c.stock.ensures.rows ∙ ap (λ (t : Tables). t.stock) tables in
     record {
       firm_size = c.in_ok-firm.ensures.size ∙ count;
