@@ -1,9 +1,12 @@
 pub mod Section
 pub mod RunText
 pub mod PlanText
+pub mod HistoryText
+pub mod EntryCells
 pub mod PageWriter
 pub mod PageView
 pub mod Written
 pub mod PlanRows
 pub mod ReportText
 pub mod Sheet
+pub mod HistoryText

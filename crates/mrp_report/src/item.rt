@@ -1,7 +1,7 @@
 //! An item's rows of the section `plan`.
 
 ghost use Rattle.std.specs.Prelude.{◌≡◌, ◌++◌, OnOk};
-ghost use Rattle.mrp_item.specs.Inputs.{is_master_class};
+ghost use Rattle.mrp_tables.specs.Items.{is_master};
 ghost use Rattle.mrp_report.specs.ReportText.{item_text};
 
 use crate::page::Page;
@@ -12,7 +12,7 @@ use mrp_tables::Class;
 use std::alloc::Global;
 
 fn is_master(class: Class) -> bool
-    ensures { result ≡ is_master_class class }
+    ensures { result ≡ is_master class }
 {
     match class {
         Class::Master => true,

@@ -1,15 +1,19 @@
-//! The texts of a report, section by section.
+//! The texts of a day, section by section: the history of the order book, and the report of a run.
 #![tactic(auto)]
 
 mod fault;
+mod history;
 mod item;
 mod page;
 mod plan;
 mod report;
 mod run;
 mod sheet;
+#[cfg(test)]
+mod tests;
 
 pub use fault::ReportFault;
+pub use history::write_history;
 pub use item::item_rows;
 pub use page::Page;
 pub use plan::{PlanRow, plan_section, week_row};

@@ -3,7 +3,7 @@
 ghost use Rattle.std.specs.Prelude.{◌≡◌, ◌≤◌, ◌-◌, [], ◌∷◌, ◌++◌, codes, Err, OnOk, OnErr, IfOk, map};
 ghost use Rattle.mrp_report.specs.Section.{row, section_head};
 ghost use Rattle.mrp_report.specs.PageWriter.{IsFresh};
-ghost use Rattle.mrp_report.specs.Written.{HasTaken, HasTakenFront, HasGivenUp};
+ghost use Rattle.mrp_report.specs.Written.{HasTaken, HasTakenFront, HasGivenUp, PassesOn};
 
 use crate::fault::ReportFault;
 use csv::{Writer, WriterBuilder};
@@ -132,5 +132,22 @@ impl Page {
         write_text(writer, self.text()?, tries)?;
         self.clear();
         Ok(())
+    }
+    // Hands the page over where it is full.
+    pub(crate) fn pass_on<W: Write>(
+        &mut self,
+        writer: &mut Told<W>,
+        tries: &mut Tries,
+    ) -> Result<(), ReportFault>
+        ensures passed { OnOk result (PassesOn W.contents writer.old writer.new self.old self.new (tries.old - tries.new)) }
+        ensures tries { tries.new ≤ tries.old }
+        ensures front { OnErr result (HasTakenFront W.contents writer.old writer.new self.old) }
+        ensures refused { result ≡ Err ReportFault.Write → HasGivenUp writer.old writer.new tries.old }
+    {
+        if self.is_full() {
+            self.hand_over(writer, tries)
+        } else {
+            Ok(())
+        }
     }
 }

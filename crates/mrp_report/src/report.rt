@@ -1,8 +1,8 @@
 //! The report of a run.
 
-ghost use Rattle.std.specs.Prelude.{◌≡◌, ◌≤◌, ◌-◌, ◌++◌, Err, OnOk, OnErr, length};
+ghost use Rattle.std.specs.Prelude.{◌≡◌, ◌++◌, Err, OnOk, OnErr};
 ghost use Rattle.mrp_report.specs.ReportText.{report_head, report_text};
-ghost use Rattle.mrp_report.specs.Written.{HasGivenUp, HasTakenFront, HasTakenWhole, PassesOn};
+ghost use Rattle.mrp_report.specs.Written.{HasGivenUp, HasTakenFront, HasTakenWhole};
 
 use crate::fault::ReportFault;
 use crate::item::item_rows;
@@ -22,24 +22,6 @@ fn head(page: &mut Page, plan: &Plan) -> Result<(), NoMemory>
     let snapshot = plan.inputs().snapshot();
     run_section(page, snapshot.front(), snapshot.standing().len() as u64)?;
     plan_section(page)
-}
-
-// Hands the page over where it is full.
-fn pass_on<W: Write>(
-    page: &mut Page,
-    writer: &mut Told<W>,
-    tries: &mut Tries,
-) -> Result<(), ReportFault>
-    ensures passed { OnOk result (PassesOn W.contents writer.old writer.new page.old page.new (tries.old - tries.new)) }
-    ensures tries { tries.new ≤ tries.old }
-    ensures front { OnErr result (HasTakenFront W.contents writer.old writer.new page.old) }
-    ensures refused { result ≡ Err ReportFault.Write → HasGivenUp writer.old writer.new tries.old }
-{
-    if page.is_full() {
-        page.hand_over(writer, tries)
-    } else {
-        Ok(())
-    }
 }
 
 /// Writes the report of a run: the sections `run` and `plan`.
@@ -62,7 +44,7 @@ pub fn write_report<W: Write>(
     head(&mut page, plan)?;
     for item in 0..plan.inputs().shop().tables().items().len() {
         item_rows(alloc, &mut page, plan.item(item))?;
-        pass_on(&mut page, writer, &mut tries)?;
+        page.pass_on(writer, &mut tries)?;
     }
     page.hand_over(writer, &mut tries)
 }

@@ -3,7 +3,8 @@ use Rattle.std.specs.Prelude.{OnOk}
 use Rattle.mrp_tables.specs.Tables.{Tables}
 use Rattle.mrp_tables.specs.declared.item.Item.{Item}
 use Rattle.mrp_net.specs.declared.stock.Stock.{Stock}
-use Rattle.mrp_item.specs.Inputs.{Inputs, item_at, is_master_class, horizon}
+use Rattle.mrp_tables.specs.Items.{is_master}
+use Rattle.mrp_item.specs.Inputs.{Inputs, item_at, horizon}
 use Rattle.mrp_report.specs.declared.sheet.Sheet.{Sheet}
 use Rattle.mrp_report.proofs.PlanSheets.{IsSheetOf, is-sheet, sheet-text, entry-is}
 use Rattle.mrp_report.proofs.item.item_rows.Goals as goal
@@ -17,7 +18,7 @@ write-requires c =
     entry-is s c.items.result.now c.args.planned.now.item c.item.result c.index-items-item.result _ (c.items.ensures.rows ∙ ap (λ (t : Tables). t.items) tables) c.item.ensures.item c.item.ensures.within c.index-items-item.is in
     let of : IsSheetOf _ s c.args.planned.now.item c.args.planned.now.plan = record {
       weeks_are = weeks;
-      master_is = c.is_master.ensures ∙ ap (λ (e : Item). is_master_class e.class) entry;
+      master_is = c.is_master.ensures ∙ ap (λ (e : Item). is_master e.class) entry;
       on_hand_is = ap (λ (k : Stock). k.on_hand) c.in_ok-stock.ensures;
       gross_is = c.as_slice.ensures ∙ c.gross.ensures.gross;
       scheduled_is = c.as_slice-2.ensures ∙ ap (λ (k : Stock). k.scheduled) c.in_ok-stock.ensures;
@@ -44,7 +45,7 @@ returns c =
     } in
     let of : IsSheetOf sheet s c.args.planned.now.item c.args.planned.now.plan = record {
       weeks_are = weeks;
-      master_is = c.is_master.ensures ∙ ap (λ (e : Item). is_master_class e.class) entry;
+      master_is = c.is_master.ensures ∙ ap (λ (e : Item). is_master e.class) entry;
       on_hand_is = ap (λ (k : Stock). k.on_hand) c.in_ok-stock.ensures;
       gross_is = c.as_slice.ensures ∙ c.gross.ensures.gross;
       scheduled_is = c.as_slice-2.ensures ∙ ap (λ (k : Stock). k.scheduled) c.in_ok-stock.ensures;

@@ -43,7 +43,7 @@ loop-item-preserved g c =
     subst (λ (t : List ℕ). IsWritten g.W.Write.contents c.args.writer.now c.loop-item.writer c.loop-item.tries c.item_rows.new.page t) (sym (so_far-more s k))
     (written-more g.W.Write.contents c.args.writer.now c.loop-item.writer c.loop-item.tries c.loop-item.page c.item_rows.new.page (so_far s k) (text_at s k) c.loop-item.invariant.1 row) in (
       c.loop-item.invariant.0,
-      written-passed g.W.Write.contents c.args.writer.now c.loop-item.writer c.pass_on.new.writer c.loop-item.tries c.pass_on.new.tries c.item_rows.new.page c.pass_on.new.page (so_far s (k + 1)) stepped
+      written-passed g.W.Write.contents c.args.writer.now c.loop-item.writer c.pass_on.new.writer c.loop-item.tries c.pass_on.new.tries c.item_rows.new.page c.pass_on.new.self (so_far s (k + 1)) stepped
           c.in_ok-pass_on.ensures.tries c.in_ok-pass_on.ensures.passed,
     )
 

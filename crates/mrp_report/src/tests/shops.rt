@@ -1,0 +1,112 @@
+//! A shop for tests, and its texts.
+
+// Bicycles, planned lot for lot.
+pub const BICYCLES: &str = "\
+[calendar]\n\
+key,value\n\
+start,2025-01-06\n\
+weeks,6\n\
+workdays,1111100\n\
+holiday,2025-01-20\n\
+[items]\n\
+item,class,lead,scrap,lot,size,safety\n\
+BIKE,master,1,0,lfl,0,0\n\
+FRAME,part,1,0,lfl,0,0\n\
+WHEEL,part,1,0,lfl,0,0\n\
+[centres]\n\
+centre,minutes\n\
+[stock]\n\
+item,onhand\n\
+BIKE,10\n\
+[receipts]\n\
+item,order,date,quantity\n\
+[bills]\n\
+parent,component,per\n\
+BIKE,FRAME,1\n\
+BIKE,WHEEL,2\n\
+[routings]\n\
+item,op,centre,setup,run,offset\n\
+[master]\n\
+item,row,date,quantity\n\
+BIKE,firm,2025-01-20,20\n\
+BIKE,firm,2025-02-03,20\n\
+BIKE,forecast,2025-01-13,8\n\
+BIKE,forecast,2025-01-27,6\n\
+[script]\n\
+desk,call,item,date,quantity,number\n";
+
+// The report of a run over the bicycles, without bookings.
+pub const REPORT: &str = "\
+[run]\n\
+front,standing\n\
+1,0\n\
+[plan]\n\
+item,week,gross,open,firm,planned,start,balance\n\
+BIKE,1,0,0,0,0,0,10\n\
+BIKE,2,8,0,0,0,20,2\n\
+BIKE,3,0,0,20,0,0,22\n\
+BIKE,4,6,0,0,0,20,16\n\
+BIKE,5,0,0,20,0,0,36\n\
+BIKE,6,0,0,0,0,0,36\n\
+FRAME,1,0,0,0,0,20,0\n\
+FRAME,2,20,0,0,20,0,0\n\
+FRAME,3,0,0,0,0,20,0\n\
+FRAME,4,20,0,0,20,0,0\n\
+FRAME,5,0,0,0,0,0,0\n\
+FRAME,6,0,0,0,0,0,0\n\
+WHEEL,1,0,0,0,0,40,0\n\
+WHEEL,2,40,0,0,40,0,0\n\
+WHEEL,3,0,0,0,0,40,0\n\
+WHEEL,4,40,0,0,40,0,0\n\
+WHEEL,5,0,0,0,0,0,0\n\
+WHEEL,6,0,0,0,0,0,0\n";
+
+// The rows of its last item.
+pub const WHEEL_ROWS: &str = "\
+WHEEL,1,0,0,0,0,40,0\n\
+WHEEL,2,40,0,0,40,0,0\n\
+WHEEL,3,0,0,0,0,40,0\n\
+WHEEL,4,40,0,0,40,0,0\n\
+WHEEL,5,0,0,0,0,0,0\n\
+WHEEL,6,0,0,0,0,0,0\n";
+
+// What two desks booked and asked.
+pub const TWO_DESKS: &str = "\
+[history]\n\
+entry,desk,call,item,week,quantity,number,reply,value\n\
+1,1,book,BIKE,3,12,,booked,1\n\
+2,1,book,BIKE,5,25,,booked,2\n\
+3,2,ask,BIKE,1,,,available,10\n\
+4,2,book,BIKE,2,15,,short,10\n\
+5,2,book,BIKE,1,10,,booked,5\n\
+6,1,ask,BIKE,3,,,available,3\n\
+7,1,run,,,,,front,7\n";
+
+// The first six of these, and what was cancelled then.
+pub const CANCELLED: &str = "\
+[history]\n\
+entry,desk,call,item,week,quantity,number,reply,value\n\
+1,1,book,BIKE,3,12,,booked,1\n\
+2,1,book,BIKE,5,25,,booked,2\n\
+3,2,ask,BIKE,1,,,available,10\n\
+4,2,book,BIKE,2,15,,short,10\n\
+5,2,book,BIKE,1,10,,booked,5\n\
+6,1,ask,BIKE,3,,,available,3\n\
+7,2,cancel,,,,2,not-yours,\n\
+8,1,cancel,,,,2,cancelled,\n\
+9,1,cancel,,,,2,not-standing,\n\
+10,1,cancel,,,,4,not-standing,\n\
+11,1,ask,BIKE,3,,,available,8\n\
+12,1,when,BIKE,,28,,week,5\n\
+13,1,run,,,,,front,13\n";
+
+// What is asked where nothing is booked.
+pub const ASKED: &str = "\
+[history]\n\
+entry,desk,call,item,week,quantity,number,reply,value\n\
+1,1,ask,BIKE,1,,,available,10\n\
+2,1,ask,BIKE,3,,,available,30\n\
+3,1,ask,BIKE,5,,,available,50\n\
+4,1,when,BIKE,,11,,week,3\n\
+5,1,when,BIKE,,51,,no-week,\n\
+6,64,front,,,,,front,6\n";
