@@ -1,4 +1,8 @@
 pub mod ShopFaults
 pub mod OneOutcome
+pub mod ScriptCalls
+pub mod ScriptLaws
+pub mod RunsPlanned
+pub mod DayWritten
 pub mod DayRuns
 pub mod PlanOrder

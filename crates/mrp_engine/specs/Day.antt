@@ -1,16 +1,19 @@
--- The day of a bundle: one run, planned from the first entry of an order book without bookings (profile).
-use Rattle.std.specs.Prelude.{ℕ, ◌≡◌, ◌+◌, ◌⊎◌, List, [], Ok, Err}
+-- The day of a bundle: the history that answers its script, and then the report of each of its runs (profile).
+use Rattle.std.specs.Prelude.{ℕ, ◌≡◌, ◌+◌, ◌⊎◌, List, [], ◌∷◌, ◌++◌, All, flat_map, Ok, Err}
 use Rattle.mrp_rows.specs.declared.fault.Fault.{Fault}
 use Rattle.mrp_rows.specs.declared.fault.Table.TheVariants as t
 use Rattle.mrp_tables.specs.Tables.{Tables, tables_of}
 use Rattle.mrp_bill.specs.Bill.{IsFirstLoop, NeedsItself}
-use Rattle.mrp_item.specs.Inputs.{Inputs, item_at}
+use Rattle.mrp_master.specs.Supply.{supply_of}
+use Rattle.mrp_book.specs.declared.reply.Reply.{Reply}
+use Rattle.mrp_book.specs.declared.reply.Reply.TheVariants.{Taken}
+use Rattle.mrp_book.specs.Standing.{History}
+use Rattle.mrp_book.specs.History.{IsLegal, asked}
+use Rattle.mrp_item.specs.Inputs.{Inputs, inputs_of, item_at}
 use Rattle.mrp_item.specs.Plan.{ItemPlan, plan_of}
+use Rattle.mrp_report.specs.HistoryText.{history_text}
 use Rattle.mrp_report.specs.ReportText.{report_text}
-
--- what the one run is planned from: entry 1, where no booking stands
-abbrev pub first_run : Tables → Inputs
-first_run tables = record { tables = tables; front = 1; standing = [] }
+use Rattle.mrp_engine.specs.Script.{script_of, with_run}
 
 -- an item that needs itself
 abbrev pub loop_fault : ℕ → Fault
@@ -30,12 +33,45 @@ pub record IsLoop (bundle : List ℕ) (tables : Tables) (item : ℕ) : Type 0 wh
 abbrev pub IsRefused : List ℕ → Fault → Type 0
 IsRefused bundle f = (tables_of bundle ≡ Err f) ⊎ ((tables : Tables) × (item : ℕ) × IsLoop bundle tables item × (f ≡ loop_fault item))
 
--- a bundle whose plan is refused by the first item that gets too large
+-- the legal history that answers the script's records in row order
+pub record AnswersScript (tables : Tables) (h : History) : Type 0 where
+  pub legal : IsLegal (supply_of tables) h
+  pub in_order : asked h ≡ with_run (script_of tables)
+
+-- what a reply has planned: a snapshot, what stands at it
+abbrev pub planned_from : Tables → Reply → List Inputs
+planned_from tables (Taken snapshot) = inputs_of tables snapshot ∷ []
+planned_from tables r = []
+
+-- what the runs of a history are planned from, in order
+abbrev pub runs_of : Tables → History → List Inputs
+runs_of tables h = flat_map (λ e. planned_from tables e.reply) h
+
+-- a run in which no item gets too large
+abbrev pub IsPlannable : Inputs → Type 0
+IsPlannable s = (plans : List ItemPlan) × (plan_of s ≡ Ok plans)
+
+-- a run whose plan is refused by this item, the first that gets too large
+abbrev pub IsRefusedBy : Inputs → List ℕ → Type 0
+IsRefusedBy s name = (item : ℕ) × (plan_of s ≡ Err item) × (name ≡ (item_at s item).name)
+
+-- the first run that is refused is refused by the item of this name
+abbrev pub IsFirstRefusal : List Inputs → List ℕ → Type 0
+IsFirstRefusal runs name =
+    (before : List Inputs) × (s : Inputs) × (after : List Inputs)
+    × (runs ≡ before ++ s ∷ after) × All IsPlannable before × IsRefusedBy s name
+
+-- a bundle of which a run is refused, the first of them by the item of this name
 abbrev pub IsTooLarge : List ℕ → List ℕ → Type 0
 IsTooLarge bundle name =
-    (tables : Tables) × IsAccepted bundle tables × (item : ℕ) × (plan_of (first_run tables) ≡ Err item) × (name ≡ (item_at (first_run tables) item).name)
+    (tables : Tables) × IsAccepted bundle tables × (h : History) × AnswersScript tables h × IsFirstRefusal (runs_of tables h) name
 
--- a bundle and the text of its day: the report of its one run
+-- the history, then the report of each run, in order
+abbrev pub day_text : Tables → History → List ℕ
+day_text tables h = history_text tables h ++ flat_map report_text (runs_of tables h)
+
+-- a bundle and the text of its day
 abbrev pub IsDay : List ℕ → List ℕ → Type 0
 IsDay bundle text =
-    (tables : Tables) × IsAccepted bundle tables × (plans : List ItemPlan) × (plan_of (first_run tables) ≡ Ok plans) × (text ≡ report_text (first_run tables))
+    (tables : Tables) × IsAccepted bundle tables × (h : History) × AnswersScript tables h
+    × All IsPlannable (runs_of tables h) × (text ≡ day_text tables h)

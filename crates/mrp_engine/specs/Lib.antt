@@ -1,5 +1,7 @@
+pub mod Script
 pub mod Day
 pub mod Opened
 pub mod Run
 pub mod Planned
 pub mod Finished
+pub mod Laws

@@ -1,25 +1,38 @@
--- What comes of planning a shop.
-use Rattle.std.specs.Prelude.{ℕ, ◌≡◌, Result, Ok, Err, ⊤}
+-- What comes of planning runs.
+use Rattle.std.specs.Prelude.{ℕ, ◌≡◌, List, All, map, Result, Ok, Err, ⊤}
+use Rattle.std.specs.Global.{Vec}
 use Rattle.mrp_qty.specs.declared.memory.NoMemory.{NoMemory}
-use Rattle.mrp_tables.specs.Tables.{Tables}
-use Rattle.mrp_item.specs.Inputs.{Inputs, item_at}
+use Rattle.mrp_item.specs.Inputs.{Inputs}
 use Rattle.mrp_item.specs.Plan.{plan_of}
 use Rattle.mrp_item.specs.Places.{WholePlan}
 use Rattle.mrp_engine.specs.declared.fault.DayFault.{DayFault}
 use Rattle.mrp_engine.specs.declared.fault.DayFault.TheVariants.{Refused, TooLarge, Read, Write, NoMemory as NoRoom}
-use Rattle.mrp_engine.specs.Day.{first_run}
-
--- the plan of the one run, or the first item that gets too large; or memory was refused
-abbrev pub PlansShop : Tables → Result WholePlan DayFault → Type 0
-PlansShop tables (Ok plan) = (plan.inputs ≡ first_run tables) × (plan_of (first_run tables) ≡ Ok plan.plans)
-PlansShop tables (Err (TooLarge name)) = (item : ℕ) × (plan_of (first_run tables) ≡ Err item) × (name ≡ (item_at (first_run tables) item).name)
-PlansShop tables (Err NoRoom) = ⊤
-PlansShop tables (Err (Refused f)) = ⊥
-PlansShop tables (Err Read) = ⊥
-PlansShop tables (Err Write) = ⊥
+use Rattle.mrp_engine.specs.Day.{IsFirstRefusal, IsPlannable, IsRefusedBy}
 
 -- the plan of these inputs, or the first item that is over; or memory was refused
 abbrev pub PlansInputs : Inputs → Result (Result WholePlan ℕ) NoMemory → Type 0
 PlansInputs s (Ok (Ok plan)) = (plan.inputs ≡ s) × (plan_of s ≡ Ok plan.plans)
 PlansInputs s (Ok (Err item)) = plan_of s ≡ Err item
 PlansInputs s (Err refused) = ⊤
+
+-- the plan of a run, or the name of the first item that gets too large; or memory was refused
+abbrev pub PlansRun : Inputs → Result WholePlan DayFault → Type 0
+PlansRun s (Ok plan) = (plan.inputs ≡ s) × IsPlannable s
+PlansRun s (Err (TooLarge name)) = IsRefusedBy s name
+PlansRun s (Err NoRoom) = ⊤
+PlansRun s (Err (Refused f)) = ⊥
+PlansRun s (Err Read) = ⊥
+PlansRun s (Err Write) = ⊥
+
+-- what plans were made from
+abbrev pub inputs_of_plans : List WholePlan → List Inputs
+inputs_of_plans plans = map (λ p. p.inputs) plans
+
+-- the plans of all runs, in order, or why the first that is refused is; or memory was refused
+abbrev pub PlansRuns : List Inputs → Result (Vec WholePlan) DayFault → Type 0
+PlansRuns runs (Ok plans) = (inputs_of_plans plans.items ≡ runs) × All IsPlannable runs
+PlansRuns runs (Err (TooLarge name)) = IsFirstRefusal runs name
+PlansRuns runs (Err NoRoom) = ⊤
+PlansRuns runs (Err (Refused f)) = ⊥
+PlansRuns runs (Err Read) = ⊥
+PlansRuns runs (Err Write) = ⊥

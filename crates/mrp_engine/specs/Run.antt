@@ -3,7 +3,7 @@ use Rattle.std.specs.Prelude.{ℕ, ◌≡◌, ◌≢◌, ◌⊎◌, List, Option
 use Rattle.mrp_rows.specs.declared.told.Told.{Told}
 use Rattle.mrp_rows.specs.Told.{calls_of, failures_of, moved_of, HasRisenBy}
 use Rattle.mrp_bill.specs.Shop.{Shop}
-use Rattle.mrp_report.specs.Written.{HasTakenFront}
+use Rattle.mrp_report.specs.Written.{HasTaken, HasTakenFront}
 use Rattle.mrp_engine.specs.declared.fault.DayFault.{DayFault}
 use Rattle.mrp_engine.specs.declared.fault.DayFault.TheVariants.{Refused, TooLarge, Read, Write, NoMemory}
 use Rattle.mrp_engine.specs.Day.{IsAccepted, IsDay, IsRefused}
@@ -29,6 +29,10 @@ ReadsShop given (Err NoMemory) = ⊤
 -- the text of the day of the bundle that was read
 abbrev pub TellsDay : Option (List ℕ) → List ℕ → Type 0
 TellsDay given text = (bundle : List ℕ) × IsRead given bundle × IsDay bundle text
+
+-- a writer took a text whole, however many interrupted writes were tried again
+abbrev pub HasTakenAll : {W : Type 0} → (W → Option (List ℕ)) → Told W → Told W → List ℕ → Type 0
+HasTakenAll contents old new text = (retried : ℕ) × HasTaken contents old new text retried
 
 -- a writer took a front of the text of the day
 abbrev pub WritesDayFront : {W : Type 0} → (W → Option (List ℕ)) → Option (List ℕ) → Told W → Told W → Type 0

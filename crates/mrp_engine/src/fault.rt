@@ -1,6 +1,8 @@
 //! Why a day was not written whole.
 
+use mrp_qty::NoMemory;
 use mrp_rows::{Fault, Name};
+use std::alloc::AllocFailed;
 use thiserror::Error;
 
 /// Why a day was not written whole.
@@ -9,8 +11,8 @@ pub enum DayFault {
     /// The bundle has this fault; never want of memory. Nothing was written.
     #[error("refused")]
     Refused(Fault),
-    /// The plan of this item gets too large, and of no item above it; it is the first such item in
-    /// table order. Nothing was written.
+    /// The plan of this item gets too large in the first run that is refused, and of no item above
+    /// it; it is the first such item in table order. Nothing was written.
     #[error("too large")]
     TooLarge(Name),
     /// The reader failed, or passed a limit. Nothing was written.
@@ -22,4 +24,26 @@ pub enum DayFault {
     /// A growth of memory was refused. Nothing, or a front of the text was written.
     #[error("no memory")]
     NoMemory,
+}
+
+impl From<NoMemory> for DayFault {
+    ghost use Rattle.std.specs.Prelude.{◌≡◌};
+    ghost use Rattle.mrp_engine.specs.declared.fault.DayFault.TheVariants as fault;
+
+    ghost from_gives = { λ _ given. given ≡ fault.NoMemory };
+
+    fn from(_refused: NoMemory) -> DayFault {
+        DayFault::NoMemory
+    }
+}
+
+impl<T: Drop> From<AllocFailed<T>> for DayFault {
+    ghost use Rattle.std.specs.Prelude.{◌≡◌};
+    ghost use Rattle.mrp_engine.specs.declared.fault.DayFault.TheVariants as fault;
+
+    ghost from_gives = { λ _ given. given ≡ fault.NoMemory };
+
+    fn from(_refused: AllocFailed<T>) -> DayFault {
+        DayFault::NoMemory
+    }
 }

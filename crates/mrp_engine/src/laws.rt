@@ -2,7 +2,10 @@
 
 ghost use Rattle.std.specs.Prelude.{◌≡◌, List, ℕ};
 ghost use Rattle.mrp_rows.specs.declared.fault.Fault.{Fault};
-ghost use Rattle.mrp_engine.specs.Day.{IsDay, IsRefused, IsTooLarge};
+ghost use Rattle.mrp_tables.specs.Tables.{Tables};
+ghost use Rattle.mrp_book.specs.Standing.{History};
+ghost use Rattle.mrp_engine.specs.Day.{AnswersScript, IsDay, IsRefused, IsTooLarge};
+ghost use Rattle.mrp_engine.specs.Laws.{BooksWithin, PlansWhatStood, StaysCovered};
 
 /// A bundle has one day: one text, or one fault, or one item that is too large.
 pub fn one_day()
@@ -13,4 +16,20 @@ pub fn one_day()
     ensures text_or_fault { (bundle text : List ℕ) (f : Fault) → IsDay bundle text → IsRefused bundle f → ⊥ }
     ensures text_or_name { (bundle text name : List ℕ) → IsDay bundle text → IsTooLarge bundle name → ⊥ }
     ensures fault_or_name { (bundle name : List ℕ) (f : Fault) → IsRefused bundle f → IsTooLarge bundle name → ⊥ }
+{}
+
+/// A script's history, and what its runs are planned from.
+pub fn runs()
+    // A script has one history.
+    ensures one_history { (tables : Tables) (one other : History) → AnswersScript tables one → AnswersScript tables other → one ≡ other }
+    // A run is planned from the bookings that stood at its entry, whatever came later.
+    ensures what_stood { (tables : Tables) (h : History) → AnswersScript tables h → PlansWhatStood tables h }
+{}
+
+/// The bookings of a script's history.
+pub fn bookings()
+    // Each booking that was made was within what was available to promise then.
+    ensures within { (tables : Tables) (h : History) → AnswersScript tables h → BooksWithin tables h }
+    // At every front the standing bookings are covered by the supply.
+    ensures covered { (tables : Tables) (h : History) → AnswersScript tables h → StaysCovered tables h }
 {}

@@ -1,4 +1,4 @@
-//! Days: from a bundle's bytes to a report's.
+//! Days: from a bundle's bytes to its history and reports.
 #![tactic(auto)]
 
 mod fault;
@@ -8,6 +8,12 @@ mod opening;
 mod planning;
 mod reading;
 mod run;
+mod runs;
+mod script;
+mod writing;
 
 pub use fault::DayFault;
 pub use run::run_day;
+
+#[cfg(test)]
+mod tests;

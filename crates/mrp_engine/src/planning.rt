@@ -1,10 +1,9 @@
-//! The plan of a shop.
+//! The plan of a run.
 
-ghost use Rattle.std.specs.Prelude.{◌≡◌, IfOk, Ok, Err, ℕ, List};
-ghost use Rattle.mrp_item.specs.Inputs.{item_at};
+ghost use Rattle.std.specs.Prelude.{◌≡◌, Err, IfOk};
+ghost use Rattle.mrp_item.specs.Inputs.{inputs_of, item_at};
 ghost use Rattle.mrp_item.specs.Plan.{plan_of};
-ghost use Rattle.mrp_engine.specs.Day.{first_run};
-ghost use Rattle.mrp_engine.specs.Planned.{PlansInputs, PlansShop};
+ghost use Rattle.mrp_engine.specs.Planned.{PlansInputs, PlansRun};
 
 use crate::fault::DayFault;
 use crate::finished::Finished;
@@ -16,13 +15,11 @@ use mrp_rows::Name;
 use std::alloc::Global;
 use std::sync::Arc;
 
-// The inputs of the one run: entry 1 of an order book without bookings.
-fn first_inputs(alloc: Global, shop: Shop) -> Result<Arc<Inputs>, NoMemory>
-    ensures { IfOk result (λ inputs. inputs.value ≡ first_run shop.tables) }
+// What a run is planned from.
+fn inputs_of(alloc: Global, shop: &Arc<Shop>, snapshot: &Snapshot) -> Result<Arc<Inputs>, NoMemory>
+    ensures { IfOk result (λ inputs. inputs.value ≡ inputs_of shop.now.value.tables snapshot.now) }
 {
-    let shop = Arc::new(alloc, shop)?;
-    let snapshot = Snapshot::new(alloc, 1, Vec::new(alloc))?;
-    Inputs::new(alloc, shop, snapshot)
+    Inputs::new(alloc, shop.clone()?, snapshot.copy()?)
 }
 
 // Plans every item, parents before their components: the plan, or the first item that is over.
@@ -44,19 +41,15 @@ fn name_of(inputs: &Inputs, item: usize) -> Name
     inputs.shop().tables().items()[item].name
 }
 
-/// The plan of a shop's one run.
+/// The plan of a run: of a shop, and a snapshot of its order book.
 ///
 /// Errors: `TooLarge` with the first item in table order that gets too large, and `NoMemory`.
-pub fn plan_shop(alloc: Global, shop: Shop) -> Result<Plan, DayFault>
-    ensures { PlansShop shop.tables result }
+pub fn plan_run(alloc: Global, shop: &Arc<Shop>, snapshot: &Snapshot) -> Result<Plan, DayFault>
+    ensures { PlansRun (inputs_of shop.now.value.tables snapshot.now) result }
 {
-    let inputs = match first_inputs(alloc, shop) {
-        Ok(inputs) => inputs,
-        Err(NoMemory) => return Err(DayFault::NoMemory),
-    };
-    match plan_all(alloc, &inputs) {
-        Ok(Ok(plan)) => Ok(plan),
-        Ok(Err(item)) => Err(DayFault::TooLarge(name_of(&inputs, item))),
-        Err(NoMemory) => Err(DayFault::NoMemory),
+    let inputs = inputs_of(alloc, shop, snapshot)?;
+    match plan_all(alloc, &inputs)? {
+        Ok(plan) => Ok(plan),
+        Err(item) => Err(DayFault::TooLarge(name_of(&inputs, item))),
     }
 }

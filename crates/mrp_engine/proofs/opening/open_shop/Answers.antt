@@ -1,4 +1,5 @@
 use Rattle.std.proofs.Common.{inl, inr, sym}
+use Rattle.mrp_tables.specs.Laws.{IsMemoryRefusal}
 use Rattle.mrp_engine.proofs.ShopFaults.{closed, opened, tables-are, sections-refused}
 use Rattle.mrp_engine.proofs.opening.open_shop.Goals as goal
 
@@ -10,4 +11,4 @@ returns-in-Ok-read c = opened c.args.bundle.now c.in-Ok-read.tables c.shop_of.re
 
 pub returns-in-Err-read : goal.returns-in-Err-read
 returns-in-Err-read c = closed c.args.bundle.now c.in-Err-read.fault c.refusal-in-Err-read.result
-    (elim c.in-Err-read.ensures [ inl memory ↦ inl memory | inr e ↦ inr (tables-are c.args.bundle.now c.in-Ok.sections _ (sym c.in-Ok.ensures) e) ]) c.refusal-in-Err-read.ensures
+    (elim c.in-Err-read.ensures [ inl memory ↦ inl memory.code | inr e ↦ inr (tables-are c.args.bundle.now c.in-Ok.sections _ (sym c.in-Ok.ensures) e) ]) c.refusal-in-Err-read.ensures

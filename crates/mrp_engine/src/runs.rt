@@ -1,0 +1,29 @@
+//! The plans of a history's runs.
+
+ghost use Rattle.mrp_engine.specs.Day.{runs_of};
+ghost use Rattle.mrp_engine.specs.Planned.{PlansRuns};
+
+use crate::fault::DayFault;
+use crate::planning::plan_run;
+use mrp_bill::Shop;
+use mrp_book::{History, Reply};
+use mrp_item::Plan;
+use std::alloc::Global;
+use std::sync::Arc;
+
+/// The plans of a history's runs, in order of entries, each from the snapshot that its entry was
+/// answered.
+///
+/// Errors: `TooLarge` with the first item in table order that gets too large in the first run with
+/// such an item, and `NoMemory`.
+pub fn plan_runs(alloc: Global, shop: &Arc<Shop>, history: &History) -> Result<Vec<Plan>, DayFault>
+    ensures { PlansRuns (runs_of shop.now.value.tables history.now.entries) result }
+{
+    let mut plans = Vec::new(alloc);
+    for entry in history.entries() {
+        if let Reply::Taken(snapshot) = &entry.reply {
+            plans.push(plan_run(alloc, shop, snapshot)?)?;
+        }
+    }
+    Ok(plans)
+}

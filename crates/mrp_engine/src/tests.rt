@@ -1,0 +1,107 @@
+use super::*;
+use mrp_rows::{Name, Told};
+use std::alloc::Global;
+use std::test::Fail;
+
+const CALENDAR: &str =
+    "[calendar]\nkey,value\nstart,2025-01-06\nweeks,6\nworkdays,1111100\nholiday,2025-01-20\n";
+
+// A small bicycle shop, up to its script.
+const BICYCLES: &str =
+    "[items]\nitem,class,lead,scrap,lot,size,safety\nBIKE,master,1,0,lfl,0,0\nFRAME,part,1,0,lfl,0,0\nWHEEL,part,1,0,lfl,0,0\n[centres]\ncentre,minutes\n[stock]\nitem,onhand\nBIKE,10\n[receipts]\nitem,order,date,quantity\n[bills]\nparent,component,per\nBIKE,FRAME,1\nBIKE,WHEEL,2\n[routings]\nitem,op,centre,setup,run,offset\n[master]\nitem,row,date,quantity\nBIKE,firm,2025-01-20,20\nBIKE,firm,2025-02-03,20\nBIKE,forecast,2025-01-13,8\nBIKE,forecast,2025-01-27,6\n";
+
+// A shop in which a thousand pieces of TOP need as many of B as a quantity may have.
+const TOWER: &str =
+    "[items]\nitem,class,lead,scrap,lot,size,safety\nTOP,master,0,0,lfl,0,0\nA,part,0,0,lfl,0,0\nB,part,0,0,lfl,0,0\n[centres]\ncentre,minutes\n[stock]\nitem,onhand\n[receipts]\nitem,order,date,quantity\n[bills]\nparent,component,per\nTOP,A,1000000\nA,B,1000000\n[routings]\nitem,op,centre,setup,run,offset\n[master]\nitem,row,date,quantity\nTOP,firm,2025-01-06,1000\nTOP,forecast,2025-01-13,1000\n";
+
+const SCRIPT: &str = "[script]\ndesk,call,item,date,quantity,number\n";
+
+const BOOKINGS: &str =
+    "1,book,BIKE,2025-01-20,12,\n1,book,BIKE,2025-02-03,25,\n2,ask,BIKE,2025-01-06,,\n2,book,BIKE,2025-01-13,15,\n2,book,BIKE,2025-01-06,10,\n1,ask,BIKE,2025-01-20,,\n";
+
+const BOOKINGS_HISTORY: &str =
+    "[history]\nentry,desk,call,item,week,quantity,number,reply,value\n1,1,book,BIKE,3,12,,booked,1\n2,1,book,BIKE,5,25,,booked,2\n3,2,ask,BIKE,1,,,available,10\n4,2,book,BIKE,2,15,,short,10\n5,2,book,BIKE,1,10,,booked,5\n6,1,ask,BIKE,3,,,available,3\n";
+
+const PLAN_HEAD: &str = "[plan]\nitem,week,gross,open,firm,planned,start,balance\n";
+
+const BOOKINGS_PLAN: &str =
+    "BIKE,1,10,0,0,0,8,0\nBIKE,2,8,0,0,8,20,0\nBIKE,3,12,0,20,0,0,8\nBIKE,4,6,0,0,0,23,2\nBIKE,5,25,0,20,3,0,0\nBIKE,6,0,0,0,0,0,0\nFRAME,1,8,0,0,8,28,0\nFRAME,2,20,0,0,20,0,0\nFRAME,3,0,0,0,0,23,0\nFRAME,4,23,0,0,23,0,0\nFRAME,5,0,0,0,0,0,0\nFRAME,6,0,0,0,0,0,0\nWHEEL,1,16,0,0,16,56,0\nWHEEL,2,40,0,0,40,0,0\nWHEEL,3,0,0,0,0,46,0\nWHEEL,4,46,0,0,46,0,0\nWHEEL,5,0,0,0,0,0,0\nWHEEL,6,0,0,0,0,0,0\n";
+
+// What a day left: how it ended, and what was written.
+#[derive(Drop)]
+struct Day {
+    end: Result<(), DayFault>,
+    text: String,
+}
+
+// The day of a shop with this script.
+fn day_of(rt: &impl Alloc, alloc: Global, shop: &str, script: &str) -> Result<Day, Fail> {
+    let bundle = format!(in alloc; "{CALENDAR}{shop}{SCRIPT}{script}")?;
+    let mut reader = Told::new(bundle.as_bytes());
+    let mut writer = Told::new(Vec::new(alloc));
+    let end = run_day(rt, alloc, &mut reader, &mut writer, 1);
+    let text = String::from_utf8(writer.into_inner())
+        .ok()
+        .ok_or("no text")?;
+    Ok(Day { end, text })
+}
+
+#[test]
+fn bookings_are_answered_and_planned(rt: HostRuntime) -> Result<(), Fail> {
+    let alloc = rt.alloc();
+    let script = format!(in alloc; "{BOOKINGS}1,run,,,,\n")?;
+    let want = format!(in alloc;
+        "{BOOKINGS_HISTORY}7,1,run,,,,,front,7\n[run]\nfront,standing\n7,3\n{PLAN_HEAD}{BOOKINGS_PLAN}"
+    )?;
+    let day = day_of(&rt, alloc, BICYCLES, &script)?;
+    assert_eq!(rt; day.end, Ok(()));
+    assert_eq!(rt; day.text.as_str(), want.as_str());
+    Ok(())
+}
+
+#[test]
+fn a_run_is_added_where_there_is_none(rt: HostRuntime) -> Result<(), Fail> {
+    let alloc = rt.alloc();
+    let want = format!(in alloc;
+        "{BOOKINGS_HISTORY}7,1,run,,,,,front,7\n[run]\nfront,standing\n7,3\n{PLAN_HEAD}{BOOKINGS_PLAN}"
+    )?;
+    let day = day_of(&rt, alloc, BICYCLES, BOOKINGS)?;
+    assert_eq!(rt; day.end, Ok(()));
+    assert_eq!(rt; day.text.as_str(), want.as_str());
+    Ok(())
+}
+
+#[test]
+fn cancellations_are_answered(rt: HostRuntime) -> Result<(), Fail> {
+    let alloc = rt.alloc();
+    let script = format!(in alloc;
+        "{BOOKINGS}2,cancel,,,,2\n1,cancel,,,,2\n1,cancel,,,,2\n1,cancel,,,,4\n1,ask,BIKE,2025-01-20,,\n1,run,,,,\n"
+    )?;
+    let front = format!(in alloc;
+        "{BOOKINGS_HISTORY}7,2,cancel,,,,2,not-yours,\n8,1,cancel,,,,2,cancelled,\n9,1,cancel,,,,2,not-standing,\n10,1,cancel,,,,4,not-standing,\n11,1,ask,BIKE,3,,,available,8\n12,1,run,,,,,front,12\n[run]\nfront,standing\n12,2\n"
+    )?;
+    let day = day_of(&rt, alloc, BICYCLES, &script)?;
+    assert_eq!(rt; day.end, Ok(()));
+    assert!(rt; day.text.as_str().starts_with(front.as_str()));
+    Ok(())
+}
+
+#[test]
+fn an_earlier_run_has_no_later_booking(rt: HostRuntime) -> Result<(), Fail> {
+    let alloc = rt.alloc();
+    let day = day_of(&rt, alloc, TOWER, "1,run,,,,\n")?;
+    assert_eq!(rt; day.end, Ok(()));
+    assert!(rt; day.text.as_str().contains("front,standing\n1,0\n"));
+    Ok(())
+}
+
+#[test]
+fn a_later_run_that_is_too_large_leaves_nothing_written(rt: HostRuntime) -> Result<(), Fail> {
+    let alloc = rt.alloc();
+    let script = "1,run,,,,\n1,book,TOP,2025-01-06,1,\n1,run,,,,\n";
+    let day = day_of(&rt, alloc, TOWER, script)?;
+    let name = Name::new(b"B").ok_or("no name")?;
+    assert_eq!(rt; day.end, Err(DayFault::TooLarge(name)));
+    assert_eq!(rt; day.text.as_str(), "");
+    Ok(())
+}
