@@ -11,17 +11,19 @@ use std::convert::AsStr;
 
 // How the program is called.
 const ABOUT: &str =
-    "Plans a shop's materials: reads the tables of a bundle, and writes what to make and when.";
+    "Plans a shop's materials: reads the tables of a bundle, answers its desks, and writes what to make and when.";
 
-const ABOUT_PLAN: &str = "Reads a bundle from standard input and writes its plan to standard output.
+const ABOUT_PLAN: &str =
+    "Reads a bundle from standard input, answers the calls of its script, and writes the history of these
+calls and the plan of each run to standard output.
 
 A bundle is a text of nine sections, each a line with its name in brackets, as [items], and the rows
-of a csv table. The plan is a text of sections in the same form: [run] says what was planned from,
-and [plan] has a row for each item and week, with what is required, what comes in, what starts and
-what is left.";
+of a csv table. What is written is a text of sections in the same form: [history] has a row for each
+call of the script, with its reply. Then, for each run, [run] says what was planned from, and [plan]
+has a row for each item and week, with what is required, what comes in, what starts and what is left.";
 
 const EXAMPLE: &str = "Example:
-  mrp plan < shop.bundle > shop.plan
+  mrp plan < shop.bundle > shop.day
 
 Exit status: 0 done, 1 refused, 2 usage, 3 no memory, 4 read or write failed.";
 

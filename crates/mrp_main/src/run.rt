@@ -1,11 +1,9 @@
 //! What the words ask for, done over an input, an output and an error stream.
 
-ghost use Rattle.std.specs.Prelude.{◌≡◌, ◌<◌, ◌⊎◌, ℕ, List};
+ghost use Rattle.std.specs.Prelude.{◌≡◌, ◌<◌, ◌⊎◌};
 ghost use Rattle.std.specs.Int.{IsInRange};
-ghost use Rattle.mrp_rows.specs.Told.{inner_of};
-ghost use Rattle.mrp_report.specs.Written.{HasTakenWhole};
-ghost use Rattle.mrp_engine.specs.Run.{TellsDay};
-ghost use Rattle.mrp_main.specs.Status.{IsStatusOf};
+ghost use Rattle.mrp_main.specs.Ends.{Ends, HelpEnds, PlanEnds};
+ghost use Rattle.mrp_main.specs.Status.{IsStatusOf, code_of};
 
 use crate::command::{NoRequest, Request, read_words};
 use crate::status::Status;
@@ -66,11 +64,9 @@ fn tell_day<E: Write>(alloc: Global, fault: &DayFault, errors: &mut Told<E>) -> 
 }
 
 // Writes the help that was asked for.
-fn write_help<W: Write, E: Write>(
-    text: &str,
-    output: &mut Told<W>,
-    errors: &mut Told<E>,
-) -> Status {
+fn write_help<W: Write, E: Write>(text: &str, output: &mut Told<W>, errors: &mut Told<E>) -> Status
+    ensures { HelpEnds W.contents text.now output.old output.new result }
+{
     match write_text(output, text.as_bytes(), &mut Tries::new()) {
         Ok(()) => Status::Done,
         Err(_) => {
@@ -80,7 +76,9 @@ fn write_help<W: Write, E: Write>(
     }
 }
 
-fn tell_usage<E: Write>(text: &str, errors: &mut Told<E>) -> Status {
+fn tell_usage<E: Write>(text: &str, errors: &mut Told<E>) -> Status
+    ensures { result ≡ Status.Usage }
+{
     let _ = write_text(errors, text.as_bytes(), &mut Tries::new());
     Status::Usage
 }
@@ -95,12 +93,30 @@ fn plan<R: Read, W: Write, E: Write>(
     errors: &mut Told<E>,
 ) -> Status
     requires workers { IsInRange 1 64 workers }
-    ensures done { result ≡ Status.Done → (text : List ℕ) × TellsDay (R.remaining (inner_of input.old)) text × HasTakenWhole W.contents output.old output.new text }
-    ensures refused { result ≡ Status.Refused → output.new ≡ output.old }
+    ensures { PlanEnds R.remaining W.contents input.old input.new output.old output.new result }
 {
     match run_day(rt, alloc, input, output, workers) {
         Ok(()) => Status::Done,
         Err(fault) => tell_day(alloc, &fault, errors),
+    }
+}
+
+// Does what the words ask for, and says how it ended.
+fn carry_out<S: AsStr, R: Read, W: Write, E: Write>(
+    rt: &impl Alloc,
+    alloc: Global,
+    words: &[S],
+    input: &mut Told<R>,
+    output: &mut Told<W>,
+    errors: &mut Told<E>,
+) -> Status
+    ensures { Ends R.remaining W.contents input.old input.new output.old output.new result }
+{
+    match read_words(alloc, words) {
+        Ok(Request::Plan { workers }) => plan(rt, alloc, workers, input, output, errors),
+        Err(NoRequest::Help(text)) => write_help(&text, output, errors),
+        Err(NoRequest::Usage(text)) => tell_usage(&text, errors),
+        Err(NoRequest::NoMemory) => tell_no_memory(errors),
     }
 }
 
@@ -110,6 +126,10 @@ fn plan<R: Read, W: Write, E: Write>(
 /// The status is 0 where it was done, 1 where the bundle was refused or its plan gets too large, 2
 /// for wrong words, 3 where memory was refused, and 4 where reading or writing failed. A line on the
 /// error stream says why; its failure does not change the status.
+///
+/// At 0 the day of what the input had left was written, or the input is as it was and help was
+/// written. At 1 and 2, and where reading failed, nothing was written; at 3 and where writing
+/// failed, at most a front of the text.
 pub fn run_words<S: AsStr, R: Read, W: Write, E: Write>(
     rt: &impl Alloc,
     alloc: Global,
@@ -118,15 +138,11 @@ pub fn run_words<S: AsStr, R: Read, W: Write, E: Write>(
     output: &mut Told<W>,
     errors: &mut Told<E>,
 ) -> u8
-    ensures { result < 5 }
+    ensures ended { (status : _) × (result ≡ code_of status)
+        × Ends R.remaining W.contents input.old input.new output.old output.new status }
+    ensures few { result < 5 }
 {
-    let status = match read_words(alloc, words) {
-        Ok(Request::Plan { workers }) => plan(rt, alloc, workers, input, output, errors),
-        Err(NoRequest::Help(text)) => write_help(&text, output, errors),
-        Err(NoRequest::Usage(text)) => tell_usage(&text, errors),
-        Err(NoRequest::NoMemory) => tell_no_memory(errors),
-    };
-    status.code()
+    carry_out(rt, alloc, words, input, output, errors).code()
 }
 
 #[cfg(test)]

@@ -3,9 +3,10 @@ use std::io;
 use std::io::ErrorKind;
 use std::test::Fail;
 
+mod scripts;
 mod shops;
 
-use self::shops::{BICYCLE, BICYCLE_REPORT, CALENDAR, EMPTY_TABLES};
+use self::shops::{BICYCLE, BICYCLE_DAY, CALENDAR, EMPTY_TABLES, FIRST_RUN};
 
 const PLAN: [&str; 1] = ["plan"];
 
@@ -51,7 +52,7 @@ fn the_bicycles_are_planned(rt: HostRuntime) -> Result<(), Fail> {
         let left = left_by(&rt, rt.alloc(), words, BICYCLE)?;
         assert_eq!(rt; left.errors.as_str(), "");
         assert_eq!(rt; left.status, 0);
-        assert_eq!(rt; left.output.as_str(), BICYCLE_REPORT);
+        assert_eq!(rt; left.output.as_str(), BICYCLE_DAY);
     }
     Ok(())
 }
@@ -72,7 +73,7 @@ fn without_stock_and_schedule_nothing_is_planned(rt: HostRuntime) -> Result<(), 
         "BIKE,forecast,2025-01-13,8\nBIKE,forecast,2025-01-27,6\n",
         "",
     )?;
-    let mut want = String::from_str(alloc, "[run]\nfront,standing\n1,0\n[plan]\n")?;
+    let mut want = format!(in alloc; "{FIRST_RUN}[run]\nfront,standing\n1,0\n[plan]\n")?;
     want.push_str("item,week,gross,open,firm,planned,start,balance\n")?;
     for item in ["BIKE", "FRAME", "WHEEL"] {
         for week in 1..7 {
@@ -99,15 +100,14 @@ fn an_empty_input_lacks_the_calendar(rt: HostRuntime) -> Result<(), Fail> {
 }
 
 #[test]
-fn tables_without_records_make_a_report_without_rows(rt: HostRuntime) -> Result<(), Fail> {
+fn tables_without_records_make_a_day_without_rows(rt: HostRuntime) -> Result<(), Fail> {
     let alloc = rt.alloc();
     let bundle = format!(in alloc; "{CALENDAR}{EMPTY_TABLES}")?;
     let left = left_by(&rt, alloc, &PLAN, &bundle)?;
+    let plan = "[plan]\nitem,week,gross,open,firm,planned,start,balance\n";
+    let want = format!(in alloc; "{FIRST_RUN}[run]\nfront,standing\n1,0\n{plan}")?;
     assert_eq!(rt; left.status, 0);
-    assert_eq!(rt;
-        left.output.as_str(),
-        "[run]\nfront,standing\n1,0\n[plan]\nitem,week,gross,open,firm,planned,start,balance\n"
-    );
+    assert_eq!(rt; left.output.as_str(), want.as_str());
     Ok(())
 }
 
@@ -135,7 +135,7 @@ fn a_loop_is_refused_by_its_first_item(rt: HostRuntime) -> Result<(), Fail> {
 fn a_name_with_a_comma_is_quoted_in_the_plan(rt: HostRuntime) -> Result<(), Fail> {
     let alloc = rt.alloc();
     let shop = changed(alloc, BICYCLE, "BIKE", "\"A,B\"")?;
-    let want = changed(alloc, BICYCLE_REPORT, "BIKE", "\"A,B\"")?;
+    let want = changed(alloc, BICYCLE_DAY, "BIKE", "\"A,B\"")?;
     let left = left_by(&rt, alloc, &PLAN, &shop)?;
     assert_eq!(rt; left.status, 0);
     assert_eq!(rt; left.output.as_str(), want.as_str());
@@ -151,7 +151,7 @@ fn line_ends_blank_lines_and_marks_change_nothing(rt: HostRuntime) -> Result<(),
     let left = left_by(&rt, alloc, &PLAN, &shop)?;
     assert_eq!(rt; left.errors.as_str(), "");
     assert_eq!(rt; left.status, 0);
-    assert_eq!(rt; left.output.as_str(), BICYCLE_REPORT);
+    assert_eq!(rt; left.output.as_str(), BICYCLE_DAY);
     Ok(())
 }
 
@@ -199,49 +199,52 @@ fn a_plan_of_the_greatest_quantities_is_written(rt: HostRuntime) -> Result<(), F
     Ok(())
 }
 
+// What to put in place of what in the bicycles, and the fault that it makes.
+const FAULTS: &[(&str, &str, &str)] = &[
+    (
+        "BIKE,firm,2025-02-03,20",
+        "BIKE,firm,2025-02-17,20",
+        "15 date-outside master 2",
+    ),
+    ("BIKE,WHEEL,2", "BIKE,WHEEL", "6 columns bills 2"),
+    (
+        "[routings]\nitem,op,centre,setup,run,offset\n",
+        "",
+        "4 missing-section routings 0",
+    ),
+    (
+        "[calendar]",
+        "x\n[calendar]",
+        "1 text-before-section bundle 0",
+    ),
+    (
+        "quantity,number\n",
+        "quantity,number\n[orders]\n",
+        "2 unknown-section bundle 10",
+    ),
+    (
+        "quantity,number\n",
+        "quantity,number\n[stock]\n",
+        "3 section-twice stock 0",
+    ),
+    ("item,onhand", "item,on_hand", "5 header stock 0"),
+    (
+        "FRAME,part,1,0,lfl",
+        "FRAME,part,1,901,lfl",
+        "11 range items 2",
+    ),
+    ("FRAME,part", "FRAME,Part", "10 word items 2"),
+    (
+        "BIKE,WHEEL,2\n",
+        "BIKE,WHEEL,2\nFRAME,BIKE,1\n",
+        "19 master-component bills 3",
+    ),
+];
+
 #[test]
 fn faults_of_the_bundle_are_told(rt: HostRuntime) -> Result<(), Fail> {
     let alloc = rt.alloc();
-    for (old, new, want) in [
-        (
-            "BIKE,firm,2025-02-03,20",
-            "BIKE,firm,2025-02-17,20",
-            "15 date-outside master 2",
-        ),
-        ("BIKE,WHEEL,2", "BIKE,WHEEL", "6 columns bills 2"),
-        (
-            "[routings]\nitem,op,centre,setup,run,offset\n",
-            "",
-            "4 missing-section routings 0",
-        ),
-        (
-            "[calendar]",
-            "x\n[calendar]",
-            "1 text-before-section bundle 0",
-        ),
-        (
-            "quantity,number\n",
-            "quantity,number\n[orders]\n",
-            "2 unknown-section bundle 10",
-        ),
-        (
-            "quantity,number\n",
-            "quantity,number\n[stock]\n",
-            "3 section-twice stock 0",
-        ),
-        ("item,onhand", "item,on_hand", "5 header stock 0"),
-        (
-            "FRAME,part,1,0,lfl",
-            "FRAME,part,1,901,lfl",
-            "11 range items 2",
-        ),
-        ("FRAME,part", "FRAME,Part", "10 word items 2"),
-        (
-            "BIKE,WHEEL,2\n",
-            "BIKE,WHEEL,2\nFRAME,BIKE,1\n",
-            "19 master-component bills 3",
-        ),
-    ] {
+    for (old, new, want) in FAULTS {
         let shop = changed(alloc, BICYCLE, old, new)?;
         let left = left_by(&rt, alloc, &PLAN, &shop)?;
         let line = format!(in alloc; "refused: {want}\n")?;
@@ -354,7 +357,7 @@ fn short_and_interrupted_reads_and_writes_are_gone_on_with(rt: HostRuntime) {
     assert_eq!(rt; output.interrupted(), 2);
     assert_eq!(rt;
         output.into_inner().taken.as_slice(),
-        BICYCLE_REPORT.as_bytes()
+        BICYCLE_DAY.as_bytes()
     );
     assert_eq!(rt; errors.into_inner().len(), 0);
 }
@@ -374,7 +377,7 @@ fn a_reader_that_fails_is_told(rt: HostRuntime) {
 }
 
 #[test]
-fn a_writer_that_fails_has_a_front_of_the_report(rt: HostRuntime) {
+fn a_writer_that_fails_has_a_front_of_the_day(rt: HostRuntime) {
     let alloc = rt.alloc();
     for last in [Turn::Fails, Turn::Moves(0), Turn::Interrupts] {
         let mut input = reader(&[], BICYCLE);
@@ -387,7 +390,7 @@ fn a_writer_that_fails_has_a_front_of_the_report(rt: HostRuntime) {
         );
         assert_eq!(rt;
             output.into_inner().taken.as_slice(),
-            b"[run]\nfront,".as_slice()
+            b"[history]\nen".as_slice()
         );
         assert_eq!(rt;
             errors.into_inner().as_slice(),

@@ -35,8 +35,17 @@ BIKE,forecast,2025-01-27,6\n\
 [script]\n\
 desk,call,item,date,quantity,number\n";
 
+// The history of a script without a record: the run that is added to it.
+pub const FIRST_RUN: &str = "\
+[history]\n\
+entry,desk,call,item,week,quantity,number,reply,value\n\
+1,1,run,,,,,front,1\n";
+
 // What planning the bicycles writes.
-pub const BICYCLE_REPORT: &str = "\
+pub const BICYCLE_DAY: &str = "\
+[history]\n\
+entry,desk,call,item,week,quantity,number,reply,value\n\
+1,1,run,,,,,front,1\n\
 [run]\n\
 front,standing\n\
 1,0\n\

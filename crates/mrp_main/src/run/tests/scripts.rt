@@ -1,0 +1,176 @@
+//! Scripts of the desks, done by the program.
+
+use super::*;
+
+// The head of a history.
+const HISTORY: &str = "[history]\nentry,desk,call,item,week,quantity,number,reply,value\n";
+
+const PLAN_HEAD: &str = "[plan]\nitem,week,gross,open,firm,planned,start,balance\n";
+
+// The bicycles, with these rows of the script.
+fn bicycles(alloc: Global, rows: &str) -> Result<String, Fail> {
+    Ok(format!(in alloc; "{BICYCLE}{rows}")?)
+}
+
+// Six calls of two desks.
+const BOOKING: &str = "\
+1,book,BIKE,2025-01-20,12,\n\
+1,book,BIKE,2025-02-03,25,\n\
+2,ask,BIKE,2025-01-06,,\n\
+2,book,BIKE,2025-01-13,15,\n\
+2,book,BIKE,2025-01-06,10,\n\
+1,ask,BIKE,2025-01-20,,\n";
+
+// What they are answered.
+const BOOKED: &str = "\
+1,1,book,BIKE,3,12,,booked,1\n\
+2,1,book,BIKE,5,25,,booked,2\n\
+3,2,ask,BIKE,1,,,available,10\n\
+4,2,book,BIKE,2,15,,short,10\n\
+5,2,book,BIKE,1,10,,booked,5\n\
+6,1,ask,BIKE,3,,,available,3\n";
+
+// The plan of the three bookings.
+const BOOKED_PLAN: &str = "\
+BIKE,1,10,0,0,0,8,0\n\
+BIKE,2,8,0,0,8,20,0\n\
+BIKE,3,12,0,20,0,0,8\n\
+BIKE,4,6,0,0,0,23,2\n\
+BIKE,5,25,0,20,3,0,0\n\
+BIKE,6,0,0,0,0,0,0\n\
+FRAME,1,8,0,0,8,28,0\n\
+FRAME,2,20,0,0,20,0,0\n\
+FRAME,3,0,0,0,0,23,0\n\
+FRAME,4,23,0,0,23,0,0\n\
+FRAME,5,0,0,0,0,0,0\n\
+FRAME,6,0,0,0,0,0,0\n\
+WHEEL,1,16,0,0,16,56,0\n\
+WHEEL,2,40,0,0,40,0,0\n\
+WHEEL,3,0,0,0,0,46,0\n\
+WHEEL,4,46,0,0,46,0,0\n\
+WHEEL,5,0,0,0,0,0,0\n\
+WHEEL,6,0,0,0,0,0,0\n";
+
+#[test]
+fn desks_book_and_ask_and_then_plan(rt: HostRuntime) -> Result<(), Fail> {
+    let alloc = rt.alloc();
+    let want = format!(in alloc;
+        "{HISTORY}{BOOKED}7,1,run,,,,,front,7\n[run]\nfront,standing\n7,3\n{PLAN_HEAD}{BOOKED_PLAN}"
+    )?;
+    // A script without a run is run once, at its end, by desk 1.
+    for run in ["1,run,,,,\n", ""] {
+        let script = format!(in alloc; "{BOOKING}{run}")?;
+        let left = left_by(&rt, alloc, &PLAN, &bicycles(alloc, &script)?)?;
+        assert_eq!(rt; left.errors.as_str(), "");
+        assert_eq!(rt; left.status, 0);
+        assert_eq!(rt; left.output.as_str(), want.as_str());
+    }
+    Ok(())
+}
+
+#[test]
+fn a_cancelled_booking_stands_no_more(rt: HostRuntime) -> Result<(), Fail> {
+    let alloc = rt.alloc();
+    let cancels =
+        "2,cancel,,,,2\n1,cancel,,,,2\n1,cancel,,,,2\n1,cancel,,,,4\n1,ask,BIKE,2025-01-20,,\n1,run,,,,\n";
+    let script = format!(in alloc; "{BOOKING}{cancels}")?;
+    let left = left_by(&rt, alloc, &PLAN, &bicycles(alloc, &script)?)?;
+    assert_eq!(rt; left.errors.as_str(), "");
+    assert_eq!(rt; left.status, 0);
+    let answered = "\
+7,2,cancel,,,,2,not-yours,\n\
+8,1,cancel,,,,2,cancelled,\n\
+9,1,cancel,,,,2,not-standing,\n\
+10,1,cancel,,,,4,not-standing,\n\
+11,1,ask,BIKE,3,,,available,8\n\
+12,1,run,,,,,front,12\n\
+[run]\nfront,standing\n12,2\n";
+    let bikes = "\
+BIKE,1,10,0,0,0,8,0\n\
+BIKE,2,8,0,0,8,20,0\n\
+BIKE,3,12,0,20,0,0,8\n\
+BIKE,4,6,0,0,0,20,2\n\
+BIKE,5,0,0,20,0,0,22\n\
+BIKE,6,0,0,0,0,0,22\n";
+    let want = format!(in alloc; "{HISTORY}{BOOKED}{answered}{PLAN_HEAD}{bikes}FRAME,1,")?;
+    assert!(rt; left.output.as_str().starts_with(want.as_str()));
+    Ok(())
+}
+
+#[test]
+fn what_is_available_is_told_week_by_week(rt: HostRuntime) -> Result<(), Fail> {
+    let alloc = rt.alloc();
+    let asks = "1,ask,BIKE,2025-01-06,,\n1,ask,BIKE,2025-01-20,,\n1,ask,BIKE,2025-02-03,,\n";
+    let left = left_by(&rt, alloc, &PLAN, &bicycles(alloc, asks)?)?;
+    let told = "\
+1,1,ask,BIKE,1,,,available,10\n\
+2,1,ask,BIKE,3,,,available,30\n\
+3,1,ask,BIKE,5,,,available,50\n\
+4,1,run,,,,,front,4\n\
+[run]\nfront,standing\n4,0\n";
+    let want = format!(in alloc; "{HISTORY}{told}{PLAN_HEAD}")?;
+    assert_eq!(rt; left.status, 0);
+    assert!(rt; left.output.as_str().starts_with(want.as_str()));
+    Ok(())
+}
+
+#[test]
+fn each_run_plans_the_bookings_that_stand_at_its_front(rt: HostRuntime) -> Result<(), Fail> {
+    let alloc = rt.alloc();
+    let script = format!(in alloc; "64,run,,,,\n{BOOKING}1,run,,,,\n")?;
+    let left = left_by(&rt, alloc, &PLAN, &bicycles(alloc, &script)?)?;
+    assert_eq!(rt; left.status, 0);
+    let first = "1,64,run,,,,,front,1\n2,1,book,BIKE,3,12,,booked,2\n";
+    let report = BICYCLE_DAY.strip_prefix(FIRST_RUN).ok_or("the history")?;
+    let runs = format!(in alloc;
+        "8,1,run,,,,,front,8\n{report}[run]\nfront,standing\n8,3\n{PLAN_HEAD}{BOOKED_PLAN}"
+    )?;
+    assert!(rt; left.output.as_str().contains(first));
+    assert!(rt; left.output.as_str().ends_with(runs.as_str()));
+    Ok(())
+}
+
+// An item whose second thousand is too much for the part two levels below it.
+const NEAR: &str = "\
+[calendar]\nkey,value\nstart,2025-01-06\nweeks,6\nworkdays,1111100\nholiday,2025-01-20\n\
+[items]\nitem,class,lead,scrap,lot,size,safety\nTOP,master,0,0,lfl,0,0\nA,part,0,0,lfl,0,0\nB,part,0,0,lfl,0,0\n\
+[centres]\ncentre,minutes\n\
+[stock]\nitem,onhand\n\
+[receipts]\nitem,order,date,quantity\n\
+[bills]\nparent,component,per\nTOP,A,1000000\nA,B,1000000\n\
+[routings]\nitem,op,centre,setup,run,offset\n\
+[master]\nitem,row,date,quantity\nTOP,firm,2025-01-06,1000\nTOP,forecast,2025-01-13,1000\n\
+[script]\ndesk,call,item,date,quantity,number\n1,run,,,,\n";
+
+#[test]
+fn nothing_is_written_where_a_later_run_gets_too_large(rt: HostRuntime) -> Result<(), Fail> {
+    let alloc = rt.alloc();
+    assert_eq!(rt; left_by(&rt, alloc, &PLAN, NEAR)?.status, 0);
+    let shop = format!(in alloc; "{NEAR}1,book,TOP,2025-01-06,1,\n1,run,,,,\n")?;
+    let left = left_by(&rt, alloc, &PLAN, &shop)?;
+    assert_eq!(rt; left.status, 1);
+    assert_eq!(rt; left.errors.as_str(), "too large: B\n");
+    assert_eq!(rt; left.output.as_str(), "");
+    Ok(())
+}
+
+#[test]
+fn faults_of_the_script_are_told(rt: HostRuntime) -> Result<(), Fail> {
+    let alloc = rt.alloc();
+    for (rows, want) in [
+        ("1,book,BIKE,\"2025-01", "6 columns script 1"),
+        ("1,book,BIKE,2025-01-20,12.0,\n", "8 number script 1"),
+        ("1,when,BIKE,,12,\n", "10 word script 1"),
+        ("1,run,,,,\n0,run,,,,\n", "11 range script 2"),
+        ("1,ask,BOLT,2025-01-20,,\n", "13 unknown-item script 1"),
+        ("1,ask,FRAME,2025-02-17,,\n", "15 date-outside script 1"),
+        ("1,ask,FRAME,2025-01-20,,\n", "16 not-master script 1"),
+    ] {
+        let left = left_by(&rt, alloc, &PLAN, &bicycles(alloc, rows)?)?;
+        let line = format!(in alloc; "refused: {want}\n")?;
+        assert_eq!(rt; left.errors.as_str(), line.as_str());
+        assert_eq!(rt; left.status, 1);
+        assert_eq!(rt; left.output.as_str(), "");
+    }
+    Ok(())
+}
