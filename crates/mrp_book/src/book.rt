@@ -77,10 +77,13 @@ impl Book {
     pub fn open(alloc: Global, shop: &Shop) -> Result<Book, NoMemory>
         ensures { IfOk result (λ b. b ≡ record { supply = supply_of shop.now.tables; entries = [] }) }
     {
+        let supply = Supply::of(alloc, shop)?;
+        let entries = Vec::new(alloc);
+        let standing = Vec::new(alloc);
         Ok(Book {
-            supply: Supply::of(alloc, shop)?,
-            entries: Vec::new(alloc),
-            standing: Vec::new(alloc),
+            supply,
+            entries,
+            standing,
         })
     }
 

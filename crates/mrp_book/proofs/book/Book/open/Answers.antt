@@ -2,4 +2,4 @@ use Rattle.mrp_book.proofs.Books.{keeps_none}
 use Rattle.mrp_book.proofs.book.Book.open.Goals as goal
 
 pub invariant_of-result : goal.invariant_of-result
-invariant_of-result c = keeps_none _ _ _ c.new.ensures.items c.new-2.ensures.items
+invariant_of-result c = keeps_none _ _ _ c.new-entries.ensures.items c.new-standing.ensures.items
