@@ -9,4 +9,3 @@ pub mod Written
 pub mod PlanRows
 pub mod ReportText
 pub mod Sheet
-pub mod HistoryText
