@@ -10,6 +10,7 @@ use Rattle.mrp_tables.specs.Items.{items_of}
 use Rattle.mrp_tables.specs.Laws.{AreOfTheirTexts}
 use Rattle.mrp_tables.specs.Master.{master_of}
 use Rattle.mrp_tables.specs.Reading.{rows_of}
+use Rattle.mrp_tables.specs.Receipts.{receipts_of}
 use Rattle.mrp_tables.specs.Script.{script_of}
 use Rattle.mrp_tables.specs.Stock.{stock_of}
 use Rattle.mrp_tables.proofs.RowLaws.{whole_step}
@@ -20,9 +21,9 @@ pub record IsHead (texts : List (List ℕ)) (h : Head) : Type 0 where
   pub items : items_of (text_in texts t.Items) ≡ Ok h.items
   pub centres : rows_of untaken t.Centres (text_in texts t.Centres) ≡ Ok h.centres
 
-pub record IsMiddle (texts : List (List ℕ)) (items : List Item) (m : Middle) : Type 0 where
+pub record IsMiddle (texts : List (List ℕ)) (calendar : ShopCalendar) (items : List Item) (m : Middle) : Type 0 where
   pub stock : stock_of items (text_in texts t.Stock) ≡ Ok m.stock
-  pub receipts : rows_of untaken t.Receipts (text_in texts t.Receipts) ≡ Ok m.receipts
+  pub receipts : receipts_of calendar items (text_in texts t.Receipts) ≡ Ok m.receipts
   pub bills : bills_of items (text_in texts t.Bills) ≡ Ok m.bills
 
 pub record IsTail (texts : List (List ℕ)) (calendar : ShopCalendar) (items : List Item) (l : Tail) : Type 0 where
@@ -40,15 +41,15 @@ head_read texts h e =
     let same : made ≡ h = cc in
     subst (IsHead texts) same (record { calendar = calendar.1; items = items.1; centres = centres.1 })
 
-pub middle_read : (texts : List (List ℕ)) (items : List Item) (m : Middle) → middle_in texts items ≡ Ok m → IsMiddle texts items m
+pub middle_read : (texts : List (List ℕ)) (calendar : ShopCalendar) (items : List Item) (m : Middle) → middle_in texts calendar items ≡ Ok m → IsMiddle texts calendar items m
 unfolding middle_in
-middle_read texts items m e =
+middle_read texts calendar items m e =
     let stock = whole_step (stock_of items (text_in texts t.Stock)) _ m e in
-    let receipts = whole_step (rows_of untaken t.Receipts (text_in texts t.Receipts)) _ m stock.2 in
+    let receipts = whole_step (receipts_of calendar items (text_in texts t.Receipts)) _ m stock.2 in
     let bills = whole_step (bills_of items (text_in texts t.Bills)) _ m receipts.2 in
     let made : Middle = record { stock = stock.0; receipts = receipts.0; bills = bills.0 } in
     let same : made ≡ m = cc in
-    subst (IsMiddle texts items) same (record { stock = stock.1; receipts = receipts.1; bills = bills.1 })
+    subst (IsMiddle texts calendar items) same (record { stock = stock.1; receipts = receipts.1; bills = bills.1 })
 
 tail_read : (texts : List (List ℕ)) (calendar : ShopCalendar) (items : List Item) (l : Tail) → tail_in texts calendar items ≡ Ok l → IsTail texts calendar items l
 unfolding tail_in
@@ -64,10 +65,10 @@ pub of_their_texts : (texts : List (List ℕ)) (tables : Tables) → tables_in t
 unfolding tables_in
 of_their_texts texts tables e =
     let head = whole_step (head_in texts) _ tables e in
-    let middle = whole_step (middle_in texts head.0.items) _ tables head.2 in
+    let middle = whole_step (middle_in texts head.0.calendar head.0.items) _ tables head.2 in
     let tail = whole_step (tail_in texts head.0.calendar head.0.items) _ tables middle.2 in
     let h = head_read texts head.0 head.1 in
-    let m = middle_read texts head.0.items middle.0 middle.1 in
+    let m = middle_read texts head.0.calendar head.0.items middle.0 middle.1 in
     let l = tail_read texts head.0.calendar head.0.items tail.0 tail.1 in
     let same : joined head.0 middle.0 tail.0 ≡ tables = cc in
     subst (AreOfTheirTexts texts) same (record {

@@ -17,7 +17,10 @@ use Rattle.mrp_tables.specs.Calendar.{holiday_row, start_cells, weeks_cells, wor
 use Rattle.mrp_tables.specs.Items.{class_words, greatest_size, is_master, is_master_at, item_cells, item_checked, item_row, known, least_size, names_of}
 use Rattle.mrp_tables.specs.Laws.{FaultsAtItsRecord, FaultsAtTheirRecords, IsAt}
 use Rattle.mrp_tables.specs.Master.{kind_words, master_row}
+use Rattle.mrp_tables.specs.declared.receipts.OpenOrder.{OpenOrder}
+use Rattle.mrp_tables.specs.declared.rows.Receipt.{Receipt}
 use Rattle.mrp_tables.specs.Reading.{Reads, admitted, by_itself, is_past}
+use Rattle.mrp_tables.specs.Receipts.{order_cells, order_checked, orders_of, receipt_placed, receipt_row, same_order}
 use Rattle.mrp_tables.specs.declared.rows.ScriptCall.{ScriptCall}
 use Rattle.mrp_tables.specs.declared.rows.ScriptCall.TheVariants as call
 use Rattle.mrp_tables.specs.Script.{ask_cells, book_cells, call_at, cancel_cells, mastered, script_row, spot_of, when_cells}
@@ -127,6 +130,24 @@ stock_at items before r = step r (stock_cells items r) (stock_checked before r)
     cell r (known items name) _ (λ item. tt))))
     (λ row. last r 12 (list_any (nat_eq row.item) (items_in_stock before)) row)
 
+placed_at : (calendar : ShopCalendar) (items : List Item) (r : Cells) (o : OpenOrder) → IfErr (receipt_placed calendar items r o) (IsAt r)
+unfolding receipt_placed
+placed_at calendar items r o =
+    cell r (or_code 15 (week_of calendar o.date)) _ (λ week.
+    last r 18 (is_master_at items o.item) _)
+
+receipt_at : (calendar : ShopCalendar) (items : List Item) (before : List Receipt) (r : Cells) → IfErr (receipt_row calendar items before r) (IsAt r)
+unfolding order_cells
+receipt_at calendar items before r = step r (order_cells items r) (λ o. order_checked (orders_of before) r o >>= receipt_placed calendar items r)
+    (cell r (name_of (cell_at r 0)) _ (λ name.
+    cell r (name_of (cell_at r 1)) _ (λ order.
+    cell r (date_cell (cell_at r 2)) _ (λ date.
+    cell r (number_cell 0 1000000000 (cell_at r 3)) _ (λ quantity.
+    cell r (known items name) _ (λ item. tt))))))
+    (λ o. step r (order_checked (orders_of before) r o) (receipt_placed calendar items r)
+    (last r 12 (list_any (same_order (o.item, o.order)) (orders_of before)) o)
+    (λ checked. placed_at calendar items r checked))
+
 checked_at : (before : List Item) (r : Cells) (item : Item) (repeated : Bool) → list_any (pointwise nat_eq item.name) (names_of before) ≡ repeated → IfErr (item_checked before r item) (IsAt r)
 checked_at before r item true e = rw e (own r 12)
 checked_at before r item false e = rw e (last r 17 (is_master item.class && nat_lt 0 item.safety) item)
@@ -187,7 +208,7 @@ call_at_record calendar items r place =
     one_of r (place == 0) _ _ (book_at calendar items r)
     (one_of r (place == 1) _ _ (cancel_at r)
     (one_of r (place == 2) _ _ (ask_at calendar items r)
-    (one_of {X = ScriptCall} r (place == 3) (Ok call.Run) (when_cells items r) tt (when_at items r))))
+    (one_of {X = ScriptCall} r (place == 3) (when_cells items r) (Ok call.Run) (when_at items r) tt)))
 
 script_at : (calendar : ShopCalendar) (items : List Item) (r : Cells) → IfErr (script_row calendar items r) (IsAt r)
 unfolding script_row
@@ -204,6 +225,7 @@ at_their_records = record {
   holidays = reads (by_itself holiday_row) (λ before r. holiday_at r);
   items = reads item_row item_at_record;
   stock = λ items. reads (stock_row items) (stock_at items);
+  receipts = λ calendar items. reads (receipt_row calendar items) (receipt_at calendar items);
   bills = λ items. reads (by_itself (bill_row items)) (λ before r. bill_at items r);
   master = λ calendar items. reads (by_itself (master_row calendar items)) (λ before r. master_at calendar items r);
   script = λ calendar items. reads (by_itself (script_row calendar items)) (λ before r. script_at calendar items r);

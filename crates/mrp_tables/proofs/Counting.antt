@@ -21,7 +21,7 @@ limit_number t.Calendar limit e = let same : 1003 ≡ limit = cc in omega arith
 limit_number t.Items limit e = let same : 20000 ≡ limit = cc in omega arith
 limit_number t.Centres limit e = let same : 0 ≡ limit = cc in omega arith
 limit_number t.Stock limit e = absurd cc
-limit_number t.Receipts limit e = let same : 0 ≡ limit = cc in omega arith
+limit_number t.Receipts limit e = let same : 100000 ≡ limit = cc in omega arith
 limit_number t.Bills limit e = let same : 100000 ≡ limit = cc in omega arith
 limit_number t.Routings limit e = let same : 0 ≡ limit = cc in omega arith
 limit_number t.Master limit e = let same : 100000 ≡ limit = cc in omega arith

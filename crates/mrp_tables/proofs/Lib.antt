@@ -7,6 +7,7 @@ mod Distinct
 mod Gathering
 mod Kept
 mod Opening
+mod Ordered
 mod OwnTable
 mod RowLaws
 mod Refused

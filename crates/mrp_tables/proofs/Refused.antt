@@ -19,15 +19,16 @@ use Rattle.mrp_tables.specs.Items.{item_row}
 use Rattle.mrp_tables.specs.Laws.{IsMemoryRefusal, IsRefusedAt, all_whole, reading_of, table_order}
 use Rattle.mrp_tables.specs.Master.{master_row}
 use Rattle.mrp_tables.specs.Reading.{IsMemoryFault, IsRefusedBehind, IsRefusedIn, Reads, by_itself, rows_of}
+use Rattle.mrp_tables.specs.Receipts.{receipt_row}
 use Rattle.mrp_tables.specs.Script.{script_row}
 use Rattle.mrp_tables.specs.Stock.{stock_row}
 use Rattle.mrp_tables.specs.Tables.{Head, Middle, head_in, middle_in, tables_in, tail_in, untaken}
 use Rattle.mrp_tables.proofs.AcceptedTables.{IsMiddle, head_read, middle_read}
 
 -- the middle tables are read whole
-middle_whole : (texts : List (List ℕ)) (items : List Item) (r : Result Middle Fault) → middle_in texts items ≡ r → IsOk r → (m : Middle) × IsMiddle texts items m
-middle_whole texts items (Ok m) e ok = (m, middle_read texts items m e)
-middle_whole texts items (Err f) e ok = absurd cc
+middle_whole : (texts : List (List ℕ)) (calendar : ShopCalendar) (items : List Item) (r : Result Middle Fault) → middle_in texts calendar items ≡ r → IsOk r → (m : Middle) × IsMiddle texts calendar items m
+middle_whole texts calendar items (Ok m) e ok = (m, middle_read texts calendar items m e)
+middle_whole texts calendar items (Err f) e ok = absurd cc
 
 -- a refusal of memory is of code 22, and at its table
 pub memory_behind : {X : Type 0} (read : Reads X) (own : Table) (before : List X) (number : ℕ) (left : List (List (List ℕ))) (f : Fault) → IsRefusedBehind read own before number left f → IsMemoryFault own f
@@ -68,7 +69,7 @@ refused_centres texts calendar is_calendar items is_items f (inl memory) =
 refused_centres texts calendar is_calendar items is_items f (inr e) = inr (rw (is_calendar, is_items, e) refl)
 
 pub refused_stock : (texts : List (List ℕ)) (h : Head) → head_in texts ≡ Ok h → (f : Fault)
-    → IsRefusedIn (stock_row h.items) t.Stock (text_in texts t.Stock) f ⊎ (rows_of (stock_row h.items) t.Stock (text_in texts t.Stock) ≡ Err f) → IsMemoryRefusal texts f ⊎ (middle_in texts h.items ≡ Err f)
+    → IsRefusedIn (stock_row h.items) t.Stock (text_in texts t.Stock) f ⊎ (rows_of (stock_row h.items) t.Stock (text_in texts t.Stock) ≡ Err f) → IsMemoryRefusal texts f ⊎ (middle_in texts h.calendar h.items ≡ Err f)
 unfolding middle_in
 refused_stock texts h is_head f (inl memory) =
     let own = head_read texts h is_head in
@@ -76,45 +77,45 @@ refused_stock texts h is_head f (inl memory) =
 refused_stock texts h is_head f (inr e) = inr (rw e refl)
 
 pub refused_receipts : (texts : List (List ℕ)) (h : Head) → head_in texts ≡ Ok h → (stock : List StockRow) → rows_of (stock_row h.items) t.Stock (text_in texts t.Stock) ≡ Ok stock → (f : Fault)
-    → IsRefusedIn (untaken {X = Receipt}) t.Receipts (text_in texts t.Receipts) f ⊎ (rows_of (untaken {X = Receipt}) t.Receipts (text_in texts t.Receipts) ≡ Err f) → IsMemoryRefusal texts f ⊎ (middle_in texts h.items ≡ Err f)
+    → IsRefusedIn (receipt_row h.calendar h.items) t.Receipts (text_in texts t.Receipts) f ⊎ (rows_of (receipt_row h.calendar h.items) t.Receipts (text_in texts t.Receipts) ≡ Err f) → IsMemoryRefusal texts f ⊎ (middle_in texts h.calendar h.items ≡ Err f)
 unfolding middle_in
 refused_receipts texts h is_head stock is_stock f (inl memory) =
     let own = head_read texts h is_head in
-    inl (refusal texts f t.Receipts (memory_in (untaken {X = Receipt}) t.Receipts (text_in texts t.Receipts) f memory) memory (rw (own.calendar, own.items, own.centres, is_stock) refl))
+    inl (refusal texts f t.Receipts (memory_in (receipt_row h.calendar h.items) t.Receipts (text_in texts t.Receipts) f memory) (h.calendar, own.calendar, h.items, own.items, memory) (rw (own.calendar, own.items, own.centres, is_stock) refl))
 refused_receipts texts h is_head stock is_stock f (inr e) = inr (rw (is_stock, e) refl)
 
-pub refused_bills : (texts : List (List ℕ)) (h : Head) → head_in texts ≡ Ok h → (stock : List StockRow) → rows_of (stock_row h.items) t.Stock (text_in texts t.Stock) ≡ Ok stock → (receipts : List Receipt) → rows_of (untaken {X = Receipt}) t.Receipts (text_in texts t.Receipts) ≡ Ok receipts → (f : Fault)
-    → IsRefusedIn (by_itself (bill_row h.items)) t.Bills (text_in texts t.Bills) f ⊎ (rows_of (by_itself (bill_row h.items)) t.Bills (text_in texts t.Bills) ≡ Err f) → IsMemoryRefusal texts f ⊎ (middle_in texts h.items ≡ Err f)
+pub refused_bills : (texts : List (List ℕ)) (h : Head) → head_in texts ≡ Ok h → (stock : List StockRow) → rows_of (stock_row h.items) t.Stock (text_in texts t.Stock) ≡ Ok stock → (receipts : List Receipt) → rows_of (receipt_row h.calendar h.items) t.Receipts (text_in texts t.Receipts) ≡ Ok receipts → (f : Fault)
+    → IsRefusedIn (by_itself (bill_row h.items)) t.Bills (text_in texts t.Bills) f ⊎ (rows_of (by_itself (bill_row h.items)) t.Bills (text_in texts t.Bills) ≡ Err f) → IsMemoryRefusal texts f ⊎ (middle_in texts h.calendar h.items ≡ Err f)
 unfolding middle_in
 refused_bills texts h is_head stock is_stock receipts is_receipts f (inl memory) =
     let own = head_read texts h is_head in
     inl (refusal texts f t.Bills (memory_in (by_itself (bill_row h.items)) t.Bills (text_in texts t.Bills) f memory) (h.items, own.items, memory) (rw (own.calendar, own.items, own.centres, is_stock, is_receipts) refl))
 refused_bills texts h is_head stock is_stock receipts is_receipts f (inr e) = inr (rw (is_stock, is_receipts, e) refl)
 
-pub refused_routings : (texts : List (List ℕ)) (h : Head) → head_in texts ≡ Ok h → IsOk (middle_in texts h.items) → (f : Fault)
+pub refused_routings : (texts : List (List ℕ)) (h : Head) → head_in texts ≡ Ok h → IsOk (middle_in texts h.calendar h.items) → (f : Fault)
     → IsRefusedIn (untaken {X = Operation}) t.Routings (text_in texts t.Routings) f ⊎ (rows_of (untaken {X = Operation}) t.Routings (text_in texts t.Routings) ≡ Err f) → IsMemoryRefusal texts f ⊎ (tail_in texts h.calendar h.items ≡ Err f)
 unfolding tail_in
 refused_routings texts h is_head ok f (inl memory) =
     let own = head_read texts h is_head in
-    let middle = (middle_whole texts h.items (middle_in texts h.items) refl ok).1 in
+    let middle = (middle_whole texts h.calendar h.items (middle_in texts h.calendar h.items) refl ok).1 in
     inl (refusal texts f t.Routings (memory_in (untaken {X = Operation}) t.Routings (text_in texts t.Routings) f memory) memory (rw (own.calendar, own.items, own.centres, middle.stock, middle.receipts, middle.bills) refl))
 refused_routings texts h is_head ok f (inr e) = inr (rw e refl)
 
-pub refused_master : (texts : List (List ℕ)) (h : Head) → head_in texts ≡ Ok h → IsOk (middle_in texts h.items) → (routings : List Operation) → rows_of (untaken {X = Operation}) t.Routings (text_in texts t.Routings) ≡ Ok routings → (f : Fault)
+pub refused_master : (texts : List (List ℕ)) (h : Head) → head_in texts ≡ Ok h → IsOk (middle_in texts h.calendar h.items) → (routings : List Operation) → rows_of (untaken {X = Operation}) t.Routings (text_in texts t.Routings) ≡ Ok routings → (f : Fault)
     → IsRefusedIn (by_itself (master_row h.calendar h.items)) t.Master (text_in texts t.Master) f ⊎ (rows_of (by_itself (master_row h.calendar h.items)) t.Master (text_in texts t.Master) ≡ Err f) → IsMemoryRefusal texts f ⊎ (tail_in texts h.calendar h.items ≡ Err f)
 unfolding tail_in
 refused_master texts h is_head ok routings is_routings f (inl memory) =
     let own = head_read texts h is_head in
-    let middle = (middle_whole texts h.items (middle_in texts h.items) refl ok).1 in
+    let middle = (middle_whole texts h.calendar h.items (middle_in texts h.calendar h.items) refl ok).1 in
     inl (refusal texts f t.Master (memory_in (by_itself (master_row h.calendar h.items)) t.Master (text_in texts t.Master) f memory) (h.calendar, own.calendar, h.items, own.items, memory) (rw (own.calendar, own.items, own.centres, middle.stock, middle.receipts, middle.bills, is_routings) refl))
 refused_master texts h is_head ok routings is_routings f (inr e) = inr (rw (is_routings, e) refl)
 
-pub refused_script : (texts : List (List ℕ)) (h : Head) → head_in texts ≡ Ok h → IsOk (middle_in texts h.items) → (routings : List Operation) → rows_of (untaken {X = Operation}) t.Routings (text_in texts t.Routings) ≡ Ok routings → (master : List MasterRow) → rows_of (by_itself (master_row h.calendar h.items)) t.Master (text_in texts t.Master) ≡ Ok master → (f : Fault)
+pub refused_script : (texts : List (List ℕ)) (h : Head) → head_in texts ≡ Ok h → IsOk (middle_in texts h.calendar h.items) → (routings : List Operation) → rows_of (untaken {X = Operation}) t.Routings (text_in texts t.Routings) ≡ Ok routings → (master : List MasterRow) → rows_of (by_itself (master_row h.calendar h.items)) t.Master (text_in texts t.Master) ≡ Ok master → (f : Fault)
     → IsRefusedIn (by_itself (script_row h.calendar h.items)) t.Script (text_in texts t.Script) f ⊎ (rows_of (by_itself (script_row h.calendar h.items)) t.Script (text_in texts t.Script) ≡ Err f) → IsMemoryRefusal texts f ⊎ (tail_in texts h.calendar h.items ≡ Err f)
 unfolding tail_in
 refused_script texts h is_head ok routings is_routings master is_master f (inl memory) =
     let own = head_read texts h is_head in
-    let middle = (middle_whole texts h.items (middle_in texts h.items) refl ok).1 in
+    let middle = (middle_whole texts h.calendar h.items (middle_in texts h.calendar h.items) refl ok).1 in
     inl (refusal texts f t.Script (memory_in (by_itself (script_row h.calendar h.items)) t.Script (text_in texts t.Script) f memory) (h.calendar, own.calendar, h.items, own.items, memory) (rw (own.calendar, own.items, own.centres, middle.stock, middle.receipts, middle.bills, is_routings, is_master) refl))
 refused_script texts h is_head ok routings is_routings master is_master f (inr e) = inr (rw (is_routings, is_master, e) refl)
 
@@ -124,12 +125,12 @@ refused_head texts f (inl memory) = inl memory
 refused_head texts f (inr e) = inr (rw e refl)
 
 pub refused_middle : (texts : List (List ℕ)) (h : Head) → head_in texts ≡ Ok h → (f : Fault)
-    → IsMemoryRefusal texts f ⊎ (middle_in texts h.items ≡ Err f) → IsMemoryRefusal texts f ⊎ (tables_in texts ≡ Err f)
+    → IsMemoryRefusal texts f ⊎ (middle_in texts h.calendar h.items ≡ Err f) → IsMemoryRefusal texts f ⊎ (tables_in texts ≡ Err f)
 unfolding tables_in
 refused_middle texts h is_head f (inl memory) = inl memory
 refused_middle texts h is_head f (inr e) = inr (rw (is_head, e) refl)
 
-pub refused_tail : (texts : List (List ℕ)) (h : Head) → head_in texts ≡ Ok h → (m : Middle) → middle_in texts h.items ≡ Ok m → (f : Fault)
+pub refused_tail : (texts : List (List ℕ)) (h : Head) → head_in texts ≡ Ok h → (m : Middle) → middle_in texts h.calendar h.items ≡ Ok m → (f : Fault)
     → IsMemoryRefusal texts f ⊎ (tail_in texts h.calendar h.items ≡ Err f) → IsMemoryRefusal texts f ⊎ (tables_in texts ≡ Err f)
 unfolding tables_in
 refused_tail texts h is_head m is_middle f (inl memory) = inl memory

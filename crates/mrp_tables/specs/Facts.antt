@@ -4,6 +4,8 @@ use Rattle.std.specs.Int.{IsInRange}
 use Rattle.mrp_tables.specs.declared.item.Item.{Item}
 use Rattle.mrp_tables.specs.declared.item.LotRule.TheVariants.{Fixed, Period}
 use Rattle.mrp_tables.specs.declared.rows.StockRow.{StockRow}
+use Rattle.mrp_tables.specs.declared.receipts.OpenOrder.{OpenOrder}
+use Rattle.mrp_tables.specs.declared.rows.Receipt.{Receipt}
 use Rattle.mrp_tables.specs.declared.rows.BillLine.{BillLine}
 use Rattle.mrp_tables.specs.declared.rows.MasterRow.{MasterRow}
 use Rattle.mrp_tables.specs.declared.rows.ScriptCall.{ScriptCall}
@@ -33,6 +35,22 @@ IsItemUnlessStocked item = (is_master item.class ≡ true → item.safety ≡ 0)
 pub record IsStockRow (items : List Item) (row : StockRow) : Type 0 where
   pub item : row.item < length items
   pub on_hand : row.on_hand ≤ 1000000000
+
+-- an open order of an item that is there
+pub record IsOpenOrder (items : List Item) (order : OpenOrder) : Type 0 where
+  pub item : order.item < length items
+  pub quantity : order.quantity ≤ 1000000000
+
+-- an open receipt of a part, due in a week of the horizon, of at least one piece
+pub record IsReceipt (weeks : ℕ) (items : List Item) (row : Receipt) : Type 0 where
+  pub item : row.item < length items
+  pub part : is_master_at items row.item ≡ false
+  pub week : IsInRange 1 weeks row.week
+  pub quantity : IsInRange 1 1000000000 row.quantity
+
+-- what is read of an open receipt: a receipt, if it has a piece
+abbrev pub IsReceiptIfAny : ℕ → List Item → Receipt → Type 0
+IsReceiptIfAny weeks items row = 0 < row.quantity → IsReceipt weeks items row
 
 -- a bill line; its component is no master item
 pub record IsBillLine (items : List Item) (line : BillLine) : Type 0 where

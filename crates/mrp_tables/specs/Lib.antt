@@ -7,6 +7,7 @@ pub mod Laws
 pub mod Limits
 pub mod Master
 pub mod Reading
+pub mod Receipts
 pub mod Script
 pub mod Seen
 pub mod Stock

@@ -3,31 +3,31 @@ use Rattle.std.specs.Prelude.{ℕ, List, [], ◌∷◌, codes, Option, Some, Non
 use Rattle.mrp_rows.specs.declared.fault.Table.{Table}
 use Rattle.mrp_rows.specs.declared.fault.Table.TheVariants as t
 
--- the most records that a table has, where it has a limit: centres, receipts and routings take none
+-- the most records that a table has, where it has a limit: centres and routings take none
 abbrev pub record_limit : Table → Option ℕ
 record_limit t.Calendar = Some 1003
 record_limit t.Items = Some 20000
 record_limit t.Centres = Some 0
 record_limit t.Stock = None
-record_limit t.Receipts = Some 0
+record_limit t.Receipts = Some 100000
 record_limit t.Bills = Some 100000
 record_limit t.Routings = Some 0
 record_limit t.Master = Some 100000
 record_limit t.Script = Some 100000
 record_limit t.Bundle = None
 
--- the words for the lot rules that are taken: no fixed or period lots
+-- the words for the lot rules, in the order of their places
 abbrev pub lot_words : List (List ℕ)
-lot_words = codes "lfl" ∷ []
+lot_words = codes "lfl" ∷ codes "fixed" ∷ codes "period" ∷ []
 
--- the words for the calls of a script that are taken, in the order of their places: all but `when`, whose place is behind them
+-- the words for the calls of a script, in the order of their places
 abbrev pub call_words : List (List ℕ)
-call_words = codes "book" ∷ codes "cancel" ∷ codes "ask" ∷ codes "run" ∷ []
+call_words = codes "book" ∷ codes "cancel" ∷ codes "ask" ∷ codes "when" ∷ codes "run" ∷ []
 
 -- the most scrap in a thousand
 abbrev pub most_scrap : ℕ
-most_scrap = 0
+most_scrap = 900
 
 -- the most safety stock, in pieces
 abbrev pub most_safety : ℕ
-most_safety = 0
+most_safety = 1000000000

@@ -65,8 +65,8 @@ call_at calendar items r place =
     if place == 0 then book_cells calendar items r
     else if place == 1 then cancel_cells r
     else if place == 2 then ask_cells calendar items r
-    else if place == 3 then Ok call.Run
-    else when_cells items r
+    else if place == 3 then when_cells items r
+    else Ok call.Run
 
 -- the desk, the word of the call, and then the call's own cells from left to right and what they name
 unfoldable pub script_row : ShopCalendar → List Item → Cells → Result ScriptRow Fault

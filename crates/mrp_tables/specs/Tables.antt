@@ -17,10 +17,11 @@ use Rattle.mrp_tables.specs.declared.rows.MasterRow.{MasterRow}
 use Rattle.mrp_tables.specs.declared.rows.ScriptRow.{ScriptRow}
 use Rattle.mrp_tables.specs.Bills.{bills_of}
 use Rattle.mrp_tables.specs.Calendar.{calendar_of}
-use Rattle.mrp_tables.specs.Facts.{AllDiffer, IsBillLine, IsItem, IsMasterRow, IsScriptRow, IsStockRow}
+use Rattle.mrp_tables.specs.Facts.{AllDiffer, IsBillLine, IsItem, IsMasterRow, IsReceipt, IsScriptRow, IsStockRow}
 use Rattle.mrp_tables.specs.Items.{items_of, names_of}
 use Rattle.mrp_tables.specs.Master.{master_of}
 use Rattle.mrp_tables.specs.Reading.{rows_of}
+use Rattle.mrp_tables.specs.Receipts.{orders_of, receipts_of}
 use Rattle.mrp_tables.specs.Script.{script_of}
 use Rattle.mrp_tables.specs.Stock.{items_in_stock, stock_of}
 
@@ -63,10 +64,10 @@ head_in texts = do
   centres ← rows_of untaken t.Centres (text_in texts t.Centres)
   Ok (record { calendar = calendar; items = items; centres = centres })
 
-unfoldable pub middle_in : List (List ℕ) → List Item → Result Middle Fault
-middle_in texts items = do
+unfoldable pub middle_in : List (List ℕ) → ShopCalendar → List Item → Result Middle Fault
+middle_in texts calendar items = do
   stock ← stock_of items (text_in texts t.Stock)
-  receipts ← rows_of untaken t.Receipts (text_in texts t.Receipts)
+  receipts ← receipts_of calendar items (text_in texts t.Receipts)
   bills ← bills_of items (text_in texts t.Bills)
   Ok (record { stock = stock; receipts = receipts; bills = bills })
 
@@ -90,7 +91,7 @@ joined h m l = record {
   script = l.script;
 }
 
--- what accepted tables keep: rows within their limits, of items that are there and weeks of the horizon; names that differ, and items that stand in the stock at most once; no more rows than the limits, so none of a table that takes no record
+-- what accepted tables keep: rows within their limits, of items that are there and weeks of the horizon; names that differ, items that stand in the stock at most once, and orders of an item that stand in the receipts at most once; no more rows than the limits, so none of a table that takes no record
 pub record AreTables (t : Tables) : Type 0 where
   pub items : All IsItem t.items
   pub names : AllDiffer (names_of t.items)
@@ -98,7 +99,9 @@ pub record AreTables (t : Tables) : Type 0 where
   pub centres : t.centres ≡ []
   pub stock : All (IsStockRow t.items) t.stock
   pub stocked : AllDiffer (items_in_stock t.stock)
-  pub receipts : t.receipts ≡ []
+  pub receipts : All (IsReceipt t.calendar.weeks t.items) t.receipts
+  pub ordered : AllDiffer (orders_of t.receipts)
+  pub receipt_count : length t.receipts ≤ 100000
   pub bills : All (IsBillLine t.items) t.bills
   pub line_count : length t.bills ≤ 100000
   pub routings : t.routings ≡ []
@@ -111,7 +114,7 @@ pub record AreTables (t : Tables) : Type 0 where
 unfoldable pub tables_in : List (List ℕ) → Result Tables Fault
 tables_in texts = do
   head ← head_in texts
-  middle ← middle_in texts head.items
+  middle ← middle_in texts head.calendar head.items
   tail ← tail_in texts head.calendar head.items
   Ok (joined head middle tail)
 

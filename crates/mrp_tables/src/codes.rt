@@ -9,7 +9,7 @@ pub(crate) const WORD: u8 = 10;
 /// Outside its limits.
 pub(crate) const RANGE: u8 = 11;
 
-/// An item that an earlier record has.
+/// An item, or an item's order, that an earlier record has.
 pub(crate) const REPEATED: u8 = 12;
 
 /// No item of the items' table.
@@ -23,6 +23,9 @@ pub(crate) const NOT_MASTER: u8 = 16;
 
 /// A master item with safety stock.
 pub(crate) const MASTER_SAFETY: u8 = 17;
+
+/// An open receipt of a master item.
+pub(crate) const MASTER_RECEIPT: u8 = 18;
 
 /// A master item as component.
 pub(crate) const MASTER_COMPONENT: u8 = 19;

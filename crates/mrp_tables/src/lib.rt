@@ -11,6 +11,7 @@ pub mod laws;
 mod limits;
 mod master;
 mod reading;
+mod receipts;
 mod rows;
 mod script;
 mod stock;

@@ -104,8 +104,8 @@ fn call_at(row: &Row, calendar: &Calendar, items: &Items, place: usize) -> Resul
         0 => book(row, calendar, items),
         1 => cancel(row),
         2 => ask(row, calendar, items),
-        3 => Ok(ScriptCall::Run),
-        _ => when(row, items),
+        3 => when(row, items),
+        _ => Ok(ScriptCall::Run),
     }
 }
 

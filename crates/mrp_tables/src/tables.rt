@@ -3,9 +3,10 @@
 ghost use Rattle.std.specs.Prelude.{◌≡◌, ◌≤◌, [], All, IfOk, IsOk, Ok, length};
 ghost use Rattle.mrp_rows.specs.Bundle.{text_in};
 ghost use Rattle.mrp_tables.specs.Calendar.{calendar_of};
-ghost use Rattle.mrp_tables.specs.Facts.{AllDiffer, IsBillLine, IsMasterRow, IsScriptRow, IsStockRow};
+ghost use Rattle.mrp_tables.specs.Facts.{AllDiffer, IsBillLine, IsMasterRow, IsReceipt, IsScriptRow, IsStockRow};
 ghost use Rattle.mrp_tables.specs.Laws.{IsMemoryRefusal};
 ghost use Rattle.mrp_tables.specs.Reading.{Gives, IsMemoryFault};
+ghost use Rattle.mrp_tables.specs.Receipts.{orders_of};
 ghost use Rattle.mrp_tables.specs.Seen.{head_of, middle_of, tail_of};
 ghost use Rattle.mrp_tables.specs.Stock.{items_in_stock};
 ghost use Rattle.mrp_tables.specs.Tables.{head_in, middle_in, tail_in};
@@ -16,6 +17,7 @@ use crate::item::Item;
 use crate::items::Items;
 use crate::master::Master;
 use crate::reading::{Untaken, read_table};
+use crate::receipts::Receipts;
 use crate::rows::{BillLine, Centre, MasterRow, Operation, Receipt, ScriptRow, StockRow};
 use crate::script::Script;
 use crate::stock::Stock;
@@ -76,16 +78,25 @@ fn read_calendar(alloc: Global, sections: &Sections<'_>) -> Result<Calendar, Fau
 fn read_middle(alloc: Global, sections: &Sections<'_>, head: &Head) -> Result<Middle, Fault>
     requires head { head_in sections.now ≡ Ok (head_of head.now) }
     ensures middle { Gives (IsMemoryRefusal sections.now) middle_of result
-        (middle_in sections.now head.now.items) }
+        (middle_in sections.now head.now.calendar head.now.items) }
     ensures stock { IfOk result (λ m. All (IsStockRow head.now.items) m.stock.items) }
     ensures stocked { IfOk result (λ m. AllDiffer (items_in_stock m.stock.items)) }
     ensures bills { IfOk result (λ m. All (IsBillLine head.now.items) m.bills.items) }
     ensures line_count { IfOk result (λ m. length m.bills.items ≤ 100000) }
-    ensures receipts { IfOk result (λ m. m.receipts.items ≡ []) }
+    ensures receipts { IfOk result (λ m.
+        All (IsReceipt head.now.calendar.weeks head.now.items) m.receipts.items) }
+    ensures ordered { IfOk result (λ m. AllDiffer (orders_of m.receipts.items)) }
+    ensures receipt_count { IfOk result (λ m. length m.receipts.items ≤ 100000) }
 {
+    let calendar = &head.calendar;
     let items = &head.items;
     let stock = read_table(alloc, sections, Table::Stock, Stock::new(alloc, items))?;
-    let receipts = read_table(alloc, sections, Table::Receipts, Untaken::new(alloc))?;
+    let receipts = read_table(
+        alloc,
+        sections,
+        Table::Receipts,
+        Receipts::new(alloc, calendar, items),
+    )?;
     let bills = read_table(alloc, sections, Table::Bills, Bills::new(alloc, items))?;
     Ok(Middle {
         stock: stock.into_rows(),
@@ -97,7 +108,7 @@ fn read_middle(alloc: Global, sections: &Sections<'_>, head: &Head) -> Result<Mi
 #[tactic(auto, unfolding(crate::specs::Tables::tail_in))]
 fn read_tail(alloc: Global, sections: &Sections<'_>, head: &Head) -> Result<Tail, Fault>
     requires head { head_in sections.now ≡ Ok (head_of head.now) }
-    requires middle { IsOk (middle_in sections.now head.now.items) }
+    requires middle { IsOk (middle_in sections.now head.now.calendar head.now.items) }
     ensures tail { Gives (IsMemoryRefusal sections.now) tail_of result
         (tail_in sections.now head.now.calendar head.now.items) }
     ensures master { IfOk result (λ l.
@@ -151,8 +162,9 @@ impl Model for Tables {
 
 impl Tables {
     ghost use Rattle.std.specs.Prelude.{◌≡◌, ◌<◌, ◌≤◌, [], All, IfSome, length};
-    ghost use Rattle.mrp_tables.specs.Facts.{AllDiffer, IsBillLine, IsItem, IsMasterRow, IsScriptRow, IsStockRow};
+    ghost use Rattle.mrp_tables.specs.Facts.{AllDiffer, IsBillLine, IsItem, IsMasterRow, IsReceipt, IsScriptRow, IsStockRow};
     ghost use Rattle.mrp_tables.specs.Items.{names_of, place_of};
+    ghost use Rattle.mrp_tables.specs.Receipts.{orders_of};
     ghost use Rattle.mrp_tables.specs.Stock.{items_in_stock};
     ghost use Rattle.mrp_tables.specs.Laws.{IsMemoryRefusal};
     ghost use Rattle.mrp_tables.specs.Reading.{Gives};
@@ -217,11 +229,12 @@ impl Tables {
         self.middle.stock.as_slice()
     }
 
-    /// The open receipts of at least one piece, in table order: none, since their table takes no
-    /// record.
+    /// The open receipts of at least one piece, in table order: an item's order at most once.
     pub fn receipts(&self) -> &[Receipt]
         ensures rows { result.now ≡ self.now.receipts }
-        ensures none { result.now ≡ [] }
+        ensures within { All (IsReceipt self.now.calendar.weeks self.now.items) result.now }
+        ensures once { AllDiffer (orders_of result.now) }
+        ensures count { length result.now ≤ 100000 }
     {
         self.middle.receipts.as_slice()
     }

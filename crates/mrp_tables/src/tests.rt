@@ -6,6 +6,8 @@ use std::alloc::Global;
 use std::process::Abort;
 use std::test::Fail;
 
+mod planning;
+mod receipts;
 mod script;
 
 // A small bicycle shop.
@@ -328,11 +330,6 @@ fn records_have_a_cell_for_each_column_below_the_right_header(rt: HostRuntime) -
 
 const NOT_TAKEN: &[Change] = &[
     (
-        "date,quantity\n[bills]",
-        "date,quantity\nFRAME,R1,2025-01-22,15\n[bills]",
-        "20 too-many receipts 1",
-    ),
-    (
         "centre,minutes\n",
         "centre,minutes\nWELD,20\n",
         "20 too-many centres 1",
@@ -341,31 +338,6 @@ const NOT_TAKEN: &[Change] = &[
         "run,offset\n",
         "run,offset\nFRAME,10,WELD,30,2500,0\n",
         "20 too-many routings 1",
-    ),
-    (
-        "FRAME,part,1,0,lfl,0,0",
-        "FRAME,part,1,0,fixed,20,0",
-        "10 word items 2",
-    ),
-    (
-        "FRAME,part,1,0,lfl,0,0",
-        "FRAME,part,1,0,period,2,0",
-        "10 word items 2",
-    ),
-    (
-        "FRAME,part,1,0,lfl,0,0",
-        "FRAME,part,1,1,lfl,0,0",
-        "11 range items 2",
-    ),
-    (
-        "FRAME,part,1,0,lfl,0,0",
-        "FRAME,part,1,0,lfl,0,1",
-        "11 range items 2",
-    ),
-    (
-        "BIKE,master,1,0,lfl,0,0",
-        "BIKE,master,1,0,lfl,0,1",
-        "11 range items 1",
     ),
 ];
 

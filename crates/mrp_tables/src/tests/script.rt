@@ -64,6 +64,22 @@ fn calls_are_read_with_places_and_weeks(rt: HostRuntime) -> Result<(), Fail> {
 }
 
 #[test]
+fn a_wish_names_an_item_and_a_quantity(rt: HostRuntime) -> Result<(), Fail> {
+    let shop = shop_that_reads(rt.alloc(), "2,when,BIKE,,11,\n1,run,,,,\n")?;
+    let quantity = Qty::new(11).ok_or("too many pieces")?;
+    let wish = ScriptRow {
+        desk: 2,
+        call: ScriptCall::When { item: 0, quantity },
+    };
+    let run = ScriptRow {
+        desk: 1,
+        call: ScriptCall::Run,
+    };
+    assert!(rt; shop.script() == [wish, run].as_slice());
+    Ok(())
+}
+
+#[test]
 fn a_cancellation_names_an_entry(rt: HostRuntime) -> Result<(), Fail> {
     let shop = shop_that_reads(rt.alloc(), "64,cancel,,,,1000000\n1,cancel,,,,02\n")?;
     let want = [
@@ -88,7 +104,12 @@ const CELLS: &[(&str, &str)] = &[
     ("x,run,,,,\n", "8 number script 1"),
     ("1,Run,,,,\n", "10 word script 1"),
     ("1,,,,,\n", "10 word script 1"),
-    ("1,when,BIKE,,11,\n", "10 word script 1"),
+    ("1,When,BIKE,,11,\n", "10 word script 1"),
+    ("1,when,,,11,\n", "7 name script 1"),
+    ("1,when,BIKE,,11.0,\n", "8 number script 1"),
+    ("1,when,BIKE,,0,\n", "11 range script 1"),
+    ("1,when,BIKE,,1000000000,\n", "accepted"),
+    ("1,when,BIKE,,1000000001,\n", "11 range script 1"),
     ("1,book, BIKE,2025-01-20,12,\n", "7 name script 1"),
     ("1,book,,2025-01-20,12,\n", "7 name script 1"),
     ("1,book,BIKE,2025-1-20,12,\n", "9 date script 1"),
@@ -117,6 +138,7 @@ const UNUSED: &[(&str, &str)] = &[
     ("1,run, TYRE,2025-02-30,-1,0\n", "accepted"),
     ("1,cancel,FRAME,2025-02-17,x,2\n", "accepted"),
     ("1,ask,BIKE,2025-01-20,0,x\n", "accepted"),
+    ("1,when,BIKE,soon,12,x\n", "accepted"),
     ("1,book,BIKE,2025-01-20,12,none\n", "accepted"),
     ("1,run,\"a\nb\",\"\"\"\",,\n", "accepted"),
 ];
@@ -136,6 +158,8 @@ const NAMED: &[(&str, &str)] = &[
     ("1,ask,TYRE,2025-01-20,,\n", "13 unknown-item script 1"),
     ("1,ask,BIKE,2025-02-17,,\n", "15 date-outside script 1"),
     ("1,ask,FRAME,2025-01-20,,\n", "16 not-master script 1"),
+    ("1,when,TYRE,,12,\n", "13 unknown-item script 1"),
+    ("1,when,FRAME,,12,\n", "16 not-master script 1"),
 ];
 
 #[test]

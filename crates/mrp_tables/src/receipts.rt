@@ -1,0 +1,193 @@
+//! The open receipts' table.
+
+ghost use Rattle.std.specs.Prelude.{◌≡◌, false, length, IfOk};
+ghost use Rattle.std.specs.List.{list_any};
+ghost use Rattle.mrp_tables.specs.Facts.{IsOpenOrder, IsReceiptIfAny};
+ghost use Rattle.mrp_tables.specs.Receipts.{order_cells, receipt_beside, receipt_placed, receipts_that_count, same_order};
+
+use crate::cells::{MOST_PIECES, quantity};
+use crate::codes::{DATE_OUTSIDE, MASTER_RECEIPT, NO_MEMORY, REPEATED, UNKNOWN_ITEM};
+use crate::items::Items;
+use crate::reading::TableRows;
+use crate::rows::Receipt;
+use indexmap::IndexSet;
+use jiff::civil::Date;
+use mrp_cal::Calendar;
+use mrp_qty::Qty;
+use mrp_rows::{Fault, Name, Row};
+use std::alloc::Global;
+use std::marker::Model;
+
+/// An open order as its record has it, with the place of its item.
+#[derive(Clone, Copy)]
+pub(crate) struct OpenOrder {
+    item: usize,
+    order: Name,
+    date: Date,
+    quantity: Qty,
+}
+
+/// The open receipts so far, those of quantity 0 among them, with the items and orders that they
+/// have.
+#[derive(Drop)]
+pub(crate) struct Receipts<'a> {
+    calendar: &'a Calendar,
+    items: &'a Items,
+    rows: Vec<Receipt>,
+    seen: IndexSet<(usize, Name)>,
+}
+
+impl<'a> Model for Receipts<'a> {
+    ghost use Rattle.std.specs.Prelude.{◌≡◌, All};
+    ghost use Rattle.mrp_tables.specs.Facts.{AllDiffer, IsReceiptIfAny};
+    ghost use Rattle.mrp_tables.specs.Gathered.{GatheredByDate};
+    ghost use Rattle.mrp_tables.specs.declared.rows.Receipt.{Receipt};
+    ghost use Rattle.mrp_tables.specs.Receipts.{orders_of};
+
+    ghost Value = { GatheredByDate Receipt };
+
+    ghost view = { λ t. record { calendar = t.calendar.now; items = t.items.now; rows = t.rows.items } };
+
+    ghost invariant = { λ t. record {
+      keys : t.seen.keys ≡ orders_of t.rows.items;
+      within : All (IsReceiptIfAny t.calendar.now.weeks t.items.now) t.rows.items;
+      distinct : AllDiffer (orders_of t.rows.items);
+    } };
+}
+
+impl<'a> TableRows for Receipts<'a> {
+    type Line = Receipt;
+
+    ghost use Rattle.std.specs.Prelude.{◌≡◌};
+    ghost use Rattle.mrp_tables.specs.Receipts.{receipt_row};
+
+    ghost takes = { λ count. count ≡ 4 };
+
+    ghost rows = { λ t. t.rows };
+
+    ghost reads = { λ t. receipt_row t.calendar t.items };
+
+    ghost beside = { λ t. record { items = t.items; weeks = t.calendar.weeks } };
+
+    fn add(&mut self, row: &Row) -> Result<(), Fault> {
+        let receipt = receipt_of(row, self.calendar, self.items, &self.seen)?;
+        let named = (receipt.item, receipt.order);
+        if self.rows.push(receipt).is_err() {
+            return Err(row.fault(NO_MEMORY));
+        }
+        if self.seen.insert(named).is_err() {
+            let _ = self.rows.pop();
+            return Err(row.fault(NO_MEMORY));
+        }
+        Ok(())
+    }
+}
+
+#[tactic(auto, unfolding(crate::specs::Receipts::order_cells))]
+fn order_cells(row: &Row, items: &Items) -> Result<OpenOrder, Fault>
+    requires { length row.now.cells ≡ 4 }
+    ensures cells { result ≡ order_cells items.now row.now }
+    ensures within { IfOk result (IsOpenOrder items.now) }
+{
+    let name = row.name(0)?;
+    let order = row.name(1)?;
+    let date = row.date(2)?;
+    let quantity = quantity(row, 3, 0, MOST_PIECES)?;
+    match items.find(&name) {
+        Some(item) => Ok(OpenOrder {
+            item,
+            order,
+            date,
+            quantity,
+        }),
+        None => Err(row.fault(UNKNOWN_ITEM)),
+    }
+}
+
+// A record as an open receipt, whose item and order were not seen before.
+fn receipt_of(
+    row: &Row,
+    calendar: &Calendar,
+    items: &Items,
+    seen: &IndexSet<(usize, Name)>,
+) -> Result<Receipt, Fault>
+    requires { length row.now.cells ≡ 4 }
+    ensures cells { result ≡ receipt_beside calendar.now items.now seen.now.keys row.now }
+    ensures fresh { IfOk result (λ r. list_any (same_order (r.item, r.order)) seen.now.keys ≡ false) }
+    ensures within { IfOk result (IsReceiptIfAny calendar.now.weeks items.now) }
+{
+    let order = order_cells(row, items)?;
+    if seen.contains(&(order.item, order.order)) {
+        return Err(row.fault(REPEATED));
+    }
+    receipt_placed(row, calendar, items, &order)
+}
+
+// An open order as a receipt of a week.
+#[tactic(auto, unfolding(crate::specs::Receipts::receipt_placed))]
+fn receipt_placed(
+    row: &Row,
+    calendar: &Calendar,
+    items: &Items,
+    order: &OpenOrder,
+) -> Result<Receipt, Fault>
+    requires { IsOpenOrder items.now order.now }
+    ensures placed { result ≡ receipt_placed calendar.now items.now row.now order.now }
+    ensures item { IfOk result (λ row. row.item ≡ order.now.item) }
+    ensures order { IfOk result (λ row. row.order ≡ order.now.order) }
+    ensures within { IfOk result (IsReceiptIfAny calendar.now.weeks items.now) }
+{
+    let Some(week) = calendar.week_of(order.date) else {
+        return Err(row.fault(DATE_OUTSIDE));
+    };
+    if items.is_master(order.item) {
+        return Err(row.fault(MASTER_RECEIPT));
+    }
+    Ok(Receipt {
+        number: row.fault(0).row,
+        item: order.item,
+        order: order.order,
+        week,
+        quantity: order.quantity,
+    })
+}
+
+impl<'a> Receipts<'a> {
+    ghost use Rattle.std.specs.Prelude.{◌≡◌, ◌≤◌, [], All, length};
+    ghost use Rattle.mrp_tables.specs.Facts.{AllDiffer, IsReceipt};
+    ghost use Rattle.mrp_tables.specs.Receipts.{orders_of, receipts_that_count};
+
+    pub(crate) fn new(alloc: Global, calendar: &'a Calendar, items: &'a Items) -> Receipts<'a>
+        ensures { result ≡ record { calendar = calendar.now; items = items.now; rows = [] } }
+    {
+        Receipts {
+            calendar,
+            items,
+            rows: Vec::new(alloc),
+            seen: IndexSet::new(alloc),
+        }
+    }
+
+    // The rows that count: a row of quantity 0 counts as none.
+    pub(crate) fn into_rows(self) -> Vec<Receipt>
+        ensures rows { result.items ≡ receipts_that_count self.entry.rows }
+        ensures count { length result.items ≤ length self.entry.rows }
+        ensures within { All (IsReceipt self.entry.calendar.weeks self.entry.items) result.items }
+        ensures distinct { AllDiffer (orders_of result.items) }
+    {
+        let Receipts {
+            calendar: _,
+            items: _,
+            rows,
+            seen: _,
+        } = self;
+        that_count(rows)
+    }
+}
+
+fn that_count(mut rows: Vec<Receipt>) -> Vec<Receipt>
+    ensures { result.items ≡ receipts_that_count rows.items }
+{
+    rows.retain(|row| row.quantity.value() > 0);
+    rows
+}
