@@ -1,4 +1,13 @@
 pub mod Available
 pub mod Accepted
+pub mod ByItem
+pub mod Bucketed
+pub mod Carried
+pub mod Carrying
+pub mod Kept
 pub mod OnHand
 pub mod Supplied
+pub mod Rebooked
+pub mod Openings
+pub mod ItemRows
+pub mod Fresh

@@ -1,2 +1,4 @@
 pub mod Supply
 pub mod Lines
+pub mod AtpRow
+pub mod Buckets

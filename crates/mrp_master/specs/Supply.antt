@@ -1,5 +1,5 @@
 -- Supply, cover, and what is available to promise (APICS Dictionary: available-to-promise; profile: its exact rules).
-use Rattle.std.specs.Prelude.{ℕ, ◌≡◌, ◌≤◌, ◌+◌, ◌-◌, ◌==◌, ◌&&◌, Bool, true, false, IsTrue, if◌then◌else◌, nat_le, List, [], ◌∷◌, ◌++◌, map, filter, sum_by, length}
+use Rattle.std.specs.Prelude.{ℕ, ◌≡◌, ◌≤◌, ◌+◌, ◌-◌, ◌==◌, ◌&&◌, Bool, true, false, IsTrue, if◌then◌else◌, nat_le, List, [], ◌∷◌, ◌++◌, All, map, filter, sum_by, length}
 use Rattle.std.specs.List.{slice_index_or, range_with_len}
 use Rattle.mrp_qty.specs.Quantity.{greatest_quantity}
 use Rattle.mrp_tables.specs.declared.rows.MasterKind.{MasterKind}
@@ -10,12 +10,12 @@ use Rattle.mrp_tables.specs.Items.{is_master}
 use Rattle.mrp_tables.specs.Tables.{Tables}
 use Rattle.mrp_master.specs.declared.line.Line.{Line}
 
--- what promising reads of the tables: the weeks, which items are master items, what is on hand of each item, and the firm rows
+-- what promising reads of the tables: the weeks, which items are master items, and of each item what is on hand and its firm rows
 pub record Supply : Type 0 where
   pub weeks : ℕ
   pub masters : List Bool
   pub on_hand : List ℕ
-  pub firm : List Line
+  pub firm : List (List Line)
 
 abbrev pub IsMaster : Supply → ℕ → Type 0
 IsMaster s item = IsTrue (slice_index_or s.masters item false)
@@ -32,7 +32,7 @@ due_by item week lines = sum_by (λ l. if (l.item == item) && nat_le l.week week
 
 -- the supply of an item up to a week: what is on hand, and the firm rows up to the week
 abbrev pub supply : Supply → ℕ → ℕ → ℕ
-supply s item week = slice_index_or s.on_hand item 0 + due_by item week s.firm
+supply s item week = slice_index_or s.on_hand item 0 + due_by item week (slice_index_or s.firm item [])
 
 -- of no master item is more due up to any week than its supply up to that week
 abbrev pub IsCovered : Supply → List Line → Type 0
@@ -62,9 +62,9 @@ is_firm Forecast = false
 abbrev pub on_hand_of : List StockRow → ℕ → ℕ
 on_hand_of rows item = sum_by (λ r. r.on_hand) (filter (λ r. r.item == item) rows)
 
--- the firm rows of the master schedule
-abbrev pub firm_lines : List MasterRow → List Line
-firm_lines rows = map (λ r. line r.item r.week r.quantity) (filter (λ r. is_firm r.kind) rows)
+-- the firm rows of an item
+abbrev pub firm_lines : List MasterRow → ℕ → List Line
+firm_lines rows item = map (λ r. line r.item r.week r.quantity) (filter (λ r. (r.item == item) && is_firm r.kind) rows)
 
 -- what promising reads of the tables
 abbrev pub supply_of : Tables → Supply
@@ -72,11 +72,12 @@ supply_of t = record {
   weeks = t.calendar.weeks;
   masters = map (λ item. is_master item.class) t.items;
   on_hand = map (on_hand_of t.stock) (range_with_len 0 (length t.items));
-  firm = firm_lines t.master;
+  firm = map (firm_lines t.master) (range_with_len 0 (length t.items));
 }
 
--- what the supply of a shop keeps: weeks of a horizon, and no sum past the greatest quantity
+-- what the supply of a shop keeps: weeks of a horizon, firm rows in them, and no sum past the greatest quantity
 pub record IsSupply (s : Supply) : Type 0 where
   pub first : 1 ≤ s.weeks
   pub last : s.weeks ≤ 104
+  pub inside : (item : ℕ) → All (λ l. IsWeek s l.week) (slice_index_or s.firm item [])
   pub little : (item week : ℕ) → supply s item week ≤ greatest_quantity

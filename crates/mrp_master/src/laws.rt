@@ -1,7 +1,9 @@
 //! What follows from the definitions alone, each law the contract of a function that does nothing.
 
-ghost use Rattle.std.specs.Prelude.{◌≡◌, List, ℕ};
-ghost use Rattle.mrp_master.specs.Supply.{IsAvailable, IsCovered, IsLeastFrom, IsMaster, IsWeek, Supply, uncommitted};
+ghost use Rattle.std.specs.Prelude.{◌≡◌, ◌≢◌, ◌↔◌, ◌++◌, ◌∷◌, [], List, ℕ};
+ghost use Rattle.mrp_phase.specs.Weeks.{in_week, sum_to};
+ghost use Rattle.mrp_master.specs.AtpRow.{AtpRow, FromFirst, IsAtpRow, IsAvailableIn, IsCoveredRow, IsWeekOf, atp_row, bucket, buckets_to, with_booking, without_booking};
+ghost use Rattle.mrp_master.specs.Supply.{IsAvailable, IsCovered, IsLeastFrom, IsMaster, IsSupply, IsWeek, Supply, due_by, line, supply, uncommitted};
 
 /// What is available to promise.
 pub fn promising()
@@ -10,4 +12,35 @@ pub fn promising()
     ensures is_least { (s : Supply) (lines : List _) (item week quantity : ℕ) → IsMaster s item → IsWeek s week → IsAvailable s lines item week quantity → IsLeastFrom (uncommitted s lines item) week s.weeks quantity }
     // There is one such quantity.
     ensures one { (s : Supply) (lines : List _) (item week p q : ℕ) → IsAvailable s lines item week p → IsAvailable s lines item week q → p ≡ q }
+{}
+
+/// The row of an item: its supply, and what is due of it.
+pub fn rows()
+    // Up to each week of the horizon it has the item's supply, and what lines say is due.
+    ensures supply { (s : Supply) (lines : List _) (item week : ℕ) → IsSupply s → IsWeek s week → sum_to (atp_row s item lines).supply week ≡ supply s item week }
+    ensures booked { (s : Supply) (lines : List _) (item week : ℕ) → FromFirst lines → IsWeek s week → sum_to (atp_row s item lines).booked week ≡ due_by item week lines }
+    // A master item's row is covered where the lines are.
+    ensures covered { (s : Supply) (lines : List _) (item : ℕ) → IsSupply s → IsMaster s item → FromFirst lines → IsCovered s lines → IsAtpRow (atp_row s item lines) }
+    // So much fits into the row as into the lines, and so much is available.
+    ensures fits { (s : Supply) (lines : List _) (item week quantity : ℕ) → IsSupply s → IsMaster s item → FromFirst lines → IsCovered s lines → IsWeek s week
+        → IsCoveredRow (with_booking (atp_row s item lines) week quantity) ↔ IsCovered s (lines ++ line item week quantity ∷ []) }
+    ensures available { (s : Supply) (lines : List _) (item week quantity : ℕ) → IsSupply s → IsMaster s item → FromFirst lines → IsCovered s lines → IsWeek s week
+        → IsAvailableIn (atp_row s item lines) week quantity ↔ IsAvailable s lines item week quantity }
+    // A line of the item is a booking of its row, and of no other.
+    ensures more { (s : Supply) (lines : List _) (item week quantity : ℕ) → IsWeek s week → with_booking (atp_row s item lines) week quantity ≡ atp_row s item (lines ++ line item week quantity ∷ []) }
+    ensures more_of_another { (s : Supply) (lines : List _) (item other week quantity : ℕ) → item ≢ other → atp_row s item (lines ++ line other week quantity ∷ []) ≡ atp_row s item lines }
+    ensures less { (s : Supply) (before after : List _) (item week quantity : ℕ) → IsWeek s week
+        → without_booking (atp_row s item (before ++ line item week quantity ∷ after)) week quantity ≡ atp_row s item (before ++ after) }
+    ensures less_of_another { (s : Supply) (before after : List _) (item other week quantity : ℕ) → item ≢ other
+        → atp_row s item (before ++ line other week quantity ∷ after) ≡ atp_row s item (before ++ after) }
+{}
+
+/// The buckets of a row.
+pub fn buckets()
+    // Up to a week they add up to what is available in it.
+    ensures available { (r : AtpRow) (week : ℕ) → IsAtpRow r → IsWeekOf r week → IsAvailableIn r week (buckets_to r week) }
+    ensures promised { (s : Supply) (lines : List _) (item week : ℕ) → IsSupply s → IsMaster s item → FromFirst lines → IsCovered s lines → IsWeek s week
+        → IsAvailable s lines item week (buckets_to (atp_row s item lines) week) }
+    // A week in which nothing comes in has an empty one.
+    ensures empty { (r : AtpRow) (week : ℕ) → in_week r.supply week ≡ 0 → bucket r week ≡ 0 }
 {}

@@ -6,12 +6,15 @@ ghost use Rattle.mrp_qty.specs.Quantity.{greatest_quantity};
 ghost use Rattle.mrp_tables.specs.Facts.{AllDiffer, IsStockRow};
 ghost use Rattle.mrp_tables.specs.Items.{is_master};
 ghost use Rattle.mrp_tables.specs.Stock.{items_in_stock};
-ghost use Rattle.mrp_master.specs.Supply.{due_by, firm_lines, is_firm, line, on_hand_of};
+ghost use Rattle.mrp_phase.specs.Weeks.{row};
+ghost use Rattle.mrp_master.specs.AtpRow.{opening};
+ghost use Rattle.mrp_master.specs.Supply.{due_by, on_hand_of};
 
+use crate::firm::{FirmRows, firm_rows};
 use crate::line::{Line, is_master};
 use mrp_bill::Shop;
 use mrp_qty::{NoMemory, Qty};
-use mrp_tables::{Item, MasterKind, MasterRow, StockRow};
+use mrp_tables::{Item, StockRow};
 use std::alloc::Global;
 use std::marker::Model;
 
@@ -22,7 +25,7 @@ pub struct Supply {
     weeks: u16,
     masters: Vec<bool>,
     on_hand: Vec<Qty>,
-    firm: Vec<Line>,
+    firm: FirmRows,
 }
 
 impl Model for Supply {
@@ -30,9 +33,9 @@ impl Model for Supply {
 
     ghost Value = { Supply };
 
-    ghost view = { λ s. record { weeks = s.weeks; masters = s.masters.items; on_hand = s.on_hand.items; firm = s.firm.items } };
+    ghost view = { λ s. record { weeks = s.weeks; masters = s.masters.items; on_hand = s.on_hand.items; firm = s.firm } };
 
-    ghost invariant = { λ s. IsSupply (record { weeks = s.weeks; masters = s.masters.items; on_hand = s.on_hand.items; firm = s.firm.items }) };
+    ghost invariant = { λ s. IsSupply (record { weeks = s.weeks; masters = s.masters.items; on_hand = s.on_hand.items; firm = s.firm }) };
 }
 
 impl Supply {
@@ -52,7 +55,7 @@ impl Supply {
             weeks: tables.calendar().weeks(),
             masters: masters(alloc, items)?,
             on_hand: on_hand(alloc, items, tables.stock())?,
-            firm: firm_lines(alloc, tables.master())?,
+            firm: firm_rows(alloc, items.len(), tables.master())?,
         })
     }
 
@@ -79,16 +82,39 @@ impl Supply {
     pub fn up_to(&self, item: usize, week: u16) -> Qty
         ensures { result ≡ supply self.now item week }
     {
-        let on_hand = match self.on_hand.get(item) {
-            Some(on_hand) => on_hand.value(),
-            None => 0,
-        };
-        quantity(on_hand + due_by(item, week, &self.firm))
+        quantity(self.stock(item).value() + due_by(item, week, self.firm.of(item)))
+    }
+
+    // What is on hand of an item; nothing where there is no such item.
+    fn stock(&self, item: usize) -> Qty
+        ensures value { result ≡ slice_index_or self.now.on_hand item 0 }
+        ensures kept { IsSupply self.now }
+    {
+        match self.on_hand.get(item) {
+            Some(on_hand) => *on_hand,
+            None => quantity(0),
+        }
+    }
+
+    // What comes in of an item in each week: its firm rows, and in week 1 what is on hand.
+    pub(crate) fn openings(&self, alloc: Global, item: usize) -> Result<Vec<Qty>, NoMemory>
+        ensures value { IfOk result (λ openings. openings.items ≡ row self.now.weeks (opening self.now item)) }
+        ensures kept { IsSupply self.now }
+    {
+        let mut openings = vec![in alloc; quantity(0); usize::from(self.weeks)]?;
+        openings[0] = self.stock(item);
+        for line in self.firm.of(item) {
+            if line.item == item {
+                let place = usize::from(line.week) - 1;
+                openings[place] = quantity(openings[place].value() + line.quantity.value());
+            }
+        }
+        Ok(openings)
     }
 }
 
 // A number of pieces as a quantity.
-fn quantity(pieces: u64) -> Qty
+pub(crate) fn quantity(pieces: u64) -> Qty
     requires { pieces ≤ greatest_quantity }
     ensures { result ≡ pieces }
 {
@@ -134,36 +160,4 @@ fn on_hand(alloc: Global, items: &[Item], rows: &[StockRow]) -> Result<Vec<Qty>,
         on_hand[row.item] = row.on_hand;
     }
     Ok(on_hand)
-}
-
-fn is_firm(kind: MasterKind) -> bool
-    ensures { result ≡ is_firm kind }
-{
-    match kind {
-        MasterKind::Firm => true,
-        MasterKind::Forecast => false,
-    }
-}
-
-fn line_of(row: &MasterRow) -> Line
-    ensures { result ≡ line row.now.item row.now.week row.now.quantity }
-{
-    Line {
-        item: row.item,
-        week: row.week,
-        quantity: row.quantity,
-    }
-}
-
-// The firm rows, as lines.
-fn firm_lines(alloc: Global, rows: &[MasterRow]) -> Result<Vec<Line>, NoMemory>
-    ensures { IfOk result (λ lines. lines.items ≡ firm_lines rows.now) }
-{
-    let mut lines = Vec::new(alloc);
-    for row in rows {
-        if is_firm(row.kind) {
-            lines.push(line_of(row))?;
-        }
-    }
-    Ok(lines)
 }

@@ -1,0 +1,79 @@
+-- An item's supply and bookings, week by week, and its buckets (APICS Dictionary: available-to-promise; profile: its exact rules).
+use Rattle.std.specs.Prelude.{ℕ, zero, suc, ◌≡◌, ◌≤◌, ◌<◌, ◌+◌, ◌-◌, ◌==◌, ◌&&◌, if◌then◌else◌, List, [], Option, Some, None, All, length, sum_by}
+use Rattle.std.specs.List.{slice_index_or}
+use Rattle.mrp_phase.specs.Weeks.{in_week, row, sum_to, with_week}
+use Rattle.mrp_master.specs.declared.line.Line.{Line}
+use Rattle.mrp_master.specs.Supply.{Supply}
+
+-- what opens in each week, and what is booked that is due in it
+pub record AtpRow : Type 0 where
+  pub supply : List ℕ
+  pub booked : List ℕ
+
+abbrev pub IsWeekOf : AtpRow → ℕ → Type 0
+IsWeekOf r week = (1 ≤ week) × (week ≤ length r.supply)
+
+-- up to no week is more booked than supplied
+abbrev pub IsCoveredRow : AtpRow → Type 0
+IsCoveredRow r = (week : ℕ) → IsWeekOf r week → sum_to r.booked week ≤ sum_to r.supply week
+
+-- a row with so much booked in a week
+abbrev pub with_booked : AtpRow → ℕ → ℕ → AtpRow
+with_booked r week quantity = record { supply = r.supply; booked = with_week r.booked week quantity }
+
+-- a row with one more booking, and with one less
+abbrev pub with_booking : AtpRow → ℕ → ℕ → AtpRow
+with_booking r week quantity = with_booked r week (in_week r.booked week + quantity)
+
+abbrev pub without_booking : AtpRow → ℕ → ℕ → AtpRow
+without_booking r week quantity = with_booked r week (in_week r.booked week - quantity)
+
+-- available to promise: the greatest quantity of which one more booking leaves the row covered
+pub record IsAvailableIn (r : AtpRow) (week quantity : ℕ) : Type 0 where
+  pub fits : IsCoveredRow (with_booking r week quantity)
+  pub greatest : (more : ℕ) → IsCoveredRow (with_booking r week more) → more ≤ quantity
+
+-- the least week in which one more booking of so much leaves the row covered, or none
+abbrev pub IsEarliestIn : AtpRow → ℕ → Option ℕ → Type 0
+IsEarliestIn r quantity None = (week : ℕ) → IsWeekOf r week → ¬ IsCoveredRow (with_booking r week quantity)
+IsEarliestIn r quantity (Some week) =
+    IsWeekOf r week × IsCoveredRow (with_booking r week quantity)
+    × ((sooner : ℕ) → IsWeekOf r sooner → sooner < week → ¬ IsCoveredRow (with_booking r sooner quantity))
+
+-- Buckets.
+
+-- what the weeks from a week on, so many, lack and take from the bucket before
+unfoldable pub lacking : AtpRow → ℕ → ℕ → ℕ
+lacking r zero week = 0
+lacking r (suc more) week = in_week r.booked week + lacking r more (suc week) - in_week r.supply week
+
+-- a week's carried bucket: what opens in it, less what is due in it and what the later weeks lack
+abbrev pub bucket : AtpRow → ℕ → ℕ
+bucket r week = in_week r.supply week - (in_week r.booked week + lacking r (length r.supply - week) (suc week))
+
+-- the buckets up to a week, together
+abbrev pub buckets_to : AtpRow → ℕ → ℕ
+buckets_to r week = sum_to (row (length r.supply) (bucket r)) week
+
+-- The row of an item.
+
+-- none is due before week 1
+abbrev pub FromFirst : List Line → Type 0
+FromFirst lines = All (λ l. 1 ≤ l.week) lines
+
+-- the quantity of an item that is due in a week
+abbrev pub due_in : ℕ → ℕ → List Line → ℕ
+due_in item week lines = sum_by (λ l. if (l.item == item) && (l.week == week) then l.quantity else 0) lines
+
+-- what opens in a week: its firm quantity, and in week 1 what is on hand
+abbrev pub opening : Supply → ℕ → ℕ → ℕ
+opening s item week = (if week == 1 then slice_index_or s.on_hand item 0 else 0) + due_in item week (slice_index_or s.firm item [])
+
+abbrev pub atp_row : Supply → ℕ → List Line → AtpRow
+atp_row s item lines = record { supply = row s.weeks (opening s item); booked = row s.weeks (λ week. due_in item week lines) }
+
+-- what every row keeps
+pub record IsAtpRow (r : AtpRow) : Type 0 where
+  pub weeks : length r.supply ≤ 104
+  pub same : length r.booked ≡ length r.supply
+  pub covered : IsCoveredRow r
