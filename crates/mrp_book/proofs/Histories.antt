@@ -1,16 +1,20 @@
 -- Legal histories: each prefix is covered, and the calls decide the replies.
 use Rattle.std.proofs.Common.{ℕ, ◌≡◌, ◌≤◌, ◌<◌, ◌⊎◌, inl, inr, true, false, if◌then◌else◌, nat_le, List, [], ◌∷◌, ◌++◌, Option, Some, None, arith, refl, sym, ◌∙◌, ap, subst}
 use Rattle.std.proofs.lemmas.Bool.Decides.{nat_tests}
+use Rattle.std.specs.Prelude.{All, filter}
 use Rattle.std.proofs.lemmas.List.{append-nil, map-append}
+use Rattle.std.proofs.lemmas.List.Elements.{All-append, All-cons, All-filter, All-nil}
 use Rattle.mrp_turn.specs.declared.log.Entry.{Entry}
+use Rattle.mrp_book.specs.declared.booking.Booking.{Booking}
 use Rattle.mrp_book.specs.declared.call.Call.{Call}
 use Rattle.mrp_book.specs.declared.call.Call.TheVariants as call
 use Rattle.mrp_book.specs.declared.reply.Reply.{Reply}
 use Rattle.mrp_book.specs.declared.reply.Reply.TheVariants as reply
 use Rattle.mrp_master.specs.declared.line.Line.{Line}
-use Rattle.mrp_master.specs.Supply.{Supply, IsCovered}
-use Rattle.mrp_book.specs.Standing.{History, standing, kept, booking_of, booked, lines_of}
-use Rattle.mrp_book.specs.History.{next_number, IsEarliest, week_reply, IsReply, MayFollow, IsLegal, asked}
+use Rattle.mrp_master.specs.Supply.{Supply, IsCovered, IsMaster, IsWeek}
+use Rattle.mrp_book.specs.Bookings.{lines_of}
+use Rattle.mrp_book.specs.Standing.{History, standing, kept, booking_of, booked}
+use Rattle.mrp_book.specs.History.{next_number, Fits, IsEarliest, week_reply, IsReply, MayFollow, IsLegal, asked}
 use Rattle.mrp_master.proofs.Available.{available_unique}
 use Rattle.mrp_book.proofs.Logs.{InTurn, walk, each-none, each-more, each-front, one-more}
 use Rattle.mrp_book.proofs.Standings.{standing-more, not_cancelled, covered-fewer, covered-less}
@@ -77,6 +81,32 @@ module _ (s : Supply) where
 
   pub prefix-covered : (h more : History) → IsLegal s (h ++ more) → IsCovered s (booked h)
   prefix-covered h more legal = legal-covered h (legal-front h more legal)
+
+  -- What stands is of the shop.
+
+  abbrev pub IsInShop : Booking → Type 0
+  IsInShop b = IsMaster s b.line.item × IsWeek s b.line.week
+
+  made_in_shop : (desk : ℕ) (c : Call) (r : Reply) → Fits s c → All IsInShop (kept [] (booking_of desk c r))
+  made_in_shop desk (call.Book l) (reply.Booked n) fits = All-cons IsInShop _ [] fits (All-nil IsInShop)
+  made_in_shop desk c r fits = All-nil IsInShop
+
+  lines-more : (h : History) (e : E) → MayFollow s h e → All IsInShop (standing h) → All IsInShop (standing (h ++ e ∷ []))
+  lines-more h e m all =
+      subst (All IsInShop) (sym (standing-more h e))
+      (All-append IsInShop (filter (not_cancelled e.call e.reply) (standing h)) (kept [] (booking_of e.who e.call e.reply))
+      (All-filter (not_cancelled e.call e.reply) IsInShop (standing h) all) (made_in_shop e.who e.call e.reply m.2))
+
+  lines-from : (before h : History) → IsLegalFrom s before h → All IsInShop (standing before) → All IsInShop (standing (before ++ h))
+  lines-from before [] w all = subst (λ x. All IsInShop (standing x)) (sym (append-nil before)) all
+  lines-from before (e ∷ h) w all = subst (λ x. All IsInShop (standing x)) (sym (one-more before e h)) (lines-from (before ++ e ∷ []) h w.1 (lines-more before e w.0 all))
+
+  nothing-in-shop : All IsInShop (standing [])
+  unfolding standing
+  nothing-in-shop = All-nil IsInShop
+
+  pub legal-lines : (h : History) → IsLegal s h → All IsInShop (standing h)
+  legal-lines h legal = lines-from [] h (walk (MayFollow s) [] h legal) nothing-in-shop
 
   -- The calls decide the replies.
 

@@ -2,5 +2,11 @@ pub mod Logs
 pub mod Standings
 pub mod Histories
 pub mod Promised
-pub mod Promises
-pub mod Books
+pub mod Numbers
+pub mod Earliest
+pub mod AllRows
+pub mod States
+pub mod Demands
+pub mod Entries
+pub mod Replies
+pub mod SnapshotBookings

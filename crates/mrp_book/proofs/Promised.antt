@@ -1,5 +1,5 @@
 -- What legal histories keep: what was promised, what was snapped, and who called.
-use Rattle.std.proofs.Common.{ℕ, ◌≡◌, ◌≤◌, ◌+◌, ◌==◌, inl, inr, true, false, if◌then◌else◌, nat_le, List, [], ◌∷◌, ◌++◌, find, take, length, Option, Some, None, arith, refl, sym, ◌∙◌, ap, subst}
+use Rattle.std.proofs.Common.{ℕ, ◌≡◌, ◌+◌, ◌==◌, inl, inr, true, false, if◌then◌else◌, nat_le, [], ◌∷◌, ◌++◌, find, take, length, Option, Some, None, arith, refl, sym, ◌∙◌, ap}
 use Rattle.std.proofs.lemmas.Bool.Decides.{nat_tests}
 use Rattle.std.proofs.lemmas.List.{length_push, take_at}
 use Rattle.mrp_turn.specs.Log.{entry, AreFrom}
@@ -43,7 +43,7 @@ module _ (s : Supply) where
   when_takes_none (Some w) t e = cc
 
   -- a snapshot is what a call for it is answered, and no other call
-  taken : (h : History) (desk : ℕ) (c : Call) (t : Snapshot) → IsReply s h desk c (reply.Taken t) → (c ≡ call.Snapshot) × (t ≡ record { front = next_number h; standing = standing h })
+  taken : (h : History) (desk : ℕ) (c : Call) (t : Snapshot) → IsReply s h desk c (reply.Taken t) → (c ≡ call.Snapshot) × (t ≡ record { front = next_number h; weeks = s.weeks; standing = standing h })
   taken h desk (call.Book l) t (a, available, e) = absurd ((elim (nat_le l.quantity a) as (λ v. reply.Taken t ≡ (if v then reply.Booked (next_number h) else reply.Short a) → ⊥) [ true ↦ λ e. cc | false ↦ λ e. cc ]) e)
   taken h desk (call.Cancel n) t e = absurd (cancel_takes_none desk (find (λ b. b.number == n) (standing h)) t e)
   taken h desk (call.Ask p) t (a, available, e) = absurd cc

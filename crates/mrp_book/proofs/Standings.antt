@@ -1,7 +1,7 @@
 -- What stands after one more entry.
 use Rattle.std.specs.Prelude.{filter, not}
 use Rattle.std.specs.List.{list_any}
-use Rattle.std.proofs.Common.{ℕ, ◌≡◌, ◌≤◌, ◌+◌, ◌==◌, ◌&&◌, ◌||◌, Bool, true, false, if◌then◌else◌, nat_le, List, [], ◌∷◌, ◌++◌, map, take, drop, Option, Some, None, arith, refl, sym, ◌∙◌, ap, append_assoc}
+use Rattle.std.proofs.Common.{ℕ, ◌≡◌, ◌≤◌, ◌+◌, ◌==◌, ◌&&◌, ◌||◌, Bool, true, false, if◌then◌else◌, nat_le, List, [], ◌∷◌, ◌++◌, take, drop, Option, Some, None, arith, refl, sym, ◌∙◌, ap, append_assoc}
 use Rattle.std.proofs.lemmas.Bool.Decides.{nat_tests}
 use Rattle.std.proofs.lemmas.List.{append-nil, map-append, take-append-drop}
 use Rattle.std.proofs.lemmas.List.Elements.{filter-append}
@@ -16,7 +16,8 @@ use Rattle.mrp_book.specs.declared.reply.Reply.{Reply}
 use Rattle.mrp_book.specs.declared.reply.Reply.TheVariants as reply
 use Rattle.mrp_turn.specs.Log.{entry}
 use Rattle.mrp_master.specs.Supply.{Supply, due_by, supply, line, IsCovered}
-use Rattle.mrp_book.specs.Standing.{History, standing, kept, booking_of, is_cancel_of, is_cancelled_in, lines_of, stands_after}
+use Rattle.mrp_book.specs.Standing.{History, standing, kept, booking_of, is_cancel_of, is_cancelled_in, stands_after}
+use Rattle.mrp_book.specs.Bookings.{lines_of}
 use Rattle.mrp_master.proofs.Available.{share, due_by_more}
 
 -- the bookings that an entry leaves

@@ -9,7 +9,9 @@ use Rattle.mrp_book.specs.declared.reply.Reply.TheVariants as reply
 use Rattle.mrp_master.specs.declared.line.Line.{Line}
 use Rattle.mrp_master.specs.Supply.{Supply, IsMaster, IsWeek, IsAvailable}
 use Rattle.mrp_turn.specs.Log.{EachFollows, IsSeatNumber}
-use Rattle.mrp_book.specs.Standing.{History, standing, booked}
+use Rattle.mrp_book.specs.BookState.{BookState}
+use Rattle.mrp_book.specs.Bookings.{lines_of}
+use Rattle.mrp_book.specs.Standing.{History, standing, stands_after}
 
 -- the number of the entry after a history
 abbrev pub next_number : History → ℕ
@@ -35,28 +37,28 @@ abbrev pub cancel_reply : ℕ → Option Booking → Reply
 cancel_reply desk None = reply.NotStanding
 cancel_reply desk (Some b) = if b.desk == desk then reply.Cancelled else reply.NotYours
 
+-- the reply to a desk's call in a state
+abbrev pub IsReplyIn : BookState → ℕ → Call → Reply → Type 0
+IsReplyIn b desk (call.Book l) r =
+    (available : ℕ) × IsAvailable b.supply (lines_of b.standing) l.item l.week available
+    × (r ≡ (if nat_le l.quantity available then reply.Booked (b.entries + 1) else reply.Short available))
+IsReplyIn b desk (call.Cancel n) r = r ≡ cancel_reply desk (find (λ b. b.number == n) b.standing)
+IsReplyIn b desk (call.Ask p) r = (available : ℕ) × IsAvailable b.supply (lines_of b.standing) p.item p.week available × (r ≡ reply.Available available)
+IsReplyIn b desk (call.When w) r = (week : Option ℕ) × IsEarliest b.supply (lines_of b.standing) w.item w.quantity week × (r ≡ week_reply week)
+IsReplyIn b desk call.Snapshot r = r ≡ reply.Taken (record { front = b.entries + 1; weeks = b.supply.weeks; standing = b.standing })
+IsReplyIn b desk call.Front r = r ≡ reply.Front (b.entries + 1)
+
+-- the state that an entry leaves
+abbrev pub state_after : BookState → ℕ → Call → Reply → BookState
+state_after b desk c r = record { supply = b.supply; entries = b.entries + 1; standing = stands_after desk c r b.standing }
+
+-- the state that a history leaves
+abbrev pub state_of : Supply → History → BookState
+state_of s h = record { supply = s; entries = length h; standing = standing h }
+
 -- the reply to a desk's call after a history
 abbrev pub IsReply : Supply → History → ℕ → Call → Reply → Type 0
-IsReply s h desk (call.Book l) r =
-    (available : ℕ) × IsAvailable s (booked h) l.item l.week available
-    × (r ≡ (if nat_le l.quantity available then reply.Booked (next_number h) else reply.Short available))
-IsReply s h desk (call.Cancel n) r = r ≡ cancel_reply desk (find (λ b. b.number == n) (standing h))
-IsReply s h desk (call.Ask p) r = (available : ℕ) × IsAvailable s (booked h) p.item p.week available × (r ≡ reply.Available available)
-IsReply s h desk (call.When w) r = (week : Option ℕ) × IsEarliest s (booked h) w.item w.quantity week × (r ≡ week_reply week)
-IsReply s h desk call.Snapshot r = r ≡ reply.Taken (record { front = next_number h; standing = standing h })
-IsReply s h desk call.Front r = r ≡ reply.Front (next_number h)
-
--- an entry that may follow a history
-abbrev pub MayFollow : Supply → History → Entry Call Reply → Type 0
-MayFollow s h e = IsSeatNumber e.who × IsReply s h e.who e.call e.reply
-
--- the entries before an entry decide its reply
-abbrev pub IsLegal : Supply → History → Type 0
-IsLegal s h = EachFollows (MayFollow s) h
-
--- a book that takes no more entries
-abbrev pub IsFull : History → Type 0
-IsFull h = 1000000 ≤ length h
+IsReply s h desk c r = IsReplyIn (state_of s h) desk c r
 
 -- a call whose item is a master item of the shop, in a week of its horizon
 abbrev pub Fits : Supply → Call → Type 0
@@ -66,6 +68,33 @@ Fits s (call.When w) = IsMaster s w.item
 Fits s (call.Cancel n) = Unit {0}
 Fits s call.Snapshot = Unit {0}
 Fits s call.Front = Unit {0}
+
+-- an entry that may follow a history
+abbrev pub MayFollow : Supply → History → Entry Call Reply → Type 0
+MayFollow s h e = IsSeatNumber e.who × IsReply s h e.who e.call e.reply × Fits s e.call
+
+-- the entries before an entry decide its reply
+abbrev pub IsLegal : Supply → History → Type 0
+IsLegal s h = EachFollows (MayFollow s) h
+
+-- so many entries that a book takes no more
+abbrev pub IsLimit : ℕ → Type 0
+IsLimit entries = 1000000 ≤ entries
+
+-- a book that takes no more entries
+abbrev pub IsFull : History → Type 0
+IsFull h = IsLimit (length h)
+
+-- a call that can be refused for want of memory
+abbrev pub TakesMemory : Call → Type 0
+TakesMemory (call.Book l) = Unit {0}
+TakesMemory call.Snapshot = Unit {0}
+TakesMemory c = ⊥
+
+-- a reply that has a snapshot
+abbrev pub HasSnapshot : Reply → Type 0
+HasSnapshot (reply.Taken t) = Unit {0}
+HasSnapshot r = ⊥
 
 -- who called what, in order
 abbrev pub asked : History → List (ℕ × Call)

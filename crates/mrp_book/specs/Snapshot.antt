@@ -2,7 +2,8 @@
 use Rattle.std.specs.Prelude.{ℕ, List}
 use Rattle.mrp_book.specs.declared.booking.Booking.{Booking}
 
--- the entry's number, and the bookings that stand, by their numbers
+-- the entry's number, the weeks of the horizon, and the bookings that stand, by their numbers
 pub record Snapshot : Type 0 where
   pub front : ℕ
+  pub weeks : ℕ
   pub standing : List Booking

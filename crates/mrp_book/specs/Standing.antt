@@ -1,5 +1,5 @@
 -- The bookings that stand in a history.
-use Rattle.std.specs.Prelude.{ℕ, ◌==◌, Bool, false, if◌then◌else◌, List, [], ◌∷◌, ◌++◌, map, filter, not, Option, Some, None}
+use Rattle.std.specs.Prelude.{ℕ, ◌==◌, Bool, false, if◌then◌else◌, List, [], ◌∷◌, ◌++◌, filter, not, Option, Some, None}
 use Rattle.std.specs.List.{list_any}
 use Rattle.mrp_turn.specs.declared.log.Entry.{Entry}
 use Rattle.mrp_master.specs.declared.line.Line.{Line}
@@ -8,6 +8,7 @@ use Rattle.mrp_book.specs.declared.call.Call.{Call}
 use Rattle.mrp_book.specs.declared.call.Call.TheVariants as call
 use Rattle.mrp_book.specs.declared.reply.Reply.{Reply}
 use Rattle.mrp_book.specs.declared.reply.Reply.TheVariants as reply
+use Rattle.mrp_book.specs.Bookings.{lines_of}
 
 abbrev pub History : Type 0
 History = List (Entry Call Reply)
@@ -34,10 +35,6 @@ kept later (Some b) = if is_cancelled_in later b.number then [] else b ∷ []
 unfoldable pub standing : History → List Booking
 standing [] = []
 standing (e ∷ later) = kept later (booking_of e.who e.call e.reply) ++ standing later
-
--- bookings, as quantities due
-abbrev pub lines_of : List Booking → List Line
-lines_of bookings = map (λ b. b.line) bookings
 
 -- what stands, as quantities due
 abbrev pub booked : History → List Line

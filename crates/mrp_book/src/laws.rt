@@ -1,12 +1,13 @@
 //! What follows from the definitions alone, each law the contract of a function that does nothing.
 
-ghost use Rattle.std.specs.Prelude.{◌≡◌, ◌++◌, ◌∷◌, [], ℕ, take};
+ghost use Rattle.std.specs.Prelude.{◌≡◌, ◌++◌, ◌∷◌, [], ℕ, All, take};
 ghost use Rattle.mrp_turn.specs.Log.{AreFrom, entry};
-ghost use Rattle.mrp_master.specs.Supply.{IsCovered, Supply};
+ghost use Rattle.mrp_master.specs.Supply.{IsCovered, IsMaster, IsWeek, Supply};
+ghost use Rattle.mrp_book.specs.BookState.{BookState};
 ghost use Rattle.mrp_book.specs.declared.call.Call.TheVariants as call;
 ghost use Rattle.mrp_book.specs.declared.reply.Reply.TheVariants as reply;
 ghost use Rattle.mrp_book.specs.Standing.{booked, standing, stands_after, History};
-ghost use Rattle.mrp_book.specs.History.{CanPromise, IsLegal, IsReply, MayFollow, asked, next_number};
+ghost use Rattle.mrp_book.specs.History.{CanPromise, IsLegal, IsReply, MayFollow, asked, next_number, state_after, state_of};
 
 /// Legal histories.
 pub fn histories()
@@ -18,6 +19,8 @@ pub fn histories()
     ensures one_reply { (s : Supply) (h : History) (desk : ℕ) (c : _) (q r : _) → IsReply s h desk c q → IsReply s h desk c r → q ≡ r }
     // Legal histories with the same calls are the same.
     ensures one_history { (s : Supply) (g h : History) → IsLegal s g → IsLegal s h → asked g ≡ asked h → g ≡ h }
+    // What stands is of master items, in weeks of the horizon.
+    ensures lines { (s : Supply) (h : History) → IsLegal s h → All (λ b. IsMaster s b.line.item × IsWeek s b.line.week) (standing h) }
     // Each desk's number is from 1 to 64.
     ensures desks { (s : Supply) (h : History) → IsLegal s h → AreFrom 64 h }
 {}
@@ -40,4 +43,12 @@ pub fn snapshots()
     ensures before { (s : Supply) (before after : History) (desk : ℕ) (c t : _) → IsLegal s (before ++ entry desk c (reply.Taken t) ∷ after) → t.standing ≡ standing before }
     // These stand after as many entries of the history as its front counts.
     ensures at_front { (s : Supply) (h before after : History) (desk : ℕ) (c t : _) → IsLegal s h → h ≡ before ++ entry desk c (reply.Taken t) ∷ after → t.standing ≡ standing (take t.front h) }
+{}
+
+/// States of the book.
+pub fn states()
+    // A history without an entry leaves the state that a book opens with.
+    ensures none { (s : Supply) → state_of s [] ≡ record { supply = s; entries = 0; standing = [] } }
+    // One more entry changes the state that a history leaves as it changes any.
+    ensures more { (s : Supply) (h : History) (desk : ℕ) (c r : _) → state_of s (h ++ entry desk c r ∷ []) ≡ state_after (state_of s h) desk c r }
 {}

@@ -29,13 +29,16 @@ pub enum Reply {
 }
 
 impl Reply {
-    ghost use Rattle.std.specs.Prelude.{◌≡◌, IfOk};
+    ghost use Rattle.std.specs.Prelude.{◌≡◌, IfOk, OnErr};
+    ghost use Rattle.mrp_book.specs.History.{HasSnapshot};
 
     /// An equal reply.
     ///
-    /// Errors: `NoMemory` where a count of sharers could not rise.
+    /// Errors: `NoMemory` where the count of a snapshot's sharers could not rise. No other reply is
+    /// refused.
     pub fn copy(&self) -> Result<Reply, NoMemory>
-        ensures { IfOk result (λ r. r ≡ self.now) }
+        ensures copy { IfOk result (λ r. r ≡ self.now) }
+        ensures memory { OnErr result (HasSnapshot self.now) }
     {
         match self {
             Reply::Booked(number) => Ok(Reply::Booked(*number)),

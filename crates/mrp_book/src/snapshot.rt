@@ -1,38 +1,77 @@
 //! What stands of the bookings at an entry of the order book.
 
+ghost use Rattle.std.specs.Prelude.{◌≡◌, ◌↔◌, ◌≤◌, IsTrue, sum_by};
+ghost use Rattle.mrp_qty.specs.Quantity.{greatest_quantity};
+
 use crate::booking::Booking;
-use mrp_qty::NoMemory;
+use mrp_master::Line;
+use mrp_phase::{PhaseFault, Weeks};
+use mrp_qty::{NoMemory, Qty};
 use std::alloc::Global;
 use std::marker::Model;
 use std::sync::Arc;
 
-/// What stands at an entry of the book: the entry's number, and the standing bookings.
+/// What stands at an entry of the book: the entry's number, the weeks of the horizon, and the
+/// standing bookings.
 #[derive(Drop)]
 pub struct Snapshot {
     front: u64,
+    weeks: u16,
     standing: Arc<Vec<Booking>>,
 }
 
 impl Model for Snapshot {
+    ghost use Rattle.mrp_book.specs.Bookings.{AreLittle};
     ghost use Rattle.mrp_book.specs.Snapshot.{Snapshot};
 
     ghost Value = { Snapshot };
 
-    ghost view = { λ s. record { front = s.front; standing = s.standing.value.items } };
+    ghost view = { λ s. record { front = s.front; weeks = s.weeks; standing = s.standing.value.items } };
+
+    ghost invariant = { λ s. AreLittle s.weeks s.standing.value.items };
 }
 
 impl Snapshot {
-    ghost use Rattle.std.specs.Prelude.{◌≡◌, IfOk};
+    ghost use Rattle.std.specs.Prelude.{◌≡◌, ◌<◌, IfOk, IsErrOf, sum_by};
+    ghost use Rattle.mrp_qty.specs.Quantity.{greatest_quantity};
+    ghost use Rattle.mrp_phase.specs.Weeks.{row};
+    ghost use Rattle.mrp_master.specs.AtpRow.{due_in};
+    ghost use Rattle.mrp_book.specs.Bookings.{AreLittle, lines_of};
     ghost use Rattle.mrp_book.specs.Snapshot.{Snapshot};
 
-    /// What stands at an entry, by its number, the bookings by their numbers.
+    /// What stands at an entry, by its number, in a horizon of so many weeks, the bookings by their
+    /// numbers.
     ///
-    /// Errors: `NoMemory` where memory is refused.
-    pub fn new(alloc: Global, front: u64, standing: Vec<Booking>) -> Result<Snapshot, NoMemory>
-        ensures { IfOk result (λ s. s ≡ record { front = front; standing = standing.items }) }
+    /// Errors: `TooLarge` where all bookings together have more than 10^15 pieces, `NoMemory` where
+    /// memory is refused.
+    pub fn new(
+        alloc: Global,
+        front: u64,
+        weeks: u16,
+        standing: Vec<Booking>,
+    ) -> Result<Snapshot, PhaseFault>
+        ensures value { IfOk result (λ s. s ≡ record { front = front; weeks = weeks; standing = standing.items }) }
+        ensures too_large { IsErrOf result PhaseFault.TooLarge → greatest_quantity < sum_by (λ b. b.line.quantity) standing.items }
+    {
+        if !is_little(&standing) {
+            return Err(PhaseFault::TooLarge);
+        }
+        Snapshot::of(alloc, front, weeks, standing).map_err(|_| PhaseFault::NoMemory)
+    }
+
+    // What stands at an entry, where no week has too many pieces of an item.
+    pub(crate) fn of(
+        alloc: Global,
+        front: u64,
+        weeks: u16,
+        standing: Vec<Booking>,
+    ) -> Result<Snapshot, NoMemory>
+        requires { AreLittle weeks standing.items }
+        ensures { IfOk result (λ s. s ≡ record { front = front; weeks = weeks; standing = standing.items }) }
     {
         Ok(Snapshot {
             front,
+            weeks,
             standing: Arc::new(alloc, standing)?,
         })
     }
@@ -44,11 +83,35 @@ impl Snapshot {
         self.front
     }
 
+    /// The weeks of the horizon.
+    pub fn weeks(&self) -> u16
+        ensures { result ≡ self.now.weeks }
+    {
+        self.weeks
+    }
+
     /// The bookings that stand, by their numbers.
     pub fn standing(&self) -> &[Booking]
         ensures { result.now ≡ self.now.standing }
     {
         self.standing.as_slice()
+    }
+
+    /// What is booked of an item in each week of the horizon, in pieces.
+    ///
+    /// Errors: `NoMemory` where memory is refused.
+    pub fn demand(&self, alloc: Global, item: usize) -> Result<Weeks<Qty>, NoMemory>
+        ensures { IfOk result (λ demand. demand ≡ row self.now.weeks (λ week. due_in item week (lines_of self.now.standing))) }
+    {
+        let weeks = self.weeks;
+        let mut demand = Weeks::zero(alloc, weeks).map_err(|_| NoMemory)?;
+        for booking in self.standing.as_slice() {
+            let line = &booking.line;
+            if is_in(line, item, weeks) {
+                demand.add_at(line.week, line.quantity).unwrap();
+            }
+        }
+        Ok(demand)
     }
 
     /// An equal snapshot, which shares the bookings.
@@ -59,7 +122,29 @@ impl Snapshot {
     {
         Ok(Snapshot {
             front: self.front,
+            weeks: self.weeks,
             standing: self.standing.clone()?,
         })
     }
+}
+
+// Whether a line is of an item, and in a horizon of so many weeks.
+fn is_in(line: &Line, item: usize, weeks: u16) -> bool
+    ensures { IsTrue result ↔ ((line.now.item ≡ item) × (1 ≤ line.now.week) × (line.now.week ≤ weeks)) }
+{
+    line.item == item && 1 <= line.week && line.week <= weeks
+}
+
+// Whether the bookings together have at most 10^15 pieces.
+fn is_little(bookings: &[Booking]) -> bool
+    ensures { IsTrue result ↔ (sum_by (λ b. b.line.quantity) bookings.now ≤ greatest_quantity) }
+{
+    let mut pieces = Qty::new(0).unwrap();
+    for booking in bookings {
+        match pieces.add(booking.line.quantity) {
+            Some(sum) => pieces = sum,
+            None => return false,
+        }
+    }
+    true
 }

@@ -4,6 +4,7 @@ ghost use Rattle.mrp_book.specs.History.{Fits};
 
 use super::*;
 use mrp_bill::{Bill, Shop};
+use mrp_phase::PhaseFault;
 use mrp_qty::Qty;
 use mrp_rows::split_bundle;
 use mrp_tables::Tables;
@@ -39,13 +40,26 @@ struct Day {
     ghost same_shop: { book.supply ≡ supply_of shop.tables },
 }
 
+fn bicycles(alloc: Global) -> Result<Shop, Fail> {
+    let sections = split_bundle(BICYCLES.as_bytes())?;
+    let tables = Tables::read(alloc, &sections)?;
+    Ok(Bill::of(alloc, tables)?)
+}
+
 impl Day {
     fn open(alloc: Global) -> Result<Day, Fail> {
-        let sections = split_bundle(BICYCLES.as_bytes())?;
-        let tables = Tables::read(alloc, &sections)?;
-        let shop = Bill::of(alloc, tables)?;
+        let shop = bicycles(alloc)?;
         let book = Book::open(alloc, &shop)?;
         Ok(Day { shop, book })
+    }
+
+    // What desk 1 is answered that asks for a snapshot.
+    fn snapshot(&mut self, alloc: Global) -> Result<Snapshot, Fail> {
+        let (_number, reply) = self.book.call(alloc, 1, Call::Snapshot)?;
+        match reply {
+            Reply::Taken(snapshot) => Ok(snapshot),
+            _ => Err("a snapshot".into()),
+        }
     }
 
     // A desk's call, and what it is answered.
@@ -56,6 +70,29 @@ impl Day {
         let call = call_of(&self.shop, asked)?;
         let (_number, reply) = self.book.call(alloc, desk, call)?;
         Ok(said(&reply))
+    }
+}
+
+// The state of the shop's book, without its history.
+#[derive(Drop)]
+struct Between {
+    shop: Shop,
+    state: BookState,
+    ghost same_shop: { state.supply ≡ supply_of shop.tables },
+}
+
+impl Between {
+    fn open(alloc: Global) -> Result<Between, Fail> {
+        let shop = bicycles(alloc)?;
+        let state = BookState::open(alloc, &shop)?;
+        Ok(Between { shop, state })
+    }
+
+    // A desk's call, what it is answered, and the copy.
+    fn apply(&mut self, alloc: Global, desk: u64, asked: Asked) -> Result<(Said, Said), Fail> {
+        let call = call_of(&self.shop, asked)?;
+        let (reply, copy) = self.state.apply(alloc, desk, &call)?;
+        Ok((said(&reply), said(&copy)))
     }
 }
 
@@ -197,7 +234,7 @@ fn a_copy_of_a_reply_is_equal(rt: HostRuntime) -> Result<(), Fail> {
     let alloc = rt.alloc();
     let bookings = [booking(1, 1, 3, 12)?, booking(5, 2, 1, 10)?];
     let standing = Vec::from_slice(alloc, bookings.as_slice())?;
-    let snapshot = Snapshot::new(alloc, 7, standing)?.copy()?;
+    let snapshot = Snapshot::new(alloc, 7, 6, standing)?.copy()?;
     assert_eq!(rt; snapshot.front(), 7);
     let Reply::Taken(copy) = Reply::Taken(snapshot).copy()? else {
         return Err("a snapshot".into());
@@ -207,5 +244,85 @@ fn a_copy_of_a_reply_is_equal(rt: HostRuntime) -> Result<(), Fail> {
     assert_eq!(rt; said(&Reply::Booked(3).copy()?), ("booked", 3));
     assert_eq!(rt; said(&Reply::Week(104).copy()?), ("week", 104));
     assert_eq!(rt; said(&Reply::NoWeek.copy()?), ("no-week", 0));
+    Ok(())
+}
+
+fn quantities(alloc: Global, counts: &[u64]) -> Result<Vec<Qty>, Fail> {
+    let mut quantities = Vec::new(alloc);
+    for count in counts {
+        quantities.push(pieces(*count)?)?;
+    }
+    Ok(quantities)
+}
+
+// Fails unless so much of an item is booked in each week.
+fn assert_demand(
+    rt: &impl Abort,
+    alloc: Global,
+    snapshot: &Snapshot,
+    item: usize,
+    wanted: &[u64],
+) -> Result<(), Fail> {
+    let demand = snapshot.demand(alloc, item)?;
+    assert_eq!(rt; demand.as_slice(), quantities(alloc, wanted)?.as_slice());
+    Ok(())
+}
+
+#[test]
+fn what_stands_is_demanded_in_its_week(rt: HostRuntime) -> Result<(), Fail> {
+    const FRAME: usize = 1;
+    let alloc = rt.alloc();
+    let mut day = Day::open(alloc)?;
+    assert_answered(&rt, alloc, &mut day, MORNING)?;
+    let before = day.snapshot(alloc)?;
+    assert_eq!(rt; before.weeks(), 6);
+    assert_demand(&rt, alloc, &before, BIKE, &[10, 0, 12, 0, 25, 0])?;
+    assert_demand(&rt, alloc, &before, FRAME, &[0, 0, 0, 0, 0, 0])?;
+    assert_eq!(rt; day.call(alloc, 1, Asked::Cancel(2))?, ("cancelled", 0));
+    let after = day.snapshot(alloc)?;
+    assert_demand(&rt, alloc, &after, BIKE, &[10, 0, 12, 0, 0, 0])?;
+    assert_demand(&rt, alloc, &before, BIKE, &[10, 0, 12, 0, 25, 0])
+}
+
+#[test]
+fn a_state_answers_with_an_equal_copy(rt: HostRuntime) -> Result<(), Fail> {
+    const CALLS: &[(u64, Asked, Said)] = &[
+        (1, Asked::When(11), ("week", 3)),
+        (1, Asked::When(51), ("no-week", 0)),
+        (1, Asked::Ask(3), ("available", 30)),
+        (1, Asked::Book(3, 12), ("booked", 4)),
+        (2, Asked::Book(5, 39), ("short", 38)),
+        (2, Asked::Cancel(4), ("not-yours", 0)),
+        (1, Asked::Cancel(4), ("cancelled", 0)),
+        (1, Asked::Cancel(4), ("not-standing", 0)),
+        (2, Asked::Ask(5), ("available", 50)),
+        (2, Asked::Snapshot, ("taken", 10)),
+        (2, Asked::Front, ("front", 11)),
+    ];
+    let alloc = rt.alloc();
+    let mut between = Between::open(alloc)?;
+    assert_eq!(rt; between.state.next_number(), 1);
+    for (desk, asked, wanted) in CALLS {
+        assert_eq!(rt; between.apply(alloc, *desk, *asked)?, (*wanted, *wanted));
+    }
+    assert_eq!(rt; between.state.next_number(), 12);
+    assert!(rt; !between.state.is_full());
+    assert_eq!(rt; between.state.into_supply().weeks(), 6);
+    Ok(())
+}
+
+#[test]
+fn a_snapshot_has_at_most_the_greatest_quantity(rt: HostRuntime) -> Result<(), Fail> {
+    let alloc = rt.alloc();
+    let most = [booking(1, 1, 3, 999_999_999_999_999)?, booking(2, 1, 5, 1)?];
+    let standing = Vec::from_slice(alloc, most.as_slice())?;
+    let snapshot = Snapshot::new(alloc, 3, 4, standing)?;
+    assert_demand(&rt, alloc, &snapshot, BIKE, &[0, 0, 999_999_999_999_999, 0])?;
+    let more = [booking(1, 1, 3, 999_999_999_999_999)?, booking(2, 1, 5, 2)?];
+    let standing = Vec::from_slice(alloc, more.as_slice())?;
+    assert_eq!(rt;
+        Snapshot::new(alloc, 3, 4, standing).err(),
+        Some(PhaseFault::TooLarge)
+    );
     Ok(())
 }

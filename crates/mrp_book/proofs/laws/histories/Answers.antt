@@ -1,4 +1,4 @@
-use Rattle.mrp_book.proofs.Histories.{prefix-covered, legal-more, reply-unique, history-unique}
+use Rattle.mrp_book.proofs.Histories.{prefix-covered, legal-lines, legal-more, reply-unique, history-unique}
 use Rattle.mrp_book.proofs.Promised.{desks}
 use Rattle.mrp_book.proofs.laws.histories.Goals as goal
 
@@ -16,3 +16,6 @@ returns-clause-one_history c = history-unique
 
 pub returns-clause-desks : goal.returns-clause-desks
 returns-clause-desks c = desks
+
+pub returns-clause-lines : goal.returns-clause-lines
+returns-clause-lines c = legal-lines
