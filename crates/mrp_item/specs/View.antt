@@ -2,6 +2,8 @@
 use Rattle.std.specs.Prelude.{ℕ, ◌≡◌, ◌<◌, length, None, slice_index}
 use Rattle.std.specs.List.{slice_index_or}
 use Rattle.mrp_qty.specs.Quantity.{quantity_of}
+use Rattle.mrp_master.specs.Supply.{supply_of}
+use Rattle.mrp_book.specs.Booked.{AreBooked}
 use Rattle.mrp_item.specs.declared.inputs.Inputs.TheInside.{Inside}
 use Rattle.mrp_item.specs.Inputs.{Inputs, count}
 use Rattle.mrp_item.specs.Rows.{on_hand}
@@ -11,7 +13,7 @@ use Rattle.mrp_item.specs.Plan.{IsRanked, HasParents}
 abbrev pub inputs_view : Inside → Inputs
 inputs_view a = record { tables = a.shop.value.tables; front = a.snapshot.front; standing = a.snapshot.standing }
 
--- what is due of each item, and what is on hand
+-- what is due of each item, what is on hand, and that what stands is what a book of the shop may have
 pub record KeepsRows (a : Inside) : Type 0 where
   pub firm_size : length a.firm ≡ count (inputs_view a)
   pub firm : (i : ℕ) → i < count (inputs_view a) → listed a.firm i ≡ firm_dues a.shop.value.tables.master i
@@ -25,3 +27,4 @@ pub record KeepsRows (a : Inside) : Type 0 where
   pub on_hand : (i : ℕ) → i < count (inputs_view a) → slice_index_or a.on_hand.items i None ≡ quantity_of (on_hand (inputs_view a) i)
   pub ranked : IsRanked (inputs_view a) (slice_index a.shop.value.codes)
   pub parents : HasParents (inputs_view a)
+  pub booked : AreBooked (supply_of a.shop.value.tables) a.snapshot.standing

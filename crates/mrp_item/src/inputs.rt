@@ -39,16 +39,20 @@ impl Model for Inputs {
 impl Inputs {
     ghost use Rattle.std.specs.Prelude.{◌≡◌, ◌≤◌, ◌<◌, IfOk, slice_index};
     ghost use Rattle.mrp_qty.specs.Quantity.{quantity_of};
+    ghost use Rattle.mrp_master.specs.Supply.{supply_of};
+    ghost use Rattle.mrp_book.specs.Booked.{AreBooked};
     ghost use Rattle.mrp_item.specs.Inputs.{count, horizon, inputs_of, item_at};
     ghost use Rattle.mrp_item.specs.Limits.{IsPlannable};
     ghost use Rattle.mrp_item.specs.Rows.{on_hand};
     ghost use Rattle.mrp_item.specs.Dues.{firm_dues, forecast_dues, receipt_dues, booking_dues};
     ghost use Rattle.mrp_item.specs.Plan.{IsRanked, HasParents};
 
-    /// The inputs of a shop and a snapshot of its order book.
+    /// The inputs of a shop and a snapshot of its order book. The caller owes that the book is that
+    /// of an equal shop: its bookings are of master items, in weeks of the horizon, and covered.
     ///
     /// Errors: `NoMemory` where memory is refused.
     pub fn new(alloc: Global, shop: Arc<Shop>, snapshot: Snapshot) -> Result<Arc<Inputs>, NoMemory>
+        requires { AreBooked (supply_of shop.value.tables) snapshot.standing }
         ensures { IfOk result (λ inputs. inputs.value ≡ inputs_of shop.value.tables snapshot) }
     {
         let tables = shop.tables();
@@ -85,6 +89,7 @@ impl Inputs {
     pub fn snapshot(&self) -> &Snapshot
         ensures front { result.now.front ≡ self.now.front }
         ensures standing { result.now.standing ≡ self.now.standing }
+        ensures booked { AreBooked (supply_of self.now.tables) self.now.standing }
     {
         &self.snapshot
     }
@@ -131,10 +136,12 @@ impl Inputs {
         self.receipts.of(item)
     }
 
-    // The bookings of an item.
-    pub(crate) fn bookings(&self, item: usize) -> &[Due]
+    /// The bookings of an item that stand, by their numbers. The caller owes that the shop has the
+    /// item.
+    pub fn bookings(&self, item: usize) -> &[Due]
         requires { item < count self.now }
-        ensures { result.now ≡ booking_dues self.now.standing item }
+        ensures dues { result.now ≡ booking_dues self.now.standing item }
+        ensures booked { AreBooked (supply_of self.now.tables) self.now.standing }
     {
         self.bookings.of(item)
     }

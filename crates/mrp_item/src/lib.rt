@@ -20,6 +20,7 @@ mod supply;
 mod tests;
 
 pub use blocked::BlockedItem;
+pub use due::Due;
 pub use inputs::Inputs;
 pub use order::{Order, OrderKind};
 pub use outcome::{Outcome, Planned};

@@ -5,8 +5,8 @@ mod shops;
 
 use self::making::{bookings, inputs_of, outcomes_of, quantity};
 use self::shops::{
-    BICYCLE_PLANS, BICYCLES, BOOKED_PLANS, CHAIN, FORK, OrderCells, Records, WHEELS_OF_FRAMES,
-    Worked,
+    BICYCLE_PLANS, BICYCLES, BICYCLES_IN_LOTS, BOOKED, BOOKED_PLANS, CHAIN, FORK, OrderCells,
+    PLANS_IN_LOTS, Records, TUBES_OF_FRAMES, WHEELS_OF_FRAMES, Worked,
 };
 use crate::{Order, Outcome, Plan, Planned};
 use mrp_net::balance_row;
@@ -78,7 +78,7 @@ fn are_planned(rt: &impl Abort, alloc: Global, plan: &Plan, want: &[Worked]) -> 
 #[test]
 fn bicycles_are_planned(rt: HostRuntime) -> Result<(), Fail> {
     let alloc = rt.alloc();
-    let inputs = inputs_of(alloc, &BICYCLES, Vec::new(alloc))?;
+    let inputs = inputs_of(alloc, &BICYCLES, &[])?;
     assert_eq!(rt; inputs.snapshot().front(), 7);
     let outcomes = outcomes_of(alloc, &inputs)?;
     let plan = Plan::of(inputs, outcomes).ok().ok_or("an item is over")?;
@@ -88,8 +88,11 @@ fn bicycles_are_planned(rt: HostRuntime) -> Result<(), Fail> {
 #[test]
 fn bookings_above_the_forecast_are_planned(rt: HostRuntime) -> Result<(), Fail> {
     let alloc = rt.alloc();
-    let inputs = inputs_of(alloc, &BICYCLES, bookings(alloc)?)?;
-    assert_eq!(rt; inputs.snapshot().standing(), bookings(alloc)?.as_slice());
+    let inputs = inputs_of(alloc, &BICYCLES, BOOKED)?;
+    assert_eq!(rt;
+        inputs.snapshot().standing(),
+        bookings(alloc, BOOKED)?.as_slice()
+    );
     let outcomes = outcomes_of(alloc, &inputs)?;
     let plan = Plan::of(inputs, outcomes).ok().ok_or("an item is over")?;
     are_planned(&rt, alloc, &plan, BOOKED_PLANS)
@@ -102,10 +105,47 @@ fn two_lines_of_a_pair_both_count(rt: HostRuntime) -> Result<(), Fail> {
         bills: "BIKE,FRAME,1\nBIKE,WHEEL,1\nBIKE,WHEEL,1\n",
         ..BICYCLES
     };
-    let inputs = inputs_of(alloc, &records, Vec::new(alloc))?;
+    let inputs = inputs_of(alloc, &records, &[])?;
     let outcomes = outcomes_of(alloc, &inputs)?;
     let plan = Plan::of(inputs, outcomes).ok().ok_or("an item is over")?;
     are_planned(&rt, alloc, &plan, BICYCLE_PLANS)
+}
+
+#[test]
+fn parts_are_planned_in_lots_beside_open_receipts(rt: HostRuntime) -> Result<(), Fail> {
+    let alloc = rt.alloc();
+    for bills in [
+        BICYCLES_IN_LOTS.bills,
+        "BIKE,FRAME,1\nBIKE,WHEEL,1\nBIKE,WHEEL,1\n",
+    ] {
+        let records = Records {
+            bills,
+            ..BICYCLES_IN_LOTS
+        };
+        let inputs = inputs_of(alloc, &records, BOOKED)?;
+        let outcomes = outcomes_of(alloc, &inputs)?;
+        let plan = Plan::of(inputs, outcomes).ok().ok_or("an item is over")?;
+        are_planned(&rt, alloc, &plan, PLANS_IN_LOTS)?;
+    }
+    Ok(())
+}
+
+#[test]
+fn starts_ask_for_components_and_open_receipts_do_not(rt: HostRuntime) -> Result<(), Fail> {
+    let alloc = rt.alloc();
+    let items = format!(in alloc; "{}TUBE,part,0,500,lfl,0,0\n", BICYCLES_IN_LOTS.items)?;
+    let records = Records {
+        items: items.as_str(),
+        bills: "BIKE,FRAME,1\nBIKE,WHEEL,2\nFRAME,TUBE,3\n",
+        ..BICYCLES_IN_LOTS
+    };
+    let inputs = inputs_of(alloc, &records, BOOKED)?;
+    let outcomes = outcomes_of(alloc, &inputs)?;
+    let plan = Plan::of(inputs, outcomes).ok().ok_or("an item is over")?;
+    let [bikes, frames, wheels] = *PLANS_IN_LOTS else {
+        return Err(Fail::from("three items"));
+    };
+    are_planned(&rt, alloc, &plan, &[bikes, frames, wheels, TUBES_OF_FRAMES])
 }
 
 #[test]
@@ -115,7 +155,7 @@ fn all_parents_ask(rt: HostRuntime) -> Result<(), Fail> {
         bills: "BIKE,FRAME,1\nFRAME,WHEEL,1\nBIKE,WHEEL,2\n",
         ..BICYCLES
     };
-    let inputs = inputs_of(alloc, &records, Vec::new(alloc))?;
+    let inputs = inputs_of(alloc, &records, &[])?;
     let outcomes = outcomes_of(alloc, &inputs)?;
     let plan = Plan::of(inputs, outcomes).ok().ok_or("an item is over")?;
     let [bikes, frames, _] = *BICYCLE_PLANS else {
@@ -174,7 +214,7 @@ fn is_refused(
         master: master.as_str(),
         ..*shop
     };
-    let inputs = inputs_of(alloc, &records, Vec::new(alloc))?;
+    let inputs = inputs_of(alloc, &records, &[])?;
     let outcomes = outcomes_of(alloc, &inputs)?;
     assert_eq!(rt; outcomes.len(), want.len());
     for item in 0..want.len() {

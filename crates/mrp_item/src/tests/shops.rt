@@ -12,8 +12,6 @@ workdays,1111100\n\
 holiday,2025-01-20\n\
 [centres]\n\
 centre,minutes\n\
-[receipts]\n\
-item,order,date,quantity\n\
 [routings]\n\
 item,op,centre,setup,run,offset\n\
 [script]\n\
@@ -26,6 +24,7 @@ item,class,lead,scrap,lot,size,safety\n";
 pub struct Records<'a> {
     pub items: &'a str,
     pub stock: &'a str,
+    pub receipts: &'a str,
     pub bills: &'a str,
     pub master: &'a str,
 }
@@ -34,6 +33,7 @@ pub struct Records<'a> {
 pub const BICYCLES: Records<'static> = Records {
     items: "BIKE,master,1,0,lfl,0,0\nFRAME,part,1,0,lfl,0,0\nWHEEL,part,1,0,lfl,0,0\n",
     stock: "BIKE,10\n",
+    receipts: "",
     bills: "BIKE,FRAME,1\nBIKE,WHEEL,2\n",
     master: "\
 BIKE,firm,2025-01-20,20\n\
@@ -42,10 +42,19 @@ BIKE,forecast,2025-01-13,8\n\
 BIKE,forecast,2025-01-27,6\n",
 };
 
+// Bicycles whose parts are planned in lots, with scrap, safety stock and an open receipt.
+pub const BICYCLES_IN_LOTS: Records<'static> = Records {
+    items: "BIKE,master,1,0,lfl,0,0\nFRAME,part,1,100,fixed,20,5\nWHEEL,part,2,0,period,2,0\n",
+    stock: "BIKE,10\nFRAME,12\nWHEEL,30\n",
+    receipts: "FRAME,R1,2025-01-22,15\n",
+    ..BICYCLES
+};
+
 // A chain of parts, each with 1,000,000 of the next.
 pub const CHAIN: Records<'static> = Records {
     items: "TOP,master,0,0,lfl,0,0\nA,part,0,0,lfl,0,0\nB,part,0,0,lfl,0,0\nC,part,0,0,lfl,0,0\n",
     stock: "",
+    receipts: "",
     bills: "TOP,A,1000000\nA,B,1000000\nB,C,1000000\n",
     master: "",
 };
@@ -54,12 +63,13 @@ pub const CHAIN: Records<'static> = Records {
 pub const FORK: Records<'static> = Records {
     items: "TOP,master,0,0,lfl,0,0\nM,part,0,0,lfl,0,0\nX,part,0,0,lfl,0,0\nY,part,0,0,lfl,0,0\n",
     stock: "",
+    receipts: "",
     bills: "TOP,M,1000000\nM,Y,1000000\nM,X,1000000\n",
     master: "",
 };
 
-// Bookings of bicycles: number, desk, week, pieces.
-pub const BOOKED: &[(u64, u64, u16, u64)] = &[(1, 1, 3, 12), (2, 1, 5, 25), (5, 2, 1, 10)];
+// Bookings of bicycles: week, pieces.
+pub const BOOKED: &[(u16, u64)] = &[(3, 12), (5, 25), (1, 10)];
 
 // An order: kind, due week, pieces due, pieces that start, release week, weeks late.
 pub type OrderCells = (OrderKind, u16, u64, u64, u16, u16);
@@ -159,3 +169,48 @@ pub const BOOKED_PLANS: &[Worked] = &[
         ],
     },
 ];
+
+// Bicycles, frames and wheels in lots, with the bookings.
+pub const PLANS_IN_LOTS: &[Worked] = &[
+    Worked {
+        gross: [10, 8, 12, 6, 25, 0],
+        receipts: [0, 8, 8, 8, 11, 11],
+        started: [8, 20, 0, 23, 0, 0],
+        balances: [0, 0, 8, 2, 0, 0],
+        orders: &[
+            (OrderKind::Planned, 2, 8, 8, 1, 0),
+            (OrderKind::Firm, 3, 20, 20, 2, 0),
+            (OrderKind::Firm, 5, 20, 20, 4, 0),
+            (OrderKind::Planned, 5, 3, 3, 4, 0),
+        ],
+    },
+    Worked {
+        gross: [8, 20, 0, 23, 0, 0],
+        receipts: [20, 40, 40, 40, 40, 40],
+        started: [46, 0, 0, 0, 0, 0],
+        balances: [24, 24, 39, 16, 16, 16],
+        orders: &[
+            (OrderKind::Planned, 1, 20, 23, 1, 1),
+            (OrderKind::Planned, 2, 20, 23, 1, 0),
+        ],
+    },
+    Worked {
+        gross: [16, 40, 0, 46, 0, 0],
+        receipts: [0, 26, 26, 72, 72, 72],
+        started: [26, 46, 0, 0, 0, 0],
+        balances: [14, 0, 0, 0, 0, 0],
+        orders: &[
+            (OrderKind::Planned, 2, 26, 26, 1, 1),
+            (OrderKind::Planned, 4, 46, 46, 2, 0),
+        ],
+    },
+];
+
+// Tubes, three in a frame, where half of what starts is scrap: the frames' starts ask for them.
+pub const TUBES_OF_FRAMES: Worked = Worked {
+    gross: [138, 0, 0, 0, 0, 0],
+    receipts: [138; 6],
+    started: [276, 0, 0, 0, 0, 0],
+    balances: [0; 6],
+    orders: &[(OrderKind::Planned, 1, 138, 276, 1, 0)],
+};

@@ -23,7 +23,7 @@ returns-in_err-booked-clause-over c =
     let s = c.args.inputs.now in
     let i = c.args.item in
     rw (p.1, p.2) (λ over.
-    dated-past c.bookings.result.now (demand s i) (horizon s) (λ week. omega (arith, ap (λ dues. due_sum dues week) c.bookings.ensures, due_sum-bookings s i week))
+    dated-past c.bookings.result.now (demand s i) (horizon s) (λ week. omega (arith, ap (λ dues. due_sum dues week) c.bookings.ensures.dues, due_sum-bookings s i week))
     (rw c.weeks-weeks.ensures.value at (c.in_err-booked.ensures.over over)))
 
 pub higher-requires : goal.higher-requires
@@ -41,7 +41,7 @@ returns-clause-value c =
     c.as_slice.ensures ∙ dated-row c.forecasts.result.now (forecast s i) c.weeks-weeks.result c.in_ok-forecast.forecast (λ week. ap (λ dues. due_sum dues week) c.forecasts.ensures ∙ due_sum-forecast s i week) c.in_ok-forecast.ensures.value
     ∙ ap (λ n. row n (forecast s i)) c.weeks-weeks.ensures.value in
     let booked_row : bookings ≡ row (horizon s) (booked s i) =
-    c.as_slice-2.ensures ∙ dated-row c.bookings.result.now (booked s i) c.weeks-weeks.result c.in_ok-booked.booked (λ week. ap (λ dues. due_sum dues week) c.bookings.ensures ∙ due_sum-bookings s i week) c.in_ok-booked.ensures.value
+    c.as_slice-2.ensures ∙ dated-row c.bookings.result.now (booked s i) c.weeks-weeks.result c.in_ok-booked.booked (λ week. ap (λ dues. due_sum dues week) c.bookings.ensures.dues ∙ due_sum-bookings s i week) c.in_ok-booked.ensures.value
     ∙ ap (λ n. row n (booked s i)) c.weeks-weeks.ensures.value in
     c.in_ok-higher.ensures
     ∙ ap (λ n. row n (λ week. max (in_week forecasts week) (in_week bookings week))) (ap length forecast_row ∙ length-row (forecast s i) (horizon s))

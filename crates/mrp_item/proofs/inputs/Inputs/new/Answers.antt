@@ -31,4 +31,5 @@ invariant_of-inputs c =
       on_hand = λ i h. c.in_ok-on_hand.ensures.sums i (omega arith) ∙ ap (λ (rows : List StockRow). quantity_of (sum_by (λ r. r.on_hand) (filter (λ r. r.item == i) rows))) stock;
       ranked = is_ranked s c.args.shop.value (λ i. c.args.shop.value.tables) (rw shop at c.tables-tables.ensures.accepted);
       parents = has_parents s (let lines : c.bills-within.result.now ≡ s.tables.bills = c.bills-within.ensures.rows ∙ ap (λ (t : Tables). t.bills) tables in rw (lines, tables) at c.bills-within.ensures.within);
+      booked = c.requires;
     }
