@@ -63,11 +63,11 @@ whole t h k all = ap (λ (n : ℕ). history_text t (take n h)) all ∙ ap (histo
 
 -- one more entry was put on the page
 pub entry-written : {W : Type 0} (contents : W → Option (List ℕ)) (start now : Told W) (tries : ℕ) (page next : List ℕ) (tables t : Tables) (entries h : History) (k : ℕ) (e : Entry Call Reply)
-    → IsWritten contents start now tries page (so_far t h k) → tables ≡ t → entries ≡ h → k < length entries → e ≡ get_or entries k e → next ≡ page ++ entry_text tables (k + 1, e)
-    → IsWritten contents start now tries next (so_far t h (k + 1))
+    → IsWritten contents start now 1000000 tries page (so_far t h k) → tables ≡ t → entries ≡ h → k < length entries → e ≡ get_or entries k e → next ≡ page ++ entry_text tables (k + 1, e)
+    → IsWritten contents start now 1000000 tries next (so_far t h (k + 1))
 entry-written contents start now tries page next tables t entries h k e w same all within is adds =
     let inside : k < length h = omega (arith, within, ap (length {A = Entry Call Reply}) all) in
     let entry : e ≡ get_or h k e = is ∙ ap (λ (es : History). get_or es k e) all in
     let text : next ≡ page ++ entry_text t (k + 1, e) = adds ∙ ap (λ (x : Tables). page ++ entry_text x (k + 1, e)) same in
-    subst (λ (s : List ℕ). IsWritten contents start now tries next s) (sym (so_far-more t h k e e inside entry))
-    (written-more contents start now tries page next (so_far t h k) (entry_text t (k + 1, e)) w text)
+    subst (λ (s : List ℕ). IsWritten contents start now 1000000 tries next s) (sym (so_far-more t h k e e inside entry))
+    (written-more contents start now 1000000 tries page next (so_far t h k) (entry_text t (k + 1, e)) w text)

@@ -5,4 +5,7 @@ pub mod PlanSheets
 pub mod Progress
 pub mod EntryRows
 pub mod HistorySoFar
-pub mod ReportSoFar
+pub mod ItemTexts
+pub mod PromiseSums
+pub mod PromiseBookings
+pub mod PromiseSheets

@@ -28,12 +28,12 @@ rises-both m n a b c p q = (omega (arith, p.0, p.1, q.0), omega (arith, p.1, q.1
 risen-after : (m n a b c : ℕ) → RisesBy m a b → HasRisenBy n b c → HasRisenBy (m + n) a c
 risen-after m n a b c p q = omega (arith, p.0, p.1, q)
 
--- a part of a text that has been passed on, and the rest on the page
-pub record IsWritten {W : Type 0} (contents : W → Option (List ℕ)) (start now : Told W) (tries : ℕ) (page text : List ℕ) : Type 0 where
+-- a part of a text that has been passed on, and the rest on the page, since so many tries were left
+pub record IsWritten {W : Type 0} (contents : W → Option (List ℕ)) (start now : Told W) (first tries : ℕ) (page text : List ℕ) : Type 0 where
   pub passed : List ℕ
   pub split : text ≡ passed ++ page
-  pub taken : HasTaken contents start now passed (1000000 - tries)
-  pub within : tries ≤ 1000000
+  pub taken : HasTaken contents start now passed (first - tries)
+  pub within : tries ≤ first
 
 taken-none : {W : Type 0} (contents : W → Option (List ℕ)) (w : Told W) → HasTaken contents w w [] 0
 taken-none contents w = record {
@@ -50,9 +50,9 @@ taken-both contents a b c s t m n p q = record {
 }
 
 -- nothing was passed on yet
-pub written-none : {W : Type 0} (contents : W → Option (List ℕ)) (w : Told W) (tries : ℕ) (page text : List ℕ) → tries ≡ 1000000 → page ≡ text → IsWritten contents w w tries page text
-written-none {W} contents w tries page text all same =
-    let none : 0 ≡ 1000000 - tries = omega (arith, all) in
+pub written-none : {W : Type 0} (contents : W → Option (List ℕ)) (w : Told W) (first tries : ℕ) (page text : List ℕ) → tries ≡ first → page ≡ text → IsWritten contents w w first tries page text
+written-none {W} contents w first tries page text all same =
+    let none : 0 ≡ first - tries = omega (arith, all) in
     record {
       passed = [];
       split = sym same;
@@ -61,9 +61,9 @@ written-none {W} contents w tries page text all same =
     }
 
 -- more was put on the page
-pub written-more : {W : Type 0} (contents : W → Option (List ℕ)) (start now : Told W) (tries : ℕ) (page next text more : List ℕ) → IsWritten contents start now tries page text → next ≡ page ++ more
-    → IsWritten contents start now tries next (text ++ more)
-written-more contents start now tries page next text more w adds = record {
+pub written-more : {W : Type 0} (contents : W → Option (List ℕ)) (start now : Told W) (first tries : ℕ) (page next text more : List ℕ) → IsWritten contents start now first tries page text → next ≡ page ++ more
+    → IsWritten contents start now first tries next (text ++ more)
+written-more contents start now first tries page next text more w adds = record {
   passed = w.passed;
   split = ap (λ (t : List ℕ). t ++ more) w.split ∙ append_assoc w.passed page more ∙ ap (λ (t : List ℕ). w.passed ++ t) (sym adds);
   taken = w.taken;
@@ -71,14 +71,14 @@ written-more contents start now tries page next text more w adds = record {
 }
 
 -- some of the page was passed on
-pub written-passed : {W : Type 0} (contents : W → Option (List ℕ)) (start now then : Told W) (tries fewer : ℕ) (page left text : List ℕ) → IsWritten contents start now tries page text → fewer ≤ tries
-    → PassesOn contents now then page left (tries - fewer) → IsWritten contents start then fewer left text
-written-passed {W} contents start now then tries fewer page left text w less p =
-    let tried : 1000000 - tries + (tries - fewer) ≡ 1000000 - fewer = omega (arith, less, w.within) in
+pub written-passed : {W : Type 0} (contents : W → Option (List ℕ)) (start now then : Told W) (first tries fewer : ℕ) (page left text : List ℕ) → IsWritten contents start now first tries page text → fewer ≤ tries
+    → PassesOn contents now then page left (tries - fewer) → IsWritten contents start then first fewer left text
+written-passed {W} contents start now then first tries fewer page left text w less p =
+    let tried : first - tries + (tries - fewer) ≡ first - fewer = omega (arith, less, w.within) in
     record {
       passed = w.passed ++ p.passed;
       split = w.split ∙ ap (λ (t : List ℕ). w.passed ++ t) p.split ∙ sym (append_assoc w.passed p.passed left);
-      taken = subst (λ (n : ℕ). HasTaken contents start then (w.passed ++ p.passed) n) tried (taken-both contents start now then w.passed p.passed (1000000 - tries) (tries - fewer) w.taken p.taken);
+      taken = subst (λ (n : ℕ). HasTaken contents start then (w.passed ++ p.passed) n) tried (taken-both contents start now then w.passed p.passed (first - tries) (tries - fewer) w.taken p.taken);
       within = omega (arith, less, w.within);
     }
 
@@ -86,9 +86,9 @@ take-behind : (s t u : List ℕ) (n : ℕ) → n ≤ length t → take (length s
 take-behind s t u n h = take-append-add s (t ++ u) n ∙ ap (λ (l : List ℕ). s ++ l) (take-append-le n t u h)
 
 -- what was passed on is a front of the whole
-pub front-now : {W : Type 0} (contents : W → Option (List ℕ)) (start now : Told W) (tries : ℕ) (page text rest whole : List ℕ) → IsWritten contents start now tries page text → whole ≡ text ++ rest
+pub front-now : {W : Type 0} (contents : W → Option (List ℕ)) (start now : Told W) (first tries : ℕ) (page text rest whole : List ℕ) → IsWritten contents start now first tries page text → whole ≡ text ++ rest
     → HasTakenFront contents start now whole
-front-now contents start now tries page text rest whole w is =
+front-now contents start now first tries page text rest whole w is =
     let split : whole ≡ w.passed ++ (page ++ rest) = is ∙ ap (λ (t : List ℕ). t ++ rest) w.split ∙ append_assoc w.passed page rest in (
       length w.passed,
       omega (arith, ap (length {A = ℕ}) split, length-append w.passed (page ++ rest)),
@@ -97,9 +97,9 @@ front-now contents start now tries page text rest whole w is =
     )
 
 -- and so it is with a front of the page
-pub front-then : {W : Type 0} (contents : W → Option (List ℕ)) (start now then : Told W) (tries : ℕ) (page text rest whole : List ℕ) → IsWritten contents start now tries page text → whole ≡ text ++ rest
+pub front-then : {W : Type 0} (contents : W → Option (List ℕ)) (start now then : Told W) (first tries : ℕ) (page text rest whole : List ℕ) → IsWritten contents start now first tries page text → whole ≡ text ++ rest
     → HasTakenFront contents now then page → HasTakenFront contents start then whole
-front-then contents start now then tries page text rest whole w is (n, within, bytes) =
+front-then contents start now then first tries page text rest whole w is (n, within, bytes) =
     let split : whole ≡ w.passed ++ (page ++ rest) = is ∙ ap (λ (t : List ℕ). t ++ rest) w.split ∙ append_assoc w.passed page rest in (
       length w.passed + n,
       omega (arith, within, ap (length {A = ℕ}) split, length-append w.passed (page ++ rest), length-append page rest),
@@ -109,17 +109,25 @@ front-then contents start now then tries page text rest whole w is (n, within, b
     )
 
 -- a writer that gave up in the last part gave up in the whole
-pub given-up : {W : Type 0} (contents : W → Option (List ℕ)) (start now then : Told W) (tries : ℕ) (page text : List ℕ) → IsWritten contents start now tries page text
-    → HasGivenUp now then tries → HasGivenUp start then 1000000
-given-up contents start now then tries page text w (inl failed) =
+pub given-up : {W : Type 0} (contents : W → Option (List ℕ)) (start now then : Told W) (first tries : ℕ) (page text : List ℕ) → IsWritten contents start now first tries page text
+    → HasGivenUp now then tries → HasGivenUp start then first
+given-up contents start now then first tries page text w (inl failed) =
     inl (subst (λ (n : ℕ). HasRisenBy 1 n (failures_of then)) w.taken.failures failed)
-given-up contents start now then tries page text w (inr more) =
-    let tried : 1000000 - tries + (tries + 1) ≡ 1000000 + 1 = omega (arith, w.within) in
+given-up contents start now then first tries page text w (inr more) =
+    let tried : first - tries + (tries + 1) ≡ first + 1 = omega (arith, w.within) in
     inr (subst (λ (n : ℕ). HasRisenBy n (interrupted_of start) (interrupted_of then)) tried
-    (risen-after (1000000 - tries) (tries + 1) (interrupted_of start) (interrupted_of now) (interrupted_of then) w.taken.interrupted more))
+    (risen-after (first - tries) (tries + 1) (interrupted_of start) (interrupted_of now) (interrupted_of then) w.taken.interrupted more))
+
+-- so far a section's text is passed on, and the rest of it left on the page
+pub passes-on : {W : Type 0} (contents : W → Option (List ℕ)) (start now : Told W) (first tries : ℕ) (page text : List ℕ) → IsWritten contents start now first tries page text → PassesOn contents start now text page (first - tries)
+passes-on contents start now first tries page text w = record {
+  passed = w.passed;
+  split = w.split;
+  taken = w.taken;
+}
 
 -- the last page was written
-pub written-whole : {W : Type 0} (contents : W → Option (List ℕ)) (start now then : Told W) (tries fewer : ℕ) (page text : List ℕ) → IsWritten contents start now tries page text → fewer ≤ tries
+pub written-whole : {W : Type 0} (contents : W → Option (List ℕ)) (start now then : Told W) (tries fewer : ℕ) (page text : List ℕ) → IsWritten contents start now 1000000 tries page text → fewer ≤ tries
     → HasTaken contents now then page (tries - fewer) → HasTakenWhole contents start then text
 written-whole {W} contents start now then tries fewer page text w less p = (
   1000000 - tries + (tries - fewer),

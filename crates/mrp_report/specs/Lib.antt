@@ -1,5 +1,8 @@
 pub mod Section
 pub mod RunText
+pub mod PromiseText
+pub mod PromiseRows
+pub mod PromiseSheet
 pub mod PlanText
 pub mod HistoryText
 pub mod EntryCells

@@ -11,7 +11,7 @@ use mrp_qty::NoMemory;
 use mrp_tables::Class;
 use std::alloc::Global;
 
-fn is_master(class: Class) -> bool
+pub(crate) fn is_master(class: Class) -> bool
     ensures { result ≡ is_master class }
 {
     match class {

@@ -4,12 +4,13 @@ mod making;
 mod shops;
 
 use self::making::{FailingWriter, ask, bicycles, book, history_of, plan_of_bicycles, when};
-use self::shops::{ASKED, CANCELLED, REPORT, TWO_DESKS, WHEEL_ROWS};
+use self::shops::{ASKED, CANCELLED, PROMISES, REPORT, TWO_DESKS, WHEEL_ROWS};
 use crate::{
-    Page, PlanRow, ReportFault, item_rows, plan_section, run_section, week_row, write_history,
-    write_report,
+    Page, PlanRow, PromiseRow, ReportFault, item_promises, item_rows, plan_section, promise_row,
+    promises_section, run_section, week_row, write_history, write_report,
 };
 use mrp_book::Call;
+use mrp_master::Supply;
 use mrp_rows::{Told, Tries};
 use std::alloc::Global;
 use std::process::Abort;
@@ -51,6 +52,45 @@ fn a_run_has_its_front_and_its_standing_bookings(rt: HostRuntime) -> Result<(), 
 }
 
 #[test]
+fn a_week_can_be_promised(rt: HostRuntime) -> Result<(), Fail> {
+    let mut page = Page::new(rt.alloc());
+    let row = PromiseRow {
+        week: 3,
+        firm: 20,
+        booked: 12,
+        bucket: 8,
+        available: 18,
+    };
+    promises_section(&mut page)?;
+    promise_row(&mut page, b"BIKE", &row)?;
+    promise_row(&mut page, b"A,B", &row)?;
+    let want =
+        "[promises]\nitem,week,firm,booked,bucket,available\nBIKE,3,20,12,8,18\n\"A,B\",3,20,12,8,18\n";
+    has_text(&rt, rt.alloc(), page, want)
+}
+
+#[test]
+fn a_master_item_has_what_can_be_promised_and_a_part_has_nothing(
+    rt: HostRuntime,
+) -> Result<(), Fail> {
+    let shop = bicycles(rt.alloc())?;
+    let calls = [
+        (1, book(&shop, 3, 12)?),
+        (1, book(&shop, 5, 25)?),
+        (2, book(&shop, 1, 10)?),
+        (1, Call::Snapshot),
+    ];
+    let plan = plan_of_bicycles(rt.alloc(), &calls)?;
+    let supply = Supply::of(rt.alloc(), plan.inputs().shop())?;
+    let mut page = Page::new(rt.alloc());
+    assert_eq!(rt; plan.inputs().shop().tables().items().len(), 3);
+    for item in 0..3 {
+        item_promises(rt.alloc(), &mut page, &supply, plan.item(item))?;
+    }
+    has_text(&rt, rt.alloc(), page, PROMISES)
+}
+
+#[test]
 fn a_plan_has_a_row_for_a_week(rt: HostRuntime) -> Result<(), Fail> {
     let mut page = Page::new(rt.alloc());
     let row = PlanRow {
@@ -72,7 +112,7 @@ fn a_plan_has_a_row_for_a_week(rt: HostRuntime) -> Result<(), Fail> {
 
 #[test]
 fn an_item_has_a_row_for_each_week(rt: HostRuntime) -> Result<(), Fail> {
-    let plan = plan_of_bicycles(rt.alloc())?;
+    let plan = plan_of_bicycles(rt.alloc(), &[(1, Call::Snapshot)])?;
     let mut page = Page::new(rt.alloc());
     assert!(rt; 2 < plan.inputs().shop().tables().items().len());
     item_rows(rt.alloc(), &mut page, plan.item(2))?;
@@ -81,7 +121,7 @@ fn an_item_has_a_row_for_each_week(rt: HostRuntime) -> Result<(), Fail> {
 
 #[test]
 fn the_bicycles_are_reported(rt: HostRuntime) -> Result<(), Fail> {
-    let plan = plan_of_bicycles(rt.alloc())?;
+    let plan = plan_of_bicycles(rt.alloc(), &[(1, Call::Snapshot)])?;
     let mut writer = Told::new(Vec::new(rt.alloc()));
     write_report(&rt, rt.alloc(), &plan, &mut writer)?;
     let text = String::from_utf8(writer.into_inner()).ok().ok_or("text")?;
@@ -98,7 +138,7 @@ fn has_front(rt: &impl Abort, writer: FailingWriter, text: &str, count: usize) {
 
 #[test]
 fn a_failing_writer_has_a_front_of_the_report(rt: HostRuntime) -> Result<(), Fail> {
-    let plan = plan_of_bicycles(rt.alloc())?;
+    let plan = plan_of_bicycles(rt.alloc(), &[(1, Call::Snapshot)])?;
     for count in [0, 1, 100] {
         let mut writer = Told::new(FailingWriter {
             left: count,

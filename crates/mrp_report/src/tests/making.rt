@@ -1,6 +1,7 @@
 //! Shops, plans, histories and writers for tests.
 
 ghost use Rattle.std.specs.Prelude.{◌≡◌, ◌<◌, IsTrue, IfOk};
+ghost use Rattle.mrp_book.specs.Booked.{AreBooked};
 ghost use Rattle.mrp_book.specs.History.{Fits};
 ghost use Rattle.mrp_item.specs.Inputs.{count};
 ghost use Rattle.mrp_item.specs.Made.{inputs_in, item_of};
@@ -8,7 +9,7 @@ ghost use Rattle.mrp_master.specs.Supply.{supply_of};
 
 use super::shops::BICYCLES;
 use mrp_bill::{Bill, Shop};
-use mrp_book::{Book, Call, History, Line, Snapshot, Spot, Wish};
+use mrp_book::{Book, Call, History, Line, Reply, Snapshot, Spot, Wish};
 use mrp_item::{Inputs, Outcome, Plan, plan_item};
 use mrp_master::Supply;
 use mrp_qty::Qty;
@@ -83,11 +84,23 @@ fn planned_below(
     Ok(plan_item(alloc, inputs, item, &[parent.copy()?])?)
 }
 
-// The plan of the bicycles, without bookings.
-pub fn plan_of_bicycles(alloc: Global) -> Result<Plan, Fail> {
+// What stands at the first entry of a history that called for it.
+fn first_snapshot(history: &History) -> Result<Snapshot, Fail>
+    ensures { IfOk result (λ s. AreBooked history.now.supply s.standing) }
+{
+    for entry in history.entries() {
+        if let Reply::Taken(snapshot) = &entry.reply {
+            return Ok(snapshot.copy()?);
+        }
+    }
+    Err(Fail::from("no snapshot"))
+}
+
+// The plan of the bicycles after these calls, up to the first for a snapshot.
+pub fn plan_of_bicycles(alloc: Global, calls: &[(u64, Call)]) -> Result<Plan, Fail> {
     let shop = Arc::new(alloc, bicycles(alloc)?)?;
-    let snapshot = Snapshot::new(alloc, 1, Vec::new(alloc))?;
-    let inputs = Inputs::new(alloc, shop, snapshot)?;
+    let history = history_of(alloc, &shop, calls)?;
+    let inputs = Inputs::new(alloc, shop, first_snapshot(&history)?)?;
     let items = inputs.shop().tables().items().len();
     if items != 3 {
         return Err(Fail::from("three items"));

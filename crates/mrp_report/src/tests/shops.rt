@@ -40,6 +40,14 @@ pub const REPORT: &str = "\
 [run]\n\
 front,standing\n\
 1,0\n\
+[promises]\n\
+item,week,firm,booked,bucket,available\n\
+BIKE,1,0,0,10,10\n\
+BIKE,2,0,0,0,10\n\
+BIKE,3,20,0,20,30\n\
+BIKE,4,0,0,0,30\n\
+BIKE,5,20,0,20,50\n\
+BIKE,6,0,0,0,50\n\
 [plan]\n\
 item,week,gross,open,firm,planned,start,balance\n\
 BIKE,1,0,0,0,0,0,10\n\
@@ -60,6 +68,15 @@ WHEEL,3,0,0,0,0,40,0\n\
 WHEEL,4,40,0,0,40,0,0\n\
 WHEEL,5,0,0,0,0,0,0\n\
 WHEEL,6,0,0,0,0,0,0\n";
+
+// The rows of promises of its first item, after what two desks booked.
+pub const PROMISES: &str = "\
+BIKE,1,0,10,0,0\n\
+BIKE,2,0,0,0,0\n\
+BIKE,3,20,12,3,3\n\
+BIKE,4,0,0,0,3\n\
+BIKE,5,20,25,0,3\n\
+BIKE,6,0,0,0,3\n";
 
 // The rows of its last item.
 pub const WHEEL_ROWS: &str = "\

@@ -13,7 +13,7 @@ loop-place-init g c =
     let t = c.args.shop.now.tables in
     let h = c.args.history.now.entries in
     let head : c.history_section.new.page ≡ history_head = c.in_ok-history_section.ensures ∙ ap (λ (page : List ℕ). page ++ history_head) c.new-page.ensures in
-    written-none g.W.Write.contents c.args.writer.now c.new-tries.result c.history_section.new.page (so_far t h 0) c.new-tries.ensures (head ∙ so_far-none t h)
+    written-none g.W.Write.contents c.args.writer.now 1000000 c.new-tries.result c.history_section.new.page (so_far t h 0) c.new-tries.ensures (head ∙ so_far-none t h)
 
 pub returns-in_err-entry_row-clause-front : goal.returns-in_err-entry_row-clause-front
 returns-in_err-entry_row-clause-front g c =
@@ -21,29 +21,29 @@ returns-in_err-entry_row-clause-front g c =
     let h = c.args.history.now.entries in
     let (rest, is) = to-come t h c.loop-place.place in
     on-err c.from_residual-in_err-entry_row.result
-    (front-now g.W.Write.contents c.args.writer.now c.loop-place.writer c.loop-place.tries c.loop-place.page (so_far t h c.loop-place.place) rest (history_text t h) c.loop-place.invariant is)
+    (front-now g.W.Write.contents c.args.writer.now c.loop-place.writer 1000000 c.loop-place.tries c.loop-place.page (so_far t h c.loop-place.place) rest (history_text t h) c.loop-place.invariant is)
 
 pub returns-in_err-pass_on-clause-front : goal.returns-in_err-pass_on-clause-front
 returns-in_err-pass_on-clause-front g c =
     let t = c.args.shop.now.tables in
     let h = c.args.history.now.entries in
     let k = c.loop-place.place in
-    let stepped : IsWritten g.W.Write.contents c.args.writer.now c.loop-place.writer c.loop-place.tries c.entry_row.new.page (so_far t h (k + 1)) =
+    let stepped : IsWritten g.W.Write.contents c.args.writer.now c.loop-place.writer 1000000 c.loop-place.tries c.entry_row.new.page (so_far t h (k + 1)) =
     entry-written g.W.Write.contents c.args.writer.now c.loop-place.writer c.loop-place.tries c.loop-place.page c.entry_row.new.page c.tables-tables.result.now t c.entries-entry-items.result.now h k c.entry-item.result
     c.loop-place.invariant c.tables-tables.ensures.value c.entries-entry-items.ensures.entries c.loop-place-test.true c.entry-item.is c.in_ok-entry_row.ensures in
     let (rest, is) = to-come t h (k + 1) in
     on-err c.from_residual-in_err-pass_on.result
-    (front-then g.W.Write.contents c.args.writer.now c.loop-place.writer c.pass_on.new.writer c.loop-place.tries c.entry_row.new.page (so_far t h (k + 1)) rest (history_text t h) stepped is c.in_err-pass_on.ensures.front)
+    (front-then g.W.Write.contents c.args.writer.now c.loop-place.writer c.pass_on.new.writer 1000000 c.loop-place.tries c.entry_row.new.page (so_far t h (k + 1)) rest (history_text t h) stepped is c.in_err-pass_on.ensures.front)
 
 pub loop-place-preserved : goal.loop-place-preserved
 loop-place-preserved g c =
     let t = c.args.shop.now.tables in
     let h = c.args.history.now.entries in
     let k = c.loop-place.place in
-    let stepped : IsWritten g.W.Write.contents c.args.writer.now c.loop-place.writer c.loop-place.tries c.entry_row.new.page (so_far t h (k + 1)) =
+    let stepped : IsWritten g.W.Write.contents c.args.writer.now c.loop-place.writer 1000000 c.loop-place.tries c.entry_row.new.page (so_far t h (k + 1)) =
     entry-written g.W.Write.contents c.args.writer.now c.loop-place.writer c.loop-place.tries c.loop-place.page c.entry_row.new.page c.tables-tables.result.now t c.entries-entry-items.result.now h k c.entry-item.result
     c.loop-place.invariant c.tables-tables.ensures.value c.entries-entry-items.ensures.entries c.loop-place-test.true c.entry-item.is c.in_ok-entry_row.ensures in
-    written-passed g.W.Write.contents c.args.writer.now c.loop-place.writer c.pass_on.new.writer c.loop-place.tries c.pass_on.new.tries c.entry_row.new.page c.pass_on.new.self (so_far t h (k + 1)) stepped
+    written-passed g.W.Write.contents c.args.writer.now c.loop-place.writer c.pass_on.new.writer 1000000 c.loop-place.tries c.pass_on.new.tries c.entry_row.new.page c.pass_on.new.self (so_far t h (k + 1)) stepped
     c.in_ok-pass_on.ensures.tries c.in_ok-pass_on.ensures.passed
 
 pub returns-clause-whole : goal.returns-clause-whole
@@ -52,8 +52,8 @@ returns-clause-whole g c =
     let h = c.args.history.now.entries in
     let same : length c.entries-entry-items.result.now ≡ length h = ap (length {A = Entry Call Reply}) c.entries-entry-items.ensures.entries in
     let all : c.loop-place.place ≡ length h = omega (arith, same, c.loop-place-test.false, c.loop-place.auto.place-end) in
-    let written : IsWritten g.W.Write.contents c.args.writer.now c.loop-place.writer c.loop-place.tries c.loop-place.page (history_text t h) =
-    subst (λ (text : List ℕ). IsWritten g.W.Write.contents c.args.writer.now c.loop-place.writer c.loop-place.tries c.loop-place.page text) (whole t h c.loop-place.place all) c.loop-place.invariant in
+    let written : IsWritten g.W.Write.contents c.args.writer.now c.loop-place.writer 1000000 c.loop-place.tries c.loop-place.page (history_text t h) =
+    subst (λ (text : List ℕ). IsWritten g.W.Write.contents c.args.writer.now c.loop-place.writer 1000000 c.loop-place.tries c.loop-place.page text) (whole t h c.loop-place.place all) c.loop-place.invariant in
     on-ok-then c.hand_over.result
     (written-whole g.W.Write.contents c.args.writer.now c.loop-place.writer c.hand_over.new.writer c.loop-place.tries c.hand_over.new.tries c.loop-place.page (history_text t h) written c.hand_over.ensures.tries)
     c.hand_over.ensures.whole
@@ -64,8 +64,8 @@ returns-clause-front g c =
     let h = c.args.history.now.entries in
     let same : length c.entries-entry-items.result.now ≡ length h = ap (length {A = Entry Call Reply}) c.entries-entry-items.ensures.entries in
     let all : c.loop-place.place ≡ length h = omega (arith, same, c.loop-place-test.false, c.loop-place.auto.place-end) in
-    let written : IsWritten g.W.Write.contents c.args.writer.now c.loop-place.writer c.loop-place.tries c.loop-place.page (history_text t h) =
-    subst (λ (text : List ℕ). IsWritten g.W.Write.contents c.args.writer.now c.loop-place.writer c.loop-place.tries c.loop-place.page text) (whole t h c.loop-place.place all) c.loop-place.invariant in
+    let written : IsWritten g.W.Write.contents c.args.writer.now c.loop-place.writer 1000000 c.loop-place.tries c.loop-place.page (history_text t h) =
+    subst (λ (text : List ℕ). IsWritten g.W.Write.contents c.args.writer.now c.loop-place.writer 1000000 c.loop-place.tries c.loop-place.page text) (whole t h c.loop-place.place all) c.loop-place.invariant in
     on-err-then c.hand_over.result
-    (front-then g.W.Write.contents c.args.writer.now c.loop-place.writer c.hand_over.new.writer c.loop-place.tries c.loop-place.page (history_text t h) [] (history_text t h) written (sym (append-nil (history_text t h))))
+    (front-then g.W.Write.contents c.args.writer.now c.loop-place.writer c.hand_over.new.writer 1000000 c.loop-place.tries c.loop-place.page (history_text t h) [] (history_text t h) written (sym (append-nil (history_text t h))))
     c.hand_over.ensures.front

@@ -1,68 +1,83 @@
-use Rattle.std.proofs.Common.{◌≡◌, ◌∙◌, ◌+◌, ◌++◌, ℕ, List, [], ap, sym, subst, arith, refl}
+use Rattle.std.proofs.Common.{◌≡◌, ◌∙◌, ◌++◌, ℕ, List, [], length, ap, sym, subst, refl}
 use Rattle.std.proofs.lemmas.List.{append-nil}
-use Rattle.mrp_item.specs.Inputs.{count}
-use Rattle.mrp_item.specs.Places.{PlannedItem}
-use Rattle.mrp_report.specs.ReportText.{item_text, report_text}
-use Rattle.mrp_report.proofs.Progress.{IsWritten, written-none, written-more, written-passed, written-whole, front-now, front-then, on-err, on-err-then, on-ok-then}
-use Rattle.mrp_report.proofs.ReportSoFar.{so_far, so_far-more, text_at, to-come, whole}
+use Rattle.mrp_report.specs.ReportText.{plan_text, promises_text, report_text}
+use Rattle.mrp_report.specs.RunText.{run_text}
+use Rattle.mrp_report.proofs.ItemTexts.{report-is}
+use Rattle.mrp_report.proofs.Progress.{IsWritten, front-then, on-err, on-err-then, on-ok-then, written-more, written-none, written-passed, written-whole}
 use Rattle.mrp_report.proofs.report.write_report.Goals as goal
 
-pub returns-in_err-head-clause-front : goal.returns-in_err-head-clause-front
-returns-in_err-head-clause-front g c =
+pub returns-in_err-write_promises-clause-front : goal.returns-in_err-write_promises-clause-front
+returns-in_err-write_promises-clause-front g c =
     let s = c.args.plan.now.inputs in
-    let (rest, is) = to-come s 0 (omega arith) in
-    on-err c.from_residual.result (front-now g.W.Write.contents c.args.writer.now c.args.writer.now 1000000 (so_far s 0) (so_far s 0) rest (report_text s)
-    (written-none g.W.Write.contents c.args.writer.now 1000000 (so_far s 0) (so_far s 0) refl refl) is)
+    let run : List ℕ = run_text s.front (length s.standing) in
+    let page : c.write_run.new.page ≡ run = c.in_ok-write_run.ensures ∙ ap (λ (p : List ℕ). p ++ run) c.new-page.ensures in
+    let begun : IsWritten g.W.Write.contents c.args.writer.now c.args.writer.now 1000000 c.new-tries.result c.write_run.new.page run =
+    written-none g.W.Write.contents c.args.writer.now 1000000 c.new-tries.result c.write_run.new.page run c.new-tries.ensures page in
+    let promised : IsWritten g.W.Write.contents c.args.writer.now c.args.writer.now 1000000 c.new-tries.result (c.write_run.new.page ++ promises_text s) (run ++ promises_text s) =
+    written-more g.W.Write.contents c.args.writer.now c.args.writer.now 1000000 c.new-tries.result c.write_run.new.page (c.write_run.new.page ++ promises_text s) run (promises_text s) begun refl in
+    on-err c.from_residual-in_err-write_promises.result
+    (front-then g.W.Write.contents c.args.writer.now c.args.writer.now c.write_promises.new.writer 1000000 c.new-tries.result (c.write_run.new.page ++ promises_text s) (run ++ promises_text s) (plan_text s) (report_text s)
+    promised (report-is s) c.in_err-write_promises.ensures.front)
 
-pub returns-in_err-item_rows-clause-front : goal.returns-in_err-item_rows-clause-front
-returns-in_err-item_rows-clause-front g c =
+pub returns-in_err-write_plan-clause-front : goal.returns-in_err-write_plan-clause-front
+returns-in_err-write_plan-clause-front g c =
     let s = c.args.plan.now.inputs in
-    let (rest, is) = to-come s c.loop-item.item (omega (arith, c.loop-item.invariant.0, c.loop-item-test.true)) in
-    on-err c.from_residual-in_err-item_rows.result (front-now g.W.Write.contents c.args.writer.now c.loop-item.writer c.loop-item.tries c.loop-item.page (so_far s c.loop-item.item) rest (report_text s) c.loop-item.invariant.1 is)
-
-pub returns-in_err-pass_on-clause-front : goal.returns-in_err-pass_on-clause-front
-returns-in_err-pass_on-clause-front g c =
-    let s = c.args.plan.now.inputs in
-    let k = c.loop-item.item in
-    let row : c.item_rows.new.page ≡ c.loop-item.page ++ text_at s k =
-    c.in_ok-item_rows.ensures ∙ ap (λ (p : PlannedItem). c.loop-item.page ++ item_text p.inputs p.item p.plan) c.item.ensures in
-    let stepped : IsWritten g.W.Write.contents c.args.writer.now c.loop-item.writer c.loop-item.tries c.item_rows.new.page (so_far s (k + 1)) =
-    subst (λ (t : List ℕ). IsWritten g.W.Write.contents c.args.writer.now c.loop-item.writer c.loop-item.tries c.item_rows.new.page t) (sym (so_far-more s k))
-    (written-more g.W.Write.contents c.args.writer.now c.loop-item.writer c.loop-item.tries c.loop-item.page c.item_rows.new.page (so_far s k) (text_at s k) c.loop-item.invariant.1 row) in
-    let (rest, is) = to-come s (k + 1) (omega (arith, c.loop-item.invariant.0, c.loop-item-test.true)) in
-    on-err c.from_residual-in_err-pass_on.result
-    (front-then g.W.Write.contents c.args.writer.now c.loop-item.writer c.pass_on.new.writer c.loop-item.tries c.item_rows.new.page (so_far s (k + 1)) rest (report_text s) stepped is c.in_err-pass_on.ensures.front)
-
-pub loop-item-preserved : goal.loop-item-preserved
-loop-item-preserved g c =
-    let s = c.args.plan.now.inputs in
-    let k = c.loop-item.item in
-    let row : c.item_rows.new.page ≡ c.loop-item.page ++ text_at s k =
-    c.in_ok-item_rows.ensures ∙ ap (λ (p : PlannedItem). c.loop-item.page ++ item_text p.inputs p.item p.plan) c.item.ensures in
-    let stepped : IsWritten g.W.Write.contents c.args.writer.now c.loop-item.writer c.loop-item.tries c.item_rows.new.page (so_far s (k + 1)) =
-    subst (λ (t : List ℕ). IsWritten g.W.Write.contents c.args.writer.now c.loop-item.writer c.loop-item.tries c.item_rows.new.page t) (sym (so_far-more s k))
-    (written-more g.W.Write.contents c.args.writer.now c.loop-item.writer c.loop-item.tries c.loop-item.page c.item_rows.new.page (so_far s k) (text_at s k) c.loop-item.invariant.1 row) in (
-      c.loop-item.invariant.0,
-      written-passed g.W.Write.contents c.args.writer.now c.loop-item.writer c.pass_on.new.writer c.loop-item.tries c.pass_on.new.tries c.item_rows.new.page c.pass_on.new.self (so_far s (k + 1)) stepped
-          c.in_ok-pass_on.ensures.tries c.in_ok-pass_on.ensures.passed,
-    )
+    let run : List ℕ = run_text s.front (length s.standing) in
+    let page : c.write_run.new.page ≡ run = c.in_ok-write_run.ensures ∙ ap (λ (p : List ℕ). p ++ run) c.new-page.ensures in
+    let begun : IsWritten g.W.Write.contents c.args.writer.now c.args.writer.now 1000000 c.new-tries.result c.write_run.new.page run =
+    written-none g.W.Write.contents c.args.writer.now 1000000 c.new-tries.result c.write_run.new.page run c.new-tries.ensures page in
+    let promised : IsWritten g.W.Write.contents c.args.writer.now c.args.writer.now 1000000 c.new-tries.result (c.write_run.new.page ++ promises_text s) (run ++ promises_text s) =
+    written-more g.W.Write.contents c.args.writer.now c.args.writer.now 1000000 c.new-tries.result c.write_run.new.page (c.write_run.new.page ++ promises_text s) run (promises_text s) begun refl in
+    let passed : IsWritten g.W.Write.contents c.args.writer.now c.write_promises.new.writer 1000000 c.write_promises.new.tries c.write_promises.new.page (run ++ promises_text s) =
+    written-passed g.W.Write.contents c.args.writer.now c.args.writer.now c.write_promises.new.writer 1000000 c.new-tries.result c.write_promises.new.tries (c.write_run.new.page ++ promises_text s) c.write_promises.new.page
+    (run ++ promises_text s) promised c.in_ok-write_promises.ensures.tries c.in_ok-write_promises.ensures.passed in
+    let planned : IsWritten g.W.Write.contents c.args.writer.now c.write_promises.new.writer 1000000 c.write_promises.new.tries (c.write_promises.new.page ++ plan_text s) (run ++ promises_text s ++ plan_text s) =
+    written-more g.W.Write.contents c.args.writer.now c.write_promises.new.writer 1000000 c.write_promises.new.tries c.write_promises.new.page (c.write_promises.new.page ++ plan_text s) (run ++ promises_text s) (plan_text s) passed refl in
+    on-err c.from_residual-in_err-write_plan.result
+    (front-then g.W.Write.contents c.args.writer.now c.write_promises.new.writer c.write_plan.new.writer 1000000 c.write_promises.new.tries (c.write_promises.new.page ++ plan_text s) (run ++ promises_text s ++ plan_text s) []
+    (report_text s) planned (report-is s ∙ sym (append-nil (run ++ promises_text s ++ plan_text s))) c.in_err-write_plan.ensures.front)
 
 pub returns-clause-whole : goal.returns-clause-whole
 returns-clause-whole g c =
     let s = c.args.plan.now.inputs in
-    let all : c.loop-item.item ≡ count s = omega (arith, c.loop-item.invariant.0, c.loop-item-test.false, c.loop-item.auto.item-end) in
-    let written : IsWritten g.W.Write.contents c.args.writer.now c.loop-item.writer c.loop-item.tries c.loop-item.page (report_text s) =
-    subst (λ (t : List ℕ). IsWritten g.W.Write.contents c.args.writer.now c.loop-item.writer c.loop-item.tries c.loop-item.page t) (ap (so_far s) all ∙ whole s) c.loop-item.invariant.1 in
+    let run : List ℕ = run_text s.front (length s.standing) in
+    let page : c.write_run.new.page ≡ run = c.in_ok-write_run.ensures ∙ ap (λ (p : List ℕ). p ++ run) c.new-page.ensures in
+    let begun : IsWritten g.W.Write.contents c.args.writer.now c.args.writer.now 1000000 c.new-tries.result c.write_run.new.page run =
+    written-none g.W.Write.contents c.args.writer.now 1000000 c.new-tries.result c.write_run.new.page run c.new-tries.ensures page in
+    let promised : IsWritten g.W.Write.contents c.args.writer.now c.args.writer.now 1000000 c.new-tries.result (c.write_run.new.page ++ promises_text s) (run ++ promises_text s) =
+    written-more g.W.Write.contents c.args.writer.now c.args.writer.now 1000000 c.new-tries.result c.write_run.new.page (c.write_run.new.page ++ promises_text s) run (promises_text s) begun refl in
+    let passed : IsWritten g.W.Write.contents c.args.writer.now c.write_promises.new.writer 1000000 c.write_promises.new.tries c.write_promises.new.page (run ++ promises_text s) =
+    written-passed g.W.Write.contents c.args.writer.now c.args.writer.now c.write_promises.new.writer 1000000 c.new-tries.result c.write_promises.new.tries (c.write_run.new.page ++ promises_text s) c.write_promises.new.page
+    (run ++ promises_text s) promised c.in_ok-write_promises.ensures.tries c.in_ok-write_promises.ensures.passed in
+    let planned : IsWritten g.W.Write.contents c.args.writer.now c.write_promises.new.writer 1000000 c.write_promises.new.tries (c.write_promises.new.page ++ plan_text s) (run ++ promises_text s ++ plan_text s) =
+    written-more g.W.Write.contents c.args.writer.now c.write_promises.new.writer 1000000 c.write_promises.new.tries c.write_promises.new.page (c.write_promises.new.page ++ plan_text s) (run ++ promises_text s) (plan_text s) passed refl in
+    let written : IsWritten g.W.Write.contents c.args.writer.now c.write_plan.new.writer 1000000 c.write_plan.new.tries c.write_plan.new.page (report_text s) =
+    subst (λ (t : List ℕ). IsWritten g.W.Write.contents c.args.writer.now c.write_plan.new.writer 1000000 c.write_plan.new.tries c.write_plan.new.page t) (sym (report-is s))
+    (written-passed g.W.Write.contents c.args.writer.now c.write_promises.new.writer c.write_plan.new.writer 1000000 c.write_promises.new.tries c.write_plan.new.tries (c.write_promises.new.page ++ plan_text s)
+    c.write_plan.new.page (run ++ promises_text s ++ plan_text s) planned c.in_ok-write_plan.ensures.tries c.in_ok-write_plan.ensures.passed) in
     on-ok-then c.hand_over.result
-    (written-whole g.W.Write.contents c.args.writer.now c.loop-item.writer c.hand_over.new.writer c.loop-item.tries c.hand_over.new.tries c.loop-item.page (report_text s) written c.hand_over.ensures.tries)
+    (written-whole g.W.Write.contents c.args.writer.now c.write_plan.new.writer c.hand_over.new.writer c.write_plan.new.tries c.hand_over.new.tries c.write_plan.new.page (report_text s) written c.hand_over.ensures.tries)
     c.hand_over.ensures.whole
 
 pub returns-clause-front : goal.returns-clause-front
 returns-clause-front g c =
     let s = c.args.plan.now.inputs in
-    let all : c.loop-item.item ≡ count s = omega (arith, c.loop-item.invariant.0, c.loop-item-test.false, c.loop-item.auto.item-end) in
-    let written : IsWritten g.W.Write.contents c.args.writer.now c.loop-item.writer c.loop-item.tries c.loop-item.page (report_text s) =
-    subst (λ (t : List ℕ). IsWritten g.W.Write.contents c.args.writer.now c.loop-item.writer c.loop-item.tries c.loop-item.page t) (ap (so_far s) all ∙ whole s) c.loop-item.invariant.1 in
+    let run : List ℕ = run_text s.front (length s.standing) in
+    let page : c.write_run.new.page ≡ run = c.in_ok-write_run.ensures ∙ ap (λ (p : List ℕ). p ++ run) c.new-page.ensures in
+    let begun : IsWritten g.W.Write.contents c.args.writer.now c.args.writer.now 1000000 c.new-tries.result c.write_run.new.page run =
+    written-none g.W.Write.contents c.args.writer.now 1000000 c.new-tries.result c.write_run.new.page run c.new-tries.ensures page in
+    let promised : IsWritten g.W.Write.contents c.args.writer.now c.args.writer.now 1000000 c.new-tries.result (c.write_run.new.page ++ promises_text s) (run ++ promises_text s) =
+    written-more g.W.Write.contents c.args.writer.now c.args.writer.now 1000000 c.new-tries.result c.write_run.new.page (c.write_run.new.page ++ promises_text s) run (promises_text s) begun refl in
+    let passed : IsWritten g.W.Write.contents c.args.writer.now c.write_promises.new.writer 1000000 c.write_promises.new.tries c.write_promises.new.page (run ++ promises_text s) =
+    written-passed g.W.Write.contents c.args.writer.now c.args.writer.now c.write_promises.new.writer 1000000 c.new-tries.result c.write_promises.new.tries (c.write_run.new.page ++ promises_text s) c.write_promises.new.page
+    (run ++ promises_text s) promised c.in_ok-write_promises.ensures.tries c.in_ok-write_promises.ensures.passed in
+    let planned : IsWritten g.W.Write.contents c.args.writer.now c.write_promises.new.writer 1000000 c.write_promises.new.tries (c.write_promises.new.page ++ plan_text s) (run ++ promises_text s ++ plan_text s) =
+    written-more g.W.Write.contents c.args.writer.now c.write_promises.new.writer 1000000 c.write_promises.new.tries c.write_promises.new.page (c.write_promises.new.page ++ plan_text s) (run ++ promises_text s) (plan_text s) passed refl in
+    let written : IsWritten g.W.Write.contents c.args.writer.now c.write_plan.new.writer 1000000 c.write_plan.new.tries c.write_plan.new.page (report_text s) =
+    subst (λ (t : List ℕ). IsWritten g.W.Write.contents c.args.writer.now c.write_plan.new.writer 1000000 c.write_plan.new.tries c.write_plan.new.page t) (sym (report-is s))
+    (written-passed g.W.Write.contents c.args.writer.now c.write_promises.new.writer c.write_plan.new.writer 1000000 c.write_promises.new.tries c.write_plan.new.tries (c.write_promises.new.page ++ plan_text s)
+    c.write_plan.new.page (run ++ promises_text s ++ plan_text s) planned c.in_ok-write_plan.ensures.tries c.in_ok-write_plan.ensures.passed) in
     on-err-then c.hand_over.result
-    (front-then g.W.Write.contents c.args.writer.now c.loop-item.writer c.hand_over.new.writer c.loop-item.tries c.loop-item.page (report_text s) [] (report_text s) written (sym (append-nil (report_text s))))
+    (front-then g.W.Write.contents c.args.writer.now c.write_plan.new.writer c.hand_over.new.writer 1000000 c.write_plan.new.tries c.write_plan.new.page (report_text s) [] (report_text s) written
+    (sym (append-nil (report_text s))))
     c.hand_over.ensures.front

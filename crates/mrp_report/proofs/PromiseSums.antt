@@ -1,0 +1,81 @@
+-- What is available in a row of promising is the least of what is uncommitted.
+use Rattle.std.proofs.Common.{◌≡◌, ◌≢◌, ◌∙◌, ℕ, zero, suc, ◌+◌, ◌-◌, ◌≤◌, ◌<◌, min, List, length, inl, inr, refl, sym, ap, subst, arith}
+use Rattle.std.proofs.lemmas.Bool.{cases_lt}
+use Rattle.mrp_phase.specs.Weeks.{in_week, sum_to, with_week}
+use Rattle.mrp_phase.proofs.WeekRows.{in_week_changed, in_week_kept, sum_to_suc}
+use Rattle.mrp_master.specs.Supply.{IsLeastFrom}
+use Rattle.mrp_master.specs.AtpRow.{AtpRow, IsAvailableIn, IsCoveredRow, IsWeekOf, with_booking}
+use Rattle.mrp_master.proofs.Available.{least, least_is}
+use Rattle.mrp_report.specs.PromiseRows.{least_from}
+use Rattle.mrp_report.specs.PromiseSheet.{available_in, uncommitted_in}
+
+-- Least values.
+
+least-from-is : (f : ℕ → ℕ) (week more : ℕ) → least f week more ≡ least_from f week more
+unfolding least least_from
+least-from-is f week zero = refl
+least-from-is f week (suc more) = ap (min (f week)) (least-from-is f (suc week) more)
+
+pub is-least-from : (f : ℕ → ℕ) (week last : ℕ) → week ≤ last → IsLeastFrom f week last (least_from f week (last - week))
+is-least-from f week last within =
+    let end : last ≡ week + (last - week) = omega (arith, within) in
+    subst (λ n. IsLeastFrom f week last n) (least-from-is f week (last - week)) (least_is f (last - week) week last end)
+
+pub least-from-same : (f g : ℕ → ℕ) (more week : ℕ) → ((t : ℕ) → week ≤ t → t ≤ week + more → f t ≡ g t) → least_from f week more ≡ least_from g week more
+unfolding least_from
+least-from-same f g zero week same = same week (omega arith) (omega arith)
+least-from-same f g (suc more) week same =
+    ap (λ n. min n (least_from f (suc week) more)) (same week (omega arith) (omega arith))
+    ∙ ap (min (g week)) (least-from-same f g more (suc week) (λ t a b. same t (omega (arith, a)) (omega (arith, b))))
+
+-- Sums of a row with one more booking.
+
+sum-before : (xs : List ℕ) (week quantity t : ℕ) → t < week → sum_to (with_week xs week quantity) t ≡ sum_to xs t
+sum-before xs week quantity zero before = refl
+sum-before xs week quantity (suc t) before =
+    let other : suc t ≢ week = omega (arith, before) in
+    omega (arith, sum_to_suc (with_week xs week quantity) t, sum_to_suc xs t, in_week_kept xs week (suc t) quantity other, sum-before xs week quantity t (omega (arith, before)))
+
+sum-from : (xs : List ℕ) (week more t : ℕ) → 0 < week → week ≤ length xs → week ≤ t → sum_to (with_week xs week (in_week xs week + more)) t ≡ sum_to xs t + more
+sum-from xs week more zero first last from = absurd (omega (arith, first, from))
+sum-from xs week more (suc t) first last from = elim (cases_lt t week) [
+  | inl here ↦
+      let same : week ≡ suc t = omega (arith, here, from) in
+      let now : in_week (with_week xs week (in_week xs week + more)) (suc t) ≡ in_week xs (suc t) + more =
+      ap (in_week (with_week xs week (in_week xs week + more))) (sym same) ∙ in_week_changed xs week (in_week xs week + more) first last ∙ ap (λ n. in_week xs n + more) same in
+      omega (arith, sum_to_suc (with_week xs week (in_week xs week + more)) t, sum_to_suc xs t, now, sum-before xs week (in_week xs week + more) t here)
+  | inr later ↦
+      let other : suc t ≢ week = omega (arith, later) in
+      omega (arith, sum_to_suc (with_week xs week (in_week xs week + more)) t, sum_to_suc xs t, in_week_kept xs week (suc t) (in_week xs week + more) other, sum-from xs week more t first last later)
+]
+
+module _ (r : AtpRow) (same : length r.booked ≡ length r.supply) (week : ℕ) (inside : IsWeekOf r week) where
+  abbrev last : ℕ
+  last = length r.supply
+
+  abbrev lowest : ℕ
+  lowest = available_in r week
+
+  least-of : IsLeastFrom (uncommitted_in r) week last lowest
+  least-of = is-least-from (uncommitted_in r) week last inside.1
+
+  -- what is available in a row is the least of what is uncommitted
+  pub available-is : (quantity : ℕ) → IsAvailableIn r week quantity → quantity ≡ available_in r week
+  available-is quantity a =
+      let from : (more t : ℕ) → week ≤ t → sum_to (with_booking r week more).booked t ≡ sum_to r.booked t + more =
+      λ more t h. sum-from r.booked week more t inside.0 (omega (arith, inside.1, same)) h in
+      let at = least-of.reached in
+      let at_first : 1 ≤ at.0 = omega (arith, inside.0, at.1) in
+      let fits_there : sum_to (with_booking r week quantity).booked at.0 ≤ sum_to r.supply at.0 = a.fits at.0 (at_first, at.2) in
+      let not_more : quantity ≤ lowest = omega (arith, fits_there, from quantity at.0 at.1, at.3) in
+      let covered : IsCoveredRow (with_booking r week lowest) = λ t w. elim (cases_lt t week) [
+        | inl before ↦
+            let without : sum_to (with_booking r week quantity).booked t ≤ sum_to r.supply t = a.fits t w in
+            omega (arith, without, sum-before r.booked week (in_week r.booked week + quantity) t before, sum-before r.booked week (in_week r.booked week + lowest) t before)
+        | inr later ↦
+            let with_it : sum_to (with_booking r week quantity).booked t ≤ sum_to r.supply t = a.fits t w in
+            let low : lowest ≤ uncommitted_in r t = least-of.below t later w.1 in
+            omega (arith, with_it, low, from quantity t later, from lowest t later)
+      ] in
+      let not_less : lowest ≤ quantity = a.greatest lowest covered in
+      omega (arith, not_more, not_less)

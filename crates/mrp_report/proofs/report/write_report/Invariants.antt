@@ -1,8 +1,0 @@
-use Rattle.std.proofs.Common.{◌≡◌}
-use Rattle.mrp_item.specs.Inputs.{count}
-use Rattle.mrp_report.proofs.Progress.{IsWritten}
-use Rattle.mrp_report.proofs.ReportSoFar.{so_far}
-use Rattle.mrp_report.proofs.report.write_report.Given as goal
-
-abbrev pub invariant-loop-item : goal.invariant-loop-item
-invariant-loop-item g l = (l.item-end ≡ count l.plan.inputs) × IsWritten g.W.Write.contents l.fn.writer l.writer l.tries l.page (so_far l.plan.inputs l.item)

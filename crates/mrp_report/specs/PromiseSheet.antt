@@ -1,0 +1,31 @@
+-- A master item's weeks, as its rows of promises are made of them.
+use Rattle.std.specs.Prelude.{ℕ, ◌≡◌, ◌≤◌, ◌-◌, length}
+use Rattle.mrp_phase.specs.Weeks.{in_week, sum_to}
+use Rattle.mrp_master.specs.AtpRow.{AtpRow, bucket}
+use Rattle.mrp_report.specs.declared.promises.PromiseRow.{PromiseRow}
+use Rattle.mrp_report.specs.declared.promise_sheet.PromiseSheet.{PromiseSheet}
+use Rattle.mrp_report.specs.PromiseRows.{least_from}
+
+-- a sheet of at most two years, with a firm quantity, a supply and bookings for each week
+pub record IsPromiseSheet (s : PromiseSheet) : Type 0 where
+  pub few : s.weeks ≤ 104
+  pub firm : length s.firm.now ≡ s.weeks
+  pub supply : length s.row.now.supply ≡ s.weeks
+  pub booked : length s.row.now.booked ≡ s.weeks
+
+-- what is supplied up to a week, less what is booked up to it
+abbrev pub uncommitted_in : AtpRow → ℕ → ℕ
+uncommitted_in r week = sum_to r.supply week - sum_to r.booked week
+
+abbrev pub available_in : AtpRow → ℕ → ℕ
+available_in r week = least_from (uncommitted_in r) week (length r.supply - week)
+
+-- the row of a week
+abbrev pub sheet_promise : PromiseSheet → ℕ → PromiseRow
+sheet_promise s week = record {
+  week = week;
+  firm = in_week s.firm.now week;
+  booked = in_week s.row.now.booked week;
+  bucket = bucket s.row.now week;
+  available = available_in s.row.now week;
+}

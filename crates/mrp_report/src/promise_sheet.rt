@@ -1,0 +1,49 @@
+//! A master item's weeks, from which its rows of promises are made.
+
+ghost use Rattle.std.specs.Prelude.{◌≡◌, ◌<◌, ◌+◌, ◌++◌, OnOk, flat_map};
+ghost use Rattle.mrp_phase.specs.Weeks.{row};
+ghost use Rattle.mrp_report.specs.PromiseText.{promise_text};
+ghost use Rattle.mrp_report.specs.PromiseSheet.{IsPromiseSheet, sheet_promise};
+
+use crate::page::Page;
+use crate::promises::{PromiseRow, promise_row};
+use mrp_master::AtpRow;
+use mrp_qty::{NoMemory, Qty};
+
+// A master item's weeks: its firm quantities, and what is supplied and booked.
+#[derive(Clone, Copy)]
+pub(crate) struct PromiseSheet<'a> {
+    pub weeks: u16,
+    pub firm: &'a [Qty],
+    pub row: &'a AtpRow,
+}
+
+impl PromiseSheet<'_> {
+    // The row of the week behind a place.
+    fn row_at(&self, place: u16) -> PromiseRow
+        requires sheet { IsPromiseSheet self.now }
+        requires within { place < self.now.weeks }
+        ensures { result ≡ sheet_promise self.now (place + 1) }
+    {
+        let week = place + 1;
+        PromiseRow {
+            week,
+            firm: self.firm[usize::from(place)].value(),
+            booked: self.row.booked(week).value(),
+            bucket: self.row.bucket(week).value(),
+            available: self.row.available(week).value(),
+        }
+    }
+
+    // Adds the item's rows of the section `promises`.
+    pub(crate) fn write(&self, page: &mut Page, name: &[u8]) -> Result<(), NoMemory>
+        requires { IsPromiseSheet self.now }
+        ensures { OnOk result (page.new ≡ page.old ++ flat_map (promise_text name.now) (row self.now.weeks (sheet_promise self.now))) }
+    {
+        for place in 0..self.weeks {
+            let row = self.row_at(place);
+            promise_row(page, name, &row)?;
+        }
+        Ok(())
+    }
+}
