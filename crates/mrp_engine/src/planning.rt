@@ -1,6 +1,8 @@
 //! The plan of a run.
 
 ghost use Rattle.std.specs.Prelude.{◌≡◌, Err, IfOk};
+ghost use Rattle.mrp_master.specs.Supply.{supply_of};
+ghost use Rattle.mrp_book.specs.Booked.{AreBooked};
 ghost use Rattle.mrp_item.specs.Inputs.{inputs_of, item_at};
 ghost use Rattle.mrp_item.specs.Plan.{plan_of};
 ghost use Rattle.mrp_engine.specs.Planned.{PlansInputs, PlansRun};
@@ -17,6 +19,7 @@ use std::sync::Arc;
 
 // What a run is planned from.
 fn inputs_of(alloc: Global, shop: &Arc<Shop>, snapshot: &Snapshot) -> Result<Arc<Inputs>, NoMemory>
+    requires { AreBooked (supply_of shop.now.value.tables) snapshot.now.standing }
     ensures { IfOk result (λ inputs. inputs.value ≡ inputs_of shop.now.value.tables snapshot.now) }
 {
     Inputs::new(alloc, shop.clone()?, snapshot.copy()?)
@@ -41,10 +44,11 @@ fn name_of(inputs: &Inputs, item: usize) -> Name
     inputs.shop().tables().items()[item].name
 }
 
-/// The plan of a run: of a shop, and a snapshot of its order book.
+/// The plan of a run: of a shop, and a snapshot of its order book, as the caller owes.
 ///
 /// Errors: `TooLarge` with the first item in table order that gets too large, and `NoMemory`.
 pub fn plan_run(alloc: Global, shop: &Arc<Shop>, snapshot: &Snapshot) -> Result<Plan, DayFault>
+    requires { AreBooked (supply_of shop.now.value.tables) snapshot.now.standing }
     ensures { PlansRun (inputs_of shop.now.value.tables snapshot.now) result }
 {
     let inputs = inputs_of(alloc, shop, snapshot)?;

@@ -1,5 +1,7 @@
 //! The plans of a history's runs.
 
+ghost use Rattle.std.specs.Prelude.{◌≡◌};
+ghost use Rattle.mrp_master.specs.Supply.{supply_of};
 ghost use Rattle.mrp_engine.specs.Day.{runs_of};
 ghost use Rattle.mrp_engine.specs.Planned.{PlansRuns};
 
@@ -12,11 +14,12 @@ use std::alloc::Global;
 use std::sync::Arc;
 
 /// The plans of a history's runs, in order of entries, each from the snapshot that its entry was
-/// answered.
+/// answered. The caller owes a history of an equal shop.
 ///
 /// Errors: `TooLarge` with the first item in table order that gets too large in the first run with
 /// such an item, and `NoMemory`.
 pub fn plan_runs(alloc: Global, shop: &Arc<Shop>, history: &History) -> Result<Vec<Plan>, DayFault>
+    requires { history.now.supply ≡ supply_of shop.now.value.tables }
     ensures { PlansRuns (runs_of shop.now.value.tables history.now.entries) result }
 {
     let mut plans = Vec::new(alloc);

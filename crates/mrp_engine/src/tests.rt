@@ -22,7 +22,15 @@ const BOOKINGS: &str =
 const BOOKINGS_HISTORY: &str =
     "[history]\nentry,desk,call,item,week,quantity,number,reply,value\n1,1,book,BIKE,3,12,,booked,1\n2,1,book,BIKE,5,25,,booked,2\n3,2,ask,BIKE,1,,,available,10\n4,2,book,BIKE,2,15,,short,10\n5,2,book,BIKE,1,10,,booked,5\n6,1,ask,BIKE,3,,,available,3\n";
 
+const PROMISES_HEAD: &str = "[promises]\nitem,week,firm,booked,bucket,available\n";
+
+const BOOKINGS_PROMISES: &str =
+    "BIKE,1,0,10,0,0\nBIKE,2,0,0,0,0\nBIKE,3,20,12,3,3\nBIKE,4,0,0,0,3\nBIKE,5,20,25,0,3\nBIKE,6,0,0,0,3\n";
+
 const PLAN_HEAD: &str = "[plan]\nitem,week,gross,open,firm,planned,start,balance\n";
+
+const CANCELLED_PROMISES: &str =
+    "BIKE,1,0,10,0,0\nBIKE,2,0,0,0,0\nBIKE,3,20,12,8,8\nBIKE,4,0,0,0,8\nBIKE,5,20,0,20,28\nBIKE,6,0,0,0,28\n";
 
 const BOOKINGS_PLAN: &str =
     "BIKE,1,10,0,0,0,8,0\nBIKE,2,8,0,0,8,20,0\nBIKE,3,12,0,20,0,0,8\nBIKE,4,6,0,0,0,23,2\nBIKE,5,25,0,20,3,0,0\nBIKE,6,0,0,0,0,0,0\nFRAME,1,8,0,0,8,28,0\nFRAME,2,20,0,0,20,0,0\nFRAME,3,0,0,0,0,23,0\nFRAME,4,23,0,0,23,0,0\nFRAME,5,0,0,0,0,0,0\nFRAME,6,0,0,0,0,0,0\nWHEEL,1,16,0,0,16,56,0\nWHEEL,2,40,0,0,40,0,0\nWHEEL,3,0,0,0,0,46,0\nWHEEL,4,46,0,0,46,0,0\nWHEEL,5,0,0,0,0,0,0\nWHEEL,6,0,0,0,0,0,0\n";
@@ -51,7 +59,7 @@ fn bookings_are_answered_and_planned(rt: HostRuntime) -> Result<(), Fail> {
     let alloc = rt.alloc();
     let script = format!(in alloc; "{BOOKINGS}1,run,,,,\n")?;
     let want = format!(in alloc;
-        "{BOOKINGS_HISTORY}7,1,run,,,,,front,7\n[run]\nfront,standing\n7,3\n{PLAN_HEAD}{BOOKINGS_PLAN}"
+        "{BOOKINGS_HISTORY}7,1,run,,,,,front,7\n[run]\nfront,standing\n7,3\n{PROMISES_HEAD}{BOOKINGS_PROMISES}{PLAN_HEAD}{BOOKINGS_PLAN}"
     )?;
     let day = day_of(&rt, alloc, BICYCLES, &script)?;
     assert_eq!(rt; day.end, Ok(()));
@@ -63,7 +71,7 @@ fn bookings_are_answered_and_planned(rt: HostRuntime) -> Result<(), Fail> {
 fn a_run_is_added_where_there_is_none(rt: HostRuntime) -> Result<(), Fail> {
     let alloc = rt.alloc();
     let want = format!(in alloc;
-        "{BOOKINGS_HISTORY}7,1,run,,,,,front,7\n[run]\nfront,standing\n7,3\n{PLAN_HEAD}{BOOKINGS_PLAN}"
+        "{BOOKINGS_HISTORY}7,1,run,,,,,front,7\n[run]\nfront,standing\n7,3\n{PROMISES_HEAD}{BOOKINGS_PROMISES}{PLAN_HEAD}{BOOKINGS_PLAN}"
     )?;
     let day = day_of(&rt, alloc, BICYCLES, BOOKINGS)?;
     assert_eq!(rt; day.end, Ok(()));
@@ -78,7 +86,7 @@ fn cancellations_are_answered(rt: HostRuntime) -> Result<(), Fail> {
         "{BOOKINGS}2,cancel,,,,2\n1,cancel,,,,2\n1,cancel,,,,2\n1,cancel,,,,4\n1,ask,BIKE,2025-01-20,,\n1,run,,,,\n"
     )?;
     let front = format!(in alloc;
-        "{BOOKINGS_HISTORY}7,2,cancel,,,,2,not-yours,\n8,1,cancel,,,,2,cancelled,\n9,1,cancel,,,,2,not-standing,\n10,1,cancel,,,,4,not-standing,\n11,1,ask,BIKE,3,,,available,8\n12,1,run,,,,,front,12\n[run]\nfront,standing\n12,2\n"
+        "{BOOKINGS_HISTORY}7,2,cancel,,,,2,not-yours,\n8,1,cancel,,,,2,cancelled,\n9,1,cancel,,,,2,not-standing,\n10,1,cancel,,,,4,not-standing,\n11,1,ask,BIKE,3,,,available,8\n12,1,run,,,,,front,12\n[run]\nfront,standing\n12,2\n{PROMISES_HEAD}{CANCELLED_PROMISES}{PLAN_HEAD}"
     )?;
     let day = day_of(&rt, alloc, BICYCLES, &script)?;
     assert_eq!(rt; day.end, Ok(()));

@@ -19,8 +19,10 @@ calls and the plan of each run to standard output.
 
 A bundle is a text of nine sections, each a line with its name in brackets, as [items], and the rows
 of a csv table. What is written is a text of sections in the same form: [history] has a row for each
-call of the script, with its reply. Then, for each run, [run] says what was planned from, and [plan]
-has a row for each item and week, with what is required, what comes in, what starts and what is left.";
+call of the script, with its reply. Then, for each run, [run] says what was planned from, [promises]
+has a row for each master item and week, with its firm quantity and bookings, what is left of it and
+what is available to promise, and [plan] has a row for each item and week, with what is required,
+what comes in, what starts and what is left.";
 
 const EXAMPLE: &str = "Example:
   mrp plan < shop.bundle > shop.day

@@ -3,10 +3,13 @@ use std::io;
 use std::io::ErrorKind;
 use std::test::Fail;
 
+mod lots;
 mod scripts;
 mod shops;
 
-use self::shops::{BICYCLE, BICYCLE_DAY, CALENDAR, EMPTY_TABLES, FIRST_RUN};
+use self::shops::{
+    BICYCLE, BICYCLE_DAY, BOOKED_PROMISES, CALENDAR, EMPTY_TABLES, FIRST_RUN, PROMISES_HEAD,
+};
 
 const PLAN: [&str; 1] = ["plan"];
 
@@ -73,8 +76,12 @@ fn without_stock_and_schedule_nothing_is_planned(rt: HostRuntime) -> Result<(), 
         "BIKE,forecast,2025-01-13,8\nBIKE,forecast,2025-01-27,6\n",
         "",
     )?;
-    let mut want = format!(in alloc; "{FIRST_RUN}[run]\nfront,standing\n1,0\n[plan]\n")?;
-    want.push_str("item,week,gross,open,firm,planned,start,balance\n")?;
+    let mut want = format!(in alloc; "{FIRST_RUN}[run]\nfront,standing\n1,0\n{PROMISES_HEAD}")?;
+    for week in 1..7 {
+        let line = format!(in alloc; "BIKE,{week},0,0,0,0\n")?;
+        want.push_str(&line)?;
+    }
+    want.push_str("[plan]\nitem,week,gross,open,firm,planned,start,balance\n")?;
     for item in ["BIKE", "FRAME", "WHEEL"] {
         for week in 1..7 {
             let line = format!(in alloc; "{item},{week},0,0,0,0,0,0\n")?;
@@ -105,7 +112,7 @@ fn tables_without_records_make_a_day_without_rows(rt: HostRuntime) -> Result<(),
     let bundle = format!(in alloc; "{CALENDAR}{EMPTY_TABLES}")?;
     let left = left_by(&rt, alloc, &PLAN, &bundle)?;
     let plan = "[plan]\nitem,week,gross,open,firm,planned,start,balance\n";
-    let want = format!(in alloc; "{FIRST_RUN}[run]\nfront,standing\n1,0\n{plan}")?;
+    let want = format!(in alloc; "{FIRST_RUN}[run]\nfront,standing\n1,0\n{PROMISES_HEAD}{plan}")?;
     assert_eq!(rt; left.status, 0);
     assert_eq!(rt; left.output.as_str(), want.as_str());
     Ok(())

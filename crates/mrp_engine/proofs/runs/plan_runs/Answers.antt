@@ -1,13 +1,23 @@
 use Rattle.std.proofs.Common.{◌≡◌, ◌∙◌, ◌+◌, ◌++◌, [], ◌∷◌, Result, Ok, Err, ap, sym, subst, arith, rules}
 use Rattle.std.specs.Global.{Vec}
+use Rattle.mrp_master.specs.Supply.{Supply, supply_of}
+use Rattle.mrp_book.specs.History.{IsLegal}
 use Rattle.mrp_item.specs.Inputs.{inputs_of}
 use Rattle.mrp_item.specs.Places.{WholePlan}
+use Rattle.mrp_book.proofs.SnapshotBookings.{snapshot-booked}
 use Rattle.mrp_engine.specs.Day.{runs_of}
 use Rattle.mrp_engine.specs.Planned.{PlansRun, PlansRuns}
 use Rattle.mrp_engine.specs.declared.fault.DayFault.{DayFault}
 use Rattle.mrp_engine.proofs.RunsPlanned.{HasPlanned, not-a-run, planned-all, planned-more, planned-same, run-refused}
 use Rattle.mrp_engine.proofs.runs.plan_runs.Goals as goal
 use Rattle.mrp_engine.proofs.runs.plan_runs.Goals.{in-Taken+in_ok-plan_run+in_ok-push, in_default}
+
+pub plan_run-requires : goal.plan_run-requires
+plan_run-requires c =
+    let t = c.args.shop.now.value.tables in
+    let h = c.entries-entry-items.result.now in
+    let legal : IsLegal (supply_of t) h = subst (λ (x : Supply). IsLegal x h) c.requires c.entries-entry-items.ensures.legal in
+    snapshot-booked (supply_of t) h c.loop-entry.entry-index c.entry-item.result c.in-Taken.snapshot legal c.loop-entry-test.true c.entry-item.is c.in-Taken.is
 
 pub returns-in_err-plan_run : goal.returns-in_err-plan_run
 returns-in_err-plan_run c =

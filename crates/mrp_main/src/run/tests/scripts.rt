@@ -55,7 +55,7 @@ WHEEL,6,0,0,0,0,0,0\n";
 fn desks_book_and_ask_and_then_plan(rt: HostRuntime) -> Result<(), Fail> {
     let alloc = rt.alloc();
     let want = format!(in alloc;
-        "{HISTORY}{BOOKED}7,1,run,,,,,front,7\n[run]\nfront,standing\n7,3\n{PLAN_HEAD}{BOOKED_PLAN}"
+        "{HISTORY}{BOOKED}7,1,run,,,,,front,7\n[run]\nfront,standing\n7,3\n{PROMISES_HEAD}{BOOKED_PROMISES}{PLAN_HEAD}{BOOKED_PLAN}"
     )?;
     // A script without a run is run once, at its end, by desk 1.
     for run in ["1,run,,,,\n", ""] {
@@ -72,7 +72,7 @@ fn desks_book_and_ask_and_then_plan(rt: HostRuntime) -> Result<(), Fail> {
 fn a_cancelled_booking_stands_no_more(rt: HostRuntime) -> Result<(), Fail> {
     let alloc = rt.alloc();
     let cancels =
-        "2,cancel,,,,2\n1,cancel,,,,2\n1,cancel,,,,2\n1,cancel,,,,4\n1,ask,BIKE,2025-01-20,,\n1,run,,,,\n";
+        "2,cancel,,,,2\n1,cancel,,,,2\n1,cancel,,,,2\n1,cancel,,,,4\n1,ask,BIKE,2025-01-20,,\n1,when,BIKE,,28,\n1,run,,,,\n";
     let script = format!(in alloc; "{BOOKING}{cancels}")?;
     let left = left_by(&rt, alloc, &PLAN, &bicycles(alloc, &script)?)?;
     assert_eq!(rt; left.errors.as_str(), "");
@@ -83,8 +83,16 @@ fn a_cancelled_booking_stands_no_more(rt: HostRuntime) -> Result<(), Fail> {
 9,1,cancel,,,,2,not-standing,\n\
 10,1,cancel,,,,4,not-standing,\n\
 11,1,ask,BIKE,3,,,available,8\n\
-12,1,run,,,,,front,12\n\
-[run]\nfront,standing\n12,2\n";
+12,1,when,BIKE,,28,,week,5\n\
+13,1,run,,,,,front,13\n\
+[run]\nfront,standing\n13,2\n";
+    let promises = "\
+BIKE,1,0,10,0,0\n\
+BIKE,2,0,0,0,0\n\
+BIKE,3,20,12,8,8\n\
+BIKE,4,0,0,0,8\n\
+BIKE,5,20,0,20,28\n\
+BIKE,6,0,0,0,28\n";
     let bikes = "\
 BIKE,1,10,0,0,0,8,0\n\
 BIKE,2,8,0,0,8,20,0\n\
@@ -92,7 +100,9 @@ BIKE,3,12,0,20,0,0,8\n\
 BIKE,4,6,0,0,0,20,2\n\
 BIKE,5,0,0,20,0,0,22\n\
 BIKE,6,0,0,0,0,0,22\n";
-    let want = format!(in alloc; "{HISTORY}{BOOKED}{answered}{PLAN_HEAD}{bikes}FRAME,1,")?;
+    let want = format!(in alloc;
+        "{HISTORY}{BOOKED}{answered}{PROMISES_HEAD}{promises}{PLAN_HEAD}{bikes}FRAME,1,"
+    )?;
     assert!(rt; left.output.as_str().starts_with(want.as_str()));
     Ok(())
 }
@@ -100,15 +110,18 @@ BIKE,6,0,0,0,0,0,22\n";
 #[test]
 fn what_is_available_is_told_week_by_week(rt: HostRuntime) -> Result<(), Fail> {
     let alloc = rt.alloc();
-    let asks = "1,ask,BIKE,2025-01-06,,\n1,ask,BIKE,2025-01-20,,\n1,ask,BIKE,2025-02-03,,\n";
+    let asks =
+        "1,ask,BIKE,2025-01-06,,\n1,ask,BIKE,2025-01-20,,\n1,ask,BIKE,2025-02-03,,\n1,when,BIKE,,11,\n1,when,BIKE,,51,\n";
     let left = left_by(&rt, alloc, &PLAN, &bicycles(alloc, asks)?)?;
     let told = "\
 1,1,ask,BIKE,1,,,available,10\n\
 2,1,ask,BIKE,3,,,available,30\n\
 3,1,ask,BIKE,5,,,available,50\n\
-4,1,run,,,,,front,4\n\
-[run]\nfront,standing\n4,0\n";
-    let want = format!(in alloc; "{HISTORY}{told}{PLAN_HEAD}")?;
+4,1,when,BIKE,,11,,week,3\n\
+5,1,when,BIKE,,51,,no-week,\n\
+6,1,run,,,,,front,6\n\
+[run]\nfront,standing\n6,0\n";
+    let want = format!(in alloc; "{HISTORY}{told}{PROMISES_HEAD}BIKE,1,0,0,10,10\n")?;
     assert_eq!(rt; left.status, 0);
     assert!(rt; left.output.as_str().starts_with(want.as_str()));
     Ok(())
@@ -123,7 +136,7 @@ fn each_run_plans_the_bookings_that_stand_at_its_front(rt: HostRuntime) -> Resul
     let first = "1,64,run,,,,,front,1\n2,1,book,BIKE,3,12,,booked,2\n";
     let report = BICYCLE_DAY.strip_prefix(FIRST_RUN).ok_or("the history")?;
     let runs = format!(in alloc;
-        "8,1,run,,,,,front,8\n{report}[run]\nfront,standing\n8,3\n{PLAN_HEAD}{BOOKED_PLAN}"
+        "8,1,run,,,,,front,8\n{report}[run]\nfront,standing\n8,3\n{PROMISES_HEAD}{BOOKED_PROMISES}{PLAN_HEAD}{BOOKED_PLAN}"
     )?;
     assert!(rt; left.output.as_str().contains(first));
     assert!(rt; left.output.as_str().ends_with(runs.as_str()));
@@ -160,7 +173,8 @@ fn faults_of_the_script_are_told(rt: HostRuntime) -> Result<(), Fail> {
     for (rows, want) in [
         ("1,book,BIKE,\"2025-01", "6 columns script 1"),
         ("1,book,BIKE,2025-01-20,12.0,\n", "8 number script 1"),
-        ("1,when,BIKE,,12,\n", "10 word script 1"),
+        ("1,When,BIKE,,12,\n", "10 word script 1"),
+        ("1,when,FRAME,,12,\n", "16 not-master script 1"),
         ("1,run,,,,\n0,run,,,,\n", "11 range script 2"),
         ("1,ask,BOLT,2025-01-20,,\n", "13 unknown-item script 1"),
         ("1,ask,FRAME,2025-02-17,,\n", "15 date-outside script 1"),

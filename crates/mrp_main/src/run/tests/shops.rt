@@ -41,6 +41,18 @@ pub const FIRST_RUN: &str = "\
 entry,desk,call,item,week,quantity,number,reply,value\n\
 1,1,run,,,,,front,1\n";
 
+// The line and the header of the section of promises.
+pub const PROMISES_HEAD: &str = "[promises]\nitem,week,firm,booked,bucket,available\n";
+
+// What can be promised beside the three bookings.
+pub const BOOKED_PROMISES: &str = "\
+BIKE,1,0,10,0,0\n\
+BIKE,2,0,0,0,0\n\
+BIKE,3,20,12,3,3\n\
+BIKE,4,0,0,0,3\n\
+BIKE,5,20,25,0,3\n\
+BIKE,6,0,0,0,3\n";
+
 // What planning the bicycles writes.
 pub const BICYCLE_DAY: &str = "\
 [history]\n\
@@ -49,6 +61,14 @@ entry,desk,call,item,week,quantity,number,reply,value\n\
 [run]\n\
 front,standing\n\
 1,0\n\
+[promises]\n\
+item,week,firm,booked,bucket,available\n\
+BIKE,1,0,0,10,10\n\
+BIKE,2,0,0,0,10\n\
+BIKE,3,20,0,20,30\n\
+BIKE,4,0,0,0,30\n\
+BIKE,5,20,0,20,50\n\
+BIKE,6,0,0,0,50\n\
 [plan]\n\
 item,week,gross,open,firm,planned,start,balance\n\
 BIKE,1,0,0,0,0,0,10\n\
