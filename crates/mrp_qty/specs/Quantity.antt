@@ -1,5 +1,6 @@
 -- Quantities: whole pieces, up to a greatest one (profile).
-use Rattle.std.specs.Prelude.{ℕ, if◌then◌else◌, nat_le, Option, Some, None}
+use Rattle.std.specs.Prelude.{ℕ, ◌*◌, ◌-◌, if◌then◌else◌, nat_le, Option, Some, None}
+use Rattle.std.specs.Int.{div_ceil}
 
 -- the greatest quantity, in pieces
 abbrev pub greatest_quantity : ℕ
@@ -8,3 +9,12 @@ greatest_quantity = 1000000000000000
 -- a number as a quantity, where it is one
 abbrev pub quantity_of : ℕ → Option ℕ
 quantity_of n = if nat_le n greatest_quantity then Some n else None
+
+-- what has to start so that a quantity is left after a scrap of so many per thousand (Orlicky: scrap allowance; profile:
+-- rounded up)
+abbrev pub start_of : ℕ → ℕ → ℕ
+start_of scrap quantity = div_ceil (quantity * 1000) (1000 - scrap)
+
+-- the least multiple of a size that is no less than a quantity (Orlicky: fixed order quantity; profile for several at once)
+abbrev pub multiple_of : ℕ → ℕ → ℕ
+multiple_of size quantity = size * div_ceil quantity size

@@ -1,7 +1,7 @@
 //! Quantities of pieces.
 
-ghost use Rattle.std.specs.Prelude.{◌≡◌, ◌≤◌, ◌+◌, ◌*◌};
-ghost use Rattle.mrp_qty.specs.Quantity.{greatest_quantity, quantity_of};
+ghost use Rattle.std.specs.Prelude.{◌≡◌, ◌≤◌, ◌<◌, ◌+◌, ◌*◌};
+ghost use Rattle.mrp_qty.specs.Quantity.{greatest_quantity, multiple_of, quantity_of, start_of};
 
 use std::marker::Model;
 
@@ -60,6 +60,24 @@ impl Qty {
         let product = u128::from(self.value()) * u128::from(per);
         Qty::new(u64::try_from(product).ok()?)
     }
+
+    /// What has to start so that this quantity is left after a scrap of so many per thousand, at
+    /// most 900 (Orlicky: scrap allowance; profile: rounded up); None past 10^15.
+    pub fn start_for(self, scrap: u64) -> Option<Qty>
+        requires { scrap ≤ 900 }
+        ensures { result ≡ quantity_of (start_of scrap self) }
+    {
+        Qty::new((self.value() * 1000).div_ceil(1000 - scrap))
+    }
+
+    /// The least multiple of a size, at least 1, that is no less than this quantity (Orlicky: fixed
+    /// order quantity; profile for several at once); None past 10^15.
+    pub fn up_to_multiple(self, size: u64) -> Option<Qty>
+        requires { 0 < size }
+        ensures { result ≡ quantity_of (multiple_of size self) }
+    {
+        Qty::new(self.value().div_ceil(size))?.times(size)
+    }
 }
 
 #[cfg(test)]
@@ -93,6 +111,25 @@ mod tests {
         assert_eq!(rt; quantity(1_000_000_001)?.times(1_000_000), None);
         assert_eq!(rt; greatest.times(u64::MAX), None);
         assert_eq!(rt; greatest.times(0), Qty::new(0));
+        Ok(())
+    }
+
+    #[test]
+    fn what_starts_leaves_the_quantity_after_scrap(rt: HostRuntime) -> Result<(), Fail> {
+        assert_eq!(rt; quantity(20)?.start_for(100), Qty::new(23));
+        assert_eq!(rt; quantity(9)?.start_for(100), Qty::new(10));
+        assert_eq!(rt; quantity(0)?.start_for(100), Qty::new(0));
+        assert_eq!(rt; quantity(1_000_000_000_000_000)?.start_for(900), None);
+        Ok(())
+    }
+
+    #[test]
+    fn a_multiple_is_the_least_that_is_no_less(rt: HostRuntime) -> Result<(), Fail> {
+        let greatest = quantity(1_000_000_000_000_000)?;
+        assert_eq!(rt; quantity(21)?.up_to_multiple(20), Qty::new(40));
+        assert_eq!(rt; quantity(0)?.up_to_multiple(20), Qty::new(0));
+        assert_eq!(rt; greatest.up_to_multiple(20), Some(greatest));
+        assert_eq!(rt; greatest.up_to_multiple(7), None);
         Ok(())
     }
 }
