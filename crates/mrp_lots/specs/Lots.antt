@@ -1,6 +1,6 @@
 -- Lot sizing: the planned receipts up to each week, from the need up to each.
-use Rattle.std.specs.Prelude.{ℕ, zero, suc, ◌≡◌, ◌<◌, ◌≤◌, ◌+◌, ◌-◌, ◌*◌, min, nat_le, if◌then◌else◌}
-use Rattle.std.specs.Int.{div_ceil}
+use Rattle.std.specs.Prelude.{ℕ, zero, suc, ◌≡◌, ◌<◌, ◌≤◌, ◌+◌, ◌-◌, min, nat_le, if◌then◌else◌}
+use Rattle.mrp_qty.specs.Quantity.{multiple_of}
 use Rattle.mrp_net.specs.Need.{IsNeed}
 
 -- a lot rule: the receipts up to a week, from the horizon, the need up to each week, the week, and the receipts
@@ -14,7 +14,7 @@ lot_for_lot horizon need week before = need week
 
 -- whole multiples of a size (Orlicky: fixed order quantity; profile for several at once)
 abbrev pub fixed : ℕ → Rule
-fixed size horizon need week before = size * div_ceil (need week) size
+fixed size horizon need week before = multiple_of size (need week)
 
 -- the last of n weeks from a week on, or of the horizon
 abbrev pub last_of : ℕ → ℕ → ℕ → ℕ

@@ -1,10 +1,9 @@
 //! Lot rules.
 
-ghost use Rattle.std.specs.Prelude.{◌≡◌, ◌<◌, ◌+◌, ◌*◌, ℕ, length};
+ghost use Rattle.std.specs.Prelude.{◌≡◌, ◌<◌, ◌+◌, ℕ, length};
 ghost use Rattle.mrp_qty.specs.Quantity.{quantity_of};
 ghost use Rattle.mrp_phase.specs.Weeks.{in_week};
 ghost use Rattle.mrp_net.specs.Need.{IsNeed};
-ghost use Rattle.std.specs.Int.{div_ceil};
 ghost use Rattle.mrp_lots.specs.Lots.{Rule, IsLotRule, lot_for_lot, fixed, period, last_of};
 ghost use Rattle.mrp_lots.specs.LotLaws.{lot_for_lot_rule, fixed_rule, period_rule};
 
@@ -56,20 +55,12 @@ impl Fixed {
     }
 }
 
-// The least multiple of a size that is no less than a quantity; None past the greatest quantity.
-fn up_to_multiple(quantity: Qty, size: u64) -> Option<Qty>
-    requires { 0 < size }
-    ensures { result ≡ quantity_of (size * div_ceil quantity size) }
-{
-    Qty::new(quantity.value().div_ceil(size))?.times(size)
-}
-
 impl Lot for Fixed {
     ghost rule = { λ lot. fixed lot.size };
 
     #[tactic(auto, using(mrp_phase::proofs::WeekRows::in_week_next))]
     fn receive(&self, needs: &[Qty], place: usize, _before: Qty) -> Option<Qty> {
-        up_to_multiple(needs[place], self.size)
+        needs[place].up_to_multiple(self.size)
     }
 
     ghost kept = { λ lot. fixed_rule lot.size lot.some };
