@@ -2,7 +2,7 @@
 ghost use Rattle.std.specs.Prelude.{◌≡◌, ℕ, ◌≤◌, ◌+◌, ◌<◌, ◌++◌, ◌∷◌, [], length, slice_get, All, vec_capacity};
 ghost use Rattle.std.specs.Prelude.{Some, IfOk, IfErr, OnOk, OnErr, MatchOption, MatchResult};
 ghost use Rattle.mrp_turn.specs.Seen.{Seated, newcomer};
-ghost use Rattle.mrp_turn.specs.Log.{entry};
+ghost use Rattle.mrp_turn.specs.Log.{entry, IsReached};
 ghost use Rattle.mrp_turn.specs.Calls.{Explains};
 
 use crate::log::{Entry, Held, Log};
@@ -394,6 +394,7 @@ fn answer<O: Object>(
 ) -> Result<(u64, O::Reply), CallFault<O::Refused>>
     requires call { O.fits object.now call }
     requires who { (1 ≤ who) × (who ≤ 64) }
+    requires state { IsReached (O.answers object.now) (O.opens object.now) held.old.state }
     ensures room { vec_capacity held.old.log ≤ vec_capacity held.new.log }
     ensures answer { MatchResult result
         (λ r. (held.new.log.items ≡ held.old.log.items ++ entry who call r.1 ∷ [])

@@ -1,10 +1,19 @@
 use Rattle.std.proofs.Common.{ℕ, sym, ap, ◌∙◌, subst, arith}
+use Rattle.mrp_turn.specs.Log.{IsReached}
 use Rattle.mrp_turn.specs.Steps.{holding}
 use Rattle.mrp_turn.proofs.Runs.{ends, tells, Answered, is_at}
 use Rattle.mrp_turn.proofs.turn.Turn.run.Goals as goal
 
 pub take-held-requires-clause-idle : goal.take-held-requires-clause-idle
 take-held-requires-clause-idle g c = let at = c.requires.seat.0 in (at.0, at.1, at.2, at.3, omega (arith, at.4, c.requires.seat.1))
+
+pub answer-result-requires-clause-state : goal.answer-result-requires-clause-state
+answer-result-requires-clause-state g c =
+    let ob = g.O.Object in
+    let at = c.requires.seat.0 in
+    let taken = c.take-held.ensures.taken at.0 at.1 in
+    let object = ap (λ t. t.about.object) c.self.view_is ∙ ap (λ k. k.object) (sym at.3) in
+    subst (λ (o : g.row.O.Denot). IsReached (ob.answers o) (ob.opens o) c.take-held.result.state) (sym object) (taken.0, taken.2.1)
 
 pub give-requires-clause-holds : goal.give-requires-clause-holds
 give-requires-clause-holds g c =
