@@ -30,8 +30,9 @@ impl History {
     ghost use Rattle.mrp_book.specs.Books.{OrderBook};
     ghost use Rattle.mrp_book.specs.History.{IsLegal};
 
-    // A legal history.
-    pub(crate) fn new(supply: Supply, entries: Vec<Entry<Call, Reply>>) -> History
+    /// The history of entries that are legal over a supply, which the caller owes. It takes no
+    /// memory.
+    pub fn new(supply: Supply, entries: Vec<Entry<Call, Reply>>) -> History
         requires { IsLegal supply entries.items }
         ensures { result ≡ record { supply = supply; entries = entries.items } }
     {
