@@ -1,7 +1,8 @@
 -- From the lists of a bill back to its lines.
-use Rattle.std.proofs.Common.{◌≡◌, All, ℕ, zero, suc, ◌<◌, Bool, true, false, cond, List, [], ◌∷◌, length, map, filter, get_or, slice_index, refl, sym, ap, subst, ◌∙◌, arith}
+use Rattle.std.proofs.Common.{◌≡◌, ◌⊎◌, inl, inr, All, ℕ, zero, suc, ◌<◌, ◌≤◌, Bool, true, false, cond, List, [], ◌∷◌, length, map, filter, get_or, slice_index, refl, sym, ap, subst, ◌∙◌, arith}
 use Rattle.std.specs.Prelude.{◌==◌}
-use Rattle.std.specs.List.{range_with_len}
+use Rattle.std.specs.List.{Contains, range_with_len}
+use Rattle.std.proofs.lemmas.List.{get_or_default}
 use Rattle.std.proofs.lemmas.List.FromFn.{fill_by_all}
 use Rattle.mrp_tables.specs.Tables.{Tables}
 use Rattle.mrp_bill.specs.Shop.{Shop, IsShop}
@@ -9,7 +10,7 @@ use Rattle.mrp_tables.specs.declared.rows.BillLine.{BillLine}
 use Rattle.mrp_bill.specs.declared.lists.Lists.{Lists}
 use Rattle.mrp_tables.specs.declared.item.Item.{Item}
 use Rattle.mrp_tables.specs.Facts.{IsBillLine}
-use Rattle.mrp_bill.specs.Bill.{AreWithin, IsParent, NeedsItself, IsLoopPath, AreCodes, IsCode, HoldsEachOnce, IsOrder, Chain, line_at, lines_of}
+use Rattle.mrp_bill.specs.Bill.{AreWithin, IsParent, NeedsItself, IsLoopPath, AreCodes, IsCode, IsDepth, HoldsEachOnce, IsOrder, Chain, line_at, lines_of}
 use Rattle.mrp_bill.specs.BillLists.{AreLists}
 use Rattle.mrp_bill.specs.Climb.{IsSettled}
 use Rattle.mrp_bill.specs.Links.{IsFirstRound, IsRound, AreRising}
@@ -125,3 +126,18 @@ earlier lines count order within o k p h link =
     let (low, _) = parent-within lines count p (slice_index order k) within link in
     let (j, at, is) = o.all.each p low in
     (j, o.parents_first j k at h (subst (λ (x : ℕ). IsParent lines x (slice_index order k)) (sym is) link), is)
+
+-- an accepted shop keeps each item's low-level code
+pub code-is : (s : Shop) (i : ℕ) → IsShop s → IsCode s.tables.bills i (slice_index s.codes i)
+code-is s i ok = codes-are s.tables.bills (slice_index s.codes) ok.codes i
+
+-- the greatest of the codes is the depth
+pub depth-is : (s : Shop) (n : ℕ) → IsShop s → All (λ code. code ≤ n) s.codes → (n ≡ 0) ⊎ Contains s.codes n → IsDepth s.tables.bills (length s.tables.items) n
+depth-is s n ok all from = record {
+  greatest = λ i m h is. let same : m ≡ slice_index s.codes i = one-code s.tables.bills i m (slice_index s.codes i) is (code-is s i ok) in omega (arith, all i 0 (rw ok.size h));
+  reached = by from;
+}
+  where
+    by : (n ≡ 0) ⊎ Contains s.codes n → (n ≡ 0) ⊎ ((i : ℕ) × (i < length s.tables.items) × IsCode s.tables.bills i n)
+    by (inl none) = inl none
+    by (inr (i, h, is)) = inr (i, rw (← ok.size) h, subst (λ (x : ℕ). IsCode s.tables.bills i x) (get_or_default s.codes i 0 n h ∙ is) (code-is s i ok))

@@ -1,5 +1,5 @@
 -- The bill of material: chains of its lines, loops, low-level codes (Orlicky: product structure, low-level code).
-use Rattle.std.specs.Prelude.{ℕ, ◌≡◌, ◌<◌, ◌≤◌, ◌==◌, ◌&&◌, Bool, IsTrue, List, length, filter, All, slice_index, slice_index_or}
+use Rattle.std.specs.Prelude.{ℕ, ◌≡◌, ◌<◌, ◌≤◌, ◌==◌, ◌&&◌, ◌⊎◌, Bool, IsTrue, List, length, filter, All, slice_index, slice_index_or}
 use Rattle.std.specs.List.{range_with_len, list_any}
 use Rattle.mrp_tables.specs.declared.rows.BillLine.{BillLine}
 use Rattle.mrp_bill.specs.Links.{Links, Leads, IsTrail, IsFirstRound, IsRound, AreRising}
@@ -43,6 +43,11 @@ IsAbove lines a b = Leads (IsParent lines) a b
 pub record IsCode (lines : List BillLine) (i n : ℕ) : Type 0 where
   pub reached : (a : ℕ) × Chain lines n a i
   pub greatest : (m a : ℕ) → Chain lines m a i → m ≤ n
+
+-- n is the greatest code of the first items, 0 without items
+pub record IsDepth (lines : List BillLine) (count n : ℕ) : Type 0 where
+  pub greatest : (i m : ℕ) → i < count → IsCode lines i m → m ≤ n
+  pub reached : (n ≡ 0) ⊎ ((i : ℕ) × (i < count) × IsCode lines i n)
 
 -- an item that stands above itself
 abbrev pub NeedsItself : List BillLine → ℕ → Type 0

@@ -1,6 +1,6 @@
 //! Low-level codes.
 
-ghost use Rattle.std.specs.Prelude.{◌≡◌, ◌<◌, ℕ, suc, All, length, slice_index, IfOk};
+ghost use Rattle.std.specs.Prelude.{◌≡◌, ◌<◌, ◌≤◌, ◌⊎◌, ℕ, suc, All, length, slice_index, IfOk};
 ghost use Rattle.std.specs.List.{Contains};
 ghost use Rattle.mrp_bill.specs.Bill.{HoldsEachOnce};
 ghost use Rattle.mrp_bill.specs.Climb.{IsSettled};
@@ -45,4 +45,12 @@ pub fn codes_of(
         codes[*item] = code_below(&parents[*item], &codes);
     }
     Ok(codes)
+}
+
+// The greatest code, 0 where there is none.
+pub fn greatest(codes: &[usize]) -> usize
+    ensures greatest { All (λ code. code ≤ result) codes.now }
+    ensures reached { (result ≡ 0) ⊎ Contains codes.now result }
+{
+    codes.iter().copied().max().unwrap_or(0)
 }

@@ -1,7 +1,7 @@
 //! A shop: tables in which no item needs itself.
 
 use crate::climb::order_of;
-use crate::codes::codes_of;
+use crate::codes::{codes_of, greatest};
 use crate::fault::BillFault;
 use crate::lists::{Lists, lists_of};
 use crate::search::first_loop;
@@ -38,7 +38,7 @@ impl Model for Shop {
 
 impl Shop {
     ghost use Rattle.std.specs.Prelude.{◌≡◌, ◌<◌, length};
-    ghost use Rattle.mrp_bill.specs.Bill.{IsOrder, children_of, lines_of, parents_of};
+    ghost use Rattle.mrp_bill.specs.Bill.{IsCode, IsDepth, IsOrder, children_of, lines_of, parents_of};
     ghost use Rattle.mrp_bill.specs.Shop.{IsShop};
 
     /// The tables.
@@ -80,9 +80,20 @@ impl Shop {
         self.order.as_slice()
     }
 
-    #[cfg(test)]
-    pub(crate) fn codes(&self) -> &[usize] {
-        self.codes.as_slice()
+    /// An item's low-level code: the greatest number of bill lines in a chain that ends at it, 0
+    /// for an item without parents (Orlicky: low-level code).
+    pub fn code(&self, item: usize) -> usize
+        requires { item < length self.now.tables.items }
+        ensures { IsCode self.now.tables.bills item result }
+    {
+        self.codes[item]
+    }
+
+    /// The greatest low-level code of the items, 0 without items.
+    pub fn depth(&self) -> usize
+        ensures { IsDepth self.now.tables.bills (length self.now.tables.items) result }
+    {
+        greatest(&self.codes)
     }
 }
 

@@ -75,11 +75,20 @@ fn assert_lists(
     assert_eq!(rt; shop.lines_to(item), lines);
 }
 
+// Fails unless the items have these codes.
+fn assert_codes(rt: &impl Abort, shop: &Shop, codes: &[usize]) {
+    assert_eq!(rt; shop.tables().items().len(), codes.len());
+    for (item, code) in codes.iter().enumerate() {
+        assert_eq!(rt; shop.code(item), *code);
+    }
+}
+
 #[test]
 fn a_bike_is_accepted_with_its_longest_chains(rt: HostRuntime) -> Result<(), Fail> {
     // BIKE, FRAME, TUBE, SCREW
     let shop = accepted(rt.alloc(), 4, &[(0, 3), (0, 1), (1, 2), (2, 3)])?;
-    assert_eq!(rt; shop.codes(), [0, 1, 2, 3].as_slice());
+    assert_codes(&rt, &shop, &[0, 1, 2, 3]);
+    assert_eq!(rt; shop.depth(), 3);
     assert_eq!(rt; shop.order(), [0, 1, 2, 3].as_slice());
     assert_eq!(rt; shop.tables().bills().len(), 4);
     assert_lists(&rt, &shop, 0, &[], &[1, 3], &[]);
@@ -142,7 +151,7 @@ fn the_first_item_is_named_where_a_walk_meets_another_loop_first(
 #[test]
 fn a_diamond_is_no_loop(rt: HostRuntime) -> Result<(), Fail> {
     let shop = accepted(rt.alloc(), 4, &[(3, 1), (3, 2), (1, 0), (2, 0)])?;
-    assert_eq!(rt; shop.codes(), [2, 1, 1, 0].as_slice());
+    assert_codes(&rt, &shop, &[2, 1, 1, 0]);
     assert_eq!(rt; shop.order(), [3, 2, 1, 0].as_slice());
     assert_lists(&rt, &shop, 0, &[1, 2], &[], &[2, 3]);
     assert_lists(&rt, &shop, 3, &[], &[1, 2], &[]);
@@ -166,7 +175,7 @@ fn two_lines_of_one_pair_count_once(rt: HostRuntime) -> Result<(), Fail> {
     assert_lists(&rt, &shop, 0, &[1, 2], &[], &[0, 1, 2, 4]);
     assert_lists(&rt, &shop, 1, &[2], &[0], &[3]);
     assert_lists(&rt, &shop, 2, &[], &[0, 1], &[]);
-    assert_eq!(rt; shop.codes(), [2, 1, 0].as_slice());
+    assert_codes(&rt, &shop, &[2, 1, 0]);
     Ok(())
 }
 
@@ -188,16 +197,17 @@ fn a_hundred_thousand_lines_of_one_pair_are_one_parent(rt: HostRuntime) -> Resul
 fn no_items_are_a_shop(rt: HostRuntime) -> Result<(), Fail> {
     let shop = accepted(rt.alloc(), 0, &[])?;
     assert_eq!(rt; shop.order(), [].as_slice());
+    assert_eq!(rt; shop.depth(), 0);
     let shop = accepted(rt.alloc(), 2, &[])?;
     assert_eq!(rt; shop.order(), [0, 1].as_slice());
-    assert_eq!(rt; shop.codes(), [0, 0].as_slice());
+    assert_codes(&rt, &shop, &[0, 0]);
     Ok(())
 }
 
 #[test]
 fn a_chain_of_twenty_thousand_items_is_accepted(rt: HostRuntime) -> Result<(), Fail> {
     let shop = accepted(rt.alloc(), 20_000, &chain(rt.alloc(), 20_000)?)?;
-    assert_eq!(rt; shop.codes().last(), Some(&19_999));
+    assert_eq!(rt; shop.depth(), 19_999);
     Ok(())
 }
 
@@ -242,7 +252,7 @@ fn a_hundred_thousand_random_lines_are_accepted(rt: HostRuntime) -> Result<(), F
         20_000,
         &random_lines(rt.alloc(), 20_000, 100_000)?,
     )?;
-    assert_eq!(rt; shop.codes().len(), 20_000);
+    assert_eq!(rt; shop.order().len(), 20_000);
     Ok(())
 }
 
