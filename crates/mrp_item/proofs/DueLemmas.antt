@@ -9,7 +9,7 @@ use Rattle.std.proofs.lemmas.List.Sums.{sum_by-cons, sum_by_more, sum_by_more_le
 use Rattle.mrp_phase.specs.Weeks.{row, in_week, with_week}
 use Rattle.mrp_phase.proofs.WeekRows.{row_is, row_same, in_week_row, in_week_changed, in_week_kept, in_week_replicate, length-with_week}
 use Rattle.mrp_item.specs.declared.due.Due.{Due}
-use Rattle.mrp_item.specs.Dues.{due_in, due_sum, dues_of, listed, with_due}
+use Rattle.mrp_item.specs.Dues.{due_in, due_sum, dues_of, listed, with_more}
 
 -- a quantity that is due in a week, and 0 in another
 abbrev pub one_due : ℕ → Due → ℕ
@@ -37,37 +37,36 @@ due_sum_more dues k d t h = due_sum-by (take (k + 1) dues) t ∙ sum_by_more (on
 pub due_sum_within : (dues : List Due) (k : ℕ) (d : Due) (t : ℕ) → k < length dues → due_sum (take k dues) t + one_due t (get_or dues k d) ≤ due_sum dues t
 due_sum_within dues k d t h = omega (arith, due_sum-by dues t, due_sum-by (take k dues) t, sum_by_more_le (one_due t) dues k d h)
 
--- a row with one thing more that is due in one of its weeks
-pub with_due_row : (xs : List ℕ) (due : Due) (n : ℕ) → length xs ≡ n → 0 < due.week → due.week ≤ n
-    → with_week xs due.week (in_week xs due.week + due.quantity) ≡ row n (with_due xs due)
-with_due_row xs due n e a b =
-    row_is (with_week xs due.week (in_week xs due.week + due.quantity)) (with_due xs due) n (length-with_week xs due.week (in_week xs due.week + due.quantity) ∙ e)
-    (λ t c d. by t (eqb due.week t) refl)
+-- a row with more in one of its weeks
+pub with_more_row : (xs : List ℕ) (at more n : ℕ) → length xs ≡ n → 0 < at → at ≤ n → with_week xs at (in_week xs at + more) ≡ row n (with_more xs at more)
+with_more_row xs at more n e a b =
+    row_is (with_week xs at (in_week xs at + more)) (with_more xs at more) n (length-with_week xs at (in_week xs at + more) ∙ e)
+    (λ t c d. by t (eqb at t) refl)
   where
-    by : (t : ℕ) (same : Bool) → eqb due.week t ≡ same → in_week (with_week xs due.week (in_week xs due.week + due.quantity)) t ≡ in_week xs t + cond same due.quantity 0
+    by : (t : ℕ) (same : Bool) → eqb at t ≡ same → in_week (with_week xs at (in_week xs at + more)) t ≡ in_week xs t + cond same more 0
     by t true f =
-        let same : due.week ≡ t = eqb-true due.week t f in
-        rw (← same) (in_week_changed xs due.week (in_week xs due.week + due.quantity) a (omega arith))
+        let same : at ≡ t = eqb-true at t f in
+        rw (← same) (in_week_changed xs at (in_week xs at + more) a (omega arith))
     by t false f =
-        let other : t ≢ due.week = (let no : due.week ≢ t = eqb-false due.week t f in omega arith) in
-        in_week_kept xs due.week t (in_week xs due.week + due.quantity) other ∙ omega arith
+        let other : t ≢ at = (let no : at ≢ t = eqb-false at t f in omega arith) in
+        in_week_kept xs at t (in_week xs at + more) other ∙ omega arith
 
--- and one that is due in none of them
-pub without_due_row : (xs : List ℕ) (due : Due) (n : ℕ) → length xs ≡ n → (0 < due.week → due.week ≤ n → zero ≡ 1) → xs ≡ row n (with_due xs due)
-without_due_row xs due n e never =
-    row_is xs (with_due xs due) n e (λ t a b. by t a b (eqb due.week t) refl)
+-- and with more in none of them
+pub without_more_row : (xs : List ℕ) (at more n : ℕ) → length xs ≡ n → (0 < at → at ≤ n → zero ≡ 1) → xs ≡ row n (with_more xs at more)
+without_more_row xs at more n e never =
+    row_is xs (with_more xs at more) n e (λ t a b. by t a b (eqb at t) refl)
   where
-    by : (t : ℕ) → 0 < t → t ≤ n → (same : Bool) → eqb due.week t ≡ same → in_week xs t ≡ in_week xs t + cond same due.quantity 0
+    by : (t : ℕ) → 0 < t → t ≤ n → (same : Bool) → eqb at t ≡ same → in_week xs t ≡ in_week xs t + cond same more 0
     by t a b true f =
-        let same : due.week ≡ t = eqb-true due.week t f in
+        let same : at ≡ t = eqb-true at t f in
         absurd (let no : zero ≡ 1 = never (omega arith) (omega arith) in omega arith)
     by t a b false f = omega arith
 
 -- the row of what is due in the rows so far, and in the next
 pub dated_more : (dues : List Due) (k : ℕ) (d : Due) (xs : List ℕ) (n : ℕ) → k < length dues → d ≡ get_or dues k d → xs ≡ row n (due_sum (take k dues))
-    → row n (with_due xs d) ≡ row n (due_sum (take (k + 1) dues))
+    → row n (with_more xs d.week d.quantity) ≡ row n (due_sum (take (k + 1) dues))
 dated_more dues k d xs n h is so_far =
-    row_same (with_due xs d) (due_sum (take (k + 1) dues)) n
+    row_same (with_more xs d.week d.quantity) (due_sum (take (k + 1) dues)) n
     (λ t a b. ap (λ (x : Due). in_week xs t + one_due t x) is ∙ ap (λ ys. in_week ys t + one_due t (get_or dues k d)) so_far
     ∙ ap (λ m. m + one_due t (get_or dues k d)) (in_week_row (due_sum (take k dues)) n t a b) ∙ sym (due_sum_more dues k d t h))
 

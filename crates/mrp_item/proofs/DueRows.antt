@@ -1,15 +1,18 @@
 -- What is due of an item is what its rows say.
 use Rattle.std.proofs.Common.{◌≡◌, ◌∙◌, ℕ, ◌<◌, ◌≤◌, Bool, true, false, cond, eqb, List, [], ◌∷◌, map, refl, sym, ap, arith}
-use Rattle.std.specs.Prelude.{filter, sum, sum_by, ◌&&◌, nat_le, Some, None}
+use Rattle.std.specs.Prelude.{All, filter, sum, sum_by, ◌&&◌, nat_le, Some, None}
+use Rattle.std.specs.Int.{IsInRange}
+use Rattle.std.proofs.lemmas.List.Elements.{All-filter, All-map, All-weaker}
 use Rattle.std.proofs.lemmas.List.Sums.{sum-map}
 use Rattle.mrp_qty.specs.Quantity.{greatest_quantity, quantity_of}
 use Rattle.mrp_phase.specs.Weeks.{row}
 use Rattle.mrp_phase.proofs.WeekRows.{row_same, sum-row_above}
 use Rattle.mrp_tables.specs.declared.rows.MasterRow.{MasterRow}
 use Rattle.mrp_tables.specs.declared.rows.Receipt.{Receipt}
+use Rattle.mrp_tables.specs.Facts.{IsReceipt}
 use Rattle.mrp_book.specs.declared.booking.Booking.{Booking}
 use Rattle.mrp_item.specs.declared.due.Due.{Due}
-use Rattle.mrp_item.specs.Inputs.{Inputs}
+use Rattle.mrp_item.specs.Inputs.{Inputs, horizon}
 use Rattle.mrp_item.specs.Rows.{firm_rows, forecast_rows, open_receipts, bookings_due, forecast, booked, is_firm, is_forecast}
 use Rattle.mrp_item.specs.Dues.{due_in, due_sum, dues_of, master_due, receipt_due, booking_due, firm_dues, forecast_dues, receipt_dues, booking_dues}
 
@@ -79,3 +82,10 @@ quantity-is q n h = by (nat_le n greatest_quantity) h
     by : (b : Bool) → Some q ≡ cond b (Some n) None → q ≡ n
     by true k = cc
     by false k = absurd (cc)
+
+-- each open receipt of an item is due in a week of the horizon
+pub receipts-within : (s : Inputs) (i : ℕ) → All (IsReceipt (horizon s) s.tables.items) s.tables.receipts → All (λ (d : Due). IsInRange 1 (horizon s) d.week) (receipt_dues s.tables.receipts i)
+receipts-within s i all =
+    All-map (λ (d : Due). IsInRange 1 (horizon s) d.week) receipt_due (filter (λ (r : Receipt). eqb r.item i) s.tables.receipts)
+    (All-filter (λ (r : Receipt). eqb r.item i) (λ (r : Receipt). IsInRange 1 (horizon s) r.week) s.tables.receipts
+    (All-weaker (IsReceipt (horizon s) s.tables.items) (λ (r : Receipt). IsInRange 1 (horizon s) r.week) (λ r is. is.week) s.tables.receipts all))

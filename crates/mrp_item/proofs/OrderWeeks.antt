@@ -1,11 +1,14 @@
 -- The orders of a week, as a loop over weeks finds them.
-use Rattle.std.proofs.Common.{◌≡◌, ◌∙◌, ℕ, suc, ◌+◌, ◌-◌, ◌<◌, List, ◌++◌, map, sym, ap, arith}
-use Rattle.std.specs.Prelude.{flat_map, sum_by}
+use Rattle.std.proofs.Common.{◌≡◌, ◌∙◌, ℕ, zero, suc, ◌+◌, ◌-◌, ◌<◌, Bool, true, false, cond, List, [], ◌∷◌, ◌++◌, map, refl, sym, ap, arith}
+use Rattle.std.specs.Prelude.{All, flat_map, nat_lt, sum_by}
+use Rattle.std.specs.Int.{IsInRange}
+use Rattle.std.proofs.lemmas.List.Elements.{All-append, All-cons, All-map, All-nil, All-weaker}
 use Rattle.std.proofs.lemmas.Simd.{map-map}
 use Rattle.mrp_qty.specs.Quantity.{greatest_quantity}
 use Rattle.mrp_phase.specs.Weeks.{in_week, weeks}
 use Rattle.mrp_item.specs.declared.order.Order.{Order}
-use Rattle.mrp_item.specs.declared.order.OrderKind.TheVariants.{Firm}
+use Rattle.mrp_item.specs.declared.order.OrderKind.TheVariants.{Firm, Planned}
+use Rattle.mrp_tables.specs.declared.rows.MasterRow.{MasterRow}
 use Rattle.mrp_item.specs.declared.due.Due.{Due}
 use Rattle.mrp_item.specs.Inputs.{Inputs, horizon, item_at}
 use Rattle.mrp_item.specs.Rows.{firm_rows}
@@ -41,3 +44,35 @@ pub week_past : (s : Inputs) (i k : ℕ) (receipts : List ℕ) (list : List Orde
     → greatest_quantity < sum_by start list → greatest_quantity < sum_by start (orders_of s i receipts)
 week_past s i k receipts list is within past =
     omega (arith, past, ap (sum_by start) is, starts_rise (orders_due s i receipts) (k + 1) (horizon s) (omega arith))
+
+-- each order of a week is due in it
+due_here : (s : Inputs) (i week : ℕ) (receipts : List ℕ) → All (λ (o : Order). o.due ≡ week) (orders_due s i receipts week)
+due_here s i week receipts =
+    All-append IsDue (firm_orders s i week) (planned_order (item_at s i) week (in_week receipts (week - 1)) (in_week receipts week))
+    (All-map IsDue (λ (r : MasterRow). order_of (item_at s i) Firm week r.quantity) (firm_rows s i week) (λ k d h. refl))
+    (by (nat_lt (in_week receipts (week - 1)) (in_week receipts week)))
+  where
+    IsDue : Order → Type 0
+    IsDue o = o.due ≡ week
+
+    planned : Order
+    planned = order_of (item_at s i) Planned week (in_week receipts week - in_week receipts (week - 1))
+
+    by : (b : Bool) → All IsDue (cond b (planned ∷ []) [])
+    by true = All-cons IsDue planned [] refl (All-nil IsDue)
+    by false = All-nil IsDue
+
+-- each order of an item is due in a week of the horizon
+pub due-within : (s : Inputs) (i : ℕ) (receipts : List ℕ) → All (λ (o : Order). IsInRange 1 (horizon s) o.due) (orders_of s i receipts)
+due-within s i receipts = up_to (horizon s)
+  where
+    IsWithin : ℕ → Order → Type 0
+    IsWithin n o = IsInRange 1 n o.due
+
+    up_to : (n : ℕ) → All (IsWithin n) (flat_map (orders_due s i receipts) (weeks n))
+    up_to zero = All-nil (IsWithin 0)
+    up_to (suc n) =
+        rw (orders_more (orders_due s i receipts) n)
+        (All-append (IsWithin (suc n)) (flat_map (orders_due s i receipts) (weeks n)) (orders_due s i receipts (suc n))
+        (All-weaker (IsWithin n) (IsWithin (suc n)) (λ o is. (is.0, omega (arith, is.1))) (flat_map (orders_due s i receipts) (weeks n)) (up_to n))
+        (All-weaker (λ (o : Order). o.due ≡ suc n) (IsWithin (suc n)) (λ o is. (omega arith, omega arith)) (orders_due s i receipts (suc n)) (due_here s i (suc n) receipts)))

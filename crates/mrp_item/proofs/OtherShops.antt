@@ -11,7 +11,8 @@ use Rattle.mrp_book.specs.declared.booking.Booking.{Booking}
 use Rattle.mrp_phase.specs.Weeks.{row, in_week, greatest_to}
 use Rattle.mrp_lots.specs.Lots.{receipts}
 use Rattle.mrp_item.specs.Inputs.{Inputs}
-use Rattle.mrp_item.specs.Orders.{start_of, started_in}
+use Rattle.mrp_qty.specs.Quantity.{start_of}
+use Rattle.mrp_item.specs.Orders.{started_in}
 use Rattle.mrp_item.specs.Recursion.{value_to}
 use Rattle.mrp_item.specs.Plan as plan
 use Rattle.mrp_item.specs.Plan.{plan_in, outcome_of, plan_of, balance_in}

@@ -8,17 +8,12 @@ use Rattle.mrp_qty.specs.Quantity.{greatest_quantity}
 use Rattle.mrp_phase.specs.Weeks.{row, in_week}
 use Rattle.mrp_phase.proofs.WeekRows.{row_is, row_same, in_week_row, in_week_replicate}
 use Rattle.mrp_item.specs.declared.order.Order.{Order}
-use Rattle.mrp_item.specs.declared.due.Due.{Due}
-use Rattle.mrp_item.specs.Dues.{with_due}
+use Rattle.mrp_item.specs.Dues.{with_more}
 use Rattle.mrp_item.specs.Orders.{started_in}
 
 -- what an order starts in a week
 abbrev pub one_started : ℕ → Order → ℕ
 one_started week o = cond (eqb o.release week) o.start 0
-
--- an order as what is due at its release
-abbrev pub start_due : Order → Due
-start_due o = record { week = o.release; quantity = o.start }
 
 started_by : (orders : List Order) (week : ℕ) → started_in orders week ≡ sum_by (one_started week) orders
 started_by [] week = refl
@@ -38,9 +33,9 @@ pub started_none : (n : ℕ) → replicate n 0 ≡ row n (started_in [])
 started_none n = row_is (replicate n 0) (started_in []) n (length-replicate n 0) (λ week a b. in_week_replicate n week)
 
 pub started_more : (orders : List Order) (k : ℕ) (o : Order) (xs : List ℕ) (n : ℕ) → k < length orders → o ≡ get_or orders k o → xs ≡ row n (started_in (take k orders))
-    → row n (with_due xs (start_due o)) ≡ row n (started_in (take (k + 1) orders))
+    → row n (with_more xs o.release o.start) ≡ row n (started_in (take (k + 1) orders))
 started_more orders k o xs n h is so_far =
-    row_same (with_due xs (start_due o)) (started_in (take (k + 1) orders)) n
+    row_same (with_more xs o.release o.start) (started_in (take (k + 1) orders)) n
     (λ week a b.
     ap (λ x. in_week x week + one_started week o) so_far
     ∙ ap (λ x. x + one_started week o) (in_week_row (started_in (take k orders)) n week a b ∙ started_by (take k orders) week)

@@ -15,22 +15,22 @@ due_in week dues = map (λ d. d.quantity) (filter (λ d. d.week == week) dues)
 abbrev pub due_sum : List Due → ℕ → ℕ
 due_sum dues week = sum (due_in week dues)
 
--- what a row has in a week, and one more thing that is due
-abbrev pub with_due : List ℕ → Due → ℕ → ℕ
-with_due xs due week = in_week xs week + (if due.week == week then due.quantity else 0)
+-- what a row has in a week, with more in one of them
+abbrev pub with_more : List ℕ → ℕ → ℕ → ℕ → ℕ
+with_more xs at more week = in_week xs week + (if at == week then more else 0)
 
 -- what each of some rows says is due
 abbrev pub dues_of : {R : Type 0} → (R → Bool) → (R → Due) → List R → List Due
 dues_of keep due rows = map due (filter keep rows)
 
 abbrev pub master_due : MasterRow → Due
-master_due r = record { week = r.week; quantity = r.quantity }
+master_due r = record { number = r.number; week = r.week; quantity = r.quantity }
 
 abbrev pub receipt_due : Receipt → Due
-receipt_due r = record { week = r.week; quantity = r.quantity }
+receipt_due r = record { number = r.number; week = r.week; quantity = r.quantity }
 
 abbrev pub booking_due : Booking → Due
-booking_due b = record { week = b.line.week; quantity = b.line.quantity }
+booking_due b = record { number = b.number; week = b.line.week; quantity = b.line.quantity }
 
 -- what is due of an item: its firm rows, its forecasts, its open receipts, its bookings
 abbrev pub firm_dues : List MasterRow → ℕ → List Due

@@ -1,6 +1,6 @@
 -- An item's orders.
-use Rattle.std.specs.Prelude.{ℕ, Bool, true, false, ◌+◌, ◌-◌, ◌*◌, ◌==◌, max, nat_lt, if◌then◌else◌, List, [], ◌∷◌, ◌++◌, map, flat_map, filter, sum_by}
-use Rattle.std.specs.Int.{div_ceil}
+use Rattle.std.specs.Prelude.{ℕ, Bool, true, false, ◌+◌, ◌-◌, ◌==◌, max, nat_lt, if◌then◌else◌, List, [], ◌∷◌, ◌++◌, map, flat_map, filter, sum_by}
+use Rattle.mrp_qty.specs.Quantity.{start_of}
 use Rattle.mrp_tables.specs.declared.item.Item.{Item}
 use Rattle.mrp_phase.specs.Weeks.{weeks, in_week}
 use Rattle.mrp_item.specs.declared.order.OrderKind.{OrderKind}
@@ -8,11 +8,6 @@ use Rattle.mrp_item.specs.declared.order.OrderKind.TheVariants.{Firm, Planned}
 use Rattle.mrp_item.specs.declared.order.Order.{Order}
 use Rattle.mrp_item.specs.Inputs.{Inputs, horizon, item_at}
 use Rattle.mrp_item.specs.Rows.{firm_rows}
-
--- what has to start so that a quantity is left after a scrap of so many per thousand (Orlicky: scrap allowance; profile:
--- rounded up)
-abbrev pub start_of : ℕ → ℕ → ℕ
-start_of scrap quantity = div_ceil (quantity * 1000) (1000 - scrap)
 
 -- the week in which an order is released, and by how many weeks that is too late
 pub record ReleaseTime : Type 0 where

@@ -38,6 +38,7 @@ pub fn firm_by_item(alloc: Global, count: usize, rows: &[MasterRow]) -> Result<D
     let mut lists = DueLists::new(alloc, count)?;
     for row in rows {
         let due = Due {
+            number: u64::from(row.number),
             week: row.week,
             quantity: row.quantity,
         };
@@ -58,6 +59,7 @@ pub fn forecasts_by_item(
     let mut lists = DueLists::new(alloc, count)?;
     for row in rows {
         let due = Due {
+            number: u64::from(row.number),
             week: row.week,
             quantity: row.quantity,
         };
@@ -74,6 +76,7 @@ pub fn receipts_by_item(alloc: Global, count: usize, rows: &[Receipt]) -> Result
     let mut lists = DueLists::new(alloc, count)?;
     for row in rows {
         let due = Due {
+            number: u64::from(row.number),
             week: row.week,
             quantity: row.quantity,
         };
@@ -91,6 +94,7 @@ pub fn bookings_by_item(alloc: Global, count: usize, rows: &[Booking]) -> Result
     for row in rows {
         let line = row.line;
         let due = Due {
+            number: row.number,
             week: line.week,
             quantity: line.quantity,
         };

@@ -37,7 +37,8 @@ impl Model for Inputs {
 }
 
 impl Inputs {
-    ghost use Rattle.std.specs.Prelude.{◌≡◌, ◌≤◌, ◌<◌, IfOk, slice_index};
+    ghost use Rattle.std.specs.Prelude.{◌≡◌, ◌≤◌, ◌<◌, All, IfOk, slice_index};
+    ghost use Rattle.std.specs.Int.{IsInRange};
     ghost use Rattle.mrp_qty.specs.Quantity.{quantity_of};
     ghost use Rattle.mrp_master.specs.Supply.{supply_of};
     ghost use Rattle.mrp_book.specs.Booked.{AreBooked};
@@ -94,8 +95,8 @@ impl Inputs {
         &self.snapshot
     }
 
-    // The weeks of the horizon.
-    pub(crate) fn weeks(&self) -> u16
+    /// The weeks of the horizon.
+    pub fn weeks(&self) -> u16
         ensures value { result ≡ horizon self.now }
         ensures first { 0 < result }
         ensures within { result ≤ 104 }
@@ -128,11 +129,14 @@ impl Inputs {
         self.forecasts.of(item)
     }
 
-    // The open receipts of an item.
-    pub(crate) fn receipts(&self, item: usize) -> &[Due]
+    /// The open receipts of an item, in table order, by the numbers of their records. The caller
+    /// owes that the shop has the item.
+    pub fn receipts(&self, item: usize) -> &[Due]
         requires { item < count self.now }
-        ensures { result.now ≡ receipt_dues self.now.tables.receipts item }
+        ensures dues { result.now ≡ receipt_dues self.now.tables.receipts item }
+        ensures within { All (λ due. IsInRange 1 (horizon self.now) due.week) result.now }
     {
+        let _within = self.shop().tables().receipts();
         self.receipts.of(item)
     }
 
@@ -146,8 +150,8 @@ impl Inputs {
         self.bookings.of(item)
     }
 
-    // What is on hand of an item; None past the greatest quantity.
-    pub(crate) fn on_hand(&self, item: usize) -> Option<Qty>
+    /// What is on hand of an item; None past 10^15. The caller owes that the shop has the item.
+    pub fn on_hand(&self, item: usize) -> Option<Qty>
         requires { item < count self.now }
         ensures { result ≡ quantity_of (on_hand self.now item) }
     {

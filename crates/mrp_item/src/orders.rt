@@ -1,11 +1,11 @@
 //! The orders of an item, from its firm rows and its planned receipts.
 
 ghost use Rattle.std.specs.Prelude.{◌≡◌, ◌≤◌, ◌<◌, ◌+◌, ◌-◌, ◌++◌, ◌∷◌, [], length, map, max, sum_by, IfOk, OnOk, IfErr, MatchOption};
-ghost use Rattle.mrp_qty.specs.Quantity.{greatest_quantity, quantity_of};
+ghost use Rattle.mrp_qty.specs.Quantity.{greatest_quantity, start_of};
 ghost use Rattle.mrp_item.specs.Limits.{IsPlannable};
 ghost use Rattle.mrp_item.specs.Inputs.{count, horizon};
 ghost use Rattle.mrp_item.specs.Dues.{due_in};
-ghost use Rattle.mrp_item.specs.Orders.{order_of, orders_due, orders_of, planned_order, start_of};
+ghost use Rattle.mrp_item.specs.Orders.{order_of, orders_due, orders_of, planned_order};
 ghost use Rattle.mrp_item.specs.declared.order.OrderKind.TheVariants.{Firm};
 
 use crate::due::Due;
@@ -36,20 +36,12 @@ impl Model for OrderList {
     ghost invariant = { λ o. o.started ≡ sum_by (λ x. x.start) o.orders.items };
 }
 
-// What has to start so that a quantity is left after scrap; None past the greatest quantity.
-fn start_for(quantity: Qty, scrap: u64) -> Option<Qty>
-    requires { scrap ≤ 900 }
-    ensures { result ≡ quantity_of (start_of scrap quantity) }
-{
-    Qty::new((quantity.value() * 1000).div_ceil(1000 - scrap))
-}
-
 // An order for a quantity that is due in a week; None where its start passes the greatest quantity.
 fn order(item: &Item, kind: OrderKind, due: u16, quantity: Qty) -> Option<Order>
     requires { IsPlannable item.now }
     ensures { MatchOption result (greatest_quantity < start_of item.now.scrap quantity) (λ order. order ≡ order_of item.now kind due quantity) }
 {
-    let start = start_for(quantity, item.scrap)?;
+    let start = quantity.start_for(item.scrap)?;
     let lead = item.lead as u16;
     Some(Order {
         kind,

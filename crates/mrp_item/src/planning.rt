@@ -16,7 +16,7 @@ ghost use Rattle.mrp_item.specs.Plan.{is_planned, outcome_of, receipts_of};
 
 use crate::asked::asked_row;
 use crate::blocked::BlockedItem;
-use crate::due::{Due, add_due, nothing};
+use crate::due::{add_in, nothing};
 use crate::inputs::Inputs;
 use crate::order::Order;
 use crate::orders::orders_for;
@@ -83,11 +83,7 @@ fn started_row(alloc: Global, weeks: u16, orders: &[Order]) -> Result<Weeks<Qty>
 {
     let mut started = nothing(alloc, weeks)?;
     for order in orders {
-        let start = Due {
-            week: order.release,
-            quantity: order.start,
-        };
-        let Some(()) = add_due(&mut started, weeks, start) else {
+        let Some(()) = add_in(&mut started, weeks, order.release, order.start) else {
             return Err(Stop::Over);
         };
     }

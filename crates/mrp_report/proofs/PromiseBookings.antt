@@ -20,8 +20,8 @@ use Rattle.mrp_book.proofs.Entries.{from_first}
 use Rattle.mrp_item.specs.declared.due.Due.{Due}
 use Rattle.mrp_item.specs.Inputs.{Inputs, count, is_master, item_at}
 use Rattle.mrp_item.specs.Rows.{booked}
-use Rattle.mrp_item.specs.Dues.{booking_due, booking_dues, due_sum, with_due}
-use Rattle.mrp_item.proofs.DueLemmas.{dated_more, due_sum_more, due_sum_within, with_due_row}
+use Rattle.mrp_item.specs.Dues.{booking_due, booking_dues, due_sum}
+use Rattle.mrp_item.proofs.DueLemmas.{dated_more, due_sum_more, due_sum_within, with_more_row}
 use Rattle.mrp_item.proofs.DueRows.{due_sum-bookings}
 use Rattle.mrp_report.specs.PromiseRows.{promises_of}
 
@@ -67,7 +67,7 @@ pub one-taken : (s : Supply) (item : ℕ) (dues : List Due) (k : ℕ) (d : Due) 
 one-taken s item dues k d r next within is inside so_far takes =
     let before : List ℕ = row s.weeks (due_sum (take k dues)) in
     let more : with_week before d.week (in_week before d.week + d.quantity) ≡ row s.weeks (due_sum (take (k + 1) dues)) =
-    with_due_row before d s.weeks (length-row (due_sum (take k dues)) s.weeks) (omega (arith, inside.0)) inside.1 ∙ dated_more dues k d before s.weeks within is refl in
+    with_more_row before d.week d.quantity s.weeks (length-row (due_sum (take k dues)) s.weeks) (omega (arith, inside.0)) inside.1 ∙ dated_more dues k d before s.weeks within is refl in
     takes ∙ ap (λ (x : AtpRow). with_booking x d.week d.quantity) so_far ∙ (λ j. record { supply = row s.weeks (opening s item); booked = more j })
 
 -- Cover.
@@ -83,7 +83,7 @@ pub fronts-covered : (s : Supply) (bookings : List Booking) (item k : ℕ) (dues
 fronts-covered s bookings item k dues is are master same within t inside =
     let last : t ≤ s.weeks = omega (arith, inside.1, length-row (opening s item) s.weeks) in
     let few : (week : ℕ) → due_sum (take (k + 1) dues) week ≤ due_in item week (lines_of bookings) =
-    λ week. omega (arith, due_sum_more dues k (record { week = 0; quantity = 0 }) week within, due_sum_within dues k (record { week = 0; quantity = 0 }) week within, same week) in
+    λ week. omega (arith, due_sum_more dues k (record { number = 0; week = 0; quantity = 0 }) week within, due_sum_within dues k (record { number = 0; week = 0; quantity = 0 }) week within, same week) in
     omega (
       arith,
       sums-rise (due_sum (take (k + 1) dues)) (λ week. due_in item week (lines_of bookings)) s.weeks t few last,

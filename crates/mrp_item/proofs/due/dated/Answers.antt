@@ -8,8 +8,8 @@ use Rattle.mrp_item.proofs.due.dated.Goals as goal
 pub loop-next-init : goal.loop-next-init
 loop-next-init c = c.in_ok-due.ensures ∙ dated_none c.args.weeks
 
-pub add_due-requires : goal.add_due-requires
-add_due-requires c = ap length c.loop-next.invariant ∙ length-row (due_sum _) c.args.weeks
+pub add_in-requires : goal.add_in-requires
+add_in-requires c = ap length c.loop-next.invariant ∙ length-row (due_sum _) c.args.weeks
 
 pub loop-next-preserved : goal.loop-next-preserved
 loop-next-preserved c =

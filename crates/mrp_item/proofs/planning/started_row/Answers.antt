@@ -7,8 +7,8 @@ use Rattle.mrp_item.proofs.planning.started_row.Goals as goal
 pub loop-order-init : goal.loop-order-init
 loop-order-init c = c.in_ok-started.ensures ∙ started_none c.args.weeks
 
-pub add_due-requires : goal.add_due-requires
-add_due-requires c = ap length c.loop-order.invariant ∙ length-row (started_in (take c.loop-order.order-index c.args.orders.now)) c.args.weeks
+pub add_in-requires : goal.add_in-requires
+add_in-requires c = ap length c.loop-order.invariant ∙ length-row (started_in (take c.loop-order.order-index c.args.orders.now)) c.args.weeks
 
 pub returns-in_default-clause-over : goal.returns-in_default-clause-over
 returns-in_default-clause-over c = λ _.

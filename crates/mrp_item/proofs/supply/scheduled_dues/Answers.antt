@@ -17,4 +17,4 @@ returns-else-is_master_item c = λ week.
     let s = c.args.inputs.now in
     let i = c.args.item in
     let part : is_master s i ≡ false = sym (ap (λ e. items.is_master e.class) c.entry.ensures.value) ∙ sym c.is_master_item.ensures ∙ c.if-is_master_item.false in
-    ap (λ dues. due_sum dues week) c.receipts.ensures ∙ due_sum-receipts s i week ∙ rw part refl
+    ap (λ dues. due_sum dues week) c.receipts.ensures.dues ∙ due_sum-receipts s i week ∙ rw part refl
