@@ -8,7 +8,7 @@ use self::shops::{
     BICYCLE_PLANS, BICYCLES, BICYCLES_IN_LOTS, BOOKED, BOOKED_PLANS, CHAIN, FORK, OrderCells,
     PLANS_IN_LOTS, Records, TUBES_OF_FRAMES, WHEELS_OF_FRAMES, Worked,
 };
-use crate::{Order, Outcome, Plan, Planned};
+use crate::{Due, Order, Outcome, Plan, Planned};
 use mrp_net::balance_row;
 use mrp_phase::Weeks;
 use mrp_qty::Qty;
@@ -162,6 +162,28 @@ fn all_parents_ask(rt: HostRuntime) -> Result<(), Fail> {
         return Err(Fail::from("three items"));
     };
     are_planned(&rt, alloc, &plan, &[bikes, frames, WHEELS_OF_FRAMES])
+}
+
+// What is due, by number, week and pieces.
+fn due(number: u64, week: u16, pieces: u64) -> Result<Due, Fail> {
+    let quantity = quantity(pieces)?;
+    Ok(Due {
+        number,
+        week,
+        quantity,
+    })
+}
+
+#[test]
+fn inputs_tell_receipts_and_bookings_by_their_numbers(rt: HostRuntime) -> Result<(), Fail> {
+    let inputs = inputs_of(rt.alloc(), &BICYCLES_IN_LOTS, BOOKED)?;
+    assert_eq!(rt; inputs.shop().tables().items().len(), 3);
+    assert_eq!(rt; inputs.weeks(), 6);
+    assert_eq!(rt; inputs.on_hand(1), Qty::new(12));
+    assert_eq!(rt; inputs.receipts(1), [due(1, 3, 15)?].as_slice());
+    let booked = [due(1, 3, 12)?, due(2, 5, 25)?, due(3, 1, 10)?];
+    assert_eq!(rt; inputs.bookings(0), booked.as_slice());
+    Ok(())
 }
 
 // What planning makes of an item.
