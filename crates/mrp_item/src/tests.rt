@@ -13,6 +13,7 @@ use mrp_net::balance_row;
 use mrp_phase::Weeks;
 use mrp_qty::Qty;
 use std::alloc::Global;
+use std::fmt::Debug;
 use std::process::Abort;
 use std::test::Fail;
 
@@ -164,6 +165,10 @@ fn all_parents_ask(rt: HostRuntime) -> Result<(), Fail> {
     are_planned(&rt, alloc, &plan, &[bikes, frames, WHEELS_OF_FRAMES])
 }
 
+fn are_same<T: PartialEq + Debug>(rt: &impl Abort, got: T, want: T) {
+    assert_eq!(rt; got, want);
+}
+
 // What is due, by number, week and pieces.
 fn due(number: u64, week: u16, pieces: u64) -> Result<Due, Fail> {
     let quantity = quantity(pieces)?;
@@ -178,11 +183,11 @@ fn due(number: u64, week: u16, pieces: u64) -> Result<Due, Fail> {
 fn inputs_tell_receipts_and_bookings_by_their_numbers(rt: HostRuntime) -> Result<(), Fail> {
     let inputs = inputs_of(rt.alloc(), &BICYCLES_IN_LOTS, BOOKED)?;
     assert_eq!(rt; inputs.shop().tables().items().len(), 3);
-    assert_eq!(rt; inputs.weeks(), 6);
-    assert_eq!(rt; inputs.on_hand(1), Qty::new(12));
-    assert_eq!(rt; inputs.receipts(1), [due(1, 3, 15)?].as_slice());
     let booked = [due(1, 3, 12)?, due(2, 5, 25)?, due(3, 1, 10)?];
-    assert_eq!(rt; inputs.bookings(0), booked.as_slice());
+    are_same(&rt, inputs.weeks(), 6);
+    are_same(&rt, inputs.on_hand(1), Qty::new(12));
+    are_same(&rt, inputs.receipts(1), [due(1, 3, 15)?].as_slice());
+    are_same(&rt, inputs.bookings(0), booked.as_slice());
     Ok(())
 }
 
