@@ -1,7 +1,12 @@
--- What legal histories keep: what was promised, what was snapped, and who called.
-use Rattle.std.proofs.Common.{ℕ, ◌≡◌, ◌+◌, ◌==◌, inl, inr, true, false, if◌then◌else◌, nat_le, [], ◌∷◌, ◌++◌, find, take, length, Option, Some, None, arith, refl, sym, ◌∙◌, ap}
+-- What legal histories keep: what was promised, under which numbers, what was snapped, and who called.
+use Rattle.std.specs.Prelude.{All, AllPairs, filter}
+use Rattle.std.proofs.Common.{ℕ, ◌≡◌, ◌<◌, ◌+◌, ◌==◌, inl, inr, true, false, if◌then◌else◌, nat_le, List, [], ◌∷◌, ◌++◌, find, take, length, get_or, Option, Some, None, arith, refl, sym, ◌∙◌, ap, subst}
 use Rattle.std.proofs.lemmas.Bool.Decides.{nat_tests}
-use Rattle.std.proofs.lemmas.List.{length_push, take_at}
+use Rattle.std.proofs.lemmas.List.{append-nil, length_push, take_at}
+use Rattle.std.proofs.lemmas.List.Elements.{All-filter, All-get_or, All-nil, All-push, All-weaker}
+use Rattle.std.proofs.lemmas.List.Kept.{AllPairs-filter}
+use Rattle.std.proofs.lemmas.List.Quantifiers.{all_pairs_push}
+use Rattle.mrp_turn.specs.declared.log.Entry.{Entry}
 use Rattle.mrp_turn.specs.Log.{entry, AreFrom}
 use Rattle.mrp_master.specs.declared.line.Line.{Line}
 use Rattle.mrp_master.specs.Supply.{Supply}
@@ -11,10 +16,10 @@ use Rattle.mrp_book.specs.declared.call.Call.TheVariants as call
 use Rattle.mrp_book.specs.declared.reply.Reply.{Reply}
 use Rattle.mrp_book.specs.declared.reply.Reply.TheVariants as reply
 use Rattle.mrp_book.specs.Snapshot.{Snapshot}
-use Rattle.mrp_book.specs.Standing.{History, standing, booked}
+use Rattle.mrp_book.specs.Standing.{History, standing, kept, booking_of, booked}
 use Rattle.mrp_book.specs.History.{next_number, CanPromise, cancel_reply, week_reply, IsReply, IsLegal, MayFollow}
 use Rattle.mrp_book.proofs.Logs.{walk, one-more}
-use Rattle.mrp_book.proofs.Standings.{standing_after}
+use Rattle.mrp_book.proofs.Standings.{standing_after, standing-more, not_cancelled}
 use Rattle.mrp_book.proofs.Histories.{IsLegalFrom, le_or_lt}
 
 module _ (s : Supply) where
@@ -75,3 +80,50 @@ module _ (s : Supply) where
 
   pub desks : (h : History) → IsLegal s h → AreFrom 64 h
   desks h legal = desks_from [] h (walk (MayFollow s) [] h legal)
+
+  -- The numbers of what stands rise, none past the last entry.
+
+  abbrev IsBefore : Booking → Booking → Type 0
+  IsBefore a b = a.number < b.number
+
+  abbrev Rises : ℕ → List Booking → Type 0
+  Rises next bs = AllPairs IsBefore bs × All (λ b. b.number < next) bs
+
+  later : (n : ℕ) (bs : List Booking) → All (λ b. b.number < n) bs → All (λ b. b.number < n + 1) bs
+  later n bs all = All-weaker (λ b. b.number < n) (λ b. b.number < n + 1) (λ b h. omega arith) bs all
+
+  one_longer : (h : History) (e : Entry Call Reply) → next_number h + 1 ≡ next_number (h ++ e ∷ [])
+  one_longer h e = let long : length (h ++ e ∷ []) ≡ length h + 1 = length_push h e in omega arith
+
+  -- a booking that is made has the next number
+  rises-made : (h : History) (bs : List Booking) (desk : ℕ) (c : Call) (r : Reply) → IsReply s h desk c r → Rises (next_number h) bs
+      → Rises (next_number h + 1) (bs ++ kept [] (booking_of desk c r))
+  rises-made h bs desk (call.Book l) (reply.Booked n) answered (pairs, below) =
+      let own : n ≡ next_number h = (accepted h desk n l answered).1 in
+      let b : Booking = record { number = n; desk = desk; line = l } in
+      (all_pairs_push IsBefore bs b pairs (λ k d within.
+          let less : (get_or bs k d).number < next_number h = All-get_or (λ b. b.number < next_number h) bs k d within below in
+          omega arith),
+       All-push (λ b. b.number < next_number h + 1) bs b (later (next_number h) bs below) (omega arith))
+  rises-made h bs desk c r answered (pairs, below) =
+      (subst (AllPairs IsBefore) (sym (append-nil bs)) pairs, subst (All (λ b. b.number < next_number h + 1)) (sym (append-nil bs)) (later (next_number h) bs below))
+
+  rises-more : (h : History) (e : Entry Call Reply) → MayFollow s h e → Rises (next_number h) (standing h) → Rises (next_number (h ++ e ∷ [])) (standing (h ++ e ∷ []))
+  rises-more h e m (pairs, below) =
+      let p = not_cancelled e.call e.reply in
+      subst (λ n. Rises n (standing (h ++ e ∷ []))) (one_longer h e)
+      (subst (Rises (next_number h + 1)) (sym (standing-more h e))
+      (rises-made h (filter p (standing h)) e.who e.call e.reply m.1
+      (AllPairs-filter IsBefore p (standing h) pairs, All-filter p (λ b. b.number < next_number h) (standing h) below)))
+
+  rises-from : (before h : History) → IsLegalFrom s before h → Rises (next_number before) (standing before) → Rises (next_number (before ++ h)) (standing (before ++ h))
+  rises-from before [] w rises = subst (λ x. Rises (next_number x) (standing x)) (sym (append-nil before)) rises
+  rises-from before (e ∷ h) w rises =
+      subst (λ x. Rises (next_number x) (standing x)) (sym (one-more before e h)) (rises-from (before ++ e ∷ []) h w.1 (rises-more before e w.0 rises))
+
+  nothing-rises : Rises 1 (standing [])
+  unfolding standing
+  nothing-rises = (λ i j d before within. absurd (omega arith), All-nil (λ b. b.number < 1))
+
+  pub rising : (h : History) → IsLegal s h → Rises (next_number h) (standing h)
+  rising h legal = rises-from [] h (walk (MayFollow s) [] h legal) nothing-rises

@@ -1,6 +1,6 @@
 //! What follows from the definitions alone, each law the contract of a function that does nothing.
 
-ghost use Rattle.std.specs.Prelude.{◌≡◌, ◌++◌, ◌∷◌, [], ℕ, All, take};
+ghost use Rattle.std.specs.Prelude.{◌≡◌, ◌<◌, ◌++◌, ◌∷◌, [], ℕ, All, AllPairs, take};
 ghost use Rattle.mrp_turn.specs.Log.{AreFrom, entry};
 ghost use Rattle.mrp_master.specs.Supply.{IsCovered, IsMaster, IsWeek, Supply};
 ghost use Rattle.mrp_book.specs.BookState.{BookState};
@@ -31,6 +31,9 @@ pub fn bookings()
     ensures within { (s : Supply) (before after : History) (desk number : ℕ) (l : _) → IsLegal s (before ++ entry desk (call.Book l) (reply.Booked number) ∷ after) → CanPromise s (booked before) l.item l.quantity l.week }
     // A booking's number is that of its entry.
     ensures number { (s : Supply) (before after : History) (desk number : ℕ) (l : _) → IsLegal s (before ++ entry desk (call.Book l) (reply.Booked number) ∷ after) → number ≡ next_number before }
+    // What stands is in order of its numbers, none of them past the last entry.
+    ensures rising { (s : Supply) (h : History) → IsLegal s h → AllPairs (λ a b. a.number < b.number) (standing h) }
+    ensures entered { (s : Supply) (h : History) → IsLegal s h → All (λ b. b.number < next_number h) (standing h) }
     // A booking stands from its entry until one answered Cancelled names it.
     ensures stands { (h : History) (desk : ℕ) (c : _) (r : _) → standing (h ++ entry desk c r ∷ []) ≡ stands_after desk c r (standing h) }
 {}

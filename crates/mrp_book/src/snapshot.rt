@@ -32,7 +32,7 @@ impl Model for Snapshot {
 }
 
 impl Snapshot {
-    ghost use Rattle.std.specs.Prelude.{◌≡◌, ◌<◌, IfOk, IsErrOf, sum_by};
+    ghost use Rattle.std.specs.Prelude.{◌≡◌, ◌↔◌, ◌<◌, IfOk, IsErrOf, sum_by};
     ghost use Rattle.mrp_qty.specs.Quantity.{greatest_quantity};
     ghost use Rattle.mrp_phase.specs.Weeks.{row};
     ghost use Rattle.mrp_master.specs.AtpRow.{due_in};
@@ -42,8 +42,8 @@ impl Snapshot {
     /// What stands at an entry, by its number, in a horizon of so many weeks, the bookings by their
     /// numbers.
     ///
-    /// Errors: `TooLarge` where all bookings together have more than 10^15 pieces, `NoMemory` where
-    /// memory is refused.
+    /// Errors: `TooLarge` exactly where all bookings together have more than 10^15 pieces, before
+    /// memory is asked for, and `NoMemory` where memory is refused.
     pub fn new(
         alloc: Global,
         front: u64,
@@ -51,7 +51,7 @@ impl Snapshot {
         standing: Vec<Booking>,
     ) -> Result<Snapshot, PhaseFault>
         ensures value { IfOk result (λ s. s ≡ record { front = front; weeks = weeks; standing = standing.items }) }
-        ensures too_large { IsErrOf result PhaseFault.TooLarge → greatest_quantity < sum_by (λ b. b.line.quantity) standing.items }
+        ensures too_large { IsErrOf result PhaseFault.TooLarge ↔ greatest_quantity < sum_by (λ b. b.line.quantity) standing.items }
     {
         if !is_little(&standing) {
             return Err(PhaseFault::TooLarge);
