@@ -9,8 +9,6 @@ mod lists;
 mod ranks;
 mod search;
 mod shop;
-#[cfg(test)]
-mod tests;
 
 pub use fault::BillFault;
 pub use shop::{Bill, Shop};

@@ -12,8 +12,6 @@ mod reply;
 mod rows;
 mod snapshot;
 mod state;
-#[cfg(test)]
-mod tests;
 
 pub use book::Book;
 pub use booking::Booking;

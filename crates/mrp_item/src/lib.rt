@@ -16,8 +16,6 @@ mod planning;
 mod stocked;
 mod stop;
 mod supply;
-#[cfg(test)]
-mod tests;
 
 pub use blocked::BlockedItem;
 pub use due::Due;

@@ -7,8 +7,6 @@ mod firm;
 pub mod laws;
 mod line;
 mod supply;
-#[cfg(test)]
-mod tests;
 
 pub use atp_row::AtpRow;
 pub use line::{Line, LineFault, Spot, Wish};

@@ -71,6 +71,7 @@ pub fn fault_text(alloc: Global, fault: &Fault) -> Result<String, NoMemory>
 #[cfg(test)]
 mod tests {
     use super::*;
+    use crate::same::same;
     use std::test::Fail;
 
     #[test]
@@ -108,7 +109,7 @@ mod tests {
             (0, Table::Items, 1, "0 fault items 1"),
         ] {
             let text = fault_text(alloc, &Fault { code, table, row })?;
-            assert_eq!(rt; text.as_str(), want);
+            same(&rt, text.as_str(), want);
         }
         Ok(())
     }

@@ -10,6 +10,8 @@ mod fault_texts;
 mod name;
 pub mod record_laws;
 mod row;
+#[cfg(test)]
+mod same;
 mod streams;
 mod told;
 

@@ -16,8 +16,6 @@ mod rows;
 mod script;
 mod stock;
 mod tables;
-#[cfg(test)]
-mod tests;
 
 pub use item::{Class, Item, LotRule};
 pub use rows::{

@@ -1,5 +1,6 @@
 use super::*;
 use crate::fault_texts::fault_text;
+use crate::same::same;
 use mrp_qty::NoMemory;
 use std::alloc::Global;
 use std::test::Fail;
@@ -44,7 +45,7 @@ fn a_bundle_is_refused_by_its_first_fault(rt: HostRuntime) -> Result<(), Fail> {
     ] {
         let bundle = format!(in alloc; "{before}{shop}{after}")?;
         let told = outcome(alloc, bundle.as_str())?;
-        assert_eq!(rt; told.as_str(), want, "{before:?} {after:?}");
+        same(&rt, (before, after, told.as_str()), (before, after, want));
     }
     Ok(())
 }
@@ -77,7 +78,7 @@ fn missing_and_misspelled_sections_are_told_apart(rt: HostRuntime) -> Result<(),
         ),
     ] {
         let told = outcome(alloc, bundle)?;
-        assert_eq!(rt; told.as_str(), want, "{bundle:?}");
+        same(&rt, (bundle, told.as_str()), (bundle, want));
     }
     Ok(())
 }
@@ -90,18 +91,19 @@ fn sections_come_in_any_order_with_their_texts(rt: HostRuntime) -> Result<(), Fa
         Ok(sections) => sections,
         Err(fault) => return Err(Fail::from(fault)),
     };
-    assert_eq!(rt; sections.text_of(Table::Calendar), b"1".as_slice());
-    assert_eq!(rt; sections.text_of(Table::Items), b"2\n".as_slice());
-    assert_eq!(rt; sections.text_of(Table::Centres), b"3\n".as_slice());
-    assert_eq!(rt; sections.text_of(Table::Stock), b"4\n".as_slice());
-    assert_eq!(rt;
+    same(&rt, sections.text_of(Table::Calendar), b"1".as_slice());
+    same(&rt, sections.text_of(Table::Items), b"2\n".as_slice());
+    same(&rt, sections.text_of(Table::Centres), b"3\n".as_slice());
+    same(&rt, sections.text_of(Table::Stock), b"4\n".as_slice());
+    same(
+        &rt,
         sections.text_of(Table::Receipts),
-        b"5[receipts]\n".as_slice()
+        b"5[receipts]\n".as_slice(),
     );
-    assert_eq!(rt; sections.text_of(Table::Bills), b"6\n\n".as_slice());
-    assert_eq!(rt; sections.text_of(Table::Routings), b"7\r".as_slice());
-    assert_eq!(rt; sections.text_of(Table::Master), b"8,[\r\n".as_slice());
-    assert_eq!(rt; sections.text_of(Table::Script), b"9\n".as_slice());
+    same(&rt, sections.text_of(Table::Bills), b"6\n\n".as_slice());
+    same(&rt, sections.text_of(Table::Routings), b"7\r".as_slice());
+    same(&rt, sections.text_of(Table::Master), b"8,[\r\n".as_slice());
+    same(&rt, sections.text_of(Table::Script), b"9\n".as_slice());
     Ok(())
 }
 
@@ -130,12 +132,12 @@ fn line_ends_and_then_one_mark_go_from_a_section_text(rt: HostRuntime) -> Result
             Ok(sections) => sections,
             Err(fault) => return Err(Fail::from(fault)),
         };
-        assert_eq!(rt;
-            sections.text_of(Table::Stock),
-            want.as_bytes(),
-            "{following:?}"
+        same(
+            &rt,
+            (following, sections.text_of(Table::Stock)),
+            (following, want.as_bytes()),
         );
-        assert_eq!(rt; sections.text_of(Table::Items), b"".as_slice());
+        same(&rt, sections.text_of(Table::Items), b"".as_slice());
     }
     Ok(())
 }

@@ -1,5 +1,6 @@
 use super::*;
 use crate::bundle::split_bundle;
+use crate::same::same;
 use std::test::Fail;
 
 // Calls of `next` after the one that ends the reading.
@@ -83,7 +84,7 @@ fn each_table_has_its_header(rt: HostRuntime) -> Result<(), Fail> {
     ];
     for (table, header) in headers {
         let told = told(rt.alloc(), table, header)?;
-        assert_eq!(rt; told.as_slice(), ENDED, "the header of {table:?}");
+        same(&rt, (table, told.as_slice()), (table, ENDED));
     }
     Ok(())
 }
@@ -100,7 +101,7 @@ fn a_header_is_exactly_the_names_of_the_columns(rt: HostRuntime) -> Result<(), F
     ];
     for text in right {
         let told = told(rt.alloc(), Table::Stock, text)?;
-        assert_eq!(rt; told.as_slice(), ENDED, "the header {text:?}");
+        same(&rt, (text, told.as_slice()), (text, ENDED));
     }
     let wrong: [&[u8]; 14] = [
         b"",
@@ -120,7 +121,7 @@ fn a_header_is_exactly_the_names_of_the_columns(rt: HostRuntime) -> Result<(), F
     ];
     for text in wrong {
         let told = told(rt.alloc(), Table::Stock, text)?;
-        assert_eq!(rt; told.as_slice(), NO_HEADER, "the header {text:?}");
+        same(&rt, (text, told.as_slice()), (text, NO_HEADER));
     }
     Ok(())
 }
@@ -151,7 +152,7 @@ fn records_are_numbered_and_cells_are_unquoted(rt: HostRuntime) -> Result<(), Fa
         let mut text = b"item,onhand\n".to_vec(rt.alloc())?;
         text.extend_from_slice(records)?;
         let told = told(rt.alloc(), Table::Stock, text.as_slice())?;
-        assert_eq!(rt; told.as_slice(), want, "the records {records:?}");
+        same(&rt, (records, told.as_slice()), (records, want));
     }
     Ok(())
 }
@@ -177,19 +178,21 @@ fn a_wrong_count_of_cells_ends_the_records(rt: HostRuntime) -> Result<(), Fail> 
         let mut text = b"item,onhand\n".to_vec(rt.alloc())?;
         text.extend_from_slice(records)?;
         let told = told(rt.alloc(), Table::Stock, text.as_slice())?;
-        assert_eq!(rt; told.as_slice(), want, "the records {records:?}");
+        same(&rt, (records, told.as_slice()), (records, want));
     }
     let bills = b"parent,component,per\nBIKE,FRAME,1\nBIKE,WHEEL\n";
     let told_bills = told(rt.alloc(), Table::Bills, bills)?;
-    assert_eq!(rt;
+    same(
+        &rt,
         told_bills.as_slice(),
-        b"1<BIKE><FRAME><1>;fault 6 Bills 2;none;none;".as_slice()
+        b"1<BIKE><FRAME><1>;fault 6 Bills 2;none;none;".as_slice(),
     );
     let script = b"desk,call,item,date,quantity,number\n1,book,BIKE,\"2025-01";
     let told_script = told(rt.alloc(), Table::Script, script)?;
-    assert_eq!(rt;
+    same(
+        &rt,
         told_script.as_slice(),
-        b"fault 6 Script 1;none;none;".as_slice()
+        b"fault 6 Script 1;none;none;".as_slice(),
     );
     Ok(())
 }
@@ -218,12 +221,12 @@ fn first_of_stock(alloc: Global, stock: &str) -> Result<Vec<u8>, Fail> {
 fn a_section_of_a_bundle_is_read_behind_its_header(rt: HostRuntime) -> Result<(), Fail> {
     let alloc = rt.alloc();
     let first = first_of_stock(alloc, "item,onhand\r\n\r\nBIKE,10\r\n")?;
-    assert_eq!(rt; first.as_slice(), b"1<BIKE><10>;".as_slice());
+    same(&rt, first.as_slice(), b"1<BIKE><10>;".as_slice());
     let marked = first_of_stock(alloc, "\n\u{feff}item,onhand\n\"A,B\",7")?;
-    assert_eq!(rt; marked.as_slice(), b"1<A,B><7>;".as_slice());
+    same(&rt, marked.as_slice(), b"1<A,B><7>;".as_slice());
     let header = first_of_stock(alloc, "item,on_hand\nBIKE,10\n")?;
-    assert_eq!(rt; header.as_slice(), NO_HEADER);
+    same(&rt, header.as_slice(), NO_HEADER);
     let empty = first_of_stock(alloc, "")?;
-    assert_eq!(rt; empty.as_slice(), NO_HEADER);
+    same(&rt, empty.as_slice(), NO_HEADER);
     Ok(())
 }

@@ -1,4 +1,5 @@
 use super::*;
+use crate::same::same;
 use std::test::Fail;
 
 #[test]
@@ -9,8 +10,8 @@ fn names_are_compared_and_shown_by_their_text(rt: HostRuntime) -> Result<(), Fai
     assert!(rt; bike == Name::new(b"BIKE").ok_or("a name")?);
     assert!(rt; bike != frame);
     assert!(rt; bike != small);
-    assert_eq!(rt; bike.as_bytes(), b"BIKE".as_slice());
+    same(&rt, bike.as_bytes(), b"BIKE".as_slice());
     let shown = format!(in rt.alloc(); "{bike:?}")?;
-    assert_eq!(rt; shown.as_str(), "Name(BIKE)");
+    same(&rt, shown.as_str(), "Name(BIKE)");
     Ok(())
 }

@@ -1,5 +1,8 @@
+ghost use Rattle.std.specs.Prelude.{◌≡◌, IfOk, length};
+
 use super::*;
 use crate::cursor::Cursor;
+use crate::same::same;
 use std::alloc::Global;
 use std::test::Fail;
 
@@ -11,14 +14,19 @@ fn code_of<T: Drop>(outcome: Result<T, Fault>) -> u8 {
     }
 }
 
-// The second record of a stock table, with this cell in front.
-fn row_of(alloc: Global, cell: &[u8]) -> Result<Row, Fail> {
+// The second record of a stock table, with this cell in front; it has to have two cells.
+fn row_of(alloc: Global, cell: &[u8]) -> Result<Row, Fail>
+    ensures { IfOk result (λ row. length row.cells ≡ 2) }
+{
     let mut text = b"item,onhand\nFIRST,1\n".to_vec(alloc)?;
     text.extend_from_slice(cell)?;
     text.extend_from_slice(b",2")?;
     let mut cursor = Cursor::over(alloc, text.as_slice(), Table::Stock)?;
     let _ = cursor.next()?;
     let row = cursor.next()?.ok_or("no second record")?;
+    if row.cell_count() != 2 {
+        return Err(Fail::from("not two cells"));
+    }
     Ok(row)
 }
 
@@ -43,9 +51,8 @@ fn digits_within_limits_are_numbers(rt: HostRuntime) -> Result<(), Fail> {
     ];
     for (cell, least, most, want) in right {
         let row = row_of(rt.alloc(), cell)?;
-        assert_eq!(rt; row.cell_count(), 2);
         let number = row.number(0, least, most)?;
-        assert_eq!(rt; number, want, "the number {cell:?}");
+        same(&rt, (cell, number), (cell, want));
     }
     Ok(())
 }
@@ -74,11 +81,10 @@ fn other_texts_and_numbers_outside_limits_are_refused(rt: HostRuntime) -> Result
     ];
     for (cell, least, most, want) in wrong {
         let row = row_of(rt.alloc(), cell)?;
-        assert_eq!(rt; row.cell_count(), 2);
-        assert_eq!(rt;
-            code_of(row.number(0, least, most)),
-            want,
-            "the number {cell:?}"
+        same(
+            &rt,
+            (cell, code_of(row.number(0, least, most))),
+            (cell, want),
         );
     }
     Ok(())
@@ -88,8 +94,7 @@ fn other_texts_and_numbers_outside_limits_are_refused(rt: HostRuntime) -> Result
 fn a_number_of_five_thousand_digits_is_out_of_range(rt: HostRuntime) -> Result<(), Fail> {
     let digits = vec![in rt.alloc(); b'9'; 5000]?;
     let row = row_of(rt.alloc(), digits.as_slice())?;
-    assert_eq!(rt; row.cell_count(), 2);
-    assert_eq!(rt; code_of(row.number(0, 0, u64::MAX)), RANGE);
+    same(&rt, code_of(row.number(0, 0, u64::MAX)), RANGE);
     Ok(())
 }
 
@@ -111,9 +116,8 @@ fn names_are_short_printable_texts(rt: HostRuntime) -> Result<(), Fail> {
     ];
     for (cell, want) in right {
         let row = row_of(rt.alloc(), cell)?;
-        assert_eq!(rt; row.cell_count(), 2);
         let name = row.name(0)?;
-        assert_eq!(rt; name.as_bytes(), want, "the name {cell:?}");
+        same(&rt, (cell, name.as_bytes()), (cell, want));
     }
     let wrong: [&[u8]; 11] = [
         b"",
@@ -130,8 +134,7 @@ fn names_are_short_printable_texts(rt: HostRuntime) -> Result<(), Fail> {
     ];
     for cell in wrong {
         let row = row_of(rt.alloc(), cell)?;
-        assert_eq!(rt; row.cell_count(), 2);
-        assert_eq!(rt; code_of(row.name(0)), NAME, "the name {cell:?}");
+        same(&rt, (cell, code_of(row.name(0))), (cell, NAME));
     }
     Ok(())
 }
@@ -147,16 +150,14 @@ fn words_are_told_by_their_places(rt: HostRuntime) -> Result<(), Fail> {
     ];
     for (cell, want) in right {
         let row = row_of(rt.alloc(), cell)?;
-        assert_eq!(rt; row.cell_count(), 2);
         let place = row.word(0, &words)?;
-        assert_eq!(rt; place, want, "the word {cell:?}");
+        same(&rt, (cell, place), (cell, want));
     }
     let wrong: [&[u8]; 6] = [b"", b"Fixed", b"fixe", b"fixedly", b" lfl", b"\xFF"];
     for cell in wrong {
         let row = row_of(rt.alloc(), cell)?;
-        assert_eq!(rt; row.cell_count(), 2);
-        assert_eq!(rt; code_of(row.word(0, &words)), WORD, "the word {cell:?}");
-        assert_eq!(rt; code_of(row.word(0, &[])), WORD);
+        same(&rt, (cell, code_of(row.word(0, &words))), (cell, WORD));
+        same(&rt, code_of(row.word(0, &[])), WORD);
     }
     Ok(())
 }
@@ -164,9 +165,8 @@ fn words_are_told_by_their_places(rt: HostRuntime) -> Result<(), Fail> {
 #[test]
 fn dates_are_days_of_the_calendar(rt: HostRuntime) -> Result<(), Fail> {
     let row = row_of(rt.alloc(), b"2024-02-29")?;
-    assert_eq!(rt; row.cell_count(), 2);
     let date = row.date(0)?;
-    assert_eq!(rt; (date.year(), date.month(), date.day()), (2024, 2, 29));
+    same(&rt, (date.year(), date.month(), date.day()), (2024, 2, 29));
     let wrong: [&[u8]; 7] = [
         b"",
         b"2025-02-29",
@@ -178,8 +178,7 @@ fn dates_are_days_of_the_calendar(rt: HostRuntime) -> Result<(), Fail> {
     ];
     for cell in wrong {
         let row = row_of(rt.alloc(), cell)?;
-        assert_eq!(rt; row.cell_count(), 2);
-        assert_eq!(rt; code_of(row.date(0)), DATE, "the date {cell:?}");
+        same(&rt, (cell, code_of(row.date(0))), (cell, DATE));
     }
     Ok(())
 }
@@ -187,15 +186,14 @@ fn dates_are_days_of_the_calendar(rt: HostRuntime) -> Result<(), Fail> {
 #[test]
 fn a_refusal_names_the_record_and_reads_its_column(rt: HostRuntime) -> Result<(), Fail> {
     let row = row_of(rt.alloc(), b"BIKE")?;
-    assert_eq!(rt; row.cell_count(), 2);
-    assert_eq!(rt; row.cell(0), b"BIKE".as_slice());
-    assert_eq!(rt; row.number(1, 0, 9)?, 2);
+    same(&rt, row.cell(0), b"BIKE".as_slice());
+    same(&rt, row.number(1, 0, 9)?, 2);
     let refusal = Fault {
         code: 13,
         table: Table::Stock,
         row: 2,
     };
-    assert_eq!(rt; row.fault(13), refusal);
+    same(&rt, row.fault(13), refusal);
     let not_a_number = row.number(0, 0, 9);
     let told = Fault {
         code: 8,

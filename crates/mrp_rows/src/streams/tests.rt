@@ -1,4 +1,5 @@
 use super::*;
+use crate::same::same;
 use crate::told::tests::{FakeReader, Turn, fake_writer};
 use std::io;
 use std::io::ErrorKind;
@@ -34,15 +35,16 @@ fn a_text_is_written_whole_over_short_and_interrupted_writes(rt: HostRuntime) {
     ];
     let mut writer = fake_writer(rt.alloc(), &turns);
     let mut tries = Tries::new();
-    assert_eq!(rt; write_text(&mut writer, b"abcdef", &mut tries), Ok(()));
-    assert_eq!(rt; write_text(&mut writer, b"", &mut tries), Ok(()));
-    assert_eq!(rt; write_text(&mut writer, b"gh", &mut tries), Ok(()));
-    assert_eq!(rt; writer.calls(), 6);
-    assert_eq!(rt; writer.interrupted(), 1);
-    assert_eq!(rt; writer.failures(), 0);
-    assert_eq!(rt;
+    same(&rt, write_text(&mut writer, b"abcdef", &mut tries), Ok(()));
+    same(&rt, write_text(&mut writer, b"", &mut tries), Ok(()));
+    same(&rt, write_text(&mut writer, b"gh", &mut tries), Ok(()));
+    same(&rt, writer.calls(), 6);
+    same(&rt, writer.interrupted(), 1);
+    same(&rt, writer.failures(), 0);
+    same(
+        &rt,
         writer.into_inner().taken.as_slice(),
-        b"abcdefgh".as_slice()
+        b"abcdefgh".as_slice(),
     );
 }
 
@@ -52,12 +54,13 @@ fn a_failing_writer_has_a_front_of_the_text(rt: HostRuntime) {
         let turns = [Turn::Moves(2), Turn::Interrupts, Turn::Moves(1), last];
         let mut writer = fake_writer(rt.alloc(), &turns);
         let mut tries = Tries::new();
-        assert_eq!(rt;
+        same(
+            &rt,
             write_text(&mut writer, b"abcdef", &mut tries),
-            Err(WriteFault)
+            Err(WriteFault),
         );
-        assert_eq!(rt; writer.failures(), 1);
-        assert_eq!(rt; writer.into_inner().taken.as_slice(), b"abc".as_slice());
+        same(&rt, writer.failures(), 1);
+        same(&rt, writer.into_inner().taken.as_slice(), b"abc".as_slice());
     }
 }
 
@@ -65,14 +68,22 @@ fn a_failing_writer_has_a_front_of_the_text(rt: HostRuntime) {
 fn interrupted_writes_are_tried_again_a_million_times(rt: HostRuntime) {
     let mut writer = Told::new(Interrupted);
     let mut tries = Tries::new();
-    assert_eq!(rt; write_text(&mut writer, b"", &mut tries), Ok(()));
-    assert_eq!(rt; writer.calls(), 0);
-    assert_eq!(rt; write_text(&mut writer, b"a", &mut tries), Err(WriteFault));
-    assert_eq!(rt; writer.interrupted(), 1_000_001);
-    assert_eq!(rt; writer.calls(), 1_000_001);
-    assert_eq!(rt; writer.failures(), 0);
-    assert_eq!(rt; write_text(&mut writer, b"a", &mut tries), Err(WriteFault));
-    assert_eq!(rt; writer.interrupted(), 1_000_002);
+    same(&rt, write_text(&mut writer, b"", &mut tries), Ok(()));
+    same(&rt, writer.calls(), 0);
+    same(
+        &rt,
+        write_text(&mut writer, b"a", &mut tries),
+        Err(WriteFault),
+    );
+    same(&rt, writer.interrupted(), 1_000_001);
+    same(&rt, writer.calls(), 1_000_001);
+    same(&rt, writer.failures(), 0);
+    same(
+        &rt,
+        write_text(&mut writer, b"a", &mut tries),
+        Err(WriteFault),
+    );
+    same(&rt, writer.interrupted(), 1_000_002);
 }
 
 #[test]
@@ -84,8 +95,8 @@ fn a_bundle_is_read_to_its_end(rt: HostRuntime) -> Result<(), Fail> {
     }
     let mut reader = Told::new(given.as_slice());
     let bytes = read_bundle(alloc, &mut reader)?;
-    assert_eq!(rt; bytes.as_slice(), given.as_slice());
-    assert_eq!(rt; reader.into_inner().len(), 0);
+    same(&rt, bytes.as_slice(), given.as_slice());
+    same(&rt, reader.into_inner().len(), 0);
 
     let turns = [
         Turn::Moves(1),
@@ -99,13 +110,13 @@ fn a_bundle_is_read_to_its_end(rt: HostRuntime) -> Result<(), Fail> {
         bytes: b"abcdef",
     });
     let bytes = read_bundle(alloc, &mut reader)?;
-    assert_eq!(rt; bytes.as_slice(), b"abcdef".as_slice());
-    assert_eq!(rt; reader.calls(), 7);
-    assert_eq!(rt; reader.interrupted(), 3);
-    assert_eq!(rt; reader.failures(), 0);
+    same(&rt, bytes.as_slice(), b"abcdef".as_slice());
+    same(&rt, reader.calls(), 7);
+    same(&rt, reader.interrupted(), 3);
+    same(&rt, reader.failures(), 0);
 
     let mut empty = Told::new(b"".as_slice());
-    assert_eq!(rt; read_bundle(alloc, &mut empty)?.len(), 0);
+    same(&rt, read_bundle(alloc, &mut empty)?.len(), 0);
     Ok(())
 }
 
@@ -116,35 +127,41 @@ fn a_failing_reader_is_told(rt: HostRuntime) {
         turns: &turns,
         bytes: b"abcdef",
     });
-    assert_eq!(rt;
+    same(
+        &rt,
         read_bundle(rt.alloc(), &mut reader).err(),
-        Some(ReadFault::Read)
+        Some(ReadFault::Read),
     );
-    assert_eq!(rt; reader.failures(), 1);
-    assert_eq!(rt; reader.calls(), 3);
+    same(&rt, reader.failures(), 1);
+    same(&rt, reader.calls(), 3);
 }
 
 #[test]
 fn a_bundle_has_at_most_67_108_864_bytes(rt: HostRuntime) -> Result<(), Fail> {
     let alloc = rt.alloc();
     let mut whole = Told::new(io::repeat(b'x').take(67_108_864));
-    assert_eq!(rt; read_bundle(alloc, &mut whole)?.len(), 67_108_864);
+    same(&rt, read_bundle(alloc, &mut whole)?.len(), 67_108_864);
     let mut more = Told::new(io::repeat(b'x').take(67_108_865));
-    assert_eq!(rt; read_bundle(alloc, &mut more).err(), Some(ReadFault::Read));
-    assert_eq!(rt; more.failures(), 0);
+    same(
+        &rt,
+        read_bundle(alloc, &mut more).err(),
+        Some(ReadFault::Read),
+    );
+    same(&rt, more.failures(), 0);
     Ok(())
 }
 
 #[test]
 fn reads_past_the_limit_of_calls_are_refused(rt: HostRuntime) {
     let mut reader = Told::new(Interrupted);
-    assert_eq!(rt;
+    same(
+        &rt,
         read_within(rt.alloc(), &mut reader, 10, 1_000).err(),
-        Some(ReadFault::Read)
+        Some(ReadFault::Read),
     );
-    assert_eq!(rt; reader.calls(), 1_000);
-    assert_eq!(rt; reader.interrupted(), 1_000);
-    assert_eq!(rt; reader.failures(), 0);
+    same(&rt, reader.calls(), 1_000);
+    same(&rt, reader.interrupted(), 1_000);
+    same(&rt, reader.failures(), 0);
 }
 
 #[test]
@@ -162,7 +179,11 @@ fn the_end_may_come_at_the_last_call_and_the_last_byte(rt: HostRuntime) -> Resul
             bytes: b"abc",
         });
         let outcome = read_within(alloc, &mut reader, most_bytes, most_calls);
-        assert_eq!(rt; outcome.is_ok(), read, "{most_bytes} {most_calls}");
+        same(
+            &rt,
+            (most_bytes, most_calls, outcome.is_ok()),
+            (most_bytes, most_calls, read),
+        );
     }
     Ok(())
 }

@@ -1,4 +1,5 @@
 use super::*;
+use crate::same::same;
 use std::alloc::Global;
 use std::test::Fail;
 
@@ -80,19 +81,19 @@ fn reads_are_told_by_what_came_of_them(rt: HostRuntime) {
         bytes: b"abcde",
     });
     let mut buf = [0; 4];
-    assert_eq!(rt; reader.calls(), 0);
-    assert_eq!(rt; reader.read(&mut buf).ok(), Some(2));
-    assert_eq!(rt; buf, [b'a', b'b', 0, 0]);
-    assert_eq!(rt; reader.read(&mut buf).ok(), None);
-    assert_eq!(rt; reader.read(&mut buf).ok(), None);
-    assert_eq!(rt; reader.read(&mut buf).ok(), None);
-    assert_eq!(rt; reader.read(&mut buf).ok(), Some(3));
-    assert_eq!(rt; buf, [b'c', b'd', b'e', 0]);
-    assert_eq!(rt; reader.read(&mut buf).ok(), Some(0));
-    assert_eq!(rt; reader.calls(), 6);
-    assert_eq!(rt; reader.interrupted(), 2);
-    assert_eq!(rt; reader.failures(), 1);
-    assert_eq!(rt; reader.into_inner().bytes.len(), 0);
+    same(&rt, reader.calls(), 0);
+    same(&rt, reader.read(&mut buf).ok(), Some(2));
+    same(&rt, buf, [b'a', b'b', 0, 0]);
+    same(&rt, reader.read(&mut buf).ok(), None);
+    same(&rt, reader.read(&mut buf).ok(), None);
+    same(&rt, reader.read(&mut buf).ok(), None);
+    same(&rt, reader.read(&mut buf).ok(), Some(3));
+    same(&rt, buf, [b'c', b'd', b'e', 0]);
+    same(&rt, reader.read(&mut buf).ok(), Some(0));
+    same(&rt, reader.calls(), 6);
+    same(&rt, reader.interrupted(), 2);
+    same(&rt, reader.failures(), 1);
+    same(&rt, reader.into_inner().bytes.len(), 0);
 }
 
 #[test]
@@ -105,32 +106,32 @@ fn writes_of_no_byte_of_some_are_failures(rt: HostRuntime) {
         Turn::Interrupts,
     ];
     let mut writer = fake_writer(rt.alloc(), &turns);
-    assert_eq!(rt; writer.write(b"ab").ok(), Some(1));
-    assert_eq!(rt; writer.failures(), 0);
-    assert_eq!(rt; writer.write(b"cd").ok(), Some(0));
-    assert_eq!(rt; writer.failures(), 1);
-    assert_eq!(rt; writer.write(b"ef").ok(), None);
-    assert_eq!(rt; writer.failures(), 1);
-    assert_eq!(rt; writer.write(b"gh").ok(), None);
-    assert_eq!(rt; writer.failures(), 2);
-    assert_eq!(rt; writer.write(b"").ok(), None);
-    assert_eq!(rt; writer.write(b"").ok(), Some(0));
-    assert_eq!(rt; writer.write(b"ij").ok(), Some(2));
-    assert_eq!(rt; writer.flush().is_ok(), true);
-    assert_eq!(rt; writer.failures(), 2);
-    assert_eq!(rt; writer.interrupted(), 2);
-    assert_eq!(rt; writer.calls(), 8);
-    assert_eq!(rt; writer.into_inner().taken.as_slice(), b"aij".as_slice());
+    same(&rt, writer.write(b"ab").ok(), Some(1));
+    same(&rt, writer.failures(), 0);
+    same(&rt, writer.write(b"cd").ok(), Some(0));
+    same(&rt, writer.failures(), 1);
+    same(&rt, writer.write(b"ef").ok(), None);
+    same(&rt, writer.failures(), 1);
+    same(&rt, writer.write(b"gh").ok(), None);
+    same(&rt, writer.failures(), 2);
+    same(&rt, writer.write(b"").ok(), None);
+    same(&rt, writer.write(b"").ok(), Some(0));
+    same(&rt, writer.write(b"ij").ok(), Some(2));
+    same(&rt, writer.flush().is_ok(), true);
+    same(&rt, writer.failures(), 2);
+    same(&rt, writer.interrupted(), 2);
+    same(&rt, writer.calls(), 8);
+    same(&rt, writer.into_inner().taken.as_slice(), b"aij".as_slice());
 }
 
 #[test]
 fn a_flush_is_a_call_too(rt: HostRuntime) {
     let turns = [Turn::Interrupts, Turn::Fails];
     let mut writer = fake_writer(rt.alloc(), &turns);
-    assert_eq!(rt; writer.flush().is_ok(), false);
-    assert_eq!(rt; writer.interrupted(), 1);
-    assert_eq!(rt; writer.failures(), 0);
-    assert_eq!(rt; writer.flush().is_ok(), false);
-    assert_eq!(rt; writer.failures(), 1);
-    assert_eq!(rt; writer.calls(), 2);
+    same(&rt, writer.flush().is_ok(), false);
+    same(&rt, writer.interrupted(), 1);
+    same(&rt, writer.failures(), 0);
+    same(&rt, writer.flush().is_ok(), false);
+    same(&rt, writer.failures(), 1);
+    same(&rt, writer.calls(), 2);
 }

@@ -1,0 +1,216 @@
+//! Shops for tests, and what planning makes of their items.
+
+use mrp_item::OrderKind;
+
+// The tables that are the same in all shops, up to the records of the items.
+pub const FRONT: &str = "\
+[calendar]\n\
+key,value\n\
+start,2025-01-06\n\
+weeks,6\n\
+workdays,1111100\n\
+holiday,2025-01-20\n\
+[centres]\n\
+centre,minutes\n\
+[routings]\n\
+item,op,centre,setup,run,offset\n\
+[script]\n\
+desk,call,item,date,quantity,number\n\
+[items]\n\
+item,class,lead,scrap,lot,size,safety\n";
+
+// The records of a shop's other tables.
+#[derive(Clone, Copy)]
+pub struct Records<'a> {
+    pub items: &'a str,
+    pub stock: &'a str,
+    pub receipts: &'a str,
+    pub bills: &'a str,
+    pub master: &'a str,
+}
+
+// Bicycles, planned lot for lot.
+pub const BICYCLES: Records<'static> = Records {
+    items: "BIKE,master,1,0,lfl,0,0\nFRAME,part,1,0,lfl,0,0\nWHEEL,part,1,0,lfl,0,0\n",
+    stock: "BIKE,10\n",
+    receipts: "",
+    bills: "BIKE,FRAME,1\nBIKE,WHEEL,2\n",
+    master: "\
+BIKE,firm,2025-01-20,20\n\
+BIKE,firm,2025-02-03,20\n\
+BIKE,forecast,2025-01-13,8\n\
+BIKE,forecast,2025-01-27,6\n",
+};
+
+// Bicycles whose parts are planned in lots, with scrap, safety stock and an open receipt.
+pub const BICYCLES_IN_LOTS: Records<'static> = Records {
+    items: "BIKE,master,1,0,lfl,0,0\nFRAME,part,1,100,fixed,20,5\nWHEEL,part,2,0,period,2,0\n",
+    stock: "BIKE,10\nFRAME,12\nWHEEL,30\n",
+    receipts: "FRAME,R1,2025-01-22,15\n",
+    ..BICYCLES
+};
+
+// A chain of parts, each with 1,000,000 of the next.
+pub const CHAIN: Records<'static> = Records {
+    items: "TOP,master,0,0,lfl,0,0\nA,part,0,0,lfl,0,0\nB,part,0,0,lfl,0,0\nC,part,0,0,lfl,0,0\n",
+    stock: "",
+    receipts: "",
+    bills: "TOP,A,1000000\nA,B,1000000\nB,C,1000000\n",
+    master: "",
+};
+
+// A part with 1,000,000 of two others.
+pub const FORK: Records<'static> = Records {
+    items: "TOP,master,0,0,lfl,0,0\nM,part,0,0,lfl,0,0\nX,part,0,0,lfl,0,0\nY,part,0,0,lfl,0,0\n",
+    stock: "",
+    receipts: "",
+    bills: "TOP,M,1000000\nM,Y,1000000\nM,X,1000000\n",
+    master: "",
+};
+
+// Bookings of bicycles: week, pieces.
+pub const BOOKED: &[(u16, u64)] = &[(3, 12), (5, 25), (1, 10)];
+
+// An order: kind, due week, pieces due, pieces that start, release week, weeks late.
+pub type OrderCells = (OrderKind, u16, u64, u64, u16, u16);
+
+// An item's plan, week by week: receipts are cumulative.
+#[derive(Clone, Copy)]
+pub struct Worked {
+    pub gross: [u64; 6],
+    pub receipts: [u64; 6],
+    pub started: [u64; 6],
+    pub balances: [u64; 6],
+    pub orders: &'static [OrderCells],
+}
+
+// Bicycles, frames and wheels, without bookings.
+pub const BICYCLE_PLANS: &[Worked] = &[
+    Worked {
+        gross: [0, 8, 0, 6, 0, 0],
+        receipts: [0; 6],
+        started: [0, 20, 0, 20, 0, 0],
+        balances: [10, 2, 22, 16, 36, 36],
+        orders: &[
+            (OrderKind::Firm, 3, 20, 20, 2, 0),
+            (OrderKind::Firm, 5, 20, 20, 4, 0),
+        ],
+    },
+    Worked {
+        gross: [0, 20, 0, 20, 0, 0],
+        receipts: [0, 20, 20, 40, 40, 40],
+        started: [20, 0, 20, 0, 0, 0],
+        balances: [0; 6],
+        orders: &[
+            (OrderKind::Planned, 2, 20, 20, 1, 0),
+            (OrderKind::Planned, 4, 20, 20, 3, 0),
+        ],
+    },
+    Worked {
+        gross: [0, 40, 0, 40, 0, 0],
+        receipts: [0, 40, 40, 80, 80, 80],
+        started: [40, 0, 40, 0, 0, 0],
+        balances: [0; 6],
+        orders: &[
+            (OrderKind::Planned, 2, 40, 40, 1, 0),
+            (OrderKind::Planned, 4, 40, 40, 3, 0),
+        ],
+    },
+];
+
+// Wheels, where each frame takes one too.
+pub const WHEELS_OF_FRAMES: Worked = Worked {
+    gross: [20, 40, 20, 40, 0, 0],
+    receipts: [20, 60, 80, 120, 120, 120],
+    started: [60, 20, 40, 0, 0, 0],
+    balances: [0; 6],
+    orders: &[
+        (OrderKind::Planned, 1, 20, 20, 1, 1),
+        (OrderKind::Planned, 2, 40, 40, 1, 0),
+        (OrderKind::Planned, 3, 20, 20, 2, 0),
+        (OrderKind::Planned, 4, 40, 40, 3, 0),
+    ],
+};
+
+// Bicycles, frames and wheels, with the bookings.
+pub const BOOKED_PLANS: &[Worked] = &[
+    Worked {
+        gross: [10, 8, 12, 6, 25, 0],
+        receipts: [0, 8, 8, 8, 11, 11],
+        started: [8, 20, 0, 23, 0, 0],
+        balances: [0, 0, 8, 2, 0, 0],
+        orders: &[
+            (OrderKind::Planned, 2, 8, 8, 1, 0),
+            (OrderKind::Firm, 3, 20, 20, 2, 0),
+            (OrderKind::Firm, 5, 20, 20, 4, 0),
+            (OrderKind::Planned, 5, 3, 3, 4, 0),
+        ],
+    },
+    Worked {
+        gross: [8, 20, 0, 23, 0, 0],
+        receipts: [8, 28, 28, 51, 51, 51],
+        started: [28, 0, 23, 0, 0, 0],
+        balances: [0; 6],
+        orders: &[
+            (OrderKind::Planned, 1, 8, 8, 1, 1),
+            (OrderKind::Planned, 2, 20, 20, 1, 0),
+            (OrderKind::Planned, 4, 23, 23, 3, 0),
+        ],
+    },
+    Worked {
+        gross: [16, 40, 0, 46, 0, 0],
+        receipts: [16, 56, 56, 102, 102, 102],
+        started: [56, 0, 46, 0, 0, 0],
+        balances: [0; 6],
+        orders: &[
+            (OrderKind::Planned, 1, 16, 16, 1, 1),
+            (OrderKind::Planned, 2, 40, 40, 1, 0),
+            (OrderKind::Planned, 4, 46, 46, 3, 0),
+        ],
+    },
+];
+
+// Bicycles, frames and wheels in lots, with the bookings.
+pub const PLANS_IN_LOTS: &[Worked] = &[
+    Worked {
+        gross: [10, 8, 12, 6, 25, 0],
+        receipts: [0, 8, 8, 8, 11, 11],
+        started: [8, 20, 0, 23, 0, 0],
+        balances: [0, 0, 8, 2, 0, 0],
+        orders: &[
+            (OrderKind::Planned, 2, 8, 8, 1, 0),
+            (OrderKind::Firm, 3, 20, 20, 2, 0),
+            (OrderKind::Firm, 5, 20, 20, 4, 0),
+            (OrderKind::Planned, 5, 3, 3, 4, 0),
+        ],
+    },
+    Worked {
+        gross: [8, 20, 0, 23, 0, 0],
+        receipts: [20, 40, 40, 40, 40, 40],
+        started: [46, 0, 0, 0, 0, 0],
+        balances: [24, 24, 39, 16, 16, 16],
+        orders: &[
+            (OrderKind::Planned, 1, 20, 23, 1, 1),
+            (OrderKind::Planned, 2, 20, 23, 1, 0),
+        ],
+    },
+    Worked {
+        gross: [16, 40, 0, 46, 0, 0],
+        receipts: [0, 26, 26, 72, 72, 72],
+        started: [26, 46, 0, 0, 0, 0],
+        balances: [14, 0, 0, 0, 0, 0],
+        orders: &[
+            (OrderKind::Planned, 2, 26, 26, 1, 1),
+            (OrderKind::Planned, 4, 46, 46, 2, 0),
+        ],
+    },
+];
+
+// Tubes, three in a frame, where half of what starts is scrap: the frames' starts ask for them.
+pub const TUBES_OF_FRAMES: Worked = Worked {
+    gross: [138, 0, 0, 0, 0, 0],
+    receipts: [138; 6],
+    started: [276, 0, 0, 0, 0, 0],
+    balances: [0; 6],
+    orders: &[(OrderKind::Planned, 1, 138, 276, 1, 0)],
+};
