@@ -4,6 +4,8 @@ ghost use Rattle.mrp_cal.specs.DateText.{IsPlanningYear};
 
 use crate::{CalFault, Calendar, read_date};
 use jiff::civil::Date;
+use std::fmt::Debug;
+use std::process::Abort;
 use std::test::Fail;
 
 const EVERY_DAY: [bool; 7] = [true; 7];
@@ -11,6 +13,11 @@ const EVERY_DAY: [bool; 7] = [true; 7];
 const NO_DAY: [bool; 7] = [false; 7];
 
 const MONDAY_TO_FRIDAY: [bool; 7] = [true, true, true, true, true, false, false];
+
+// Fails unless the two are equal. One proof of the comparison serves all calls.
+fn same<T: PartialEq + Debug + Drop>(rt: &impl Abort, got: T, want: T) {
+    assert_eq!(rt; got, want);
+}
 
 fn date(text: &[u8]) -> Result<Date, Fail>
     ensures { IfOk result (λ d. IsPlanningYear d.year) }
@@ -47,29 +54,45 @@ fn a_week_has_seven_days_from_the_start(rt: HostRuntime) -> Result<(), Fail> {
         (b"2999-12-31", None),
     ];
     for (text, want) in days {
-        assert_eq!(rt; week(b"2025-01-06", 6, date(text)?)?, want, "on {text:?}");
+        same(
+            &rt,
+            (text, week(b"2025-01-06", 6, date(text)?)?),
+            (text, want),
+        );
     }
     Ok(())
 }
 
 #[test]
 fn horizons_end_after_their_weeks(rt: HostRuntime) -> Result<(), Fail> {
-    assert_eq!(rt; week(b"2025-01-06", 1, date(b"2025-01-12")?)?, Some(1));
-    assert_eq!(rt; week(b"2025-01-06", 1, date(b"2025-01-13")?)?, None);
-    assert_eq!(rt; week(b"2025-01-06", 104, date(b"2027-01-03")?)?, Some(104));
-    assert_eq!(rt; week(b"2025-01-06", 104, date(b"2027-01-04")?)?, None);
-    assert_eq!(rt; week(b"1900-01-01", 104, date(b"1901-12-29")?)?, Some(104));
-    assert_eq!(rt; week(b"1900-01-01", 104, date(b"1901-12-30")?)?, None);
+    same(&rt, week(b"2025-01-06", 1, date(b"2025-01-12")?)?, Some(1));
+    same(&rt, week(b"2025-01-06", 1, date(b"2025-01-13")?)?, None);
+    same(
+        &rt,
+        week(b"2025-01-06", 104, date(b"2027-01-03")?)?,
+        Some(104),
+    );
+    same(&rt, week(b"2025-01-06", 104, date(b"2027-01-04")?)?, None);
+    same(
+        &rt,
+        week(b"1900-01-01", 104, date(b"1901-12-29")?)?,
+        Some(104),
+    );
+    same(&rt, week(b"1900-01-01", 104, date(b"1901-12-30")?)?, None);
     Ok(())
 }
 
 #[test]
 fn weeks_go_on_over_leap_days_and_ends_of_years(rt: HostRuntime) -> Result<(), Fail> {
-    assert_eq!(rt; week(b"2024-02-26", 2, date(b"2024-03-03")?)?, Some(1));
-    assert_eq!(rt; week(b"2024-02-26", 2, date(b"2024-03-04")?)?, Some(2));
-    assert_eq!(rt; week(b"2999-12-30", 104, Date::new(3000, 1, 6)?)?, Some(2));
-    assert_eq!(rt; week(b"2999-12-30", 104, Date::MAX)?, None);
-    assert_eq!(rt; week(b"2999-12-30", 104, Date::MIN)?, None);
+    same(&rt, week(b"2024-02-26", 2, date(b"2024-03-03")?)?, Some(1));
+    same(&rt, week(b"2024-02-26", 2, date(b"2024-03-04")?)?, Some(2));
+    same(
+        &rt,
+        week(b"2999-12-30", 104, Date::new(3000, 1, 6)?)?,
+        Some(2),
+    );
+    same(&rt, week(b"2999-12-30", 104, Date::MAX)?, None);
+    same(&rt, week(b"2999-12-30", 104, Date::MIN)?, None);
     Ok(())
 }
 
@@ -77,7 +100,7 @@ fn weeks_go_on_over_leap_days_and_ends_of_years(rt: HostRuntime) -> Result<(), F
 fn a_calendar_has_its_weeks(rt: HostRuntime) -> Result<(), Fail> {
     for weeks in [1, 6, 104] {
         let calendar = Calendar::new(date(b"2025-01-06")?, weeks, EVERY_DAY, &[])?;
-        assert_eq!(rt; u64::from(calendar.weeks()), weeks);
+        same(&rt, u64::from(calendar.weeks()), weeks);
     }
     Ok(())
 }
@@ -118,7 +141,11 @@ fn the_first_fault_is_answered(rt: HostRuntime) -> Result<(), Fail> {
         (b"2025-01-06", 105, NO_DAY, Some(CalFault::Weeks)),
     ];
     for (start, weeks, workdays, want) in faults {
-        assert_eq!(rt; fault(start, weeks, workdays)?, want, "{start:?} {weeks}");
+        same(
+            &rt,
+            (start, weeks, fault(start, weeks, workdays)?),
+            (start, weeks, want),
+        );
     }
     Ok(())
 }
@@ -127,7 +154,7 @@ fn the_first_fault_is_answered(rt: HostRuntime) -> Result<(), Fail> {
 fn one_workday_is_enough(rt: HostRuntime) -> Result<(), Fail> {
     let mut sunday = NO_DAY;
     sunday[6] = true;
-    assert_eq!(rt; fault(b"2025-01-06", 6, sunday)?, None);
+    same(&rt, fault(b"2025-01-06", 6, sunday)?, None);
     Ok(())
 }
 
@@ -142,18 +169,22 @@ fn holidays_outside_the_horizon_and_twice_are_no_fault(rt: HostRuntime) -> Resul
         date(b"2999-12-31")?,
     ];
     let calendar = Calendar::new(date(b"2025-01-06")?, 6, MONDAY_TO_FRIDAY, &holidays)?;
-    assert_eq!(rt; calendar.week_of(date(b"2025-01-20")?), Some(3));
+    same(&rt, calendar.week_of(date(b"2025-01-20")?), Some(3));
     Ok(())
 }
 
 #[test]
 fn dates_are_read(rt: HostRuntime) -> Result<(), Fail> {
-    assert_eq!(rt; read_date(b"2024-02-29"), Some(Date::new(2024, 2, 29)?));
-    assert_eq!(rt; read_date(b"2025-01-06"), Some(Date::new(2025, 1, 6)?));
-    assert_eq!(rt; read_date(b"2025-06-01"), Some(Date::new(2025, 6, 1)?));
-    assert_eq!(rt; read_date(b"1900-01-01"), Some(Date::new(1900, 1, 1)?));
-    assert_eq!(rt; read_date(b"2999-12-31"), Some(Date::new(2999, 12, 31)?));
-    assert_eq!(rt; read_date(b"2000-02-29"), Some(Date::new(2000, 2, 29)?));
+    same(&rt, read_date(b"2024-02-29"), Some(Date::new(2024, 2, 29)?));
+    same(&rt, read_date(b"2025-01-06"), Some(Date::new(2025, 1, 6)?));
+    same(&rt, read_date(b"2025-06-01"), Some(Date::new(2025, 6, 1)?));
+    same(&rt, read_date(b"1900-01-01"), Some(Date::new(1900, 1, 1)?));
+    same(
+        &rt,
+        read_date(b"2999-12-31"),
+        Some(Date::new(2999, 12, 31)?),
+    );
+    same(&rt, read_date(b"2000-02-29"), Some(Date::new(2000, 2, 29)?));
     Ok(())
 }
 
@@ -174,7 +205,7 @@ fn days_that_the_calendar_lacks_are_no_dates(rt: HostRuntime) {
         b"2025-99-99",
     ];
     for text in texts {
-        assert_eq!(rt; read_date(text), None, "of {text:?}");
+        same(&rt, (text, read_date(text)), (text, None));
     }
 }
 
@@ -201,7 +232,7 @@ fn other_forms_are_no_dates(rt: HostRuntime) {
         b"\xEF\xBB\xBF2025-01-06",
     ];
     for text in texts {
-        assert_eq!(rt; read_date(text), None, "of {text:?}");
+        same(&rt, (text, read_date(text)), (text, None));
     }
 }
 
@@ -213,7 +244,7 @@ fn faults_have_texts(rt: HostRuntime) -> Result<(), Fail> {
         (CalFault::NoWorkday, "no weekday is worked"),
     ];
     for (fault, want) in texts {
-        assert_eq!(rt; format!(in rt.alloc(); "{fault}")?.as_str(), want);
+        same(&rt, format!(in rt.alloc(); "{fault}")?.as_str(), want);
     }
     Ok(())
 }
