@@ -1,5 +1,5 @@
 -- What a day's run leaves of its reader and its writer.
-use Rattle.std.specs.Prelude.{ℕ, ◌≡◌, ◌≢◌, ◌⊎◌, List, Option, IfSome, Result, Ok, Err, ⊤}
+use Rattle.std.specs.Prelude.{ℕ, ◌≡◌, ◌≢◌, ◌≤◌, ◌+◌, ◌⊎◌, List, Option, IfSome, Result, Ok, Err, length, ⊤}
 use Rattle.mrp_rows.specs.declared.told.Told.{Told}
 use Rattle.mrp_rows.specs.Told.{calls_of, failures_of, moved_of, HasRisenBy}
 use Rattle.mrp_bill.specs.Shop.{Shop}
@@ -8,9 +8,13 @@ use Rattle.mrp_engine.specs.declared.fault.DayFault.{DayFault}
 use Rattle.mrp_engine.specs.declared.fault.DayFault.TheVariants.{Refused, TooLarge, Read, Write, NoMemory}
 use Rattle.mrp_engine.specs.Day.{IsAccepted, IsDay, IsRefused}
 
--- a bundle is what a reader had left, where the reader tells it
+-- a bundle is what a reader had left, where the reader tells it, and no longer than a bundle may be
 abbrev pub IsRead : Option (List ℕ) → List ℕ → Type 0
-IsRead given bundle = IfSome given (λ bytes. bundle ≡ bytes)
+IsRead given bundle = IfSome given (λ bytes. bundle ≡ bytes) × (length bundle ≤ 67108864)
+
+-- a reader has not failed, nor was it called more often than it may be
+abbrev pub IsReadWithin : {R : Type 0} → Told R → Told R → Type 0
+IsReadWithin old new = (failures_of new ≡ failures_of old) × (calls_of new ≤ calls_of old + 100000000)
 
 -- a reader failed, passed its limit of calls, or gave more bytes than a bundle may have
 abbrev pub HasPassedLimits : {R : Type 0} → Told R → Told R → Type 0
@@ -47,8 +51,8 @@ IsBeforeWriting Write = ⊥
 IsBeforeWriting NoMemory = ⊥
 
 -- an end after the reader was read to its end
-abbrev pub IsAfterReading : Result (Unit {0}) DayFault → Type 0
-IsAfterReading (Ok u) = ⊤
+abbrev pub IsAfterReading : {X : Type 0} → Result X DayFault → Type 0
+IsAfterReading (Ok x) = ⊤
 IsAfterReading (Err (Refused f)) = ⊤
 IsAfterReading (Err (TooLarge name)) = ⊤
 IsAfterReading (Err Read) = ⊥

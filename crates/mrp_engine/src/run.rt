@@ -8,7 +8,7 @@ ghost use Rattle.mrp_rows.specs.Told.{inner_of, moved_of};
 ghost use Rattle.mrp_rows.specs.declared.fault.Fault.{Fault};
 ghost use Rattle.mrp_report.specs.Written.{HasGivenUp};
 ghost use Rattle.mrp_engine.specs.Day.{IsRefused, IsTooLarge};
-ghost use Rattle.mrp_engine.specs.Run.{HasPassedLimits, HasTakenAll, IsAfterReading, IsBeforeWriting, IsRead, TellsDay, WritesDayFront};
+ghost use Rattle.mrp_engine.specs.Run.{HasPassedLimits, HasTakenAll, IsAfterReading, IsBeforeWriting, IsRead, IsReadWithin, TellsDay, WritesDayFront};
 
 use crate::fault::DayFault;
 use crate::reading::read_shop;
@@ -54,6 +54,7 @@ pub fn run_day<R: Read, W: Write>(
     // Nothing is written before every run is planned.
     ensures unwritten { IfErr result (λ fault. IsBeforeWriting fault → writer.new ≡ writer.old) }
     ensures end { IsAfterReading result → IsAtEnd (R.remaining (inner_of reader.new)) }
+    ensures within { IsAfterReading result → IsReadWithin reader.old reader.new }
     ensures taken { TakesFront (R.remaining (inner_of reader.old)) (R.remaining (inner_of reader.new)) (moved_of reader.old) (moved_of reader.new) }
 {
     let _later = workers;
