@@ -1,0 +1,5 @@
+pub mod NeedWeeks
+pub mod ByKeys
+pub mod Tellings
+pub mod SupplyOrder
+pub mod PlannedRows

@@ -1,0 +1,19 @@
+-- The week in which a supply is needed, and what is said of one that is due in another.
+use Rattle.std.specs.Prelude.{ℕ, ◌+◌, nat_lt, if◌then◌else◌, List, length, find, Option, Some, None}
+use Rattle.mrp_phase.specs.Weeks.{weeks, sum_to}
+use Rattle.mrp_notes.specs.declared.message.Advice.{Advice}
+use Rattle.mrp_notes.specs.declared.message.Advice.TheVariants.{Earlier, Later, Cancel}
+use Rattle.mrp_notes.specs.declared.supply.Supply.{Supply}
+
+-- the first week in which gross requirements, summed up to it, and safety stock exceed what is supplied (profile)
+abbrev pub need_week : List ℕ → ℕ → ℕ → Option ℕ
+need_week gross safety supplied = find (λ week. nat_lt supplied (sum_to gross week + safety)) (weeks (length gross))
+
+-- what is said of a supply that is due in a week and needed in one (Orlicky: expedite, de-expedite, cancel)
+abbrev pub rescheduled : ℕ → Option ℕ → Option Advice
+rescheduled due None = Some Cancel
+rescheduled due (Some week) = if nat_lt week due then Some (Earlier week) else if nat_lt due week then Some (Later week) else None
+
+-- the same of a supply, given what is supplied before it: planning may not change a fixed one, and has its way with the others
+abbrev pub rescheduling : List ℕ → ℕ → ℕ → Supply → Option Advice
+rescheduling gross safety supplied x = if x.is_fixed then rescheduled x.due (need_week gross safety supplied) else None

@@ -1,0 +1,12 @@
+//! Messages to the planner: what to release, what is late, and what to move or to cancel.
+#![tactic(auto)]
+
+mod covered;
+pub mod laws;
+mod message;
+mod notes;
+mod supply;
+mod told;
+
+pub use message::{Advice, Message, Supplied};
+pub use notes::{item_messages, messages};

@@ -1,0 +1,41 @@
+//! The messages of a plan.
+
+ghost use Rattle.std.specs.Prelude.{◌≡◌, IfOk};
+ghost use Rattle.mrp_notes.specs.Messages.{messages_of, plan_messages};
+
+use crate::message::Message;
+use crate::supply::supplies;
+use crate::told::told;
+use mrp_item::{Plan, Planned};
+use mrp_qty::NoMemory;
+use std::alloc::Global;
+
+/// The messages of an item's plan, in order of its supplies: by week, open receipts and firm orders
+/// in table order, then the planned order. What is said of an order's release comes before whether
+/// it is to come in earlier or later, or to be cancelled (APICS Dictionary: action message; profile).
+///
+/// Errors: `NoMemory` where memory is refused.
+pub fn item_messages(alloc: Global, planned: &Planned) -> Result<Vec<Message>, NoMemory>
+    ensures { IfOk result (λ messages. messages.items ≡ messages_of planned.now.inputs planned.now.item planned.now.plan) }
+{
+    let _within = planned.inputs().weeks();
+    let stock = planned.stock(alloc)?;
+    let supplies = supplies(alloc, planned)?;
+    let gross = planned.gross().as_slice();
+    told(alloc, planned.item(), gross, &stock, supplies.as_slice())
+}
+
+/// The messages of a plan: those of each item, in table order.
+///
+/// Errors: `NoMemory` where memory is refused.
+pub fn messages(alloc: Global, plan: &Plan) -> Result<Vec<Message>, NoMemory>
+    ensures { IfOk result (λ messages. messages.items ≡ plan_messages plan.now.inputs) }
+{
+    let items = plan.inputs().shop().tables().items().len();
+    let mut messages = Vec::new(alloc);
+    for item in 0..items {
+        let own = item_messages(alloc, plan.item(item))?;
+        messages.extend_from_slice(own.as_slice())?;
+    }
+    Ok(messages)
+}
