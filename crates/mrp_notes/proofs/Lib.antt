@@ -3,3 +3,4 @@ pub mod ByKeys
 pub mod Tellings
 pub mod SupplyOrder
 pub mod PlannedRows
+pub mod MessageLaws

@@ -1,8 +1,14 @@
 //! What follows from the definitions alone, each law the contract of a function that does nothing.
 
-ghost use Rattle.std.specs.Prelude.{◌≡◌, ◌<◌, ◌≤◌, ◌+◌, ℕ, List, length, false, Some, None};
+ghost use Rattle.std.specs.Prelude.{◌≡◌, ◌<◌, ◌≤◌, ◌+◌, ℕ, All, Contains, List, count_by, length, map, false, Some, None};
 ghost use Rattle.mrp_phase.specs.Weeks.{sum_to};
-ghost use Rattle.mrp_notes.specs.Needs.{need_week, rescheduling};
+ghost use Rattle.mrp_net.specs.declared.stock.Stock.{Stock};
+ghost use Rattle.mrp_item.specs.Inputs.{Inputs};
+ghost use Rattle.mrp_item.specs.Plan.{ItemPlan};
+ghost use Rattle.mrp_notes.specs.Messages.{messages_of};
+ghost use Rattle.mrp_notes.specs.Needs.{is_rescheduling, need_week, rescheduling};
+ghost use Rattle.mrp_notes.specs.Supplies.{supplies_of};
+ghost use Rattle.mrp_notes.specs.Told.{advice_on};
 ghost use Rattle.mrp_notes.specs.declared.supply.Supply.{Supply};
 
 /// A supply is needed in the first week that what is supplied before it does not cover.
@@ -20,4 +26,15 @@ pub fn need_weeks()
 pub fn stays()
     ensures needed { (gross : List ℕ) (safety supplied : ℕ) (x : Supply) → need_week gross safety supplied ≡ Some x.due → rescheduling gross safety supplied x ≡ None }
     ensures planned { (gross : List ℕ) (safety supplied : ℕ) (x : Supply) → x.is_fixed ≡ false → rescheduling gross safety supplied x ≡ None }
+{}
+
+/// Each message is of a supply of its item.
+pub fn supplies()
+    ensures item { (s : Inputs) (i : ℕ) (plan : ItemPlan) → All (λ m. m.item ≡ i) (messages_of s i plan) }
+    ensures supply { (s : Inputs) (i : ℕ) (plan : ItemPlan) → All (λ m. Contains (map (λ x. x.source) (supplies_of s i plan.orders)) m.supply) (messages_of s i plan) }
+{}
+
+/// A supply is moved once, or cancelled.
+pub fn once()
+    ensures { (s : Inputs) (i : ℕ) (orders : List _) (gross : List ℕ) (stock : Stock) (place : ℕ) (x : Supply) → Contains (supplies_of s i orders) x → count_by is_rescheduling (advice_on gross stock (supplies_of s i orders) place x) ≤ 1 }
 {}
