@@ -1,0 +1,4 @@
+pub mod Bookings
+pub mod Legal
+pub mod Owned
+pub mod Told

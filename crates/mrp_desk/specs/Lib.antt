@@ -1,0 +1,4 @@
+pub mod Offices
+pub mod ShopBook
+pub mod Faults
+pub mod Calls

@@ -1,0 +1,12 @@
+//! The office of order desks: desks in any number of threads take turns at one order book.
+#![tactic(auto)]
+
+mod fault;
+mod office;
+mod shop_book;
+#[cfg(test)]
+mod tests;
+
+pub use fault::OfficeFault;
+pub use office::{Desk, MOST_DESKS, Office};
+pub use shop_book::ShopBook;
