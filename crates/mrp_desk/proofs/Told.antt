@@ -46,8 +46,8 @@ module _ (office : TurnId Shop) (c : Call) (old new : Desk) where
   -- why the book refused
   cause : (e : Refused) → WantsMemory c e ⊎ ((b : BookState) × LeadsTo (Answers shop) (Opens shop) new.seen b × Refuses b e) → HasCause c new.seen e
   cause e (inl (is, takes)) = subst (HasCause c new.seen) (sym is) takes
-  cause e (inr (b, leads, is, limit)) =
-      subst (HasCause c new.seen) (sym is) (subst IsLimit (ap (λ (x : BookState). x.entries) (is_history shop new.seen b leads).left) limit)
+  cause e (inr (b, leads, why)) =
+      subst (HasCause c new.seen) (sym why.0) (subst IsLimit (ap (λ (x : BookState). x.entries) (is_history shop new.seen b leads).left) why.1)
 
   pub tells : (given : Result (ℕ × Reply) (CallFault Refused)) (result : Result (ℕ × Reply) Refused) → IsAnswerOf given result → new.turn ≡ old.turn → new.number ≡ old.number
       → LockTells given → Tells (supply_at office) c old result new
@@ -85,9 +85,9 @@ module _ (office : TurnId Shop) (c : Call) (old new : Desk) where
 
 -- a call that takes no memory is refused at the limit alone
 pub full_alone : (c : Call) (seen : History) (result : Result (ℕ × Reply) Refused) → ¬ TakesMemory c → IfErr result (HasCause c seen) → IfErr result (λ e. e ≡ Full)
-full_alone c seen (Ok answer) none cause = tt
-full_alone c seen (Err Full) none cause = refl
-full_alone c seen (Err NoMemory) none cause = absurd (none cause)
+full_alone c seen (Ok answer) none why = tt
+full_alone c seen (Err Full) none why = refl
+full_alone c seen (Err NoMemory) none why = absurd (none why)
 
 -- a snapshot has what stands in all that was seen before its entry
 pub snapped : (s : Supply) (old new : Desk) (result : Result (ℕ × Reply) Refused) → Tells s call.Snapshot old result new → IfOk result (IsSnapshot s old new)
