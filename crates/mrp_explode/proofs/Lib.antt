@@ -1,0 +1,5 @@
+pub mod PlanOrder
+pub mod Gathered
+pub mod Placing
+pub mod LevelLists
+pub mod LevelOrder

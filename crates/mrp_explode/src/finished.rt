@@ -1,0 +1,141 @@
+//! The items that are planned so far, parents before their components.
+
+ghost use Rattle.std.specs.Prelude.{◌≡◌, ◌<◌, ℕ, All, IfOk, OnOk, map};
+ghost use Rattle.mrp_item.specs.Inputs.{count, places};
+ghost use Rattle.mrp_item.specs.Made.{AreParents, inputs_in, item_in, item_of};
+ghost use Rattle.mrp_explode.specs.Finished.{AreOwn, Finishes, IsFinished, IsReady, item_from, source_of};
+ghost use Rattle.mrp_explode.specs.Explosion.{Explodes};
+
+use crate::fault::RunFault;
+use mrp_item::{Inputs, Outcome, Plan, plan_item};
+use mrp_qty::NoMemory;
+use std::alloc::Global;
+use std::sync::Arc;
+
+// The outcomes of the items that are planned so far, by their places.
+#[derive(Drop)]
+pub struct Finished {
+    inputs: Arc<Inputs>,
+    outcomes: Vec<Option<Outcome>>,
+}
+
+impl Finished {
+    // No item is planned yet.
+    pub fn new(alloc: Global, inputs: &Arc<Inputs>) -> Result<Finished, NoMemory>
+        ensures own { IfOk result AreOwn }
+        ensures source { IfOk result (λ f. source_of f ≡ inputs.now.value) }
+    {
+        let inputs = inputs.clone()?;
+        let count = inputs.shop().tables().items().len();
+        let mut outcomes = Vec::with_capacity(alloc, count)?;
+        for _ in 0..count {
+            outcomes.push(None)?;
+        }
+        Ok(Finished { inputs, outcomes })
+    }
+
+    // The outcome of a finished item.
+    fn outcome(&self, item: usize) -> &Outcome
+        requires own { AreOwn self.now }
+        requires finished { IsFinished self.now item }
+        ensures { item_of result.now ≡ item_from (source_of self.now) item }
+    {
+        match self.outcomes.get(item) {
+            Some(Some(outcome)) => outcome,
+            _ => unreachable!(),
+        }
+    }
+
+    // A copy of the outcome of a finished item.
+    fn copy_of(&self, item: usize) -> Result<Outcome, NoMemory>
+        requires own { AreOwn self.now }
+        requires finished { IsFinished self.now item }
+        ensures item { IfOk result (λ o. item_in o ≡ item) }
+        ensures inputs { IfOk result (λ o. inputs_in o ≡ source_of self.now) }
+    {
+        self.outcome(item).copy()
+    }
+
+    // Copies of the outcomes of an item's parents.
+    fn parents_of(&self, alloc: Global, item: usize) -> Result<Vec<Outcome>, NoMemory>
+        requires own { AreOwn self.now }
+        requires item { item < count (source_of self.now) }
+        requires ready { IsReady self.now item }
+        ensures { IfOk result (λ parents. AreParents (source_of self.now) item parents.items) }
+    {
+        let parents = self.inputs.shop().parents(item);
+        let mut copies = Vec::with_capacity(alloc, parents.len())?;
+        for parent in parents {
+            copies.push(self.copy_of(*parent)?)?;
+        }
+        Ok(copies)
+    }
+
+    // What planning makes of an item whose parents are finished.
+    pub fn outcome_for(&self, alloc: Global, item: usize) -> Result<Outcome, NoMemory>
+        requires own { AreOwn self.now }
+        requires item { item < count (source_of self.now) }
+        requires ready { IsReady self.now item }
+        ensures { IfOk result (λ o. item_of o ≡ item_from (source_of self.now) item) }
+    {
+        let parents = self.parents_of(alloc, item)?;
+        plan_item(alloc, &self.inputs, item, &parents)
+    }
+
+    // Puts an outcome in its item's place.
+    pub fn put(&mut self, outcome: Outcome)
+        requires own { AreOwn self.old }
+        requires inputs { inputs_in outcome ≡ source_of self.old }
+        requires item { item_in outcome < count (source_of self.old) }
+        ensures own { AreOwn self.new }
+        ensures finishes { Finishes self.old self.new (item_in outcome) }
+    {
+        let item = outcome.item();
+        self.outcomes[item] = Some(outcome);
+    }
+
+    // Plans an item whose parents are finished.
+    pub fn plan(&mut self, alloc: Global, item: usize) -> Result<(), NoMemory>
+        requires own { AreOwn self.old }
+        requires item { item < count (source_of self.old) }
+        requires ready { IsReady self.old item }
+        ensures own { OnOk result (AreOwn self.new) }
+        ensures finishes { OnOk result (Finishes self.old self.new item) }
+    {
+        let outcome = self.outcome_for(alloc, item)?;
+        self.put(outcome);
+        Ok(())
+    }
+
+    // Copies of all items' outcomes, in table order.
+    fn all(&self, alloc: Global) -> Result<Vec<Outcome>, NoMemory>
+        requires own { AreOwn self.now }
+        requires all { (i : ℕ) → i < count (source_of self.now) → IsFinished self.now i }
+        ensures items { IfOk result (λ all. map item_in all.items ≡ places (source_of self.now)) }
+        ensures inputs { IfOk result (λ all. All (λ o. inputs_in o ≡ source_of self.now) all.items) }
+    {
+        let count = self.outcomes.len();
+        let mut all = Vec::with_capacity(alloc, count)?;
+        for item in 0..count {
+            all.push(self.copy_of(item)?)?;
+        }
+        Ok(all)
+    }
+
+    // The plan of all items, or the first that is over.
+    pub fn whole(self, alloc: Global) -> Result<Plan, RunFault>
+        requires own { AreOwn self }
+        requires all { (i : ℕ) → i < count (source_of self) → IsFinished self i }
+        ensures { Explodes (source_of self) result }
+    {
+        let outcomes = self.all(alloc)?;
+        let Finished {
+            inputs,
+            outcomes: _,
+        } = self;
+        match Plan::of(inputs, outcomes) {
+            Ok(plan) => Ok(plan),
+            Err(item) => Err(RunFault::TooLarge { item }),
+        }
+    }
+}

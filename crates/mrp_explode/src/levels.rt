@@ -1,0 +1,87 @@
+//! Explosion by low-level codes: the items of a code are planned side by side.
+
+ghost use Rattle.std.specs.Prelude.{◌≡◌, ◌<◌, All, IfOk, OnOk, map};
+ghost use Rattle.mrp_item.specs.Inputs.{count};
+ghost use Rattle.mrp_item.specs.Made.{item_of};
+ghost use Rattle.mrp_explode.specs.Explosion.{Explodes};
+ghost use Rattle.mrp_explode.specs.Finished.{AreOwn, FinishesAll, IsReady, item_from, source_of};
+
+use crate::fault::RunFault;
+use crate::finished::Finished;
+use crate::grouping::levels_of;
+use mrp_item::{Inputs, Outcome, Plan};
+use mrp_qty::NoMemory;
+use rayon::prelude::*;
+use std::alloc::Global;
+use std::sync::Arc;
+use std::thread::Threads;
+
+// The fewest items for which a thread is started.
+const LEAST_ITEMS: usize = 64;
+
+// What planning makes of items whose parents are finished, side by side.
+fn outcomes_for(
+    rt: &(impl Threads + Sync),
+    alloc: Global,
+    finished: &Finished,
+    items: &[usize],
+) -> Result<Vec<Outcome>, NoMemory>
+    requires own { AreOwn finished.now }
+    requires items { All (λ i. i < count (source_of finished.now)) items.now }
+    requires ready { All (IsReady finished.now) items.now }
+    ensures { IfOk result (λ outcomes. map item_of outcomes.items ≡ map (item_from (source_of finished.now)) items.now) }
+{
+    items
+        .par_iter()
+        .with_min_len(LEAST_ITEMS)
+        .map(
+            |item: &usize| -> Result<Outcome, NoMemory>
+                requires own { AreOwn finished.now }
+                requires item { item.now < count (source_of finished.now) }
+                requires ready { IsReady finished.now item.now }
+                ensures { IfOk result (λ o. item_of o ≡ item_from (source_of finished.entry.now) item.now) }
+            { finished.outcome_for(alloc, *item) },
+        )
+        .collect::<Result<Vec<Outcome>, NoMemory>>(rt, alloc)?
+}
+
+// Plans the items of a level, whose parents are finished.
+fn plan_level(
+    rt: &(impl Threads + Sync),
+    alloc: Global,
+    finished: &mut Finished,
+    items: &[usize],
+) -> Result<(), NoMemory>
+    requires own { AreOwn finished.old }
+    requires items { All (λ i. i < count (source_of finished.old)) items.now }
+    requires ready { All (IsReady finished.old) items.now }
+    ensures own { OnOk result (AreOwn finished.new) }
+    ensures finishes { OnOk result (FinishesAll finished.old finished.new items.now) }
+{
+    for outcome in outcomes_for(rt, alloc, finished, items)? {
+        finished.put(outcome);
+    }
+    Ok(())
+}
+
+/// The plan of these inputs: every item is planned, low-level code by low-level code from 0
+/// (Orlicky: level-by-level explosion), and the items of a code side by side, by so many threads as
+/// there are processors. It is the plan that `explode_serial` gives.
+///
+/// Errors: `NoMemory` where memory is refused, and else `TooLarge` with the first item in table
+/// order that gets too large where none above it does (profile).
+pub fn explode_levels(
+    rt: &(impl Threads + Sync),
+    alloc: Global,
+    inputs: &Arc<Inputs>,
+) -> Result<Plan, RunFault>
+    ensures { Explodes inputs.now.value result }
+{
+    let levels = levels_of(alloc, inputs.shop())?;
+    let mut finished = Finished::new(alloc, inputs)?;
+    let all = levels.as_slice();
+    for level in all {
+        plan_level(rt, alloc, &mut finished, level.as_slice())?;
+    }
+    finished.whole(alloc)
+}

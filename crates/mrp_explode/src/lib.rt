@@ -1,0 +1,12 @@
+//! Explosion: the plan of every item, parents before their components.
+#![tactic(auto)]
+
+mod fault;
+mod finished;
+mod grouping;
+mod levels;
+mod serial;
+
+pub use fault::RunFault;
+pub use levels::explode_levels;
+pub use serial::explode_serial;

@@ -1,0 +1,24 @@
+//! Explosion by one worker.
+
+ghost use Rattle.mrp_explode.specs.Explosion.{Explodes};
+
+use crate::fault::RunFault;
+use crate::finished::Finished;
+use mrp_item::{Inputs, Plan};
+use std::alloc::Global;
+use std::sync::Arc;
+
+/// The plan of these inputs: every item is planned, one after the other, parents before their
+/// components (Orlicky: explosion).
+///
+/// Errors: `NoMemory` where memory is refused, and else `TooLarge` with the first item in table
+/// order that gets too large where none above it does (profile).
+pub fn explode_serial(alloc: Global, inputs: &Arc<Inputs>) -> Result<Plan, RunFault>
+    ensures { Explodes inputs.now.value result }
+{
+    let mut finished = Finished::new(alloc, inputs)?;
+    for item in inputs.shop().order() {
+        finished.plan(alloc, *item)?;
+    }
+    finished.whole(alloc)
+}
