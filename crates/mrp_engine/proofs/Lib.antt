@@ -5,4 +5,4 @@ pub mod ScriptLaws
 pub mod RunsPlanned
 pub mod DayWritten
 pub mod DayRuns
-pub mod PlanOrder
+pub mod RefusedItem

@@ -3,5 +3,4 @@ pub mod Day
 pub mod Opened
 pub mod Run
 pub mod Planned
-pub mod Finished
 pub mod Laws

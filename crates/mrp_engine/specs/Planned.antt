@@ -1,19 +1,11 @@
 -- What comes of planning runs.
 use Rattle.std.specs.Prelude.{ℕ, ◌≡◌, List, All, map, Result, Ok, Err, ⊤}
 use Rattle.std.specs.Global.{Vec}
-use Rattle.mrp_qty.specs.declared.memory.NoMemory.{NoMemory}
 use Rattle.mrp_item.specs.Inputs.{Inputs}
-use Rattle.mrp_item.specs.Plan.{plan_of}
 use Rattle.mrp_item.specs.Places.{WholePlan}
 use Rattle.mrp_engine.specs.declared.fault.DayFault.{DayFault}
 use Rattle.mrp_engine.specs.declared.fault.DayFault.TheVariants.{Refused, TooLarge, Read, Write, NoMemory as NoRoom}
 use Rattle.mrp_engine.specs.Day.{IsFirstRefusal, IsPlannable, IsRefusedBy}
-
--- the plan of these inputs, or the first item that is over; or memory was refused
-abbrev pub PlansInputs : Inputs → Result (Result WholePlan ℕ) NoMemory → Type 0
-PlansInputs s (Ok (Ok plan)) = (plan.inputs ≡ s) × (plan_of s ≡ Ok plan.plans)
-PlansInputs s (Ok (Err item)) = plan_of s ≡ Err item
-PlansInputs s (Err refused) = ⊤
 
 -- the plan of a run, or the name of the first item that gets too large; or memory was refused
 abbrev pub PlansRun : Inputs → Result WholePlan DayFault → Type 0

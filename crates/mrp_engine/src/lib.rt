@@ -2,7 +2,6 @@
 #![tactic(auto)]
 
 mod fault;
-mod finished;
 pub mod laws;
 mod opening;
 mod planning;

@@ -5,17 +5,18 @@ ghost use Rattle.mrp_master.specs.Supply.{supply_of};
 ghost use Rattle.mrp_book.specs.Booked.{AreBooked};
 ghost use Rattle.mrp_item.specs.Inputs.{inputs_of, item_at};
 ghost use Rattle.mrp_item.specs.Plan.{plan_of};
-ghost use Rattle.mrp_engine.specs.Planned.{PlansInputs, PlansRun};
+ghost use Rattle.mrp_engine.specs.Planned.{PlansRun};
 
 use crate::fault::DayFault;
-use crate::finished::Finished;
 use mrp_bill::Shop;
 use mrp_book::Snapshot;
+use mrp_explode::{RunFault, explode_levels};
 use mrp_item::{Inputs, Plan};
 use mrp_qty::NoMemory;
 use mrp_rows::Name;
 use std::alloc::Global;
 use std::sync::Arc;
+use std::thread::Threads;
 
 // What a run is planned from.
 fn inputs_of(alloc: Global, shop: &Arc<Shop>, snapshot: &Snapshot) -> Result<Arc<Inputs>, NoMemory>
@@ -23,17 +24,6 @@ fn inputs_of(alloc: Global, shop: &Arc<Shop>, snapshot: &Snapshot) -> Result<Arc
     ensures { IfOk result (λ inputs. inputs.value ≡ inputs_of shop.now.value.tables snapshot.now) }
 {
     Inputs::new(alloc, shop.clone()?, snapshot.copy()?)
-}
-
-// Plans every item, parents before their components: the plan, or the first item that is over.
-fn plan_all(alloc: Global, inputs: &Arc<Inputs>) -> Result<Result<Plan, usize>, NoMemory>
-    ensures { PlansInputs inputs.now.value result }
-{
-    let mut finished = Finished::new(alloc, inputs.clone()?)?;
-    for item in inputs.shop().order() {
-        finished.plan(alloc, *item)?;
-    }
-    finished.plan_all(alloc)
 }
 
 // The name of an item.
@@ -47,13 +37,19 @@ fn name_of(inputs: &Inputs, item: usize) -> Name
 /// The plan of a run: of a shop, and a snapshot of its order book, as the caller owes.
 ///
 /// Errors: `TooLarge` with the first item in table order that gets too large, and `NoMemory`.
-pub fn plan_run(alloc: Global, shop: &Arc<Shop>, snapshot: &Snapshot) -> Result<Plan, DayFault>
+pub fn plan_run(
+    rt: &(impl Threads + Sync),
+    alloc: Global,
+    shop: &Arc<Shop>,
+    snapshot: &Snapshot,
+) -> Result<Plan, DayFault>
     requires { AreBooked (supply_of shop.now.value.tables) snapshot.now.standing }
     ensures { PlansRun (inputs_of shop.now.value.tables snapshot.now) result }
 {
     let inputs = inputs_of(alloc, shop, snapshot)?;
-    match plan_all(alloc, &inputs)? {
+    match explode_levels(rt, alloc, &inputs) {
         Ok(plan) => Ok(plan),
-        Err(item) => Err(DayFault::TooLarge(name_of(&inputs, item))),
+        Err(RunFault::TooLarge { item }) => Err(DayFault::TooLarge(name_of(&inputs, item))),
+        Err(RunFault::NoMemory) => Err(DayFault::NoMemory),
     }
 }

@@ -20,11 +20,14 @@ use mrp_rows::Told;
 use std::alloc::Global;
 use std::io::{Read, Write};
 use std::sync::Arc;
+use std::thread::Threads;
 
 /// Reads a bundle to its end, answers its script, plans its runs, and writes the history and the
 /// report of each run. Nothing is written before every run is planned.
 ///
-/// It plans by so many workers, 1 to 64. An interrupted read or write is tried again.
+/// The items of a low-level code are planned side by side, by so many threads as there are
+/// processors. An interrupted read or write is tried again. It owes 1 to 64 workers, of which it
+/// makes no use.
 ///
 /// Errors: `Read` where the reader failed in this call, needed more than 100,000,000 calls or gave
 /// more than 67,108,864 bytes; `Refused` with the bundle's first fault, the loop last; `TooLarge`
@@ -32,7 +35,7 @@ use std::sync::Arc;
 /// where the writer failed in this call or was interrupted more than 1,000,000 times; `NoMemory`
 /// where memory was refused.
 pub fn run_day<R: Read, W: Write>(
-    rt: &impl Alloc,
+    rt: &(impl Alloc + Threads + Sync),
     alloc: Global,
     reader: &mut Told<R>,
     writer: &mut Told<W>,
@@ -60,7 +63,7 @@ pub fn run_day<R: Read, W: Write>(
     let _later = workers;
     let shop = Arc::new(alloc, read_shop(alloc, reader)?)?;
     let history = answer_script(alloc, &shop)?;
-    let plans = plan_runs(alloc, &shop, &history)?;
+    let plans = plan_runs(rt, alloc, &shop, &history)?;
     match write_day(rt, alloc, &shop, &history, &plans, writer) {
         Ok(()) => Ok(()),
         Err(ReportFault::Write) => Err(DayFault::Write),

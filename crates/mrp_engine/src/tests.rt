@@ -2,6 +2,7 @@ use super::*;
 use mrp_rows::{Name, Told};
 use std::alloc::Global;
 use std::test::Fail;
+use std::thread::Threads;
 
 const CALENDAR: &str =
     "[calendar]\nkey,value\nstart,2025-01-06\nweeks,6\nworkdays,1111100\nholiday,2025-01-20\n";
@@ -43,7 +44,12 @@ struct Day {
 }
 
 // The day of a shop with this script.
-fn day_of(rt: &impl Alloc, alloc: Global, shop: &str, script: &str) -> Result<Day, Fail> {
+fn day_of(
+    rt: &(impl Alloc + Threads + Sync),
+    alloc: Global,
+    shop: &str,
+    script: &str,
+) -> Result<Day, Fail> {
     let bundle = format!(in alloc; "{CALENDAR}{shop}{SCRIPT}{script}")?;
     let mut reader = Told::new(bundle.as_bytes());
     let mut writer = Told::new(Vec::new(alloc));

@@ -12,6 +12,7 @@ use mrp_rows::{Fault, Told, Tries, fault_text, write_text};
 use std::alloc::Global;
 use std::convert::AsStr;
 use std::io::{Read, Write};
+use std::thread::Threads;
 
 // Writes a line to the error stream: pieces of text, and a line feed. Its failure is no matter.
 fn tell<E: Write>(errors: &mut Told<E>, pieces: &[&[u8]]) {
@@ -85,7 +86,7 @@ fn tell_usage<E: Write>(text: &str, errors: &mut Told<E>) -> Status
 
 // Plans the bundle of the input, and says on the error stream why it could not.
 fn plan<R: Read, W: Write, E: Write>(
-    rt: &impl Alloc,
+    rt: &(impl Alloc + Threads + Sync),
     alloc: Global,
     workers: usize,
     input: &mut Told<R>,
@@ -103,7 +104,7 @@ fn plan<R: Read, W: Write, E: Write>(
 
 // Does what the words ask for, and says how it ended.
 fn carry_out<S: AsStr, R: Read, W: Write, E: Write>(
-    rt: &impl Alloc,
+    rt: &(impl Alloc + Threads + Sync),
     alloc: Global,
     words: &[S],
     input: &mut Told<R>,
@@ -131,7 +132,7 @@ fn carry_out<S: AsStr, R: Read, W: Write, E: Write>(
 /// written. At 1 and 2, and where reading failed, nothing was written; at 3 and where writing
 /// failed, at most a front of the text.
 pub fn run_words<S: AsStr, R: Read, W: Write, E: Write>(
-    rt: &impl Alloc,
+    rt: &(impl Alloc + Threads + Sync),
     alloc: Global,
     words: &[S],
     input: &mut Told<R>,

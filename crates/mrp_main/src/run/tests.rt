@@ -2,6 +2,7 @@ use super::*;
 use std::io;
 use std::io::ErrorKind;
 use std::test::Fail;
+use std::thread::Threads;
 
 mod lots;
 mod scripts;
@@ -21,7 +22,12 @@ struct Left {
     errors: String,
 }
 
-fn left_by(rt: &impl Alloc, alloc: Global, words: &[&str], input: &str) -> Result<Left, Fail> {
+fn left_by(
+    rt: &(impl Alloc + Threads + Sync),
+    alloc: Global,
+    words: &[&str],
+    input: &str,
+) -> Result<Left, Fail> {
     let mut output = Told::new(Vec::new(alloc));
     let mut errors = Told::new(Vec::new(alloc));
     let mut input = Told::new(input.as_bytes());

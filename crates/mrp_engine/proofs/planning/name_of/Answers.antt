@@ -1,7 +1,7 @@
 use Rattle.std.proofs.Common.{◌≡◌, ◌∙◌, ap, arith, length, refl}
 use Rattle.mrp_tables.specs.Tables.{Tables}
 use Rattle.mrp_tables.specs.declared.item.Item.{Item}
-use Rattle.mrp_engine.proofs.PlanOrder.{over-within, entry-is}
+use Rattle.mrp_engine.proofs.RefusedItem.{over-within, entry-is}
 use Rattle.mrp_engine.proofs.planning.name_of.Goals as goal
 
 pub offset_bounds-items-item : goal.offset_bounds-items-item

@@ -1,4 +1,6 @@
 use Rattle.std.proofs.Common.{◌≡◌, ◌∙◌, ◌+◌, ◌++◌, [], ◌∷◌, Result, Ok, Err, ap, sym, subst, arith, rules}
+use Rattle.std.proofs.Crossing.{crosses}
+use denote.Param.Send.{sendable}
 use Rattle.std.specs.Global.{Vec}
 use Rattle.mrp_master.specs.Supply.{Supply, supply_of}
 use Rattle.mrp_book.specs.History.{IsLegal}
@@ -13,14 +15,15 @@ use Rattle.mrp_engine.proofs.runs.plan_runs.Goals as goal
 use Rattle.mrp_engine.proofs.runs.plan_runs.Goals.{in-Taken+in_ok-plan_run+in_ok-push, in_default}
 
 pub plan_run-requires : goal.plan_run-requires
-plan_run-requires c =
+plan_run-requires g c =
     let t = c.args.shop.now.value.tables in
     let h = c.entries-entry-items.result.now in
     let legal : IsLegal (supply_of t) h = subst (λ (x : Supply). IsLegal x h) c.requires c.entries-entry-items.ensures.legal in
-    snapshot-booked (supply_of t) h c.loop-entry.entry-index c.entry-item.result c.in-Taken.snapshot legal c.loop-entry-test.true c.entry-item.is c.in-Taken.is
+    (search (sendable, crosses) depth 40,
+    snapshot-booked (supply_of t) h c.loop-entry.entry-index c.entry-item.result c.in-Taken.snapshot legal c.loop-entry-test.true c.entry-item.is c.in-Taken.is)
 
 pub returns-in_err-plan_run : goal.returns-in_err-plan_run
-returns-in_err-plan_run c =
+returns-in_err-plan_run g c =
     let t = c.args.shop.now.value.tables in
     let h = c.entries-entry-items.result.now in
     let refused : PlansRun (inputs_of t c.in-Taken.snapshot) (Err c.in_err-plan_run.field-0.0) = c.in_err-plan_run.ensures in
@@ -30,7 +33,7 @@ returns-in_err-plan_run c =
     c.loop-entry-test.true c.entry-item.is c.in-Taken.is c.loop-entry.invariant refused)
 
 pub loop-entry-preserved : goal.loop-entry-preserved
-loop-entry-preserved c =
+loop-entry-preserved g c =
     let t = c.args.shop.now.value.tables in
     let h = c.entries-entry-items.result.now in
     let k = c.loop-entry.entry-index in
@@ -46,6 +49,6 @@ loop-entry-preserved c =
     ]
 
 pub returns : goal.returns
-returns c =
+returns g c =
     planned-all c.args.shop.now.value.tables c.entries-entry-items.result.now c.args.history.now.entries c.loop-entry.entry-index c.loop-entry.plans.items c.entries-entry-items.ensures.entries
     (omega (arith, c.loop-entry-test.false)) c.loop-entry.invariant

@@ -1,7 +1,0 @@
-use Rattle.std.proofs.Common.{◌≡◌, take}
-use Rattle.std.specs.Prelude.{All, map}
-use Rattle.mrp_item.specs.Made.{inputs_in, item_in}
-use Rattle.mrp_engine.proofs.finished.Finished.parents_of.Given as goal
-
-abbrev pub invariant-loop-parent : goal.invariant-loop-parent
-invariant-loop-parent l = (map item_in l.copies.items ≡ take l.parent-index l.parents) × All (λ o. inputs_in o ≡ l.self.inputs.value) l.copies.items
