@@ -1,11 +1,12 @@
 -- What is available in a row of promising is the least of what is uncommitted.
 use Rattle.std.proofs.Common.{◌≡◌, ◌≢◌, ◌∙◌, ℕ, zero, suc, ◌+◌, ◌-◌, ◌≤◌, ◌<◌, min, List, length, inl, inr, refl, sym, ap, subst, arith}
 use Rattle.std.proofs.lemmas.Bool.{cases_lt}
-use Rattle.mrp_phase.specs.Weeks.{in_week, sum_to, with_week}
-use Rattle.mrp_phase.proofs.WeekRows.{in_week_changed, in_week_kept, sum_to_suc}
+use Rattle.mrp_phase.specs.Weeks.{in_week, row, sum_to, with_week}
+use Rattle.mrp_phase.proofs.WeekRows.{in_week_changed, in_week_kept, in_week_row, sum_to_suc}
 use Rattle.mrp_master.specs.Supply.{IsLeastFrom}
-use Rattle.mrp_master.specs.AtpRow.{AtpRow, IsAvailableIn, IsCoveredRow, IsWeekOf, with_booking}
+use Rattle.mrp_master.specs.AtpRow.{AtpRow, IsAtpRow, IsAvailableIn, IsCoveredRow, IsWeekOf, bucket, buckets_to, with_booking}
 use Rattle.mrp_master.proofs.Available.{least, least_is}
+use Rattle.mrp_master.proofs.Carried.{buckets_available}
 use Rattle.mrp_report.specs.PromiseRows.{least_from}
 use Rattle.mrp_report.specs.PromiseSheet.{available_in, uncommitted_in}
 
@@ -79,3 +80,19 @@ module _ (r : AtpRow) (same : length r.booked ≡ length r.supply) (week : ℕ) 
       ] in
       let not_less : lowest ≤ quantity = a.greatest lowest covered in
       omega (arith, not_more, not_less)
+
+-- what is left in the buckets up to a week is what is available in it
+pub available-left : (r : AtpRow) → IsAtpRow r → (week : ℕ) → IsWeekOf r week → buckets_to r week ≡ available_in r week
+available-left r kept week inside = available-is r kept.same week inside (buckets_to r week) (buckets_available r kept.same kept.covered week inside)
+
+-- and in those up to the next week what its own holds more
+pub left-more : (r : AtpRow) (week : ℕ) → week + 1 ≤ length r.supply → buckets_to r (week + 1) ≡ buckets_to r week + bucket r (week + 1)
+left-more r week within =
+    let next : week + 1 ≡ suc week = omega arith in
+    omega (
+      arith,
+      ap (buckets_to r) next,
+      ap (bucket r) next,
+      sum_to_suc (row (length r.supply) (bucket r)) week,
+      in_week_row (bucket r) (length r.supply) (suc week) (omega arith) (omega (arith, within)),
+    )

@@ -1,7 +1,8 @@
 -- A master item's weeks, as its rows of promises are made of them.
-use Rattle.std.specs.Prelude.{ℕ, ◌≡◌, ◌≤◌, ◌-◌, length}
+use Rattle.std.specs.Prelude.{ℕ, ◌≡◌, ◌≤◌, ◌-◌, ◌*◌, length}
+use Rattle.mrp_qty.specs.Quantity.{greatest_quantity}
 use Rattle.mrp_phase.specs.Weeks.{in_week, sum_to}
-use Rattle.mrp_master.specs.AtpRow.{AtpRow, bucket}
+use Rattle.mrp_master.specs.AtpRow.{AtpRow, bucket, buckets_to}
 use Rattle.mrp_report.specs.declared.promises.PromiseRow.{PromiseRow}
 use Rattle.mrp_report.specs.declared.promise_sheet.PromiseSheet.{PromiseSheet}
 use Rattle.mrp_report.specs.PromiseRows.{least_from}
@@ -12,6 +13,11 @@ pub record IsPromiseSheet (s : PromiseSheet) : Type 0 where
   pub firm : length s.firm.now ≡ s.weeks
   pub supply : length s.row.now.supply ≡ s.weeks
   pub booked : length s.row.now.booked ≡ s.weeks
+
+-- so much is left in the buckets up to a week, each of which is a quantity
+pub record IsLeftTo (s : PromiseSheet) (week left : ℕ) : Type 0 where
+  pub left_is : left ≡ buckets_to s.row.now week
+  pub little : left ≤ week * greatest_quantity
 
 -- what is supplied up to a week, less what is booked up to it
 abbrev pub uncommitted_in : AtpRow → ℕ → ℕ

@@ -3,7 +3,7 @@
 ghost use Rattle.std.specs.Prelude.{◌≡◌, ◌<◌, ◌+◌, ◌++◌, OnOk, flat_map};
 ghost use Rattle.mrp_phase.specs.Weeks.{row};
 ghost use Rattle.mrp_report.specs.PromiseText.{promise_text};
-ghost use Rattle.mrp_report.specs.PromiseSheet.{IsPromiseSheet, sheet_promise};
+ghost use Rattle.mrp_report.specs.PromiseSheet.{IsLeftTo, IsPromiseSheet, sheet_promise};
 
 use crate::page::Page;
 use crate::promises::{PromiseRow, promise_row};
@@ -19,19 +19,22 @@ pub(crate) struct PromiseSheet<'a> {
 }
 
 impl PromiseSheet<'_> {
-    // The row of the week behind a place.
-    fn row_at(&self, place: u16) -> PromiseRow
+    // The row of the week behind a place, from what is left in the buckets up to the place.
+    fn row_at(&self, place: u16, before: u64) -> PromiseRow
         requires sheet { IsPromiseSheet self.now }
         requires within { place < self.now.weeks }
-        ensures { result ≡ sheet_promise self.now (place + 1) }
+        requires before { IsLeftTo self.now place before }
+        ensures value { result ≡ sheet_promise self.now (place + 1) }
+        ensures left { IsLeftTo self.now (place + 1) result.available }
     {
         let week = place + 1;
+        let bucket = self.row.bucket(week).value();
         PromiseRow {
             week,
             firm: self.firm[usize::from(place)].value(),
             booked: self.row.booked(week).value(),
-            bucket: self.row.bucket(week).value(),
-            available: self.row.available(week).value(),
+            bucket,
+            available: before + bucket,
         }
     }
 
@@ -40,8 +43,10 @@ impl PromiseSheet<'_> {
         requires { IsPromiseSheet self.now }
         ensures { OnOk result (page.new ≡ page.old ++ flat_map (promise_text name.now) (row self.now.weeks (sheet_promise self.now))) }
     {
+        let mut available = 0;
         for place in 0..self.weeks {
-            let row = self.row_at(place);
+            let row = self.row_at(place, available);
+            available = row.available;
             promise_row(page, name, &row)?;
         }
         Ok(())

@@ -2,8 +2,11 @@ use Rattle.std.proofs.Common.{◌≡◌, ◌++◌}
 use Rattle.std.specs.List.{flat_map}
 use Rattle.mrp_phase.specs.Weeks.{row}
 use Rattle.mrp_report.specs.PromiseText.{promise_text}
-use Rattle.mrp_report.specs.PromiseSheet.{sheet_promise}
+use Rattle.mrp_report.specs.PromiseSheet.{IsLeftTo, sheet_promise}
 use Rattle.mrp_report.proofs.promise_sheet.PromiseSheet.write.Given as goal
 
 abbrev pub invariant-loop-place : goal.invariant-loop-place
-invariant-loop-place l = l.page ≡ l.fn.page ++ flat_map (promise_text l.name) (row l.place (sheet_promise l.self))
+invariant-loop-place l = record {
+  page : l.page ≡ l.fn.page ++ flat_map (promise_text l.name) (row l.place (sheet_promise l.self));
+  left : IsLeftTo l.self l.place l.available;
+}
