@@ -1,4 +1,4 @@
-use Rattle.std.proofs.Common.{◌≡◌, ◌∙◌, ap}
+use Rattle.std.proofs.Common.{◌∙◌, ap}
 use Rattle.mrp_item.specs.Places.{ItemOf}
 use Rattle.mrp_item.proofs.OutcomeLists.{places-more, pushed-inputs, pushed-items}
 use Rattle.notes_tests.proofs.tests.making.outcomes_of.Goals as goal

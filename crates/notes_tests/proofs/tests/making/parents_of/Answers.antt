@@ -1,7 +1,6 @@
-use Rattle.std.proofs.Common.{◌≡◌, ◌∙◌, ◌<◌, length, get_or, ap, sym, arith}
+use Rattle.std.proofs.Common.{◌∙◌, ◌<◌, length, get_or, ap, sym, arith}
 use Rattle.std.proofs.lemmas.List.{take_more}
 use Rattle.mrp_item.specs.Places.{ItemOutcome}
-use Rattle.mrp_item.specs.Made.{inputs_in, item_in}
 use Rattle.mrp_item.proofs.OutcomeLists.{inputs-among, item-among, pushed-inputs, pushed-items}
 use Rattle.notes_tests.proofs.tests.making.parents_of.Goals as goal
 

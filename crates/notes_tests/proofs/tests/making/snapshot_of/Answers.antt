@@ -1,13 +1,10 @@
-use Rattle.std.proofs.Common.{◌≡◌, ◌∙◌, sym, ap, subst}
-use Rattle.std.specs.Prelude.{List}
+use Rattle.std.proofs.Common.{◌≡◌, ◌∙◌, sym, subst}
 use Rattle.mrp_master.specs.Supply.{Supply, supply_of}
-use Rattle.mrp_book.specs.declared.booking.Booking.{Booking}
-use Rattle.mrp_book.specs.declared.reply.Reply.{Reply}
 use Rattle.mrp_book.specs.declared.reply.Reply.TheVariants.{Taken}
 use Rattle.mrp_book.specs.Booked.{AreBooked}
 use Rattle.mrp_book.specs.History.{IsLegal, next_number}
 use Rattle.mrp_book.specs.Snapshot.{Snapshot}
-use Rattle.mrp_book.specs.Standing.{History, standing}
+use Rattle.mrp_book.specs.Standing.{standing}
 use Rattle.mrp_book.proofs.SnapshotBookings.{standing-booked}
 use Rattle.notes_tests.proofs.tests.making.snapshot_of.Goals as goal
 
