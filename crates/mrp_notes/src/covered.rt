@@ -1,6 +1,6 @@
 //! What the fixed supplies cover, and what is said of the next one.
 
-ghost use Rattle.std.specs.Prelude.{◌≡◌, ◌≤◌, ◌<◌, ◌^◌, ◌+◌, length, min, sum};
+ghost use Rattle.std.specs.Prelude.{◌≡◌, ◌≤◌, ◌<◌, ◌^◌, ◌+◌, length, sum};
 ghost use Rattle.mrp_qty.specs.Quantity.{greatest_quantity};
 ghost use Rattle.mrp_notes.specs.Needs.{need_week, rescheduled, rescheduling};
 ghost use Rattle.mrp_notes.specs.Walk.{IsCovered, with_supply};
