@@ -36,6 +36,12 @@ const CANCELLED_PROMISES: &str =
 const BOOKINGS_PLAN: &str =
     "BIKE,1,10,0,0,0,8,0\nBIKE,2,8,0,0,8,20,0\nBIKE,3,12,0,20,0,0,8\nBIKE,4,6,0,0,0,23,2\nBIKE,5,25,0,20,3,0,0\nBIKE,6,0,0,0,0,0,0\nFRAME,1,8,0,0,8,28,0\nFRAME,2,20,0,0,20,0,0\nFRAME,3,0,0,0,0,23,0\nFRAME,4,23,0,0,23,0,0\nFRAME,5,0,0,0,0,0,0\nFRAME,6,0,0,0,0,0,0\nWHEEL,1,16,0,0,16,56,0\nWHEEL,2,40,0,0,40,0,0\nWHEEL,3,0,0,0,0,46,0\nWHEEL,4,46,0,0,46,0,0\nWHEEL,5,0,0,0,0,0,0\nWHEEL,6,0,0,0,0,0,0\n";
 
+const BOOKINGS_ORDERS: &str =
+    "[orders]\nitem,order,kind,due,quantity,start,release,late\nBIKE,1,planned,2,8,8,1,0\nBIKE,2,firm,3,20,20,2,0\nBIKE,3,firm,5,20,20,4,0\nBIKE,4,planned,5,3,3,4,0\nFRAME,1,planned,1,8,8,1,1\nFRAME,2,planned,2,20,20,1,0\nFRAME,3,planned,4,23,23,3,0\nWHEEL,1,planned,1,16,16,1,1\nWHEEL,2,planned,2,40,40,1,0\nWHEEL,3,planned,4,46,46,3,0\n";
+
+const BOOKINGS_MESSAGES: &str =
+    "[messages]\nitem,supply,source,message,value\nBIKE,planned,1,RELEASE,\nBIKE,firm,2,IN,2\nBIKE,firm,3,IN,4\nFRAME,planned,1,PAST-DUE,1\nFRAME,planned,2,RELEASE,\nWHEEL,planned,1,PAST-DUE,1\nWHEEL,planned,2,RELEASE,\n";
+
 // What a day left: how it ended, and what was written.
 #[derive(Drop)]
 struct Day {
@@ -65,7 +71,7 @@ fn bookings_are_answered_and_planned(rt: HostRuntime) -> Result<(), Fail> {
     let alloc = rt.alloc();
     let script = format!(in alloc; "{BOOKINGS}1,run,,,,\n")?;
     let want = format!(in alloc;
-        "{BOOKINGS_HISTORY}7,1,run,,,,,front,7\n[run]\nfront,standing\n7,3\n{PROMISES_HEAD}{BOOKINGS_PROMISES}{PLAN_HEAD}{BOOKINGS_PLAN}"
+        "{BOOKINGS_HISTORY}7,1,run,,,,,front,7\n[run]\nfront,standing\n7,3\n{PROMISES_HEAD}{BOOKINGS_PROMISES}{PLAN_HEAD}{BOOKINGS_PLAN}{BOOKINGS_ORDERS}{BOOKINGS_MESSAGES}"
     )?;
     let day = day_of(&rt, alloc, BICYCLES, &script)?;
     assert_eq!(rt; day.end, Ok(()));
@@ -77,7 +83,7 @@ fn bookings_are_answered_and_planned(rt: HostRuntime) -> Result<(), Fail> {
 fn a_run_is_added_where_there_is_none(rt: HostRuntime) -> Result<(), Fail> {
     let alloc = rt.alloc();
     let want = format!(in alloc;
-        "{BOOKINGS_HISTORY}7,1,run,,,,,front,7\n[run]\nfront,standing\n7,3\n{PROMISES_HEAD}{BOOKINGS_PROMISES}{PLAN_HEAD}{BOOKINGS_PLAN}"
+        "{BOOKINGS_HISTORY}7,1,run,,,,,front,7\n[run]\nfront,standing\n7,3\n{PROMISES_HEAD}{BOOKINGS_PROMISES}{PLAN_HEAD}{BOOKINGS_PLAN}{BOOKINGS_ORDERS}{BOOKINGS_MESSAGES}"
     )?;
     let day = day_of(&rt, alloc, BICYCLES, BOOKINGS)?;
     assert_eq!(rt; day.end, Ok(()));

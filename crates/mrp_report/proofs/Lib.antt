@@ -4,8 +4,11 @@ pub mod RowTexts
 pub mod PlanSheets
 pub mod Progress
 pub mod EntryRows
-pub mod HistorySoFar
-pub mod ItemTexts
+pub mod ListTexts
+pub mod ListWritten
+pub mod HistoryTexts
+pub mod SectionTexts
 pub mod PromiseSums
 pub mod PromiseBookings
 pub mod PromiseSheets
+pub mod ReceiptNames

@@ -2,7 +2,7 @@
 use Rattle.std.specs.Prelude.{ℕ, List, [], ◌∷◌}
 use Rattle.mrp_report.specs.declared.history.Called.{Called}
 use Rattle.mrp_report.specs.declared.history.Replied.{Replied}
-use Rattle.mrp_report.specs.HistoryText.{number_cell}
+use Rattle.mrp_report.specs.Cells.{number_cell}
 
 abbrev pub called_cells : Called → List (List ℕ)
 called_cells c = c.word.now ∷ c.item.now ∷ number_cell c.week ∷ number_cell c.quantity ∷ number_cell c.number ∷ []

@@ -1,7 +1,6 @@
 -- The section `history` (profile).
-use Rattle.std.specs.Prelude.{ℕ, List, [], ◌∷◌, ◌++◌, codes, decimal, flat_map, Option, Some, None}
+use Rattle.std.specs.Prelude.{ℕ, List, [], ◌∷◌, ◌++◌, codes, decimal, flat_map}
 use Rattle.std.specs.List.{enumerate_from}
-use Rattle.mrp_tables.specs.Items.{item_at}
 use Rattle.mrp_tables.specs.Tables.{Tables}
 use Rattle.mrp_turn.specs.declared.log.Entry.{Entry}
 use Rattle.mrp_book.specs.declared.call.Call.{Call}
@@ -9,20 +8,12 @@ use Rattle.mrp_book.specs.declared.call.Call.TheVariants as call
 use Rattle.mrp_book.specs.declared.reply.Reply.{Reply}
 use Rattle.mrp_book.specs.declared.reply.Reply.TheVariants as reply
 use Rattle.mrp_book.specs.Standing.{History}
+use Rattle.mrp_report.specs.Cells.{name_at, number_cell}
 use Rattle.mrp_report.specs.Section.{row, section_head}
 
 abbrev pub history_head : List ℕ
 history_head = section_head (codes "[history]")
     (codes "entry" ∷ codes "desk" ∷ codes "call" ∷ codes "item" ∷ codes "week" ∷ codes "quantity" ∷ codes "number" ∷ codes "reply" ∷ codes "value" ∷ [])
-
--- an item's name; a place that no item has gives an empty cell
-abbrev pub name_at : Tables → ℕ → List ℕ
-name_at t item = (item_at t.items item).name
-
--- a number, if there is one
-abbrev pub number_cell : Option ℕ → List ℕ
-number_cell None = []
-number_cell (Some n) = decimal n
 
 -- a call: its word, item, week, quantity and number
 abbrev pub call_cells : Tables → Call → List (List ℕ)

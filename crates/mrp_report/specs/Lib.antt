@@ -1,9 +1,15 @@
 pub mod Section
+pub mod Cells
+pub mod ReceiptNames
+pub mod SourceText
+pub mod Which
 pub mod RunText
 pub mod PromiseText
 pub mod PromiseRows
 pub mod PromiseSheet
 pub mod PlanText
+pub mod OrderText
+pub mod MessageText
 pub mod HistoryText
 pub mod EntryCells
 pub mod PageWriter
@@ -11,4 +17,5 @@ pub mod PageView
 pub mod Written
 pub mod PlanRows
 pub mod ReportText
+pub mod Sections
 pub mod Sheet

@@ -1,12 +1,16 @@
 -- The text of a run's report (profile).
 use Rattle.std.specs.Prelude.{ℕ, List, [], ◌++◌, if◌then◌else◌, length, flat_map}
+use Rattle.std.specs.List.{enumerate_from}
 use Rattle.mrp_item.specs.Inputs.{Inputs, is_master, item_at, places}
 use Rattle.mrp_item.specs.Plan.{ItemPlan, outcome_of, plan_in}
+use Rattle.mrp_notes.specs.Messages.{messages_of}
 use Rattle.mrp_report.specs.RunText.{run_text}
 use Rattle.mrp_report.specs.PromiseText.{promises_head, promise_text}
 use Rattle.mrp_report.specs.PromiseRows.{promise_rows}
 use Rattle.mrp_report.specs.PlanText.{plan_head, week_text}
 use Rattle.mrp_report.specs.PlanRows.{plan_rows}
+use Rattle.mrp_report.specs.OrderText.{orders_head, order_text}
+use Rattle.mrp_report.specs.MessageText.{messages_head, message_text}
 
 -- the rows of an item in the section `promises`: a part has none
 abbrev pub promised_text : Inputs → ℕ → List ℕ
@@ -24,6 +28,22 @@ item_text s i plan = flat_map (week_text (item_at s i).name) (plan_rows s i plan
 unfoldable pub plan_text : Inputs → List ℕ
 plan_text s = plan_head ++ flat_map (λ i. item_text s i (plan_in (outcome_of s i))) (places s)
 
--- the report of a run: the sections `run`, `promises` and `plan`
+-- the rows of an item in the section `orders`: its orders, numbered from 1
+abbrev pub ordered_text : Inputs → ℕ → ItemPlan → List ℕ
+ordered_text s i plan = flat_map (order_text (item_at s i).name) (enumerate_from 1 plan.orders)
+
+-- the section `orders`, with each item's rows in table order
+unfoldable pub orders_text : Inputs → List ℕ
+orders_text s = orders_head ++ flat_map (λ i. ordered_text s i (plan_in (outcome_of s i))) (places s)
+
+-- the rows of an item in the section `messages`
+abbrev pub told_text : Inputs → ℕ → ItemPlan → List ℕ
+told_text s i plan = flat_map (message_text s.tables (item_at s i).name plan.orders) (messages_of s i plan)
+
+-- the section `messages`, with each item's rows in table order
+unfoldable pub messages_text : Inputs → List ℕ
+messages_text s = messages_head ++ flat_map (λ i. told_text s i (plan_in (outcome_of s i))) (places s)
+
+-- the report of a run, section by section
 unfoldable pub report_text : Inputs → List ℕ
-report_text s = run_text s.front (length s.standing) ++ promises_text s ++ plan_text s
+report_text s = run_text s.front (length s.standing) ++ promises_text s ++ plan_text s ++ orders_text s ++ messages_text s

@@ -2,10 +2,11 @@
 
 ghost use Rattle.std.specs.Prelude.{◌≡◌, ◌++◌, [], Err, None, OnOk, OnErr};
 ghost use Rattle.mrp_master.specs.Supply.{supply_of};
-ghost use Rattle.mrp_report.specs.HistoryText.{call_cells, entry_text, history_head, history_text, name_at, number_cell, reply_cells};
+ghost use Rattle.mrp_report.specs.HistoryText.{call_cells, entry_text, history_head, history_text, reply_cells};
 ghost use Rattle.mrp_report.specs.EntryCells.{called_cells, replied_cells};
 ghost use Rattle.mrp_report.specs.Written.{HasGivenUp, HasTakenFront, HasTakenWhole};
 
+use crate::cell::{item_name, number_cell};
 use crate::fault::ReportFault;
 use crate::page::Page;
 use itoa::Buffer;
@@ -34,16 +35,6 @@ fn history_section(page: &mut Page) -> Result<(), NoMemory>
         b"value",
     ];
     page.section(b"[history]", &header)
-}
-
-// The name of the item at a place; nothing where there is none.
-fn item_name(tables: &Tables, item: usize) -> &[u8]
-    ensures { result.now ≡ name_at tables.now item }
-{
-    match tables.items().get(item) {
-        Some(item) => item.name.as_bytes(),
-        None => b"",
-    }
 }
 
 // What a row has of a call. An absent number is an empty cell.
@@ -126,16 +117,6 @@ impl<'a> Replied<'a> {
             Reply::Front(number) => (b"front", Some(*number)),
         };
         Replied { word, value }
-    }
-}
-
-// A number written out, where there is one.
-fn number_cell(buffer: &mut Buffer, number: Option<u64>) -> &[u8]
-    ensures { result.now ≡ number_cell number }
-{
-    match number {
-        Some(number) => buffer.format(number).as_bytes(),
-        None => b"",
     }
 }
 

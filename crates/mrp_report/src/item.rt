@@ -2,13 +2,14 @@
 
 ghost use Rattle.std.specs.Prelude.{◌≡◌, ◌++◌, OnOk};
 ghost use Rattle.mrp_tables.specs.Items.{is_master};
+ghost use Rattle.mrp_item.specs.Inputs.{item_at};
 ghost use Rattle.mrp_report.specs.ReportText.{item_text};
 
 use crate::page::Page;
 use crate::sheet::Sheet;
 use mrp_item::Planned;
 use mrp_qty::NoMemory;
-use mrp_tables::Class;
+use mrp_tables::{Class, Item};
 use std::alloc::Global;
 
 pub(crate) fn is_master(class: Class) -> bool
@@ -20,17 +21,21 @@ pub(crate) fn is_master(class: Class) -> bool
     }
 }
 
-/// Adds an item's rows of the section `plan`.
-///
-/// Errors: where a growth of memory was refused.
-pub fn item_rows(alloc: Global, page: &mut Page, planned: &Planned) -> Result<(), NoMemory>
+// What the tables say of a planned item.
+pub(crate) fn entry_of(planned: &Planned) -> Item
+    ensures { result ≡ item_at planned.now.inputs planned.now.item }
+{
+    planned.inputs().shop().tables().items()[planned.item()]
+}
+
+// Adds an item's rows of the section `plan`.
+pub(crate) fn item_rows(alloc: Global, page: &mut Page, planned: &Planned) -> Result<(), NoMemory>
     ensures { OnOk result (page.new ≡ page.old ++ item_text planned.now.inputs planned.now.item planned.now.plan) }
 {
-    let tables = planned.inputs().shop().tables();
-    let entry = tables.items()[planned.item()];
+    let entry = entry_of(planned);
     let stock = planned.stock(alloc)?;
     let sheet = Sheet {
-        weeks: tables.calendar().weeks(),
+        weeks: planned.inputs().shop().tables().calendar().weeks(),
         is_master: is_master(entry.class),
         on_hand: stock.on_hand,
         gross: planned.gross().as_slice(),

@@ -21,7 +21,7 @@ const FULL: usize = 65_536;
 ///
 /// A page is put together in memory that is used again once its text was handed over.
 #[derive(Drop)]
-pub struct Page {
+pub(crate) struct Page {
     alloc: Global,
     writer: Writer<Vec<u8>>,
     failed: bool,
@@ -48,7 +48,7 @@ impl Model for Page {
 
 impl Page {
     /// A page without text.
-    pub fn new(alloc: Global) -> Page
+    pub(crate) fn new(alloc: Global) -> Page
         ensures { result ≡ [] }
     {
         Page {
@@ -62,7 +62,7 @@ impl Page {
     ///
     /// Errors: where a growth of memory was refused.
     #[tactic(auto, using(crate::proofs::PageRows::row_text_same))]
-    pub fn row(&mut self, cells: &[&[u8]]) -> Result<(), NoMemory>
+    pub(crate) fn row(&mut self, cells: &[&[u8]]) -> Result<(), NoMemory>
         ensures { OnOk result (self.new ≡ self.old ++ row (map (λ cell. cell.now) cells.now)) }
     {
         if self.failed {
@@ -87,7 +87,7 @@ impl Page {
 
     /// Whether so much text stands on the page that it is worth a call of the writer. It may be
     /// handed over at any time.
-    pub fn is_full(&self) -> bool {
+    pub(crate) fn is_full(&self) -> bool {
         self.writer.get_ref().len() >= FULL
     }
 
@@ -118,7 +118,7 @@ impl Page {
     /// Errors: `Write` where a write failed in this call, or was interrupted with no try left, and
     /// `NoMemory` where a growth of memory was refused, here or before. A front of the text was
     /// written then.
-    pub fn hand_over<W: Write>(
+    pub(crate) fn hand_over<W: Write>(
         &mut self,
         writer: &mut Told<W>,
         tries: &mut Tries,
@@ -133,6 +133,7 @@ impl Page {
         self.clear();
         Ok(())
     }
+
     // Hands the page over where it is full.
     pub(crate) fn pass_on<W: Write>(
         &mut self,

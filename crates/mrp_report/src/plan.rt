@@ -9,7 +9,7 @@ use mrp_qty::NoMemory;
 
 /// What an item's plan says of a week, in pieces.
 #[derive(Clone, Copy, Debug, PartialEq, Eq)]
-pub struct PlanRow {
+pub(crate) struct PlanRow {
     /// The week, from 1.
     pub week: u16,
     /// What is required (Orlicky: gross requirements).
@@ -30,7 +30,7 @@ pub struct PlanRow {
 ///
 /// Errors: where a growth of memory was refused.
 #[tactic(auto, unfolding(csv::specs::Writing::fields_text, csv::specs::Writing::is_blank))]
-pub fn plan_section(page: &mut Page) -> Result<(), NoMemory>
+pub(crate) fn plan_section(page: &mut Page) -> Result<(), NoMemory>
     ensures { OnOk result (page.new ≡ page.old ++ plan_head) }
 {
     let header: [&[u8]; 8] = [
@@ -42,7 +42,7 @@ pub fn plan_section(page: &mut Page) -> Result<(), NoMemory>
 /// Adds a week of an item.
 ///
 /// Errors: where a growth of memory was refused.
-pub fn week_row(page: &mut Page, name: &[u8], row: &PlanRow) -> Result<(), NoMemory>
+pub(crate) fn week_row(page: &mut Page, name: &[u8], row: &PlanRow) -> Result<(), NoMemory>
     ensures { OnOk result (page.new ≡ page.old ++ week_text name.now row.now) }
 {
     let mut week = Buffer::new();

@@ -7,7 +7,7 @@ ghost use Rattle.mrp_item.specs.Inputs.{count, is_master};
 ghost use Rattle.mrp_report.specs.PromiseRows.{promises_of};
 ghost use Rattle.mrp_report.specs.ReportText.{promised_text};
 
-use crate::item::is_master;
+use crate::item::{entry_of, is_master};
 use crate::page::Page;
 use crate::promise_sheet::PromiseSheet;
 use mrp_item::{Inputs, Planned};
@@ -36,11 +36,9 @@ fn promises_of(
     Ok(row)
 }
 
-/// Adds an item's rows of the section `promises`; a part has none. The caller owes what promising
-/// reads of the item's shop.
-///
-/// Errors: where a growth of memory was refused.
-pub fn item_promises(
+// Adds an item's rows of the section `promises`; a part has none. The caller owes what promising
+// reads of the item's shop.
+pub(crate) fn item_promises(
     alloc: Global,
     page: &mut Page,
     supply: &Supply,
@@ -49,13 +47,12 @@ pub fn item_promises(
     requires { supply.now ≡ supply_of planned.now.inputs.tables }
     ensures { OnOk result (page.new ≡ page.old ++ promised_text planned.now.inputs planned.now.item) }
 {
-    let inputs = planned.inputs();
-    let entry = inputs.shop().tables().items()[planned.item()];
+    let entry = entry_of(planned);
     if !is_master(entry.class) {
         return Ok(());
     }
     let weeks = supply.weeks();
-    let row = promises_of(alloc, supply, inputs, planned.item())?;
+    let row = promises_of(alloc, supply, planned.inputs(), planned.item())?;
     let stock = planned.stock(alloc)?;
     let sheet = PromiseSheet {
         weeks,

@@ -9,7 +9,7 @@ use mrp_qty::NoMemory;
 
 /// What can be promised of an item in a week, in pieces.
 #[derive(Clone, Copy, Debug, PartialEq, Eq)]
-pub struct PromiseRow {
+pub(crate) struct PromiseRow {
     /// The week, from 1.
     pub week: u16,
     /// The firm quantity that comes in.
@@ -26,7 +26,7 @@ pub struct PromiseRow {
 ///
 /// Errors: where a growth of memory was refused.
 #[tactic(auto, unfolding(csv::specs::Writing::fields_text, csv::specs::Writing::is_blank))]
-pub fn promises_section(page: &mut Page) -> Result<(), NoMemory>
+pub(crate) fn promises_section(page: &mut Page) -> Result<(), NoMemory>
     ensures { OnOk result (page.new ≡ page.old ++ promises_head) }
 {
     let header: [&[u8]; 6] = [
@@ -43,7 +43,7 @@ pub fn promises_section(page: &mut Page) -> Result<(), NoMemory>
 /// Adds a week of an item.
 ///
 /// Errors: where a growth of memory was refused.
-pub fn promise_row(page: &mut Page, name: &[u8], row: &PromiseRow) -> Result<(), NoMemory>
+pub(crate) fn promise_row(page: &mut Page, name: &[u8], row: &PromiseRow) -> Result<(), NoMemory>
     ensures { OnOk result (page.new ≡ page.old ++ promise_text name.now row.now) }
 {
     let mut week = Buffer::new();

@@ -1,19 +1,17 @@
 //! The report of a run.
 
 ghost use Rattle.std.specs.Prelude.{◌≡◌, ◌≤◌, ◌-◌, ◌++◌, Err, OnOk, OnErr, length};
-ghost use Rattle.mrp_report.specs.ReportText.{plan_text, promises_text, report_text};
+ghost use Rattle.mrp_master.specs.Supply.{supply_of};
+ghost use Rattle.mrp_report.specs.ReportText.{report_text};
 ghost use Rattle.mrp_report.specs.RunText.{run_text};
+ghost use Rattle.mrp_report.specs.Sections.{section_text};
 ghost use Rattle.mrp_report.specs.Written.{HasGivenUp, HasTakenFront, HasTakenWhole, PassesOn};
 
 use crate::fault::ReportFault;
-use crate::item::item_rows;
 use crate::page::Page;
-use crate::plan::plan_section;
-use crate::promise_item::item_promises;
-use crate::promises::promises_section;
 use crate::run::run_section;
+use crate::section::{Readings, SECTIONS, Section};
 use mrp_item::Plan;
-use mrp_master::Supply;
 use mrp_qty::NoMemory;
 use mrp_rows::{Told, Tries};
 use std::alloc::Global;
@@ -27,51 +25,33 @@ fn write_run(page: &mut Page, plan: &Plan) -> Result<(), NoMemory>
     run_section(page, snapshot.front(), snapshot.standing().len() as u64)
 }
 
-// Adds the section `promises`, and hands full pages over.
-fn write_promises<W: Write>(
+// Adds a section, and hands full pages over.
+fn write_section<W: Write>(
     alloc: Global,
+    section: Section,
     plan: &Plan,
+    readings: &Readings<'_>,
     page: &mut Page,
     writer: &mut Told<W>,
     tries: &mut Tries,
 ) -> Result<(), ReportFault>
-    ensures passed { OnOk result (PassesOn W.contents writer.old writer.new (page.old ++ promises_text plan.now.inputs) page.new (tries.old - tries.new)) }
+    requires supply { readings.now.supply ≡ supply_of plan.now.inputs.tables }
+    requires names { readings.now.names.tables.now ≡ plan.now.inputs.tables }
+    ensures passed { OnOk result (PassesOn W.contents writer.old writer.new (page.old ++ section_text plan.now.inputs section) page.new (tries.old - tries.new)) }
     ensures tries { tries.new ≤ tries.old }
-    ensures front { OnErr result (HasTakenFront W.contents writer.old writer.new (page.old ++ promises_text plan.now.inputs)) }
+    ensures front { OnErr result (HasTakenFront W.contents writer.old writer.new (page.old ++ section_text plan.now.inputs section)) }
     ensures refused { result ≡ Err ReportFault.Write → HasGivenUp writer.old writer.new tries.old }
 {
-    let shop = plan.inputs().shop();
-    let supply = Supply::of(alloc, shop)?;
-    promises_section(page)?;
-    for item in 0..shop.tables().items().len() {
-        item_promises(alloc, page, &supply, plan.item(item))?;
-        page.pass_on(writer, tries)?;
-    }
-    Ok(())
-}
-
-// Adds the section `plan`, and hands full pages over.
-fn write_plan<W: Write>(
-    alloc: Global,
-    plan: &Plan,
-    page: &mut Page,
-    writer: &mut Told<W>,
-    tries: &mut Tries,
-) -> Result<(), ReportFault>
-    ensures passed { OnOk result (PassesOn W.contents writer.old writer.new (page.old ++ plan_text plan.now.inputs) page.new (tries.old - tries.new)) }
-    ensures tries { tries.new ≤ tries.old }
-    ensures front { OnErr result (HasTakenFront W.contents writer.old writer.new (page.old ++ plan_text plan.now.inputs)) }
-    ensures refused { result ≡ Err ReportFault.Write → HasGivenUp writer.old writer.new tries.old }
-{
-    plan_section(page)?;
+    section.begin(page)?;
     for item in 0..plan.inputs().shop().tables().items().len() {
-        item_rows(alloc, page, plan.item(item))?;
+        section.add_item(alloc, page, plan, readings, item)?;
         page.pass_on(writer, tries)?;
     }
     Ok(())
 }
 
-/// Writes the report of a run: the sections `run`, `promises` and `plan`.
+/// Writes the report of a run: the sections `run`, `promises`, `plan`, `orders` and
+/// `messages`.
 ///
 /// An interrupted write is tried again, at most 1,000,000 times. Errors: `Write` where a write failed
 /// in this call or was interrupted more often, and `NoMemory` where a growth of memory was refused.
@@ -88,8 +68,12 @@ pub fn write_report<W: Write>(
 {
     let mut tries = Tries::new();
     let mut page = Page::new(alloc);
+    let readings = Readings::of(alloc, plan.inputs().shop())?;
     write_run(&mut page, plan)?;
-    write_promises(alloc, plan, &mut page, writer, &mut tries)?;
-    write_plan(alloc, plan, &mut page, writer, &mut tries)?;
+    for section in SECTIONS {
+        write_section(
+            alloc, section, plan, &readings, &mut page, writer, &mut tries,
+        )?;
+    }
     page.hand_over(writer, &mut tries)
 }

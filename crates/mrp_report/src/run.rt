@@ -12,7 +12,7 @@ use mrp_qty::NoMemory;
 ///
 /// Errors: where a growth of memory was refused.
 #[tactic(auto, unfolding(csv::specs::Writing::fields_text, csv::specs::Writing::is_blank))]
-pub fn run_section(page: &mut Page, front: u64, standing: u64) -> Result<(), NoMemory>
+pub(crate) fn run_section(page: &mut Page, front: u64, standing: u64) -> Result<(), NoMemory>
     ensures { OnOk result (page.new ≡ page.old ++ run_text front standing) }
 {
     let mut front_text = Buffer::new();

@@ -4,13 +4,10 @@ mod making;
 mod shops;
 
 use self::making::{FailingWriter, ask, bicycles, book, history_of, plan_of_bicycles, when};
-use self::shops::{ASKED, CANCELLED, PROMISES, REPORT, TWO_DESKS, WHEEL_ROWS};
-use crate::{
-    Page, PlanRow, PromiseRow, ReportFault, item_promises, item_rows, plan_section, promise_row,
-    promises_section, run_section, week_row, write_history, write_report,
-};
+use self::shops::{ASKED, CANCELLED, REPORT, TWO_DESKS};
+use crate::page::Page;
+use crate::{ReportFault, write_history, write_report};
 use mrp_book::Call;
-use mrp_master::Supply;
 use mrp_rows::{Told, Tries};
 use std::alloc::Global;
 use std::process::Abort;
@@ -42,81 +39,6 @@ fn a_page_is_full_once_it_has_many_rows(rt: HostRuntime) -> Result<(), Fail> {
     }
     assert!(rt; page.is_full());
     Ok(())
-}
-
-#[test]
-fn a_run_has_its_front_and_its_standing_bookings(rt: HostRuntime) -> Result<(), Fail> {
-    let mut page = Page::new(rt.alloc());
-    run_section(&mut page, 7, 3)?;
-    has_text(&rt, rt.alloc(), page, "[run]\nfront,standing\n7,3\n")
-}
-
-#[test]
-fn a_week_can_be_promised(rt: HostRuntime) -> Result<(), Fail> {
-    let mut page = Page::new(rt.alloc());
-    let row = PromiseRow {
-        week: 3,
-        firm: 20,
-        booked: 12,
-        bucket: 8,
-        available: 18,
-    };
-    promises_section(&mut page)?;
-    promise_row(&mut page, b"BIKE", &row)?;
-    promise_row(&mut page, b"A,B", &row)?;
-    let want =
-        "[promises]\nitem,week,firm,booked,bucket,available\nBIKE,3,20,12,8,18\n\"A,B\",3,20,12,8,18\n";
-    has_text(&rt, rt.alloc(), page, want)
-}
-
-#[test]
-fn a_master_item_has_what_can_be_promised_and_a_part_has_nothing(
-    rt: HostRuntime,
-) -> Result<(), Fail> {
-    let shop = bicycles(rt.alloc())?;
-    let calls = [
-        (1, book(&shop, 3, 12)?),
-        (1, book(&shop, 5, 25)?),
-        (2, book(&shop, 1, 10)?),
-        (1, Call::Snapshot),
-    ];
-    let plan = plan_of_bicycles(rt.alloc(), &calls)?;
-    let supply = Supply::of(rt.alloc(), plan.inputs().shop())?;
-    let mut page = Page::new(rt.alloc());
-    assert_eq!(rt; plan.inputs().shop().tables().items().len(), 3);
-    for item in 0..3 {
-        item_promises(rt.alloc(), &mut page, &supply, plan.item(item))?;
-    }
-    has_text(&rt, rt.alloc(), page, PROMISES)
-}
-
-#[test]
-fn a_plan_has_a_row_for_a_week(rt: HostRuntime) -> Result<(), Fail> {
-    let mut page = Page::new(rt.alloc());
-    let row = PlanRow {
-        week: 3,
-        gross: 12,
-        receipts: 0,
-        firm: 20,
-        planned: 1,
-        start: 2,
-        balance: 8,
-    };
-    plan_section(&mut page)?;
-    week_row(&mut page, b"BIKE", &row)?;
-    week_row(&mut page, b"A,B", &row)?;
-    let want =
-        "[plan]\nitem,week,gross,open,firm,planned,start,balance\nBIKE,3,12,0,20,1,2,8\n\"A,B\",3,12,0,20,1,2,8\n";
-    has_text(&rt, rt.alloc(), page, want)
-}
-
-#[test]
-fn an_item_has_a_row_for_each_week(rt: HostRuntime) -> Result<(), Fail> {
-    let plan = plan_of_bicycles(rt.alloc(), &[(1, Call::Snapshot)])?;
-    let mut page = Page::new(rt.alloc());
-    assert!(rt; 2 < plan.inputs().shop().tables().items().len());
-    item_rows(rt.alloc(), &mut page, plan.item(2))?;
-    has_text(&rt, rt.alloc(), page, WHEEL_ROWS)
 }
 
 #[test]

@@ -67,25 +67,21 @@ WHEEL,2,40,0,0,40,0,0\n\
 WHEEL,3,0,0,0,0,40,0\n\
 WHEEL,4,40,0,0,40,0,0\n\
 WHEEL,5,0,0,0,0,0,0\n\
-WHEEL,6,0,0,0,0,0,0\n";
-
-// The rows of promises of its first item, after what two desks booked.
-pub const PROMISES: &str = "\
-BIKE,1,0,10,0,0\n\
-BIKE,2,0,0,0,0\n\
-BIKE,3,20,12,3,3\n\
-BIKE,4,0,0,0,3\n\
-BIKE,5,20,25,0,3\n\
-BIKE,6,0,0,0,3\n";
-
-// The rows of its last item.
-pub const WHEEL_ROWS: &str = "\
-WHEEL,1,0,0,0,0,40,0\n\
-WHEEL,2,40,0,0,40,0,0\n\
-WHEEL,3,0,0,0,0,40,0\n\
-WHEEL,4,40,0,0,40,0,0\n\
-WHEEL,5,0,0,0,0,0,0\n\
-WHEEL,6,0,0,0,0,0,0\n";
+WHEEL,6,0,0,0,0,0,0\n\
+[orders]\n\
+item,order,kind,due,quantity,start,release,late\n\
+BIKE,1,firm,3,20,20,2,0\n\
+BIKE,2,firm,5,20,20,4,0\n\
+FRAME,1,planned,2,20,20,1,0\n\
+FRAME,2,planned,4,20,20,3,0\n\
+WHEEL,1,planned,2,40,40,1,0\n\
+WHEEL,2,planned,4,40,40,3,0\n\
+[messages]\n\
+item,supply,source,message,value\n\
+BIKE,firm,1,OUT,4\n\
+BIKE,firm,2,CANCEL,\n\
+FRAME,planned,1,RELEASE,\n\
+WHEEL,planned,1,RELEASE,\n";
 
 // What two desks booked and asked.
 pub const TWO_DESKS: &str = "\

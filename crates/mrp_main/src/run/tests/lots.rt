@@ -86,8 +86,31 @@ WHEEL,4,46,0,0,46,0,0\n\
 WHEEL,5,0,0,0,0,0,0\n\
 WHEEL,6,0,0,0,0,0,0\n";
 
-// Tubes, three in a frame, where half of what starts is scrap.
-const TUBES: &str = "\
+const ORDERS_IN_LOTS: &str = "\
+[orders]\n\
+item,order,kind,due,quantity,start,release,late\n\
+BIKE,1,planned,2,8,8,1,0\n\
+BIKE,2,firm,3,20,20,2,0\n\
+BIKE,3,firm,5,20,20,4,0\n\
+BIKE,4,planned,5,3,3,4,0\n\
+FRAME,1,planned,1,20,23,1,1\n\
+FRAME,2,planned,2,20,23,1,0\n\
+WHEEL,1,planned,2,26,26,1,1\n\
+WHEEL,2,planned,4,46,46,2,0\n";
+
+const MESSAGES_IN_LOTS: &str = "\
+[messages]\n\
+item,supply,source,message,value\n\
+BIKE,planned,1,RELEASE,\n\
+BIKE,firm,2,IN,2\n\
+BIKE,firm,3,IN,4\n\
+FRAME,planned,1,PAST-DUE,1\n\
+FRAME,planned,2,RELEASE,\n\
+FRAME,open,R1,IN,1\n\
+WHEEL,planned,1,PAST-DUE,1\n";
+
+// Tubes, three in a frame, where half of what starts is scrap: their weeks, their order and its message.
+const TUBE_WEEKS: &str = "\
 TUBE,1,138,0,0,138,276,0\n\
 TUBE,2,0,0,0,0,0,0\n\
 TUBE,3,0,0,0,0,0,0\n\
@@ -95,10 +118,22 @@ TUBE,4,0,0,0,0,0,0\n\
 TUBE,5,0,0,0,0,0,0\n\
 TUBE,6,0,0,0,0,0,0\n";
 
-// That a shop is planned as the bicycles in lots are, with these rows behind theirs.
-fn is_planned<R: Alloc + Abort>(rt: &R, alloc: Global, shop: &str, more: &str) -> Result<(), Fail> {
+const TUBE_ORDERS: &str = "TUBE,1,planned,1,138,276,1,0\n";
+
+const TUBE_MESSAGES: &str = "TUBE,planned,1,RELEASE,\n";
+
+// That a shop is planned as the bicycles in lots are, with these weeks, orders and messages behind
+// theirs.
+fn is_planned<R: Alloc + Abort>(
+    rt: &R,
+    alloc: Global,
+    shop: &str,
+    weeks: &str,
+    orders: &str,
+    messages: &str,
+) -> Result<(), Fail> {
     let want = format!(in alloc;
-        "{HISTORY}{RUN}{PROMISES_HEAD}{BOOKED_PROMISES}{PLAN_IN_LOTS}{more}"
+        "{HISTORY}{RUN}{PROMISES_HEAD}{BOOKED_PROMISES}{PLAN_IN_LOTS}{weeks}{ORDERS_IN_LOTS}{orders}{MESSAGES_IN_LOTS}{messages}"
     )?;
     let left = left_by(rt, alloc, &PLAN, shop)?;
     assert_eq!(rt; left.errors.as_str(), "");
@@ -109,7 +144,7 @@ fn is_planned<R: Alloc + Abort>(rt: &R, alloc: Global, shop: &str, more: &str) -
 
 #[test]
 fn parts_are_planned_in_lots_with_scrap_and_safety_stock(rt: HostRuntime) -> Result<(), Fail> {
-    is_planned(&rt, rt.alloc(), BICYCLES_IN_LOTS, "")
+    is_planned(&rt, rt.alloc(), BICYCLES_IN_LOTS, "", "", "")
 }
 
 #[test]
@@ -117,7 +152,7 @@ fn two_lines_of_one_wheel_are_as_one_line_of_two(rt: HostRuntime) -> Result<(), 
     let alloc = rt.alloc();
     let lines = "BIKE,WHEEL,1\nBIKE,WHEEL,1\n";
     let shop = changed(alloc, BICYCLES_IN_LOTS, "BIKE,WHEEL,2\n", lines)?;
-    is_planned(&rt, alloc, &shop, "")
+    is_planned(&rt, alloc, &shop, "", "", "")
 }
 
 #[test]
@@ -125,7 +160,7 @@ fn open_receipts_of_no_pieces_change_nothing(rt: HostRuntime) -> Result<(), Fail
     let alloc = rt.alloc();
     let rows = "FRAME,R0,2025-01-06,0\nFRAME,R1,2025-01-22,15\nWHEEL,R1,2025-01-06,0\n";
     let shop = changed(alloc, BICYCLES_IN_LOTS, "FRAME,R1,2025-01-22,15\n", rows)?;
-    is_planned(&rt, alloc, &shop, "")
+    is_planned(&rt, alloc, &shop, "", "", "")
 }
 
 #[test]
@@ -138,7 +173,7 @@ fn a_part_with_scrap_asks_for_components_by_its_starts(rt: HostRuntime) -> Resul
         "TUBE,part,0,500,lfl,0,0\n[centres]",
     )?;
     let shop = changed(alloc, &shop, "[routings]", "FRAME,TUBE,3\n[routings]")?;
-    is_planned(&rt, alloc, &shop, TUBES)
+    is_planned(&rt, alloc, &shop, TUBE_WEEKS, TUBE_ORDERS, TUBE_MESSAGES)
 }
 
 // Scrap of items of the chain, the firm pieces of its first item, and the line that is told.

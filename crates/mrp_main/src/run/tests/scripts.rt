@@ -51,11 +51,34 @@ WHEEL,4,46,0,0,46,0,0\n\
 WHEEL,5,0,0,0,0,0,0\n\
 WHEEL,6,0,0,0,0,0,0\n";
 
+// Its orders.
+const BOOKED_ORDERS: &str = "\
+BIKE,1,planned,2,8,8,1,0\n\
+BIKE,2,firm,3,20,20,2,0\n\
+BIKE,3,firm,5,20,20,4,0\n\
+BIKE,4,planned,5,3,3,4,0\n\
+FRAME,1,planned,1,8,8,1,1\n\
+FRAME,2,planned,2,20,20,1,0\n\
+FRAME,3,planned,4,23,23,3,0\n\
+WHEEL,1,planned,1,16,16,1,1\n\
+WHEEL,2,planned,2,40,40,1,0\n\
+WHEEL,3,planned,4,46,46,3,0\n";
+
+// Its messages.
+const BOOKED_MESSAGES: &str = "\
+BIKE,planned,1,RELEASE,\n\
+BIKE,firm,2,IN,2\n\
+BIKE,firm,3,IN,4\n\
+FRAME,planned,1,PAST-DUE,1\n\
+FRAME,planned,2,RELEASE,\n\
+WHEEL,planned,1,PAST-DUE,1\n\
+WHEEL,planned,2,RELEASE,\n";
+
 #[test]
 fn desks_book_and_ask_and_then_plan(rt: HostRuntime) -> Result<(), Fail> {
     let alloc = rt.alloc();
     let want = format!(in alloc;
-        "{HISTORY}{BOOKED}7,1,run,,,,,front,7\n[run]\nfront,standing\n7,3\n{PROMISES_HEAD}{BOOKED_PROMISES}{PLAN_HEAD}{BOOKED_PLAN}"
+        "{HISTORY}{BOOKED}7,1,run,,,,,front,7\n[run]\nfront,standing\n7,3\n{PROMISES_HEAD}{BOOKED_PROMISES}{PLAN_HEAD}{BOOKED_PLAN}{ORDERS_HEAD}{BOOKED_ORDERS}{MESSAGES_HEAD}{BOOKED_MESSAGES}"
     )?;
     // A script without a run is run once, at its end, by desk 1.
     for run in ["1,run,,,,\n", ""] {
@@ -136,7 +159,7 @@ fn each_run_plans_the_bookings_that_stand_at_its_front(rt: HostRuntime) -> Resul
     let first = "1,64,run,,,,,front,1\n2,1,book,BIKE,3,12,,booked,2\n";
     let report = BICYCLE_DAY.strip_prefix(FIRST_RUN).ok_or("the history")?;
     let runs = format!(in alloc;
-        "8,1,run,,,,,front,8\n{report}[run]\nfront,standing\n8,3\n{PROMISES_HEAD}{BOOKED_PROMISES}{PLAN_HEAD}{BOOKED_PLAN}"
+        "8,1,run,,,,,front,8\n{report}[run]\nfront,standing\n8,3\n{PROMISES_HEAD}{BOOKED_PROMISES}{PLAN_HEAD}{BOOKED_PLAN}{ORDERS_HEAD}{BOOKED_ORDERS}{MESSAGES_HEAD}{BOOKED_MESSAGES}"
     )?;
     assert!(rt; left.output.as_str().contains(first));
     assert!(rt; left.output.as_str().ends_with(runs.as_str()));

@@ -53,6 +53,12 @@ BIKE,4,0,0,0,3\n\
 BIKE,5,20,25,0,3\n\
 BIKE,6,0,0,0,3\n";
 
+// The line and the header of the section of orders.
+pub const ORDERS_HEAD: &str = "[orders]\nitem,order,kind,due,quantity,start,release,late\n";
+
+// The line and the header of the section of messages.
+pub const MESSAGES_HEAD: &str = "[messages]\nitem,supply,source,message,value\n";
+
 // What planning the bicycles writes.
 pub const BICYCLE_DAY: &str = "\
 [history]\n\
@@ -88,7 +94,21 @@ WHEEL,2,40,0,0,40,0,0\n\
 WHEEL,3,0,0,0,0,40,0\n\
 WHEEL,4,40,0,0,40,0,0\n\
 WHEEL,5,0,0,0,0,0,0\n\
-WHEEL,6,0,0,0,0,0,0\n";
+WHEEL,6,0,0,0,0,0,0\n\
+[orders]\n\
+item,order,kind,due,quantity,start,release,late\n\
+BIKE,1,firm,3,20,20,2,0\n\
+BIKE,2,firm,5,20,20,4,0\n\
+FRAME,1,planned,2,20,20,1,0\n\
+FRAME,2,planned,4,20,20,3,0\n\
+WHEEL,1,planned,2,40,40,1,0\n\
+WHEEL,2,planned,4,40,40,3,0\n\
+[messages]\n\
+item,supply,source,message,value\n\
+BIKE,firm,1,OUT,4\n\
+BIKE,firm,2,CANCEL,\n\
+FRAME,planned,1,RELEASE,\n\
+WHEEL,planned,1,RELEASE,\n";
 
 // The bicycles' calendar.
 pub const CALENDAR: &str = "\

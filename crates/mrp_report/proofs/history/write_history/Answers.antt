@@ -4,7 +4,7 @@ use Rattle.mrp_turn.specs.declared.log.Entry.{Entry}
 use Rattle.mrp_book.specs.declared.call.Call.{Call}
 use Rattle.mrp_book.specs.declared.reply.Reply.{Reply}
 use Rattle.mrp_report.specs.HistoryText.{history_head, history_text}
-use Rattle.mrp_report.proofs.HistorySoFar.{so_far, so_far-none, to-come, whole, entry-written}
+use Rattle.mrp_report.proofs.HistoryTexts.{so_far, so_far-none, to-come, whole, entry-written}
 use Rattle.mrp_report.proofs.Progress.{IsWritten, written-none, written-passed, written-whole, front-now, front-then, on-err, on-err-then, on-ok-then}
 use Rattle.mrp_report.proofs.history.write_history.Goals as goal
 

@@ -1,4 +1,4 @@
-use Rattle.mrp_report.proofs.HistorySoFar.{so_far}
+use Rattle.mrp_report.proofs.HistoryTexts.{so_far}
 use Rattle.mrp_report.proofs.Progress.{IsWritten}
 use Rattle.mrp_report.proofs.history.write_history.Given as goal
 

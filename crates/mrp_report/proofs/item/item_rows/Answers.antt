@@ -6,16 +6,15 @@ use Rattle.mrp_net.specs.declared.stock.Stock.{Stock}
 use Rattle.mrp_tables.specs.Items.{is_master}
 use Rattle.mrp_item.specs.Inputs.{Inputs, item_at, horizon}
 use Rattle.mrp_report.specs.declared.sheet.Sheet.{Sheet}
-use Rattle.mrp_report.proofs.PlanSheets.{IsSheetOf, is-sheet, sheet-text, entry-is}
+use Rattle.mrp_report.proofs.PlanSheets.{IsSheetOf, is-sheet, sheet-text}
 use Rattle.mrp_report.proofs.item.item_rows.Goals as goal
 
 pub write-requires : goal.write-requires
 write-requires c =
     let s = c.args.planned.now.inputs in
-    let tables : c.tables-tables.result.now ≡ s.tables = c.tables-tables.ensures.value ∙ c.shop.ensures.tables ∙ ap (λ (x : Inputs). x.tables) (c.deref.ensures ∙ c.inputs.ensures.inputs) in
+    let tables : c.tables.result.now ≡ s.tables = c.tables.ensures.value ∙ c.shop.ensures.tables ∙ ap (λ (x : Inputs). x.tables) (c.deref.ensures ∙ c.inputs.ensures.inputs) in
     let weeks : c.weeks.result ≡ horizon s = c.weeks.ensures.value ∙ ap (λ k. k.weeks) c.calendar.ensures ∙ ap (λ (t : Tables). t.calendar.weeks) tables in
-    let entry : c.index-items-item.result ≡ item_at s c.args.planned.now.item =
-    entry-is s c.items.result.now c.args.planned.now.item c.item.result c.index-items-item.result _ (c.items.ensures.rows ∙ ap (λ (t : Tables). t.items) tables) c.item.ensures.item c.item.ensures.within c.index-items-item.is in
+    let entry : c.entry_of-entry.result ≡ item_at s c.args.planned.now.item = c.entry_of-entry.ensures in
     let of : IsSheetOf _ s c.args.planned.now.item c.args.planned.now.plan = record {
       weeks_are = weeks;
       master_is = c.is_master.ensures ∙ ap (λ (e : Item). is_master e.class) entry;
@@ -30,10 +29,9 @@ write-requires c =
 pub returns : goal.returns
 returns c =
     let s = c.args.planned.now.inputs in
-    let tables : c.tables-tables.result.now ≡ s.tables = c.tables-tables.ensures.value ∙ c.shop.ensures.tables ∙ ap (λ (x : Inputs). x.tables) (c.deref.ensures ∙ c.inputs.ensures.inputs) in
+    let tables : c.tables.result.now ≡ s.tables = c.tables.ensures.value ∙ c.shop.ensures.tables ∙ ap (λ (x : Inputs). x.tables) (c.deref.ensures ∙ c.inputs.ensures.inputs) in
     let weeks : c.weeks.result ≡ horizon s = c.weeks.ensures.value ∙ ap (λ k. k.weeks) c.calendar.ensures ∙ ap (λ (t : Tables). t.calendar.weeks) tables in
-    let entry : c.index-items-item.result ≡ item_at s c.args.planned.now.item =
-    entry-is s c.items.result.now c.args.planned.now.item c.item.result c.index-items-item.result _ (c.items.ensures.rows ∙ ap (λ (t : Tables). t.items) tables) c.item.ensures.item c.item.ensures.within c.index-items-item.is in
+    let entry : c.entry_of-entry.result ≡ item_at s c.args.planned.now.item = c.entry_of-entry.ensures in
     let sheet : Sheet = record {
       weeks = c.weeks.result;
       is_master = c.is_master.result;

@@ -2,7 +2,6 @@ use Rattle.std.proofs.Common.{◌≡◌, ◌∙◌, ◌++◌, List, ℕ, Bool, f
 use Rattle.std.proofs.lemmas.List.{append-nil}
 use Rattle.std.specs.Prelude.{IsTrue, OnOk}
 use Rattle.mrp_tables.specs.Items as items
-use Rattle.mrp_tables.specs.Tables.{Tables}
 use Rattle.mrp_tables.specs.declared.item.Item.{Item}
 use Rattle.mrp_net.specs.declared.stock.Stock.{Stock}
 use Rattle.mrp_master.specs.Supply.{IsSupply, Supply, supply_of}
@@ -11,7 +10,6 @@ use Rattle.mrp_item.specs.Inputs.{Inputs, count, is_master, item_at}
 use Rattle.mrp_report.specs.PromiseRows.{promises_of}
 use Rattle.mrp_report.specs.ReportText.{promised_text}
 use Rattle.mrp_report.specs.declared.promise_sheet.PromiseSheet.{PromiseSheet}
-use Rattle.mrp_report.proofs.PlanSheets.{entry-is}
 use Rattle.mrp_report.proofs.PromiseSheets.{IsPromiseSheetOf, is-promise-sheet, no-promises, promises-text}
 use Rattle.mrp_report.proofs.promise_item.item_promises.Goals as goal
 
@@ -19,9 +17,7 @@ pub returns-then-not-is_master : goal.returns-then-not-is_master
 returns-then-not-is_master c =
     let s = c.args.planned.now.inputs in
     let i = c.args.planned.now.item in
-    let tables : c.tables.result.now ≡ s.tables = c.tables.ensures.value ∙ c.shop.ensures.tables ∙ ap (λ (x : Inputs). x.tables) (c.deref.ensures ∙ c.inputs-inputs.ensures.inputs) in
-    let entry : c.index-items-item.result ≡ item_at s i =
-    entry-is s c.items.result.now i c.item.result c.index-items-item.result _ (c.items.ensures.rows ∙ ap (λ (t : Tables). t.items) tables) c.item.ensures.item c.item.ensures.within c.index-items-item.is in
+    let entry : c.entry_of-entry.result ≡ item_at s i = c.entry_of-entry.ensures in
     let class : c.is_master.result ≡ is_master s i = c.is_master.ensures ∙ ap (λ (e : Item). items.is_master e.class) entry in
     sym (append-nil c.args.page.now) ∙ ap (λ (t : List ℕ). c.args.page.now ++ t) (no-promises s i (sym class ∙ c.if-not-is_master.true))
 
@@ -29,31 +25,27 @@ pub promises_of-requires : goal.promises_of-requires
 promises_of-requires c =
     let s = c.args.planned.now.inputs in
     let i = c.args.planned.now.item in
-    let tables : c.tables.result.now ≡ s.tables = c.tables.ensures.value ∙ c.shop.ensures.tables ∙ ap (λ (x : Inputs). x.tables) (c.deref.ensures ∙ c.inputs-inputs.ensures.inputs) in
-    let entry : c.index-items-item.result ≡ item_at s i =
-    entry-is s c.items.result.now i c.item.result c.index-items-item.result _ (c.items.ensures.rows ∙ ap (λ (t : Tables). t.items) tables) c.item.ensures.item c.item.ensures.within c.index-items-item.is in
+    let entry : c.entry_of-entry.result ≡ item_at s i = c.entry_of-entry.ensures in
     let class : c.is_master.result ≡ is_master s i = c.is_master.ensures ∙ ap (λ (e : Item). items.is_master e.class) entry in
-    let inputs : c.deref-2.result.now ≡ s = c.deref-2.ensures ∙ c.inputs-inputs.ensures.inputs in
+    let inputs : c.deref.result.now ≡ s = c.deref.ensures ∙ c.inputs.ensures.inputs in
     record {
       supply = c.requires ∙ ap (λ (x : Inputs). supply_of x.tables) (sym inputs);
       kept = c.weeks-weeks.ensures.kept;
-      within = omega (arith, ap count inputs, c.item-2.ensures.within);
-      master = ap (λ (x : Inputs). is_master x c.item-2.result) inputs ∙ ap (is_master s) c.item-2.ensures.item ∙ sym class ∙ c.if-not-is_master.false;
+      within = omega (arith, ap count inputs, c.item.ensures.within);
+      master = ap (λ (x : Inputs). is_master x c.item.result) inputs ∙ ap (is_master s) c.item.ensures.item ∙ sym class ∙ c.if-not-is_master.false;
     }
 
 pub write-requires : goal.write-requires
 write-requires c =
     let s = c.args.planned.now.inputs in
     let i = c.args.planned.now.item in
-    let tables : c.tables.result.now ≡ s.tables = c.tables.ensures.value ∙ c.shop.ensures.tables ∙ ap (λ (x : Inputs). x.tables) (c.deref.ensures ∙ c.inputs-inputs.ensures.inputs) in
-    let entry : c.index-items-item.result ≡ item_at s i =
-    entry-is s c.items.result.now i c.item.result c.index-items-item.result _ (c.items.ensures.rows ∙ ap (λ (t : Tables). t.items) tables) c.item.ensures.item c.item.ensures.within c.index-items-item.is in
+    let entry : c.entry_of-entry.result ≡ item_at s i = c.entry_of-entry.ensures in
     let class : c.is_master.result ≡ is_master s i = c.is_master.ensures ∙ ap (λ (e : Item). items.is_master e.class) entry in
-    let inputs : c.deref-2.result.now ≡ s = c.deref-2.ensures ∙ c.inputs-inputs.ensures.inputs in
+    let inputs : c.deref.result.now ≡ s = c.deref.ensures ∙ c.inputs.ensures.inputs in
     is-promise-sheet _ s i (record {
       weeks_are = c.weeks-weeks.ensures.value ∙ ap (λ (x : Supply). x.weeks) c.requires;
       firm_is = c.as_slice.ensures ∙ ap (λ (k : Stock). k.scheduled) c.in_ok-stock.ensures;
-      row_is = c.in_ok-row.ensures.row ∙ ap (λ (x : Inputs). promises_of x c.item-2.result) inputs ∙ ap (promises_of s) c.item-2.ensures.item;
+      row_is = c.in_ok-row.ensures.row ∙ ap (λ (x : Inputs). promises_of x c.item.result) inputs ∙ ap (promises_of s) c.item.ensures.item;
       master = sym class ∙ c.if-not-is_master.false;
       supplied = subst IsSupply c.requires c.weeks-weeks.ensures.kept;
       stands = subst (λ (x : Supply). AreBooked x s.standing) c.requires (subst (λ (x : Inputs). AreBooked c.args.supply.now x.standing) inputs c.in_ok-row.ensures.stands);
@@ -63,11 +55,9 @@ pub returns : goal.returns
 returns c =
     let s = c.args.planned.now.inputs in
     let i = c.args.planned.now.item in
-    let tables : c.tables.result.now ≡ s.tables = c.tables.ensures.value ∙ c.shop.ensures.tables ∙ ap (λ (x : Inputs). x.tables) (c.deref.ensures ∙ c.inputs-inputs.ensures.inputs) in
-    let entry : c.index-items-item.result ≡ item_at s i =
-    entry-is s c.items.result.now i c.item.result c.index-items-item.result _ (c.items.ensures.rows ∙ ap (λ (t : Tables). t.items) tables) c.item.ensures.item c.item.ensures.within c.index-items-item.is in
+    let entry : c.entry_of-entry.result ≡ item_at s i = c.entry_of-entry.ensures in
     let class : c.is_master.result ≡ is_master s i = c.is_master.ensures ∙ ap (λ (e : Item). items.is_master e.class) entry in
-    let inputs : c.deref-2.result.now ≡ s = c.deref-2.ensures ∙ c.inputs-inputs.ensures.inputs in
+    let inputs : c.deref.result.now ≡ s = c.deref.ensures ∙ c.inputs.ensures.inputs in
     let sheet : PromiseSheet = record {
       weeks = c.weeks-weeks.result;
       firm = c.as_slice.result;
@@ -76,7 +66,7 @@ returns c =
     let of : IsPromiseSheetOf sheet s i = record {
       weeks_are = c.weeks-weeks.ensures.value ∙ ap (λ (x : Supply). x.weeks) c.requires;
       firm_is = c.as_slice.ensures ∙ ap (λ (k : Stock). k.scheduled) c.in_ok-stock.ensures;
-      row_is = c.in_ok-row.ensures.row ∙ ap (λ (x : Inputs). promises_of x c.item-2.result) inputs ∙ ap (promises_of s) c.item-2.ensures.item;
+      row_is = c.in_ok-row.ensures.row ∙ ap (λ (x : Inputs). promises_of x c.item.result) inputs ∙ ap (promises_of s) c.item.ensures.item;
       master = sym class ∙ c.if-not-is_master.false;
       supplied = subst IsSupply c.requires c.weeks-weeks.ensures.kept;
       stands = subst (λ (x : Supply). AreBooked x s.standing) c.requires (subst (λ (x : Inputs). AreBooked c.args.supply.now x.standing) inputs c.in_ok-row.ensures.stands);

@@ -1,83 +1,72 @@
-use Rattle.std.proofs.Common.{◌≡◌, ◌∙◌, ◌++◌, ℕ, List, [], length, ap, sym, subst, refl}
+use Rattle.std.proofs.Common.{◌≡◌, ◌∙◌, ◌+◌, ◌++◌, ◌<◌, ℕ, List, [], length, get_or, ap, sym, subst, refl, arith, rules}
 use Rattle.std.proofs.lemmas.List.{append-nil}
-use Rattle.mrp_report.specs.ReportText.{plan_text, promises_text, report_text}
+use Rattle.mrp_report.specs.ReportText.{report_text}
 use Rattle.mrp_report.specs.RunText.{run_text}
-use Rattle.mrp_report.proofs.ItemTexts.{report-is}
-use Rattle.mrp_report.proofs.Progress.{IsWritten, front-then, on-err, on-err-then, on-ok-then, written-more, written-none, written-passed, written-whole}
+use Rattle.mrp_report.specs.Sections.{section_text}
+use Rattle.mrp_report.specs.declared.section.Section.{Section}
+use Rattle.mrp_report.specs.declared.section.Section.TheVariants as section
+use Rattle.mrp_report.proofs.ListTexts.{so_far, to-come, whole}
+use Rattle.mrp_report.proofs.ListWritten.{next-passed, next-written}
+use Rattle.mrp_report.proofs.Progress.{IsWritten, front-now, front-then, on-err, on-err-then, given-up, on-ok-then, written-none, written-whole}
+use Rattle.mrp_report.proofs.SectionTexts.{in_order, report-is}
 use Rattle.mrp_report.proofs.report.write_report.Goals as goal
 
-pub returns-in_err-write_promises-clause-front : goal.returns-in_err-write_promises-clause-front
-returns-in_err-write_promises-clause-front g c =
-    let s = c.args.plan.now.inputs in
-    let run : List ℕ = run_text s.front (length s.standing) in
-    let page : c.write_run.new.page ≡ run = c.in_ok-write_run.ensures ∙ ap (λ (p : List ℕ). p ++ run) c.new-page.ensures in
-    let begun : IsWritten g.W.Write.contents c.args.writer.now c.args.writer.now 1000000 c.new-tries.result c.write_run.new.page run =
-    written-none g.W.Write.contents c.args.writer.now 1000000 c.new-tries.result c.write_run.new.page run c.new-tries.ensures page in
-    let promised : IsWritten g.W.Write.contents c.args.writer.now c.args.writer.now 1000000 c.new-tries.result (c.write_run.new.page ++ promises_text s) (run ++ promises_text s) =
-    written-more g.W.Write.contents c.args.writer.now c.args.writer.now 1000000 c.new-tries.result c.write_run.new.page (c.write_run.new.page ++ promises_text s) run (promises_text s) begun refl in
-    on-err c.from_residual-in_err-write_promises.result
-    (front-then g.W.Write.contents c.args.writer.now c.args.writer.now c.write_promises.new.writer 1000000 c.new-tries.result (c.write_run.new.page ++ promises_text s) (run ++ promises_text s) (plan_text s) (report_text s)
-    promised (report-is s) c.in_err-write_promises.ensures.front)
+pub returns-in_err-readings-clause-front : goal.returns-in_err-readings-clause-front
+returns-in_err-readings-clause-front g c =
+    let text : List ℕ = report_text c.args.plan.now.inputs in
+    on-err c.from_residual.result
+    (front-now g.W.Write.contents c.args.writer.now c.args.writer.now 1000000 1000000 [] [] text text (written-none g.W.Write.contents c.args.writer.now 1000000 1000000 [] [] refl refl) refl)
 
-pub returns-in_err-write_plan-clause-front : goal.returns-in_err-write_plan-clause-front
-returns-in_err-write_plan-clause-front g c =
+pub returns-in_err-write_section-clause-front : goal.returns-in_err-write_section-clause-front
+returns-in_err-write_section-clause-front g c =
     let s = c.args.plan.now.inputs in
     let run : List ℕ = run_text s.front (length s.standing) in
-    let page : c.write_run.new.page ≡ run = c.in_ok-write_run.ensures ∙ ap (λ (p : List ℕ). p ++ run) c.new-page.ensures in
-    let begun : IsWritten g.W.Write.contents c.args.writer.now c.args.writer.now 1000000 c.new-tries.result c.write_run.new.page run =
-    written-none g.W.Write.contents c.args.writer.now 1000000 c.new-tries.result c.write_run.new.page run c.new-tries.ensures page in
-    let promised : IsWritten g.W.Write.contents c.args.writer.now c.args.writer.now 1000000 c.new-tries.result (c.write_run.new.page ++ promises_text s) (run ++ promises_text s) =
-    written-more g.W.Write.contents c.args.writer.now c.args.writer.now 1000000 c.new-tries.result c.write_run.new.page (c.write_run.new.page ++ promises_text s) run (promises_text s) begun refl in
-    let passed : IsWritten g.W.Write.contents c.args.writer.now c.write_promises.new.writer 1000000 c.write_promises.new.tries c.write_promises.new.page (run ++ promises_text s) =
-    written-passed g.W.Write.contents c.args.writer.now c.args.writer.now c.write_promises.new.writer 1000000 c.new-tries.result c.write_promises.new.tries (c.write_run.new.page ++ promises_text s) c.write_promises.new.page
-    (run ++ promises_text s) promised c.in_ok-write_promises.ensures.tries c.in_ok-write_promises.ensures.passed in
-    let planned : IsWritten g.W.Write.contents c.args.writer.now c.write_promises.new.writer 1000000 c.write_promises.new.tries (c.write_promises.new.page ++ plan_text s) (run ++ promises_text s ++ plan_text s) =
-    written-more g.W.Write.contents c.args.writer.now c.write_promises.new.writer 1000000 c.write_promises.new.tries c.write_promises.new.page (c.write_promises.new.page ++ plan_text s) (run ++ promises_text s) (plan_text s) passed refl in
-    on-err c.from_residual-in_err-write_plan.result
-    (front-then g.W.Write.contents c.args.writer.now c.write_promises.new.writer c.write_plan.new.writer 1000000 c.write_promises.new.tries (c.write_promises.new.page ++ plan_text s) (run ++ promises_text s ++ plan_text s) []
-    (report_text s) planned (report-is s ∙ sym (append-nil (run ++ promises_text s ++ plan_text s))) c.in_err-write_plan.ensures.front)
+    let k = c.loop-section.section-index in
+    let x : Section = get_or in_order k section.Promises in
+    let next : IsWritten g.W.Write.contents c.args.writer.now c.loop-section.writer 1000000 c.loop-section.tries (c.loop-section.page ++ section_text s x) (so_far run (section_text s) in_order (k + 1)) =
+    next-written g.W.Write.contents c.args.writer.now c.loop-section.writer 1000000 c.loop-section.tries c.loop-section.page (c.loop-section.page ++ section_text s x) run (section_text s) in_order k x section.Promises
+    c.loop-section.invariant c.loop-section-test.true refl refl in
+    let (rest, is) = to-come run (section_text s) in_order (k + 1) in
+    on-err c.from_residual-in_err-write_section.result
+    (front-then g.W.Write.contents c.args.writer.now c.loop-section.writer c.write_section.new.writer 1000000 c.loop-section.tries (c.loop-section.page ++ section_text s x) (so_far run (section_text s) in_order (k + 1)) rest
+    (report_text s) next (report-is s ∙ is) c.in_err-write_section.ensures.front)
+
+pub loop-section-preserved : goal.loop-section-preserved
+loop-section-preserved g c =
+    let s = c.args.plan.now.inputs in
+    let run : List ℕ = run_text s.front (length s.standing) in
+    let k = c.loop-section.section-index in
+    next-passed g.W.Write.contents c.args.writer.now c.loop-section.writer c.write_section.new.writer 1000000 c.loop-section.tries c.write_section.new.tries c.loop-section.page c.write_section.new.page run (section_text s)
+    in_order k (get_or in_order k section.Promises) section.Promises c.loop-section.invariant c.loop-section-test.true refl c.in_ok-write_section.ensures.tries c.in_ok-write_section.ensures.passed
 
 pub returns-clause-whole : goal.returns-clause-whole
 returns-clause-whole g c =
     let s = c.args.plan.now.inputs in
     let run : List ℕ = run_text s.front (length s.standing) in
-    let page : c.write_run.new.page ≡ run = c.in_ok-write_run.ensures ∙ ap (λ (p : List ℕ). p ++ run) c.new-page.ensures in
-    let begun : IsWritten g.W.Write.contents c.args.writer.now c.args.writer.now 1000000 c.new-tries.result c.write_run.new.page run =
-    written-none g.W.Write.contents c.args.writer.now 1000000 c.new-tries.result c.write_run.new.page run c.new-tries.ensures page in
-    let promised : IsWritten g.W.Write.contents c.args.writer.now c.args.writer.now 1000000 c.new-tries.result (c.write_run.new.page ++ promises_text s) (run ++ promises_text s) =
-    written-more g.W.Write.contents c.args.writer.now c.args.writer.now 1000000 c.new-tries.result c.write_run.new.page (c.write_run.new.page ++ promises_text s) run (promises_text s) begun refl in
-    let passed : IsWritten g.W.Write.contents c.args.writer.now c.write_promises.new.writer 1000000 c.write_promises.new.tries c.write_promises.new.page (run ++ promises_text s) =
-    written-passed g.W.Write.contents c.args.writer.now c.args.writer.now c.write_promises.new.writer 1000000 c.new-tries.result c.write_promises.new.tries (c.write_run.new.page ++ promises_text s) c.write_promises.new.page
-    (run ++ promises_text s) promised c.in_ok-write_promises.ensures.tries c.in_ok-write_promises.ensures.passed in
-    let planned : IsWritten g.W.Write.contents c.args.writer.now c.write_promises.new.writer 1000000 c.write_promises.new.tries (c.write_promises.new.page ++ plan_text s) (run ++ promises_text s ++ plan_text s) =
-    written-more g.W.Write.contents c.args.writer.now c.write_promises.new.writer 1000000 c.write_promises.new.tries c.write_promises.new.page (c.write_promises.new.page ++ plan_text s) (run ++ promises_text s) (plan_text s) passed refl in
-    let written : IsWritten g.W.Write.contents c.args.writer.now c.write_plan.new.writer 1000000 c.write_plan.new.tries c.write_plan.new.page (report_text s) =
-    subst (λ (t : List ℕ). IsWritten g.W.Write.contents c.args.writer.now c.write_plan.new.writer 1000000 c.write_plan.new.tries c.write_plan.new.page t) (sym (report-is s))
-    (written-passed g.W.Write.contents c.args.writer.now c.write_promises.new.writer c.write_plan.new.writer 1000000 c.write_promises.new.tries c.write_plan.new.tries (c.write_promises.new.page ++ plan_text s)
-    c.write_plan.new.page (run ++ promises_text s ++ plan_text s) planned c.in_ok-write_plan.ensures.tries c.in_ok-write_plan.ensures.passed) in
+    let all : c.loop-section.section-index ≡ length in_order = omega (arith, c.loop-section-test.false, c.loop-section.auto.section-index-end) in
+    let written : IsWritten g.W.Write.contents c.args.writer.now c.loop-section.writer 1000000 c.loop-section.tries c.loop-section.page (report_text s) =
+    subst (λ (t : List ℕ). IsWritten g.W.Write.contents c.args.writer.now c.loop-section.writer 1000000 c.loop-section.tries c.loop-section.page t)
+    (whole run (section_text s) in_order c.loop-section.section-index all ∙ sym (report-is s)) c.loop-section.invariant in
     on-ok-then c.hand_over.result
-    (written-whole g.W.Write.contents c.args.writer.now c.write_plan.new.writer c.hand_over.new.writer c.write_plan.new.tries c.hand_over.new.tries c.write_plan.new.page (report_text s) written c.hand_over.ensures.tries)
+    (written-whole g.W.Write.contents c.args.writer.now c.loop-section.writer c.hand_over.new.writer c.loop-section.tries c.hand_over.new.tries c.loop-section.page (report_text s) written c.hand_over.ensures.tries)
     c.hand_over.ensures.whole
 
 pub returns-clause-front : goal.returns-clause-front
 returns-clause-front g c =
     let s = c.args.plan.now.inputs in
     let run : List ℕ = run_text s.front (length s.standing) in
-    let page : c.write_run.new.page ≡ run = c.in_ok-write_run.ensures ∙ ap (λ (p : List ℕ). p ++ run) c.new-page.ensures in
-    let begun : IsWritten g.W.Write.contents c.args.writer.now c.args.writer.now 1000000 c.new-tries.result c.write_run.new.page run =
-    written-none g.W.Write.contents c.args.writer.now 1000000 c.new-tries.result c.write_run.new.page run c.new-tries.ensures page in
-    let promised : IsWritten g.W.Write.contents c.args.writer.now c.args.writer.now 1000000 c.new-tries.result (c.write_run.new.page ++ promises_text s) (run ++ promises_text s) =
-    written-more g.W.Write.contents c.args.writer.now c.args.writer.now 1000000 c.new-tries.result c.write_run.new.page (c.write_run.new.page ++ promises_text s) run (promises_text s) begun refl in
-    let passed : IsWritten g.W.Write.contents c.args.writer.now c.write_promises.new.writer 1000000 c.write_promises.new.tries c.write_promises.new.page (run ++ promises_text s) =
-    written-passed g.W.Write.contents c.args.writer.now c.args.writer.now c.write_promises.new.writer 1000000 c.new-tries.result c.write_promises.new.tries (c.write_run.new.page ++ promises_text s) c.write_promises.new.page
-    (run ++ promises_text s) promised c.in_ok-write_promises.ensures.tries c.in_ok-write_promises.ensures.passed in
-    let planned : IsWritten g.W.Write.contents c.args.writer.now c.write_promises.new.writer 1000000 c.write_promises.new.tries (c.write_promises.new.page ++ plan_text s) (run ++ promises_text s ++ plan_text s) =
-    written-more g.W.Write.contents c.args.writer.now c.write_promises.new.writer 1000000 c.write_promises.new.tries c.write_promises.new.page (c.write_promises.new.page ++ plan_text s) (run ++ promises_text s) (plan_text s) passed refl in
-    let written : IsWritten g.W.Write.contents c.args.writer.now c.write_plan.new.writer 1000000 c.write_plan.new.tries c.write_plan.new.page (report_text s) =
-    subst (λ (t : List ℕ). IsWritten g.W.Write.contents c.args.writer.now c.write_plan.new.writer 1000000 c.write_plan.new.tries c.write_plan.new.page t) (sym (report-is s))
-    (written-passed g.W.Write.contents c.args.writer.now c.write_promises.new.writer c.write_plan.new.writer 1000000 c.write_promises.new.tries c.write_plan.new.tries (c.write_promises.new.page ++ plan_text s)
-    c.write_plan.new.page (run ++ promises_text s ++ plan_text s) planned c.in_ok-write_plan.ensures.tries c.in_ok-write_plan.ensures.passed) in
+    let all : c.loop-section.section-index ≡ length in_order = omega (arith, c.loop-section-test.false, c.loop-section.auto.section-index-end) in
+    let written : IsWritten g.W.Write.contents c.args.writer.now c.loop-section.writer 1000000 c.loop-section.tries c.loop-section.page (report_text s) =
+    subst (λ (t : List ℕ). IsWritten g.W.Write.contents c.args.writer.now c.loop-section.writer 1000000 c.loop-section.tries c.loop-section.page t)
+    (whole run (section_text s) in_order c.loop-section.section-index all ∙ sym (report-is s)) c.loop-section.invariant in
     on-err-then c.hand_over.result
-    (front-then g.W.Write.contents c.args.writer.now c.write_plan.new.writer c.hand_over.new.writer 1000000 c.write_plan.new.tries c.write_plan.new.page (report_text s) [] (report_text s) written
+    (front-then g.W.Write.contents c.args.writer.now c.loop-section.writer c.hand_over.new.writer 1000000 c.loop-section.tries c.loop-section.page (report_text s) [] (report_text s) written
     (sym (append-nil (report_text s))))
     c.hand_over.ensures.front
+
+pub returns-in_err-write_section-clause-refused : goal.returns-in_err-write_section-clause-refused
+returns-in_err-write_section-clause-refused g c refused =
+    let s = c.args.plan.now.inputs in
+    let run : List ℕ = run_text s.front (length s.standing) in
+    given-up g.W.Write.contents c.args.writer.now c.loop-section.writer c.write_section.new.writer 1000000 c.loop-section.tries c.loop-section.page
+    (so_far run (section_text s) in_order c.loop-section.section-index) c.loop-section.invariant (c.in_err-write_section.ensures.refused (search rules))

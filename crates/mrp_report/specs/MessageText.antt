@@ -1,0 +1,42 @@
+-- The section `messages` (profile).
+use Rattle.std.specs.Prelude.{ℕ, List, [], ◌∷◌, codes, Option, Some, None}
+use Rattle.mrp_tables.specs.Tables.{Tables}
+use Rattle.mrp_item.specs.declared.order.Order.{Order}
+use Rattle.mrp_notes.specs.declared.message.Advice.{Advice}
+use Rattle.mrp_notes.specs.declared.message.Advice.TheVariants as advice
+use Rattle.mrp_notes.specs.declared.message.Message.{Message}
+use Rattle.mrp_notes.specs.declared.message.Supplied.{Supplied}
+use Rattle.mrp_notes.specs.declared.message.Supplied.TheVariants as supplied
+use Rattle.mrp_report.specs.declared.source.Source.{Source}
+use Rattle.mrp_report.specs.declared.source.Source.TheVariants as source
+use Rattle.mrp_report.specs.Cells.{number_cell}
+use Rattle.mrp_report.specs.Section.{row, section_head}
+use Rattle.mrp_report.specs.SourceText.{source_name, source_word}
+
+abbrev pub messages_head : List ℕ
+messages_head = section_head (codes "[messages]") (codes "item" ∷ codes "supply" ∷ codes "source" ∷ codes "message" ∷ codes "value" ∷ [])
+
+abbrev pub source_told : Supplied → Source
+source_told (supplied.Receipt number) = source.Receipt number
+source_told (supplied.Order number) = source.Order number
+
+-- what is said of a supply (APICS Dictionary: action message)
+abbrev pub advice_word : Advice → List ℕ
+advice_word advice.Release = codes "RELEASE"
+advice_word (advice.PastDue weeks) = codes "PAST-DUE"
+advice_word (advice.Earlier week) = codes "IN"
+advice_word (advice.Later week) = codes "OUT"
+advice_word advice.Cancel = codes "CANCEL"
+
+-- the weeks that it is late, or the week in which it is needed
+abbrev pub advice_value : Advice → Option ℕ
+advice_value advice.Release = None
+advice_value (advice.PastDue weeks) = Some weeks
+advice_value (advice.Earlier week) = Some week
+advice_value (advice.Later week) = Some week
+advice_value advice.Cancel = None
+
+-- a message about an item with this name and these orders
+abbrev pub message_text : Tables → List ℕ → List Order → Message → List ℕ
+message_text t name orders m =
+    row (name ∷ source_word orders (source_told m.supply) ∷ source_name t (source_told m.supply) ∷ advice_word m.advice ∷ number_cell (advice_value m.advice) ∷ [])
