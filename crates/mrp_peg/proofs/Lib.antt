@@ -1,0 +1,11 @@
+pub mod Sums
+pub mod Counts
+pub mod UnitCounts
+pub mod Walk
+pub mod Loop
+pub mod Weekly
+pub mod Lists
+pub mod Own
+pub mod Loops
+pub mod Listed
+pub mod Totals

@@ -1,0 +1,112 @@
+-- One more step of the loops that list requirements and supplies.
+use Rattle.std.proofs.Common.{◌≡◌, ◌≢◌, ◌∙◌, ℕ, zero, suc, ◌+◌, ◌-◌, ◌<◌, ◌≤◌, List, [], ◌∷◌, ◌++◌, Bool, true, false, cond, length, take, map, set, get_or, Some, None, Option, rules, subst, refl, sym, ap, arith, append_assoc, add-one}
+use Rattle.std.specs.Prelude.{flat_map, nat_le, All, ◌==◌}
+use Rattle.mrp_qty.specs.Quantity.{greatest_quantity, quantity_of}
+use Rattle.std.specs.Int.{IsInRange}
+use Rattle.std.specs.List.{range_with_len}
+use Rattle.std.specs.Option.{IsSome}
+use Rattle.std.proofs.lemmas.Bool.{eqb-true, eqb-false, eq-eqb, ne_eqb, le-leb}
+use Rattle.std.proofs.lemmas.List.{map-append, append-nil}
+use Rattle.std.proofs.lemmas.List.Concat.{flat_map-append}
+use Rattle.mrp_phase.specs.Weeks.{in_week, row, weeks, with_week}
+use Rattle.mrp_phase.proofs.WeekRows.{in_week_at, in_week_next, in_week_row, length-row, row_is, row_same, weeks_more, with_week-row, with_week_at}
+use Rattle.mrp_item.specs.declared.due.Due.{Due}
+use Rattle.mrp_item.specs.declared.order.Order.{Order}
+use Rattle.mrp_item.specs.Dues.{due_sum}
+use Rattle.mrp_item.proofs.DueLemmas.{due_sum_more, one_due}
+use Rattle.mrp_peg.specs.Pegging.{Numbered, numbered_from}
+use Rattle.mrp_peg.specs.Rows.{beyond}
+
+-- one more order has the next number
+pub numbered_more : (n k : ℕ) (orders : List Order) (d : Order) → k < length orders → numbered_from n (take (k + 1) orders) ≡ numbered_from n (take k orders) ++ record { number = k + n; order = get_or orders k d } ∷ []
+numbered_more n k [] d h = absurd (omega (arith, h))
+numbered_more n zero (o ∷ orders) d h =
+    let none : n ≡ 0 + n = omega arith in
+    ap (λ j. record { number = j; order = o } ∷ []) none
+numbered_more n (suc k) (o ∷ orders) d h =
+    let next : suc k + 1 ≡ suc (k + 1) = omega arith in
+    let number : k + (n + 1) ≡ suc k + n = omega arith in
+    ap (λ j. numbered_from n (take j (o ∷ orders))) next
+    ∙ ap (λ l. record { number = n; order = o } ∷ l) (numbered_more (n + 1) k orders d (omega (arith, h)))
+    ∙ ap (λ j. record { number = n; order = o } ∷ (numbered_from (n + 1) (take k orders) ++ record { number = j; order = get_or orders k d } ∷ [])) number
+
+pub pushed_order : {Y : Type 0} (f : Numbered → Y) (old so_far now : List Y) (k : ℕ) (orders : List Order) (o : Order) → k < length orders → o ≡ get_or orders k o → so_far ≡ old ++ map f (numbered_from 1 (take k orders))
+    → now ≡ so_far ++ f (record { number = k + 1; order = o }) ∷ [] → now ≡ old ++ map f (numbered_from 1 (take (k + 1) orders))
+pushed_order f old so_far now k orders o h at is told =
+    told ∙ ap (λ l. l ++ f (record { number = k + 1; order = o }) ∷ []) is
+    ∙ ap (λ (x : Order). (old ++ map f (numbered_from 1 (take k orders))) ++ f (record { number = k + 1; order = x }) ∷ []) at
+    ∙ append_assoc old (map f (numbered_from 1 (take k orders))) (f (record { number = k + 1; order = get_or orders k o }) ∷ [])
+    ∙ ap (λ l. old ++ l) (sym (map-append f (numbered_from 1 (take k orders)) (record { number = k + 1; order = get_or orders k o } ∷ [])))
+    ∙ ap (λ l. old ++ map f l) (sym (numbered_more 1 k orders o h))
+
+-- the rows of one more week
+pub pushed_week : {Y : Type 0} (f : ℕ → List Y) (old so_far now : List Y) (k : ℕ) → so_far ≡ old ++ flat_map f (weeks k) → now ≡ so_far ++ f (k + 1) → now ≡ old ++ flat_map f (weeks (k + 1))
+pushed_week f old so_far now k is told =
+    let one : k + 1 ≡ suc k = omega arith in
+    told ∙ ap (λ l. l ++ f (k + 1)) is ∙ append_assoc old (flat_map f (weeks k)) (f (k + 1))
+    ∙ ap (λ l. old ++ (flat_map f (weeks k) ++ l)) (ap f one ∙ sym (append-nil (f (suc k))))
+    ∙ ap (λ l. old ++ l) (sym (flat_map-append f (weeks k) (suc k ∷ [])))
+    ∙ ap (λ ws. old ++ flat_map f ws) (sym (weeks_more k))
+    ∙ ap (λ j. old ++ flat_map f (weeks j)) (sym one)
+
+pub default_any : (xs : List ℕ) (k d e : ℕ) → k < length xs → get_or xs k d ≡ get_or xs k e
+default_any [] k d e h = absurd (omega (arith, h))
+default_any (x ∷ xs) zero d e h = refl
+default_any (x ∷ xs) (suc k) d e h = default_any xs k d e (omega (arith, h))
+
+-- what a week has at a place
+pub week_next : (xs : List ℕ) (at place x : ℕ) → at ≡ place → place < length xs → x ≡ get_or xs at x → x ≡ in_week xs (place + 1)
+week_next xs at place x e h is = is ∙ ap (λ j. get_or xs j x) e ∙ default_any xs place x 0 h ∙ sym (in_week_next xs place)
+
+pub no_bookings : (demand : List ℕ) → demand ≡ row (length demand) (beyond demand [])
+no_bookings demand = row_is demand (beyond demand []) (length demand) refl (λ t a b. plain (in_week demand t))
+  where
+    plain : (n : ℕ) → n ≡ n - 0
+    plain n = omega arith
+
+-- one more booking leaves its week less
+pub less_booked : (demand left : List ℕ) (bookings : List Due) (k : ℕ) (b : Due) (at here less : ℕ) → k < length bookings → b ≡ get_or bookings k b → IsInRange 1 (length demand) b.week → at ≡ b.week
+    → left ≡ row (length demand) (beyond demand (take k bookings)) → here ≡ get_or left (at - 1) here → less ≡ here - b.quantity
+    → set left (at - 1) less ≡ row (length demand) (beyond demand (take (k + 1) bookings))
+less_booked demand left bookings k b at here less h is within on so_far there told =
+    let was : in_week left b.week ≡ beyond demand (take k bookings) b.week = ap (λ l. in_week l b.week) so_far ∙ in_week_row (beyond demand (take k bookings)) (length demand) b.week (omega (arith, within.0)) within.1 in
+    let size : length left ≡ length demand = ap length so_far ∙ length-row (beyond demand (take k bookings)) (length demand) in
+    let own : here ≡ in_week left b.week = there ∙ ap (λ j. get_or left (j - 1) here) on ∙ default_any left (b.week - 1) here 0 (omega (arith, within.0, within.1, size)) ∙ sym (in_week_at left b.week (omega (arith, within.0))) in
+    let more : (t : ℕ) → due_sum (take (k + 1) bookings) t ≡ due_sum (take k bookings) t + one_due t b = λ t. due_sum_more bookings k b t h ∙ ap (λ x. due_sum (take k bookings) t + one_due t x) (sym is) in
+    let whole : one_due b.week b ≡ b.quantity = ap (λ t. cond t b.quantity 0) (eq-eqb b.week b.week refl) in
+    ap (λ j. set left (j - 1) less) on
+    ∙ sym (with_week_at left b.week less (omega (arith, within.0)))
+    ∙ ap (λ l. with_week l b.week less) so_far
+    ∙ with_week-row (beyond demand (take k bookings)) (beyond demand (take (k + 1) bookings)) (length demand) b.week less (omega (arith, within.0)) within.1
+    (omega (arith, told, own, was, more b.week, whole))
+    (λ other no. let none : one_due other b ≡ 0 = ap (λ t. cond t b.quantity 0) (ne_eqb b.week other (λ e. no (sym e))) in omega (arith, more other, none))
+
+-- a quantity that is there
+pub quantity_is : (q n : ℕ) → Some q ≡ quantity_of n → q ≡ n
+quantity_is q n e = by (nat_le n greatest_quantity) e
+  where
+    by : (b : Bool) → Some q ≡ cond b (Some n) None → q ≡ n
+    by true e = cc
+    by false e = absurd (cc)
+
+pub quantity_some : (o : Option ℕ) (n : ℕ) → o ≡ quantity_of n → n ≤ greatest_quantity → IsSome o
+quantity_some o n e within =
+    let there : quantity_of n ≡ Some n = ap (λ b. cond b (Some n) None) (le-leb n greatest_quantity within) in
+    let P : Option ℕ → Type 0 = λ x. IsSome x in
+    let some : IsSome (Some n) = search rules in
+    subst P (sym (e ∙ there)) some
+
+more_from : (a n : ℕ) → range_with_len a (n + 1) ≡ range_with_len a n ++ (a + n) ∷ []
+more_from a zero =
+    let plain : a ≡ a + 0 = omega arith in
+    ap (λ k. k ∷ []) plain
+more_from a (suc n) =
+    let next : suc n + 1 ≡ suc (n + 1) = omega arith in
+    let last : a + 1 + n ≡ a + suc n = omega arith in
+    ap (range_with_len a) next ∙ ap (λ l. a ∷ l) (more_from (a + 1) n) ∙ ap (λ k. a ∷ (range_with_len (a + 1) n ++ k ∷ [])) last
+
+-- one more number
+pub range_more : (n : ℕ) → range_with_len 0 (n + 1) ≡ range_with_len 0 n ++ n ∷ []
+range_more n =
+    let plain : 0 + n ≡ n = omega arith in
+    more_from 0 n ∙ ap (λ k. range_with_len 0 n ++ k ∷ []) plain

@@ -1,0 +1,120 @@
+-- The requirements of an item add up to its gross requirements.
+use Rattle.std.proofs.Common.{◌≡◌, ◌∙◌, ℕ, zero, suc, ◌+◌, ◌-◌, ◌*◌, ◌<◌, ◌≤◌, Bool, true, false, cond, List, [], ◌∷◌, ◌++◌, length, get_or, refl, sym, ap, arith, max}
+use Rattle.std.specs.Prelude.{◌==◌, filter, flat_map, map, sum, sum_by, nat_lt, if◌then◌else◌}
+use Rattle.std.proofs.lemmas.Bool.{ltb-true, ltb-false}
+use Rattle.std.proofs.lemmas.List.Sums.{sum_by-cons, sum_by-append, sum-map, get_or-le-sum_by}
+use Rattle.mrp_qty.specs.Quantity.{greatest_quantity}
+use Rattle.mrp_bill.specs.Bill.{line_at, lines_of}
+use Rattle.mrp_tables.specs.declared.rows.BillLine.{BillLine}
+use Rattle.mrp_book.specs.declared.booking.Booking.{Booking}
+use Rattle.mrp_phase.specs.Weeks.{row, weeks}
+use Rattle.mrp_item.specs.declared.order.Order.{Order}
+use Rattle.mrp_item.specs.Inputs.{Inputs, horizon, is_master}
+use Rattle.mrp_item.specs.Plan.{asked_by, gross_in, outcome_of, plan_in}
+use Rattle.mrp_item.specs.Rows.{booked, bookings_due, demand, forecast, lines_to}
+use Rattle.mrp_item.proofs.Parents.{lines-at}
+use Rattle.mrp_peg.specs.declared.peg.Need.{Need}
+use Rattle.mrp_peg.specs.declared.peg.NeedKind.TheVariants.{Booking as for_booking, Forecast, Parent}
+use Rattle.mrp_peg.specs.declared.matching.Wanted.{Wanted}
+use Rattle.mrp_peg.specs.Matching.{amount_wanted, amounts_wanted}
+use Rattle.mrp_peg.specs.Pegging.{Numbered, booking_needs, forecast_needs, line_needs, needed, needs_in, numbered_from, orders_in, parent_needs, requirements}
+use Rattle.mrp_peg.specs.Rows.{all_wanted, demand_wanted, line_wanted, order_wanted, parents_wanted}
+use Rattle.mrp_peg.specs.Units.{Amount, total}
+use Rattle.mrp_peg.specs.Weekly.{AreWithin, by_weeks}
+use Rattle.mrp_peg.specs.Own.{IsOwn, own_gross}
+use Rattle.mrp_peg.proofs.Listed.{requirements_are}
+use Rattle.mrp_peg.proofs.Lists.{sum_by-flat_map, sum_by_weeks}
+use Rattle.mrp_peg.proofs.Own.{gross-within}
+use Rattle.mrp_peg.proofs.Sums.{sum_by-agree, sum_by-map}
+
+numbered_kept : (g : Order → ℕ) (p : Order → Bool) (n : ℕ) (orders : List Order) → sum_by (λ (x : Numbered). g x.order) (filter (λ x. p x.order) (numbered_from n orders)) ≡ sum_by g (filter p orders)
+numbered_kept g p n [] = refl
+numbered_kept g p n (o ∷ orders) = by (p o) (numbered_kept g p (n + 1) orders)
+  where
+    rest : List Numbered
+    rest = filter (λ x. p x.order) (numbered_from (n + 1) orders)
+
+    by : (b : Bool) → sum_by (λ (x : Numbered). g x.order) (filter (λ x. p x.order) (numbered_from (n + 1) orders)) ≡ sum_by g (filter p orders)
+        → sum_by (λ (x : Numbered). g x.order) (cond b (record { number = n; order = o } ∷ filter (λ x. p x.order) (numbered_from (n + 1) orders)) (filter (λ x. p x.order) (numbered_from (n + 1) orders)))
+        ≡ sum_by g (cond b (o ∷ filter p orders) (filter p orders))
+    by true e = sum_by-cons (λ (x : Numbered). g x.order) (record { number = n; order = o }) rest ∙ ap (λ k. g o + k) e ∙ sym (sum_by-cons g o (filter p orders))
+    by false e = e
+
+numbered_sum : (g : Order → ℕ) (n : ℕ) (orders : List Order) → sum_by (λ (x : Numbered). g x.order) (numbered_from n orders) ≡ sum_by g orders
+numbered_sum g n [] = refl
+numbered_sum g n (o ∷ orders) =
+    sum_by-cons (λ (x : Numbered). g x.order) (record { number = n; order = o }) (numbered_from (n + 1) orders) ∙ ap (λ k. g o + k) (numbered_sum g (n + 1) orders) ∙ sym (sum_by-cons g o orders)
+
+abbrev units : {A : Type 0} → Amount A → ℕ
+units a = a.quantity
+
+line_total : (s : Inputs) (i w place : ℕ) → total (line_needs s i w place) ≡ asked_by (outcome_of s) w (line_at s.tables.bills place)
+line_total s i w place =
+    let line = line_at s.tables.bills place in
+    sum_by-map units (λ (n : Numbered). needed i w (Parent (place + 1) n.number) (n.order.start * line.per)) (filter (λ n. n.order.release == w) (orders_in s line.parent))
+    ∙ numbered_kept (λ o. o.start * line.per) (λ o. o.release == w) 1 (plan_in (outcome_of s line.parent)).orders
+
+parents_total : (s : Inputs) (i w : ℕ) → total (parent_needs s i w) ≡ sum_by (asked_by (outcome_of s) w) (lines_to s i)
+parents_total s i w =
+    let bills = s.tables.bills in
+    sum_by-flat_map units (line_needs s i w) (lines_of bills i)
+    ∙ sum_by-agree (λ place. total (line_needs s i w place)) (λ place. asked_by (outcome_of s) w (line_at bills place)) (line_total s i w) (lines_of bills i)
+    ∙ sym (sum_by-map (asked_by (outcome_of s) w) (line_at bills) (lines_of bills i))
+    ∙ ap (sum_by (asked_by (outcome_of s) w)) (lines-at bills i)
+
+forecast_total : (s : Inputs) (i w : ℕ) → total (forecast_needs s i w) ≡ forecast s i w - booked s i w
+forecast_total s i w = by (nat_lt (booked s i w) (forecast s i w)) refl
+  where
+    by : (b : Bool) → nat_lt (booked s i w) (forecast s i w) ≡ b → total (cond b (needed i w Forecast (forecast s i w - booked s i w) ∷ []) []) ≡ forecast s i w - booked s i w
+    by true e = omega (arith, sum_by-cons units (needed i w Forecast (forecast s i w - booked s i w)) [])
+    by false e = omega (arith, ltb-false (booked s i w) (forecast s i w) e)
+
+week_total : (s : Inputs) (i w : ℕ) → total (needs_in s i w) ≡ gross_in s i (outcome_of s) w
+week_total s i w = by (is_master s i)
+  where
+    by : (b : Bool) → total (cond b (booking_needs s i w ++ forecast_needs s i w) (parent_needs s i w)) ≡ cond b (demand s i w) (sum_by (asked_by (outcome_of s) w) (lines_to s i))
+    by true =
+        let bookings : total (booking_needs s i w) ≡ booked s i w = sum_by-map units (λ (b : Booking). needed i w (for_booking b.number) b.line.quantity) (bookings_due s i w) in
+        sum_by-append units (booking_needs s i w) (forecast_needs s i w) ∙ omega (arith, bookings, forecast_total s i w)
+    by false = parents_total s i w
+
+-- requirements are gross requirements
+pub requirements_total : (s : Inputs) (i : ℕ) → total (requirements s i) ≡ sum (own_gross s i)
+unfolding requirements row
+requirements_total s i =
+    sum_by-flat_map units (needs_in s i) (weeks (horizon s))
+    ∙ sum_by-agree (λ w. total (needs_in s i w)) (gross_in s i (outcome_of s)) (week_total s i) (weeks (horizon s))
+    ∙ sym (sum_by-map (λ n. n) (gross_in s i (outcome_of s)) (weeks (horizon s)))
+
+abbrev pieces : Wanted → ℕ
+pieces w = w.quantity
+
+wanted_total : (s : Inputs) (i : ℕ) → IsOwn s i → AreWithin (λ (w : Wanted). w.need.week) 1 (horizon s) (all_wanted s i) → sum_by pieces (all_wanted s i) ≡ sum (own_gross s i)
+wanted_total s i is within =
+    sym (sum_by_weeks pieces (λ (w : Wanted). w.need.week) 1 (horizon s) (all_wanted s i) within)
+    ∙ sym (sum_by-map units amount_wanted (by_weeks (λ (w : Wanted). w.need.week) (weeks (horizon s)) (all_wanted s i)))
+    ∙ ap total (requirements_are s i is) ∙ requirements_total s i
+
+-- what an order of a parent asks is a quantity
+pub asked_within : (s : Inputs) (i : ℕ) → IsOwn s i → is_master s i ≡ false → AreWithin (λ (w : Wanted). w.need.week) 1 (horizon s) (all_wanted s i)
+    → (k : ℕ) → k < length (lines_of s.tables.bills i) → (j : ℕ) (d : Order) → j < length (plan_in (outcome_of s (line_at s.tables.bills (get_or (lines_of s.tables.bills i) k 0)).parent)).orders
+    → (get_or (plan_in (outcome_of s (line_at s.tables.bills (get_or (lines_of s.tables.bills i) k 0)).parent)).orders j d).start * (line_at s.tables.bills (get_or (lines_of s.tables.bills i) k 0)).per ≤ greatest_quantity
+asked_within s i is part within k h j d g =
+    let bills = s.tables.bills in
+    let places = lines_of bills i in
+    let place = get_or places k 0 in
+    let line = line_at bills place in
+    let orders = (plan_in (outcome_of s line.parent)).orders in
+    let one : sum_by (λ (o : Order). o.start * line.per) orders ≡ sum_by pieces (line_wanted s i place) =
+    sym (sum_by-map pieces (order_wanted i (place + 1) line.per) (orders_in s line.parent) ∙ numbered_sum (λ (o : Order). o.start * line.per) 1 orders) in
+    let all : sum_by (λ p. sum_by pieces (line_wanted s i p)) places ≡ sum_by pieces (all_wanted s i) =
+    sym (sum_by-flat_map pieces (line_wanted s i) places) ∙ ap (λ b. sum_by pieces (cond b (demand_wanted s i) (parents_wanted s i))) (sym part) in
+    omega (
+      arith,
+      get_or-le-sum_by (λ (o : Order). o.start * line.per) orders j d g,
+      one,
+      get_or-le-sum_by (λ p. sum_by pieces (line_wanted s i p)) places k 0 h,
+      all,
+      wanted_total s i is within,
+      gross-within s i is,
+    )

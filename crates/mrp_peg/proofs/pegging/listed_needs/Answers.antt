@@ -1,0 +1,66 @@
+use Rattle.std.proofs.Common.{◌≡◌, ◌∙◌, ◌++◌, ℕ, List, length, map, sym, ap, subst, arith, cond, true, false}
+use Rattle.std.specs.Prelude.{All, IfOk, flat_map}
+use Rattle.std.specs.Int.{IsInRange}
+use Rattle.mrp_phase.specs.Weeks.{row, weeks}
+use Rattle.mrp_item.specs.declared.due.Due.{Due}
+use Rattle.mrp_item.specs.Dues.{booking_dues}
+use Rattle.mrp_item.specs.Inputs.{Inputs, horizon, is_master}
+use Rattle.mrp_item.specs.Places.{PlannedItem}
+use Rattle.mrp_item.specs.Plan.{outcome_of, plan_in}
+use Rattle.mrp_peg.specs.declared.matching.Wanted.{Wanted}
+use Rattle.mrp_peg.specs.Rows.{beyond, booking_wanted, demand_wanted, forecast_wanted, parents_wanted}
+use Rattle.mrp_peg.proofs.Listed.{bookings_within}
+use Rattle.mrp_peg.proofs.Own.{gross-length}
+use Rattle.mrp_peg.proofs.pegging.listed_needs.Goals as goal
+
+pub demand_of-requires : goal.demand_of-requires
+demand_of-requires c =
+    let s = c.args.plan.now.inputs in
+    let x = c.deref-inputs.result.now in
+    let i = c.args.item in
+    let e : x ≡ s = c.deref-inputs.ensures ∙ c.inputs.ensures.inputs in
+    let gross : c.as_slice.result.now ≡ (plan_in (outcome_of s i)).gross = c.as_slice.ensures ∙ c.gross-demand.ensures.gross ∙ ap (λ (p : PlannedItem). p.plan.gross) c.item.ensures in
+    let size : length c.as_slice.result.now ≡ horizon s = ap length gross ∙ gross-length s i c.requires.own in
+    let same : horizon x ≡ horizon s = ap (λ (y : Inputs). horizon y) e in
+    let P : List Due → Type 0 = λ l. All (λ (d : Due). IsInRange 1 (horizon x) d.week) l in
+    let all = subst P (sym c.bookings.ensures.dues) (bookings_within x i c.bookings.ensures.booked) in
+    record {
+      weeks = omega (arith, size, same, c.weeks-weeks.ensures.value, c.weeks-weeks.ensures.within);
+      within = λ k d h. let r = all k d h in (r.0, omega (arith, r.1, size, same));
+    }
+
+pub parents_of-requires : goal.parents_of-requires
+parents_of-requires c =
+    let e = c.deref-inputs.ensures ∙ c.inputs.ensures.inputs in
+    record {
+      item = c.requires.item;
+      part = sym (ap (λ (y : Inputs). is_master y c.args.item) e) ∙ sym c.is_master_item.ensures ∙ c.if-is_master_item.false;
+      own = c.requires.own;
+      within = c.requires.within;
+    }
+
+pub returns-then-is_master_item : goal.returns-then-is_master_item
+returns-then-is_master_item c =
+    let s = c.args.plan.now.inputs in
+    let i = c.args.item in
+    let e : c.deref-inputs.result.now ≡ s = c.deref-inputs.ensures ∙ c.inputs.ensures.inputs in
+    let master : is_master s i ≡ true = sym (ap (λ (y : Inputs). is_master y i) e) ∙ sym c.is_master_item.ensures ∙ c.if-is_master_item.true in
+    let gross : c.as_slice.result.now ≡ (plan_in (outcome_of s i)).gross = c.as_slice.ensures ∙ c.gross-demand.ensures.gross ∙ ap (λ (p : PlannedItem). p.plan.gross) c.item.ensures in
+    let size : length c.as_slice.result.now ≡ horizon s = ap length gross ∙ gross-length s i c.requires.own in
+    let dues : c.bookings.result.now ≡ booking_dues s.standing i = c.bookings.ensures.dues ∙ ap (λ (y : Inputs). booking_dues y.standing i) e in
+    let F : List Due → List ℕ → ℕ → List Wanted = λ b g n. map (booking_wanted i) b ++ flat_map (forecast_wanted i (row n (beyond g b))) (weeks n) in
+    let whole = ap (λ b. F b c.as_slice.result.now (length c.as_slice.result.now)) dues
+    ∙ ap (λ g. F (booking_dues s.standing i) g (length c.as_slice.result.now)) gross
+    ∙ ap (λ n. F (booking_dues s.standing i) (plan_in (outcome_of s i)).gross n) size
+    ∙ sym (ap (λ b. cond b (demand_wanted s i) (parents_wanted s i)) master) in
+    let Q : List Wanted → Type 0 = λ l. IfOk c.demand_of.result (λ needs. needs.items ≡ l) in
+    subst Q whole c.demand_of.ensures
+
+pub returns-else-is_master_item : goal.returns-else-is_master_item
+returns-else-is_master_item c =
+    let s = c.args.plan.now.inputs in
+    let i = c.args.item in
+    let e : c.deref-inputs.result.now ≡ s = c.deref-inputs.ensures ∙ c.inputs.ensures.inputs in
+    let part : is_master s i ≡ false = sym (ap (λ (y : Inputs). is_master y i) e) ∙ sym c.is_master_item.ensures ∙ c.if-is_master_item.false in
+    let Q : List Wanted → Type 0 = λ l. IfOk c.parents_of.result (λ needs. needs.items ≡ l) in
+    subst Q (sym (ap (λ b. cond b (demand_wanted s i) (parents_wanted s i)) part)) c.parents_of.ensures

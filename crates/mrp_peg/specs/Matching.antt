@@ -1,0 +1,35 @@
+-- What the program's rows of requirements and supplies are.
+use Rattle.std.specs.Prelude.{ℕ, List, map, drop, [], ◌∷◌}
+use Rattle.mrp_peg.specs.declared.peg.Need.{Need}
+use Rattle.mrp_peg.specs.declared.peg.Supplied.{Supplied}
+use Rattle.mrp_peg.specs.declared.peg.Peg.{Peg}
+use Rattle.mrp_peg.specs.declared.matching.Wanted.{Wanted}
+use Rattle.mrp_peg.specs.declared.matching.Offered.{Offered}
+use Rattle.mrp_peg.specs.Units.{Amount, Match}
+
+abbrev pub amount_wanted : Wanted → Amount Need
+amount_wanted w = record { of = w.need; quantity = w.quantity }
+
+abbrev pub amounts_wanted : List Wanted → List (Amount Need)
+amounts_wanted needs = map amount_wanted needs
+
+abbrev pub amount_offered : Offered → Amount Supplied
+amount_offered o = record { of = o.supply; quantity = o.quantity }
+
+abbrev pub amounts_offered : List Offered → List (Amount Supplied)
+amounts_offered supplies = map amount_offered supplies
+
+-- the pieces of the first, and 0 if there is none
+abbrev pub first_quantity : {A : Type 0} → List (Amount A) → ℕ
+first_quantity [] = 0
+first_quantity (a ∷ row) = a.quantity
+
+abbrev pub wanted_from : List Wanted → ℕ → ℕ
+wanted_from needs place = first_quantity (amounts_wanted (drop place needs))
+
+abbrev pub offered_from : List Offered → ℕ → ℕ
+offered_from supplies place = first_quantity (amounts_offered (drop place supplies))
+
+-- a match of an item's requirements and supplies, as a peg
+abbrev pub peg_of : ℕ → Match Need Supplied → Peg
+peg_of item m = record { item = item; need = m.need; supply = m.supply; quantity = m.quantity }

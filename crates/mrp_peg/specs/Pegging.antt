@@ -1,0 +1,81 @@
+-- The requirements and the supplies of an item, and its pegs (Orlicky: pegging; profile: piece by piece, first to first).
+use Rattle.std.specs.Prelude.{ℕ, ◌+◌, ◌-◌, ◌*◌, ◌==◌, ◌++◌, nat_lt, if◌then◌else◌, List, [], ◌∷◌, map, filter, flat_map}
+use Rattle.mrp_bill.specs.Bill.{line_at, lines_of}
+use Rattle.mrp_phase.specs.Weeks.{weeks}
+use Rattle.mrp_item.specs.declared.order.Order.{Order}
+use Rattle.mrp_item.specs.Inputs.{Inputs, horizon, is_master, places}
+use Rattle.mrp_item.specs.Plan.{outcome_of, plan_in}
+use Rattle.mrp_item.specs.Rows.{booked, bookings_due, forecast, on_hand, open_receipts}
+use Rattle.mrp_peg.specs.declared.peg.Need.{Need}
+use Rattle.mrp_peg.specs.declared.peg.NeedKind.{NeedKind}
+use Rattle.mrp_peg.specs.declared.peg.NeedKind.TheVariants.{Booking, Forecast, Parent}
+use Rattle.mrp_peg.specs.declared.peg.Supplied.{Supplied}
+use Rattle.mrp_peg.specs.declared.peg.Supplied.TheVariants as supplied
+use Rattle.mrp_peg.specs.declared.peg.Peg.{Peg}
+use Rattle.mrp_peg.specs.Matching.{peg_of}
+use Rattle.mrp_peg.specs.Units.{Amount, matches}
+
+-- an order with its number
+pub record Numbered : Type 0 where
+  pub number : ℕ
+  pub order : Order
+
+-- orders with their numbers, from n on
+abbrev pub numbered_from : ℕ → List Order → List Numbered
+numbered_from n [] = []
+numbered_from n (order ∷ orders) = record { number = n; order = order } ∷ numbered_from (n + 1) orders
+
+-- the orders of an item in the plan; an order's number is its place from 1
+abbrev pub orders_in : Inputs → ℕ → List Numbered
+orders_in s i = numbered_from 1 (plan_in (outcome_of s i)).orders
+
+abbrev pub needed : ℕ → ℕ → NeedKind → ℕ → Amount Need
+needed i week kind quantity = record { of = record { item = i; week = week; kind = kind }; quantity = quantity }
+
+-- what the bookings of a week need, in order of the bookings
+abbrev pub booking_needs : Inputs → ℕ → ℕ → List (Amount Need)
+booking_needs s i week = map (λ b. needed i week (Booking b.number) b.line.quantity) (bookings_due s i week)
+
+-- what the forecast of a week has beyond the bookings, where it has more
+abbrev pub forecast_needs : Inputs → ℕ → ℕ → List (Amount Need)
+forecast_needs s i week =
+    if nat_lt (booked s i week) (forecast s i week) then needed i week Forecast (forecast s i week - booked s i week) ∷ [] else []
+
+-- what the line at a place of the bill asks of its component for the parent's orders that are released in a week, by order
+abbrev pub line_needs : Inputs → ℕ → ℕ → ℕ → List (Amount Need)
+line_needs s i week place =
+    let line = line_at s.tables.bills place in
+    map (λ n. needed i week (Parent (place + 1) n.number) (n.order.start * line.per)) (filter (λ n. n.order.release == week) (orders_in s line.parent))
+
+-- what parents ask in a week, by bill record and then by order
+abbrev pub parent_needs : Inputs → ℕ → ℕ → List (Amount Need)
+parent_needs s i week = flat_map (line_needs s i week) (lines_of s.tables.bills i)
+
+-- the requirements of a week: of a master item bookings and forecast, of another what parents ask
+abbrev pub needs_in : Inputs → ℕ → ℕ → List (Amount Need)
+needs_in s i week = if is_master s i then booking_needs s i week ++ forecast_needs s i week else parent_needs s i week
+
+-- the requirements of an item, week by week
+unfoldable pub requirements : Inputs → ℕ → List (Amount Need)
+requirements s i = flat_map (needs_in s i) (weeks (horizon s))
+
+abbrev pub supply : Supplied → ℕ → Amount Supplied
+supply what quantity = record { of = what; quantity = quantity }
+
+-- what comes in a week: open receipts in table order, then orders by number, firm ones before the planned one
+abbrev pub supplies_in : Inputs → ℕ → ℕ → List (Amount Supplied)
+supplies_in s i week =
+    map (λ r. supply (supplied.Receipt r.number) r.quantity) (open_receipts s i week)
+    ++ map (λ n. supply (supplied.Order n.number) n.order.quantity) (filter (λ n. n.order.due == week) (orders_in s i))
+
+-- the supplies of an item: what is on hand, then week by week
+unfoldable pub supplies : Inputs → ℕ → List (Amount Supplied)
+supplies s i = supply supplied.Stock (on_hand s i) ∷ flat_map (supplies_in s i) (weeks (horizon s))
+
+-- the pegs of an item
+unfoldable pub pegs_of : Inputs → ℕ → List Peg
+pegs_of s i = map (peg_of i) (matches (requirements s i) (supplies s i))
+
+-- the pegs of a plan, in table order of the items
+abbrev pub plan_pegs : Inputs → List Peg
+plan_pegs s = flat_map (pegs_of s) (places s)

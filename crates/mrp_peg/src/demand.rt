@@ -1,0 +1,101 @@
+//! What the bookings and the forecasts of a master item need.
+
+ghost use Rattle.std.specs.Prelude.{◌≡◌, ◌≤◌, ◌++◌, ◌∷◌, [], length, map, nat_lt, flat_map, if◌then◌else◌, All, IfOk, OnOk};
+ghost use Rattle.std.specs.Int.{IsInRange};
+ghost use Rattle.mrp_phase.specs.Weeks.{row, weeks};
+ghost use Rattle.mrp_peg.specs.Rows.{beyond, booking_wanted, forecast_wanted};
+
+use crate::matching::{Wanted, less};
+use crate::peg::{Need, NeedKind};
+use mrp_item::Due;
+use mrp_qty::{NoMemory, Qty};
+use std::alloc::Global;
+
+// Adds what each booking needs.
+fn add_bookings(needs: &mut Vec<Wanted>, item: usize, bookings: &[Due]) -> Result<(), NoMemory>
+    ensures { OnOk result (needs.new.items ≡ needs.old.items ++ map (booking_wanted item) bookings.now) }
+{
+    for booking in bookings {
+        let need = Need {
+            item,
+            week: booking.week,
+            kind: NeedKind::Booking(booking.number),
+        };
+        let quantity = booking.quantity;
+        needs.push(Wanted { need, quantity })?;
+    }
+    Ok(())
+}
+
+fn copy_of(alloc: Global, quantities: &[Qty]) -> Result<Vec<Qty>, NoMemory>
+    ensures { IfOk result (λ copy. copy.items ≡ quantities.now) }
+{
+    let mut copy = Vec::with_capacity(alloc, quantities.len())?;
+    for quantity in quantities {
+        copy.push(*quantity)?;
+    }
+    Ok(copy)
+}
+
+// What the demand of each week has beyond the bookings.
+fn left_over(alloc: Global, demand: &[Qty], bookings: &[Due]) -> Result<Vec<Qty>, NoMemory>
+    requires { All (λ due. IsInRange 1 (length demand.now) due.week) bookings.now }
+    ensures { IfOk result (λ left. left.items ≡ row (length demand.now) (beyond demand.now bookings.now)) }
+{
+    let mut left = copy_of(alloc, demand)?;
+    for booking in bookings {
+        let place = usize::from(booking.week) - 1;
+        left[place] = less(left[place], booking.quantity);
+    }
+    Ok(left)
+}
+
+// Adds what the forecast of a week needs, if it has pieces.
+fn add_forecast(
+    needs: &mut Vec<Wanted>,
+    item: usize,
+    week: u16,
+    quantity: Qty,
+) -> Result<(), NoMemory>
+    ensures { OnOk result (needs.new.items ≡ needs.old.items ++ (if nat_lt 0 quantity then record { need = record { item = item; week = week; kind = NeedKind.Forecast }; quantity = quantity } ∷ [] else [])) }
+{
+    if quantity.value() > 0 {
+        let need = Need {
+            item,
+            week,
+            kind: NeedKind::Forecast,
+        };
+        needs.push(Wanted { need, quantity })?;
+    }
+    Ok(())
+}
+
+// Adds what the forecast of each week needs, from what it has beyond the bookings.
+fn add_forecasts(needs: &mut Vec<Wanted>, item: usize, left: &[Qty]) -> Result<(), NoMemory>
+    requires { length left.now ≤ 104 }
+    ensures { OnOk result (needs.new.items ≡ needs.old.items ++ flat_map (forecast_wanted item left.now) (weeks (length left.now))) }
+{
+    for place in 0..left.len() as u16 {
+        add_forecast(needs, item, place + 1, left[usize::from(place)])?;
+    }
+    Ok(())
+}
+
+// What bookings and forecasts need of a master item, given its demand by week: the bookings by
+// number, then the forecasts by week.
+pub fn demand_of(
+    alloc: Global,
+    item: usize,
+    demand: &[Qty],
+    bookings: &[Due],
+) -> Result<Vec<Wanted>, NoMemory>
+    requires weeks { length demand.now ≤ 104 }
+    requires within { All (λ due. IsInRange 1 (length demand.now) due.week) bookings.now }
+    ensures { IfOk result (λ needs. needs.items ≡ map (booking_wanted item) bookings.now ++ flat_map (forecast_wanted item (row (length demand.now) (beyond demand.now bookings.now))) (weeks (length demand.now))) }
+{
+    let mut needs = Vec::new(alloc);
+    add_bookings(&mut needs, item, bookings)?;
+    let left = left_over(alloc, demand, bookings)?;
+    add_forecasts(&mut needs, item, left.as_slice())?;
+    Ok(needs)
+}

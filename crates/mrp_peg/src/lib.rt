@@ -1,0 +1,14 @@
+//! Pegging: what each requirement of an item is served by, and what it goes back to.
+#![tactic(auto)]
+
+mod demand;
+pub mod laws;
+mod matching;
+mod ordering;
+mod parents;
+mod peg;
+mod pegging;
+mod supplies;
+
+pub use peg::{Cause, Need, NeedKind, Peg, Supplied};
+pub use pegging::{item_pegs, pegs};

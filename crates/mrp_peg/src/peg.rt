@@ -1,0 +1,80 @@
+//! What needs an item, what serves the need, and what a need goes back to.
+
+use mrp_qty::Qty;
+
+/// What needs pieces of an item.
+#[derive(Clone, Copy, Debug, PartialEq, Eq)]
+pub enum NeedKind {
+    /// The booking with this number.
+    Booking(u64),
+    /// The forecast, as far as it is above the bookings.
+    Forecast,
+    /// An order of a parent.
+    Parent {
+        /// The record number of the bill line, from 1.
+        line: usize,
+        /// The parent's order, by its number from 1.
+        order: usize,
+    },
+}
+
+/// A requirement of an item (Orlicky: gross requirement).
+#[derive(Clone, Copy, Debug, PartialEq, Eq)]
+pub struct Need {
+    /// The item, by its place.
+    pub item: usize,
+    /// The week in which it is needed: for a parent's order that in which it is released.
+    pub week: u16,
+    /// What needs it.
+    pub kind: NeedKind,
+}
+
+/// What serves the requirements of an item.
+#[derive(Clone, Copy, Debug, PartialEq, Eq)]
+pub enum Supplied {
+    /// What is on hand.
+    Stock,
+    /// The open receipt with this record number, from 1.
+    Receipt(u64),
+    /// The item's order with this number, from 1.
+    Order(usize),
+}
+
+/// Pieces of a supply that serve a requirement, or that no requirement takes (Orlicky: pegging).
+#[derive(Clone, Copy, Debug, PartialEq, Eq)]
+pub struct Peg {
+    /// The item, by its place.
+    pub item: usize,
+    /// The requirement; None for surplus.
+    pub need: Option<Need>,
+    /// The supply.
+    pub supply: Supplied,
+    /// The pieces, at least 1.
+    pub quantity: Qty,
+}
+
+/// What a requirement goes back to.
+#[derive(Clone, Copy, Debug, PartialEq, Eq)]
+pub enum Cause {
+    /// A booking of a master item.
+    Booking {
+        /// The master item, by its place.
+        item: usize,
+        /// The booking's number.
+        number: u64,
+    },
+    /// The forecast of a master item in a week, as far as it is above the bookings.
+    Forecast {
+        /// The master item, by its place.
+        item: usize,
+        /// The week.
+        week: u16,
+    },
+    /// What an order has beyond all requirements of its item.
+    Surplus {
+        /// The item, by its place.
+        item: usize,
+        /// The item's order, by its number from 1.
+        order: usize,
+    },
+}

@@ -1,0 +1,90 @@
+//! The pegs of an item and of a plan.
+
+ghost use Rattle.std.specs.Prelude.{◌≡◌, ◌<◌, IfOk};
+ghost use Rattle.mrp_item.specs.Inputs.{count, horizon, is_master};
+ghost use Rattle.mrp_peg.specs.Own.{IsOwn};
+ghost use Rattle.mrp_peg.specs.Weekly.{AreWithin};
+ghost use Rattle.mrp_peg.specs.Matching.{amounts_wanted};
+ghost use Rattle.mrp_peg.specs.Pegging.{pegs_of, plan_pegs, requirements};
+ghost use Rattle.mrp_peg.specs.Rows.{all_wanted};
+
+use crate::demand::demand_of;
+use crate::matching::{Wanted, matched};
+use crate::ordering::sort_needs;
+use crate::parents::parents_of;
+use crate::peg::Peg;
+use crate::supplies::supplies_of;
+use mrp_item::{Inputs, Plan};
+use mrp_qty::NoMemory;
+use mrp_tables::Class;
+use std::alloc::Global;
+
+// Whether the master schedule plans an item.
+fn is_master_item(inputs: &Inputs, item: usize) -> bool
+    requires { item < count inputs.now }
+    ensures { result ≡ is_master inputs.now item }
+{
+    match inputs.shop().tables().items()[item].class {
+        Class::Master => true,
+        Class::Part => false,
+    }
+}
+
+// The requirements of an item, in no order of weeks.
+fn listed_needs(alloc: Global, plan: &Plan, item: usize) -> Result<Vec<Wanted>, NoMemory>
+    requires item { item < count plan.now.inputs }
+    requires own { IsOwn plan.now.inputs item }
+    requires within { AreWithin (λ wanted. wanted.need.week) 1 (horizon plan.now.inputs) (all_wanted plan.now.inputs item) }
+    ensures { IfOk result (λ needs. needs.items ≡ all_wanted plan.now.inputs item) }
+{
+    let inputs: &Inputs = plan.inputs();
+    let _weeks = inputs.weeks();
+    if is_master_item(inputs, item) {
+        let demand = plan.item(item).gross();
+        demand_of(alloc, item, demand.as_slice(), inputs.bookings(item))
+    } else {
+        parents_of(alloc, plan, item)
+    }
+}
+
+// The requirements of an item, in order.
+fn needs_of(alloc: Global, plan: &Plan, item: usize) -> Result<Vec<Wanted>, NoMemory>
+    requires { item < count plan.now.inputs }
+    ensures { IfOk result (λ needs. amounts_wanted needs.items ≡ requirements plan.now.inputs item) }
+{
+    let inputs: &Inputs = plan.inputs();
+    let _planned = plan.item(item).inputs();
+    let _ranked = inputs.shop();
+    let _booked = inputs.snapshot();
+    let mut needs = listed_needs(alloc, plan, item)?;
+    sort_needs(&mut needs)?;
+    Ok(needs)
+}
+
+/// The pegs of an item, by its place, in order of requirement and supply, surplus last (Orlicky:
+/// pegging; profile: the first piece required is served by the first piece supplied, and so on). The
+/// caller owes that the shop has the item.
+///
+/// Errors: `NoMemory` where memory is refused.
+pub fn item_pegs(alloc: Global, plan: &Plan, item: usize) -> Result<Vec<Peg>, NoMemory>
+    requires { item < count plan.now.inputs }
+    ensures pegs { IfOk result (λ pegs. pegs.items ≡ pegs_of plan.now.inputs item) }
+{
+    let needs = needs_of(alloc, plan, item)?;
+    let supplies = supplies_of(alloc, plan, item)?;
+    matched(alloc, item, &needs, &supplies)
+}
+
+/// The pegs of all items, in table order.
+///
+/// Errors: `NoMemory` where memory is refused.
+pub fn pegs(alloc: Global, plan: &Plan) -> Result<Vec<Peg>, NoMemory>
+    ensures { IfOk result (λ pegs. pegs.items ≡ plan_pegs plan.now.inputs) }
+{
+    let mut all = Vec::new(alloc);
+    for item in 0..plan.inputs().shop().tables().items().len() {
+        let mut pegs = item_pegs(alloc, plan, item)?;
+        all.append(&mut pegs)?;
+    }
+    Ok(all)
+}
