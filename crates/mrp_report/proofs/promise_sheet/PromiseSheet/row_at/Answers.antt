@@ -1,8 +1,8 @@
-use Rattle.std.proofs.Common.{◌≡◌, ◌∙◌, ◌+◌, ◌≤◌, ◌<◌, ℕ, length, sym, arith}
+use Rattle.std.proofs.Common.{◌≡◌, ◌∙◌, ◌+◌, ◌<◌, ℕ, length, sym, arith}
 use Rattle.mrp_phase.specs.Weeks.{in_week}
 use Rattle.mrp_phase.proofs.WeekRows.{in_week_next}
 use Rattle.mrp_master.specs.AtpRow.{IsWeekOf, bucket, buckets_to}
-use Rattle.mrp_report.specs.PromiseSheet.{IsLeftTo, available_in}
+use Rattle.mrp_report.specs.PromiseSheet.{available_in}
 use Rattle.mrp_report.proofs.PromiseSums.{available-left, left-more}
 use Rattle.mrp_report.proofs.SheetRows.{read-at}
 use Rattle.mrp_report.proofs.promise_sheet.PromiseSheet.row_at.Goals as goal

@@ -13,6 +13,6 @@ loop-place-init c = record {
 pub loop-place-preserved : goal.loop-place-preserved
 loop-place-preserved c = record {
   page = texts_more (promise_text c.args.name.now) (sheet_promise c.args.self.now) c.loop-place.place c.loop-place.page c.promise_row.new.page c.args.page.now c.row_at-row.result
-  c.loop-place.invariant.page c.row_at-row.ensures.value c.in_ok-promise_row.ensures;
+      c.loop-place.invariant.page c.row_at-row.ensures.value c.in_ok-promise_row.ensures;
   left = c.row_at-row.ensures.left;
 }
