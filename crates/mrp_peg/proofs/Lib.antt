@@ -9,3 +9,4 @@ pub mod Own
 pub mod Loops
 pub mod Listed
 pub mod Totals
+pub mod Covered

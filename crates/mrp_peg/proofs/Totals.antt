@@ -27,7 +27,7 @@ use Rattle.mrp_peg.proofs.Lists.{sum_by-flat_map, sum_by_weeks}
 use Rattle.mrp_peg.proofs.Own.{gross-within}
 use Rattle.mrp_peg.proofs.Sums.{sum_by-agree, sum_by-map}
 
-numbered_kept : (g : Order → ℕ) (p : Order → Bool) (n : ℕ) (orders : List Order) → sum_by (λ (x : Numbered). g x.order) (filter (λ x. p x.order) (numbered_from n orders)) ≡ sum_by g (filter p orders)
+pub numbered_kept : (g : Order → ℕ) (p : Order → Bool) (n : ℕ) (orders : List Order) → sum_by (λ (x : Numbered). g x.order) (filter (λ x. p x.order) (numbered_from n orders)) ≡ sum_by g (filter p orders)
 numbered_kept g p n [] = refl
 numbered_kept g p n (o ∷ orders) = by (p o) (numbered_kept g p (n + 1) orders)
   where

@@ -1,7 +1,9 @@
 -- What holds of requirements and supplies that are matched piece by piece, and of the pegs of an item.
-use Rattle.std.specs.Prelude.{ℕ, ◌≡◌, ◌≤◌, ◌-◌, ◌&&◌, Bool, min, List, filter, sum_by, count_by}
+use Rattle.std.specs.Prelude.{ℕ, ◌≡◌, ◌≤◌, ◌<◌, ◌-◌, ◌&&◌, Bool, min, List, filter, sum_by, count_by}
 use Rattle.std.specs.List.{range_with_len}
-use Rattle.mrp_item.specs.Inputs.{Inputs}
+use Rattle.mrp_item.specs.Inputs.{Inputs, horizon, item_at}
+use Rattle.mrp_item.specs.Limits.{IsSized}
+use Rattle.mrp_item.specs.Plan.{IsRanked, ItemPlan, Planned, outcome_of}
 use Rattle.mrp_peg.specs.declared.peg.Need.{Need}
 use Rattle.mrp_peg.specs.declared.peg.Supplied.{Supplied}
 use Rattle.mrp_peg.specs.Pegging.{pegs_of, requirements, supplies}
@@ -27,3 +29,7 @@ RequirementsArePegged = (s : Inputs) (i : ℕ) (test : Need → Bool) → total 
 abbrev pub SuppliesArePegged : Type 0
 SuppliesArePegged = (s : Inputs) (i : ℕ) (test : Supplied → Bool)
     → sum_by (λ g. g.quantity) (filter (λ g. test g.supply) (pegs_of s i)) ≡ sum_by (λ a. a.quantity) (filter (λ a. test a.of) (supplies s i))
+
+-- the supplies of a planned item cover its requirements
+abbrev pub RequirementsAreCovered : Type 0
+RequirementsAreCovered = (s : Inputs) (i : ℕ) (code : ℕ → ℕ) (plan : ItemPlan) → IsRanked s code → outcome_of s i ≡ Planned plan → IsSized (item_at s i).lot → 0 < horizon s → total (requirements s i) ≤ total (supplies s i)

@@ -1,6 +1,6 @@
 //! What follows from the definitions alone, each law the contract of a function that does nothing.
 
-ghost use Rattle.mrp_peg.specs.Laws.{MatchesAreUnits, RequirementsAddUp, RequirementsArePegged, SuppliesArePegged};
+ghost use Rattle.mrp_peg.specs.Laws.{MatchesAreUnits, RequirementsAddUp, RequirementsAreCovered, RequirementsArePegged, SuppliesArePegged};
 
 /// Piece by piece: what is matched of requirements and supplies is the count of the k for which the
 /// k-th required piece is of the ones and the k-th supplied piece of the others; and of requirements
@@ -15,4 +15,10 @@ pub fn pieces()
 pub fn sums()
     ensures requirements { RequirementsArePegged }
     ensures supplies { SuppliesArePegged }
+{}
+
+/// The supplies of an item that is planned cover its requirements, so that each requirement's pegs
+/// add up to it.
+pub fn cover()
+    ensures { RequirementsAreCovered }
 {}
