@@ -100,11 +100,12 @@ module _ (s : Supply) where
       → Rises (next_number h + 1) (bs ++ kept [] (booking_of desk c r))
   rises-made h bs desk (call.Book l) (reply.Booked n) answered (pairs, below) =
       let own : n ≡ next_number h = (accepted h desk n l answered).1 in
-      let b : Booking = record { number = n; desk = desk; line = l } in
-      (all_pairs_push IsBefore bs b pairs (λ k d within.
-          let less : (get_or bs k d).number < next_number h = All-get_or (λ b. b.number < next_number h) bs k d within below in
-          omega arith),
-       All-push (λ b. b.number < next_number h + 1) bs b (later (next_number h) bs below) (omega arith))
+      let b : Booking = record { number = n; desk = desk; line = l } in (
+        all_pairs_push IsBefore bs b pairs (λ k d within.
+            let less : (get_or bs k d).number < next_number h = All-get_or (λ b. b.number < next_number h) bs k d within below in
+            omega arith),
+        All-push (λ b. b.number < next_number h + 1) bs b (later (next_number h) bs below) (omega arith),
+      )
   rises-made h bs desk c r answered (pairs, below) =
       (subst (AllPairs IsBefore) (sym (append-nil bs)) pairs, subst (All (λ b. b.number < next_number h + 1)) (sym (append-nil bs)) (later (next_number h) bs below))
 

@@ -18,9 +18,10 @@ pub plan_run-requires : goal.plan_run-requires
 plan_run-requires g c =
     let t = c.args.shop.now.value.tables in
     let h = c.entries-entry-items.result.now in
-    let legal : IsLegal (supply_of t) h = subst (λ (x : Supply). IsLegal x h) c.requires c.entries-entry-items.ensures.legal in
-    (search (sendable, crosses) depth 40,
-    snapshot-booked (supply_of t) h c.loop-entry.entry-index c.entry-item.result c.in-Taken.snapshot legal c.loop-entry-test.true c.entry-item.is c.in-Taken.is)
+    let legal : IsLegal (supply_of t) h = subst (λ (x : Supply). IsLegal x h) c.requires c.entries-entry-items.ensures.legal in (
+      search (sendable, crosses) depth 40,
+      snapshot-booked (supply_of t) h c.loop-entry.entry-index c.entry-item.result c.in-Taken.snapshot legal c.loop-entry-test.true c.entry-item.is c.in-Taken.is,
+    )
 
 pub returns-in_err-plan_run : goal.returns-in_err-plan_run
 returns-in_err-plan_run g c =
