@@ -39,6 +39,9 @@ const BOOKINGS_PLAN: &str =
 const BOOKINGS_ORDERS: &str =
     "[orders]\nitem,order,kind,due,quantity,start,release,late\nBIKE,1,planned,2,8,8,1,0\nBIKE,2,firm,3,20,20,2,0\nBIKE,3,firm,5,20,20,4,0\nBIKE,4,planned,5,3,3,4,0\nFRAME,1,planned,1,8,8,1,1\nFRAME,2,planned,2,20,20,1,0\nFRAME,3,planned,4,23,23,3,0\nWHEEL,1,planned,1,16,16,1,1\nWHEEL,2,planned,2,40,40,1,0\nWHEEL,3,planned,4,46,46,3,0\n";
 
+const BOOKINGS_PEGS: &str =
+    "[pegs]\nitem,week,need,number,parent,line,supply,source,quantity\nBIKE,1,booking,5,,,stock,,10\nBIKE,2,forecast,,,,planned,1,8\nBIKE,3,booking,1,,,firm,2,12\nBIKE,4,forecast,,,,firm,2,6\nBIKE,5,booking,2,,,firm,2,2\nBIKE,5,booking,2,,,firm,3,20\nBIKE,5,booking,2,,,planned,4,3\nFRAME,1,parent,1,BIKE,1,planned,1,8\nFRAME,2,parent,2,BIKE,1,planned,2,20\nFRAME,4,parent,3,BIKE,1,planned,3,20\nFRAME,4,parent,4,BIKE,1,planned,3,3\nWHEEL,1,parent,1,BIKE,2,planned,1,16\nWHEEL,2,parent,2,BIKE,2,planned,2,40\nWHEEL,4,parent,3,BIKE,2,planned,3,40\nWHEEL,4,parent,4,BIKE,2,planned,3,6\n";
+
 const BOOKINGS_MESSAGES: &str =
     "[messages]\nitem,supply,source,message,value\nBIKE,planned,1,RELEASE,\nBIKE,firm,2,IN,2\nBIKE,firm,3,IN,4\nFRAME,planned,1,PAST-DUE,1\nFRAME,planned,2,RELEASE,\nWHEEL,planned,1,PAST-DUE,1\nWHEEL,planned,2,RELEASE,\n";
 
@@ -71,7 +74,7 @@ fn bookings_are_answered_and_planned(rt: HostRuntime) -> Result<(), Fail> {
     let alloc = rt.alloc();
     let script = format!(in alloc; "{BOOKINGS}1,run,,,,\n")?;
     let want = format!(in alloc;
-        "{BOOKINGS_HISTORY}7,1,run,,,,,front,7\n[run]\nfront,standing\n7,3\n{PROMISES_HEAD}{BOOKINGS_PROMISES}{PLAN_HEAD}{BOOKINGS_PLAN}{BOOKINGS_ORDERS}{BOOKINGS_MESSAGES}"
+        "{BOOKINGS_HISTORY}7,1,run,,,,,front,7\n[run]\nfront,standing\n7,3\n{PROMISES_HEAD}{BOOKINGS_PROMISES}{PLAN_HEAD}{BOOKINGS_PLAN}{BOOKINGS_ORDERS}{BOOKINGS_PEGS}{BOOKINGS_MESSAGES}"
     )?;
     let day = day_of(&rt, alloc, BICYCLES, &script)?;
     assert_eq!(rt; day.end, Ok(()));
@@ -83,7 +86,7 @@ fn bookings_are_answered_and_planned(rt: HostRuntime) -> Result<(), Fail> {
 fn a_run_is_added_where_there_is_none(rt: HostRuntime) -> Result<(), Fail> {
     let alloc = rt.alloc();
     let want = format!(in alloc;
-        "{BOOKINGS_HISTORY}7,1,run,,,,,front,7\n[run]\nfront,standing\n7,3\n{PROMISES_HEAD}{BOOKINGS_PROMISES}{PLAN_HEAD}{BOOKINGS_PLAN}{BOOKINGS_ORDERS}{BOOKINGS_MESSAGES}"
+        "{BOOKINGS_HISTORY}7,1,run,,,,,front,7\n[run]\nfront,standing\n7,3\n{PROMISES_HEAD}{BOOKINGS_PROMISES}{PLAN_HEAD}{BOOKINGS_PLAN}{BOOKINGS_ORDERS}{BOOKINGS_PEGS}{BOOKINGS_MESSAGES}"
     )?;
     let day = day_of(&rt, alloc, BICYCLES, BOOKINGS)?;
     assert_eq!(rt; day.end, Ok(()));

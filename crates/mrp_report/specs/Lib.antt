@@ -9,6 +9,8 @@ pub mod PromiseRows
 pub mod PromiseSheet
 pub mod PlanText
 pub mod OrderText
+pub mod PegText
+pub mod PegCells
 pub mod MessageText
 pub mod HistoryText
 pub mod EntryCells

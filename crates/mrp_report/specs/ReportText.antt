@@ -4,12 +4,14 @@ use Rattle.std.specs.List.{enumerate_from}
 use Rattle.mrp_item.specs.Inputs.{Inputs, is_master, item_at, places}
 use Rattle.mrp_item.specs.Plan.{ItemPlan, outcome_of, plan_in}
 use Rattle.mrp_notes.specs.Messages.{messages_of}
+use Rattle.mrp_peg.specs.Pegging.{pegs_of}
 use Rattle.mrp_report.specs.RunText.{run_text}
 use Rattle.mrp_report.specs.PromiseText.{promises_head, promise_text}
 use Rattle.mrp_report.specs.PromiseRows.{promise_rows}
 use Rattle.mrp_report.specs.PlanText.{plan_head, week_text}
 use Rattle.mrp_report.specs.PlanRows.{plan_rows}
 use Rattle.mrp_report.specs.OrderText.{orders_head, order_text}
+use Rattle.mrp_report.specs.PegText.{peg_text, pegs_head}
 use Rattle.mrp_report.specs.MessageText.{messages_head, message_text}
 
 -- the rows of an item in the section `promises`: a part has none
@@ -36,6 +38,14 @@ ordered_text s i plan = flat_map (order_text (item_at s i).name) (enumerate_from
 unfoldable pub orders_text : Inputs → List ℕ
 orders_text s = orders_head ++ flat_map (λ i. ordered_text s i (plan_in (outcome_of s i))) (places s)
 
+-- the rows of an item in the section `pegs`
+abbrev pub pegged_text : Inputs → ℕ → ItemPlan → List ℕ
+pegged_text s i plan = flat_map (peg_text s.tables (item_at s i).name plan.orders) (pegs_of s i)
+
+-- the section `pegs`, with each item's rows in table order
+unfoldable pub pegs_text : Inputs → List ℕ
+pegs_text s = pegs_head ++ flat_map (λ i. pegged_text s i (plan_in (outcome_of s i))) (places s)
+
 -- the rows of an item in the section `messages`
 abbrev pub told_text : Inputs → ℕ → ItemPlan → List ℕ
 told_text s i plan = flat_map (message_text s.tables (item_at s i).name plan.orders) (messages_of s i plan)
@@ -46,4 +56,4 @@ messages_text s = messages_head ++ flat_map (λ i. told_text s i (plan_in (outco
 
 -- the report of a run, section by section
 unfoldable pub report_text : Inputs → List ℕ
-report_text s = run_text s.front (length s.standing) ++ promises_text s ++ plan_text s ++ orders_text s ++ messages_text s
+report_text s = run_text s.front (length s.standing) ++ promises_text s ++ plan_text s ++ orders_text s ++ pegs_text s ++ messages_text s

@@ -9,6 +9,7 @@ pub mod laws;
 mod messages;
 mod orders;
 mod page;
+mod pegs;
 mod plan;
 mod promise_item;
 mod promise_sheet;

@@ -50,8 +50,8 @@ fn write_section<W: Write>(
     Ok(())
 }
 
-/// Writes the report of a run: the sections `run`, `promises`, `plan`, `orders` and
-/// `messages`.
+/// Writes the report of a run: the sections `run`, `promises`, `plan`, `orders`, `pegs`
+/// and `messages`.
 ///
 /// An interrupted write is tried again, at most 1,000,000 times. Errors: `Write` where a write failed
 /// in this call or was interrupted more often, and `NoMemory` where a growth of memory was refused.

@@ -9,6 +9,7 @@ use crate::item::{entry_of, item_rows};
 use crate::messages::{message_rows, messages_section};
 use crate::orders::{order_rows, orders_section};
 use crate::page::Page;
+use crate::pegs::{peg_rows, pegs_section};
 use crate::plan::plan_section;
 use crate::promise_item::item_promises;
 use crate::promises::promises_section;
@@ -17,6 +18,7 @@ use mrp_bill::Shop;
 use mrp_item::Plan;
 use mrp_master::Supply;
 use mrp_notes::item_messages;
+use mrp_peg::item_pegs;
 use mrp_qty::NoMemory;
 use std::alloc::Global;
 
@@ -26,14 +28,16 @@ pub(crate) enum Section {
     Promises,
     Plan,
     Orders,
+    Pegs,
     Messages,
 }
 
 // These sections, in the order in which a report has them.
-pub(crate) const SECTIONS: [Section; 4] = [
+pub(crate) const SECTIONS: [Section; 5] = [
     Section::Promises,
     Section::Plan,
     Section::Orders,
+    Section::Pegs,
     Section::Messages,
 ];
 
@@ -66,6 +70,7 @@ impl Section {
             Section::Promises => promises_section(page),
             Section::Plan => plan_section(page),
             Section::Orders => orders_section(page),
+            Section::Pegs => pegs_section(page),
             Section::Messages => messages_section(page),
         }
     }
@@ -91,6 +96,16 @@ impl Section {
             Section::Promises => item_promises(alloc, page, &readings.supply, planned),
             Section::Plan => item_rows(alloc, page, planned),
             Section::Orders => order_rows(page, name, planned.orders()),
+            Section::Pegs => {
+                let pegs = item_pegs(alloc, plan, item)?;
+                peg_rows(
+                    page,
+                    &readings.names,
+                    name,
+                    planned.orders(),
+                    pegs.as_slice(),
+                )
+            }
             Section::Messages => {
                 let messages = item_messages(alloc, planned)?;
                 message_rows(

@@ -10,7 +10,7 @@ mod shops;
 
 use self::shops::{
     BICYCLE, BICYCLE_DAY, BOOKED_PROMISES, CALENDAR, EMPTY_TABLES, FIRST_RUN, MESSAGES_HEAD,
-    ORDERS_HEAD, PROMISES_HEAD,
+    ORDERS_HEAD, PEGS_HEAD, PROMISES_HEAD,
 };
 
 const PLAN: [&str; 1] = ["plan"];
@@ -96,6 +96,7 @@ fn without_stock_and_schedule_nothing_is_planned(rt: HostRuntime) -> Result<(), 
         }
     }
     want.push_str(ORDERS_HEAD)?;
+    want.push_str(PEGS_HEAD)?;
     want.push_str(MESSAGES_HEAD)?;
     let left = left_by(&rt, alloc, &PLAN, &bare)?;
     assert_eq!(rt; left.status, 0);
@@ -122,7 +123,7 @@ fn tables_without_records_make_a_day_without_rows(rt: HostRuntime) -> Result<(),
     let left = left_by(&rt, alloc, &PLAN, &bundle)?;
     let plan = "[plan]\nitem,week,gross,open,firm,planned,start,balance\n";
     let want = format!(in alloc;
-        "{FIRST_RUN}[run]\nfront,standing\n1,0\n{PROMISES_HEAD}{plan}{ORDERS_HEAD}{MESSAGES_HEAD}"
+        "{FIRST_RUN}[run]\nfront,standing\n1,0\n{PROMISES_HEAD}{plan}{ORDERS_HEAD}{PEGS_HEAD}{MESSAGES_HEAD}"
     )?;
     assert_eq!(rt; left.status, 0);
     assert_eq!(rt; left.output.as_str(), want.as_str());

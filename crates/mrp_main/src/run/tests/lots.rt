@@ -98,6 +98,44 @@ FRAME,2,planned,2,20,23,1,0\n\
 WHEEL,1,planned,2,26,26,1,1\n\
 WHEEL,2,planned,4,46,46,2,0\n";
 
+const PEGS_IN_LOTS: &str = "\
+[pegs]\n\
+item,week,need,number,parent,line,supply,source,quantity\n\
+BIKE,1,booking,5,,,stock,,10\n\
+BIKE,2,forecast,,,,planned,1,8\n\
+BIKE,3,booking,1,,,firm,2,12\n\
+BIKE,4,forecast,,,,firm,2,6\n\
+BIKE,5,booking,2,,,firm,2,2\n\
+BIKE,5,booking,2,,,firm,3,20\n\
+BIKE,5,booking,2,,,planned,4,3\n\
+FRAME,1,parent,1,BIKE,1,stock,,8\n\
+FRAME,2,parent,2,BIKE,1,stock,,4\n\
+FRAME,2,parent,2,BIKE,1,planned,1,16\n\
+FRAME,4,parent,3,BIKE,1,planned,1,4\n\
+FRAME,4,parent,3,BIKE,1,planned,2,16\n\
+FRAME,4,parent,4,BIKE,1,planned,2,3\n\
+FRAME,,surplus,,,,planned,2,1\n\
+FRAME,,surplus,,,,open,R1,15\n";
+
+// What the wheels serve, asked for by one line of two, or by two of one.
+const WHEEL_PEGS: &str = "\
+WHEEL,1,parent,1,BIKE,2,stock,,16\n\
+WHEEL,2,parent,2,BIKE,2,stock,,14\n\
+WHEEL,2,parent,2,BIKE,2,planned,1,26\n\
+WHEEL,4,parent,3,BIKE,2,planned,2,40\n\
+WHEEL,4,parent,4,BIKE,2,planned,2,6\n";
+
+const TWO_LINES_PEGS: &str = "\
+WHEEL,1,parent,1,BIKE,2,stock,,8\n\
+WHEEL,1,parent,1,BIKE,3,stock,,8\n\
+WHEEL,2,parent,2,BIKE,2,stock,,14\n\
+WHEEL,2,parent,2,BIKE,2,planned,1,6\n\
+WHEEL,2,parent,2,BIKE,3,planned,1,20\n\
+WHEEL,4,parent,3,BIKE,2,planned,2,20\n\
+WHEEL,4,parent,4,BIKE,2,planned,2,3\n\
+WHEEL,4,parent,3,BIKE,3,planned,2,20\n\
+WHEEL,4,parent,4,BIKE,3,planned,2,3\n";
+
 const MESSAGES_IN_LOTS: &str = "\
 [messages]\n\
 item,supply,source,message,value\n\
@@ -120,20 +158,25 @@ TUBE,6,0,0,0,0,0,0\n";
 
 const TUBE_ORDERS: &str = "TUBE,1,planned,1,138,276,1,0\n";
 
+const TUBE_PEGS: &str = "\
+TUBE,1,parent,1,FRAME,3,planned,1,69\n\
+TUBE,1,parent,2,FRAME,3,planned,1,69\n";
+
 const TUBE_MESSAGES: &str = "TUBE,planned,1,RELEASE,\n";
 
 // That a shop is planned as the bicycles in lots are, with these weeks, orders and messages behind
-// theirs.
+// theirs, and these pegs of the wheels and of what is behind them.
 fn is_planned<R: Alloc + Abort>(
     rt: &R,
     alloc: Global,
     shop: &str,
     weeks: &str,
     orders: &str,
+    pegs: &str,
     messages: &str,
 ) -> Result<(), Fail> {
     let want = format!(in alloc;
-        "{HISTORY}{RUN}{PROMISES_HEAD}{BOOKED_PROMISES}{PLAN_IN_LOTS}{weeks}{ORDERS_IN_LOTS}{orders}{MESSAGES_IN_LOTS}{messages}"
+        "{HISTORY}{RUN}{PROMISES_HEAD}{BOOKED_PROMISES}{PLAN_IN_LOTS}{weeks}{ORDERS_IN_LOTS}{orders}{PEGS_IN_LOTS}{pegs}{MESSAGES_IN_LOTS}{messages}"
     )?;
     let left = left_by(rt, alloc, &PLAN, shop)?;
     assert_eq!(rt; left.errors.as_str(), "");
@@ -144,15 +187,15 @@ fn is_planned<R: Alloc + Abort>(
 
 #[test]
 fn parts_are_planned_in_lots_with_scrap_and_safety_stock(rt: HostRuntime) -> Result<(), Fail> {
-    is_planned(&rt, rt.alloc(), BICYCLES_IN_LOTS, "", "", "")
+    is_planned(&rt, rt.alloc(), BICYCLES_IN_LOTS, "", "", WHEEL_PEGS, "")
 }
 
 #[test]
-fn two_lines_of_one_wheel_are_as_one_line_of_two(rt: HostRuntime) -> Result<(), Fail> {
+fn two_lines_of_one_wheel_are_planned_as_one_line_of_two(rt: HostRuntime) -> Result<(), Fail> {
     let alloc = rt.alloc();
     let lines = "BIKE,WHEEL,1\nBIKE,WHEEL,1\n";
     let shop = changed(alloc, BICYCLES_IN_LOTS, "BIKE,WHEEL,2\n", lines)?;
-    is_planned(&rt, alloc, &shop, "", "", "")
+    is_planned(&rt, alloc, &shop, "", "", TWO_LINES_PEGS, "")
 }
 
 #[test]
@@ -160,7 +203,7 @@ fn open_receipts_of_no_pieces_change_nothing(rt: HostRuntime) -> Result<(), Fail
     let alloc = rt.alloc();
     let rows = "FRAME,R0,2025-01-06,0\nFRAME,R1,2025-01-22,15\nWHEEL,R1,2025-01-06,0\n";
     let shop = changed(alloc, BICYCLES_IN_LOTS, "FRAME,R1,2025-01-22,15\n", rows)?;
-    is_planned(&rt, alloc, &shop, "", "", "")
+    is_planned(&rt, alloc, &shop, "", "", WHEEL_PEGS, "")
 }
 
 #[test]
@@ -173,7 +216,16 @@ fn a_part_with_scrap_asks_for_components_by_its_starts(rt: HostRuntime) -> Resul
         "TUBE,part,0,500,lfl,0,0\n[centres]",
     )?;
     let shop = changed(alloc, &shop, "[routings]", "FRAME,TUBE,3\n[routings]")?;
-    is_planned(&rt, alloc, &shop, TUBE_WEEKS, TUBE_ORDERS, TUBE_MESSAGES)
+    let pegs = format!(in alloc; "{WHEEL_PEGS}{TUBE_PEGS}")?;
+    is_planned(
+        &rt,
+        alloc,
+        &shop,
+        TUBE_WEEKS,
+        TUBE_ORDERS,
+        &pegs,
+        TUBE_MESSAGES,
+    )
 }
 
 // Scrap of items of the chain, the firm pieces of its first item, and the line that is told.

@@ -64,6 +64,24 @@ WHEEL,1,planned,1,16,16,1,1\n\
 WHEEL,2,planned,2,40,40,1,0\n\
 WHEEL,3,planned,4,46,46,3,0\n";
 
+// Its pegs.
+const BOOKED_PEGS: &str = "\
+BIKE,1,booking,5,,,stock,,10\n\
+BIKE,2,forecast,,,,planned,1,8\n\
+BIKE,3,booking,1,,,firm,2,12\n\
+BIKE,4,forecast,,,,firm,2,6\n\
+BIKE,5,booking,2,,,firm,2,2\n\
+BIKE,5,booking,2,,,firm,3,20\n\
+BIKE,5,booking,2,,,planned,4,3\n\
+FRAME,1,parent,1,BIKE,1,planned,1,8\n\
+FRAME,2,parent,2,BIKE,1,planned,2,20\n\
+FRAME,4,parent,3,BIKE,1,planned,3,20\n\
+FRAME,4,parent,4,BIKE,1,planned,3,3\n\
+WHEEL,1,parent,1,BIKE,2,planned,1,16\n\
+WHEEL,2,parent,2,BIKE,2,planned,2,40\n\
+WHEEL,4,parent,3,BIKE,2,planned,3,40\n\
+WHEEL,4,parent,4,BIKE,2,planned,3,6\n";
+
 // Its messages.
 const BOOKED_MESSAGES: &str = "\
 BIKE,planned,1,RELEASE,\n\
@@ -78,7 +96,7 @@ WHEEL,planned,2,RELEASE,\n";
 fn desks_book_and_ask_and_then_plan(rt: HostRuntime) -> Result<(), Fail> {
     let alloc = rt.alloc();
     let want = format!(in alloc;
-        "{HISTORY}{BOOKED}7,1,run,,,,,front,7\n[run]\nfront,standing\n7,3\n{PROMISES_HEAD}{BOOKED_PROMISES}{PLAN_HEAD}{BOOKED_PLAN}{ORDERS_HEAD}{BOOKED_ORDERS}{MESSAGES_HEAD}{BOOKED_MESSAGES}"
+        "{HISTORY}{BOOKED}7,1,run,,,,,front,7\n[run]\nfront,standing\n7,3\n{PROMISES_HEAD}{BOOKED_PROMISES}{PLAN_HEAD}{BOOKED_PLAN}{ORDERS_HEAD}{BOOKED_ORDERS}{PEGS_HEAD}{BOOKED_PEGS}{MESSAGES_HEAD}{BOOKED_MESSAGES}"
     )?;
     // A script without a run is run once, at its end, by desk 1.
     for run in ["1,run,,,,\n", ""] {
@@ -158,8 +176,12 @@ fn each_run_plans_the_bookings_that_stand_at_its_front(rt: HostRuntime) -> Resul
     assert_eq!(rt; left.status, 0);
     let first = "1,64,run,,,,,front,1\n2,1,book,BIKE,3,12,,booked,2\n";
     let report = BICYCLE_DAY.strip_prefix(FIRST_RUN).ok_or("the history")?;
+    // The booking of entry 1 is now that of entry 2, and so on.
+    let pegs = changed(alloc, BOOKED_PEGS, "booking,5,", "booking,6,")?;
+    let pegs = changed(alloc, &pegs, "booking,2,", "booking,3,")?;
+    let pegs = changed(alloc, &pegs, "booking,1,", "booking,2,")?;
     let runs = format!(in alloc;
-        "8,1,run,,,,,front,8\n{report}[run]\nfront,standing\n8,3\n{PROMISES_HEAD}{BOOKED_PROMISES}{PLAN_HEAD}{BOOKED_PLAN}{ORDERS_HEAD}{BOOKED_ORDERS}{MESSAGES_HEAD}{BOOKED_MESSAGES}"
+        "8,1,run,,,,,front,8\n{report}[run]\nfront,standing\n8,3\n{PROMISES_HEAD}{BOOKED_PROMISES}{PLAN_HEAD}{BOOKED_PLAN}{ORDERS_HEAD}{BOOKED_ORDERS}{PEGS_HEAD}{pegs}{MESSAGES_HEAD}{BOOKED_MESSAGES}"
     )?;
     assert!(rt; left.output.as_str().contains(first));
     assert!(rt; left.output.as_str().ends_with(runs.as_str()));

@@ -56,6 +56,9 @@ BIKE,6,0,0,0,3\n";
 // The line and the header of the section of orders.
 pub const ORDERS_HEAD: &str = "[orders]\nitem,order,kind,due,quantity,start,release,late\n";
 
+// The line and the header of the section of pegs.
+pub const PEGS_HEAD: &str = "[pegs]\nitem,week,need,number,parent,line,supply,source,quantity\n";
+
 // The line and the header of the section of messages.
 pub const MESSAGES_HEAD: &str = "[messages]\nitem,supply,source,message,value\n";
 
@@ -103,6 +106,17 @@ FRAME,1,planned,2,20,20,1,0\n\
 FRAME,2,planned,4,20,20,3,0\n\
 WHEEL,1,planned,2,40,40,1,0\n\
 WHEEL,2,planned,4,40,40,3,0\n\
+[pegs]\n\
+item,week,need,number,parent,line,supply,source,quantity\n\
+BIKE,2,forecast,,,,stock,,8\n\
+BIKE,4,forecast,,,,stock,,2\n\
+BIKE,4,forecast,,,,firm,1,4\n\
+BIKE,,surplus,,,,firm,1,16\n\
+BIKE,,surplus,,,,firm,2,20\n\
+FRAME,2,parent,1,BIKE,1,planned,1,20\n\
+FRAME,4,parent,2,BIKE,1,planned,2,20\n\
+WHEEL,2,parent,1,BIKE,2,planned,1,40\n\
+WHEEL,4,parent,2,BIKE,2,planned,2,40\n\
 [messages]\n\
 item,supply,source,message,value\n\
 BIKE,firm,1,OUT,4\n\
