@@ -17,11 +17,11 @@ use Rattle.mrp_book.specs.declared.refused.Refused.TheVariants.{Full, NoMemory}
 use Rattle.mrp_book.specs.BookState.{BookState}
 use Rattle.mrp_book.specs.declared.reply.Reply.TheVariants as reply
 use Rattle.mrp_book.specs.Standing.{History, standing}
-use Rattle.mrp_book.specs.History.{IsLegal, IsLimit, TakesMemory}
+use Rattle.mrp_book.specs.History.{IsLegal, IsLimit}
 use Rattle.mrp_book.proofs.Histories.{legal-front}
 use Rattle.mrp_desk.specs.Calls.{HasCause, IsAnswerOf, IsSnapshot, Tells}
 use Rattle.mrp_desk.specs.Offices.{Desk, supply_at}
-use Rattle.mrp_desk.specs.ShopBook.{Answers, Opens, Refuses, WantsMemory}
+use Rattle.mrp_desk.specs.ShopBook.{Answers, Opens, Refuses}
 use Rattle.mrp_desk.proofs.Bookings.{kept_head, same_test}
 use Rattle.mrp_desk.proofs.Legal.{is_history}
 use Rattle.mrp_desk.proofs.Owned.{own_stand}
@@ -32,7 +32,7 @@ module _ (office : TurnId Shop) (c : Call) (old new : Desk) where
 
   -- what the lock tells
   abbrev pub LockTells : Result (ℕ × Reply) (CallFault Refused) → Type 0
-  LockTells given = lock.Tells (Opens shop) (Answers shop) (λ b _ _ e. Refuses b e) WantsMemory office.about.room old.number c old.seen old.mine given new.seen new.mine
+  LockTells given = lock.Tells (Opens shop) (Answers shop) (λ b _ c e. Refuses b c e) (λ _ _. ⊥) office.about.room old.number c old.seen old.mine given new.seen new.mine
 
   -- the log had a place
   pub roomy : (given : Result (ℕ × Reply) (CallFault Refused)) → office.about.room ≡ 1000001 → LockTells given → IfErr given (λ f. f ≢ fault.NoMemory)
@@ -40,14 +40,17 @@ module _ (office : TurnId Shop) (c : Call) (old new : Desk) where
   roomy (Err f) room told = λ (is : f ≡ fault.NoMemory).
       let few : length new.seen ≤ 1000000 = (is_history shop new.seen told.legal.0 told.legal.1).few in
       let full : office.about.room ≤ length new.seen =
-      subst (lock.HasCause (Opens shop) (Answers shop) (λ b _ _ e. Refuses b e) WantsMemory office.about.room old.number c new.seen) is told.cause in
+      subst (lock.HasCause (Opens shop) (Answers shop) (λ b _ c e. Refuses b c e) (λ _ _. ⊥) office.about.room old.number c new.seen) is told.cause in
       absurd (omega (arith, room, few, full))
 
+  entries_seen : (b : BookState) → LeadsTo (Answers shop) (Opens shop) new.seen b → b.entries ≡ length new.seen
+  entries_seen b leads = ap (λ (x : BookState). x.entries) (is_history shop new.seen b leads).left
+
   -- why the book refused
-  cause : (e : Refused) → WantsMemory c e ⊎ ((b : BookState) × LeadsTo (Answers shop) (Opens shop) new.seen b × Refuses b e) → HasCause c new.seen e
-  cause e (inl (is, takes)) = subst (HasCause c new.seen) (sym is) takes
-  cause e (inr (b, leads, why)) =
-      subst (HasCause c new.seen) (sym why.0) (subst IsLimit (ap (λ (x : BookState). x.entries) (is_history shop new.seen b leads).left) why.1)
+  cause : (e : Refused) → ⊥ ⊎ ((b : BookState) × LeadsTo (Answers shop) (Opens shop) new.seen b × Refuses b c e) → HasCause c new.seen e
+  cause e (inl never) = absurd never
+  cause Full (inr (b, leads, limit)) = subst IsLimit (entries_seen b leads) limit
+  cause NoMemory (inr (b, leads, (takes, within))) = (takes, λ full. within (subst IsLimit (sym (entries_seen b leads)) full))
 
   pub tells : (given : Result (ℕ × Reply) (CallFault Refused)) (result : Result (ℕ × Reply) Refused) → IsAnswerOf given result → new.turn ≡ old.turn → new.number ≡ old.number
       → LockTells given → Tells (supply_at office) c old result new
@@ -82,12 +85,6 @@ module _ (office : TurnId Shop) (c : Call) (old new : Desk) where
         cause = cause e told.cause;
       })
   tells (Err fault.NoMemory) result is office_is desk_is told = absurd is
-
--- a call that takes no memory is refused at the limit alone
-pub full_alone : (c : Call) (seen : History) (result : Result (ℕ × Reply) Refused) → ¬ TakesMemory c → IfErr result (HasCause c seen) → IfErr result (λ e. e ≡ Full)
-full_alone c seen (Ok answer) none why = tt
-full_alone c seen (Err Full) none why = refl
-full_alone c seen (Err NoMemory) none why = absurd (none why)
 
 -- a snapshot has what stands in all that was seen before its entry
 pub snapped : (s : Supply) (old new : Desk) (result : Result (ℕ × Reply) Refused) → Tells s call.Snapshot old result new → IfOk result (IsSnapshot s old new)

@@ -19,7 +19,7 @@ use Rattle.mrp_desk.specs.Offices.{Desk}
 -- Why a call was refused, in what its desk has then seen of the history
 abbrev pub HasCause : Call → History → Refused → Type 0
 HasCause c seen Full = IsFull seen
-HasCause c seen NoMemory = TakesMemory c
+HasCause c seen NoMemory = TakesMemory c × (¬ IsFull seen)
 
 -- What a desk's call tells of the desk, old and new
 pub record Tells (s : Supply) (c : Call) (old : Desk) (result : Result (ℕ × Reply) Refused) (new : Desk) : Type 0 where

@@ -22,10 +22,7 @@ pub record Answers (shop : Shop) (b : BookState) (desk : ℕ) (c : Call) (r : Re
   pub reply : IsReplyIn b desk c r
   pub left : after ≡ state_after b desk c r
 
--- memory aside, a book refuses at its limit alone
-abbrev pub Refuses : BookState → Refused → Type 0
-Refuses b e = (e ≡ Full) × IsLimit b.entries
-
--- only a booking and a snapshot take memory
-abbrev pub WantsMemory : Call → Refused → Type 0
-WantsMemory c e = (e ≡ NoMemory) × TakesMemory c
+-- a book refuses every call at its limit, before all else; and below it a booking or a snapshot, for want of memory
+abbrev pub Refuses : BookState → Call → Refused → Type 0
+Refuses b c Full = IsLimit b.entries
+Refuses b c NoMemory = TakesMemory c × (¬ IsLimit b.entries)

@@ -4,8 +4,6 @@
 mod fault;
 mod office;
 mod shop_book;
-#[cfg(test)]
-mod tests;
 
 pub use fault::OfficeFault;
 pub use office::{Desk, MOST_DESKS, Office};
