@@ -1,5 +1,5 @@
 -- The texts of a day are written one after the other.
-use Rattle.std.proofs.Common.{◌≡◌, ◌∙◌, ℕ, ◌+◌, ◌<◌, ◌≤◌, List, [], ◌∷◌, ◌++◌, length, take, drop, get_or, Option, Some, None, sym, ap, subst, inl, inr, refl, arith, append_assoc}
+use Rattle.std.proofs.Common.{◌≡◌, ◌∙◌, ℕ, ◌+◌, ◌<◌, List, [], ◌∷◌, ◌++◌, length, take, drop, get_or, Option, Some, None, sym, ap, subst, inl, inr, refl, arith, append_assoc}
 use Rattle.std.proofs.lemmas.List.{append-nil, drop_more, map-append, take-append-drop, take_more}
 use Rattle.std.proofs.lemmas.List.Concat.{flat_map-append}
 use Rattle.std.specs.List.{flat_map}
@@ -10,7 +10,7 @@ use Rattle.mrp_rows.specs.Streams.{RisesBy}
 use Rattle.mrp_rows.proofs.StreamFronts.{front-longer, front-after}
 use Rattle.mrp_item.specs.Places.{WholePlan}
 use Rattle.mrp_report.specs.ReportText.{report_text}
-use Rattle.mrp_report.specs.Written.{HasGivenUp, HasTaken, HasTakenFront, HasTakenWhole}
+use Rattle.mrp_report.specs.Written.{HasGivenUp, HasTakenFront, HasTakenWhole}
 use Rattle.mrp_engine.specs.Planned.{inputs_of_plans}
 use Rattle.mrp_engine.specs.Run.{HasTakenAll}
 

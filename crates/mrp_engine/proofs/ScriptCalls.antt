@@ -1,7 +1,7 @@
 -- A script's records, as calls on the order book.
 use Rattle.std.proofs.Common.{◌≡◌, ◌∙◌, ℕ, zero, suc, ◌+◌, ◌<◌, ◌≤◌, Bool, true, false, if◌then◌else◌, List, [], ◌∷◌, ◌++◌, length, take, get_or, sym, ap, subst, arith, refl}
 use Rattle.std.proofs.lemmas.List.{take_more, take_all, map-append, length-map, length-take-le}
-use Rattle.std.specs.Prelude.{All, map, IsTrue}
+use Rattle.std.specs.Prelude.{All, map}
 use Rattle.std.specs.List.{list_any, slice_index_or}
 use Rattle.mrp_tables.specs.declared.item.Item.{Item}
 use Rattle.mrp_tables.specs.declared.rows.ScriptCall.{ScriptCall}
@@ -16,7 +16,7 @@ use Rattle.mrp_book.specs.declared.call.Call.TheVariants as call
 use Rattle.mrp_book.specs.Standing.{History}
 use Rattle.mrp_book.specs.History.{Fits, IsLegal, asked}
 use Rattle.mrp_engine.specs.Day.{AnswersScript}
-use Rattle.mrp_engine.specs.Script.{Script, call_of, is_run, record_of, script_of, with_run}
+use Rattle.mrp_engine.specs.Script.{Script, call_of, is_run, record_of, with_run}
 
 any-mapped : {X Y : Type 0} (p : Y → Bool) (f : X → Y) (xs : List X) → list_any p (map f xs) ≡ list_any (λ x. p (f x)) xs
 any-mapped p f [] = refl

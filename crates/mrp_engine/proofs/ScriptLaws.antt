@@ -1,5 +1,5 @@
 -- What the history that answers a script keeps.
-use Rattle.std.proofs.Common.{◌≡◌, ◌∙◌, ℕ, ◌+◌, ◌≤◌, Bool, true, false, if◌then◌else◌, nat_le, List, [], ◌∷◌, ◌++◌, Option, Some, None, sym, ap, subst, refl, arith}
+use Rattle.std.proofs.Common.{◌≡◌, ◌∙◌, ℕ, ◌≤◌, Bool, true, false, if◌then◌else◌, nat_le, [], ◌∷◌, ◌++◌, Option, Some, None, sym, ap, subst, refl, arith}
 use Rattle.std.proofs.lemmas.Bool.Decides.{nat_tests}
 use Rattle.std.proofs.lemmas.List.Elements.{All-nil, All-cons}
 use Rattle.std.specs.Prelude.{All, ◌==◌, find}
@@ -17,7 +17,7 @@ use Rattle.mrp_book.specs.Standing.{History, booked, standing}
 use Rattle.mrp_book.specs.History.{IsLegal, IsReply, cancel_reply, next_number, week_reply}
 use Rattle.mrp_book.proofs.Logs.{one-more}
 use Rattle.mrp_book.proofs.Histories.{prefix-covered}
-use Rattle.mrp_item.specs.Inputs.{Inputs, inputs_of}
+use Rattle.mrp_item.specs.Inputs.{inputs_of}
 use Rattle.mrp_engine.specs.Day.{AnswersScript, planned_from, runs_of}
 use Rattle.mrp_engine.specs.Laws.{BooksWithin, IsRunOf, PlansWhatStood, StaysCovered}
 

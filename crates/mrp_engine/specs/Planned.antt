@@ -1,5 +1,5 @@
 -- What comes of planning runs.
-use Rattle.std.specs.Prelude.{ℕ, ◌≡◌, List, All, map, Result, Ok, Err, ⊤}
+use Rattle.std.specs.Prelude.{◌≡◌, List, All, map, Result, Ok, Err, ⊤}
 use Rattle.std.specs.Global.{Vec}
 use Rattle.mrp_item.specs.Inputs.{Inputs}
 use Rattle.mrp_item.specs.Places.{WholePlan}

@@ -1,5 +1,4 @@
 use Rattle.std.proofs.Common.{inl, inr, sym}
-use Rattle.mrp_tables.specs.Laws.{IsMemoryRefusal}
 use Rattle.mrp_engine.proofs.ShopFaults.{closed, opened, tables-are, sections-refused}
 use Rattle.mrp_engine.proofs.opening.open_shop.Goals as goal
 

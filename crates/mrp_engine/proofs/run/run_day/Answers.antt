@@ -1,4 +1,4 @@
-use Rattle.std.proofs.Common.{◌≡◌, ◌∙◌, List, ℕ, Result, Ok, Err, ap, inr, rules, subst, sym}
+use Rattle.std.proofs.Common.{◌≡◌, Err, ap, inr, rules, subst, sym}
 use Rattle.mrp_rows.specs.Told.{inner_of}
 use Rattle.mrp_tables.specs.Tables.{Tables}
 use Rattle.mrp_bill.specs.Shop.{Shop}

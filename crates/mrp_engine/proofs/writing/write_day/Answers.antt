@@ -1,11 +1,10 @@
-use Rattle.std.proofs.Common.{ℕ, List, ◌++◌, subst}
+use Rattle.std.proofs.Common.{List, ◌++◌, subst}
 use Rattle.std.specs.List.{flat_map}
 use Rattle.mrp_item.specs.Inputs.{Inputs}
 use Rattle.mrp_report.specs.HistoryText.{history_text}
 use Rattle.mrp_report.specs.ReportText.{report_text}
 use Rattle.mrp_report.specs.Written.{HasTakenFront}
 use Rattle.mrp_report.proofs.Progress.{on-err-then, on-ok-then}
-use Rattle.mrp_engine.specs.Planned.{inputs_of_plans}
 use Rattle.mrp_engine.specs.Run.{HasTakenAll}
 use Rattle.mrp_engine.proofs.DayWritten.{all-both, all-of-one, front-then, reports}
 use Rattle.mrp_engine.proofs.writing.write_day.Goals as goal
