@@ -1,4 +1,4 @@
-//! Pegging: what each requirement of an item is served by, and what it goes back to.
+//! Pegging: what each requirement of an item is served by.
 #![tactic(auto)]
 
 mod demand;
@@ -10,5 +10,5 @@ mod peg;
 mod pegging;
 mod supplies;
 
-pub use peg::{Cause, Need, NeedKind, Peg, Supplied};
+pub use peg::{Need, NeedKind, Peg, Supplied};
 pub use pegging::{item_pegs, pegs};

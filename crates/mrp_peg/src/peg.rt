@@ -52,29 +52,3 @@ pub struct Peg {
     /// The pieces, at least 1.
     pub quantity: Qty,
 }
-
-/// What a requirement goes back to.
-#[derive(Clone, Copy, Debug, PartialEq, Eq)]
-pub enum Cause {
-    /// A booking of a master item.
-    Booking {
-        /// The master item, by its place.
-        item: usize,
-        /// The booking's number.
-        number: u64,
-    },
-    /// The forecast of a master item in a week, as far as it is above the bookings.
-    Forecast {
-        /// The master item, by its place.
-        item: usize,
-        /// The week.
-        week: u16,
-    },
-    /// What an order has beyond all requirements of its item.
-    Surplus {
-        /// The item, by its place.
-        item: usize,
-        /// The item's order, by its number from 1.
-        order: usize,
-    },
-}
