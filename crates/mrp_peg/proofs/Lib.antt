@@ -10,3 +10,4 @@ pub mod Loops
 pub mod Listed
 pub mod Totals
 pub mod Covered
+pub mod Sources

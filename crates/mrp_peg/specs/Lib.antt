@@ -5,3 +5,4 @@ pub mod Pegging
 pub mod Rows
 pub mod Own
 pub mod Laws
+pub mod Causes

@@ -8,7 +8,9 @@ mod ordering;
 mod parents;
 mod peg;
 mod pegging;
+mod sourcing;
 mod supplies;
 
 pub use peg::{Need, NeedKind, Peg, Supplied};
 pub use pegging::{item_pegs, pegs};
+pub use sourcing::sources;

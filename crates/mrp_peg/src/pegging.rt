@@ -48,7 +48,7 @@ fn listed_needs(alloc: Global, plan: &Plan, item: usize) -> Result<Vec<Wanted>, 
 }
 
 // The requirements of an item, in order.
-fn needs_of(alloc: Global, plan: &Plan, item: usize) -> Result<Vec<Wanted>, NoMemory>
+pub fn needs_of(alloc: Global, plan: &Plan, item: usize) -> Result<Vec<Wanted>, NoMemory>
     requires { item < count plan.now.inputs }
     ensures { IfOk result (λ needs. amounts_wanted needs.items ≡ requirements plan.now.inputs item) }
 {
