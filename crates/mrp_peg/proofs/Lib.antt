@@ -11,3 +11,13 @@ pub mod Listed
 pub mod Totals
 pub mod Covered
 pub mod Sources
+pub mod Members
+pub mod Firsts
+pub mod Orders
+pub mod Walked
+pub mod Served
+pub mod Ends
+pub mod Ordered
+pub mod Traced
+pub mod Same
+pub mod Gathered

@@ -20,7 +20,7 @@ some_value : {X : Type 0} (x y : X) → Some x ≡ Some y → x ≡ y
 some_value x y e = cc
 
 -- the parent's order that a requirement is for is of an item
-order_within : (lines : List BillLine) (n : ℕ) → All (λ (l : BillLine). l.parent < n) lines → (k : NeedKind) (e : ℕ × ℕ) → order_for lines k ≡ Some e → e.0 < n
+pub order_within : (lines : List BillLine) (n : ℕ) → All (λ (l : BillLine). l.parent < n) lines → (k : NeedKind) (e : ℕ × ℕ) → order_for lines k ≡ Some e → e.0 < n
 order_within lines n within (kind.Booking m) e is = let none : Option (ℕ × ℕ) = None in let f : none ≡ Some e = is in absurd (cc)
 order_within lines n within kind.Forecast e is = let none : Option (ℕ × ℕ) = None in let f : none ≡ Some e = is in absurd (cc)
 order_within lines n within (kind.Parent line number) e is = by (nat_lt 0 line && nat_le line (length lines)) refl is

@@ -6,6 +6,8 @@ use Rattle.mrp_item.specs.Limits.{IsSized}
 use Rattle.mrp_item.specs.Plan.{IsRanked, ItemPlan, Planned, outcome_of}
 use Rattle.mrp_peg.specs.declared.peg.Need.{Need}
 use Rattle.mrp_peg.specs.declared.peg.Supplied.{Supplied}
+use Rattle.mrp_peg.specs.declared.peg.Cause.{Cause}
+use Rattle.mrp_peg.specs.Causes.{IsTrace}
 use Rattle.mrp_peg.specs.Pegging.{pegs_of, requirements, supplies}
 use Rattle.mrp_peg.specs.Units.{Amount, is_for, matches, serves, spans, total, units}
 
@@ -33,3 +35,7 @@ SuppliesArePegged = (s : Inputs) (i : ℕ) (test : Supplied → Bool)
 -- the supplies of a planned item cover its requirements
 abbrev pub RequirementsAreCovered : Type 0
 RequirementsAreCovered = (s : Inputs) (i : ℕ) (code : ℕ → ℕ) (plan : ItemPlan) → IsRanked s code → outcome_of s i ≡ Planned plan → IsSized (item_at s i).lot → 0 < horizon s → total (requirements s i) ≤ total (supplies s i)
+
+-- a requirement has one trace
+abbrev pub OneTrace : Type 0
+OneTrace = (s : Inputs) (n : Need) (one other : List Cause) → IsTrace s n one → IsTrace s n other → one ≡ other

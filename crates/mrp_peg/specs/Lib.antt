@@ -6,3 +6,5 @@ pub mod Rows
 pub mod Own
 pub mod Laws
 pub mod Causes
+pub mod Walk
+pub mod Ends

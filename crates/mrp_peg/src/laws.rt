@@ -1,6 +1,6 @@
 //! What follows from the definitions alone, each law the contract of a function that does nothing.
 
-ghost use Rattle.mrp_peg.specs.Laws.{MatchesAreUnits, RequirementsAddUp, RequirementsAreCovered, RequirementsArePegged, SuppliesArePegged};
+ghost use Rattle.mrp_peg.specs.Laws.{MatchesAreUnits, OneTrace, RequirementsAddUp, RequirementsAreCovered, RequirementsArePegged, SuppliesArePegged};
 
 /// Piece by piece: what is matched of requirements and supplies is the count of the k for which the
 /// k-th required piece is of the ones and the k-th supplied piece of the others; and of requirements
@@ -21,4 +21,10 @@ pub fn sums()
 /// add up to it.
 pub fn cover()
     ensures { RequirementsAreCovered }
+{}
+
+/// A requirement has one trace: two lists of its causes, each once and in order of item and peg, are
+/// the same.
+pub fn one_trace()
+    ensures { OneTrace }
 {}

@@ -1,4 +1,4 @@
-//! Pegging: what each requirement of an item is served by.
+//! Pegging: what each requirement of an item is served by, and what a requirement goes back to.
 #![tactic(auto)]
 
 mod demand;
@@ -10,7 +10,10 @@ mod peg;
 mod pegging;
 mod sourcing;
 mod supplies;
+mod tracing;
+mod walking;
 
-pub use peg::{Need, NeedKind, Peg, Supplied};
+pub use peg::{Cause, Need, NeedKind, Peg, Supplied};
 pub use pegging::{item_pegs, pegs};
 pub use sourcing::sources;
+pub use tracing::trace;

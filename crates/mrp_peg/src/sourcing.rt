@@ -30,7 +30,7 @@ fn is_wanted(needs: &[Wanted], need: &Need) -> bool
 }
 
 // Whether a requirement is one of the plan.
-fn has_need(alloc: Global, plan: &Plan, need: &Need) -> Result<bool, NoMemory>
+pub fn has_need(alloc: Global, plan: &Plan, need: &Need) -> Result<bool, NoMemory>
     ensures { IfOk result (λ has. has ≡ is_need_of plan.now.inputs need.now) }
 {
     if need.item >= plan.inputs().shop().tables().items().len() {
@@ -41,7 +41,7 @@ fn has_need(alloc: Global, plan: &Plan, need: &Need) -> Result<bool, NoMemory>
 }
 
 // The parent's order that a requirement is for, by item and number.
-fn order_for(bills: &[BillLine], kind: NeedKind) -> Option<(usize, usize)>
+pub fn order_for(bills: &[BillLine], kind: NeedKind) -> Option<(usize, usize)>
     ensures { result ≡ causes.order_for bills.now kind }
 {
     let NeedKind::Parent { line, order } = kind else {

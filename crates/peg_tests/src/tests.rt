@@ -2,6 +2,7 @@
 
 mod making;
 mod shops;
+mod traces;
 
 use self::making::plan_of;
 use self::shops::{BICYCLE_PEGS, BICYCLES, BICYCLES_IN_TWO_LINES, BOOKED, PegCells, WHEEL_PEGS};
