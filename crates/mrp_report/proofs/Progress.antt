@@ -7,7 +7,7 @@ use Rattle.std.specs.Io.KnownBytes.{Appends}
 use Rattle.mrp_rows.specs.declared.told.Told.{Told}
 use Rattle.mrp_rows.specs.Told.{inner_of, failures_of, interrupted_of, HasRisenBy}
 use Rattle.mrp_rows.specs.Streams.{RisesBy}
-use Rattle.mrp_report.specs.Written.{HasTaken, HasTakenFront, HasTakenWhole, HasGivenUp, PassesOn}
+use Rattle.mrp_report.specs.Written.{HasTaken, HasTakenFront, HasTakenWhole, HasGivenUp, HasGoneOn, PassesOn}
 
 appends-none : (a : Option (List ℕ)) → Appends a a []
 appends-none None = tt
@@ -117,6 +117,15 @@ given-up contents start now then first tries page text w (inr more) =
     let tried : first - tries + (tries + 1) ≡ first + 1 = omega (arith, w.within) in
     inr (subst (λ (n : ℕ). HasRisenBy n (interrupted_of start) (interrupted_of then)) tried
     (risen-after (first - tries) (tries + 1) (interrupted_of start) (interrupted_of now) (interrupted_of then) w.taken.interrupted more))
+
+-- a writer that took what was passed on has gone on
+pub gone-on : {W : Type 0} (contents : W → Option (List ℕ)) (start now : Told W) (first tries : ℕ) (page text : List ℕ) → IsWritten contents start now first tries page text → HasGoneOn start now first
+gone-on contents start now first tries page text w = (w.taken.failures, omega (arith, w.taken.interrupted.1, w.within))
+
+-- a writer that went on in the last part went on in the whole
+pub gone-on-then : {W : Type 0} (contents : W → Option (List ℕ)) (start now then : Told W) (first tries : ℕ) (page text : List ℕ) → IsWritten contents start now first tries page text
+    → HasGoneOn now then tries → HasGoneOn start then first
+gone-on-then contents start now then first tries page text w last = (last.0 ∙ w.taken.failures, omega (arith, w.taken.interrupted.1, w.within, last.1))
 
 -- so far a section's text is passed on, and the rest of it left on the page
 pub passes-on : {W : Type 0} (contents : W → Option (List ℕ)) (start now : Told W) (first tries : ℕ) (page text : List ℕ) → IsWritten contents start now first tries page text → PassesOn contents start now text page (first - tries)

@@ -4,7 +4,7 @@ ghost use Rattle.std.specs.Prelude.{◌≡◌, ◌++◌, [], Err, None, OnOk, On
 ghost use Rattle.mrp_master.specs.Supply.{supply_of};
 ghost use Rattle.mrp_report.specs.HistoryText.{call_cells, entry_text, history_head, history_text, reply_cells};
 ghost use Rattle.mrp_report.specs.EntryCells.{called_cells, replied_cells};
-ghost use Rattle.mrp_report.specs.Written.{HasGivenUp, HasTakenFront, HasTakenWhole};
+ghost use Rattle.mrp_report.specs.Written.{HasGivenUp, HasGoneOn, HasTakenFront, HasTakenWhole};
 
 use crate::cell::{item_name, number_cell};
 use crate::fault::ReportFault;
@@ -153,8 +153,8 @@ fn entry_row(
 /// Writes the section `history`: a row for each entry of the order book of an equal shop.
 ///
 /// An interrupted write is tried again, at most 1,000,000 times. Errors: `Write` where a write failed
-/// in this call or was interrupted more often, and `NoMemory` where a growth of memory was refused.
-/// A front of the text was written then.
+/// in this call or was interrupted more often, and `NoMemory` where a growth of memory was refused
+/// and neither was so. A front of the text was written then.
 pub fn write_history<W: Write>(
     alloc: Global,
     history: &History,
@@ -165,6 +165,7 @@ pub fn write_history<W: Write>(
     ensures whole { OnOk result (HasTakenWhole W.contents writer.old writer.new (history_text shop.now.tables history.now.entries)) }
     ensures front { OnErr result (HasTakenFront W.contents writer.old writer.new (history_text shop.now.tables history.now.entries)) }
     ensures refused { result ≡ Err ReportFault.Write → HasGivenUp writer.old writer.new 1000000 }
+    ensures memory { result ≡ Err ReportFault.NoMemory → HasGoneOn writer.old writer.new 1000000 }
 {
     let tables = shop.tables();
     let mut tries = Tries::new();

@@ -5,7 +5,7 @@ ghost use Rattle.mrp_master.specs.Supply.{supply_of};
 ghost use Rattle.mrp_report.specs.ReportText.{report_text};
 ghost use Rattle.mrp_report.specs.RunText.{run_text};
 ghost use Rattle.mrp_report.specs.Sections.{section_text};
-ghost use Rattle.mrp_report.specs.Written.{HasGivenUp, HasTakenFront, HasTakenWhole, PassesOn};
+ghost use Rattle.mrp_report.specs.Written.{HasGivenUp, HasGoneOn, HasTakenFront, HasTakenWhole, PassesOn};
 
 use crate::fault::ReportFault;
 use crate::page::Page;
@@ -41,6 +41,7 @@ fn write_section<W: Write>(
     ensures tries { tries.new ≤ tries.old }
     ensures front { OnErr result (HasTakenFront W.contents writer.old writer.new (page.old ++ section_text plan.now.inputs section)) }
     ensures refused { result ≡ Err ReportFault.Write → HasGivenUp writer.old writer.new tries.old }
+    ensures memory { result ≡ Err ReportFault.NoMemory → HasGoneOn writer.old writer.new tries.old }
 {
     section.begin(page)?;
     for item in 0..plan.inputs().shop().tables().items().len() {
@@ -54,8 +55,8 @@ fn write_section<W: Write>(
 /// and `messages`.
 ///
 /// An interrupted write is tried again, at most 1,000,000 times. Errors: `Write` where a write failed
-/// in this call or was interrupted more often, and `NoMemory` where a growth of memory was refused.
-/// A front of the text was written then.
+/// in this call or was interrupted more often, and `NoMemory` where a growth of memory was refused
+/// and neither was so. A front of the text was written then.
 pub fn write_report<W: Write>(
     _rt: &impl Alloc,
     alloc: Global,
@@ -65,6 +66,7 @@ pub fn write_report<W: Write>(
     ensures whole { OnOk result (HasTakenWhole W.contents writer.old writer.new (report_text plan.now.inputs)) }
     ensures front { OnErr result (HasTakenFront W.contents writer.old writer.new (report_text plan.now.inputs)) }
     ensures refused { result ≡ Err ReportFault.Write → HasGivenUp writer.old writer.new 1000000 }
+    ensures memory { result ≡ Err ReportFault.NoMemory → HasGoneOn writer.old writer.new 1000000 }
 {
     let mut tries = Tries::new();
     let mut page = Page::new(alloc);

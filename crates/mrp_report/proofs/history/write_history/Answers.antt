@@ -1,11 +1,11 @@
-use Rattle.std.proofs.Common.{◌≡◌, ◌∙◌, ◌+◌, ◌++◌, ℕ, List, [], ap, sym, subst, arith, length}
+use Rattle.std.proofs.Common.{◌≡◌, ◌∙◌, ◌+◌, ◌++◌, ℕ, List, [], ap, sym, subst, arith, rules, length}
 use Rattle.std.proofs.lemmas.List.{append-nil}
 use Rattle.mrp_turn.specs.declared.log.Entry.{Entry}
 use Rattle.mrp_book.specs.declared.call.Call.{Call}
 use Rattle.mrp_book.specs.declared.reply.Reply.{Reply}
 use Rattle.mrp_report.specs.HistoryText.{history_head, history_text}
 use Rattle.mrp_report.proofs.HistoryTexts.{so_far, so_far-none, to-come, whole, entry-written}
-use Rattle.mrp_report.proofs.Progress.{IsWritten, written-none, written-passed, written-whole, front-now, front-then, on-err, on-err-then, on-ok-then}
+use Rattle.mrp_report.proofs.Progress.{IsWritten, written-none, written-passed, written-whole, front-now, front-then, gone-on, gone-on-then, on-err, on-err-then, on-ok-then}
 use Rattle.mrp_report.proofs.history.write_history.Goals as goal
 
 pub loop-place-init : goal.loop-place-init
@@ -69,3 +69,18 @@ returns-clause-front g c =
     on-err-then c.hand_over.result
     (front-then g.W.Write.contents c.args.writer.now c.loop-place.writer c.hand_over.new.writer 1000000 c.loop-place.tries c.loop-place.page (history_text t h) [] (history_text t h) written (sym (append-nil (history_text t h))))
     c.hand_over.ensures.front
+
+pub returns-in_err-entry_row-clause-memory : goal.returns-in_err-entry_row-clause-memory
+returns-in_err-entry_row-clause-memory g c refused =
+    gone-on g.W.Write.contents c.args.writer.now c.loop-place.writer 1000000 c.loop-place.tries c.loop-place.page
+    (so_far c.args.shop.now.tables c.args.history.now.entries c.loop-place.place) c.loop-place.invariant
+
+pub returns-in_err-pass_on-clause-memory : goal.returns-in_err-pass_on-clause-memory
+returns-in_err-pass_on-clause-memory g c refused =
+    gone-on-then g.W.Write.contents c.args.writer.now c.loop-place.writer c.pass_on.new.writer 1000000 c.loop-place.tries c.loop-place.page
+    (so_far c.args.shop.now.tables c.args.history.now.entries c.loop-place.place) c.loop-place.invariant (c.in_err-pass_on.ensures.memory (search rules))
+
+pub returns-clause-memory : goal.returns-clause-memory
+returns-clause-memory g c refused =
+    gone-on-then g.W.Write.contents c.args.writer.now c.loop-place.writer c.hand_over.new.writer 1000000 c.loop-place.tries c.loop-place.page
+    (so_far c.args.shop.now.tables c.args.history.now.entries c.loop-place.place) c.loop-place.invariant (c.hand_over.ensures.memory refused)

@@ -1,10 +1,10 @@
-use Rattle.std.proofs.Common.{◌≡◌, ◌∙◌, ◌+◌, ◌++◌, ◌<◌, ℕ, List, length, ap, sym, subst, arith, append_assoc}
+use Rattle.std.proofs.Common.{◌≡◌, ◌∙◌, ◌+◌, ◌++◌, ◌<◌, ℕ, List, length, ap, sym, subst, arith, append_assoc, rules}
 use Rattle.std.specs.List.{flat_map}
 use Rattle.mrp_item.specs.Inputs.{count, places}
 use Rattle.mrp_report.specs.Sections.{head_of, rows_of, section_text}
 use Rattle.mrp_report.proofs.ListTexts.{so_far, to-come, whole}
 use Rattle.mrp_report.proofs.ListWritten.{next-written}
-use Rattle.mrp_report.proofs.Progress.{IsWritten, front-now, front-then, on-err, passes-on, written-passed}
+use Rattle.mrp_report.proofs.Progress.{IsWritten, front-now, front-then, gone-on, gone-on-then, on-err, passes-on, written-passed}
 use Rattle.mrp_report.proofs.SectionTexts.{all-places, item-at}
 use Rattle.mrp_report.proofs.report.write_section.Goals as goal
 
@@ -63,3 +63,15 @@ returns-clause-passed g c =
     passes-on g.W.Write.contents c.args.writer.now c.loop-item.writer c.args.tries.now c.loop-item.tries c.loop-item.page (page ++ section_text s c.args.section)
     (subst (λ (t : List ℕ). IsWritten g.W.Write.contents c.args.writer.now c.loop-item.writer c.args.tries.now c.loop-item.tries c.loop-item.page t)
     (whole (page ++ head) text (places s) c.loop-item.item all ∙ append_assoc page head (flat_map text (places s))) c.loop-item.invariant.1)
+
+pub returns-in_err-add_item-clause-memory : goal.returns-in_err-add_item-clause-memory
+returns-in_err-add_item-clause-memory g c refused =
+    let s = c.args.plan.now.inputs in
+    gone-on g.W.Write.contents c.args.writer.now c.loop-item.writer c.args.tries.now c.loop-item.tries c.loop-item.page
+    (so_far (c.args.page.now ++ head_of c.args.section) (rows_of s c.args.section) (places s) c.loop-item.item) c.loop-item.invariant.1
+
+pub returns-in_err-pass_on-clause-memory : goal.returns-in_err-pass_on-clause-memory
+returns-in_err-pass_on-clause-memory g c refused =
+    let s = c.args.plan.now.inputs in
+    gone-on-then g.W.Write.contents c.args.writer.now c.loop-item.writer c.pass_on.new.writer c.args.tries.now c.loop-item.tries c.loop-item.page
+    (so_far (c.args.page.now ++ head_of c.args.section) (rows_of s c.args.section) (places s) c.loop-item.item) c.loop-item.invariant.1 (c.in_err-pass_on.ensures.memory (search rules))
