@@ -12,7 +12,7 @@ use Rattle.mrp_item.specs.Places.{WholePlan}
 use Rattle.mrp_report.specs.ReportText.{report_text}
 use Rattle.mrp_report.specs.Written.{HasGivenUp, HasTakenFront, HasTakenWhole}
 use Rattle.mrp_engine.specs.Planned.{inputs_of_plans}
-use Rattle.mrp_engine.specs.Run.{HasTakenAll}
+use Rattle.mrp_engine.specs.Run.{HasNotFailed, HasTakenAll}
 
 appends-none : (a : Option (List ℕ)) → Appends a a []
 appends-none None = tt
@@ -72,6 +72,10 @@ pub given-up-later : {W : Type 0} (contents : W → Option (List ℕ)) (a b c : 
 given-up-later contents a b c s tries (m, taken) (inl failed) = inl (subst (λ (n : ℕ). HasRisenBy 1 n (failures_of c)) taken.failures failed)
 given-up-later contents a b c s tries (m, taken) (inr more) =
     inr (risen-after m (tries + 1) (interrupted_of a) (interrupted_of b) (interrupted_of c) taken.interrupted more)
+
+-- a writer that did not fail in a later part did not fail in the whole
+pub not-failed-later : {W : Type 0} (contents : W → Option (List ℕ)) (a b c : Told W) (s : List ℕ) → HasTakenAll contents a b s → HasNotFailed b c → HasNotFailed a c
+not-failed-later contents a b c s (m, taken) later = later ∙ taken.failures
 
 -- The reports of plans.
 

@@ -16,6 +16,10 @@ IsRead given bundle = IfSome given (λ bytes. bundle ≡ bytes) × (length bundl
 abbrev pub IsReadWithin : {R : Type 0} → Told R → Told R → Type 0
 IsReadWithin old new = (failures_of new ≡ failures_of old) × (calls_of new ≤ calls_of old + 100000000)
 
+-- a reader or a writer has not failed
+abbrev pub HasNotFailed : {T : Type 0} → Told T → Told T → Type 0
+HasNotFailed old new = failures_of new ≡ failures_of old
+
 -- a reader failed, passed its limit of calls, or gave more bytes than a bundle may have
 abbrev pub HasPassedLimits : {R : Type 0} → Told R → Told R → Type 0
 HasPassedLimits old new =

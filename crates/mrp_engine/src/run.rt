@@ -8,7 +8,7 @@ ghost use Rattle.mrp_rows.specs.Told.{inner_of, moved_of};
 ghost use Rattle.mrp_rows.specs.declared.fault.Fault.{Fault};
 ghost use Rattle.mrp_report.specs.Written.{HasGivenUp};
 ghost use Rattle.mrp_engine.specs.Day.{IsRefused, IsTooLarge};
-ghost use Rattle.mrp_engine.specs.Run.{HasPassedLimits, HasTakenAll, IsAfterReading, IsBeforeWriting, IsRead, IsReadWithin, TellsDay, WritesDayFront};
+ghost use Rattle.mrp_engine.specs.Run.{HasNotFailed, HasPassedLimits, HasTakenAll, IsAfterReading, IsBeforeWriting, IsRead, IsReadWithin, TellsDay, WritesDayFront};
 
 use crate::fault::DayFault;
 use crate::reading::read_shop;
@@ -33,7 +33,7 @@ use std::thread::Threads;
 /// more than 67,108,864 bytes; `Refused` with the bundle's first fault, the loop last; `TooLarge`
 /// with the first item in table order that gets too large in the first run with such an item; `Write`
 /// where the writer failed in this call or was interrupted more than 1,000,000 times; `NoMemory`
-/// where memory was refused.
+/// where memory was refused, and neither failed.
 pub fn run_day<R: Read, W: Write>(
     rt: &(impl Alloc + Threads + Sync),
     alloc: Global,
@@ -53,6 +53,7 @@ pub fn run_day<R: Read, W: Write>(
     ensures gave_up { result ≡ Err DayFault.Write → HasGivenUp writer.old writer.new 1000000 }
     ensures memory { result ≡ Err DayFault.NoMemory → (writer.new ≡ writer.old)
         ⊎ (IsAtEnd (R.remaining (inner_of reader.new)) × WritesDayFront W.contents (R.remaining (inner_of reader.old)) writer.old writer.new) }
+    ensures unfailed { result ≡ Err DayFault.NoMemory → HasNotFailed reader.old reader.new × HasNotFailed writer.old writer.new }
 
     // Nothing is written before every run is planned.
     ensures unwritten { IfErr result (λ fault. IsBeforeWriting fault → writer.new ≡ writer.old) }

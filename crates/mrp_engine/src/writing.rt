@@ -6,7 +6,7 @@ ghost use Rattle.mrp_report.specs.ReportText.{report_text};
 ghost use Rattle.mrp_report.specs.Written.{HasGivenUp, HasTakenFront};
 ghost use Rattle.mrp_engine.specs.Day.{day_text, runs_of};
 ghost use Rattle.mrp_engine.specs.Planned.{inputs_of_plans};
-ghost use Rattle.mrp_engine.specs.Run.{HasTakenAll};
+ghost use Rattle.mrp_engine.specs.Run.{HasNotFailed, HasTakenAll};
 
 use mrp_bill::Shop;
 use mrp_book::History;
@@ -26,6 +26,7 @@ fn write_reports<W: Write>(
     ensures whole { OnOk result (HasTakenAll W.contents writer.old writer.new (flat_map report_text (inputs_of_plans plans.now))) }
     ensures front { OnErr result (HasTakenFront W.contents writer.old writer.new (flat_map report_text (inputs_of_plans plans.now))) }
     ensures refused { result ≡ Err ReportFault.Write → HasGivenUp writer.old writer.new 1000000 }
+    ensures memory { result ≡ Err ReportFault.NoMemory → HasNotFailed writer.old writer.new }
 {
     for plan in plans {
         write_report(rt, alloc, plan, writer)?;
@@ -36,8 +37,8 @@ fn write_reports<W: Write>(
 /// Writes a day: the history, and then the report of each of its runs.
 ///
 /// Errors: `Write` where a write failed in this call, or more than 1,000,000 were interrupted in the
-/// history or in a report, and `NoMemory` where a growth of memory was refused. A front of the text
-/// was written then.
+/// history or in a report, and `NoMemory` where a growth of memory was refused, after no failed write.
+/// A front of the text was written then.
 pub fn write_day<W: Write>(
     rt: &impl Alloc,
     alloc: Global,
@@ -51,6 +52,7 @@ pub fn write_day<W: Write>(
     ensures whole { OnOk result (HasTakenAll W.contents writer.old writer.new (day_text shop.now.tables history.now.entries)) }
     ensures front { OnErr result (HasTakenFront W.contents writer.old writer.new (day_text shop.now.tables history.now.entries)) }
     ensures refused { result ≡ Err ReportFault.Write → HasGivenUp writer.old writer.new 1000000 }
+    ensures memory { result ≡ Err ReportFault.NoMemory → HasNotFailed writer.old writer.new }
 {
     write_history(alloc, history, shop, writer)?;
     write_reports(rt, alloc, plans, writer)

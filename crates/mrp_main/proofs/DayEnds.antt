@@ -1,14 +1,14 @@
 -- How a command ends, by how its day ended.
-use Rattle.std.proofs.Common.{◌≡◌, ◌⊎◌, inl, inr, ℕ, List, Option, refl, sym, subst}
+use Rattle.std.proofs.Common.{◌≡◌, ◌⊎◌, inl, inr, ℕ, List, Option, Err, ap, refl, sym, subst}
 use Rattle.std.specs.Io.KnownBytes.{IsAtEnd}
 use Rattle.mrp_rows.specs.declared.fault.Fault.{Fault}
 use Rattle.mrp_rows.specs.declared.told.Told.{Told}
-use Rattle.mrp_rows.specs.Told.{inner_of}
+use Rattle.mrp_rows.specs.Told.{inner_of, failures_of}
 use Rattle.mrp_report.specs.Written.{HasGivenUp, HasTakenFront}
 use Rattle.mrp_engine.specs.declared.fault.DayFault.{DayFault}
 use Rattle.mrp_engine.specs.declared.fault.DayFault.TheVariants as fault
 use Rattle.mrp_engine.specs.Day.{IsRefused, IsTooLarge}
-use Rattle.mrp_engine.specs.Run.{HasPassedLimits, IsBeforeWriting, IsRead, WritesDayFront}
+use Rattle.mrp_engine.specs.Run.{HasNotFailed, HasPassedLimits, IsAfterReading, IsBeforeWriting, IsRead, IsReadWithin, WritesDayFront}
 use Rattle.mrp_main.specs.declared.status.Status.{Status}
 use Rattle.mrp_main.specs.declared.status.Status.TheVariants.{Done, Refused, Usage, NoMemory, Stream}
 use Rattle.mrp_main.specs.Ends.{HasNoDay, PlanEnds}
@@ -18,19 +18,26 @@ use Rattle.mrp_main.specs.Status.{IsStatusOf}
 pub record IsLeftBy {R W : Type 0} (remaining : R → Option (List ℕ)) (contents : W → Option (List ℕ)) (input read : Told R) (output written : Told W) (given : DayFault) : Type 0 where
   pub refused : (f : Fault) → given ≡ fault.Refused f → (bundle : List ℕ) × IsRead (remaining (inner_of input)) bundle × IsRefused bundle f
   pub too_large : (name : List ℕ) → given ≡ fault.TooLarge name → (bundle : List ℕ) × IsRead (remaining (inner_of input)) bundle × IsTooLarge bundle name
+  pub read_whole : (f : Fault) → given ≡ fault.Refused f → IsReadWithin input read
   pub limits : given ≡ fault.Read → HasPassedLimits input read
   pub front : given ≡ fault.Write → WritesDayFront contents (remaining (inner_of input)) output written
   pub gave_up : given ≡ fault.Write → HasGivenUp output written 1000000
   pub memory : given ≡ fault.NoMemory → (written ≡ output) ⊎ WritesDayFront contents (remaining (inner_of input)) output written
+  pub unfailed : given ≡ fault.NoMemory → HasNotFailed input read × HasNotFailed output written
   pub unwritten : IsBeforeWriting given → written ≡ output
+
+-- a bundle is refused after it was read
+pub after-refusal : {X : Type 0} (given : DayFault) (f : Fault) → given ≡ fault.Refused f → IsAfterReading {X = X} (Err given)
+after-refusal {X} given f e = subst (λ (x : DayFault). IsAfterReading {X = X} (Err x)) (sym e) tt
 
 -- each refusal of a day is its status
 pub refusal-ends : {R W : Type 0} (remaining : R → Option (List ℕ)) (contents : W → Option (List ℕ)) (input read : Told R) (output written : Told W) (given : DayFault) (status : Status)
     → IsLeftBy remaining contents input read output written given → IsStatusOf given status → PlanEnds remaining contents input read output written status
-refusal-ends remaining contents input read output written (fault.Refused f) status left is = elim is [
+refusal-ends {R} {W} remaining contents input read output written (fault.Refused f) status left is = elim is [
   | inl e ↦ subst (λ (s : Status). PlanEnds remaining contents input read output written s) (sym e)
       (let (bundle, given, refused) = left.refused f refl in ((bundle, given, inl (f, refused)), left.unwritten tt))
-  | inr e ↦ subst (λ (s : Status). PlanEnds remaining contents input read output written s) (sym e) (inl (left.unwritten tt))
+  | inr e ↦ subst (λ (s : Status). PlanEnds remaining contents input read output written s) (sym e)
+      ((left.read_whole f refl).0, ap (λ (w : Told W). failures_of w) (left.unwritten tt), inl (left.unwritten tt))
 ]
 refusal-ends remaining contents input read output written (fault.TooLarge name) status left is =
     subst (λ (s : Status). PlanEnds remaining contents input read output written s) (sym is)
@@ -41,4 +48,4 @@ refusal-ends remaining contents input read output written fault.Write status lef
     subst (λ (s : Status). PlanEnds remaining contents input read output written s) (sym is)
     (let (text, tells, front) = left.front refl in inr (left.gave_up refl, (text, tells, front)))
 refusal-ends remaining contents input read output written fault.NoMemory status left is =
-    subst (λ (s : Status). PlanEnds remaining contents input read output written s) (sym is) (left.memory refl)
+    subst (λ (s : Status). PlanEnds remaining contents input read output written s) (sym is) ((left.unfailed refl).0, (left.unfailed refl).1, left.memory refl)

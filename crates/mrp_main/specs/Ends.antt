@@ -5,7 +5,7 @@ use Rattle.mrp_rows.specs.declared.told.Told.{Told}
 use Rattle.mrp_rows.specs.Told.{inner_of}
 use Rattle.mrp_report.specs.Written.{HasGivenUp, HasTakenFront, HasTakenWhole}
 use Rattle.mrp_engine.specs.Day.{IsRefused, IsTooLarge}
-use Rattle.mrp_engine.specs.Run.{HasPassedLimits, HasTakenAll, IsRead, TellsDay, WritesDayFront}
+use Rattle.mrp_engine.specs.Run.{HasNotFailed, HasPassedLimits, HasTakenAll, IsRead, TellsDay, WritesDayFront}
 use Rattle.mrp_main.specs.declared.status.Status.{Status}
 use Rattle.mrp_main.specs.declared.status.Status.TheVariants.{Done, Refused, Usage, NoMemory, Stream}
 
@@ -19,7 +19,8 @@ PlanEnds remaining contents input read output written Done =
     (text : List ℕ) × TellsDay (remaining (inner_of input)) text × HasTakenAll contents output written text
 PlanEnds remaining contents input read output written Refused = HasNoDay (remaining (inner_of input)) × (written ≡ output)
 PlanEnds remaining contents input read output written Usage = ⊥
-PlanEnds remaining contents input read output written NoMemory = (written ≡ output) ⊎ WritesDayFront contents (remaining (inner_of input)) output written
+PlanEnds remaining contents input read output written NoMemory =
+    HasNotFailed input read × HasNotFailed output written × ((written ≡ output) ⊎ WritesDayFront contents (remaining (inner_of input)) output written)
 PlanEnds remaining contents input read output written Stream =
     (HasPassedLimits input read × (written ≡ output))
     ⊎ (HasGivenUp output written 1000000 × WritesDayFront contents (remaining (inner_of input)) output written)

@@ -65,3 +65,7 @@ returns-clause-memory g c e =
     let told : TellsDay given (day_text c.deref-2.result.now.tables h) =
     subst (λ (x : Tables). TellsDay given (day_text x h)) (sym written) (tells-day given t h read answers c.in_ok-plans.ensures.1) in
     inr (c.in_ok-read_shop.ensures.end, (day_text c.deref-2.result.now.tables h, told, c.in-Err-NoMemory.ensures.front))
+
+pub returns-clause-unfailed : goal.returns-clause-unfailed
+returns-clause-unfailed g c e =
+    ((c.in_ok-read_shop.ensures.within tt).0, c.in-Err-NoMemory.ensures.memory (ap (λ (f : ReportFault). Err f) c.in-Err-NoMemory.field-0-is))
