@@ -25,9 +25,9 @@ use std::thread::Threads;
 /// Reads a bundle to its end, answers its script, plans its runs, and writes the history and the
 /// report of each run. Nothing is written before every run is planned.
 ///
-/// The items of a low-level code are planned side by side, by so many threads as there are
-/// processors. An interrupted read or write is tried again. It owes 1 to 64 workers, of which it
-/// makes no use.
+/// The items of a low-level code are planned side by side, and the work centres' loads are summed side
+/// by side, by so many threads as there are processors. An interrupted read or write is tried again.
+/// It owes 1 to 64 workers, of which it makes no use.
 ///
 /// Errors: `Read` where the reader failed in this call, needed more than 100,000,000 calls or gave
 /// more than 67,108,864 bytes; `Refused` with the bundle's first fault, the loop last; `TooLarge`

@@ -15,10 +15,11 @@ use mrp_report::{ReportFault, write_history, write_report};
 use mrp_rows::Told;
 use std::alloc::Global;
 use std::io::Write;
+use std::thread::Threads;
 
 // Writes the reports of plans, one after the other.
 fn write_reports<W: Write>(
-    rt: &impl Alloc,
+    rt: &(impl Alloc + Threads + Sync),
     alloc: Global,
     plans: &[Plan],
     writer: &mut Told<W>,
@@ -40,7 +41,7 @@ fn write_reports<W: Write>(
 /// history or in a report, and `NoMemory` where a growth of memory was refused, after no failed write.
 /// A front of the text was written then.
 pub fn write_day<W: Write>(
-    rt: &impl Alloc,
+    rt: &(impl Alloc + Threads + Sync),
     alloc: Global,
     shop: &Shop,
     history: &History,

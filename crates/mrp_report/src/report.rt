@@ -16,6 +16,7 @@ use mrp_qty::NoMemory;
 use mrp_rows::{Told, Tries};
 use std::alloc::Global;
 use std::io::Write;
+use std::thread::Threads;
 
 // Adds the section `run`.
 fn write_run(page: &mut Page, plan: &Plan) -> Result<(), NoMemory>
@@ -37,6 +38,7 @@ fn write_section<W: Write>(
 ) -> Result<(), ReportFault>
     requires supply { readings.now.supply ≡ supply_of plan.now.inputs.tables }
     requires names { readings.now.names.tables.now ≡ plan.now.inputs.tables }
+    requires loads { readings.now.loads ≡ plan.now.inputs }
     ensures passed { OnOk result (PassesOn W.contents writer.old writer.new (page.old ++ section_text plan.now.inputs section) page.new (tries.old - tries.new)) }
     ensures tries { tries.new ≤ tries.old }
     ensures front { OnErr result (HasTakenFront W.contents writer.old writer.new (page.old ++ section_text plan.now.inputs section)) }
@@ -44,21 +46,21 @@ fn write_section<W: Write>(
     ensures memory { result ≡ Err ReportFault.NoMemory → HasGoneOn writer.old writer.new tries.old }
 {
     section.begin(page)?;
-    for item in 0..plan.inputs().shop().tables().items().len() {
-        section.add_item(alloc, page, plan, readings, item)?;
+    for place in 0..section.count(plan) {
+        section.add(alloc, page, plan, readings, place)?;
         page.pass_on(writer, tries)?;
     }
     Ok(())
 }
 
-/// Writes the report of a run: the sections `run`, `promises`, `plan`, `orders`, `pegs`
-/// and `messages`.
+/// Writes the report of a run: the sections `run`, `promises`, `plan`, `orders`, `pegs`, `messages`
+/// and `loads`. The work centres' loads are made side by side, before anything is written.
 ///
 /// An interrupted write is tried again, at most 1,000,000 times. Errors: `Write` where a write failed
 /// in this call or was interrupted more often, and `NoMemory` where a growth of memory was refused
 /// and neither was so. A front of the text was written then.
 pub fn write_report<W: Write>(
-    _rt: &impl Alloc,
+    rt: &(impl Alloc + Threads + Sync),
     alloc: Global,
     plan: &Plan,
     writer: &mut Told<W>,
@@ -70,7 +72,7 @@ pub fn write_report<W: Write>(
 {
     let mut tries = Tries::new();
     let mut page = Page::new(alloc);
-    let readings = Readings::of(alloc, plan.inputs().shop())?;
+    let readings = Readings::of(rt, alloc, plan)?;
     write_run(&mut page, plan)?;
     for section in SECTIONS {
         write_section(
