@@ -1,10 +1,8 @@
 //! Worked explosions, by both calls.
 
-mod making;
-
-use self::making::{BICYCLES, BICYCLES_IN_LOTS, BOOKED, CHAIN, FORK, Records, SCREWS, inputs_of};
 use mrp_explode::{RunFault, explode_levels, explode_serial};
 use mrp_item::{Order, Plan};
+use sample_shops::{BOOKED, Records, bicycles, bicycles_in_lots, chain, fork, inputs_of};
 use std::alloc::Global;
 use std::fmt::Debug;
 use std::process::Abort;
@@ -40,7 +38,7 @@ fn explodes<R: Threads + Abort + Sync>(
     booked: &[(u16, u64)],
     want: &[&[(u16, u64)]],
 ) -> Result<(), Fail> {
-    let inputs = inputs_of(alloc, records, booked)?;
+    let inputs = inputs_of(alloc, &records.bundle(alloc)?, booked, 1)?;
     are_planned(rt, &explode_serial(alloc, &inputs)?, want);
     are_planned(rt, &explode_levels(rt, alloc, &inputs)?, want);
     Ok(())
@@ -53,7 +51,7 @@ fn is_refused<R: Threads + Abort + Sync>(
     records: &Records<'_>,
     item: usize,
 ) -> Result<(), Fail> {
-    let inputs = inputs_of(alloc, records, &[])?;
+    let inputs = inputs_of(alloc, &records.bundle(alloc)?, &[], 1)?;
     let over = Some(RunFault::TooLarge { item });
     same(rt, explode_serial(alloc, &inputs).err(), over);
     same(rt, explode_levels(rt, alloc, &inputs).err(), over);
@@ -65,7 +63,7 @@ fn bicycles_explode(rt: HostRuntime) -> Result<(), Fail> {
     let bikes: &[(u16, u64)] = &[(3, 20), (5, 20)];
     let frames: &[(u16, u64)] = &[(2, 20), (4, 20)];
     let wheels: &[(u16, u64)] = &[(2, 40), (4, 40)];
-    explodes(&rt, rt.alloc(), &BICYCLES, &[], &[bikes, frames, wheels])
+    explodes(&rt, rt.alloc(), &bicycles(), &[], &[bikes, frames, wheels])
 }
 
 #[test]
@@ -76,11 +74,20 @@ fn bicycles_in_lots_explode(rt: HostRuntime) -> Result<(), Fail> {
     explodes(
         &rt,
         rt.alloc(),
-        &BICYCLES_IN_LOTS,
+        &bicycles_in_lots(),
         BOOKED,
         &[bikes, frames, wheels],
     )
 }
+
+// A part that is needed at three levels, and stands before its parents in the table.
+const SCREWS: Records<'static> = Records {
+    items: "BIKE,master,0,0,lfl,0,0\nSCREW,part,0,0,lfl,0,0\nTUBE,part,0,0,lfl,0,0\nFRAME,part,0,0,lfl,0,0\n",
+    stock: "",
+    receipts: "",
+    bills: "BIKE,SCREW,1\nBIKE,FRAME,1\nFRAME,TUBE,1\nTUBE,SCREW,1\n",
+    master: "BIKE,firm,2025-01-13,3\n",
+};
 
 #[test]
 fn a_part_at_three_levels_is_planned_once(rt: HostRuntime) -> Result<(), Fail> {
@@ -98,24 +105,39 @@ fn a_part_at_three_levels_is_planned_once(rt: HostRuntime) -> Result<(), Fail> {
 fn parts_in_millions_are_too_large(rt: HostRuntime) -> Result<(), Fail> {
     let alloc = rt.alloc();
     let more = Records {
-        master: FORK.master,
-        ..CHAIN
+        master: fork().master,
+        ..chain()
     };
-    is_refused(&rt, alloc, &CHAIN, 3)?;
+    is_refused(&rt, alloc, &chain(), 3)?;
     is_refused(&rt, alloc, &more, 2)?;
-    is_refused(&rt, alloc, &FORK, 2)
+    is_refused(&rt, alloc, &fork(), 2)
+}
+
+// Appends so many records of parts, with their numbers between these texts.
+fn add_parts(
+    alloc: Global,
+    records: &mut String,
+    count: usize,
+    front: &str,
+    back: &str,
+) -> Result<(), Fail> {
+    for part in 0..count {
+        let record = format!(in alloc; "{front}P{part},{back}\n")?;
+        records.push_str(&record)?;
+    }
+    Ok(())
 }
 
 #[test]
 fn many_parts_of_a_level_explode(rt: HostRuntime) -> Result<(), Fail> {
     let alloc = rt.alloc();
-    let mut items = format!(in alloc; "TOP,master,0,0,lfl,0,0\n")?;
+    let mut items = String::from_str(alloc, "TOP,master,0,0,lfl,0,0\n")?;
+    add_parts(alloc, &mut items, 200, "", "part,0,0,lfl,0,0")?;
     let mut bills = String::new(alloc);
+    add_parts(alloc, &mut bills, 200, "TOP,", "2")?;
     let mut want: Vec<&[(u16, u64)]> = Vec::new(alloc);
     want.push(&[(1, 3)])?;
-    for part in 0..200u32 {
-        items.push_str(format!(in alloc; "P{part},part,0,0,lfl,0,0\n")?.as_str())?;
-        bills.push_str(format!(in alloc; "TOP,P{part},2\n")?.as_str())?;
+    for _ in 0..200 {
         want.push(&[(1, 6)])?;
     }
     let records = Records {

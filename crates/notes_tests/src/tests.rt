@@ -1,17 +1,22 @@
 //! Worked messages.
 
-mod making;
 mod shops;
 
-use self::making::plan_of;
 use self::shops::{
     BICYCLE_MESSAGES, BOOKED, LOT_MESSAGES, MessageCells, bicycles, bicycles_in_lots,
 };
 use mrp_item::Plan;
 use mrp_notes::{Message, item_messages, messages};
+use sample_shops::plan_of;
 use std::alloc::Global;
+use std::fmt::Debug;
 use std::process::Abort;
 use std::test::Fail;
+
+// Fails unless the two are equal. One proof of the comparison serves all calls.
+fn same<T: PartialEq + Debug + Drop>(rt: &impl Abort, got: T, want: T) {
+    assert_eq!(rt; got, want);
+}
 
 fn messages_of(alloc: Global, rows: &[MessageCells]) -> Result<Vec<Message>, Fail> {
     let mut messages = Vec::new(alloc);
@@ -33,14 +38,16 @@ fn has_messages(
     rows: &[MessageCells],
 ) -> Result<(), Fail> {
     let want = messages_of(alloc, rows)?;
-    let told = messages(alloc, plan)?;
-    assert_eq!(rt; told.as_slice(), want.as_slice());
+    let told = messages(alloc, plan).expect(rt, "memory");
+    same(rt, told.as_slice(), want.as_slice());
     let mut by_item = Vec::new(alloc);
     for item in 0..plan.inputs().shop().tables().items().len() {
-        let own = item_messages(alloc, plan.item(item))?;
-        by_item.extend_from_slice(own.as_slice())?;
+        let own = item_messages(alloc, plan.item(item)).expect(rt, "memory");
+        by_item
+            .extend_from_slice(own.as_slice())
+            .expect(rt, "memory");
     }
-    assert_eq!(rt; by_item.as_slice(), want.as_slice());
+    same(rt, by_item.as_slice(), want.as_slice());
     Ok(())
 }
 

@@ -1,16 +1,21 @@
 //! Worked pegs.
 
-mod making;
 mod shops;
 
-use self::making::plan_of;
 use self::shops::{BICYCLE_PEGS, BICYCLES, BICYCLES_IN_TWO_LINES, BOOKED, PegCells, WHEEL_PEGS};
 use mrp_item::Plan;
 use mrp_peg::{Need, Peg, item_pegs, pegs};
 use mrp_qty::Qty;
+use sample_shops::plan_of;
 use std::alloc::Global;
+use std::fmt::Debug;
 use std::process::Abort;
 use std::test::Fail;
+
+// Fails unless the two are equal. One proof of the comparison serves all calls.
+fn same<T: PartialEq + Debug + Drop>(rt: &impl Abort, got: T, want: T) {
+    assert_eq!(rt; got, want);
+}
 
 fn pegs_of(alloc: Global, item: usize, rows: &[PegCells]) -> Result<Vec<Peg>, Fail> {
     let mut pegs = Vec::new(alloc);
@@ -44,8 +49,9 @@ fn has_pegs(
     if item >= plan.inputs().shop().tables().items().len() {
         return Err(Fail::from("no such item"));
     }
-    let own = item_pegs(alloc, plan, item)?;
-    assert_eq!(rt; own.as_slice(), pegs_of(alloc, item, rows)?.as_slice());
+    let want = pegs_of(alloc, item, rows)?;
+    let own = item_pegs(alloc, plan, item).expect(rt, "memory");
+    same(rt, own.as_slice(), want.as_slice());
     Ok(())
 }
 
@@ -54,10 +60,12 @@ fn has_all_pegs(rt: &impl Abort, alloc: Global, plan: &Plan) -> Result<(), Fail>
     let all = pegs(alloc, plan)?;
     let mut by_item = Vec::new(alloc);
     for item in 0..plan.inputs().shop().tables().items().len() {
-        let own = item_pegs(alloc, plan, item)?;
-        by_item.extend_from_slice(own.as_slice())?;
+        let own = item_pegs(alloc, plan, item).expect(rt, "memory");
+        by_item
+            .extend_from_slice(own.as_slice())
+            .expect(rt, "memory");
     }
-    assert_eq!(rt; all.as_slice(), by_item.as_slice());
+    same(rt, all.as_slice(), by_item.as_slice());
     Ok(())
 }
 

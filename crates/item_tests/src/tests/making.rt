@@ -1,102 +1,40 @@
-//! Inputs and outcomes for tests.
-ghost use Rattle.std.specs.Prelude.{◌≡◌, ◌<◌, All, IfOk, OnOk, map};
+//! Outcomes and plans for tests.
+
+ghost use Rattle.std.specs.Prelude.{◌≡◌, ◌<◌, All, IfOk, map};
 ghost use Rattle.std.specs.List.{range_with_len};
-ghost use Rattle.mrp_master.specs.Supply.{supply_of};
-ghost use Rattle.mrp_book.specs.Booked.{AreBooked};
 ghost use Rattle.mrp_item.specs.Inputs.{count, places};
 ghost use Rattle.mrp_item.specs.Made.{AreParents, inputs_in, item_in};
 
-use super::shops::{FRONT, Records};
-use mrp_bill::{Bill, Shop};
-use mrp_book::{Book, Booking, Call, Line, Reply, Snapshot};
-use mrp_item::{Inputs, Outcome, plan_item};
+use mrp_book::{Booking, Line};
+use mrp_item::{Inputs, Outcome, Plan, plan_item};
 use mrp_qty::Qty;
-use mrp_rows::split_bundle;
-use mrp_tables::Tables;
+use sample_shops::{Records, inputs_of};
 use std::alloc::Global;
+use std::process::Abort;
 use std::sync::Arc;
 use std::test::Fail;
 
-pub fn quantity(pieces: u64) -> Result<Qty, Fail> {
-    Ok(Qty::new(pieces).ok_or("a quantity")?)
-}
-
-fn shop_of(alloc: Global, records: &Records<'_>) -> Result<Shop, Fail> {
-    let Records {
-        items,
-        stock,
-        receipts,
-        bills,
-        master,
-    } = *records;
-    let mut bundle = format!(in alloc; "{FRONT}{items}[stock]\nitem,onhand\n{stock}")?;
-    bundle.push_str("[receipts]\nitem,order,date,quantity\n")?;
-    bundle.push_str(receipts)?;
-    bundle.push_str("[bills]\nparent,component,per\n")?;
-    bundle.push_str(bills)?;
-    bundle.push_str("[master]\nitem,row,date,quantity\n")?;
-    bundle.push_str(master)?;
-    let sections = split_bundle(bundle.as_bytes())?;
-    let tables = Tables::read(alloc, &sections)?;
-    Ok(Bill::of(alloc, tables)?)
+pub fn quantity(rt: &impl Abort, pieces: u64) -> Qty {
+    Qty::new(pieces).expect(rt, "a quantity")
 }
 
 // Bookings of the first item by desk 1, which are the first entries of the order book.
-pub fn bookings(alloc: Global, booked: &[(u16, u64)]) -> Result<Vec<Booking>, Fail> {
+pub fn bookings(rt: &impl Abort, alloc: Global, booked: &[(u16, u64)]) -> Vec<Booking> {
     let mut bookings = Vec::new(alloc);
     for (week, pieces) in booked {
         let line = Line {
             item: 0,
             week: *week,
-            quantity: quantity(*pieces)?,
+            quantity: quantity(rt, *pieces),
         };
-        let number = bookings.len() as u64 + 1;
-        bookings.push(Booking {
-            number,
+        let booking = Booking {
+            number: bookings.len() as u64 + 1,
             desk: 1,
             line,
-        })?;
+        };
+        bookings.push(booking).expect(rt, "memory");
     }
-    Ok(bookings)
-}
-
-// Has desk 1 make so many entries that book nothing.
-fn pass(alloc: Global, book: &mut Book, entries: usize) -> Result<(), Fail>
-    ensures { OnOk result (book.new.supply ≡ book.old.supply) }
-{
-    for _ in 0..entries {
-        book.call(alloc, 1, Call::Front)?;
-    }
-    Ok(())
-}
-
-// What stands at entry 7 of a shop's order book, after these bookings of its first item.
-fn snapshot_of(alloc: Global, shop: &Shop, booked: &[(u16, u64)]) -> Result<Snapshot, Fail>
-    ensures { IfOk result (λ s. AreBooked (supply_of shop.now.tables) s.standing) }
-{
-    let mut book = Book::open(alloc, shop)?;
-    for (week, pieces) in booked {
-        let line = Line::new(shop, 0, *week, quantity(*pieces)?)?;
-        book.call(alloc, 1, Call::Book(line))?;
-    }
-    pass(alloc, &mut book, 6usize.saturating_sub(booked.len()))?;
-    let _legal = book.entries();
-    let (_, reply) = book.call(alloc, 1, Call::Snapshot)?;
-    match reply {
-        Reply::Taken(snapshot) => Ok(snapshot),
-        _ => Err(Fail::from("no snapshot")),
-    }
-}
-
-// A shop, with what stands at entry 7 of its order book.
-pub fn inputs_of(
-    alloc: Global,
-    records: &Records<'_>,
-    booked: &[(u16, u64)],
-) -> Result<Arc<Inputs>, Fail> {
-    let shop = Arc::new(alloc, shop_of(alloc, records)?)?;
-    let snapshot = snapshot_of(alloc, &shop, booked)?;
-    Ok(Inputs::new(alloc, shop, snapshot)?)
+    bookings
 }
 
 // Copies of the outcomes of an item's parents, which stand before it.
@@ -136,4 +74,11 @@ pub fn outcomes_of(alloc: Global, inputs: &Arc<Inputs>) -> Result<Vec<Outcome>, 
         all.push(outcome)?;
     }
     Ok(all)
+}
+
+// The plan of a shop, as it stands at entry 7 of its order book after these bookings.
+pub fn plan_of(alloc: Global, records: &Records<'_>, booked: &[(u16, u64)]) -> Result<Plan, Fail> {
+    let inputs = inputs_of(alloc, &records.bundle(alloc)?, booked, 7)?;
+    let outcomes = outcomes_of(alloc, &inputs)?;
+    Ok(Plan::of(inputs, outcomes).ok().ok_or("an item is over")?)
 }
