@@ -1,39 +1,4 @@
-//! A shop for tests, and its texts.
-
-// Bicycles, planned lot for lot.
-pub const BICYCLES: &str = "\
-[calendar]\n\
-key,value\n\
-start,2025-01-06\n\
-weeks,6\n\
-workdays,1111100\n\
-holiday,2025-01-20\n\
-[items]\n\
-item,class,lead,scrap,lot,size,safety\n\
-BIKE,master,1,0,lfl,0,0\n\
-FRAME,part,1,0,lfl,0,0\n\
-WHEEL,part,1,0,lfl,0,0\n\
-[centres]\n\
-centre,minutes\n\
-[stock]\n\
-item,onhand\n\
-BIKE,10\n\
-[receipts]\n\
-item,order,date,quantity\n\
-[bills]\n\
-parent,component,per\n\
-BIKE,FRAME,1\n\
-BIKE,WHEEL,2\n\
-[routings]\n\
-item,op,centre,setup,run,offset\n\
-[master]\n\
-item,row,date,quantity\n\
-BIKE,firm,2025-01-20,20\n\
-BIKE,firm,2025-02-03,20\n\
-BIKE,forecast,2025-01-13,8\n\
-BIKE,forecast,2025-01-27,6\n\
-[script]\n\
-desk,call,item,date,quantity,number\n";
+//! Texts that are wanted.
 
 // The report of a run over the bicycles, without bookings.
 pub const REPORT: &str = "\
@@ -134,3 +99,11 @@ entry,desk,call,item,week,quantity,number,reply,value\n\
 4,1,when,BIKE,,11,,week,3\n\
 5,1,when,BIKE,,51,,no-week,\n\
 6,64,front,,,,,front,6\n";
+
+// What is asked of items whose names have commas and quotes.
+pub const QUOTED: &str = "\
+[history]\n\
+entry,desk,call,item,week,quantity,number,reply,value\n\
+1,1,ask,\"A,B\",1,,,available,10\n\
+2,1,ask,\"12\"\" wheel\",1,,,available,0\n\
+3,1,ask,#1 bare,1,,,available,0\n";

@@ -1,7 +1,7 @@
 use Rattle.std.proofs.Common.{◌∙◌, sym, subst, rules}
 use Rattle.mrp_master.specs.Supply.{Supply}
 use Rattle.mrp_book.specs.History.{Fits}
-use Rattle.mrp_report.proofs.tests.making.history_of.Goals as goal
+use Rattle.report_tests.proofs.tests.making.history_of.Goals as goal
 
 pub call-requires-clause-fits : goal.call-requires-clause-fits
 call-requires-clause-fits c =

@@ -1,0 +1,6 @@
+//! Worked texts of `mrp_report`, in a crate of their own: within it they would have each of its
+//! functions proved a second time.
+#![tactic(auto)]
+
+#[cfg(test)]
+mod tests;
