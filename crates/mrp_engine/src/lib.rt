@@ -13,6 +13,3 @@ mod writing;
 
 pub use fault::DayFault;
 pub use run::run_day;
-
-#[cfg(test)]
-mod tests;

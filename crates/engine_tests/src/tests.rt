@@ -1,6 +1,8 @@
-use super::*;
+use mrp_engine::{DayFault, run_day};
 use mrp_rows::{Name, Told};
 use std::alloc::Global;
+use std::fmt::Debug;
+use std::process::Abort;
 use std::test::Fail;
 use std::thread::Threads;
 
@@ -45,86 +47,120 @@ const BOOKINGS_PEGS: &str =
 const BOOKINGS_MESSAGES: &str =
     "[messages]\nitem,supply,source,message,value\nBIKE,planned,1,RELEASE,\nBIKE,firm,2,IN,2\nBIKE,firm,3,IN,4\nFRAME,planned,1,PAST-DUE,1\nFRAME,planned,2,RELEASE,\nWHEEL,planned,1,PAST-DUE,1\nWHEEL,planned,2,RELEASE,\n";
 
-// What a day left: how it ended, and what was written.
-#[derive(Drop)]
-struct Day {
-    end: Result<(), DayFault>,
-    text: String,
+// A text of these pieces.
+fn joined(alloc: Global, pieces: &[&str]) -> Result<String, Fail> {
+    let mut text = String::new(alloc);
+    for piece in pieces {
+        text.push_str(piece)?;
+    }
+    Ok(text)
 }
 
-// The day of a shop with this script.
-fn day_of(
-    rt: &(impl Alloc + Threads + Sync),
+// Fails unless the two are equal. One proof of the comparison serves all calls.
+fn same<T: PartialEq + Debug + Drop>(rt: &impl Abort, got: T, want: T) {
+    assert_eq!(rt; got, want);
+}
+
+// What the day of a shop with this script has written, which ended so.
+fn day_of<R: Alloc + Abort + Threads + Sync>(
+    rt: &R,
     alloc: Global,
     shop: &str,
     script: &str,
-) -> Result<Day, Fail> {
-    let bundle = format!(in alloc; "{CALENDAR}{shop}{SCRIPT}{script}")?;
+    end: Result<(), DayFault>,
+) -> Result<String, Fail> {
+    let bundle = joined(alloc, &[CALENDAR, shop, SCRIPT, script])?;
     let mut reader = Told::new(bundle.as_bytes());
     let mut writer = Told::new(Vec::new(alloc));
-    let end = run_day(rt, alloc, &mut reader, &mut writer, 1);
-    let text = String::from_utf8(writer.into_inner())
-        .ok()
-        .ok_or("no text")?;
-    Ok(Day { end, text })
+    same(rt, run_day(rt, alloc, &mut reader, &mut writer, 1), end);
+    Ok(
+        String::from_utf8(writer.into_inner())
+            .ok()
+            .ok_or("no text")?,
+    )
+}
+
+// Fails unless the bookings of two desks, and a run, have their history and report.
+fn are_booked<R: Alloc + Abort + Threads + Sync>(
+    rt: &R,
+    alloc: Global,
+    script: &str,
+) -> Result<(), Fail> {
+    let text = day_of(rt, alloc, BICYCLES, script, Ok(()))?;
+    let want = joined(
+        alloc,
+        &[
+            BOOKINGS_HISTORY,
+            "7,1,run,,,,,front,7\n[run]\nfront,standing\n7,3\n",
+            PROMISES_HEAD,
+            BOOKINGS_PROMISES,
+            PLAN_HEAD,
+            BOOKINGS_PLAN,
+            BOOKINGS_ORDERS,
+            BOOKINGS_PEGS,
+            BOOKINGS_MESSAGES,
+        ],
+    )?;
+    same(rt, text.as_str(), want.as_str());
+    Ok(())
 }
 
 #[test]
 fn bookings_are_answered_and_planned(rt: HostRuntime) -> Result<(), Fail> {
-    let alloc = rt.alloc();
-    let script = format!(in alloc; "{BOOKINGS}1,run,,,,\n")?;
-    let want = format!(in alloc;
-        "{BOOKINGS_HISTORY}7,1,run,,,,,front,7\n[run]\nfront,standing\n7,3\n{PROMISES_HEAD}{BOOKINGS_PROMISES}{PLAN_HEAD}{BOOKINGS_PLAN}{BOOKINGS_ORDERS}{BOOKINGS_PEGS}{BOOKINGS_MESSAGES}"
-    )?;
-    let day = day_of(&rt, alloc, BICYCLES, &script)?;
-    assert_eq!(rt; day.end, Ok(()));
-    assert_eq!(rt; day.text.as_str(), want.as_str());
-    Ok(())
+    let script = joined(rt.alloc(), &[BOOKINGS, "1,run,,,,\n"])?;
+    are_booked(&rt, rt.alloc(), &script)
 }
 
 #[test]
 fn a_run_is_added_where_there_is_none(rt: HostRuntime) -> Result<(), Fail> {
-    let alloc = rt.alloc();
-    let want = format!(in alloc;
-        "{BOOKINGS_HISTORY}7,1,run,,,,,front,7\n[run]\nfront,standing\n7,3\n{PROMISES_HEAD}{BOOKINGS_PROMISES}{PLAN_HEAD}{BOOKINGS_PLAN}{BOOKINGS_ORDERS}{BOOKINGS_PEGS}{BOOKINGS_MESSAGES}"
-    )?;
-    let day = day_of(&rt, alloc, BICYCLES, BOOKINGS)?;
-    assert_eq!(rt; day.end, Ok(()));
-    assert_eq!(rt; day.text.as_str(), want.as_str());
-    Ok(())
+    are_booked(&rt, rt.alloc(), BOOKINGS)
 }
 
 #[test]
 fn cancellations_are_answered(rt: HostRuntime) -> Result<(), Fail> {
     let alloc = rt.alloc();
-    let script = format!(in alloc;
-        "{BOOKINGS}2,cancel,,,,2\n1,cancel,,,,2\n1,cancel,,,,2\n1,cancel,,,,4\n1,ask,BIKE,2025-01-20,,\n1,run,,,,\n"
+    let cancels =
+        "2,cancel,,,,2\n1,cancel,,,,2\n1,cancel,,,,2\n1,cancel,,,,4\n1,ask,BIKE,2025-01-20,,\n1,run,,,,\n";
+    let answers =
+        "7,2,cancel,,,,2,not-yours,\n8,1,cancel,,,,2,cancelled,\n9,1,cancel,,,,2,not-standing,\n10,1,cancel,,,,4,not-standing,\n11,1,ask,BIKE,3,,,available,8\n12,1,run,,,,,front,12\n[run]\nfront,standing\n12,2\n";
+    let script = joined(alloc, &[BOOKINGS, cancels])?;
+    let text = day_of(&rt, alloc, BICYCLES, &script, Ok(()))?;
+    let front = joined(
+        alloc,
+        &[
+            BOOKINGS_HISTORY,
+            answers,
+            PROMISES_HEAD,
+            CANCELLED_PROMISES,
+            PLAN_HEAD,
+        ],
     )?;
-    let front = format!(in alloc;
-        "{BOOKINGS_HISTORY}7,2,cancel,,,,2,not-yours,\n8,1,cancel,,,,2,cancelled,\n9,1,cancel,,,,2,not-standing,\n10,1,cancel,,,,4,not-standing,\n11,1,ask,BIKE,3,,,available,8\n12,1,run,,,,,front,12\n[run]\nfront,standing\n12,2\n{PROMISES_HEAD}{CANCELLED_PROMISES}{PLAN_HEAD}"
-    )?;
-    let day = day_of(&rt, alloc, BICYCLES, &script)?;
-    assert_eq!(rt; day.end, Ok(()));
-    assert!(rt; day.text.as_str().starts_with(front.as_str()));
+    assert!(rt; text.as_str().starts_with(front.as_str()));
     Ok(())
 }
 
 #[test]
 fn an_earlier_run_has_no_later_booking(rt: HostRuntime) -> Result<(), Fail> {
-    let alloc = rt.alloc();
-    let day = day_of(&rt, alloc, TOWER, "1,run,,,,\n")?;
-    assert_eq!(rt; day.end, Ok(()));
-    assert!(rt; day.text.as_str().contains("front,standing\n1,0\n"));
+    let script = "1,run,,,,\n1,book,BIKE,2025-01-20,1,\n1,run,,,,\n";
+    let text = day_of(&rt, rt.alloc(), BICYCLES, script, Ok(()))?;
+    assert!(rt; text.as_str().contains("front,standing\n1,0\n"));
+    assert!(rt; text.as_str().contains("front,standing\n3,1\n"));
+    Ok(())
+}
+
+#[test]
+fn a_run_of_the_greatest_quantity_is_planned(rt: HostRuntime) -> Result<(), Fail> {
+    let text = day_of(&rt, rt.alloc(), TOWER, "1,run,,,,\n", Ok(()))?;
+    assert!(rt; text.as_str().contains("front,standing\n1,0\n"));
     Ok(())
 }
 
 #[test]
 fn a_later_run_that_is_too_large_leaves_nothing_written(rt: HostRuntime) -> Result<(), Fail> {
-    let alloc = rt.alloc();
-    let script = "1,run,,,,\n1,book,TOP,2025-01-06,1,\n1,run,,,,\n";
-    let day = day_of(&rt, alloc, TOWER, script)?;
     let name = Name::new(b"B").ok_or("no name")?;
-    assert_eq!(rt; day.end, Err(DayFault::TooLarge(name)));
-    assert_eq!(rt; day.text.as_str(), "");
+    let end = Err(DayFault::TooLarge(name));
+    let script = "1,run,,,,\n1,book,TOP,2025-01-06,1,\n1,run,,,,\n";
+    let text = day_of(&rt, rt.alloc(), TOWER, script, end)?;
+    same(&rt, text.as_str(), "");
     Ok(())
 }

@@ -1,0 +1,6 @@
+//! Worked days of `mrp_engine`, in a crate of their own: within it they would have each of its
+//! functions proved a second time.
+#![tactic(auto)]
+
+#[cfg(test)]
+mod tests;
