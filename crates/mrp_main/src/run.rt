@@ -145,6 +145,3 @@ pub fn run_words<S: AsStr, R: Read, W: Write, E: Write>(
 {
     carry_out(rt, alloc, words, input, output, errors).code()
 }
-
-#[cfg(test)]
-mod tests;

@@ -1,7 +1,6 @@
 //! Shops with open receipts, scrap, lots and safety stock, planned by the program.
 
 use super::*;
-use std::process::Abort;
 
 // Bicycles whose parts are planned in lots, with scrap, safety stock and an open receipt.
 const BICYCLES_IN_LOTS: &str = "\
@@ -175,14 +174,24 @@ fn is_planned<R: Alloc + Abort + Threads + Sync>(
     pegs: &str,
     messages: &str,
 ) -> Result<(), Fail> {
-    let want = format!(in alloc;
-        "{HISTORY}{RUN}{PROMISES_HEAD}{BOOKED_PROMISES}{PLAN_IN_LOTS}{weeks}{ORDERS_IN_LOTS}{orders}{PEGS_IN_LOTS}{pegs}{MESSAGES_IN_LOTS}{messages}"
+    let want = joined(
+        alloc,
+        &[
+            HISTORY,
+            RUN,
+            PROMISES_HEAD,
+            BOOKED_PROMISES,
+            PLAN_IN_LOTS,
+            weeks,
+            ORDERS_IN_LOTS,
+            orders,
+            PEGS_IN_LOTS,
+            pegs,
+            MESSAGES_IN_LOTS,
+            messages,
+        ],
     )?;
-    let left = left_by(rt, alloc, &PLAN, shop)?;
-    assert_eq!(rt; left.errors.as_str(), "");
-    assert_eq!(rt; left.status, 0);
-    assert_eq!(rt; left.output.as_str(), want.as_str());
-    Ok(())
+    is_written(rt, alloc, shop, &want)
 }
 
 #[test]
@@ -216,7 +225,7 @@ fn a_part_with_scrap_asks_for_components_by_its_starts(rt: HostRuntime) -> Resul
         "TUBE,part,0,500,lfl,0,0\n[centres]",
     )?;
     let shop = changed(alloc, &shop, "[routings]", "FRAME,TUBE,3\n[routings]")?;
-    let pegs = format!(in alloc; "{WHEEL_PEGS}{TUBE_PEGS}")?;
+    let pegs = joined(alloc, &[WHEEL_PEGS, TUBE_PEGS])?;
     is_planned(
         &rt,
         alloc,
@@ -255,10 +264,7 @@ fn scrap_safety_stock_and_lots_make_a_part_too_large(rt: HostRuntime) -> Result<
     let alloc = rt.alloc();
     for (old, new, firm, want) in CHAINS {
         let shop = changed(alloc, &chain(alloc, *firm)?, old, new)?;
-        let left = left_by(&rt, alloc, &PLAN, &shop)?;
-        assert_eq!(rt; left.status, 1);
-        assert_eq!(rt; left.errors.as_str(), *want);
-        assert_eq!(rt; left.output.as_str(), "");
+        is_refused(&rt, alloc, &shop, want)?;
     }
     Ok(())
 }
@@ -304,14 +310,5 @@ const REFUSED: &[(&str, &str, &str)] = &[
 
 #[test]
 fn faults_of_receipts_lots_and_safety_stock_are_told(rt: HostRuntime) -> Result<(), Fail> {
-    let alloc = rt.alloc();
-    for (old, new, want) in REFUSED {
-        let shop = changed(alloc, BICYCLES_IN_LOTS, old, new)?;
-        let left = left_by(&rt, alloc, &PLAN, &shop)?;
-        let line = format!(in alloc; "refused: {want}\n")?;
-        assert_eq!(rt; left.errors.as_str(), line.as_str());
-        assert_eq!(rt; left.status, 1);
-        assert_eq!(rt; left.output.as_str(), "");
-    }
-    Ok(())
+    are_refused(&rt, rt.alloc(), BICYCLES_IN_LOTS, REFUSED)
 }

@@ -5,11 +5,9 @@ use super::*;
 // The head of a history.
 const HISTORY: &str = "[history]\nentry,desk,call,item,week,quantity,number,reply,value\n";
 
-const PLAN_HEAD: &str = "[plan]\nitem,week,gross,open,firm,planned,start,balance\n";
-
 // The bicycles, with these rows of the script.
 fn bicycles(alloc: Global, rows: &str) -> Result<String, Fail> {
-    Ok(format!(in alloc; "{BICYCLE}{rows}")?)
+    joined(alloc, &[BICYCLE, rows])
 }
 
 // Six calls of two desks.
@@ -92,19 +90,45 @@ FRAME,planned,2,RELEASE,\n\
 WHEEL,planned,1,PAST-DUE,1\n\
 WHEEL,planned,2,RELEASE,\n";
 
+// Fails unless the bundle is planned, and this is the front of what is written.
+fn begins<R: Alloc + Threads + Sync + Abort>(
+    rt: &R,
+    alloc: Global,
+    bundle: &str,
+    front: &str,
+) -> Result<(), Fail> {
+    let left = left_by(rt, alloc, &PLAN, bundle)?;
+    same(rt, left.errors.as_str(), "");
+    same(rt, left.status, 0);
+    assert!(rt; left.output.as_str().starts_with(front));
+    Ok(())
+}
+
 #[test]
 fn desks_book_and_ask_and_then_plan(rt: HostRuntime) -> Result<(), Fail> {
     let alloc = rt.alloc();
-    let want = format!(in alloc;
-        "{HISTORY}{BOOKED}7,1,run,,,,,front,7\n[run]\nfront,standing\n7,3\n{PROMISES_HEAD}{BOOKED_PROMISES}{PLAN_HEAD}{BOOKED_PLAN}{ORDERS_HEAD}{BOOKED_ORDERS}{PEGS_HEAD}{BOOKED_PEGS}{MESSAGES_HEAD}{BOOKED_MESSAGES}"
+    let want = joined(
+        alloc,
+        &[
+            HISTORY,
+            BOOKED,
+            "7,1,run,,,,,front,7\n[run]\nfront,standing\n7,3\n",
+            PROMISES_HEAD,
+            BOOKED_PROMISES,
+            PLAN_HEAD,
+            BOOKED_PLAN,
+            ORDERS_HEAD,
+            BOOKED_ORDERS,
+            PEGS_HEAD,
+            BOOKED_PEGS,
+            MESSAGES_HEAD,
+            BOOKED_MESSAGES,
+        ],
     )?;
     // A script without a run is run once, at its end, by desk 1.
     for run in ["1,run,,,,\n", ""] {
-        let script = format!(in alloc; "{BOOKING}{run}")?;
-        let left = left_by(&rt, alloc, &PLAN, &bicycles(alloc, &script)?)?;
-        assert_eq!(rt; left.errors.as_str(), "");
-        assert_eq!(rt; left.status, 0);
-        assert_eq!(rt; left.output.as_str(), want.as_str());
+        let shop = joined(alloc, &[BICYCLE, BOOKING, run])?;
+        is_written(&rt, alloc, &shop, &want)?;
     }
     Ok(())
 }
@@ -114,10 +138,6 @@ fn a_cancelled_booking_stands_no_more(rt: HostRuntime) -> Result<(), Fail> {
     let alloc = rt.alloc();
     let cancels =
         "2,cancel,,,,2\n1,cancel,,,,2\n1,cancel,,,,2\n1,cancel,,,,4\n1,ask,BIKE,2025-01-20,,\n1,when,BIKE,,28,\n1,run,,,,\n";
-    let script = format!(in alloc; "{BOOKING}{cancels}")?;
-    let left = left_by(&rt, alloc, &PLAN, &bicycles(alloc, &script)?)?;
-    assert_eq!(rt; left.errors.as_str(), "");
-    assert_eq!(rt; left.status, 0);
     let answered = "\
 7,2,cancel,,,,2,not-yours,\n\
 8,1,cancel,,,,2,cancelled,\n\
@@ -141,11 +161,21 @@ BIKE,3,12,0,20,0,0,8\n\
 BIKE,4,6,0,0,0,20,2\n\
 BIKE,5,0,0,20,0,0,22\n\
 BIKE,6,0,0,0,0,0,22\n";
-    let want = format!(in alloc;
-        "{HISTORY}{BOOKED}{answered}{PROMISES_HEAD}{promises}{PLAN_HEAD}{bikes}FRAME,1,"
+    let shop = joined(alloc, &[BICYCLE, BOOKING, cancels])?;
+    let want = joined(
+        alloc,
+        &[
+            HISTORY,
+            BOOKED,
+            answered,
+            PROMISES_HEAD,
+            promises,
+            PLAN_HEAD,
+            bikes,
+            "FRAME,1,",
+        ],
     )?;
-    assert!(rt; left.output.as_str().starts_with(want.as_str()));
-    Ok(())
+    begins(&rt, alloc, &shop, &want)
 }
 
 #[test]
@@ -153,7 +183,6 @@ fn what_is_available_is_told_week_by_week(rt: HostRuntime) -> Result<(), Fail> {
     let alloc = rt.alloc();
     let asks =
         "1,ask,BIKE,2025-01-06,,\n1,ask,BIKE,2025-01-20,,\n1,ask,BIKE,2025-02-03,,\n1,when,BIKE,,11,\n1,when,BIKE,,51,\n";
-    let left = left_by(&rt, alloc, &PLAN, &bicycles(alloc, asks)?)?;
     let told = "\
 1,1,ask,BIKE,1,,,available,10\n\
 2,1,ask,BIKE,3,,,available,30\n\
@@ -162,29 +191,55 @@ fn what_is_available_is_told_week_by_week(rt: HostRuntime) -> Result<(), Fail> {
 5,1,when,BIKE,,51,,no-week,\n\
 6,1,run,,,,,front,6\n\
 [run]\nfront,standing\n6,0\n";
-    let want = format!(in alloc; "{HISTORY}{told}{PROMISES_HEAD}BIKE,1,0,0,10,10\n")?;
-    assert_eq!(rt; left.status, 0);
-    assert!(rt; left.output.as_str().starts_with(want.as_str()));
-    Ok(())
+    let shop = bicycles(alloc, asks)?;
+    let want = joined(alloc, &[HISTORY, told, PROMISES_HEAD, "BIKE,1,0,0,10,10\n"])?;
+    begins(&rt, alloc, &shop, &want)
+}
+
+// The pegs of the three bookings, where each has the number of the next.
+fn pegs_of_next(alloc: Global) -> Result<String, Fail> {
+    let pegs = changed(alloc, BOOKED_PEGS, "booking,5,", "booking,6,")?;
+    let pegs = changed(alloc, &pegs, "booking,2,", "booking,3,")?;
+    changed(alloc, &pegs, "booking,1,", "booking,2,")
+}
+
+// What two runs report, of nothing booked and of the three bookings behind the first run.
+fn both_reports(alloc: Global) -> Result<String, Fail> {
+    let pegs = pegs_of_next(alloc)?;
+    let report = BICYCLE_DAY.strip_prefix(FIRST_RUN).ok_or("the history")?;
+    joined(
+        alloc,
+        &[
+            "8,1,run,,,,,front,8\n",
+            report,
+            "[run]\nfront,standing\n8,3\n",
+            PROMISES_HEAD,
+            BOOKED_PROMISES,
+            PLAN_HEAD,
+            BOOKED_PLAN,
+            ORDERS_HEAD,
+            BOOKED_ORDERS,
+            PEGS_HEAD,
+            &pegs,
+            MESSAGES_HEAD,
+            BOOKED_MESSAGES,
+        ],
+    )
 }
 
 #[test]
 fn each_run_plans_the_bookings_that_stand_at_its_front(rt: HostRuntime) -> Result<(), Fail> {
     let alloc = rt.alloc();
-    let script = format!(in alloc; "64,run,,,,\n{BOOKING}1,run,,,,\n")?;
-    let left = left_by(&rt, alloc, &PLAN, &bicycles(alloc, &script)?)?;
-    assert_eq!(rt; left.status, 0);
+    let shop = joined(alloc, &[BICYCLE, "64,run,,,,\n", BOOKING, "1,run,,,,\n"])?;
+    let left = left_by(&rt, alloc, &PLAN, &shop)?;
+    same(&rt, left.status, 0);
     let first = "1,64,run,,,,,front,1\n2,1,book,BIKE,3,12,,booked,2\n";
-    let report = BICYCLE_DAY.strip_prefix(FIRST_RUN).ok_or("the history")?;
-    // The booking of entry 1 is now that of entry 2, and so on.
-    let pegs = changed(alloc, BOOKED_PEGS, "booking,5,", "booking,6,")?;
-    let pegs = changed(alloc, &pegs, "booking,2,", "booking,3,")?;
-    let pegs = changed(alloc, &pegs, "booking,1,", "booking,2,")?;
-    let runs = format!(in alloc;
-        "8,1,run,,,,,front,8\n{report}[run]\nfront,standing\n8,3\n{PROMISES_HEAD}{BOOKED_PROMISES}{PLAN_HEAD}{BOOKED_PLAN}{ORDERS_HEAD}{BOOKED_ORDERS}{PEGS_HEAD}{pegs}{MESSAGES_HEAD}{BOOKED_MESSAGES}"
-    )?;
     assert!(rt; left.output.as_str().contains(first));
-    assert!(rt; left.output.as_str().ends_with(runs.as_str()));
+    assert!(rt;
+        left.output
+            .as_str()
+            .ends_with(both_reports(alloc)?.as_str())
+    );
     Ok(())
 }
 
@@ -203,33 +258,52 @@ const NEAR: &str = "\
 #[test]
 fn nothing_is_written_where_a_later_run_gets_too_large(rt: HostRuntime) -> Result<(), Fail> {
     let alloc = rt.alloc();
-    assert_eq!(rt; left_by(&rt, alloc, &PLAN, NEAR)?.status, 0);
-    let shop = format!(in alloc; "{NEAR}1,book,TOP,2025-01-06,1,\n1,run,,,,\n")?;
-    let left = left_by(&rt, alloc, &PLAN, &shop)?;
-    assert_eq!(rt; left.status, 1);
-    assert_eq!(rt; left.errors.as_str(), "too large: B\n");
-    assert_eq!(rt; left.output.as_str(), "");
-    Ok(())
+    begins(&rt, alloc, NEAR, HISTORY)?;
+    let shop = joined(alloc, &[NEAR, "1,book,TOP,2025-01-06,1,\n1,run,,,,\n"])?;
+    is_refused(&rt, alloc, &shop, "too large: B\n")
 }
+
+// Rows of the script behind its header, and the fault that they make.
+const ROWS: &[(&str, &str, &str)] = &[
+    (
+        "number\n",
+        "number\n1,book,BIKE,\"2025-01",
+        "6 columns script 1",
+    ),
+    (
+        "number\n",
+        "number\n1,book,BIKE,2025-01-20,12.0,\n",
+        "8 number script 1",
+    ),
+    ("number\n", "number\n1,When,BIKE,,12,\n", "10 word script 1"),
+    (
+        "number\n",
+        "number\n1,when,FRAME,,12,\n",
+        "16 not-master script 1",
+    ),
+    (
+        "number\n",
+        "number\n1,run,,,,\n0,run,,,,\n",
+        "11 range script 2",
+    ),
+    (
+        "number\n",
+        "number\n1,ask,BOLT,2025-01-20,,\n",
+        "13 unknown-item script 1",
+    ),
+    (
+        "number\n",
+        "number\n1,ask,FRAME,2025-02-17,,\n",
+        "15 date-outside script 1",
+    ),
+    (
+        "number\n",
+        "number\n1,ask,FRAME,2025-01-20,,\n",
+        "16 not-master script 1",
+    ),
+];
 
 #[test]
 fn faults_of_the_script_are_told(rt: HostRuntime) -> Result<(), Fail> {
-    let alloc = rt.alloc();
-    for (rows, want) in [
-        ("1,book,BIKE,\"2025-01", "6 columns script 1"),
-        ("1,book,BIKE,2025-01-20,12.0,\n", "8 number script 1"),
-        ("1,When,BIKE,,12,\n", "10 word script 1"),
-        ("1,when,FRAME,,12,\n", "16 not-master script 1"),
-        ("1,run,,,,\n0,run,,,,\n", "11 range script 2"),
-        ("1,ask,BOLT,2025-01-20,,\n", "13 unknown-item script 1"),
-        ("1,ask,FRAME,2025-02-17,,\n", "15 date-outside script 1"),
-        ("1,ask,FRAME,2025-01-20,,\n", "16 not-master script 1"),
-    ] {
-        let left = left_by(&rt, alloc, &PLAN, &bicycles(alloc, rows)?)?;
-        let line = format!(in alloc; "refused: {want}\n")?;
-        assert_eq!(rt; left.errors.as_str(), line.as_str());
-        assert_eq!(rt; left.status, 1);
-        assert_eq!(rt; left.output.as_str(), "");
-    }
-    Ok(())
+    are_refused(&rt, rt.alloc(), BICYCLE, ROWS)
 }

@@ -53,6 +53,9 @@ BIKE,4,0,0,0,3\n\
 BIKE,5,20,25,0,3\n\
 BIKE,6,0,0,0,3\n";
 
+// The line and the header of the section of plans.
+pub const PLAN_HEAD: &str = "[plan]\nitem,week,gross,open,firm,planned,start,balance\n";
+
 // The line and the header of the section of orders.
 pub const ORDERS_HEAD: &str = "[orders]\nitem,order,kind,due,quantity,start,release,late\n";
 

@@ -1,6 +1,12 @@
-use super::*;
+//! What the program's commands write, and how they end.
+
+use mrp_main::run_words;
+use mrp_rows::Told;
+use std::alloc::Global;
+use std::fmt::Debug;
 use std::io;
-use std::io::ErrorKind;
+use std::io::{ErrorKind, Read, Write};
+use std::process::Abort;
 use std::test::Fail;
 use std::thread::Threads;
 
@@ -10,10 +16,15 @@ mod shops;
 
 use self::shops::{
     BICYCLE, BICYCLE_DAY, BOOKED_PROMISES, CALENDAR, EMPTY_TABLES, FIRST_RUN, MESSAGES_HEAD,
-    ORDERS_HEAD, PEGS_HEAD, PROMISES_HEAD,
+    ORDERS_HEAD, PEGS_HEAD, PLAN_HEAD, PROMISES_HEAD,
 };
 
 const PLAN: [&str; 1] = ["plan"];
+
+// Fails unless the two are equal. One proof of the comparison serves all calls.
+fn same<T: PartialEq + Debug + Drop>(rt: &impl Abort, got: T, want: T) {
+    assert_eq!(rt; got, want);
+}
 
 // What a run left: its status, its output and its error stream.
 #[derive(Drop)]
@@ -40,6 +51,43 @@ fn left_by(
     })
 }
 
+// Fails unless the bundle is planned, and this is written.
+fn is_written<R: Alloc + Abort + Threads + Sync>(
+    rt: &R,
+    alloc: Global,
+    bundle: &str,
+    want: &str,
+) -> Result<(), Fail> {
+    let left = left_by(rt, alloc, &PLAN, bundle)?;
+    same(rt, left.errors.as_str(), "");
+    same(rt, left.status, 0);
+    same(rt, left.output.as_str(), want);
+    Ok(())
+}
+
+// Fails unless the bundle is refused by this line, and nothing is written.
+fn is_refused<R: Alloc + Abort + Threads + Sync>(
+    rt: &R,
+    alloc: Global,
+    bundle: &str,
+    line: &str,
+) -> Result<(), Fail> {
+    let left = left_by(rt, alloc, &PLAN, bundle)?;
+    same(rt, left.errors.as_str(), line);
+    same(rt, left.status, 1);
+    same(rt, left.output.as_str(), "");
+    Ok(())
+}
+
+// A text of these pieces.
+fn joined(alloc: Global, pieces: &[&str]) -> Result<String, Fail> {
+    let mut text = String::new(alloc);
+    for piece in pieces {
+        text.push_str(piece)?;
+    }
+    Ok(text)
+}
+
 // A text with each of these pieces put in place of another.
 fn changed(alloc: Global, text: &str, old: &str, new: &str) -> Result<String, Fail> {
     let mut out = String::new(alloc);
@@ -52,6 +100,21 @@ fn changed(alloc: Global, text: &str, old: &str, new: &str) -> Result<String, Fa
     Ok(out)
 }
 
+// Fails unless each bundle, with a piece of it put in place of another, is refused by its fault.
+fn are_refused<R: Alloc + Abort + Threads + Sync>(
+    rt: &R,
+    alloc: Global,
+    bundle: &str,
+    faults: &[(&str, &str, &str)],
+) -> Result<(), Fail> {
+    for (old, new, fault) in faults {
+        let shop = changed(alloc, bundle, old, new)?;
+        let line = joined(alloc, &["refused: ", fault, "\n"])?;
+        is_refused(rt, alloc, &shop, &line)?;
+    }
+    Ok(())
+}
+
 #[test]
 fn the_bicycles_are_planned(rt: HostRuntime) -> Result<(), Fail> {
     for words in [
@@ -60,9 +123,31 @@ fn the_bicycles_are_planned(rt: HostRuntime) -> Result<(), Fail> {
         ["plan", "--workers=08"].as_slice(),
     ] {
         let left = left_by(&rt, rt.alloc(), words, BICYCLE)?;
-        assert_eq!(rt; left.errors.as_str(), "");
-        assert_eq!(rt; left.status, 0);
-        assert_eq!(rt; left.output.as_str(), BICYCLE_DAY);
+        same(&rt, left.errors.as_str(), "");
+        same(&rt, left.status, 0);
+        same(&rt, left.output.as_str(), BICYCLE_DAY);
+    }
+    Ok(())
+}
+
+// The bicycles without stock and schedule.
+fn bare(alloc: Global) -> Result<String, Fail> {
+    let mut bare = String::from_str(alloc, BICYCLE)?;
+    for piece in [
+        "BIKE,10\n",
+        "BIKE,firm,2025-01-20,20\nBIKE,firm,2025-02-03,20\n",
+        "BIKE,forecast,2025-01-13,8\nBIKE,forecast,2025-01-27,6\n",
+    ] {
+        bare = changed(alloc, &bare, piece, "")?;
+    }
+    Ok(bare)
+}
+
+// Adds a row of zeros for each of six weeks of an item.
+fn add_zeros(alloc: Global, text: &mut String, item: &str, zeros: &str) -> Result<(), Fail> {
+    for week in 1..7 {
+        let line = format!(in alloc; "{item},{week},{zeros}\n")?;
+        text.push_str(&line)?;
     }
     Ok(())
 }
@@ -70,84 +155,59 @@ fn the_bicycles_are_planned(rt: HostRuntime) -> Result<(), Fail> {
 #[test]
 fn without_stock_and_schedule_nothing_is_planned(rt: HostRuntime) -> Result<(), Fail> {
     let alloc = rt.alloc();
-    let bare = changed(alloc, BICYCLE, "BIKE,10\n", "")?;
-    let bare = changed(
+    let mut want = joined(
         alloc,
-        &bare,
-        "BIKE,firm,2025-01-20,20\nBIKE,firm,2025-02-03,20\n",
-        "",
+        &[FIRST_RUN, "[run]\nfront,standing\n1,0\n", PROMISES_HEAD],
     )?;
-    let bare = changed(
-        alloc,
-        &bare,
-        "BIKE,forecast,2025-01-13,8\nBIKE,forecast,2025-01-27,6\n",
-        "",
-    )?;
-    let mut want = format!(in alloc; "{FIRST_RUN}[run]\nfront,standing\n1,0\n{PROMISES_HEAD}")?;
-    for week in 1..7 {
-        let line = format!(in alloc; "BIKE,{week},0,0,0,0\n")?;
-        want.push_str(&line)?;
-    }
-    want.push_str("[plan]\nitem,week,gross,open,firm,planned,start,balance\n")?;
+    add_zeros(alloc, &mut want, "BIKE", "0,0,0,0")?;
+    want.push_str(PLAN_HEAD)?;
     for item in ["BIKE", "FRAME", "WHEEL"] {
-        for week in 1..7 {
-            let line = format!(in alloc; "{item},{week},0,0,0,0,0,0\n")?;
-            want.push_str(&line)?;
-        }
+        add_zeros(alloc, &mut want, item, "0,0,0,0,0,0")?;
     }
-    want.push_str(ORDERS_HEAD)?;
-    want.push_str(PEGS_HEAD)?;
-    want.push_str(MESSAGES_HEAD)?;
-    let left = left_by(&rt, alloc, &PLAN, &bare)?;
-    assert_eq!(rt; left.status, 0);
-    assert_eq!(rt; left.output.as_str(), want.as_str());
-    Ok(())
+    let heads = joined(alloc, &[ORDERS_HEAD, PEGS_HEAD, MESSAGES_HEAD])?;
+    want.push_str(&heads)?;
+    is_written(&rt, alloc, &bare(alloc)?, &want)
 }
 
 #[test]
 fn an_empty_input_lacks_the_calendar(rt: HostRuntime) -> Result<(), Fail> {
-    let left = left_by(&rt, rt.alloc(), &PLAN, "")?;
-    assert_eq!(rt; left.status, 1);
-    assert_eq!(rt;
-        left.errors.as_str(),
-        "refused: 4 missing-section calendar 0\n"
-    );
-    assert_eq!(rt; left.output.as_str(), "");
-    Ok(())
+    let line = "refused: 4 missing-section calendar 0\n";
+    is_refused(&rt, rt.alloc(), "", line)
 }
 
 #[test]
 fn tables_without_records_make_a_day_without_rows(rt: HostRuntime) -> Result<(), Fail> {
     let alloc = rt.alloc();
-    let bundle = format!(in alloc; "{CALENDAR}{EMPTY_TABLES}")?;
-    let left = left_by(&rt, alloc, &PLAN, &bundle)?;
-    let plan = "[plan]\nitem,week,gross,open,firm,planned,start,balance\n";
-    let want = format!(in alloc;
-        "{FIRST_RUN}[run]\nfront,standing\n1,0\n{PROMISES_HEAD}{plan}{ORDERS_HEAD}{PEGS_HEAD}{MESSAGES_HEAD}"
+    let bundle = joined(alloc, &[CALENDAR, EMPTY_TABLES])?;
+    let want = joined(
+        alloc,
+        &[
+            FIRST_RUN,
+            "[run]\nfront,standing\n1,0\n",
+            PROMISES_HEAD,
+            PLAN_HEAD,
+            ORDERS_HEAD,
+            PEGS_HEAD,
+            MESSAGES_HEAD,
+        ],
     )?;
-    assert_eq!(rt; left.status, 0);
-    assert_eq!(rt; left.output.as_str(), want.as_str());
-    Ok(())
+    is_written(&rt, alloc, &bundle, &want)
 }
+
+// Bill lines of three parts, and the fault that they make.
+const LOOPS: &[(&str, &str, &str)] = &[
+    ("per\n", "per\nA,B,1\nB,C,1\nC,A,1\n", "21 loop items 1"),
+    ("per\n", "per\nA,A,1\n", "21 loop items 1"),
+    ("per\n", "per\nA,B,1\nC,C,1\n", "21 loop items 3"),
+];
 
 #[test]
 fn a_loop_is_refused_by_its_first_item(rt: HostRuntime) -> Result<(), Fail> {
     let alloc = rt.alloc();
     let parts = "safety\nA,part,0,0,lfl,0,0\nB,part,0,0,lfl,0,0\nC,part,0,0,lfl,0,0\n";
-    let bundle = format!(in alloc; "{CALENDAR}{EMPTY_TABLES}")?;
+    let bundle = joined(alloc, &[CALENDAR, EMPTY_TABLES])?;
     let bundle = changed(alloc, &bundle, "safety\n", parts)?;
-    for (lines, want) in [
-        ("per\nA,B,1\nB,C,1\nC,A,1\n", "refused: 21 loop items 1\n"),
-        ("per\nA,A,1\n", "refused: 21 loop items 1\n"),
-        ("per\nA,B,1\nC,C,1\n", "refused: 21 loop items 3\n"),
-    ] {
-        let shop = changed(alloc, &bundle, "per\n", lines)?;
-        let left = left_by(&rt, alloc, &PLAN, &shop)?;
-        assert_eq!(rt; left.status, 1);
-        assert_eq!(rt; left.errors.as_str(), want);
-        assert_eq!(rt; left.output.as_str(), "");
-    }
-    Ok(())
+    are_refused(&rt, alloc, &bundle, LOOPS)
 }
 
 #[test]
@@ -155,10 +215,7 @@ fn a_name_with_a_comma_is_quoted_in_the_plan(rt: HostRuntime) -> Result<(), Fail
     let alloc = rt.alloc();
     let shop = changed(alloc, BICYCLE, "BIKE", "\"A,B\"")?;
     let want = changed(alloc, BICYCLE_DAY, "BIKE", "\"A,B\"")?;
-    let left = left_by(&rt, alloc, &PLAN, &shop)?;
-    assert_eq!(rt; left.status, 0);
-    assert_eq!(rt; left.output.as_str(), want.as_str());
-    Ok(())
+    is_written(&rt, alloc, &shop, &want)
 }
 
 #[test]
@@ -166,45 +223,37 @@ fn line_ends_blank_lines_and_marks_change_nothing(rt: HostRuntime) -> Result<(),
     let alloc = rt.alloc();
     let shop = changed(alloc, BICYCLE, "\n", "\r\n")?;
     let shop = changed(alloc, &shop, "]\r\n", "]\r\n\r\n\u{feff}\r\n")?;
-    let shop = format!(in alloc; "\u{feff}{shop}")?;
-    let left = left_by(&rt, alloc, &PLAN, &shop)?;
-    assert_eq!(rt; left.errors.as_str(), "");
-    assert_eq!(rt; left.status, 0);
-    assert_eq!(rt; left.output.as_str(), BICYCLE_DAY);
-    Ok(())
+    let shop = joined(alloc, &["\u{feff}", &shop])?;
+    is_written(&rt, alloc, &shop, BICYCLE_DAY)
 }
 
-// A chain of items, a million pieces of each in a piece of the one above.
-fn chain(alloc: Global, firm: u64) -> Result<String, Fail> {
+// The firm row of a chain of items, a million pieces of each in a piece of the one above.
+fn chain_in(alloc: Global, firm: &str) -> Result<String, Fail> {
     let items =
         "safety\nTOP,master,0,0,lfl,0,0\nA,part,0,0,lfl,0,0\nB,part,0,0,lfl,0,0\nC,part,0,0,lfl,0,0\n";
-    let bundle = format!(in alloc; "{CALENDAR}{EMPTY_TABLES}")?;
+    let lines = "per\nTOP,A,1000000\nA,B,1000000\nB,C,1000000\n";
+    let bundle = joined(alloc, &[CALENDAR, EMPTY_TABLES])?;
     let bundle = changed(alloc, &bundle, "safety\n", items)?;
-    let bundle = changed(
-        alloc,
-        &bundle,
-        "per\n",
-        "per\nTOP,A,1000000\nA,B,1000000\nB,C,1000000\n",
-    )?;
+    let bundle = changed(alloc, &bundle, "per\n", lines)?;
+    changed(alloc, &bundle, "item,row,date,quantity\n", firm)
+}
+
+// The chain, with so many firm pieces of its first item.
+fn chain(alloc: Global, firm: u64) -> Result<String, Fail> {
     let row = format!(in alloc; "item,row,date,quantity\nTOP,firm,2025-01-06,{firm}\n")?;
-    changed(alloc, &bundle, "item,row,date,quantity\n", &row)
+    chain_in(alloc, &row)
 }
 
 #[test]
 fn the_first_item_that_gets_too_large_is_named(rt: HostRuntime) -> Result<(), Fail> {
     let alloc = rt.alloc();
-    for (firm, want) in [(1000, "too large: C\n"), (1001, "too large: B\n")] {
+    for (firm, line) in [(1000, "too large: C\n"), (1001, "too large: B\n")] {
         let shop = chain(alloc, firm)?;
-        let left = left_by(&rt, alloc, &PLAN, &shop)?;
-        assert_eq!(rt; left.status, 1);
-        assert_eq!(rt; left.errors.as_str(), want);
-        assert_eq!(rt; left.output.as_str(), "");
+        is_refused(&rt, alloc, &shop, line)?;
     }
     let shop = changed(alloc, &chain(alloc, 1000)?, "C,part", "\"C,1\",part")?;
     let shop = changed(alloc, &shop, "B,C,1000000", "B,\"C,1\",1000000")?;
-    let left = left_by(&rt, alloc, &PLAN, &shop)?;
-    assert_eq!(rt; left.errors.as_str(), "too large: C,1\n");
-    Ok(())
+    is_refused(&rt, alloc, &shop, "too large: C,1\n")
 }
 
 #[test]
@@ -212,7 +261,7 @@ fn a_plan_of_the_greatest_quantities_is_written(rt: HostRuntime) -> Result<(), F
     let alloc = rt.alloc();
     let shop = changed(alloc, &chain(alloc, 1000)?, "B,C,1000000\n", "")?;
     let left = left_by(&rt, alloc, &PLAN, &shop)?;
-    assert_eq!(rt; left.status, 0);
+    same(&rt, left.status, 0);
     let row = "B,1,1000000000000000,0,0,1000000000000000,1000000000000000,0\n";
     assert!(rt; left.output.as_str().contains(row));
     Ok(())
@@ -262,16 +311,7 @@ const FAULTS: &[(&str, &str, &str)] = &[
 
 #[test]
 fn faults_of_the_bundle_are_told(rt: HostRuntime) -> Result<(), Fail> {
-    let alloc = rt.alloc();
-    for (old, new, want) in FAULTS {
-        let shop = changed(alloc, BICYCLE, old, new)?;
-        let left = left_by(&rt, alloc, &PLAN, &shop)?;
-        let line = format!(in alloc; "refused: {want}\n")?;
-        assert_eq!(rt; left.errors.as_str(), line.as_str());
-        assert_eq!(rt; left.status, 1);
-        assert_eq!(rt; left.output.as_str(), "");
-    }
-    Ok(())
+    are_refused(&rt, rt.alloc(), BICYCLE, FAULTS)
 }
 
 // What a reader or a writer does at one call.
@@ -354,31 +394,40 @@ fn writer<'a>(alloc: Global, turns: &'a [Turn]) -> Told<FakeWriter<'a>> {
     })
 }
 
+// Fails unless planning ends in this status.
+fn ends<R: Alloc + Abort + Threads + Sync, E: Write>(
+    rt: &R,
+    alloc: Global,
+    input: &mut Told<FakeReader<'_>>,
+    output: &mut Told<FakeWriter<'_>>,
+    errors: &mut Told<E>,
+    status: u8,
+) {
+    same(
+        rt,
+        run_words(rt, alloc, &PLAN, input, output, errors),
+        status,
+    );
+}
+
 #[test]
 fn short_and_interrupted_reads_and_writes_are_gone_on_with(rt: HostRuntime) {
     let alloc = rt.alloc();
     let mut input = reader(&[Turn::Moves(7), Turn::Interrupts, Turn::Moves(1)], BICYCLE);
-    let mut output = writer(
-        alloc,
-        &[
-            Turn::Interrupts,
-            Turn::Moves(3),
-            Turn::Interrupts,
-            Turn::Moves(1),
-        ],
-    );
+    let turns = [
+        Turn::Interrupts,
+        Turn::Moves(3),
+        Turn::Interrupts,
+        Turn::Moves(1),
+    ];
+    let mut output = writer(alloc, &turns);
     let mut errors = Told::new(Vec::new(alloc));
-    assert_eq!(rt;
-        run_words(&rt, alloc, &PLAN, &mut input, &mut output, &mut errors),
-        0
-    );
-    assert_eq!(rt; input.interrupted(), 1);
-    assert_eq!(rt; output.interrupted(), 2);
-    assert_eq!(rt;
-        output.into_inner().taken.as_slice(),
-        BICYCLE_DAY.as_bytes()
-    );
-    assert_eq!(rt; errors.into_inner().len(), 0);
+    ends(&rt, alloc, &mut input, &mut output, &mut errors, 0);
+    same(&rt, input.interrupted(), 1);
+    same(&rt, output.interrupted(), 2);
+    let taken = output.into_inner().taken;
+    same(&rt, taken.as_slice(), BICYCLE_DAY.as_bytes());
+    same(&rt, errors.into_inner().len(), 0);
 }
 
 #[test]
@@ -387,12 +436,10 @@ fn a_reader_that_fails_is_told(rt: HostRuntime) {
     let mut input = reader(&[Turn::Moves(100), Turn::Fails], BICYCLE);
     let mut output = writer(alloc, &[]);
     let mut errors = Told::new(Vec::new(alloc));
-    assert_eq!(rt;
-        run_words(&rt, alloc, &PLAN, &mut input, &mut output, &mut errors),
-        4
-    );
-    assert_eq!(rt; output.calls(), 0);
-    assert_eq!(rt; errors.into_inner().as_slice(), b"read failed\n".as_slice());
+    ends(&rt, alloc, &mut input, &mut output, &mut errors, 4);
+    same(&rt, output.calls(), 0);
+    let told = errors.into_inner();
+    same(&rt, told.as_slice(), b"read failed\n".as_slice());
 }
 
 #[test]
@@ -403,18 +450,11 @@ fn a_writer_that_fails_has_a_front_of_the_day(rt: HostRuntime) {
         let turns = [Turn::Moves(12), last];
         let mut output = writer(alloc, &turns);
         let mut errors = Told::new(Vec::new(alloc));
-        assert_eq!(rt;
-            run_words(&rt, alloc, &PLAN, &mut input, &mut output, &mut errors),
-            4
-        );
-        assert_eq!(rt;
-            output.into_inner().taken.as_slice(),
-            b"[history]\nen".as_slice()
-        );
-        assert_eq!(rt;
-            errors.into_inner().as_slice(),
-            b"write failed\n".as_slice()
-        );
+        ends(&rt, alloc, &mut input, &mut output, &mut errors, 4);
+        let taken = output.into_inner().taken;
+        same(&rt, taken.as_slice(), b"[history]\nen".as_slice());
+        let told = errors.into_inner();
+        same(&rt, told.as_slice(), b"write failed\n".as_slice());
     }
 }
 
@@ -429,10 +469,8 @@ fn a_failing_error_stream_changes_no_status(rt: HostRuntime) {
         let mut input = reader(&[], text);
         let mut output = writer(alloc, &[]);
         let mut errors = writer(alloc, &[Turn::Fails]);
-        assert_eq!(rt;
-            run_words(&rt, alloc, words, &mut input, &mut output, &mut errors),
-            want
-        );
+        let status = run_words(&rt, alloc, words, &mut input, &mut output, &mut errors);
+        same(&rt, status, want);
     }
 }
 
@@ -451,8 +489,8 @@ fn wrong_words_are_usage(rt: HostRuntime) -> Result<(), Fail> {
     ];
     for words in wrong {
         let left = left_by(&rt, rt.alloc(), words, BICYCLE)?;
-        assert_eq!(rt; left.status, 2);
-        assert_eq!(rt; left.output.as_str(), "");
+        same(&rt, left.status, 2);
+        same(&rt, left.output.as_str(), "");
         assert!(rt; !left.errors.is_empty());
     }
     Ok(())
@@ -468,9 +506,9 @@ fn help_is_written_to_the_output(rt: HostRuntime) -> Result<(), Fail> {
     ];
     for words in asked {
         let left = left_by(&rt, rt.alloc(), words, "")?;
-        assert_eq!(rt; left.status, 0);
+        same(&rt, left.status, 0);
         assert!(rt; left.output.as_str().contains("mrp plan < shop.bundle"));
-        assert_eq!(rt; left.errors.as_str(), "");
+        same(&rt, left.errors.as_str(), "");
     }
     Ok(())
 }
