@@ -1,9 +1,9 @@
-ghost use Rattle.std.specs.Prelude.{◌≡◌, IfOk};
+ghost use Rattle.std.specs.Prelude.{◌≡◌};
 ghost use Rattle.mrp_master.specs.Supply.{supply_of};
 ghost use Rattle.mrp_book.specs.History.{Fits};
 
 use mrp_bill::{Bill, Shop};
-use mrp_book::{Book, BookState, Booking, Call, Entry, Line, Reply, Snapshot, Spot, Wish};
+use mrp_book::{Book, BookState, Booking, Call, Line, Reply, Snapshot, Spot, Wish};
 use mrp_phase::PhaseFault;
 use mrp_qty::Qty;
 use mrp_rows::split_bundle;
@@ -11,7 +11,6 @@ use mrp_tables::Tables;
 use std::alloc::Global;
 use std::fmt::Debug;
 use std::process::Abort;
-use std::test::Fail;
 
 // A shop of six weeks, in which BIKE has 10 pieces on hand and firm rows of 20 in the weeks 3 and 5.
 const BICYCLES: &str =
@@ -46,36 +45,35 @@ fn same<T: PartialEq + Debug + Drop>(rt: &impl Abort, got: T, want: T) {
     assert_eq!(rt; got, want);
 }
 
-fn bicycles(alloc: Global) -> Result<Shop, Fail> {
-    let sections = split_bundle(BICYCLES.as_bytes())?;
-    let tables = Tables::read(alloc, &sections)?;
-    Ok(Bill::of(alloc, tables)?)
+fn bicycles(rt: &impl Abort, alloc: Global) -> Shop {
+    let sections = split_bundle(BICYCLES.as_bytes()).expect(rt, "sections");
+    let tables = Tables::read(alloc, &sections).expect(rt, "tables");
+    Bill::of(alloc, tables).expect(rt, "a shop")
 }
 
 impl Day {
-    fn open(alloc: Global) -> Result<Day, Fail> {
-        let shop = bicycles(alloc)?;
-        let book = Book::open(alloc, &shop)?;
-        Ok(Day { shop, book })
+    fn open(rt: &impl Abort, alloc: Global) -> Day {
+        let shop = bicycles(rt, alloc);
+        let book = Book::open(alloc, &shop).expect(rt, "a book");
+        Day { shop, book }
     }
 
     // What desk 1 is answered that asks for a snapshot.
-    fn snapshot(&mut self, alloc: Global) -> Result<Snapshot, Fail> {
-        let (_number, reply) = self.book.call(alloc, 1, Call::Snapshot)?;
-        match reply {
-            Reply::Taken(snapshot) => Ok(snapshot),
-            _ => Err("a snapshot".into()),
-        }
+    fn snapshot(&mut self, rt: &impl Abort, alloc: Global) -> Snapshot {
+        let (_number, reply) = self
+            .book
+            .call(alloc, 1, Call::Snapshot)
+            .expect(rt, "a reply");
+        taken(rt, reply)
     }
 
     // A desk's call, and what it is answered.
-    fn call(&mut self, alloc: Global, desk: u64, asked: Asked) -> Result<Said, Fail> {
-        if desk < 1 || 64 < desk {
-            return Err("a desk from 1 to 64".into());
-        }
-        let call = call_of(&self.shop, asked)?;
-        let (_number, reply) = self.book.call(alloc, desk, call)?;
-        Ok(said(&reply))
+    fn call(&mut self, rt: &impl Abort, alloc: Global, desk: u64, asked: Asked) -> Said {
+        assert!(rt; 1 <= desk);
+        assert!(rt; desk <= 64);
+        let call = call_of(rt, &self.shop, asked);
+        let (_number, reply) = self.book.call(alloc, desk, call).expect(rt, "a reply");
+        said(&reply)
     }
 }
 
@@ -88,36 +86,48 @@ struct Between {
 }
 
 impl Between {
-    fn open(alloc: Global) -> Result<Between, Fail> {
-        let shop = bicycles(alloc)?;
-        let state = BookState::open(alloc, &shop)?;
-        Ok(Between { shop, state })
+    fn open(rt: &impl Abort, alloc: Global) -> Between {
+        let shop = bicycles(rt, alloc);
+        let state = BookState::open(alloc, &shop).expect(rt, "a state");
+        Between { shop, state }
     }
 
     // A desk's call, what it is answered, and the copy.
-    fn apply(&mut self, alloc: Global, desk: u64, asked: Asked) -> Result<(Said, Said), Fail> {
-        let call = call_of(&self.shop, asked)?;
-        let (reply, copy) = self.state.apply(alloc, desk, &call)?;
-        Ok((said(&reply), said(&copy)))
+    fn apply(&mut self, rt: &impl Abort, alloc: Global, desk: u64, asked: Asked) -> (Said, Said) {
+        let call = call_of(rt, &self.shop, asked);
+        let (reply, copy) = self.state.apply(alloc, desk, &call).expect(rt, "a reply");
+        (said(&reply), said(&copy))
     }
 }
 
-fn pieces(count: u64) -> Result<Qty, Fail> {
-    Ok(Qty::new(count).ok_or("a quantity")?)
+fn pieces(rt: &impl Abort, count: u64) -> Qty {
+    Qty::new(count).expect(rt, "a quantity")
 }
 
-fn call_of(shop: &Shop, asked: Asked) -> Result<Call, Fail>
-    ensures { IfOk result (Fits (supply_of shop.now.tables)) }
+fn call_of(rt: &impl Abort, shop: &Shop, asked: Asked) -> Call
+    ensures { Fits (supply_of shop.now.tables) result }
 {
     match asked {
         Asked::Book(week, quantity) => {
-            Ok(Call::Book(Line::new(shop, BIKE, week, pieces(quantity)?)?))
+            let quantity = pieces(rt, quantity);
+            Call::Book(Line::new(shop, BIKE, week, quantity).expect(rt, "a line"))
         }
-        Asked::Cancel(number) => Ok(Call::Cancel(number)),
-        Asked::Ask(week) => Ok(Call::Ask(Spot::new(shop, BIKE, week)?)),
-        Asked::When(quantity) => Ok(Call::When(Wish::new(shop, BIKE, pieces(quantity)?)?)),
-        Asked::Snapshot => Ok(Call::Snapshot),
-        Asked::Front => Ok(Call::Front),
+        Asked::Cancel(number) => Call::Cancel(number),
+        Asked::Ask(week) => Call::Ask(Spot::new(shop, BIKE, week).expect(rt, "a spot")),
+        Asked::When(quantity) => {
+            let quantity = pieces(rt, quantity);
+            Call::When(Wish::new(shop, BIKE, quantity).expect(rt, "a wish"))
+        }
+        Asked::Snapshot => Call::Snapshot,
+        Asked::Front => Call::Front,
+    }
+}
+
+// The snapshot of a reply.
+fn taken(rt: &impl Abort, reply: Reply) -> Snapshot {
+    match reply {
+        Reply::Taken(snapshot) => snapshot,
+        _ => panic!(rt; "a snapshot"),
     }
 }
 
@@ -137,16 +147,10 @@ fn said(reply: &Reply) -> Said {
 }
 
 // Fails unless the calls are answered so.
-fn assert_answered(
-    rt: &impl Abort,
-    alloc: Global,
-    day: &mut Day,
-    script: &[(u64, Asked, Said)],
-) -> Result<(), Fail> {
+fn assert_answered(rt: &impl Abort, alloc: Global, day: &mut Day, script: &[(u64, Asked, Said)]) {
     for (desk, asked, wanted) in script {
-        same(rt, day.call(alloc, *desk, *asked)?, *wanted);
+        same(rt, day.call(rt, alloc, *desk, *asked), *wanted);
     }
-    Ok(())
 }
 
 // The first six calls of a day of two desks.
@@ -159,39 +163,36 @@ const MORNING: &[(u64, Asked, Said)] = &[
     (1, Asked::Ask(3), ("available", 3)),
 ];
 
-fn booking(number: u64, desk: u64, week: u16, quantity: u64) -> Result<Booking, Fail> {
-    let quantity = pieces(quantity)?;
+fn booking(rt: &impl Abort, number: u64, desk: u64, week: u16, quantity: u64) -> Booking {
+    let quantity = pieces(rt, quantity);
     let line = Line {
         item: BIKE,
         week,
         quantity,
     };
-    Ok(Booking { number, desk, line })
+    Booking { number, desk, line }
 }
 
 #[test]
-fn desks_book_until_nothing_is_available(rt: HostRuntime) -> Result<(), Fail> {
+fn desks_book_until_nothing_is_available(rt: HostRuntime) {
     let alloc = rt.alloc();
-    let mut day = Day::open(alloc)?;
-    assert_answered(&rt, alloc, &mut day, MORNING)?;
-    let call = call_of(&day.shop, Asked::Snapshot)?;
-    let (number, reply) = day.book.call(alloc, 1, call)?;
+    let mut day = Day::open(&rt, alloc);
+    assert_answered(&rt, alloc, &mut day, MORNING);
+    let call = call_of(&rt, &day.shop, Asked::Snapshot);
+    let (number, reply) = day.book.call(alloc, 1, call).expect(&rt, "a reply");
     same(&rt, number, 7);
-    let Reply::Taken(snapshot) = reply else {
-        return Err("a snapshot".into());
-    };
+    let snapshot = taken(&rt, reply);
     same(&rt, snapshot.front(), 7);
     let bookings = [
-        booking(1, 1, 3, 12)?,
-        booking(2, 1, 5, 25)?,
-        booking(5, 2, 1, 10)?,
+        booking(&rt, 1, 1, 3, 12),
+        booking(&rt, 2, 1, 5, 25),
+        booking(&rt, 5, 2, 1, 10),
     ];
-    assert!(rt; snapshot.standing() == bookings.as_slice());
-    Ok(())
+    same(&rt, snapshot.standing(), bookings.as_slice());
 }
 
 #[test]
-fn a_desk_cancels_its_own_bookings(rt: HostRuntime) -> Result<(), Fail> {
+fn a_desk_cancels_its_own_bookings(rt: HostRuntime) {
     const AFTERNOON: &[(u64, Asked, Said)] = &[
         (2, Asked::Cancel(2), ("not-yours", 0)),
         (1, Asked::Cancel(2), ("cancelled", 0)),
@@ -202,26 +203,20 @@ fn a_desk_cancels_its_own_bookings(rt: HostRuntime) -> Result<(), Fail> {
         (1, Asked::Snapshot, ("taken", 13)),
     ];
     let alloc = rt.alloc();
-    let mut day = Day::open(alloc)?;
-    assert_answered(&rt, alloc, &mut day, MORNING)?;
-    assert_answered(&rt, alloc, &mut day, AFTERNOON)?;
+    let mut day = Day::open(&rt, alloc);
+    assert_answered(&rt, alloc, &mut day, MORNING);
+    assert_answered(&rt, alloc, &mut day, AFTERNOON);
     let history = day.book.into_history();
-    let Some(
-        Entry {
-            reply: Reply::Taken(snapshot),
-            ..
-        },
-    ) = history.entries().last()
-    else {
-        return Err("a snapshot".into());
+    let last = history.entries().last().expect(&rt, "an entry");
+    let Reply::Taken(snapshot) = &last.reply else {
+        panic!(rt; "a snapshot");
     };
-    let bookings = [booking(1, 1, 3, 12)?, booking(5, 2, 1, 10)?];
-    assert!(rt; snapshot.standing() == bookings.as_slice());
-    Ok(())
+    let bookings = [booking(&rt, 1, 1, 3, 12), booking(&rt, 5, 2, 1, 10)];
+    same(&rt, snapshot.standing(), bookings.as_slice());
 }
 
 #[test]
-fn what_is_available_grows_with_the_firm_rows(rt: HostRuntime) -> Result<(), Fail> {
+fn what_is_available_grows_with_the_firm_rows(rt: HostRuntime) {
     const QUESTIONS: &[(u64, Asked, Said)] = &[
         (1, Asked::Ask(1), ("available", 10)),
         (1, Asked::Ask(3), ("available", 30)),
@@ -231,67 +226,78 @@ fn what_is_available_grows_with_the_firm_rows(rt: HostRuntime) -> Result<(), Fai
         (64, Asked::Front, ("front", 6)),
     ];
     let alloc = rt.alloc();
-    let mut day = Day::open(alloc)?;
-    assert_answered(&rt, alloc, &mut day, QUESTIONS)
+    let mut day = Day::open(&rt, alloc);
+    assert_answered(&rt, alloc, &mut day, QUESTIONS);
+}
+
+// What is said by a copy of a reply.
+fn said_again(rt: &impl Abort, reply: Reply) -> Said {
+    said(&reply.copy().expect(rt, "a copy"))
 }
 
 #[test]
-fn a_copy_of_a_reply_is_equal(rt: HostRuntime) -> Result<(), Fail> {
-    let alloc = rt.alloc();
-    let bookings = [booking(1, 1, 3, 12)?, booking(5, 2, 1, 10)?];
-    let standing = Vec::from_slice(alloc, bookings.as_slice())?;
-    let snapshot = Snapshot::new(alloc, 7, 6, standing)?.copy()?;
+fn a_copy_of_a_reply_is_equal(rt: HostRuntime) {
+    let bookings = [booking(&rt, 1, 1, 3, 12), booking(&rt, 5, 2, 1, 10)];
+    let standing = Vec::from_slice(rt.alloc(), bookings.as_slice()).expect(&rt, "bookings");
+    let snapshot = Snapshot::new(rt.alloc(), 7, 6, standing).expect(&rt, "a snapshot");
+    let snapshot = snapshot.copy().expect(&rt, "a copy");
     same(&rt, snapshot.front(), 7);
-    let Reply::Taken(copy) = Reply::Taken(snapshot).copy()? else {
-        return Err("a snapshot".into());
-    };
+    let copy = Reply::Taken(snapshot).copy().expect(&rt, "a copy");
+    let copy = taken(&rt, copy);
     same(&rt, copy.front(), 7);
-    assert!(rt; copy.standing() == bookings.as_slice());
-    same(&rt, said(&Reply::Booked(3).copy()?), ("booked", 3));
-    same(&rt, said(&Reply::Week(104).copy()?), ("week", 104));
-    same(&rt, said(&Reply::NoWeek.copy()?), ("no-week", 0));
-    Ok(())
+    same(&rt, copy.standing(), bookings.as_slice());
+    same(&rt, said_again(&rt, Reply::Booked(3)), ("booked", 3));
+    same(&rt, said_again(&rt, Reply::Week(104)), ("week", 104));
+    same(&rt, said_again(&rt, Reply::NoWeek), ("no-week", 0));
 }
 
-fn quantities(alloc: Global, counts: &[u64]) -> Result<Vec<Qty>, Fail> {
+fn quantities(rt: &impl Abort, alloc: Global, counts: &[u64]) -> Vec<Qty> {
     let mut quantities = Vec::new(alloc);
     for count in counts {
-        quantities.push(pieces(*count)?)?;
+        quantities.push(pieces(rt, *count)).expect(rt, "memory");
     }
-    Ok(quantities)
+    quantities
 }
 
 // Fails unless so much of an item is booked in each week.
-fn assert_demand(
-    rt: &impl Abort,
-    alloc: Global,
-    snapshot: &Snapshot,
-    item: usize,
-    wanted: &[u64],
-) -> Result<(), Fail> {
-    let demand = snapshot.demand(alloc, item)?;
-    same(rt, demand.as_slice(), quantities(alloc, wanted)?.as_slice());
-    Ok(())
+fn assert_demand(rt: &impl Abort, alloc: Global, snapshot: &Snapshot, item: usize, wanted: &[u64]) {
+    let demand = snapshot.demand(alloc, item).expect(rt, "memory");
+    let wanted = quantities(rt, alloc, wanted);
+    same(rt, demand.as_slice(), wanted.as_slice());
 }
 
 #[test]
-fn what_stands_is_demanded_in_its_week(rt: HostRuntime) -> Result<(), Fail> {
+fn what_stands_is_demanded_in_its_week(rt: HostRuntime) {
     const FRAME: usize = 1;
     let alloc = rt.alloc();
-    let mut day = Day::open(alloc)?;
-    assert_answered(&rt, alloc, &mut day, MORNING)?;
-    let before = day.snapshot(alloc)?;
+    let mut day = Day::open(&rt, alloc);
+    assert_answered(&rt, alloc, &mut day, MORNING);
+    let before = day.snapshot(&rt, alloc);
     same(&rt, before.weeks(), 6);
-    assert_demand(&rt, alloc, &before, BIKE, &[10, 0, 12, 0, 25, 0])?;
-    assert_demand(&rt, alloc, &before, FRAME, &[0, 0, 0, 0, 0, 0])?;
-    same(&rt, day.call(alloc, 1, Asked::Cancel(2))?, ("cancelled", 0));
-    let after = day.snapshot(alloc)?;
-    assert_demand(&rt, alloc, &after, BIKE, &[10, 0, 12, 0, 0, 0])?;
-    assert_demand(&rt, alloc, &before, BIKE, &[10, 0, 12, 0, 25, 0])
+    assert_demand(&rt, alloc, &before, BIKE, &[10, 0, 12, 0, 25, 0]);
+    assert_demand(&rt, alloc, &before, FRAME, &[0, 0, 0, 0, 0, 0]);
+    let cancelled = day.call(&rt, alloc, 1, Asked::Cancel(2));
+    same(&rt, cancelled, ("cancelled", 0));
+    let after = day.snapshot(&rt, alloc);
+    assert_demand(&rt, alloc, &after, BIKE, &[10, 0, 12, 0, 0, 0]);
+    assert_demand(&rt, alloc, &before, BIKE, &[10, 0, 12, 0, 25, 0]);
+}
+
+// Fails unless a state answers the calls so, and so do the copies.
+fn assert_applied(
+    rt: &impl Abort,
+    alloc: Global,
+    between: &mut Between,
+    script: &[(u64, Asked, Said)],
+) {
+    for (desk, asked, wanted) in script {
+        let answer = between.apply(rt, alloc, *desk, *asked);
+        same(rt, answer, (*wanted, *wanted));
+    }
 }
 
 #[test]
-fn a_state_answers_with_an_equal_copy(rt: HostRuntime) -> Result<(), Fail> {
+fn a_state_answers_with_an_equal_copy(rt: HostRuntime) {
     const CALLS: &[(u64, Asked, Said)] = &[
         (1, Asked::When(11), ("week", 3)),
         (1, Asked::When(51), ("no-week", 0)),
@@ -305,35 +311,32 @@ fn a_state_answers_with_an_equal_copy(rt: HostRuntime) -> Result<(), Fail> {
         (2, Asked::Snapshot, ("taken", 10)),
         (2, Asked::Front, ("front", 11)),
     ];
-    let alloc = rt.alloc();
-    let mut between = Between::open(alloc)?;
+    let mut between = Between::open(&rt, rt.alloc());
     same(&rt, between.state.next_number(), 1);
-    for (desk, asked, wanted) in CALLS {
-        same(
-            &rt,
-            between.apply(alloc, *desk, *asked)?,
-            (*wanted, *wanted),
-        );
-    }
+    assert_applied(&rt, rt.alloc(), &mut between, CALLS);
     same(&rt, between.state.next_number(), 12);
-    assert!(rt; !between.state.is_full());
+    same(&rt, between.state.is_full(), false);
     same(&rt, between.state.into_supply().weeks(), 6);
-    Ok(())
+}
+
+// A snapshot of four weeks in which these bookings stand, or why there is none.
+fn snapshot_of(
+    rt: &impl Abort,
+    alloc: Global,
+    standing: &[Booking],
+) -> Result<Snapshot, PhaseFault> {
+    let standing = Vec::from_slice(alloc, standing).expect(rt, "bookings");
+    Snapshot::new(alloc, 3, 4, standing)
 }
 
 #[test]
-fn a_snapshot_has_at_most_the_greatest_quantity(rt: HostRuntime) -> Result<(), Fail> {
+fn a_snapshot_has_at_most_the_greatest_quantity(rt: HostRuntime) {
     let alloc = rt.alloc();
-    let most = [booking(1, 1, 3, 999_999_999_999_999)?, booking(2, 1, 5, 1)?];
-    let standing = Vec::from_slice(alloc, most.as_slice())?;
-    let snapshot = Snapshot::new(alloc, 3, 4, standing)?;
-    assert_demand(&rt, alloc, &snapshot, BIKE, &[0, 0, 999_999_999_999_999, 0])?;
-    let more = [booking(1, 1, 3, 999_999_999_999_999)?, booking(2, 1, 5, 2)?];
-    let standing = Vec::from_slice(alloc, more.as_slice())?;
-    same(
-        &rt,
-        Snapshot::new(alloc, 3, 4, standing).err(),
-        Some(PhaseFault::TooLarge),
-    );
-    Ok(())
+    let nearly_all = booking(&rt, 1, 1, 3, 999_999_999_999_999);
+    let most = [nearly_all, booking(&rt, 2, 1, 5, 1)];
+    let snapshot = snapshot_of(&rt, alloc, &most).expect(&rt, "a snapshot");
+    assert_demand(&rt, alloc, &snapshot, BIKE, &[0, 0, 999_999_999_999_999, 0]);
+    let more = [nearly_all, booking(&rt, 2, 1, 5, 2)];
+    let refused = snapshot_of(&rt, alloc, &more).err();
+    same(&rt, refused, Some(PhaseFault::TooLarge));
 }
