@@ -6,7 +6,6 @@ use mrp_tables::Tables;
 use std::alloc::Global;
 use std::fmt::Debug;
 use std::process::Abort;
-use std::test::Fail;
 
 // A shop of six weeks: the master item BIKE at place 0, FRAME at 1, WHEEL at 2.
 const BICYCLES: &str =
@@ -26,21 +25,28 @@ fn same<T: PartialEq + Debug + Drop>(rt: &impl Abort, got: T, want: T) {
     assert_eq!(rt; got, want);
 }
 
-fn shop_of(alloc: Global, bundle: &[u8]) -> Result<Shop, Fail> {
-    let sections = split_bundle(bundle)?;
-    let tables = Tables::read(alloc, &sections)?;
-    Ok(Bill::of(alloc, tables)?)
+fn shop_of(rt: &impl Abort, alloc: Global, bundle: &[u8]) -> Shop {
+    let sections = split_bundle(bundle).expect(rt, "sections");
+    let tables = Tables::read(alloc, &sections).expect(rt, "tables");
+    Bill::of(alloc, tables).expect(rt, "a shop")
 }
 
 // The shop with this stock.
-fn shop_with(alloc: Global, stock: &str) -> Result<Shop, Fail> {
-    let mut bundle = Vec::from_slice(alloc, BICYCLES.as_bytes())?;
-    bundle.extend_from_slice(stock.as_bytes())?;
-    shop_of(alloc, bundle.as_slice())
+fn shop_with(rt: &impl Abort, alloc: Global, stock: &str) -> Shop {
+    let mut bundle = Vec::from_slice(alloc, BICYCLES.as_bytes()).expect(rt, "memory");
+    bundle
+        .extend_from_slice(stock.as_bytes())
+        .expect(rt, "memory");
+    shop_of(rt, alloc, bundle.as_slice())
 }
 
-fn pieces(count: u64) -> Result<Qty, Fail> {
-    Ok(Qty::new(count).ok_or("a quantity")?)
+fn supply_with(rt: &impl Abort, alloc: Global, stock: &str) -> Supply {
+    let shop = shop_with(rt, alloc, stock);
+    Supply::of(alloc, &shop).expect(rt, "a supply")
+}
+
+fn pieces(rt: &impl Abort, count: u64) -> Qty {
+    Qty::new(count).expect(rt, "a quantity")
 }
 
 // Fails unless the line is refused so.
@@ -56,26 +62,25 @@ fn assert_refused(
 }
 
 #[test]
-fn each_fault_of_a_line_is_told(rt: HostRuntime) -> Result<(), Fail> {
-    let shop = shop_with(rt.alloc(), ONLY_BIKES)?;
-    let none = pieces(0)?;
-    let one = pieces(1)?;
-    let too_many = pieces(1_000_000_001)?;
+fn each_fault_of_a_line_is_told(rt: HostRuntime) {
+    let shop = shop_with(&rt, rt.alloc(), ONLY_BIKES);
+    let none = pieces(&rt, 0);
+    let one = pieces(&rt, 1);
+    let too_many = pieces(&rt, 1_000_000_001);
     assert_refused(&rt, &shop, 3, 1, one, LineFault::UnknownItem);
     assert_refused(&rt, &shop, 1, 1, one, LineFault::NotMaster);
     assert_refused(&rt, &shop, 0, 7, one, LineFault::BadWeek);
     assert_refused(&rt, &shop, 0, 0, one, LineFault::BadWeek);
     assert_refused(&rt, &shop, 0, 1, none, LineFault::ZeroQuantity);
     assert_refused(&rt, &shop, 0, 1, too_many, LineFault::TooLarge);
-    Ok(())
 }
 
 #[test]
-fn of_two_faults_the_first_is_told(rt: HostRuntime) -> Result<(), Fail> {
-    let shop = shop_with(rt.alloc(), ONLY_BIKES)?;
-    let none = pieces(0)?;
-    let one = pieces(1)?;
-    let too_many = pieces(1_000_000_001)?;
+fn of_two_faults_the_first_is_told(rt: HostRuntime) {
+    let shop = shop_with(&rt, rt.alloc(), ONLY_BIKES);
+    let none = pieces(&rt, 0);
+    let one = pieces(&rt, 1);
+    let too_many = pieces(&rt, 1_000_000_001);
     assert_refused(&rt, &shop, 3, 7, one, LineFault::UnknownItem);
     assert_refused(&rt, &shop, 3, 1, none, LineFault::UnknownItem);
     assert_refused(&rt, &shop, 3, 1, too_many, LineFault::UnknownItem);
@@ -84,14 +89,13 @@ fn of_two_faults_the_first_is_told(rt: HostRuntime) -> Result<(), Fail> {
     assert_refused(&rt, &shop, 1, 1, too_many, LineFault::NotMaster);
     assert_refused(&rt, &shop, 0, 7, none, LineFault::BadWeek);
     assert_refused(&rt, &shop, 0, 7, too_many, LineFault::BadWeek);
-    Ok(())
 }
 
 #[test]
-fn a_line_is_what_it_was_made_of(rt: HostRuntime) -> Result<(), Fail> {
-    let shop = shop_with(rt.alloc(), ONLY_BIKES)?;
+fn a_line_is_what_it_was_made_of(rt: HostRuntime) {
+    let shop = shop_with(&rt, rt.alloc(), ONLY_BIKES);
     for (week, count) in [(1, 1), (6, 1_000_000_000)] {
-        let quantity = pieces(count)?;
+        let quantity = pieces(&rt, count);
         let line = Line {
             item: 0,
             week,
@@ -99,27 +103,25 @@ fn a_line_is_what_it_was_made_of(rt: HostRuntime) -> Result<(), Fail> {
         };
         same(&rt, Line::new(&shop, 0, week, quantity), Ok(line));
     }
-    Ok(())
 }
 
 #[test]
-fn a_spot_has_an_item_and_a_week(rt: HostRuntime) -> Result<(), Fail> {
-    let shop = shop_with(rt.alloc(), ONLY_BIKES)?;
+fn a_spot_has_an_item_and_a_week(rt: HostRuntime) {
+    let shop = shop_with(&rt, rt.alloc(), ONLY_BIKES);
     same(&rt, Spot::new(&shop, 0, 1), Ok(Spot { item: 0, week: 1 }));
     same(&rt, Spot::new(&shop, 0, 6), Ok(Spot { item: 0, week: 6 }));
     same(&rt, Spot::new(&shop, 3, 7), Err(LineFault::UnknownItem));
     same(&rt, Spot::new(&shop, 2, 7), Err(LineFault::NotMaster));
     same(&rt, Spot::new(&shop, 0, 7), Err(LineFault::BadWeek));
     same(&rt, Spot::new(&shop, 0, 0), Err(LineFault::BadWeek));
-    Ok(())
 }
 
 #[test]
-fn a_wish_has_an_item_and_a_quantity(rt: HostRuntime) -> Result<(), Fail> {
-    let shop = shop_with(rt.alloc(), ONLY_BIKES)?;
-    let none = pieces(0)?;
-    let most = pieces(1_000_000_000)?;
-    let too_many = pieces(1_000_000_001)?;
+fn a_wish_has_an_item_and_a_quantity(rt: HostRuntime) {
+    let shop = shop_with(&rt, rt.alloc(), ONLY_BIKES);
+    let none = pieces(&rt, 0);
+    let most = pieces(&rt, 1_000_000_000);
+    let too_many = pieces(&rt, 1_000_000_001);
     let wish = Wish {
         item: 0,
         quantity: most,
@@ -133,7 +135,6 @@ fn a_wish_has_an_item_and_a_quantity(rt: HostRuntime) -> Result<(), Fail> {
     );
     same(&rt, Wish::new(&shop, 0, none), Err(LineFault::ZeroQuantity));
     same(&rt, Wish::new(&shop, 0, too_many), Err(LineFault::TooLarge));
-    Ok(())
 }
 
 // Fails unless so many pieces of an item are supplied up to each week.
@@ -148,34 +149,28 @@ fn assert_supply(rt: &impl Abort, supply: &Supply, item: usize, by_week: &[u64])
 }
 
 #[test]
-fn firm_rows_are_supply_from_their_weeks_on(rt: HostRuntime) -> Result<(), Fail> {
-    let shop = shop_with(rt.alloc(), ONLY_BIKES)?;
-    let supply = Supply::of(rt.alloc(), &shop)?;
+fn firm_rows_are_supply_from_their_weeks_on(rt: HostRuntime) {
+    let supply = supply_with(&rt, rt.alloc(), ONLY_BIKES);
     assert_supply(&rt, &supply, 0, &[10, 10, 30, 30, 50, 50]);
     assert_supply(&rt, &supply, 1, &[0, 0, 0, 0, 0, 0]);
     assert_supply(&rt, &supply, 3, &[0, 0, 0, 0, 0, 0]);
-    Ok(())
 }
 
 #[test]
-fn what_is_on_hand_is_supply_of_its_item(rt: HostRuntime) -> Result<(), Fail> {
-    let shop = shop_with(rt.alloc(), ALL_ITEMS)?;
-    let supply = Supply::of(rt.alloc(), &shop)?;
+fn what_is_on_hand_is_supply_of_its_item(rt: HostRuntime) {
+    let supply = supply_with(&rt, rt.alloc(), ALL_ITEMS);
     assert_supply(&rt, &supply, 0, &[10, 10, 30, 30, 50, 50]);
     assert_supply(&rt, &supply, 1, &[12, 12, 12, 12, 12, 12]);
     assert_supply(&rt, &supply, 2, &[30, 30, 30, 30, 30, 30]);
-    Ok(())
 }
 
 #[test]
-fn only_bikes_are_master_items(rt: HostRuntime) -> Result<(), Fail> {
-    let shop = shop_with(rt.alloc(), ONLY_BIKES)?;
-    let supply = Supply::of(rt.alloc(), &shop)?;
+fn only_bikes_are_master_items(rt: HostRuntime) {
+    let supply = supply_with(&rt, rt.alloc(), ONLY_BIKES);
     assert!(rt; supply.is_master(0));
     assert!(rt; !supply.is_master(1));
     assert!(rt; !supply.is_master(2));
     assert!(rt; !supply.is_master(3));
-    Ok(())
 }
 
 // What is left in a week's bucket of a row.
@@ -195,24 +190,27 @@ fn booked(rt: &impl Abort, row: &AtpRow, week: u16) -> u64 {
 }
 
 // Books so many pieces, which are available in the week.
-fn take(rt: &impl Abort, row: &mut AtpRow, week: u16, count: u64) -> Result<(), Fail> {
-    let quantity = pieces(count)?;
+fn take(rt: &impl Abort, row: &mut AtpRow, week: u16, count: u64) {
+    let quantity = pieces(rt, count);
     let weeks = row.weeks();
     assert!(rt; 1 <= week);
     assert!(rt; week <= weeks);
     let most = row.available(week);
     assert!(rt; quantity.value() <= most.value());
     row.take(week, quantity);
-    Ok(())
 }
 
 // Gives back so many pieces, which are booked in the week.
-fn give(rt: &impl Abort, row: &mut AtpRow, week: u16, count: u64) -> Result<(), Fail> {
-    let quantity = pieces(count)?;
+fn give(rt: &impl Abort, row: &mut AtpRow, week: u16, count: u64) {
+    let quantity = pieces(rt, count);
     assert!(rt; 1 <= week && week <= row.weeks());
     assert!(rt; quantity.value() <= row.booked(week).value());
     row.give(week, quantity);
-    Ok(())
+}
+
+// Fails unless this is the first week in which so many pieces are available.
+fn assert_earliest(rt: &impl Abort, row: &AtpRow, count: u64, week: Option<u16>) {
+    same(rt, row.earliest(pieces(rt, count)), week);
 }
 
 // Fails unless so much is left in the bucket of each week, and so much available in each.
@@ -227,85 +225,93 @@ fn assert_row(rt: &impl Abort, row: &AtpRow, buckets: &[u64; 6], quantities: &[u
     }
 }
 
-fn bike_row(alloc: Global) -> Result<AtpRow, Fail> {
-    let shop = shop_with(alloc, ONLY_BIKES)?;
-    let supply = Supply::of(alloc, &shop)?;
-    Ok(AtpRow::of(alloc, &supply, 0)?)
+fn bike_row(rt: &impl Abort, alloc: Global) -> AtpRow {
+    let supply = supply_with(rt, alloc, ONLY_BIKES);
+    AtpRow::of(alloc, &supply, 0).expect(rt, "a row")
 }
 
 #[test]
-fn each_supply_opens_a_bucket(rt: HostRuntime) -> Result<(), Fail> {
-    let row = bike_row(rt.alloc())?;
+fn each_supply_opens_a_bucket(rt: HostRuntime) {
+    let row = bike_row(&rt, rt.alloc());
     assert_row(&rt, &row, &[10, 0, 20, 0, 20, 0], &[10, 10, 30, 30, 50, 50]);
-    same(&rt, row.earliest(pieces(0)?), Some(1));
-    same(&rt, row.earliest(pieces(10)?), Some(1));
-    same(&rt, row.earliest(pieces(11)?), Some(3));
-    same(&rt, row.earliest(pieces(50)?), Some(5));
-    same(&rt, row.earliest(pieces(51)?), None);
-    Ok(())
+    assert_earliest(&rt, &row, 0, Some(1));
+    assert_earliest(&rt, &row, 10, Some(1));
+    assert_earliest(&rt, &row, 11, Some(3));
+    assert_earliest(&rt, &row, 50, Some(5));
+    assert_earliest(&rt, &row, 51, None);
 }
 
 #[test]
-fn an_overdraft_is_carried_back(rt: HostRuntime) -> Result<(), Fail> {
-    let mut row = bike_row(rt.alloc())?;
-    take(&rt, &mut row, 3, 12)?;
-    take(&rt, &mut row, 5, 25)?;
-    take(&rt, &mut row, 1, 10)?;
+fn an_overdraft_is_carried_back(rt: HostRuntime) {
+    let mut row = bike_row(&rt, rt.alloc());
+    take(&rt, &mut row, 3, 12);
+    take(&rt, &mut row, 5, 25);
+    take(&rt, &mut row, 1, 10);
     assert_row(&rt, &row, &[0, 0, 3, 0, 0, 0], &[0, 0, 3, 3, 3, 3]);
     same(&rt, booked(&rt, &row, 1), 10);
     same(&rt, booked(&rt, &row, 2), 0);
     same(&rt, booked(&rt, &row, 5), 25);
-    same(&rt, row.earliest(pieces(3)?), Some(3));
-    same(&rt, row.earliest(pieces(4)?), None);
-    give(&rt, &mut row, 5, 25)?;
+    assert_earliest(&rt, &row, 3, Some(3));
+    assert_earliest(&rt, &row, 4, None);
+    give(&rt, &mut row, 5, 25);
     assert_row(&rt, &row, &[0, 0, 8, 0, 20, 0], &[0, 0, 8, 8, 28, 28]);
-    same(&rt, row.earliest(pieces(28)?), Some(5));
-    same(&rt, row.earliest(pieces(29)?), None);
-    Ok(())
+    assert_earliest(&rt, &row, 28, Some(5));
+    assert_earliest(&rt, &row, 29, None);
 }
 
 #[test]
-fn a_bucket_may_be_overdrawn_into_all_before_it(rt: HostRuntime) -> Result<(), Fail> {
-    let mut row = bike_row(rt.alloc())?;
-    take(&rt, &mut row, 6, 45)?;
+fn a_bucket_may_be_overdrawn_into_all_before_it(rt: HostRuntime) {
+    let mut row = bike_row(&rt, rt.alloc());
+    take(&rt, &mut row, 6, 45);
     assert_row(&rt, &row, &[5, 0, 0, 0, 0, 0], &[5, 5, 5, 5, 5, 5]);
-    take(&rt, &mut row, 2, 5)?;
+    take(&rt, &mut row, 2, 5);
     assert_row(&rt, &row, &[0, 0, 0, 0, 0, 0], &[0, 0, 0, 0, 0, 0]);
-    same(&rt, row.earliest(pieces(0)?), Some(1));
-    same(&rt, row.earliest(pieces(1)?), None);
-    Ok(())
+    assert_earliest(&rt, &row, 0, Some(1));
+    assert_earliest(&rt, &row, 1, None);
 }
 
 #[test]
-fn a_part_has_its_stock_in_week_one(rt: HostRuntime) -> Result<(), Fail> {
-    let shop = shop_with(rt.alloc(), ALL_ITEMS)?;
-    let supply = Supply::of(rt.alloc(), &shop)?;
-    let wheels = AtpRow::of(rt.alloc(), &supply, 2)?;
+fn a_part_has_its_stock_in_week_one(rt: HostRuntime) {
+    let supply = supply_with(&rt, rt.alloc(), ALL_ITEMS);
+    let wheels = AtpRow::of(rt.alloc(), &supply, 2).expect(&rt, "a row");
     assert_row(
         &rt,
         &wheels,
         &[30, 0, 0, 0, 0, 0],
         &[30, 30, 30, 30, 30, 30],
     );
-    let none = AtpRow::of(rt.alloc(), &supply, 3)?;
+    let none = AtpRow::of(rt.alloc(), &supply, 3).expect(&rt, "a row");
     assert_row(&rt, &none, &[0, 0, 0, 0, 0, 0], &[0, 0, 0, 0, 0, 0]);
-    Ok(())
+}
+
+// The row of BIKE in the shop of 104 weeks.
+fn row_of_104_weeks(rt: &impl Abort, alloc: Global) -> AtpRow {
+    let shop = shop_of(rt, alloc, A_BIKE_A_WEEK.as_bytes());
+    let supply = Supply::of(alloc, &shop).expect(rt, "a supply");
+    AtpRow::of(alloc, &supply, 0).expect(rt, "a row")
+}
+
+// Fails unless each week's bucket has a piece, of which as many are available as there are weeks.
+fn assert_full(rt: &impl Abort, row: &AtpRow) {
+    for week in 1..105 {
+        same(rt, available(rt, row, week), u64::from(week));
+    }
+}
+
+// Fails unless no bucket has a piece.
+fn assert_empty(rt: &impl Abort, row: &AtpRow) {
+    for week in 1..105 {
+        same(rt, left(rt, row, week), 0);
+        same(rt, available(rt, row, week), 0);
+    }
 }
 
 #[test]
-fn a_horizon_may_be_full_of_buckets(rt: HostRuntime) -> Result<(), Fail> {
-    let shop = shop_of(rt.alloc(), A_BIKE_A_WEEK.as_bytes())?;
-    let supply = Supply::of(rt.alloc(), &shop)?;
-    let mut row = AtpRow::of(rt.alloc(), &supply, 0)?;
-    for week in 1..105 {
-        same(&rt, available(&rt, &row, week), u64::from(week));
-    }
-    same(&rt, row.earliest(pieces(104)?), Some(104));
-    same(&rt, row.earliest(pieces(105)?), None);
-    take(&rt, &mut row, 104, 104)?;
-    for week in 1..105 {
-        same(&rt, left(&rt, &row, week), 0);
-        same(&rt, available(&rt, &row, week), 0);
-    }
-    Ok(())
+fn a_horizon_may_be_full_of_buckets(rt: HostRuntime) {
+    let mut row = row_of_104_weeks(&rt, rt.alloc());
+    assert_full(&rt, &row);
+    assert_earliest(&rt, &row, 104, Some(104));
+    assert_earliest(&rt, &row, 105, None);
+    take(&rt, &mut row, 104, 104);
+    assert_empty(&rt, &row);
 }

@@ -6,5 +6,5 @@ use Rattle.master_tests.proofs.tests.take.Goals as goal
 pub take-requires-clause-available : goal.take-requires-clause-available
 take-requires-clause-available g c =
     let inside : IsWeekOf c.args.row.now c.args.week = (omega arith, omega (arith, c.weeks-weeks.ensures.value)) in
-    fits_available c.args.row.now c.args.week c.in_ok-quantity.quantity c.available-most.result c.weeks-weeks.ensures.kept inside c.available-most.ensures
+    fits_available c.args.row.now c.args.week c.pieces-quantity.result c.available-most.result c.weeks-weeks.ensures.kept inside c.available-most.ensures
     (omega (arith, c.value.ensures.pieces, c.value-2.ensures.pieces))
