@@ -1,10 +1,10 @@
-ghost use Rattle.std.specs.Prelude.{◌≡◌, IfOk, length};
+ghost use Rattle.std.specs.Prelude.{◌≡◌, length};
 
 use super::same::same;
 use super::stock::bundle_with;
 use mrp_rows::{Cursor, Fault, Row, Table, split_bundle};
 use std::alloc::Global;
-use std::test::Fail;
+use std::process::Abort;
 
 // The codes of the faults of cells.
 const NAME: u8 = 7;
@@ -25,25 +25,33 @@ fn code_of<T: Drop>(outcome: Result<T, Fault>) -> u8 {
     }
 }
 
+// A stock table of two records, the second with this cell at its end.
+fn stock_of(rt: &impl Abort, alloc: Global, cell: &[u8]) -> Vec<u8> {
+    let mut text = b"item,onhand\nFIRST,1\n2,"
+        .to_vec(alloc)
+        .expect(rt, "memory");
+    text.extend_from_slice(cell).expect(rt, "memory");
+    bundle_with(alloc, Table::Stock, text.as_slice()).expect(rt, "memory")
+}
+
 // The second record of a stock table, with this cell at its end; it has to have two cells.
-fn row_of(alloc: Global, cell: &[u8]) -> Result<Row, Fail>
-    ensures { IfOk result (λ row. length row.cells ≡ 2) }
+fn row_of(rt: &impl Abort, alloc: Global, cell: &[u8]) -> Row
+    ensures { length result.cells ≡ 2 }
 {
-    let mut text = b"item,onhand\nFIRST,1\n2,".to_vec(alloc)?;
-    text.extend_from_slice(cell)?;
-    let bundle = bundle_with(alloc, Table::Stock, text.as_slice())?;
-    let sections = split_bundle(bundle.as_slice())?;
-    let mut cursor = Cursor::new(alloc, &sections, Table::Stock)?;
-    let _ = cursor.next()?;
-    let row = cursor.next()?.ok_or("no second record")?;
-    if row.cell_count() != 2 {
-        return Err(Fail::from("not two cells"));
-    }
-    Ok(row)
+    let bundle = stock_of(rt, alloc, cell);
+    let sections = split_bundle(bundle.as_slice()).expect(rt, "sections");
+    let mut cursor = Cursor::new(alloc, &sections, Table::Stock).expect(rt, "a header");
+    cursor.next().expect(rt, "a first record");
+    let row = cursor
+        .next()
+        .expect(rt, "a second record")
+        .expect(rt, "a second record");
+    assert_eq!(rt; row.cell_count(), 2);
+    row
 }
 
 #[test]
-fn digits_within_limits_are_numbers(rt: HostRuntime) -> Result<(), Fail> {
+fn digits_within_limits_are_numbers(rt: HostRuntime) {
     let right: [(&[u8], u64, u64, u64); 10] = [
         (b"7", 0, 10, 7),
         (b"007", 0, 1_000_000_000, 7),
@@ -62,15 +70,14 @@ fn digits_within_limits_are_numbers(rt: HostRuntime) -> Result<(), Fail> {
         (b"18446744073709551615", 0, u64::MAX, u64::MAX),
     ];
     for (cell, least, most, want) in right {
-        let row = row_of(rt.alloc(), cell)?;
-        let number = row.number(1, least, most)?;
+        let row = row_of(&rt, rt.alloc(), cell);
+        let number = row.number(1, least, most).expect(&rt, "a cell");
         same(&rt, (cell, number), (cell, want));
     }
-    Ok(())
 }
 
 #[test]
-fn other_texts_and_numbers_outside_limits_are_refused(rt: HostRuntime) -> Result<(), Fail> {
+fn other_texts_and_numbers_outside_limits_are_refused(rt: HostRuntime) {
     let wrong: [(&[u8], u64, u64, u8); 18] = [
         (b"", 0, 10, NUMBER),
         (b"\"\"", 0, 10, NUMBER),
@@ -92,26 +99,24 @@ fn other_texts_and_numbers_outside_limits_are_refused(rt: HostRuntime) -> Result
         (b"5", 7, 3, RANGE),
     ];
     for (cell, least, most, want) in wrong {
-        let row = row_of(rt.alloc(), cell)?;
+        let row = row_of(&rt, rt.alloc(), cell);
         same(
             &rt,
             (cell, code_of(row.number(1, least, most))),
             (cell, want),
         );
     }
-    Ok(())
 }
 
 #[test]
-fn a_number_of_five_thousand_digits_is_out_of_range(rt: HostRuntime) -> Result<(), Fail> {
-    let digits = vec![in rt.alloc(); b'9'; 5000]?;
-    let row = row_of(rt.alloc(), digits.as_slice())?;
+fn a_number_of_five_thousand_digits_is_out_of_range(rt: HostRuntime) {
+    let digits = vec![in rt.alloc(); b'9'; 5000].expect(&rt, "memory");
+    let row = row_of(&rt, rt.alloc(), digits.as_slice());
     same(&rt, code_of(row.number(1, 0, u64::MAX)), RANGE);
-    Ok(())
 }
 
 #[test]
-fn names_are_short_printable_texts(rt: HostRuntime) -> Result<(), Fail> {
+fn names_are_short_printable_texts(rt: HostRuntime) {
     let right: [(&[u8], &[u8]); 9] = [
         (b"BIKE", b"BIKE"),
         (b"x", b"x"),
@@ -127,8 +132,8 @@ fn names_are_short_printable_texts(rt: HostRuntime) -> Result<(), Fail> {
         ),
     ];
     for (cell, want) in right {
-        let row = row_of(rt.alloc(), cell)?;
-        let name = row.name(1)?;
+        let row = row_of(&rt, rt.alloc(), cell);
+        let name = row.name(1).expect(&rt, "a cell");
         same(&rt, (cell, name.as_bytes()), (cell, want));
     }
     let wrong: [&[u8]; 11] = [
@@ -145,14 +150,13 @@ fn names_are_short_printable_texts(rt: HostRuntime) -> Result<(), Fail> {
         b"\xFF",
     ];
     for cell in wrong {
-        let row = row_of(rt.alloc(), cell)?;
+        let row = row_of(&rt, rt.alloc(), cell);
         same(&rt, (cell, code_of(row.name(1))), (cell, NAME));
     }
-    Ok(())
 }
 
 #[test]
-fn words_are_told_by_their_places(rt: HostRuntime) -> Result<(), Fail> {
+fn words_are_told_by_their_places(rt: HostRuntime) {
     let words = ["lfl", "fixed", "period"];
     let right: [(&[u8], usize); 4] = [
         (b"lfl", 0),
@@ -161,23 +165,22 @@ fn words_are_told_by_their_places(rt: HostRuntime) -> Result<(), Fail> {
         (b"\"fixed\"", 1),
     ];
     for (cell, want) in right {
-        let row = row_of(rt.alloc(), cell)?;
-        let place = row.word(1, &words)?;
+        let row = row_of(&rt, rt.alloc(), cell);
+        let place = row.word(1, &words).expect(&rt, "a cell");
         same(&rt, (cell, place), (cell, want));
     }
     let wrong: [&[u8]; 6] = [b"", b"Fixed", b"fixe", b"fixedly", b" lfl", b"\xFF"];
     for cell in wrong {
-        let row = row_of(rt.alloc(), cell)?;
+        let row = row_of(&rt, rt.alloc(), cell);
         same(&rt, (cell, code_of(row.word(1, &words))), (cell, WORD));
         same(&rt, code_of(row.word(1, &[])), WORD);
     }
-    Ok(())
 }
 
 #[test]
-fn dates_are_days_of_the_calendar(rt: HostRuntime) -> Result<(), Fail> {
-    let row = row_of(rt.alloc(), b"2024-02-29")?;
-    let date = row.date(1)?;
+fn dates_are_days_of_the_calendar(rt: HostRuntime) {
+    let row = row_of(&rt, rt.alloc(), b"2024-02-29");
+    let date = row.date(1).expect(&rt, "a cell");
     same(&rt, (date.year(), date.month(), date.day()), (2024, 2, 29));
     let wrong: [&[u8]; 7] = [
         b"",
@@ -189,17 +192,16 @@ fn dates_are_days_of_the_calendar(rt: HostRuntime) -> Result<(), Fail> {
         b"2025-01-0\xFF",
     ];
     for cell in wrong {
-        let row = row_of(rt.alloc(), cell)?;
+        let row = row_of(&rt, rt.alloc(), cell);
         same(&rt, (cell, code_of(row.date(1))), (cell, DATE));
     }
-    Ok(())
 }
 
 #[test]
-fn a_refusal_names_the_record_and_reads_its_column(rt: HostRuntime) -> Result<(), Fail> {
-    let row = row_of(rt.alloc(), b"BIKE")?;
+fn a_refusal_names_the_record_and_reads_its_column(rt: HostRuntime) {
+    let row = row_of(&rt, rt.alloc(), b"BIKE");
     same(&rt, row.cell(1), b"BIKE".as_slice());
-    same(&rt, row.number(0, 0, 9)?, 2);
+    same(&rt, row.number(0, 0, 9), Ok(2));
     let refusal = Fault {
         code: 13,
         table: Table::Stock,
@@ -212,6 +214,5 @@ fn a_refusal_names_the_record_and_reads_its_column(rt: HostRuntime) -> Result<()
         table: Table::Stock,
         row: 2,
     };
-    assert!(rt; not_a_number == Err(told));
-    Ok(())
+    same(&rt, not_a_number, Err(told));
 }
