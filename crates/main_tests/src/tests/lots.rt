@@ -298,13 +298,13 @@ const REFUSED: &[(&str, &str, &str)] = &[
     ("FRAME,R1", "BIKE,R1", "18 master-receipt receipts 1"),
     (
         "centre,minutes\n",
-        "centre,minutes\nWELD,20\n",
-        "20 too-many centres 1",
+        "centre,minutes\nWELD,20\nWELD,20\n",
+        "12 repeated centres 2",
     ),
     (
         "run,offset\n",
         "run,offset\nFRAME,10,WELD,30,2500,0\n",
-        "20 too-many routings 1",
+        "14 unknown-centre routings 1",
     ),
 ];
 
