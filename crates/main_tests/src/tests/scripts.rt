@@ -133,12 +133,12 @@ fn desks_book_and_ask_and_then_plan(rt: HostRuntime) -> Result<(), Fail> {
     Ok(())
 }
 
-#[test]
-fn a_cancelled_booking_stands_no_more(rt: HostRuntime) -> Result<(), Fail> {
-    let alloc = rt.alloc();
-    let cancels =
-        "2,cancel,,,,2\n1,cancel,,,,2\n1,cancel,,,,2\n1,cancel,,,,4\n1,ask,BIKE,2025-01-20,,\n1,when,BIKE,,28,\n1,run,,,,\n";
-    let answered = "\
+// More calls, of which one cancels a booking.
+const CANCELLING: &str =
+    "2,cancel,,,,2\n1,cancel,,,,2\n1,cancel,,,,2\n1,cancel,,,,4\n1,ask,BIKE,2025-01-20,,\n1,when,BIKE,,28,\n1,run,,,,\n";
+
+// What they are answered, and the run.
+const CANCELLED: &str = "\
 7,2,cancel,,,,2,not-yours,\n\
 8,1,cancel,,,,2,cancelled,\n\
 9,1,cancel,,,,2,not-standing,\n\
@@ -147,31 +147,39 @@ fn a_cancelled_booking_stands_no_more(rt: HostRuntime) -> Result<(), Fail> {
 12,1,when,BIKE,,28,,week,5\n\
 13,1,run,,,,,front,13\n\
 [run]\nfront,standing\n13,2\n";
-    let promises = "\
+
+// What can be promised beside the two bookings that stand.
+const CANCELLED_PROMISES: &str = "\
 BIKE,1,0,10,0,0\n\
 BIKE,2,0,0,0,0\n\
 BIKE,3,20,12,8,8\n\
 BIKE,4,0,0,0,8\n\
 BIKE,5,20,0,20,28\n\
 BIKE,6,0,0,0,28\n";
-    let bikes = "\
+
+// The plan of the bicycles.
+const CANCELLED_PLAN: &str = "\
 BIKE,1,10,0,0,0,8,0\n\
 BIKE,2,8,0,0,8,20,0\n\
 BIKE,3,12,0,20,0,0,8\n\
 BIKE,4,6,0,0,0,20,2\n\
 BIKE,5,0,0,20,0,0,22\n\
 BIKE,6,0,0,0,0,0,22\n";
-    let shop = joined(alloc, &[BICYCLE, BOOKING, cancels])?;
+
+#[test]
+fn a_cancelled_booking_stands_no_more(rt: HostRuntime) -> Result<(), Fail> {
+    let alloc = rt.alloc();
+    let shop = joined(alloc, &[BICYCLE, BOOKING, CANCELLING])?;
     let want = joined(
         alloc,
         &[
             HISTORY,
             BOOKED,
-            answered,
+            CANCELLED,
             PROMISES_HEAD,
-            promises,
+            CANCELLED_PROMISES,
             PLAN_HEAD,
-            bikes,
+            CANCELLED_PLAN,
             "FRAME,1,",
         ],
     )?;
