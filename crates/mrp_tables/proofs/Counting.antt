@@ -19,11 +19,11 @@ use Rattle.mrp_tables.specs.Limits.{record_limit}
 limit_number : (table : Table) (limit : ℕ) → record_limit table ≡ Some limit → limit < 4294967294
 limit_number t.Calendar limit e = let same : 1003 ≡ limit = cc in omega arith
 limit_number t.Items limit e = let same : 20000 ≡ limit = cc in omega arith
-limit_number t.Centres limit e = let same : 0 ≡ limit = cc in omega arith
+limit_number t.Centres limit e = let same : 1000 ≡ limit = cc in omega arith
 limit_number t.Stock limit e = absurd cc
 limit_number t.Receipts limit e = let same : 100000 ≡ limit = cc in omega arith
 limit_number t.Bills limit e = let same : 100000 ≡ limit = cc in omega arith
-limit_number t.Routings limit e = let same : 0 ≡ limit = cc in omega arith
+limit_number t.Routings limit e = let same : 50000 ≡ limit = cc in omega arith
 limit_number t.Master limit e = let same : 100000 ≡ limit = cc in omega arith
 limit_number t.Script limit e = let same : 100000 ≡ limit = cc in omega arith
 limit_number t.Bundle limit e = absurd cc
@@ -101,8 +101,3 @@ pub counted_result : {X Y : Type 0} (IsRefusal : Fault → Type 0) (view : Y →
     → record_limit table ≡ Some limit → (result : Result Y Fault) → Gives IsRefusal view result (rows_of read table text) → IfOk result (λ y. length (view y) ≤ limit)
 counted_result IsRefusal view read table text limit e (Ok y) given = counted read table text (view y) limit e given
 counted_result IsRefusal view read table text limit e (Err f) given = tt
-
--- a table that takes no record has no row
-pub no_rows : {X : Type 0} (rows : List X) → length rows ≤ 0 → rows ≡ []
-no_rows [] few = refl
-no_rows (x ∷ rows) few = absurd (omega (arith, few))

@@ -4,10 +4,10 @@ mod Admitting
 mod Blaming
 mod Counting
 mod Distinct
+mod Fresh
 mod Gathering
 mod Kept
 mod Opening
-mod Ordered
 mod OwnTable
 mod RowLaws
 mod Refused

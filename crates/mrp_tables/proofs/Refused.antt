@@ -8,21 +8,22 @@ use Rattle.mrp_rows.specs.declared.fault.Table.{Table}
 use Rattle.mrp_rows.specs.declared.fault.Table.TheVariants as t
 use Rattle.mrp_rows.specs.Tables.{table_index}
 use Rattle.mrp_tables.specs.declared.item.Item.{Item}
-use Rattle.mrp_tables.specs.declared.rows.Centre.{Centre}
 use Rattle.mrp_tables.specs.declared.rows.MasterRow.{MasterRow}
 use Rattle.mrp_tables.specs.declared.rows.Operation.{Operation}
 use Rattle.mrp_tables.specs.declared.rows.Receipt.{Receipt}
 use Rattle.mrp_tables.specs.declared.rows.StockRow.{StockRow}
 use Rattle.mrp_tables.specs.Bills.{bill_row}
 use Rattle.mrp_tables.specs.Calendar.{calendar_of}
+use Rattle.mrp_tables.specs.Centres.{centre_row}
 use Rattle.mrp_tables.specs.Items.{item_row}
 use Rattle.mrp_tables.specs.Laws.{IsMemoryRefusal, IsRefusedAt, all_whole, reading_of, table_order}
 use Rattle.mrp_tables.specs.Master.{master_row}
 use Rattle.mrp_tables.specs.Reading.{IsMemoryFault, IsRefusedBehind, IsRefusedIn, Reads, by_itself, rows_of}
 use Rattle.mrp_tables.specs.Receipts.{receipt_row}
+use Rattle.mrp_tables.specs.Routings.{operation_row}
 use Rattle.mrp_tables.specs.Script.{script_row}
 use Rattle.mrp_tables.specs.Stock.{stock_row}
-use Rattle.mrp_tables.specs.Tables.{Head, Middle, head_in, middle_in, tables_in, tail_in, untaken}
+use Rattle.mrp_tables.specs.Tables.{Head, Middle, head_in, middle_in, tables_in, tail_in}
 use Rattle.mrp_tables.proofs.AcceptedTables.{IsMiddle, head_read, middle_read}
 
 -- the middle tables are read whole
@@ -62,10 +63,10 @@ refused_items texts calendar is_calendar f (inl memory) =
 refused_items texts calendar is_calendar f (inr e) = inr (rw (is_calendar, e) refl)
 
 pub refused_centres : (texts : List (List ℕ)) → (calendar : ShopCalendar) → calendar_of (text_in texts t.Calendar) ≡ Ok calendar → (items : List Item) → rows_of item_row t.Items (text_in texts t.Items) ≡ Ok items → (f : Fault)
-    → IsRefusedIn (untaken {X = Centre}) t.Centres (text_in texts t.Centres) f ⊎ (rows_of (untaken {X = Centre}) t.Centres (text_in texts t.Centres) ≡ Err f) → IsMemoryRefusal texts f ⊎ (head_in texts ≡ Err f)
+    → IsRefusedIn centre_row t.Centres (text_in texts t.Centres) f ⊎ (rows_of centre_row t.Centres (text_in texts t.Centres) ≡ Err f) → IsMemoryRefusal texts f ⊎ (head_in texts ≡ Err f)
 unfolding head_in
 refused_centres texts calendar is_calendar items is_items f (inl memory) =
-    inl (refusal texts f t.Centres (memory_in (untaken {X = Centre}) t.Centres (text_in texts t.Centres) f memory) memory (rw (is_calendar, is_items) refl))
+    inl (refusal texts f t.Centres (memory_in centre_row t.Centres (text_in texts t.Centres) f memory) memory (rw (is_calendar, is_items) refl))
 refused_centres texts calendar is_calendar items is_items f (inr e) = inr (rw (is_calendar, is_items, e) refl)
 
 pub refused_stock : (texts : List (List ℕ)) (h : Head) → head_in texts ≡ Ok h → (f : Fault)
@@ -93,16 +94,16 @@ refused_bills texts h is_head stock is_stock receipts is_receipts f (inl memory)
 refused_bills texts h is_head stock is_stock receipts is_receipts f (inr e) = inr (rw (is_stock, is_receipts, e) refl)
 
 pub refused_routings : (texts : List (List ℕ)) (h : Head) → head_in texts ≡ Ok h → IsOk (middle_in texts h.calendar h.items) → (f : Fault)
-    → IsRefusedIn (untaken {X = Operation}) t.Routings (text_in texts t.Routings) f ⊎ (rows_of (untaken {X = Operation}) t.Routings (text_in texts t.Routings) ≡ Err f) → IsMemoryRefusal texts f ⊎ (tail_in texts h.calendar h.items ≡ Err f)
+    → IsRefusedIn (operation_row h.items h.centres) t.Routings (text_in texts t.Routings) f ⊎ (rows_of (operation_row h.items h.centres) t.Routings (text_in texts t.Routings) ≡ Err f) → IsMemoryRefusal texts f ⊎ (tail_in texts h.calendar h.items h.centres ≡ Err f)
 unfolding tail_in
 refused_routings texts h is_head ok f (inl memory) =
     let own = head_read texts h is_head in
     let middle = (middle_whole texts h.calendar h.items (middle_in texts h.calendar h.items) refl ok).1 in
-    inl (refusal texts f t.Routings (memory_in (untaken {X = Operation}) t.Routings (text_in texts t.Routings) f memory) memory (rw (own.calendar, own.items, own.centres, middle.stock, middle.receipts, middle.bills) refl))
+    inl (refusal texts f t.Routings (memory_in (operation_row h.items h.centres) t.Routings (text_in texts t.Routings) f memory) (h.items, own.items, h.centres, own.centres, memory) (rw (own.calendar, own.items, own.centres, middle.stock, middle.receipts, middle.bills) refl))
 refused_routings texts h is_head ok f (inr e) = inr (rw e refl)
 
-pub refused_master : (texts : List (List ℕ)) (h : Head) → head_in texts ≡ Ok h → IsOk (middle_in texts h.calendar h.items) → (routings : List Operation) → rows_of (untaken {X = Operation}) t.Routings (text_in texts t.Routings) ≡ Ok routings → (f : Fault)
-    → IsRefusedIn (by_itself (master_row h.calendar h.items)) t.Master (text_in texts t.Master) f ⊎ (rows_of (by_itself (master_row h.calendar h.items)) t.Master (text_in texts t.Master) ≡ Err f) → IsMemoryRefusal texts f ⊎ (tail_in texts h.calendar h.items ≡ Err f)
+pub refused_master : (texts : List (List ℕ)) (h : Head) → head_in texts ≡ Ok h → IsOk (middle_in texts h.calendar h.items) → (routings : List Operation) → rows_of (operation_row h.items h.centres) t.Routings (text_in texts t.Routings) ≡ Ok routings → (f : Fault)
+    → IsRefusedIn (by_itself (master_row h.calendar h.items)) t.Master (text_in texts t.Master) f ⊎ (rows_of (by_itself (master_row h.calendar h.items)) t.Master (text_in texts t.Master) ≡ Err f) → IsMemoryRefusal texts f ⊎ (tail_in texts h.calendar h.items h.centres ≡ Err f)
 unfolding tail_in
 refused_master texts h is_head ok routings is_routings f (inl memory) =
     let own = head_read texts h is_head in
@@ -110,8 +111,8 @@ refused_master texts h is_head ok routings is_routings f (inl memory) =
     inl (refusal texts f t.Master (memory_in (by_itself (master_row h.calendar h.items)) t.Master (text_in texts t.Master) f memory) (h.calendar, own.calendar, h.items, own.items, memory) (rw (own.calendar, own.items, own.centres, middle.stock, middle.receipts, middle.bills, is_routings) refl))
 refused_master texts h is_head ok routings is_routings f (inr e) = inr (rw (is_routings, e) refl)
 
-pub refused_script : (texts : List (List ℕ)) (h : Head) → head_in texts ≡ Ok h → IsOk (middle_in texts h.calendar h.items) → (routings : List Operation) → rows_of (untaken {X = Operation}) t.Routings (text_in texts t.Routings) ≡ Ok routings → (master : List MasterRow) → rows_of (by_itself (master_row h.calendar h.items)) t.Master (text_in texts t.Master) ≡ Ok master → (f : Fault)
-    → IsRefusedIn (by_itself (script_row h.calendar h.items)) t.Script (text_in texts t.Script) f ⊎ (rows_of (by_itself (script_row h.calendar h.items)) t.Script (text_in texts t.Script) ≡ Err f) → IsMemoryRefusal texts f ⊎ (tail_in texts h.calendar h.items ≡ Err f)
+pub refused_script : (texts : List (List ℕ)) (h : Head) → head_in texts ≡ Ok h → IsOk (middle_in texts h.calendar h.items) → (routings : List Operation) → rows_of (operation_row h.items h.centres) t.Routings (text_in texts t.Routings) ≡ Ok routings → (master : List MasterRow) → rows_of (by_itself (master_row h.calendar h.items)) t.Master (text_in texts t.Master) ≡ Ok master → (f : Fault)
+    → IsRefusedIn (by_itself (script_row h.calendar h.items)) t.Script (text_in texts t.Script) f ⊎ (rows_of (by_itself (script_row h.calendar h.items)) t.Script (text_in texts t.Script) ≡ Err f) → IsMemoryRefusal texts f ⊎ (tail_in texts h.calendar h.items h.centres ≡ Err f)
 unfolding tail_in
 refused_script texts h is_head ok routings is_routings master is_master f (inl memory) =
     let own = head_read texts h is_head in
@@ -131,7 +132,7 @@ refused_middle texts h is_head f (inl memory) = inl memory
 refused_middle texts h is_head f (inr e) = inr (rw (is_head, e) refl)
 
 pub refused_tail : (texts : List (List ℕ)) (h : Head) → head_in texts ≡ Ok h → (m : Middle) → middle_in texts h.calendar h.items ≡ Ok m → (f : Fault)
-    → IsMemoryRefusal texts f ⊎ (tail_in texts h.calendar h.items ≡ Err f) → IsMemoryRefusal texts f ⊎ (tables_in texts ≡ Err f)
+    → IsMemoryRefusal texts f ⊎ (tail_in texts h.calendar h.items h.centres ≡ Err f) → IsMemoryRefusal texts f ⊎ (tables_in texts ≡ Err f)
 unfolding tables_in
 refused_tail texts h is_head m is_middle f (inl memory) = inl memory
 refused_tail texts h is_head m is_middle f (inr e) = inr (rw (is_head, is_middle, e) refl)

@@ -15,21 +15,19 @@ use Rattle.mrp_tables.specs.declared.rows.MasterRow.{MasterRow}
 use Rattle.mrp_tables.specs.declared.rows.ScriptRow.{ScriptRow}
 use Rattle.mrp_tables.specs.Bills.{bill_row, bills_of}
 use Rattle.mrp_tables.specs.Calendar.{calendar_of}
+use Rattle.mrp_tables.specs.Centres.{centre_row, centres_of}
 use Rattle.mrp_tables.specs.Items.{item_row, items_of}
 use Rattle.mrp_tables.specs.Laws.{IsToldAtItsTable, reading_of}
 use Rattle.mrp_tables.specs.Master.{master_of, master_row}
 use Rattle.mrp_tables.specs.Reading.{by_itself, rows_of}
 use Rattle.mrp_tables.specs.Receipts.{receipt_row, receipts_of, receipts_that_count}
+use Rattle.mrp_tables.specs.Routings.{operation_row, routings_of}
 use Rattle.mrp_tables.specs.Script.{script_of, script_row}
 use Rattle.mrp_tables.specs.Stock.{stock_of, stock_row}
-use Rattle.mrp_tables.specs.Tables.{head_in, middle_in, untaken, tables_in, tail_in}
-use Rattle.mrp_tables.specs.Laws.{FaultsAtItsRecord}
+use Rattle.mrp_tables.specs.Tables.{head_in, middle_in, tables_in, tail_in}
 use Rattle.mrp_tables.specs.Master.{that_count}
-use Rattle.mrp_tables.proofs.Blaming.{at_their_records, untaken_at}
+use Rattle.mrp_tables.proofs.Blaming.{at_their_records}
 use Rattle.mrp_tables.proofs.OwnTable.{IsOf, calendar_own, follows, rows_own}
-
-none_taken : {X : Type 0} → FaultsAtItsRecord (untaken {X = X})
-none_taken {X} = untaken_at {X = X}
 
 master_own : (calendar : ShopCalendar) (items : List Item) (text : List ℕ) → IsOf t.Master (master_of calendar items text)
 master_own calendar items text =
@@ -41,7 +39,7 @@ receipts_own calendar items text =
     follows t.Receipts (rows_of (receipt_row calendar items) t.Receipts text) (λ rows. Ok (receipts_that_count rows))
     (rows_own (receipt_row calendar items) (at_their_records.receipts calendar items) t.Receipts text) (λ rows e. tt)
 
-by_script : (texts : List (List ℕ)) (f : Fault) → (calendar : ShopCalendar) → calendar_of (text_in texts t.Calendar) ≡ Ok calendar → (items : List Item) → items_of (text_in texts t.Items) ≡ Ok items → (centres : List Centre) → rows_of (untaken {X = Centre}) t.Centres (text_in texts t.Centres) ≡ Ok centres → (stock : List StockRow) → stock_of items (text_in texts t.Stock) ≡ Ok stock → (receipts : List Receipt) → receipts_of calendar items (text_in texts t.Receipts) ≡ Ok receipts → (bills : List BillLine) → bills_of items (text_in texts t.Bills) ≡ Ok bills → (routings : List Operation) → rows_of (untaken {X = Operation}) t.Routings (text_in texts t.Routings) ≡ Ok routings → (master : List MasterRow) → master_of calendar items (text_in texts t.Master) ≡ Ok master → (r : Result (List ScriptRow) Fault) → script_of calendar items (text_in texts t.Script) ≡ r → tables_in texts ≡ Err f → IsToldAtItsTable texts f
+by_script : (texts : List (List ℕ)) (f : Fault) → (calendar : ShopCalendar) → calendar_of (text_in texts t.Calendar) ≡ Ok calendar → (items : List Item) → items_of (text_in texts t.Items) ≡ Ok items → (centres : List Centre) → centres_of (text_in texts t.Centres) ≡ Ok centres → (stock : List StockRow) → stock_of items (text_in texts t.Stock) ≡ Ok stock → (receipts : List Receipt) → receipts_of calendar items (text_in texts t.Receipts) ≡ Ok receipts → (bills : List BillLine) → bills_of items (text_in texts t.Bills) ≡ Ok bills → (routings : List Operation) → routings_of items centres (text_in texts t.Routings) ≡ Ok routings → (master : List MasterRow) → master_of calendar items (text_in texts t.Master) ≡ Ok master → (r : Result (List ScriptRow) Fault) → script_of calendar items (text_in texts t.Script) ≡ r → tables_in texts ≡ Err f → IsToldAtItsTable texts f
 unfolding tables_in head_in middle_in tail_in
 by_script texts f calendar is_calendar items is_items centres is_centres stock is_stock receipts is_receipts bills is_bills routings is_routings master is_master (Err g) is given =
     let told : tables_in texts ≡ Err g = rw (is_calendar, is_items, is_centres, is_stock, is_receipts, is_bills, is_routings, is_master, is) refl in
@@ -50,7 +48,7 @@ by_script texts f calendar is_calendar items is_items centres is_centres stock i
     rw (← same) (record { own = subst (λ (at : Table). reading_of texts at ≡ Err g) (sym table) (rw (is_calendar, is_items, is) refl); earlier = rw (table, is_calendar, is_items, is_centres, is_stock, is_receipts, is_bills, is_routings, is_master) refl })
 by_script texts f calendar is_calendar items is_items centres is_centres stock is_stock receipts is_receipts bills is_bills routings is_routings master is_master (Ok script) is given = let read : Ok _ ≡ Err f = rw (is_calendar, is_items, is_centres, is_stock, is_receipts, is_bills, is_routings, is_master, is) at given in absurd cc
 
-by_master : (texts : List (List ℕ)) (f : Fault) → (calendar : ShopCalendar) → calendar_of (text_in texts t.Calendar) ≡ Ok calendar → (items : List Item) → items_of (text_in texts t.Items) ≡ Ok items → (centres : List Centre) → rows_of (untaken {X = Centre}) t.Centres (text_in texts t.Centres) ≡ Ok centres → (stock : List StockRow) → stock_of items (text_in texts t.Stock) ≡ Ok stock → (receipts : List Receipt) → receipts_of calendar items (text_in texts t.Receipts) ≡ Ok receipts → (bills : List BillLine) → bills_of items (text_in texts t.Bills) ≡ Ok bills → (routings : List Operation) → rows_of (untaken {X = Operation}) t.Routings (text_in texts t.Routings) ≡ Ok routings → (r : Result (List MasterRow) Fault) → master_of calendar items (text_in texts t.Master) ≡ r → tables_in texts ≡ Err f → IsToldAtItsTable texts f
+by_master : (texts : List (List ℕ)) (f : Fault) → (calendar : ShopCalendar) → calendar_of (text_in texts t.Calendar) ≡ Ok calendar → (items : List Item) → items_of (text_in texts t.Items) ≡ Ok items → (centres : List Centre) → centres_of (text_in texts t.Centres) ≡ Ok centres → (stock : List StockRow) → stock_of items (text_in texts t.Stock) ≡ Ok stock → (receipts : List Receipt) → receipts_of calendar items (text_in texts t.Receipts) ≡ Ok receipts → (bills : List BillLine) → bills_of items (text_in texts t.Bills) ≡ Ok bills → (routings : List Operation) → routings_of items centres (text_in texts t.Routings) ≡ Ok routings → (r : Result (List MasterRow) Fault) → master_of calendar items (text_in texts t.Master) ≡ r → tables_in texts ≡ Err f → IsToldAtItsTable texts f
 unfolding tables_in head_in middle_in tail_in
 by_master texts f calendar is_calendar items is_items centres is_centres stock is_stock receipts is_receipts bills is_bills routings is_routings (Err g) is given =
     let told : tables_in texts ≡ Err g = rw (is_calendar, is_items, is_centres, is_stock, is_receipts, is_bills, is_routings, is) refl in
@@ -59,25 +57,25 @@ by_master texts f calendar is_calendar items is_items centres is_centres stock i
     rw (← same) (record { own = subst (λ (at : Table). reading_of texts at ≡ Err g) (sym table) (rw (is_calendar, is_items, is) refl); earlier = rw (table, is_calendar, is_items, is_centres, is_stock, is_receipts, is_bills, is_routings) refl })
 by_master texts f calendar is_calendar items is_items centres is_centres stock is_stock receipts is_receipts bills is_bills routings is_routings (Ok master) is given = by_script texts f calendar is_calendar items is_items centres is_centres stock is_stock receipts is_receipts bills is_bills routings is_routings master is (script_of calendar items (text_in texts t.Script)) refl given
 
-by_routings : (texts : List (List ℕ)) (f : Fault) → (calendar : ShopCalendar) → calendar_of (text_in texts t.Calendar) ≡ Ok calendar → (items : List Item) → items_of (text_in texts t.Items) ≡ Ok items → (centres : List Centre) → rows_of (untaken {X = Centre}) t.Centres (text_in texts t.Centres) ≡ Ok centres → (stock : List StockRow) → stock_of items (text_in texts t.Stock) ≡ Ok stock → (receipts : List Receipt) → receipts_of calendar items (text_in texts t.Receipts) ≡ Ok receipts → (bills : List BillLine) → bills_of items (text_in texts t.Bills) ≡ Ok bills → (r : Result (List Operation) Fault) → rows_of (untaken {X = Operation}) t.Routings (text_in texts t.Routings) ≡ r → tables_in texts ≡ Err f → IsToldAtItsTable texts f
+by_routings : (texts : List (List ℕ)) (f : Fault) → (calendar : ShopCalendar) → calendar_of (text_in texts t.Calendar) ≡ Ok calendar → (items : List Item) → items_of (text_in texts t.Items) ≡ Ok items → (centres : List Centre) → centres_of (text_in texts t.Centres) ≡ Ok centres → (stock : List StockRow) → stock_of items (text_in texts t.Stock) ≡ Ok stock → (receipts : List Receipt) → receipts_of calendar items (text_in texts t.Receipts) ≡ Ok receipts → (bills : List BillLine) → bills_of items (text_in texts t.Bills) ≡ Ok bills → (r : Result (List Operation) Fault) → routings_of items centres (text_in texts t.Routings) ≡ r → tables_in texts ≡ Err f → IsToldAtItsTable texts f
 unfolding tables_in head_in middle_in tail_in
 by_routings texts f calendar is_calendar items is_items centres is_centres stock is_stock receipts is_receipts bills is_bills (Err g) is given =
     let told : tables_in texts ≡ Err g = rw (is_calendar, is_items, is_centres, is_stock, is_receipts, is_bills, is) refl in
     let same : g ≡ f = cc in
-    let table : g.table ≡ t.Routings = rw is at (rows_own (untaken {X = Operation}) (none_taken {X = Operation}) t.Routings (text_in texts t.Routings)) in
-    rw (← same) (record { own = subst (λ (at : Table). reading_of texts at ≡ Err g) (sym table) (rw is refl); earlier = rw (table, is_calendar, is_items, is_centres, is_stock, is_receipts, is_bills) refl })
+    let table : g.table ≡ t.Routings = rw is at (rows_own (operation_row items centres) (at_their_records.routings items centres) t.Routings (text_in texts t.Routings)) in
+    rw (← same) (record { own = subst (λ (at : Table). reading_of texts at ≡ Err g) (sym table) (rw (is_items, is_centres, is) refl); earlier = rw (table, is_calendar, is_items, is_centres, is_stock, is_receipts, is_bills) refl })
 by_routings texts f calendar is_calendar items is_items centres is_centres stock is_stock receipts is_receipts bills is_bills (Ok routings) is given = by_master texts f calendar is_calendar items is_items centres is_centres stock is_stock receipts is_receipts bills is_bills routings is (master_of calendar items (text_in texts t.Master)) refl given
 
-by_bills : (texts : List (List ℕ)) (f : Fault) → (calendar : ShopCalendar) → calendar_of (text_in texts t.Calendar) ≡ Ok calendar → (items : List Item) → items_of (text_in texts t.Items) ≡ Ok items → (centres : List Centre) → rows_of (untaken {X = Centre}) t.Centres (text_in texts t.Centres) ≡ Ok centres → (stock : List StockRow) → stock_of items (text_in texts t.Stock) ≡ Ok stock → (receipts : List Receipt) → receipts_of calendar items (text_in texts t.Receipts) ≡ Ok receipts → (r : Result (List BillLine) Fault) → bills_of items (text_in texts t.Bills) ≡ r → tables_in texts ≡ Err f → IsToldAtItsTable texts f
+by_bills : (texts : List (List ℕ)) (f : Fault) → (calendar : ShopCalendar) → calendar_of (text_in texts t.Calendar) ≡ Ok calendar → (items : List Item) → items_of (text_in texts t.Items) ≡ Ok items → (centres : List Centre) → centres_of (text_in texts t.Centres) ≡ Ok centres → (stock : List StockRow) → stock_of items (text_in texts t.Stock) ≡ Ok stock → (receipts : List Receipt) → receipts_of calendar items (text_in texts t.Receipts) ≡ Ok receipts → (r : Result (List BillLine) Fault) → bills_of items (text_in texts t.Bills) ≡ r → tables_in texts ≡ Err f → IsToldAtItsTable texts f
 unfolding tables_in head_in middle_in tail_in
 by_bills texts f calendar is_calendar items is_items centres is_centres stock is_stock receipts is_receipts (Err g) is given =
     let told : tables_in texts ≡ Err g = rw (is_calendar, is_items, is_centres, is_stock, is_receipts, is) refl in
     let same : g ≡ f = cc in
     let table : g.table ≡ t.Bills = rw is at (rows_own (by_itself (bill_row items)) (at_their_records.bills items) t.Bills (text_in texts t.Bills)) in
     rw (← same) (record { own = subst (λ (at : Table). reading_of texts at ≡ Err g) (sym table) (rw (is_items, is) refl); earlier = rw (table, is_calendar, is_items, is_centres, is_stock, is_receipts) refl })
-by_bills texts f calendar is_calendar items is_items centres is_centres stock is_stock receipts is_receipts (Ok bills) is given = by_routings texts f calendar is_calendar items is_items centres is_centres stock is_stock receipts is_receipts bills is (rows_of (untaken {X = Operation}) t.Routings (text_in texts t.Routings)) refl given
+by_bills texts f calendar is_calendar items is_items centres is_centres stock is_stock receipts is_receipts (Ok bills) is given = by_routings texts f calendar is_calendar items is_items centres is_centres stock is_stock receipts is_receipts bills is (routings_of items centres (text_in texts t.Routings)) refl given
 
-by_receipts : (texts : List (List ℕ)) (f : Fault) → (calendar : ShopCalendar) → calendar_of (text_in texts t.Calendar) ≡ Ok calendar → (items : List Item) → items_of (text_in texts t.Items) ≡ Ok items → (centres : List Centre) → rows_of (untaken {X = Centre}) t.Centres (text_in texts t.Centres) ≡ Ok centres → (stock : List StockRow) → stock_of items (text_in texts t.Stock) ≡ Ok stock → (r : Result (List Receipt) Fault) → receipts_of calendar items (text_in texts t.Receipts) ≡ r → tables_in texts ≡ Err f → IsToldAtItsTable texts f
+by_receipts : (texts : List (List ℕ)) (f : Fault) → (calendar : ShopCalendar) → calendar_of (text_in texts t.Calendar) ≡ Ok calendar → (items : List Item) → items_of (text_in texts t.Items) ≡ Ok items → (centres : List Centre) → centres_of (text_in texts t.Centres) ≡ Ok centres → (stock : List StockRow) → stock_of items (text_in texts t.Stock) ≡ Ok stock → (r : Result (List Receipt) Fault) → receipts_of calendar items (text_in texts t.Receipts) ≡ r → tables_in texts ≡ Err f → IsToldAtItsTable texts f
 unfolding tables_in head_in middle_in tail_in
 by_receipts texts f calendar is_calendar items is_items centres is_centres stock is_stock (Err g) is given =
     let told : tables_in texts ≡ Err g = rw (is_calendar, is_items, is_centres, is_stock, is) refl in
@@ -86,7 +84,7 @@ by_receipts texts f calendar is_calendar items is_items centres is_centres stock
     rw (← same) (record { own = subst (λ (at : Table). reading_of texts at ≡ Err g) (sym table) (rw (is_calendar, is_items, is) refl); earlier = rw (table, is_calendar, is_items, is_centres, is_stock) refl })
 by_receipts texts f calendar is_calendar items is_items centres is_centres stock is_stock (Ok receipts) is given = by_bills texts f calendar is_calendar items is_items centres is_centres stock is_stock receipts is (bills_of items (text_in texts t.Bills)) refl given
 
-by_stock : (texts : List (List ℕ)) (f : Fault) → (calendar : ShopCalendar) → calendar_of (text_in texts t.Calendar) ≡ Ok calendar → (items : List Item) → items_of (text_in texts t.Items) ≡ Ok items → (centres : List Centre) → rows_of (untaken {X = Centre}) t.Centres (text_in texts t.Centres) ≡ Ok centres → (r : Result (List StockRow) Fault) → stock_of items (text_in texts t.Stock) ≡ r → tables_in texts ≡ Err f → IsToldAtItsTable texts f
+by_stock : (texts : List (List ℕ)) (f : Fault) → (calendar : ShopCalendar) → calendar_of (text_in texts t.Calendar) ≡ Ok calendar → (items : List Item) → items_of (text_in texts t.Items) ≡ Ok items → (centres : List Centre) → centres_of (text_in texts t.Centres) ≡ Ok centres → (r : Result (List StockRow) Fault) → stock_of items (text_in texts t.Stock) ≡ r → tables_in texts ≡ Err f → IsToldAtItsTable texts f
 unfolding tables_in head_in middle_in tail_in
 by_stock texts f calendar is_calendar items is_items centres is_centres (Err g) is given =
     let told : tables_in texts ≡ Err g = rw (is_calendar, is_items, is_centres, is) refl in
@@ -95,12 +93,12 @@ by_stock texts f calendar is_calendar items is_items centres is_centres (Err g) 
     rw (← same) (record { own = subst (λ (at : Table). reading_of texts at ≡ Err g) (sym table) (rw (is_items, is) refl); earlier = rw (table, is_calendar, is_items, is_centres) refl })
 by_stock texts f calendar is_calendar items is_items centres is_centres (Ok stock) is given = by_receipts texts f calendar is_calendar items is_items centres is_centres stock is (receipts_of calendar items (text_in texts t.Receipts)) refl given
 
-by_centres : (texts : List (List ℕ)) (f : Fault) → (calendar : ShopCalendar) → calendar_of (text_in texts t.Calendar) ≡ Ok calendar → (items : List Item) → items_of (text_in texts t.Items) ≡ Ok items → (r : Result (List Centre) Fault) → rows_of (untaken {X = Centre}) t.Centres (text_in texts t.Centres) ≡ r → tables_in texts ≡ Err f → IsToldAtItsTable texts f
+by_centres : (texts : List (List ℕ)) (f : Fault) → (calendar : ShopCalendar) → calendar_of (text_in texts t.Calendar) ≡ Ok calendar → (items : List Item) → items_of (text_in texts t.Items) ≡ Ok items → (r : Result (List Centre) Fault) → centres_of (text_in texts t.Centres) ≡ r → tables_in texts ≡ Err f → IsToldAtItsTable texts f
 unfolding tables_in head_in middle_in tail_in
 by_centres texts f calendar is_calendar items is_items (Err g) is given =
     let told : tables_in texts ≡ Err g = rw (is_calendar, is_items, is) refl in
     let same : g ≡ f = cc in
-    let table : g.table ≡ t.Centres = rw is at (rows_own (untaken {X = Centre}) (none_taken {X = Centre}) t.Centres (text_in texts t.Centres)) in
+    let table : g.table ≡ t.Centres = rw is at (rows_own centre_row at_their_records.centres t.Centres (text_in texts t.Centres)) in
     rw (← same) (record { own = subst (λ (at : Table). reading_of texts at ≡ Err g) (sym table) (rw is refl); earlier = rw (table, is_calendar, is_items) refl })
 by_centres texts f calendar is_calendar items is_items (Ok centres) is given = by_stock texts f calendar is_calendar items is_items centres is (stock_of items (text_in texts t.Stock)) refl given
 
@@ -111,7 +109,7 @@ by_items texts f calendar is_calendar (Err g) is given =
     let same : g ≡ f = cc in
     let table : g.table ≡ t.Items = rw is at (rows_own item_row at_their_records.items t.Items (text_in texts t.Items)) in
     rw (← same) (record { own = subst (λ (at : Table). reading_of texts at ≡ Err g) (sym table) (rw is refl); earlier = rw (table, is_calendar) refl })
-by_items texts f calendar is_calendar (Ok items) is given = by_centres texts f calendar is_calendar items is (rows_of (untaken {X = Centre}) t.Centres (text_in texts t.Centres)) refl given
+by_items texts f calendar is_calendar (Ok items) is given = by_centres texts f calendar is_calendar items is (centres_of (text_in texts t.Centres)) refl given
 
 by_calendar : (texts : List (List ℕ)) (f : Fault) → (r : Result (ShopCalendar) Fault) → calendar_of (text_in texts t.Calendar) ≡ r → tables_in texts ≡ Err f → IsToldAtItsTable texts f
 unfolding tables_in head_in middle_in tail_in

@@ -3,10 +3,13 @@ use Rattle.std.specs.Prelude.{ℕ, ◌≡◌, ◌≢◌, ◌<◌, ◌≤◌, tru
 use Rattle.std.specs.Int.{IsInRange}
 use Rattle.mrp_tables.specs.declared.item.Item.{Item}
 use Rattle.mrp_tables.specs.declared.item.LotRule.TheVariants.{Fixed, Period}
+use Rattle.mrp_tables.specs.declared.rows.Centre.{Centre}
 use Rattle.mrp_tables.specs.declared.rows.StockRow.{StockRow}
 use Rattle.mrp_tables.specs.declared.receipts.OpenOrder.{OpenOrder}
 use Rattle.mrp_tables.specs.declared.rows.Receipt.{Receipt}
 use Rattle.mrp_tables.specs.declared.rows.BillLine.{BillLine}
+use Rattle.mrp_tables.specs.declared.routings.RoutingLine.{RoutingLine}
+use Rattle.mrp_tables.specs.declared.rows.Operation.{Operation}
 use Rattle.mrp_tables.specs.declared.rows.MasterRow.{MasterRow}
 use Rattle.mrp_tables.specs.declared.rows.ScriptCall.{ScriptCall}
 use Rattle.mrp_tables.specs.declared.rows.ScriptCall.TheVariants as call
@@ -30,6 +33,10 @@ pub record IsItem (item : Item) : Type 0 where
 -- what is read of an item before it is looked at whole: an item, unless a master item has safety stock
 abbrev pub IsItemUnlessStocked : Item → Type 0
 IsItemUnlessStocked item = (is_master item.class ≡ true → item.safety ≡ 0) → IsItem item
+
+-- a work centre: its minutes of a shop day
+pub record IsCentre (centre : Centre) : Type 0 where
+  pub minutes : centre.minutes ≤ 1000000000
 
 -- what is on hand of an item, in pieces
 pub record IsStockRow (items : List Item) (row : StockRow) : Type 0 where
@@ -58,6 +65,23 @@ pub record IsBillLine (items : List Item) (line : BillLine) : Type 0 where
   pub component : line.component < length items
   pub part : is_master_at items line.component ≡ false
   pub per : IsInRange 1 1000000 line.per
+
+-- a line of a routing, of an item that is there
+pub record IsRoutingLine (items : List Item) (line : RoutingLine) : Type 0 where
+  pub item : line.item < length items
+  pub operation : IsInRange 1 1000000000 line.operation
+  pub setup : line.setup ≤ 1000000
+  pub run : line.run ≤ 1000000000
+  pub offset : line.offset ≤ 104
+
+-- an operation of an item in a centre, both there: its number, minutes to set up, thousandths of a minute for a piece, weeks from the release
+pub record IsOperation (items : List Item) (centres : List Centre) (row : Operation) : Type 0 where
+  pub item : row.item < length items
+  pub operation : IsInRange 1 1000000000 row.operation
+  pub centre : row.centre < length centres
+  pub setup : row.setup ≤ 1000000
+  pub run : row.run ≤ 1000000000
+  pub offset : row.offset ≤ 104
 
 -- a row of a master item in a week of the horizon, of at least one piece
 pub record IsMasterRow (weeks : ℕ) (items : List Item) (row : MasterRow) : Type 0 where

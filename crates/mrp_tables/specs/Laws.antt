@@ -13,17 +13,18 @@ use Rattle.mrp_rows.specs.Next.{opened}
 use Rattle.mrp_rows.specs.Tables.{table_index}
 use Rattle.mrp_tables.specs.declared.item.Item.{Item}
 use Rattle.mrp_tables.specs.declared.rows.Centre.{Centre}
-use Rattle.mrp_tables.specs.declared.rows.Operation.{Operation}
 use Rattle.mrp_tables.specs.Bills.{bill_row, bills_of}
 use Rattle.mrp_tables.specs.Calendar.{calendar_of, holiday_row, start_cells, weeks_cells, workdays_cells}
+use Rattle.mrp_tables.specs.Centres.{centre_row, centres_of}
 use Rattle.mrp_tables.specs.Items.{item_row, items_of}
 use Rattle.mrp_tables.specs.Master.{master_of, master_row}
 use Rattle.mrp_tables.specs.Reading.{IsMemoryFault, IsRefusedIn, Reads, admitted, by_itself, is_past, rows_of}
 use Rattle.mrp_tables.specs.Receipts.{receipt_row, receipts_of}
+use Rattle.mrp_tables.specs.Routings.{operation_row, routings_of}
 use Rattle.mrp_tables.specs.Script.{script_of, script_row}
 use Rattle.mrp_tables.specs.Limits.{record_limit}
 use Rattle.mrp_tables.specs.Stock.{stock_of, stock_row}
-use Rattle.mrp_tables.specs.Tables.{Tables, untaken, tables_in}
+use Rattle.mrp_tables.specs.Tables.{Tables, tables_in}
 
 -- the number of the record at a place, counted from 0
 abbrev pub number_at : ℕ → ℕ
@@ -82,9 +83,11 @@ pub record FaultsAtTheirRecords : Type 0 where
   pub workdays : FaultsAtItsRecord (by_itself workdays_cells)
   pub holidays : FaultsAtItsRecord (by_itself holiday_row)
   pub items : FaultsAtItsRecord item_row
+  pub centres : FaultsAtItsRecord centre_row
   pub stock : (items : List Item) → FaultsAtItsRecord (stock_row items)
   pub receipts : (calendar : ShopCalendar) (items : List Item) → FaultsAtItsRecord (receipt_row calendar items)
   pub bills : (items : List Item) → FaultsAtItsRecord (by_itself (bill_row items))
+  pub routings : (items : List Item) (centres : List Centre) → FaultsAtItsRecord (operation_row items centres)
   pub master : (calendar : ShopCalendar) (items : List Item) → FaultsAtItsRecord (by_itself (master_row calendar items))
   pub script : (calendar : ShopCalendar) (items : List Item) → FaultsAtItsRecord (by_itself (script_row calendar items))
 
@@ -97,13 +100,15 @@ whole (Err f) = Err f
 abbrev pub reading_of : List (List ℕ) → Table → Result (Unit {0}) Fault
 reading_of texts t.Calendar = whole (calendar_of (text_in texts t.Calendar))
 reading_of texts t.Items = whole (items_of (text_in texts t.Items))
-reading_of texts t.Centres = whole (rows_of (untaken {X = Centre}) t.Centres (text_in texts t.Centres))
+reading_of texts t.Centres = whole (centres_of (text_in texts t.Centres))
 reading_of texts t.Stock = items_of (text_in texts t.Items) >>= λ items. whole (stock_of items (text_in texts t.Stock))
 reading_of texts t.Receipts =
     calendar_of (text_in texts t.Calendar) >>= λ calendar.
     items_of (text_in texts t.Items) >>= λ items. whole (receipts_of calendar items (text_in texts t.Receipts))
 reading_of texts t.Bills = items_of (text_in texts t.Items) >>= λ items. whole (bills_of items (text_in texts t.Bills))
-reading_of texts t.Routings = whole (rows_of (untaken {X = Operation}) t.Routings (text_in texts t.Routings))
+reading_of texts t.Routings =
+    items_of (text_in texts t.Items) >>= λ items.
+    centres_of (text_in texts t.Centres) >>= λ centres. whole (routings_of items centres (text_in texts t.Routings))
 reading_of texts t.Master =
     calendar_of (text_in texts t.Calendar) >>= λ calendar.
     items_of (text_in texts t.Items) >>= λ items. whole (master_of calendar items (text_in texts t.Master))
@@ -116,11 +121,11 @@ reading_of texts t.Bundle = Ok tt
 pub record AreOfTheirTexts (texts : List (List ℕ)) (tables : Tables) : Type 0 where
   pub calendar : calendar_of (text_in texts t.Calendar) ≡ Ok tables.calendar
   pub items : items_of (text_in texts t.Items) ≡ Ok tables.items
-  pub centres : rows_of untaken t.Centres (text_in texts t.Centres) ≡ Ok tables.centres
+  pub centres : centres_of (text_in texts t.Centres) ≡ Ok tables.centres
   pub stock : stock_of tables.items (text_in texts t.Stock) ≡ Ok tables.stock
   pub receipts : receipts_of tables.calendar tables.items (text_in texts t.Receipts) ≡ Ok tables.receipts
   pub bills : bills_of tables.items (text_in texts t.Bills) ≡ Ok tables.bills
-  pub routings : rows_of untaken t.Routings (text_in texts t.Routings) ≡ Ok tables.routings
+  pub routings : routings_of tables.items tables.centres (text_in texts t.Routings) ≡ Ok tables.routings
   pub master : master_of tables.calendar tables.items (text_in texts t.Master) ≡ Ok tables.master
   pub script : script_of tables.calendar tables.items (text_in texts t.Script) ≡ Ok tables.script
 
@@ -143,7 +148,7 @@ pub record IsToldAtItsTable (texts : List (List ℕ)) (f : Fault) : Type 0 where
 abbrev pub IsRefusedAt : List (List ℕ) → Fault → Table → Type 0
 IsRefusedAt texts f t.Calendar = IsMemoryFault t.Calendar f
 IsRefusedAt texts f t.Items = IsRefusedIn item_row t.Items (text_in texts t.Items) f
-IsRefusedAt texts f t.Centres = IsRefusedIn (untaken {X = Centre}) t.Centres (text_in texts t.Centres) f
+IsRefusedAt texts f t.Centres = IsRefusedIn centre_row t.Centres (text_in texts t.Centres) f
 IsRefusedAt texts f t.Stock =
     (items : List Item) × (items_of (text_in texts t.Items) ≡ Ok items) × IsRefusedIn (stock_row items) t.Stock (text_in texts t.Stock) f
 IsRefusedAt texts f t.Receipts =
@@ -152,7 +157,10 @@ IsRefusedAt texts f t.Receipts =
     × IsRefusedIn (receipt_row calendar items) t.Receipts (text_in texts t.Receipts) f
 IsRefusedAt texts f t.Bills =
     (items : List Item) × (items_of (text_in texts t.Items) ≡ Ok items) × IsRefusedIn (by_itself (bill_row items)) t.Bills (text_in texts t.Bills) f
-IsRefusedAt texts f t.Routings = IsRefusedIn (untaken {X = Operation}) t.Routings (text_in texts t.Routings) f
+IsRefusedAt texts f t.Routings =
+    (items : List Item) × (items_of (text_in texts t.Items) ≡ Ok items)
+    × (centres : List Centre) × (centres_of (text_in texts t.Centres) ≡ Ok centres)
+    × IsRefusedIn (operation_row items centres) t.Routings (text_in texts t.Routings) f
 IsRefusedAt texts f t.Master =
     (calendar : ShopCalendar) × (calendar_of (text_in texts t.Calendar) ≡ Ok calendar)
     × (items : List Item) × (items_of (text_in texts t.Items) ≡ Ok items)

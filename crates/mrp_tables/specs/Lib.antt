@@ -1,5 +1,6 @@
 pub mod Bills
 pub mod Calendar
+pub mod Centres
 pub mod Facts
 pub mod Gathered
 pub mod Items
@@ -8,6 +9,7 @@ pub mod Limits
 pub mod Master
 pub mod Reading
 pub mod Receipts
+pub mod Routings
 pub mod Script
 pub mod Seen
 pub mod Stock

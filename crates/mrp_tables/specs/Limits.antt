@@ -3,15 +3,15 @@ use Rattle.std.specs.Prelude.{ℕ, List, [], ◌∷◌, codes, Option, Some, Non
 use Rattle.mrp_rows.specs.declared.fault.Table.{Table}
 use Rattle.mrp_rows.specs.declared.fault.Table.TheVariants as t
 
--- the most records that a table has, where it has a limit: centres and routings take none
+-- the most records that a table has, where it has a limit
 abbrev pub record_limit : Table → Option ℕ
 record_limit t.Calendar = Some 1003
 record_limit t.Items = Some 20000
-record_limit t.Centres = Some 0
+record_limit t.Centres = Some 1000
 record_limit t.Stock = None
 record_limit t.Receipts = Some 100000
 record_limit t.Bills = Some 100000
-record_limit t.Routings = Some 0
+record_limit t.Routings = Some 50000
 record_limit t.Master = Some 100000
 record_limit t.Script = Some 100000
 record_limit t.Bundle = None

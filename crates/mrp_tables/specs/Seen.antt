@@ -5,7 +5,7 @@ use Rattle.mrp_tables.specs.declared.tables.Middle.{Middle as MiddleRead}
 use Rattle.mrp_tables.specs.declared.tables.Tail.{Tail as TailRead}
 
 abbrev pub head_of : HeadRead → Head
-head_of h = record { calendar = h.calendar; items = h.items; centres = h.centres.items }
+head_of h = record { calendar = h.calendar; items = h.items; centres = h.centres }
 
 abbrev pub middle_of : MiddleRead → Middle
 middle_of m = record { stock = m.stock.items; receipts = m.receipts.items; bills = m.bills.items }

@@ -1,12 +1,10 @@
 -- The typed tables of a bundle (profile).
-use Rattle.std.specs.Prelude.{ℕ, ◌≡◌, ◌≤◌, List, [], All, length, Result, Ok, Err}
+use Rattle.std.specs.Prelude.{ℕ, ◌≤◌, List, All, length, Result, Ok}
 use Rattle.mrp_qty.specs.Reading.{◌>>=◌}
 use Rattle.mrp_cal.specs.Calendar.{ShopCalendar}
 use Rattle.mrp_rows.specs.Bundle.{bundle_of, text_in}
 use Rattle.mrp_rows.specs.declared.fault.Fault.{Fault}
 use Rattle.mrp_rows.specs.declared.fault.Table.TheVariants as t
-use Rattle.mrp_rows.specs.Cell.{fault_at}
-use Rattle.mrp_rows.specs.Left.{Cells}
 use Rattle.mrp_tables.specs.declared.item.Item.{Item}
 use Rattle.mrp_tables.specs.declared.rows.Centre.{Centre}
 use Rattle.mrp_tables.specs.declared.rows.StockRow.{StockRow}
@@ -17,11 +15,12 @@ use Rattle.mrp_tables.specs.declared.rows.MasterRow.{MasterRow}
 use Rattle.mrp_tables.specs.declared.rows.ScriptRow.{ScriptRow}
 use Rattle.mrp_tables.specs.Bills.{bills_of}
 use Rattle.mrp_tables.specs.Calendar.{calendar_of}
-use Rattle.mrp_tables.specs.Facts.{AllDiffer, IsBillLine, IsItem, IsMasterRow, IsReceipt, IsScriptRow, IsStockRow}
+use Rattle.mrp_tables.specs.Centres.{centre_names, centres_of}
+use Rattle.mrp_tables.specs.Facts.{AllDiffer, IsBillLine, IsCentre, IsItem, IsMasterRow, IsOperation, IsReceipt, IsScriptRow, IsStockRow}
 use Rattle.mrp_tables.specs.Items.{items_of, names_of}
 use Rattle.mrp_tables.specs.Master.{master_of}
-use Rattle.mrp_tables.specs.Reading.{rows_of}
 use Rattle.mrp_tables.specs.Receipts.{orders_of, receipts_of}
+use Rattle.mrp_tables.specs.Routings.{operations_of, routings_of}
 use Rattle.mrp_tables.specs.Script.{script_of}
 use Rattle.mrp_tables.specs.Stock.{items_in_stock, stock_of}
 
@@ -36,10 +35,6 @@ pub record Tables : Type 0 where
   pub routings : List Operation
   pub master : List MasterRow
   pub script : List ScriptRow
-
--- a record of a table that takes none: its limit refuses it before it is read
-abbrev pub untaken : {X : Type 0} → List X → Cells → Result X Fault
-untaken before r = Err (fault_at r 20)
 
 -- the first three tables, the next, and the last
 pub record Head : Type 0 where
@@ -61,7 +56,7 @@ unfoldable pub head_in : List (List ℕ) → Result Head Fault
 head_in texts = do
   calendar ← calendar_of (text_in texts t.Calendar)
   items ← items_of (text_in texts t.Items)
-  centres ← rows_of untaken t.Centres (text_in texts t.Centres)
+  centres ← centres_of (text_in texts t.Centres)
   Ok (record { calendar = calendar; items = items; centres = centres })
 
 unfoldable pub middle_in : List (List ℕ) → ShopCalendar → List Item → Result Middle Fault
@@ -71,9 +66,9 @@ middle_in texts calendar items = do
   bills ← bills_of items (text_in texts t.Bills)
   Ok (record { stock = stock; receipts = receipts; bills = bills })
 
-unfoldable pub tail_in : List (List ℕ) → ShopCalendar → List Item → Result Tail Fault
-tail_in texts calendar items = do
-  routings ← rows_of untaken t.Routings (text_in texts t.Routings)
+unfoldable pub tail_in : List (List ℕ) → ShopCalendar → List Item → List Centre → Result Tail Fault
+tail_in texts calendar items centres = do
+  routings ← routings_of items centres (text_in texts t.Routings)
   master ← master_of calendar items (text_in texts t.Master)
   script ← script_of calendar items (text_in texts t.Script)
   Ok (record { routings = routings; master = master; script = script })
@@ -91,12 +86,14 @@ joined h m l = record {
   script = l.script;
 }
 
--- what accepted tables keep: rows within their limits, of items that are there and weeks of the horizon; names that differ, items that stand in the stock at most once, and orders of an item that stand in the receipts at most once; no more rows than the limits, so none of a table that takes no record
+-- what accepted tables keep: rows within their limits, of items and centres that are there and weeks of the horizon; names that differ; an item at most once in the stock, an order of an item at most once in the receipts, an operation of an item at most once in the routings; no more rows than the limits
 pub record AreTables (t : Tables) : Type 0 where
   pub items : All IsItem t.items
   pub names : AllDiffer (names_of t.items)
   pub item_count : length t.items ≤ 20000
-  pub centres : t.centres ≡ []
+  pub centres : All IsCentre t.centres
+  pub centre_names : AllDiffer (centre_names t.centres)
+  pub centre_count : length t.centres ≤ 1000
   pub stock : All (IsStockRow t.items) t.stock
   pub stocked : AllDiffer (items_in_stock t.stock)
   pub receipts : All (IsReceipt t.calendar.weeks t.items) t.receipts
@@ -104,7 +101,9 @@ pub record AreTables (t : Tables) : Type 0 where
   pub receipt_count : length t.receipts ≤ 100000
   pub bills : All (IsBillLine t.items) t.bills
   pub line_count : length t.bills ≤ 100000
-  pub routings : t.routings ≡ []
+  pub routings : All (IsOperation t.items t.centres) t.routings
+  pub routed : AllDiffer (operations_of t.routings)
+  pub operation_count : length t.routings ≤ 50000
   pub master : All (IsMasterRow t.calendar.weeks t.items) t.master
   pub master_count : length t.master ≤ 100000
   pub script : All (IsScriptRow t.calendar.weeks t.items) t.script
@@ -115,7 +114,7 @@ unfoldable pub tables_in : List (List ℕ) → Result Tables Fault
 tables_in texts = do
   head ← head_in texts
   middle ← middle_in texts head.calendar head.items
-  tail ← tail_in texts head.calendar head.items
+  tail ← tail_in texts head.calendar head.items head.centres
   Ok (joined head middle tail)
 
 -- the tables of a bundle, or its first fault

@@ -9,11 +9,14 @@ pub(crate) const WORD: u8 = 10;
 /// Outside its limits.
 pub(crate) const RANGE: u8 = 11;
 
-/// An item, or an item's order, that an earlier record has.
+/// An item, a centre, or an item's order or operation that an earlier record has.
 pub(crate) const REPEATED: u8 = 12;
 
 /// No item of the items' table.
 pub(crate) const UNKNOWN_ITEM: u8 = 13;
+
+/// No centre of the centres' table.
+pub(crate) const UNKNOWN_CENTRE: u8 = 14;
 
 /// A date outside the horizon.
 pub(crate) const DATE_OUTSIDE: u8 = 15;

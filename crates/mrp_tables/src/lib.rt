@@ -4,6 +4,7 @@
 mod bills;
 mod calendar;
 mod cells;
+mod centres;
 mod codes;
 mod item;
 mod items;
@@ -12,6 +13,7 @@ mod limits;
 mod master;
 mod reading;
 mod receipts;
+mod routings;
 mod rows;
 mod script;
 mod stock;

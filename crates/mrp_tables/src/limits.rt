@@ -17,15 +17,16 @@ pub(crate) const MOST_SCRAP: u64 = 900;
 /// The most safety stock, in pieces.
 pub(crate) const MOST_SAFETY: u64 = 1_000_000_000;
 
-/// The most records that a table has, where it has a limit: centres and routings take none.
+/// The most records that a table has, where it has a limit.
 pub(crate) fn most_records(table: Table) -> Option<u32>
     ensures { result ≡ record_limit table }
 {
     match table {
         Table::Calendar => Some(1_003),
         Table::Items => Some(20_000),
+        Table::Centres => Some(1_000),
         Table::Receipts | Table::Bills | Table::Master | Table::Script => Some(100_000),
-        Table::Centres | Table::Routings => Some(0),
+        Table::Routings => Some(50_000),
         Table::Stock | Table::Bundle => None,
     }
 }

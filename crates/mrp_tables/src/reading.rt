@@ -10,7 +10,6 @@ use crate::codes::{COLUMNS, TOO_MANY};
 use crate::limits::most_records;
 use mrp_rows::{Cursor, Fault, Row, Sections, Table};
 use std::alloc::Global;
-use std::marker::Model;
 
 fn is_past_limit(table: Table, number: u32) -> bool
     ensures { result ≡ is_past (record_limit table) number }
@@ -118,56 +117,4 @@ pub(crate) fn read_table<G: TableRows>(
 {
     let mut cursor = Cursor::new(alloc, sections, table)?;
     gather(&mut cursor, empty)
-}
-
-/// The rows of a table that takes no record.
-#[derive(Drop)]
-pub(crate) struct Untaken<T> {
-    rows: Vec<T>,
-}
-
-impl<T> Model for Untaken<T> {
-    ghost use Rattle.std.specs.Prelude.{List};
-
-    ghost Value = { List T };
-
-    ghost view = { λ t. t.rows.items };
-}
-
-impl<T: Drop> TableRows for Untaken<T> {
-    type Line = T;
-
-    ghost use Rattle.mrp_tables.specs.Gathered.{nothing};
-    ghost use Rattle.mrp_tables.specs.Tables.{untaken};
-
-    ghost takes = { λ count. Unit {0} };
-
-    ghost rows = { λ t. t };
-
-    ghost reads = { λ t. untaken };
-
-    ghost beside = { λ t. nothing };
-
-    fn add(&mut self, row: &Row) -> Result<(), Fault> {
-        Err(row.fault(TOO_MANY))
-    }
-}
-
-impl<T> Untaken<T> {
-    ghost use Rattle.std.specs.Prelude.{◌≡◌, []};
-
-    pub(crate) fn new(alloc: Global) -> Untaken<T>
-        ensures { result ≡ [] }
-    {
-        Untaken {
-            rows: Vec::new(alloc),
-        }
-    }
-
-    pub(crate) fn into_rows(self) -> Vec<T>
-        ensures { result.items ≡ self }
-    {
-        let Untaken { rows } = self;
-        rows
-    }
 }

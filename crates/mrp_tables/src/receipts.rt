@@ -58,7 +58,7 @@ impl<'a> Model for Receipts<'a> {
 impl<'a> TableRows for Receipts<'a> {
     type Line = Receipt;
 
-    ghost use Rattle.std.specs.Prelude.{◌≡◌};
+    ghost use Rattle.std.specs.Prelude.{◌≡◌, []};
     ghost use Rattle.mrp_tables.specs.Receipts.{receipt_row};
 
     ghost takes = { λ count. count ≡ 4 };
@@ -67,7 +67,7 @@ impl<'a> TableRows for Receipts<'a> {
 
     ghost reads = { λ t. receipt_row t.calendar t.items };
 
-    ghost beside = { λ t. record { items = t.items; weeks = t.calendar.weeks } };
+    ghost beside = { λ t. record { items = t.items; centres = []; weeks = t.calendar.weeks } };
 
     fn add(&mut self, row: &Row) -> Result<(), Fault> {
         let receipt = receipt_of(row, self.calendar, self.items, &self.seen)?;

@@ -9,7 +9,7 @@ use mrp_rows::Name;
 pub struct Centre {
     /// The centre's name, no other centre's.
     pub name: Name,
-    /// The minutes that it works on a shop day.
+    /// The minutes that it works on a shop day, up to 10^9.
     pub minutes: u64,
 }
 
@@ -53,15 +53,15 @@ pub struct BillLine {
 pub struct Operation {
     /// The item that is made.
     pub item: usize,
-    /// The operation's number in the item's routing.
+    /// The operation's number in the item's routing, 1 to 10^9, no other of the item's.
     pub operation: u64,
     /// The work centre, by its place.
     pub centre: usize,
-    /// The minutes that an order takes to set up.
+    /// The minutes that an order takes to set up, up to 10^6.
     pub setup: u64,
-    /// The thousandths of a minute that a piece takes.
+    /// The thousandths of a minute that a piece takes, up to 10^9.
     pub run: u64,
-    /// The weeks from an order's release to the operation.
+    /// The weeks from an order's release to the operation, up to 104.
     pub offset: u64,
 }
 

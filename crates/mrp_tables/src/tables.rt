@@ -1,23 +1,26 @@
 //! The tables of a bundle.
 
-ghost use Rattle.std.specs.Prelude.{◌≡◌, ◌≤◌, [], All, IfOk, IsOk, Ok, length};
+ghost use Rattle.std.specs.Prelude.{◌≡◌, ◌≤◌, All, IfOk, IsOk, Ok, length};
 ghost use Rattle.mrp_rows.specs.Bundle.{text_in};
 ghost use Rattle.mrp_tables.specs.Calendar.{calendar_of};
-ghost use Rattle.mrp_tables.specs.Facts.{AllDiffer, IsBillLine, IsMasterRow, IsReceipt, IsScriptRow, IsStockRow};
+ghost use Rattle.mrp_tables.specs.Facts.{AllDiffer, IsBillLine, IsMasterRow, IsOperation, IsReceipt, IsScriptRow, IsStockRow};
 ghost use Rattle.mrp_tables.specs.Laws.{IsMemoryRefusal};
 ghost use Rattle.mrp_tables.specs.Reading.{Gives, IsMemoryFault};
 ghost use Rattle.mrp_tables.specs.Receipts.{orders_of};
+ghost use Rattle.mrp_tables.specs.Routings.{operations_of};
 ghost use Rattle.mrp_tables.specs.Seen.{head_of, middle_of, tail_of};
 ghost use Rattle.mrp_tables.specs.Stock.{items_in_stock};
 ghost use Rattle.mrp_tables.specs.Tables.{head_in, middle_in, tail_in};
 
 use crate::bills::Bills;
 use crate::calendar::calendar_in;
+use crate::centres::Centres;
 use crate::item::Item;
 use crate::items::Items;
 use crate::master::Master;
-use crate::reading::{Untaken, read_table};
+use crate::reading::read_table;
 use crate::receipts::Receipts;
+use crate::routings::Routings;
 use crate::rows::{BillLine, Centre, MasterRow, Operation, Receipt, ScriptRow, StockRow};
 use crate::script::Script;
 use crate::stock::Stock;
@@ -31,7 +34,7 @@ use std::marker::Model;
 pub(crate) struct Head {
     calendar: Calendar,
     items: Items,
-    centres: Vec<Centre>,
+    centres: Centres,
 }
 
 // The next three.
@@ -54,15 +57,15 @@ pub(crate) struct Tail {
 fn read_head(alloc: Global, sections: &Sections<'_>) -> Result<Head, Fault>
     ensures head { Gives (IsMemoryRefusal sections.now) head_of result (head_in sections.now) }
     ensures items { IfOk result (λ h. length h.items ≤ 20000) }
-    ensures centres { IfOk result (λ h. h.centres.items ≡ []) }
+    ensures centres { IfOk result (λ h. length h.centres ≤ 1000) }
 {
     let calendar = read_calendar(alloc, sections)?;
     let items = read_table(alloc, sections, Table::Items, Items::new(alloc))?;
-    let centres = read_table(alloc, sections, Table::Centres, Untaken::new(alloc))?;
+    let centres = read_table(alloc, sections, Table::Centres, Centres::new(alloc))?;
     Ok(Head {
         calendar,
         items,
-        centres: centres.into_rows(),
+        centres,
     })
 }
 
@@ -110,18 +113,25 @@ fn read_tail(alloc: Global, sections: &Sections<'_>, head: &Head) -> Result<Tail
     requires head { head_in sections.now ≡ Ok (head_of head.now) }
     requires middle { IsOk (middle_in sections.now head.now.calendar head.now.items) }
     ensures tail { Gives (IsMemoryRefusal sections.now) tail_of result
-        (tail_in sections.now head.now.calendar head.now.items) }
+        (tail_in sections.now head.now.calendar head.now.items head.now.centres) }
     ensures master { IfOk result (λ l.
         All (IsMasterRow head.now.calendar.weeks head.now.items) l.master.items) }
     ensures master_count { IfOk result (λ l. length l.master.items ≤ 100000) }
-    ensures routings { IfOk result (λ l. l.routings.items ≡ []) }
+    ensures routings { IfOk result (λ l. All (IsOperation head.now.items head.now.centres) l.routings.items) }
+    ensures routed { IfOk result (λ l. AllDiffer (operations_of l.routings.items)) }
+    ensures operation_count { IfOk result (λ l. length l.routings.items ≤ 50000) }
     ensures script { IfOk result (λ l.
         All (IsScriptRow head.now.calendar.weeks head.now.items) l.script.items) }
     ensures script_count { IfOk result (λ l. length l.script.items ≤ 100000) }
 {
     let calendar = &head.calendar;
     let items = &head.items;
-    let routings = read_table(alloc, sections, Table::Routings, Untaken::new(alloc))?;
+    let routings = read_table(
+        alloc,
+        sections,
+        Table::Routings,
+        Routings::new(alloc, items, &head.centres),
+    )?;
     let master = read_table(
         alloc,
         sections,
@@ -161,10 +171,12 @@ impl Model for Tables {
 }
 
 impl Tables {
-    ghost use Rattle.std.specs.Prelude.{◌≡◌, ◌<◌, ◌≤◌, [], All, IfSome, length};
-    ghost use Rattle.mrp_tables.specs.Facts.{AllDiffer, IsBillLine, IsItem, IsMasterRow, IsReceipt, IsScriptRow, IsStockRow};
+    ghost use Rattle.std.specs.Prelude.{◌≡◌, ◌<◌, ◌≤◌, All, IfSome, length};
+    ghost use Rattle.mrp_tables.specs.Centres.{centre_names};
+    ghost use Rattle.mrp_tables.specs.Facts.{AllDiffer, IsBillLine, IsCentre, IsItem, IsMasterRow, IsOperation, IsReceipt, IsScriptRow, IsStockRow};
     ghost use Rattle.mrp_tables.specs.Items.{names_of, place_of};
     ghost use Rattle.mrp_tables.specs.Receipts.{orders_of};
+    ghost use Rattle.mrp_tables.specs.Routings.{operations_of};
     ghost use Rattle.mrp_tables.specs.Stock.{items_in_stock};
     ghost use Rattle.mrp_tables.specs.Laws.{IsMemoryRefusal};
     ghost use Rattle.mrp_tables.specs.Reading.{Gives};
@@ -212,10 +224,12 @@ impl Tables {
         self.head.items.find(name)
     }
 
-    /// The work centres, in table order: none, since their table takes no record.
+    /// The work centres, in table order.
     pub fn centres(&self) -> &[Centre]
         ensures rows { result.now ≡ self.now.centres }
-        ensures none { result.now ≡ [] }
+        ensures within { All IsCentre result.now }
+        ensures names { AllDiffer (centre_names result.now) }
+        ensures count { length result.now ≤ 1000 }
     {
         self.head.centres.as_slice()
     }
@@ -248,10 +262,12 @@ impl Tables {
         self.middle.bills.as_slice()
     }
 
-    /// The operations of the routings, in table order: none, since their table takes no record.
+    /// The operations of the routings, in table order: an item's operation at most once.
     pub fn routings(&self) -> &[Operation]
         ensures rows { result.now ≡ self.now.routings }
-        ensures none { result.now ≡ [] }
+        ensures within { All (IsOperation self.now.items self.now.centres) result.now }
+        ensures once { AllDiffer (operations_of result.now) }
+        ensures count { length result.now ≤ 50000 }
     {
         self.tail.routings.as_slice()
     }
