@@ -9,6 +9,7 @@ use std::test::Fail;
 
 mod planning;
 mod receipts;
+mod routings;
 mod script;
 
 // A small bicycle shop.
@@ -338,24 +339,6 @@ fn records_have_a_cell_for_each_column_below_the_right_header(rt: HostRuntime) -
     answers(&rt, rt.alloc(), SHAPES)
 }
 
-const NOT_TAKEN: &[Change] = &[
-    (
-        "centre,minutes\n",
-        "centre,minutes\nWELD,20\n",
-        "20 too-many centres 1",
-    ),
-    (
-        "run,offset\n",
-        "run,offset\nFRAME,10,WELD,30,2500,0\n",
-        "20 too-many routings 1",
-    ),
-];
-
-#[test]
-fn what_is_not_taken_is_refused_at_its_first_record(rt: HostRuntime) -> Result<(), Fail> {
-    answers(&rt, rt.alloc(), NOT_TAKEN)
-}
-
 const CALENDARS: &[Change] = &[
     ("start,2025-01-06", "Start,2025-01-06", "10 word calendar 1"),
     ("start,2025-01-06", "weeks,6", "10 word calendar 1"),
@@ -502,12 +485,6 @@ const FIRST_OF_TWO: &[Change] = &[
         "10\n[receipts]\nitem",
         "x\n[receipts]\nitems",
         "8 number stock 1",
-    ),
-    // Past the limit before the count of cells.
-    (
-        "centre,minutes\n",
-        "centre,minutes\nWELD\n",
-        "20 too-many centres 1",
     ),
     // A section's fault before its tables'.
     ("weeks,6", "weeks,0\n[orders]", "2 unknown-section bundle 2"),
