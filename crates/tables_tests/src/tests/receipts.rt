@@ -48,8 +48,9 @@ fn are_read(rt: &impl Abort, receipts: &[Receipt], want: &[Wanted]) {
 
 #[test]
 fn an_open_receipt_is_read_with_its_place_and_week(rt: HostRuntime) -> Result<(), Fail> {
+    let want = [(1, 1, name("R1")?, 3, 15)];
     let shop = shop_that_reads(rt.alloc(), "FRAME,R1,2025-01-22,15\n")?;
-    are_read(&rt, shop.receipts(), &[(1, 1, name("R1")?, 3, 15)]);
+    are_read(&rt, shop.receipts(), &want);
     Ok(())
 }
 
@@ -57,12 +58,12 @@ fn an_open_receipt_is_read_with_its_place_and_week(rt: HostRuntime) -> Result<()
 fn receipts_stand_in_table_order(rt: HostRuntime) -> Result<(), Fail> {
     let records =
         "WHEEL,X2,2025-02-16,1000000000\nFRAME,X2,2025-01-06,1\n\"FRAME\",\"R,1\",2025-01-06,007\n";
-    let shop = shop_that_reads(rt.alloc(), records)?;
     let want = [
         (1, 2, name("X2")?, 6, 1_000_000_000),
         (2, 1, name("X2")?, 1, 1),
         (3, 1, name("R,1")?, 1, 7),
     ];
+    let shop = shop_that_reads(rt.alloc(), records)?;
     are_read(&rt, shop.receipts(), &want);
     Ok(())
 }
@@ -177,8 +178,9 @@ const NO_PIECES: &[(&str, &str)] = &[
 fn receipts_of_no_pieces_are_checked_and_do_not_count(rt: HostRuntime) -> Result<(), Fail> {
     let alloc = rt.alloc();
     let records = "FRAME,R1,2025-01-22,0\nFRAME,X2,2025-01-22,5\nWHEEL,X2,2025-01-22,0\n";
+    let want = [(2, 1, name("X2")?, 3, 5)];
     let shop = shop_that_reads(alloc, records)?;
-    are_read(&rt, shop.receipts(), &[(2, 1, name("X2")?, 3, 5)]);
+    are_read(&rt, shop.receipts(), &want);
     receipt_answers(&rt, alloc, NO_PIECES)
 }
 
