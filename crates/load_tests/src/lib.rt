@@ -1,0 +1,5 @@
+//! Worked loads: the tests of `mrp_load`.
+#![tactic(auto)]
+
+#[cfg(test)]
+mod tests;
