@@ -1,6 +1,7 @@
 //! Worked messages.
 
 mod making;
+mod products;
 mod shops;
 
 use self::making::plan_of;

@@ -1,6 +1,7 @@
 //! Worked pegs.
 
 mod making;
+mod products;
 mod shops;
 
 use self::making::plan_of;
