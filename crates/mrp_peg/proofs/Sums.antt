@@ -1,6 +1,6 @@
 -- What the units that requirements and supplies share add up to.
-use Rattle.std.proofs.Common.{◌≡◌, ◌∙◌, ℕ, ◌+◌, ◌-◌, ◌≤◌, Bool, true, false, cond, List, [], ◌∷◌, ◌++◌, refl, sym, ap, arith, min, max}
-use Rattle.std.specs.Prelude.{nat_lt, map, filter, sum_by}
+use Rattle.std.proofs.Common.{◌≡◌, ◌∙◌, ℕ, zero, suc, ◌+◌, ◌-◌, ◌≤◌, Bool, true, false, cond, List, [], ◌∷◌, ◌++◌, get_or, refl, sym, ap, arith, min, max}
+use Rattle.std.specs.Prelude.{nat_lt, map, filter, sum_by, All}
 use Rattle.std.proofs.lemmas.List.Sums.{sum_by-cons, sum_by-append}
 use Rattle.std.proofs.lemmas.Bool.{ltb-false}
 use Rattle.mrp_peg.specs.Units.{Amount, Span, Match, spans_from, spans, total, shared, left_over, is_positive, match_of, surplus_of, pairs, matches, is_for}
@@ -184,3 +184,20 @@ covered {A} {B} test needs supplies enough =
     ∙ sum_by-filter (λ (n : Span A). test n.of) (λ n. min n.past (total supplies) - n.first) (spans needs)
     ∙ supplied_units test (total supplies) 0 needs (omega arith)
     ∙ sym (sum_by-filter (λ (a : Amount A). test a.of) (λ a. a.quantity) needs)
+
+-- the units of a row are numbered up to its end
+spans_within : {A : Type 0} (n : ℕ) (row : List (Amount A)) → All (λ s. s.past ≤ n + total row) (spans_from n row)
+unfolding spans_from
+spans_within n [] k d h = absurd (omega (arith, h))
+spans_within {A} n (a ∷ row) zero d h = omega (arith, sum_by-cons (λ (x : Amount A). x.quantity) a row)
+spans_within {A} n (a ∷ row) (suc k) d h = omega (arith, sum_by-cons (λ (x : Amount A). x.quantity) a row, spans_within (n + a.quantity) row k d (omega (arith, h)))
+
+-- where as much is supplied as is required, each requirement has exactly its units
+pub each_served : {A B : Type 0} (needs : List (Amount A)) (supplies : List (Amount B)) → total needs ≤ total supplies
+    → All (λ n. sum_by (λ s. shared n s) (spans supplies) ≡ n.past - n.first) (spans needs)
+each_served needs supplies enough k d h = omega (arith, shared_row (get_or (spans needs) k d) 0 supplies, spans_within 0 needs k d h, enough)
+
+-- each supply has exactly its units, with what is left of it
+pub each_used : {A B : Type 0} (needs : List (Amount A)) (supplies : List (Amount B))
+    → All (λ s. sum_by (λ n. shared n s) (spans needs) + left_over (total needs) s ≡ s.past - s.first) (spans supplies)
+each_used needs supplies k d h = omega (arith, shared_column (get_or (spans supplies) k d) 0 needs)

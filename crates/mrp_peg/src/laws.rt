@@ -1,6 +1,6 @@
 //! What follows from the definitions alone, each law the contract of a function that does nothing.
 
-ghost use Rattle.mrp_peg.specs.Laws.{MatchesAreUnits, RequirementsAddUp, RequirementsAreCovered, RequirementsArePegged, SuppliesArePegged};
+ghost use Rattle.mrp_peg.specs.Laws.{EachIsServed, EachIsUsed, MatchesAreUnits, RequirementsAddUp, RequirementsAreCovered, RequirementsArePegged, SuppliesArePegged};
 
 /// Piece by piece: what is matched of requirements and supplies is the count of the k for which the
 /// k-th required piece is of the ones and the k-th supplied piece of the others; and of requirements
@@ -8,6 +8,13 @@ ghost use Rattle.mrp_peg.specs.Laws.{MatchesAreUnits, RequirementsAddUp, Require
 pub fn pieces()
     ensures matches { MatchesAreUnits }
     ensures requirements { RequirementsAddUp }
+{}
+
+/// Each requirement that is covered is served whole, and each supply is used or left, whatever other
+/// requirements and supplies there are of the same kind.
+pub fn each()
+    ensures requirement { EachIsServed }
+    ensures supply { EachIsUsed }
 {}
 
 /// The pegs of an item add up: those of its requirements to what is required, where its supplies
