@@ -1,4 +1,7 @@
+//! Worked days of an office.
 ghost use Rattle.std.specs.Prelude.{◌≡◌, ℕ, ◌<◌, All, IfOk, IfSome, slice_index_or, vec_len};
+
+mod full_book;
 
 use mrp_bill::{Bill, Shop};
 use mrp_book::{History, Line, Reply, Spot, Wish};
@@ -26,7 +29,6 @@ enum Asked {
     Cancel(u64),
     Ask(u16),
     When(u64),
-    Snapshot,
     Front,
 }
 
@@ -85,7 +87,6 @@ fn answer<R: Wait>(
             let wish = Wish::new(shop, BIKE, pieces(quantity)?)?;
             office.when(rt, desk, wish)?
         }
-        Asked::Snapshot => office.snapshot(rt, desk)?,
         Asked::Front => office.front(rt, desk)?,
     };
     Ok((number, said(&reply)))
@@ -192,14 +193,15 @@ fn two_desks_call_on_one_book(rt: HostRuntime) -> Result<(), Fail> {
         (true, Asked::Cancel(4), ("not-standing", 0)),
         (true, Asked::Ask(3), ("available", 8)),
         (true, Asked::When(28), ("week", 5)),
-        (true, Asked::Snapshot, ("taken", 2)),
-        (false, Asked::Front, ("front", 14)),
     ];
     let mut pair = Pair::open(rt.alloc())?;
     for (number, (is_first, asked, wanted)) in (1..).zip(CALLS) {
         let said = pair.answer(&rt, *is_first, *asked)?;
         assert_said(&rt, said, (number, *wanted));
     }
+    assert_eq!(rt; pair.snapshot(&rt)?, (13, 13, 2));
+    let said = pair.answer(&rt, false, Asked::Front)?;
+    assert_said(&rt, said, (14, ("front", 14)));
     Ok(())
 }
 
