@@ -11,6 +11,8 @@ use std::process::Abort;
 use std::test::Fail;
 use std::thread::Threads;
 
+mod chain;
+
 fn same<T: PartialEq + Debug + Drop>(rt: &impl Abort, got: T, want: T) {
     assert_eq!(rt; got, want);
 }
