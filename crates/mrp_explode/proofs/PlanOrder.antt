@@ -1,37 +1,16 @@
 -- Items are planned in an order in which parents stand before their components.
-use Rattle.std.proofs.Common.{◌≡◌, ◌∙◌, ◌≢◌, ℕ, zero, suc, ◌+◌, ◌<◌, true, List, [], ◌∷◌, ◌++◌, Option, Some, None, length, get_or, set, sym, ap, subst, inl, inr, refl, arith, get_or-set_same, get_or-set_other}
+use Rattle.std.proofs.Common.{◌≡◌, ◌∙◌, ◌≢◌, ℕ, ◌<◌, true, List, Option, Some, None, length, get_or, set, sym, ap, subst, inl, inr, refl, arith, get_or-set_same, get_or-set_other}
 use Rattle.std.proofs.lemmas.Bool.{cases_order}
-use Rattle.std.proofs.lemmas.List.{map-append}
-use Rattle.std.proofs.lemmas.List.Elements.{All-push, filter_passes}
-use Rattle.std.specs.Prelude.{All, map, IsSome}
+use Rattle.std.proofs.lemmas.List.Elements.{filter_passes}
+use Rattle.std.specs.Prelude.{All, IsSome}
 use Rattle.std.specs.List.{range_with_len, slice_index_or}
 use Rattle.mrp_tables.specs.declared.rows.BillLine.{BillLine}
 use Rattle.mrp_bill.specs.Bill.{IsOrder, is_parent, parents_of}
 use Rattle.mrp_bill.proofs.Listed.{filter-range-below}
 use Rattle.mrp_item.specs.Inputs.{Inputs}
-use Rattle.mrp_item.specs.Made.{inputs_in, item_in, item_of}
+use Rattle.mrp_item.specs.Made.{item_of}
 use Rattle.mrp_item.specs.declared.outcome.Outcome.{Outcome}
 use Rattle.mrp_explode.specs.Finished.{item_from}
-
--- one more outcome's item
-pub pushed-items : (old new : List Outcome) (o : Outcome) (xs : List ℕ) (i : ℕ) → map item_in old ≡ xs → new ≡ old ++ o ∷ [] → item_in o ≡ i → map item_in new ≡ xs ++ i ∷ []
-pushed-items old new o xs i same adds is =
-    ap (map item_in) adds ∙ map-append item_in old (o ∷ []) ∙ ap (λ (ys : List ℕ). ys ++ item_in o ∷ []) same ∙ ap (λ (j : ℕ). xs ++ j ∷ []) is
-
-pub pushed-inputs : (s : Inputs) (old new : List Outcome) (o : Outcome) → All (λ x. inputs_in x ≡ s) old → new ≡ old ++ o ∷ [] → inputs_in o ≡ s → All (λ x. inputs_in x ≡ s) new
-pushed-inputs s old new o all adds is = subst (All (λ x. inputs_in x ≡ s)) (sym adds) (All-push (λ x. inputs_in x ≡ s) old o all is)
-
-range-more : (a n : ℕ) → range_with_len a (suc n) ≡ range_with_len a n ++ (a + n) ∷ []
-range-more a zero = ap (λ (x : ℕ). x ∷ []) (omega arith)
-range-more a (suc n) =
-    let last : a + 1 + n ≡ a + suc n = omega arith in
-    ap (λ (xs : List ℕ). a ∷ xs) (range-more (a + 1) n ∙ ap (λ (x : ℕ). range_with_len (a + 1) n ++ x ∷ []) last)
-
-pub places-more : (n : ℕ) → range_with_len 0 n ++ n ∷ [] ≡ range_with_len 0 (n + 1)
-places-more n =
-    let next : n + 1 ≡ suc n = omega arith in
-    let here : 0 + n ≡ n = omega arith in
-    sym (ap (range_with_len 0) next ∙ range-more 0 n ∙ ap (λ (x : ℕ). range_with_len 0 n ++ x ∷ []) here)
 
 -- one more outcome is put in its place
 pub set-own : (s : Inputs) (xs : List (Option Outcome)) (item : ℕ) (o : Outcome) → item < length xs → item_of o ≡ item_from s item

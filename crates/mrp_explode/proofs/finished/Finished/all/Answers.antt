@@ -1,5 +1,5 @@
 use Rattle.std.proofs.Common.{◌∙◌}
-use Rattle.mrp_explode.proofs.PlanOrder.{pushed-items, pushed-inputs, places-more}
+use Rattle.mrp_item.proofs.OutcomeLists.{pushed-items, pushed-inputs, places-more}
 use Rattle.mrp_explode.proofs.finished.Finished.all.Goals as goal
 
 pub loop-item-preserved : goal.loop-item-preserved

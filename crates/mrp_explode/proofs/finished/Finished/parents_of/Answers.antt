@@ -1,6 +1,6 @@
 use Rattle.std.proofs.Common.{◌∙◌, sym}
 use Rattle.std.proofs.lemmas.List.{take_more}
-use Rattle.mrp_explode.proofs.PlanOrder.{pushed-items, pushed-inputs}
+use Rattle.mrp_item.proofs.OutcomeLists.{pushed-items, pushed-inputs}
 use Rattle.mrp_explode.proofs.finished.Finished.parents_of.Goals as goal
 
 pub loop-parent-preserved : goal.loop-parent-preserved
