@@ -1,2 +1,3 @@
+pub mod MinuteTexts
 pub mod Numerals
 mod Values

@@ -1,3 +1,4 @@
 pub mod Digits
+pub mod Minutes
 pub mod Quantity
 pub mod Reading

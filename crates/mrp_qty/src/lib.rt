@@ -1,11 +1,13 @@
-//! Quantities, numbers and their texts.
+//! Quantities, times, numbers and their texts.
 #![tactic(auto)]
 
 pub mod laws;
 mod memory;
+mod minutes;
 mod number;
 mod quantity;
 
 pub use memory::NoMemory;
+pub use minutes::{Milli, minutes_text};
 pub use number::{NumberFault, number_text, read_number};
 pub use quantity::Qty;
