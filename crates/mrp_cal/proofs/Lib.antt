@@ -1,3 +1,4 @@
 pub mod CivilDates
 pub mod HolidayMarks
 pub mod DateTexts
+pub mod Weekdays

@@ -2,4 +2,5 @@ pub mod Calendar
 pub mod CivilDay
 pub mod DateText
 pub mod FaultText
+pub mod ShopDays
 pub mod View

@@ -4,6 +4,7 @@ ghost use Rattle.jiff.specs.Words.{epoch_day};
 ghost use Rattle.mrp_cal.specs.Calendar as spec;
 
 use crate::CalFault;
+use jiff::ToSpan;
 use jiff::civil::{Date, Weekday};
 use std::marker::Model;
 
@@ -37,10 +38,14 @@ impl Model for Calendar {
 }
 
 impl Calendar {
-    ghost use Rattle.std.specs.Prelude.{◌≡◌, IfSome};
+    ghost use Rattle.std.specs.Prelude.{◌≡◌, ◌≤◌, ◌<◌, IfSome, Some};
     ghost use Rattle.std.specs.Int.{IsInRange};
+    ghost use Rattle.jiff.specs.Words.{epoch_day};
     ghost use Rattle.mrp_cal.specs.Calendar as spec;
+    ghost use Rattle.mrp_cal.specs.Calendar.{days_in};
     ghost use Rattle.mrp_cal.specs.DateText.{IsPlanningYear};
+    ghost use Rattle.mrp_cal.specs.ShopDays as shop;
+    ghost use Rattle.mrp_cal.specs.ShopDays.{first_day_of, shop_days_in};
 
     /// The calendar of a start in the years 1900 to 2999, a horizon in weeks, the weekdays that
     /// are worked, from Monday, and the holidays. A holiday outside the horizon has no effect, and
@@ -91,6 +96,40 @@ impl Calendar {
     {
         let day = horizon_day(self.start, self.weeks, date)?;
         Some(day / 7 + 1)
+    }
+
+    /// How many of a week's days are shop days: days of a weekday that is worked, and no holidays.
+    pub fn shop_days(&self, week: u16) -> u8
+        requires { IsInRange 1 self.now.weeks week }
+        ensures value { result ≡ shop_days_in self.now week }
+        ensures bound { result ≤ 7 }
+    {
+        let first = usize::from(week - 1) * 7;
+        let mut shop_days: u8 = 0;
+        for weekday in 0..7 {
+            if self.is_shop_day(first + weekday) {
+                shop_days += 1;
+            }
+        }
+        shop_days
+    }
+
+    /// The day on which a week begins, a Monday.
+    pub fn first_day(&self, week: u16) -> Date
+        requires { IsInRange 1 self.now.weeks week }
+        ensures day { epoch_day result ≡ first_day_of self.now week }
+        ensures within { spec.week_of self.now result ≡ Some week }
+    {
+        let days = u32::from(week - 1) * 7;
+        self.start + i64::from(days).days()
+    }
+
+    // Whether a day of the horizon, counted from 0, is a shop day.
+    fn is_shop_day(&self, day: usize) -> bool
+        requires { day < days_in self.now.weeks }
+        ensures { result ≡ shop.is_shop_day self.now day }
+    {
+        self.workdays[day % 7] && !self.holidays[day]
     }
 }
 

@@ -1,10 +1,11 @@
-//! The shop calendar: which week of the planning horizon a date falls in, and which texts are
-//! dates. Nothing here takes memory.
+//! The shop calendar: which week of the planning horizon a date falls in, which days of a week are
+//! worked, and which texts are dates. Nothing here takes memory.
 #![tactic(auto)]
 
 mod calendar;
 mod date_text;
 mod fault;
+pub mod laws;
 
 pub use calendar::Calendar;
 pub use date_text::read_date;

@@ -173,6 +173,58 @@ fn holidays_outside_the_horizon_and_twice_are_no_fault(rt: HostRuntime) -> Resul
     Ok(())
 }
 
+// A calendar of six weeks: the days that are worked, of each week, and the weeks' first days.
+fn weeks_of(workdays: [bool; 7], holidays: &[Date]) -> Result<([u8; 6], [Date; 6]), Fail> {
+    let start = date(b"2025-01-06")?;
+    let calendar = Calendar::new(start, 6, workdays, holidays)?;
+    let mut shop_days = [0; 6];
+    let mut first_days = [start; 6];
+    for week in 1..=calendar.weeks() {
+        if let Some(place) = shop_days.get_mut(usize::from(week) - 1) {
+            *place = calendar.shop_days(week);
+        }
+        if let Some(place) = first_days.get_mut(usize::from(week) - 1) {
+            *place = calendar.first_day(week);
+        }
+    }
+    Ok((shop_days, first_days))
+}
+
+#[test]
+fn holidays_on_workdays_are_no_shop_days(rt: HostRuntime) -> Result<(), Fail> {
+    let holidays = [
+        date(b"2025-01-20")?,
+        date(b"2025-01-20")?,
+        date(b"2025-01-05")?,
+        date(b"2025-02-16")?,
+        date(b"2025-02-17")?,
+    ];
+    let (days, _) = weeks_of(MONDAY_TO_FRIDAY, &holidays)?;
+    same(&rt, days, [5, 5, 4, 5, 5, 5]);
+    let (days, _) = weeks_of(EVERY_DAY, &holidays)?;
+    same(&rt, days, [7, 7, 6, 7, 7, 6]);
+    let mut sunday = NO_DAY;
+    sunday[6] = true;
+    let (days, _) = weeks_of(sunday, &holidays)?;
+    same(&rt, days, [1, 1, 1, 1, 1, 0]);
+    Ok(())
+}
+
+#[test]
+fn weeks_begin_on_mondays(rt: HostRuntime) -> Result<(), Fail> {
+    let (_, days) = weeks_of(MONDAY_TO_FRIDAY, &[])?;
+    let want = [
+        date(b"2025-01-06")?,
+        date(b"2025-01-13")?,
+        date(b"2025-01-20")?,
+        date(b"2025-01-27")?,
+        date(b"2025-02-03")?,
+        date(b"2025-02-10")?,
+    ];
+    same(&rt, days, want);
+    Ok(())
+}
+
 #[test]
 fn dates_are_read(rt: HostRuntime) -> Result<(), Fail> {
     same(&rt, read_date(b"2024-02-29"), Some(Date::new(2024, 2, 29)?));
