@@ -137,6 +137,7 @@ fn read_piece<R: Read>(
     ensures nothing { result ≡ Ok false → vec_len bytes.new ≡ vec_len bytes.old }
     ensures failed { result ≡ Err ReadFault.Read
         → HasRisenBy 1 (failures_of reader.old) (failures_of reader.new) }
+    ensures memory { result ≡ Err ReadFault.NoMemory → failures_of reader.new ≡ failures_of reader.old }
     ensures front { TakesFront (R.remaining (inner_of reader.old)) (R.remaining (inner_of reader.new))
         (moved_of reader.old) (moved_of reader.new) }
 {
@@ -160,8 +161,8 @@ fn read_piece<R: Read>(
 /// All bytes that a reader has left: at most so many, within so many calls of `read`.
 ///
 /// An interrupted read is tried again and counts as a call. Errors: `Read` where the reader failed
-/// in this call, gave more bytes or needed more calls; `NoMemory` where a growth was refused.
-/// After an error the reader has been read up to some place.
+/// in this call, gave more bytes or needed more calls; `NoMemory` where a growth was refused, after
+/// no failed read. After an error the reader has been read up to some place.
 pub fn read_within<R: Read>(
     alloc: Global,
     reader: &mut Told<R>,
@@ -179,6 +180,7 @@ pub fn read_within<R: Read>(
         → HasRisenBy 1 (failures_of reader.old) (failures_of reader.new)
         ⊎ HasRisenBy most_calls (calls_of reader.old) (calls_of reader.new)
         ⊎ HasRisenBy (most_bytes + 1) (moved_of reader.old) (moved_of reader.new) }
+    ensures memory { result ≡ Err ReadFault.NoMemory → failures_of reader.new ≡ failures_of reader.old }
     ensures front { TakesFront (R.remaining (inner_of reader.old)) (R.remaining (inner_of reader.new))
         (moved_of reader.old) (moved_of reader.new) }
 {
@@ -211,6 +213,7 @@ pub fn read_bundle<R: Read>(alloc: Global, reader: &mut Told<R>) -> Result<Vec<u
         → HasRisenBy 1 (failures_of reader.old) (failures_of reader.new)
         ⊎ HasRisenBy 100000000 (calls_of reader.old) (calls_of reader.new)
         ⊎ HasRisenBy 67108865 (moved_of reader.old) (moved_of reader.new) }
+    ensures memory { result ≡ Err ReadFault.NoMemory → failures_of reader.new ≡ failures_of reader.old }
     ensures front { TakesFront (R.remaining (inner_of reader.old)) (R.remaining (inner_of reader.new))
         (moved_of reader.old) (moved_of reader.new) }
 {
