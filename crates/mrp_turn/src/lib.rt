@@ -7,8 +7,6 @@ mod object;
 mod seat;
 mod steps;
 pub mod tally;
-#[cfg(test)]
-mod tests;
 mod turn;
 mod views;
 

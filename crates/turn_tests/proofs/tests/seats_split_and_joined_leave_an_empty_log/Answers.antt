@@ -1,6 +1,6 @@
 use Rattle.std.proofs.Common.{◌≤◌, subst}
 use Rattle.mrp_turn.proofs.Callers.{new_seats, new_turns}
-use Rattle.mrp_turn.proofs.tests.seats_split_and_joined_leave_an_empty_log.Goals as goal
+use Rattle.turn_tests.proofs.tests.seats_split_and_joined_leave_an_empty_log.Goals as goal
 
 pub close-state-requires-clause-turn : goal.close-state-requires-clause-turn
 close-state-requires-clause-turn g c = let made = c.in_ok-turn.ensures in new_turns c.in_ok-turn.turn c.in_ok-turn.seats.items _ made.count made.seats

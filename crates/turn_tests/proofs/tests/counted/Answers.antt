@@ -1,7 +1,7 @@
 use Rattle.std.proofs.Common.{◌≡◌, ◌+◌, length, ap, ◌∙◌, arith}
 use Rattle.mrp_turn.specs.Seen.{newcomer}
 use Rattle.mrp_turn.proofs.Callers.{in_order, read_at, new_turns}
-use Rattle.mrp_turn.proofs.tests.counted.Goals as goal
+use Rattle.turn_tests.proofs.tests.counted.Goals as goal
 
 pub add_all-requires-after_bounds : goal.add_all-requires-after_bounds
 add_all-requires-after_bounds g c κs within = let made = c.in_ok-turn.ensures in new_turns c.in_ok-turn.turn c.in_ok-turn.seats.items c.args.count made.count made.seats
