@@ -287,6 +287,3 @@ pub fn split_bundle(bundle: &[u8]) -> Result<Sections<'_>, Fault>
     let texts = place_all(sections)?;
     sections_at(&texts.places)
 }
-
-#[cfg(test)]
-mod tests;

@@ -172,6 +172,3 @@ fn read_cells(
         Err(_) => Err(NoMemory),
     }
 }
-
-#[cfg(test)]
-mod tests;

@@ -10,8 +10,6 @@ mod fault_texts;
 mod name;
 pub mod record_laws;
 mod row;
-#[cfg(test)]
-mod same;
 mod streams;
 mod told;
 

@@ -129,6 +129,3 @@ fn has_good_ends(first: u8, last: u8) -> bool
 {
     first != b' ' && last != b' ' && first != b'['
 }
-
-#[cfg(test)]
-mod tests;

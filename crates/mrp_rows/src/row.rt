@@ -153,6 +153,3 @@ fn place_of(text: &[u8], words: &[&str]) -> Option<usize>
 {
     words.iter().position(|word| text == word.as_bytes())
 }
-
-#[cfg(test)]
-mod tests;

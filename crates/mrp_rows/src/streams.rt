@@ -219,6 +219,3 @@ pub fn read_bundle<R: Read>(alloc: Global, reader: &mut Told<R>) -> Result<Vec<u
 {
     read_within(alloc, reader, GREATEST_BUNDLE, READ_CALLS)
 }
-
-#[cfg(test)]
-mod tests;

@@ -194,6 +194,3 @@ impl<W: Write> Write for Told<W> {
         outcome
     }
 }
-
-#[cfg(test)]
-pub(crate) mod tests;

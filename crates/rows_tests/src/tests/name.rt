@@ -1,5 +1,5 @@
-use super::*;
-use crate::same::same;
+use super::same::same;
+use mrp_rows::Name;
 use std::test::Fail;
 
 #[test]

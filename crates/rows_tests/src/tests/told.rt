@@ -1,6 +1,8 @@
-use super::*;
-use crate::same::same;
+use super::same::same;
+use mrp_rows::Told;
 use std::alloc::Global;
+use std::io;
+use std::io::{ErrorKind, Read, Write};
 use std::test::Fail;
 
 // What a reader or a writer does at one call.

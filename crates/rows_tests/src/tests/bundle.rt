@@ -1,7 +1,6 @@
-use super::*;
-use crate::fault_texts::fault_text;
-use crate::same::same;
+use super::same::same;
 use mrp_qty::NoMemory;
+use mrp_rows::{Table, fault_text, split_bundle};
 use std::alloc::Global;
 use std::test::Fail;
 

@@ -1,10 +1,21 @@
 ghost use Rattle.std.specs.Prelude.{◌≡◌, IfOk, length};
 
-use super::*;
-use crate::cursor::Cursor;
-use crate::same::same;
+use super::same::same;
+use super::stock::bundle_with;
+use mrp_rows::{Cursor, Fault, Row, Table, split_bundle};
 use std::alloc::Global;
 use std::test::Fail;
+
+// The codes of the faults of cells.
+const NAME: u8 = 7;
+
+const NUMBER: u8 = 8;
+
+const DATE: u8 = 9;
+
+const WORD: u8 = 10;
+
+const RANGE: u8 = 11;
 
 // A fault's number, or 0 for a value.
 fn code_of<T: Drop>(outcome: Result<T, Fault>) -> u8 {
@@ -14,14 +25,15 @@ fn code_of<T: Drop>(outcome: Result<T, Fault>) -> u8 {
     }
 }
 
-// The second record of a stock table, with this cell in front; it has to have two cells.
+// The second record of a stock table, with this cell at its end; it has to have two cells.
 fn row_of(alloc: Global, cell: &[u8]) -> Result<Row, Fail>
     ensures { IfOk result (λ row. length row.cells ≡ 2) }
 {
-    let mut text = b"item,onhand\nFIRST,1\n".to_vec(alloc)?;
+    let mut text = b"item,onhand\nFIRST,1\n2,".to_vec(alloc)?;
     text.extend_from_slice(cell)?;
-    text.extend_from_slice(b",2")?;
-    let mut cursor = Cursor::over(alloc, text.as_slice(), Table::Stock)?;
+    let bundle = bundle_with(alloc, Table::Stock, text.as_slice())?;
+    let sections = split_bundle(bundle.as_slice())?;
+    let mut cursor = Cursor::new(alloc, &sections, Table::Stock)?;
     let _ = cursor.next()?;
     let row = cursor.next()?.ok_or("no second record")?;
     if row.cell_count() != 2 {
@@ -51,7 +63,7 @@ fn digits_within_limits_are_numbers(rt: HostRuntime) -> Result<(), Fail> {
     ];
     for (cell, least, most, want) in right {
         let row = row_of(rt.alloc(), cell)?;
-        let number = row.number(0, least, most)?;
+        let number = row.number(1, least, most)?;
         same(&rt, (cell, number), (cell, want));
     }
     Ok(())
@@ -83,7 +95,7 @@ fn other_texts_and_numbers_outside_limits_are_refused(rt: HostRuntime) -> Result
         let row = row_of(rt.alloc(), cell)?;
         same(
             &rt,
-            (cell, code_of(row.number(0, least, most))),
+            (cell, code_of(row.number(1, least, most))),
             (cell, want),
         );
     }
@@ -94,7 +106,7 @@ fn other_texts_and_numbers_outside_limits_are_refused(rt: HostRuntime) -> Result
 fn a_number_of_five_thousand_digits_is_out_of_range(rt: HostRuntime) -> Result<(), Fail> {
     let digits = vec![in rt.alloc(); b'9'; 5000]?;
     let row = row_of(rt.alloc(), digits.as_slice())?;
-    same(&rt, code_of(row.number(0, 0, u64::MAX)), RANGE);
+    same(&rt, code_of(row.number(1, 0, u64::MAX)), RANGE);
     Ok(())
 }
 
@@ -116,7 +128,7 @@ fn names_are_short_printable_texts(rt: HostRuntime) -> Result<(), Fail> {
     ];
     for (cell, want) in right {
         let row = row_of(rt.alloc(), cell)?;
-        let name = row.name(0)?;
+        let name = row.name(1)?;
         same(&rt, (cell, name.as_bytes()), (cell, want));
     }
     let wrong: [&[u8]; 11] = [
@@ -134,7 +146,7 @@ fn names_are_short_printable_texts(rt: HostRuntime) -> Result<(), Fail> {
     ];
     for cell in wrong {
         let row = row_of(rt.alloc(), cell)?;
-        same(&rt, (cell, code_of(row.name(0))), (cell, NAME));
+        same(&rt, (cell, code_of(row.name(1))), (cell, NAME));
     }
     Ok(())
 }
@@ -150,14 +162,14 @@ fn words_are_told_by_their_places(rt: HostRuntime) -> Result<(), Fail> {
     ];
     for (cell, want) in right {
         let row = row_of(rt.alloc(), cell)?;
-        let place = row.word(0, &words)?;
+        let place = row.word(1, &words)?;
         same(&rt, (cell, place), (cell, want));
     }
     let wrong: [&[u8]; 6] = [b"", b"Fixed", b"fixe", b"fixedly", b" lfl", b"\xFF"];
     for cell in wrong {
         let row = row_of(rt.alloc(), cell)?;
-        same(&rt, (cell, code_of(row.word(0, &words))), (cell, WORD));
-        same(&rt, code_of(row.word(0, &[])), WORD);
+        same(&rt, (cell, code_of(row.word(1, &words))), (cell, WORD));
+        same(&rt, code_of(row.word(1, &[])), WORD);
     }
     Ok(())
 }
@@ -165,7 +177,7 @@ fn words_are_told_by_their_places(rt: HostRuntime) -> Result<(), Fail> {
 #[test]
 fn dates_are_days_of_the_calendar(rt: HostRuntime) -> Result<(), Fail> {
     let row = row_of(rt.alloc(), b"2024-02-29")?;
-    let date = row.date(0)?;
+    let date = row.date(1)?;
     same(&rt, (date.year(), date.month(), date.day()), (2024, 2, 29));
     let wrong: [&[u8]; 7] = [
         b"",
@@ -178,7 +190,7 @@ fn dates_are_days_of_the_calendar(rt: HostRuntime) -> Result<(), Fail> {
     ];
     for cell in wrong {
         let row = row_of(rt.alloc(), cell)?;
-        same(&rt, (cell, code_of(row.date(0))), (cell, DATE));
+        same(&rt, (cell, code_of(row.date(1))), (cell, DATE));
     }
     Ok(())
 }
@@ -186,15 +198,15 @@ fn dates_are_days_of_the_calendar(rt: HostRuntime) -> Result<(), Fail> {
 #[test]
 fn a_refusal_names_the_record_and_reads_its_column(rt: HostRuntime) -> Result<(), Fail> {
     let row = row_of(rt.alloc(), b"BIKE")?;
-    same(&rt, row.cell(0), b"BIKE".as_slice());
-    same(&rt, row.number(1, 0, 9)?, 2);
+    same(&rt, row.cell(1), b"BIKE".as_slice());
+    same(&rt, row.number(0, 0, 9)?, 2);
     let refusal = Fault {
         code: 13,
         table: Table::Stock,
         row: 2,
     };
     same(&rt, row.fault(13), refusal);
-    let not_a_number = row.number(0, 0, 9);
+    let not_a_number = row.number(1, 0, 9);
     let told = Fault {
         code: 8,
         table: Table::Stock,

@@ -1,6 +1,7 @@
-use super::*;
-use crate::bundle::split_bundle;
-use crate::same::same;
+use super::same::same;
+use super::stock::bundle_with;
+use mrp_rows::{Cursor, Fault, Row, Table, split_bundle};
+use std::alloc::Global;
 use std::test::Fail;
 
 // Calls of `next` after the one that ends the reading.
@@ -44,23 +45,30 @@ fn tell_next(out: &mut Vec<u8>, cursor: &mut Cursor<'_>) -> Result<bool, Fail> {
     }
 }
 
-// What the calls on a table's text answer: each record's number with its cells, and what ends them.
-fn told(alloc: Global, table: Table, text: &[u8]) -> Result<Vec<u8>, Fail> {
-    let mut out = Vec::new(alloc);
-    let mut cursor = match Cursor::over(alloc, text, table) {
-        Ok(cursor) => cursor,
-        Err(fault) => {
-            tell_fault(&mut out, fault)?;
-            return Ok(out);
-        }
-    };
+// What the calls answer: each record's number with its cells, and what ends them.
+fn tell_all(out: &mut Vec<u8>, cursor: &mut Cursor<'_>) -> Result<(), Fail> {
     for _ in 0..10 {
-        if !tell_next(&mut out, &mut cursor)? {
+        if !tell_next(out, cursor)? {
             break;
         }
     }
     for _ in 0..MORE_CALLS {
-        tell_next(&mut out, &mut cursor)?;
+        tell_next(out, cursor)?;
+    }
+    Ok(())
+}
+
+// What the calls on a table's text answer.
+fn told(alloc: Global, table: Table, text: &[u8]) -> Result<Vec<u8>, Fail> {
+    if let Table::Bundle = table {
+        return Err(Fail::from("a bundle is no table"));
+    }
+    let mut out = Vec::new(alloc);
+    let bundle = bundle_with(alloc, table, text)?;
+    let sections = split_bundle(bundle.as_slice())?;
+    match Cursor::new(alloc, &sections, table) {
+        Ok(mut cursor) => tell_all(&mut out, &mut cursor)?,
+        Err(fault) => tell_fault(&mut out, fault)?,
     }
     Ok(out)
 }
@@ -116,7 +124,7 @@ fn a_header_is_exactly_the_names_of_the_columns(rt: HostRuntime) -> Result<(), F
         b"Item,onhand\n",
         b" item,onhand\n",
         b"item,onhan\xFF\n",
-        b"\xEF\xBB\xBF\xEF\xBB\xBFitem,onhand\n",
+        b"\xEF\xBB\xBF\xEF\xBB\xBF\xEF\xBB\xBFitem,onhand\n",
         b"BIKE,10\nitem,onhand\n",
     ];
     for text in wrong {
@@ -197,18 +205,12 @@ fn a_wrong_count_of_cells_ends_the_records(rt: HostRuntime) -> Result<(), Fail> 
     Ok(())
 }
 
-const EIGHT_TABLES: &str =
-    "[calendar]\nkey,value\n[items]\nitem,class,lead,scrap,lot,size,safety\n[centres]\ncentre,minutes\n[receipts]\nitem,order,date,quantity\n[bills]\nparent,component,per\n[routings]\nitem,op,centre,setup,run,offset\n[master]\nitem,row,date,quantity\n[script]\ndesk,call,item,date,quantity,number\n";
-
 // What the first call tells of a bundle whose stock is this text.
 fn first_of_stock(alloc: Global, stock: &str) -> Result<Vec<u8>, Fail> {
-    let bundle = format!(in alloc; "{EIGHT_TABLES}[stock]\n{stock}")?;
+    let bundle = bundle_with(alloc, Table::Stock, stock.as_bytes())?;
+    let sections = split_bundle(bundle.as_slice())?;
     let mut out = Vec::new(alloc);
-    let cursor = match split_bundle(bundle.as_bytes()) {
-        Ok(sections) => Cursor::new(alloc, &sections, Table::Stock),
-        Err(fault) => Err(fault),
-    };
-    match cursor {
+    match Cursor::new(alloc, &sections, Table::Stock) {
         Ok(mut cursor) => {
             tell_next(&mut out, &mut cursor)?;
         }

@@ -1,8 +1,8 @@
-use super::*;
-use crate::same::same;
-use crate::told::tests::{FakeReader, Turn, fake_writer};
+use super::same::same;
+use super::told::{FakeReader, Turn, fake_writer};
+use mrp_rows::{ReadFault, Told, Tries, WriteFault, read_bundle, read_within, write_text};
 use std::io;
-use std::io::ErrorKind;
+use std::io::{ErrorKind, Read, Write};
 use std::test::Fail;
 
 // A reader and a writer that never gets through.

@@ -1,0 +1,11 @@
+//! Tests of each part of `mrp_rows`.
+
+mod bundle;
+mod cursor;
+mod fault_text;
+mod name;
+mod row;
+mod same;
+mod stock;
+mod streams;
+mod told;
