@@ -3,6 +3,7 @@ mod CsvRecords
 mod CsvSteps
 mod DigitCells
 mod NameBytes
+pub mod JoinedParts
 pub mod SectionLaws
 pub mod SplitLines
 pub mod SplitPlaces

@@ -35,7 +35,7 @@ parts_within [] = ([], [])
 parts_within (l ∷ ls) = (l ++ (parts_of ls).0, (parts_of ls).1)
 
 -- the parts of bytes that stand at a line's front, or within a line
-pub parts_at : Bool → List ℕ → Parts
+unfoldable pub parts_at : Bool → List ℕ → Parts
 parts_at true xs = sections_in xs
 parts_at false xs = parts_within (lines_of xs)
 

@@ -2,6 +2,7 @@ pub mod Bundle
 pub mod Cell
 pub mod Columns
 pub mod FaultText
+pub mod Joined
 pub mod Left
 pub mod Name
 pub mod Next

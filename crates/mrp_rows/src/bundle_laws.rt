@@ -2,6 +2,7 @@
 
 ghost use Rattle.std.specs.Prelude.{ℕ, List};
 ghost use Rattle.mrp_rows.specs.declared.fault.Table.{Table};
+ghost use Rattle.mrp_rows.specs.Joined.{ComeApart, Part};
 ghost use Rattle.mrp_rows.specs.Together.{PartsAreTogether, HasNoOther, DropsOneMark, NamesItsTable, TextsAreSections};
 
 /// What stands before the first section line, and each section line with what follows it, are
@@ -28,4 +29,9 @@ pub fn section_lines_name_tables()
 /// Each section of an accepted bundle names a table, and its text is that table's.
 pub fn texts_are_sections()
     ensures { (bytes : List ℕ) → TextsAreSections bytes }
+{}
+
+/// The sections of joined tables are those tables' own, unless one has a section line in it.
+pub fn joined_tables_come_apart()
+    ensures { (parts : List Part) → ComeApart parts }
 {}

@@ -28,6 +28,7 @@ pub enum Table {
 }
 
 impl Table {
+    ghost use Rattle.mrp_rows.specs.FaultText.{table_name};
     ghost use Rattle.mrp_rows.specs.Tables.{table_index};
 
     /// The table's place in the order of faults, from 0; 9 for the bundle.
@@ -36,6 +37,24 @@ impl Table {
         ensures small { result < 10 }
     {
         self as usize
+    }
+
+    /// The table's name, as in its section line: `calendar`, `items` and so on.
+    pub fn name(self) -> &'static str
+        ensures { result.now ≡ table_name self }
+    {
+        match self {
+            Table::Calendar => "calendar",
+            Table::Items => "items",
+            Table::Centres => "centres",
+            Table::Stock => "stock",
+            Table::Receipts => "receipts",
+            Table::Bills => "bills",
+            Table::Routings => "routings",
+            Table::Master => "master",
+            Table::Script => "script",
+            Table::Bundle => "bundle",
+        }
     }
 }
 

@@ -1,28 +1,11 @@
 //! The texts of faults.
 
 ghost use Rattle.std.specs.Prelude.{◌≡◌, IfOk, string_bytes};
-ghost use Rattle.mrp_rows.specs.FaultText.{fault_name, table_name, text_of_fault};
+ghost use Rattle.mrp_rows.specs.FaultText.{fault_name, text_of_fault};
 
-use crate::fault::{Fault, Table};
+use crate::fault::Fault;
 use mrp_qty::NoMemory;
 use std::alloc::Global;
-
-fn name_of_table(table: Table) -> &'static str
-    ensures { result.now ≡ table_name table }
-{
-    match table {
-        Table::Calendar => "calendar",
-        Table::Items => "items",
-        Table::Centres => "centres",
-        Table::Stock => "stock",
-        Table::Receipts => "receipts",
-        Table::Bills => "bills",
-        Table::Routings => "routings",
-        Table::Master => "master",
-        Table::Script => "script",
-        Table::Bundle => "bundle",
-    }
-}
 
 fn name_of_fault(code: u8) -> &'static str
     ensures { result.now ≡ fault_name code }
@@ -63,7 +46,7 @@ pub fn fault_text(alloc: Global, fault: &Fault) -> Result<String, NoMemory>
 {
     let code = fault.code;
     let name = name_of_fault(code);
-    let table = name_of_table(fault.table);
+    let table = fault.table.name();
     let row = fault.row;
     Ok(format!(in alloc; "{code} {name} {table} {row}")?)
 }
