@@ -3,6 +3,7 @@
 mod bundle;
 mod cursor;
 mod fault_text;
+mod join;
 mod name;
 mod row;
 mod same;
