@@ -1,5 +1,6 @@
 -- How a command ends, by how its day ended.
 use Rattle.std.proofs.Common.{◌≡◌, ◌⊎◌, inl, inr, ℕ, List, Option, refl, sym, subst}
+use Rattle.std.specs.Prelude.{⊤}
 use Rattle.std.specs.Io.KnownBytes.{IsAtEnd}
 use Rattle.mrp_rows.specs.declared.fault.Fault.{Fault}
 use Rattle.mrp_rows.specs.declared.told.Told.{Told}
@@ -11,7 +12,7 @@ use Rattle.mrp_engine.specs.Day.{IsRefused, IsTooLarge}
 use Rattle.mrp_engine.specs.Run.{HasPassedLimits, IsBeforeWriting, IsRead, WritesDayFront}
 use Rattle.mrp_main.specs.declared.status.Status.{Status}
 use Rattle.mrp_main.specs.declared.status.Status.TheVariants.{Done, Refused, Usage, NoMemory, Stream}
-use Rattle.mrp_main.specs.Ends.{HasNoDay, PlanEnds}
+use Rattle.mrp_main.specs.Ends.{DayEnds, HasNoDay, PlanEnds}
 use Rattle.mrp_main.specs.Status.{IsStatusOf}
 
 -- what a day that was not written whole leaves, by its fault
@@ -42,3 +43,13 @@ refusal-ends remaining contents input read output written fault.Write status lef
     (let (text, tells, front) = left.front refl in inr (left.gave_up refl, (text, tells, front)))
 refusal-ends remaining contents input read output written fault.NoMemory status left is =
     subst (λ (s : Status). PlanEnds remaining contents input read output written s) (sym is) (left.memory refl)
+
+-- what reading of a day's bytes could have failed by is no matter
+pub any_failure-ends : {W : Type 0} (contents : W → Option (List ℕ)) (given : Option (List ℕ)) (failed : Type 0) (output written : Told W) (status : Status)
+    → DayEnds contents given failed output written status → DayEnds contents given ⊤ output written status
+any_failure-ends contents given failed output written Done ends = ends
+any_failure-ends contents given failed output written Refused ends = ends
+any_failure-ends contents given failed output written Usage ends = ends
+any_failure-ends contents given failed output written NoMemory ends = ends
+any_failure-ends contents given failed output written Stream (inl (why, unwritten)) = inl (tt, unwritten)
+any_failure-ends contents given failed output written Stream (inr front) = inr front

@@ -1,7 +1,10 @@
 //! What the words of the command line ask for.
 
-ghost use Rattle.std.specs.Prelude.{IfOk};
-ghost use Rattle.mrp_main.specs.Request.{IsRequest};
+ghost use Rattle.std.specs.Prelude.{◌≡◌, IfOk, map};
+ghost use Rattle.std.specs.Int.{IsInRange};
+ghost use Rattle.std.specs.List.{list_any};
+ghost use Rattle.mrp_main.specs.Request as spec;
+ghost use Rattle.mrp_main.specs.Request.{IsRequestOf};
 
 use clap::error::ErrorKind;
 use clap::{Arg, ArgAction, ArgMatches, Command, Error};
@@ -14,11 +17,12 @@ const ABOUT: &str =
     "Plans a shop's materials: reads the tables of a bundle, answers its desks, and writes what to make and when.";
 
 const ABOUT_PLAN: &str =
-    "Reads a bundle from standard input, answers the calls of its script, and writes the history of these
-calls and the plan of each run to standard output.
+    "Reads a bundle from standard input, or the tables of a directory, answers the calls of the script, and
+writes the history of these calls and the report of each run to standard output.
 
 A bundle is a text of nine sections, each a line with its name in brackets, as [items], and the rows
-of a csv table. What is written is a text of sections in the same form: [history] has a row for each
+of a csv table. A directory has the same tables as files, calendar.csv, items.csv and so on; standard
+input is then not read, and a file that is not there is a section that is missing. What is written is a text of sections in the same form: [history] has a row for each
 call of the script, with its reply. Then, for each run, [run] says what was planned from, [promises]
 has a row for each master item and week, with its firm quantity and bookings, what is left of it and
 what is available to promise, and [plan] has a row for each item and week, with what is required,
@@ -26,13 +30,18 @@ what comes in, what starts and what is left.";
 
 const EXAMPLE: &str = "Example:
   mrp plan < shop.bundle > shop.day
+  mrp plan --dir shop > shop.day
 
 Exit status: 0 done, 1 refused, 2 usage, 3 no memory, 4 read or write failed.";
 
 /// What the words ask for.
+#[derive(Drop)]
 pub enum Request {
-    /// Plan the bundle of the input, by so many workers, 1 to 64.
-    Plan { workers: usize },
+    /// Plan the bundle of the input, or that of a directory's files, by so many workers, 1 to 64.
+    Plan {
+        workers: usize,
+        directory: Option<String>,
+    },
 }
 
 /// Why words ask for nothing that can be done.
@@ -62,12 +71,21 @@ fn workers<'a>(alloc: Global) -> Arg<'a> {
         .help("How many workers plan side by side, 1 to 64")
 }
 
+fn directory<'a>(alloc: Global) -> Arg<'a> {
+    Arg::new(alloc, "dir")
+        .long("dir")
+        .value_name("D")
+        .action(ArgAction::Set)
+        .help("Plans the tables D/calendar.csv, D/items.csv and so on in place of standard input")
+}
+
 fn command<'a>(alloc: Global) -> Result<Command<'a>, AllocError> {
     let plan = Command::new(alloc, "plan")
-        .about("Plans a bundle from standard input")
+        .about("Plans a bundle from standard input, or the tables of a directory")
         .long_about(ABOUT_PLAN)
         .after_help(EXAMPLE)
-        .arg(workers(alloc))?;
+        .arg(workers(alloc))?
+        .arg(directory(alloc))?;
     Command::new(alloc, "mrp")
         .about(ABOUT)
         .after_help(EXAMPLE)
@@ -90,27 +108,58 @@ fn no_request(alloc: Global, error: &Error) -> Result<NoRequest, AllocError> {
     }
 }
 
-fn request_of(matches: &ArgMatches<'_>) -> Request
-    ensures { IsRequest result }
+fn is_directory_option(word: &str) -> bool
+    ensures { result ≡ spec.is_directory_option word.now }
 {
-    let asked = match matches.subcommand_matches("plan") {
-        Some(plan) => plan.get_one::<u64>("workers"),
-        None => None,
-    };
-    match asked {
-        Some(workers) if (1..=64).contains(&workers) => Request::Plan {
-            workers: workers as usize,
-        },
-        _ => Request::Plan { workers: 1 },
+    word.starts_with("--dir")
+}
+
+// Whether one of the words is the option that names a directory.
+fn names_directory<S: AsStr>(words: &[S]) -> bool
+    ensures { result ≡ list_any (λ word. spec.is_directory_option (S.text word)) words.now }
+{
+    words
+        .iter()
+        .any(|word| is_directory_option(word.as_str()))
+}
+
+// How many workers are asked for, 1 to 64.
+fn workers_in(plan: &ArgMatches<'_>) -> usize
+    ensures { IsInRange 1 64 result }
+{
+    match plan.get_one::<u64>("workers") {
+        Some(workers) if (1..=64).contains(&workers) => workers as usize,
+        _ => 1,
     }
+}
+
+// What the words ask for, by clap's matches. These carry no fact on where a directory comes from, so
+// the words are looked at once more; clap has its name exactly where they have the option.
+fn request_of<S: AsStr>(
+    alloc: Global,
+    words: &[S],
+    matches: &ArgMatches<'_>,
+) -> Result<Request, AllocError>
+    ensures { IfOk result (IsRequestOf (map S.text words.now)) }
+{
+    let (workers, directory) = match matches.subcommand_matches("plan") {
+        Some(plan) => (workers_in(plan), plan.get_str("dir").unwrap_or("")),
+        None => (1, ""),
+    };
+    let directory = if names_directory(words) {
+        Some(String::from_str(alloc, directory)?)
+    } else {
+        None
+    };
+    Ok(Request::Plan { workers, directory })
 }
 
 /// What the words behind the program's name ask for.
 pub fn read_words<S: AsStr>(alloc: Global, words: &[S]) -> Result<Request, NoRequest>
-    ensures { IfOk result IsRequest }
+    ensures { IfOk result (IsRequestOf (map S.text words.now)) }
 {
     match command(alloc)?.try_get_matches_from(words) {
-        Ok(matches) => Ok(request_of(&matches)),
+        Ok(matches) => Ok(request_of(alloc, words, &matches)?),
         Err(error) => Err(no_request(alloc, &error)?),
     }
 }

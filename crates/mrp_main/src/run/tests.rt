@@ -1,9 +1,11 @@
 use super::*;
 use std::io;
 use std::io::ErrorKind;
+use std::rt::Files;
 use std::test::Fail;
 use std::thread::Threads;
 
+mod directories;
 mod lots;
 mod scripts;
 mod shops;
@@ -24,7 +26,7 @@ struct Left {
 }
 
 fn left_by(
-    rt: &(impl Alloc + Threads + Sync),
+    rt: &(impl Alloc + Files + Threads + Sync),
     alloc: Global,
     words: &[&str],
     input: &str,

@@ -166,7 +166,7 @@ const TUBE_MESSAGES: &str = "TUBE,planned,1,RELEASE,\n";
 
 // That a shop is planned as the bicycles in lots are, with these weeks, orders and messages behind
 // theirs, and these pegs of the wheels and of what is behind them.
-fn is_planned<R: Alloc + Abort + Threads + Sync>(
+fn is_planned<R: Alloc + Abort + Files + Threads + Sync>(
     rt: &R,
     alloc: Global,
     shop: &str,
