@@ -43,7 +43,7 @@ pub little_booked : (s : Supply) (bs : List Booking) → IsSupply s → AreBooke
 little_booked s bs supplied booked item week a b = by (get_or s.masters item false) refl
   where
     by : (v : Bool) → get_or s.masters item false ≡ v → due_in item week (lines_of bs) ≤ greatest_quantity
-    by true e = omega (arith, due_in-within item week (lines_of bs) a, booked.covered item week e (a, b), supplied.little item week)
+    by true e = omega (arith, due_in-within item week (lines_of bs) a, booked.covered item e week (a, b), supplied.little item week)
     by false e =
         let fails : ¬ IsMaster s item = λ (h : IsMaster s item). let bad : true ≡ false = sym h ∙ e in cc in
         omega (arith, nothing_of s item week bs fails booked.lines)

@@ -6,21 +6,25 @@ use Rattle.std.proofs.Common.{◌≡◌, ◌≢◌, ℕ, zero, suc, ◌+◌, ◌
 use Rattle.std.proofs.lemmas.Bool.{cases_eq, cases_lt}
 use Rattle.std.proofs.lemmas.List.{append-nil, get_or_default, get_or_past, get_or_push, get_or_append_left, get_or-set_other, get_or-set_same, length-set, length_push, map-append}
 use Rattle.std.proofs.lemmas.List.Elements.{All-filter, All-get_or, All-head, All-map, All-push, All-set, All-tail, All-weaker}
+use Rattle.std.proofs.lemmas.List.Kept.{AllPairs-filter}
+use Rattle.std.proofs.lemmas.List.Quantifiers.{all_pairs_push}
 use Rattle.mrp_master.specs.declared.line.Line.{Line}
-use Rattle.mrp_master.specs.Supply.{Supply, IsCovered, IsMaster, IsWeek, line}
+use Rattle.mrp_master.specs.Supply.{Supply, CanPromise, IsCovered, IsMaster, IsWeek, line}
 use Rattle.mrp_master.specs.AtpRow.{AtpRow, IsCoveredRow, IsWeekOf, atp_row, due_in, with_booking, without_booking}
 use Rattle.mrp_phase.specs.Weeks.{in_week}
 use Rattle.mrp_book.specs.declared.booking.Booking.{Booking}
 use Rattle.mrp_book.specs.declared.made.Made.{Made}
 use Rattle.mrp_book.specs.Booked.{AreBooked}
-use Rattle.mrp_book.specs.Bookings.{lines_of}
-use Rattle.mrp_book.specs.History.{CanPromise}
+use Rattle.mrp_book.specs.Bookings.{AreRising, lines_of}
 use Rattle.mrp_book.specs.Made.{HasRows, IsRising, KeepsState, standing_of}
 use Rattle.mrp_master.specs.AtpRow.{FromFirst}
 use Rattle.mrp_master.proofs.ItemRows.{booked_at_least, due_in-cons, part, row_fits, row_same_with, row_same_without, row_with, row_without, week_of_row}
-use Rattle.mrp_book.proofs.Earliest.{promise_fits}
+use Rattle.mrp_master.proofs.Promises.{promise_fits}
 use Rattle.mrp_book.proofs.Numbers.{cancelled, find-at, has_number, is_other, nothing_made, others-at, others_differ, standing_of-cons, standing_of-push}
 use Rattle.mrp_book.proofs.Standings.{covered-fewer}
+
+abbrev IsBefore : Booking → Booking → Type 0
+IsBefore a b = a.number < b.number
 
 -- lines of the horizon are due from week 1 on
 pub from_first : (s : Supply) (bs : List Booking) → AreBooked s bs → FromFirst (lines_of bs)
@@ -102,6 +106,16 @@ module _ (s : Supply) (entries : ℕ) (rows : List (Option AtpRow)) (made : List
             omega (arith, ap (λ (x : Made). x.booking.number) first, ap (λ (x : Made). x.booking.number) second)
       ]
 
+  numbers_entered : All (λ (b : Booking). b.number ≤ entries) (standing_of made)
+  numbers_entered =
+      All-map (λ (b : Booking). b.number ≤ entries) (λ (m : Made). m.booking) (filter (λ (m : Made). m.stands) made)
+      (All-filter (λ (m : Made). m.stands) (λ (m : Made). m.booking.number ≤ entries) made k.by_entries)
+
+  rising-booked : (b : Booking) → b.number ≡ entries + 1 → AreRising (standing_of made ++ b ∷ [])
+  rising-booked b numbered = all_pairs_push IsBefore (standing_of made) b k.booked.rising (λ i d inside.
+      let old : (get_or (standing_of made) i d).number ≤ entries = All-get_or (λ (b : Booking). b.number ≤ entries) (standing_of made) i d inside numbers_entered in
+      omega (arith, numbered))
+
   -- A booking.
 
   module _ (b : Booking) (master : IsMaster s b.line.item) (week : IsWeek s b.line.week) where
@@ -119,7 +133,7 @@ module _ (s : Supply) (entries : ℕ) (rows : List (Option AtpRow)) (made : List
         let same : Some (atp_row s b.line.item due) ≡ Some r = sym (row_found b.line.item found master here) ∙ is in
         let own : atp_row s b.line.item due ≡ r = cc in
         let all : FromFirst due = from_first s (standing_of made) k.booked in
-        let fits : IsCovered s (due ++ line b.line.item b.line.week b.line.quantity ∷ []) = promise_fits s k.supplied b.line.item master due all k.booked.covered b.line.week b.line.quantity can in
+        let fits : IsCovered s (due ++ line b.line.item b.line.week b.line.quantity ∷ []) = promise_fits s due b.line.item b.line.week b.line.quantity can in
         subst (λ (x : AtpRow). IsCoveredRow (with_booking x b.line.week b.line.quantity)) own (row_fits s k.supplied b.line.item master due all k.booked.covered b.line.week b.line.quantity week fits)
 
     pub keeps_booking : b.number ≡ entries + 1 → entries < 1000000 → CanPromise s due b.line.item b.line.quantity b.line.week
@@ -129,7 +143,7 @@ module _ (s : Supply) (entries : ℕ) (rows : List (Option AtpRow)) (made : List
         let m : Made = record { booking = b; stands = true } in
         let later : List Booking = standing_of made ++ b ∷ [] in
         let all : FromFirst due = from_first s (standing_of made) k.booked in
-        let fits : IsCovered s (due ++ b.line ∷ []) = promise_fits s k.supplied b.line.item master due all k.booked.covered b.line.week b.line.quantity can in
+        let fits : IsCovered s (due ++ b.line ∷ []) = promise_fits s due b.line.item b.line.week b.line.quantity can in
         let row : new ≡ Some (atp_row s b.line.item (lines_of later)) =
         taken ∙ ap (option_map (λ (r : AtpRow). with_booking r b.line.week b.line.quantity)) (row_found b.line.item found master here)
         ∙ ap Some (row_with s b.line.item due b.line.week b.line.quantity week ∙ ap (atp_row s b.line.item) (sym lines-push)) in
@@ -141,6 +155,7 @@ module _ (s : Supply) (entries : ℕ) (rows : List (Option AtpRow)) (made : List
           booked = subst (AreBooked s) (sym stand) (record {
             lines = All-push (λ (b : Booking). IsMaster s b.line.item × IsWeek s b.line.week) (standing_of made) b k.booked.lines (master, week);
             covered = subst (IsCovered s) (sym lines-push) fits;
+            rising = rising-booked b numbered;
           });
           rising = rising-push m numbered;
           by_entries = All-push (λ (m : Made). m.booking.number ≤ entries + 1) made m (All-weaker (λ (m : Made). m.booking.number ≤ entries) (λ (m : Made). m.booking.number ≤ entries + 1) (λ m h. omega arith) made k.by_entries) (omega (arith, numbered));
@@ -245,6 +260,7 @@ module _ (s : Supply) (entries : ℕ) (rows : List (Option AtpRow)) (made : List
             booked = subst (AreBooked s) (sym standing_after_cancel) (record {
               lines = All-filter (is_other m.booking.number) (λ (b : Booking). IsMaster s b.line.item × IsWeek s b.line.week) (standing_of made) k.booked.lines;
               covered = fewer_covered;
+              rising = AllPairs-filter IsBefore (is_other m.booking.number) (standing_of made) k.booked.rising;
             });
             rising = rising-after;
             by_entries = All-weaker (λ (m : Made). m.booking.number ≤ entries) (λ (m : Made). m.booking.number ≤ entries + 1) (λ m h. omega arith) after

@@ -1,23 +1,25 @@
 -- Legal histories: each prefix is covered, and the calls decide the replies.
-use Rattle.std.proofs.Common.{ℕ, ◌≡◌, ◌≤◌, ◌<◌, ◌⊎◌, inl, inr, true, false, if◌then◌else◌, nat_le, List, [], ◌∷◌, ◌++◌, Option, Some, None, arith, refl, sym, ◌∙◌, ap, subst}
+use Rattle.std.proofs.Common.{ℕ, ◌≡◌, ◌≤◌, ◌<◌, ◌⊎◌, inl, inr, true, false, if◌then◌else◌, nat_le, List, [], ◌∷◌, ◌++◌, arith, refl, sym, ◌∙◌, ap, subst}
 use Rattle.std.proofs.lemmas.Bool.Decides.{nat_tests}
-use Rattle.std.specs.Prelude.{All, filter}
+use Rattle.std.specs.Prelude.{All, ◌==◌, filter, find}
 use Rattle.std.proofs.lemmas.List.{append-nil, map-append}
-use Rattle.std.proofs.lemmas.List.Elements.{All-append, All-cons, All-filter, All-nil}
+use Rattle.std.proofs.lemmas.List.Elements.{All-append, All-cons, All-filter, All-head, All-nil, All-tail}
 use Rattle.mrp_turn.specs.declared.log.Entry.{Entry}
 use Rattle.mrp_book.specs.declared.booking.Booking.{Booking}
 use Rattle.mrp_book.specs.declared.call.Call.{Call}
 use Rattle.mrp_book.specs.declared.call.Call.TheVariants as call
 use Rattle.mrp_book.specs.declared.reply.Reply.{Reply}
 use Rattle.mrp_book.specs.declared.reply.Reply.TheVariants as reply
-use Rattle.mrp_master.specs.declared.line.Line.{Line}
-use Rattle.mrp_master.specs.Supply.{Supply, IsCovered, IsMaster, IsWeek}
+use Rattle.mrp_master.specs.Lines.{IsLine}
+use Rattle.mrp_master.specs.Supply.{Supply, IsCovered, available}
 use Rattle.mrp_book.specs.Bookings.{lines_of}
+use Rattle.mrp_turn.specs.Log.{IsSeatNumber, entry}
 use Rattle.mrp_book.specs.Standing.{History, standing, kept, booking_of, booked}
-use Rattle.mrp_book.specs.History.{next_number, Fits, IsEarliest, week_reply, IsReply, MayFollow, IsLegal, asked}
-use Rattle.mrp_master.proofs.Available.{available_unique}
+use Rattle.mrp_book.specs.History.{next_number, Fits, cancel_reply, week_reply, IsReply, MayFollow, IsLegal, asked}
+use Rattle.mrp_master.proofs.Available.{available_unique, covered-less}
+use Rattle.mrp_master.proofs.Promises.{available_is, earliest_is, earliest_unique}
 use Rattle.mrp_book.proofs.Logs.{InTurn, walk, each-none, each-more, each-front, one-more}
-use Rattle.mrp_book.proofs.Standings.{standing-more, not_cancelled, covered-fewer, covered-less}
+use Rattle.mrp_book.proofs.Standings.{standing-more, not_cancelled, covered-fewer}
 
 pub le_or_lt : (a b : ℕ) → (a ≤ b) ⊎ (b < a)
 le_or_lt a b = grind (arith, nat_tests)
@@ -73,7 +75,7 @@ module _ (s : Supply) where
 
   nothing-covered : IsCovered s (booked [])
   unfolding standing
-  nothing-covered i t m w = omega arith
+  nothing-covered i m t w = omega arith
 
   -- a legal history is covered, and so is each front of it
   pub legal-covered : (h : History) → IsLegal s h → IsCovered s (booked h)
@@ -84,52 +86,72 @@ module _ (s : Supply) where
 
   -- What stands is of the shop.
 
-  abbrev pub IsInShop : Booking → Type 0
-  IsInShop b = IsMaster s b.line.item × IsWeek s b.line.week
+  abbrev pub IsOfShop : Booking → Type 0
+  IsOfShop b = IsLine s b.line
 
-  made_in_shop : (desk : ℕ) (c : Call) (r : Reply) → Fits s c → All IsInShop (kept [] (booking_of desk c r))
-  made_in_shop desk (call.Book l) (reply.Booked n) fits = All-cons IsInShop _ [] fits (All-nil IsInShop)
-  made_in_shop desk c r fits = All-nil IsInShop
+  made_of_shop : (desk : ℕ) (c : Call) (r : Reply) → Fits s c → All IsOfShop (kept [] (booking_of desk c r))
+  made_of_shop desk (call.Book l) (reply.Booked n) fits = All-cons IsOfShop _ [] fits (All-nil IsOfShop)
+  made_of_shop desk c r fits = All-nil IsOfShop
 
-  lines-more : (h : History) (e : E) → MayFollow s h e → All IsInShop (standing h) → All IsInShop (standing (h ++ e ∷ []))
+  lines-more : (h : History) (e : E) → MayFollow s h e → All IsOfShop (standing h) → All IsOfShop (standing (h ++ e ∷ []))
   lines-more h e m all =
-      subst (All IsInShop) (sym (standing-more h e))
-      (All-append IsInShop (filter (not_cancelled e.call e.reply) (standing h)) (kept [] (booking_of e.who e.call e.reply))
-      (All-filter (not_cancelled e.call e.reply) IsInShop (standing h) all) (made_in_shop e.who e.call e.reply m.2))
+      subst (All IsOfShop) (sym (standing-more h e))
+      (All-append IsOfShop (filter (not_cancelled e.call e.reply) (standing h)) (kept [] (booking_of e.who e.call e.reply))
+      (All-filter (not_cancelled e.call e.reply) IsOfShop (standing h) all) (made_of_shop e.who e.call e.reply m.2))
 
-  lines-from : (before h : History) → IsLegalFrom s before h → All IsInShop (standing before) → All IsInShop (standing (before ++ h))
-  lines-from before [] w all = subst (λ x. All IsInShop (standing x)) (sym (append-nil before)) all
-  lines-from before (e ∷ h) w all = subst (λ x. All IsInShop (standing x)) (sym (one-more before e h)) (lines-from (before ++ e ∷ []) h w.1 (lines-more before e w.0 all))
+  lines-from : (before h : History) → IsLegalFrom s before h → All IsOfShop (standing before) → All IsOfShop (standing (before ++ h))
+  lines-from before [] w all = subst (λ x. All IsOfShop (standing x)) (sym (append-nil before)) all
+  lines-from before (e ∷ h) w all = subst (λ x. All IsOfShop (standing x)) (sym (one-more before e h)) (lines-from (before ++ e ∷ []) h w.1 (lines-more before e w.0 all))
 
-  nothing-in-shop : All IsInShop (standing [])
+  nothing-of-shop : All IsOfShop (standing [])
   unfolding standing
-  nothing-in-shop = All-nil IsInShop
+  nothing-of-shop = All-nil IsOfShop
 
-  pub legal-lines : (h : History) → IsLegal s h → All IsInShop (standing h)
-  legal-lines h legal = lines-from [] h (walk (MayFollow s) [] h legal) nothing-in-shop
+  pub legal-lines : (h : History) → IsLegal s h → All IsOfShop (standing h)
+  legal-lines h legal = lines-from [] h (walk (MayFollow s) [] h legal) nothing-of-shop
 
   -- The calls decide the replies.
-
-  earliest-unique : (lines : List Line) (item q : ℕ) (v w : Option ℕ) → IsEarliest s lines item q v → IsEarliest s lines item q w → v ≡ w
-  earliest-unique lines item q None None a b = refl
-  earliest-unique lines item q None (Some w) a b = absurd (a w b.0 b.1)
-  earliest-unique lines item q (Some v) None a b = absurd (b v a.0 a.1)
-  earliest-unique lines item q (Some v) (Some w) a b = elim (le_or_lt v w) [
-    | inl less ↦ elim (le_or_lt w v) [
-      | inl more ↦ let e : v ≡ w = omega arith in ap Some e
-      | inr sooner ↦ absurd (b.2 v a.0 sooner a.1)
-    ]
-    | inr sooner ↦ absurd (a.2 w b.0 sooner b.1)
-  ]
 
   pub reply-unique : (h : History) (desk : ℕ) (c : Call) (q r : Reply) → IsReply s h desk c q → IsReply s h desk c r → q ≡ r
   reply-unique h desk (call.Book l) q r (a, x, e) (b, y, f) =
       e ∙ ap (λ n. if nat_le l.quantity n then reply.Booked (next_number h) else reply.Short n) (available_unique s (booked h) l.item l.week a b x y) ∙ sym f
   reply-unique h desk (call.Cancel n) q r e f = e ∙ sym f
   reply-unique h desk (call.Ask p) q r (a, x, e) (b, y, f) = e ∙ ap reply.Available (available_unique s (booked h) p.item p.week a b x y) ∙ sym f
-  reply-unique h desk (call.When w) q r (a, x, e) (b, y, f) = e ∙ ap week_reply (earliest-unique (booked h) w.item w.quantity a b x y) ∙ sym f
+  reply-unique h desk (call.When w) q r (a, x, e) (b, y, f) = e ∙ ap week_reply (earliest_unique s (booked h) w.item w.quantity a b x y) ∙ sym f
   reply-unique h desk call.Snapshot q r e f = e ∙ sym f
   reply-unique h desk call.Front q r e f = e ∙ sym f
+
+  -- each call that fits has a reply
+  pub reply-some : (h : History) (desk : ℕ) (c : Call) → IsLegal s h → Fits s c → (r : Reply) × IsReply s h desk c r
+  reply-some h desk (call.Book l) legal fits =
+      let a : ℕ = available s (booked h) l.item l.week in
+      ((if nat_le l.quantity a then reply.Booked (next_number h) else reply.Short a), (a, available_is s (booked h) l.item fits.item (legal-covered h legal) l.week fits.week, refl))
+  reply-some h desk (call.Cancel n) legal fits = (cancel_reply desk (find (λ b. b.number == n) (standing h)), refl)
+  reply-some h desk (call.Ask p) legal fits =
+      let a : ℕ = available s (booked h) p.item p.week in
+      (reply.Available a, (a, available_is s (booked h) p.item fits.item (legal-covered h legal) p.week fits.week, refl))
+  reply-some h desk (call.When w) legal fits =
+      let first = earliest_is s (booked h) w.item fits.item (legal-covered h legal) w.quantity in
+      (week_reply first.0, (first.0, first.1, refl))
+  reply-some h desk call.Snapshot legal fits = (reply.Taken (record { front = next_number h; weeks = s.weeks; standing = standing h }), refl)
+  reply-some h desk call.Front legal fits = (reply.Front (next_number h), refl)
+
+  -- desks' calls that fit, after a history
+  abbrev pub MayCall : ℕ × Call → Type 0
+  MayCall a = IsSeatNumber a.0 × Fits s a.1
+
+  some-from : (before : History) (calls : List (ℕ × Call)) → IsLegal s before → All MayCall calls → (h : History) × IsLegal s h × (asked h ≡ asked before ++ calls)
+  some-from before [] legal all = (before, legal, sym (append-nil (asked before)))
+  some-from before (a ∷ calls) legal all =
+      let may : MayCall a = All-head MayCall a calls all in
+      let r = reply-some before a.0 a.1 legal may.1 in
+      let e : E = entry a.0 a.1 r.0 in
+      let rest = some-from (before ++ e ∷ []) calls (legal-more before e legal (may.0, r.1, may.1)) (All-tail MayCall a calls all) in
+      (rest.0, rest.1, rest.2 ∙ ap (λ (x : List (ℕ × Call)). x ++ calls) (map-append (λ (x : E). (x.who, x.call)) before (e ∷ [])) ∙ sym (one-more (asked before) a calls))
+
+  -- calls that fit have a legal history
+  pub history-some : (calls : List (ℕ × Call)) → All MayCall calls → (h : History) × IsLegal s h × (asked h ≡ calls)
+  history-some calls all = some-from [] calls legal-none all
 
   abbrev one_asked : E → ℕ × Call
   one_asked e = (e.who, e.call)

@@ -3,7 +3,6 @@ pub mod Standings
 pub mod Histories
 pub mod Promised
 pub mod Numbers
-pub mod Earliest
 pub mod AllRows
 pub mod States
 pub mod Demands

@@ -9,7 +9,7 @@ use Rattle.std.proofs.lemmas.List.Quantifiers.{all_pairs_push}
 use Rattle.mrp_turn.specs.declared.log.Entry.{Entry}
 use Rattle.mrp_turn.specs.Log.{entry, AreFrom}
 use Rattle.mrp_master.specs.declared.line.Line.{Line}
-use Rattle.mrp_master.specs.Supply.{Supply}
+use Rattle.mrp_master.specs.Supply.{CanPromise, Supply}
 use Rattle.mrp_book.specs.declared.booking.Booking.{Booking}
 use Rattle.mrp_book.specs.declared.call.Call.{Call}
 use Rattle.mrp_book.specs.declared.call.Call.TheVariants as call
@@ -17,7 +17,7 @@ use Rattle.mrp_book.specs.declared.reply.Reply.{Reply}
 use Rattle.mrp_book.specs.declared.reply.Reply.TheVariants as reply
 use Rattle.mrp_book.specs.Snapshot.{Snapshot}
 use Rattle.mrp_book.specs.Standing.{History, standing, kept, booking_of, booked}
-use Rattle.mrp_book.specs.History.{next_number, CanPromise, cancel_reply, week_reply, IsReply, IsLegal, MayFollow}
+use Rattle.mrp_book.specs.History.{next_number, cancel_reply, week_reply, IsReply, IsLegal, MayFollow}
 use Rattle.mrp_book.proofs.Logs.{walk, one-more}
 use Rattle.mrp_book.proofs.Standings.{standing_after, standing-more, not_cancelled}
 use Rattle.mrp_book.proofs.Histories.{IsLegalFrom, le_or_lt}

@@ -2,7 +2,6 @@
 use Rattle.std.specs.Prelude.{filter, not}
 use Rattle.std.specs.List.{list_any}
 use Rattle.std.proofs.Common.{ℕ, ◌≡◌, ◌≤◌, ◌+◌, ◌==◌, ◌&&◌, ◌||◌, Bool, true, false, if◌then◌else◌, nat_le, List, [], ◌∷◌, ◌++◌, take, drop, Option, Some, None, arith, refl, sym, ◌∙◌, ap, append_assoc}
-use Rattle.std.proofs.lemmas.Bool.Decides.{nat_tests}
 use Rattle.std.proofs.lemmas.List.{append-nil, map-append, take-append-drop}
 use Rattle.std.proofs.lemmas.List.Elements.{filter-append}
 use Rattle.std.proofs.lemmas.List.Folds.{list_any-append}
@@ -15,10 +14,9 @@ use Rattle.mrp_book.specs.declared.call.Call.TheVariants as call
 use Rattle.mrp_book.specs.declared.reply.Reply.{Reply}
 use Rattle.mrp_book.specs.declared.reply.Reply.TheVariants as reply
 use Rattle.mrp_turn.specs.Log.{entry}
-use Rattle.mrp_master.specs.Supply.{Supply, due_by, supply, line, IsCovered}
+use Rattle.mrp_master.specs.Supply.{Supply, due_by, supply, IsCovered}
 use Rattle.mrp_book.specs.Standing.{History, standing, kept, booking_of, is_cancel_of, is_cancelled_in, stands_after}
 use Rattle.mrp_book.specs.Bookings.{lines_of}
-use Rattle.mrp_master.proofs.Available.{share, due_by_more}
 
 -- the bookings that an entry leaves
 abbrev pub not_cancelled : Call → Reply → Booking → Bool
@@ -108,21 +106,9 @@ due_by-fewer item week p (b ∷ bs) =
     ]
 
 pub covered-fewer : (s : Supply) (p : Booking → Bool) (bs more : List Booking) → IsCovered s (lines_of (bs ++ more)) → IsCovered s (lines_of (filter p bs ++ more))
-covered-fewer s p bs more c i t m w =
-    let a : due_by i t (lines_of (bs ++ more)) ≤ supply s i t = c i t m w in
+covered-fewer s p bs more c i m t w =
+    let a : due_by i t (lines_of (bs ++ more)) ≤ supply s i t = c i m t w in
     let e : due_by i t (lines_of (bs ++ more)) ≡ due_by i t (lines_of bs) + due_by i t (lines_of more) = ap (due_by i t) (map-append (λ b. b.line) bs more) ∙ due_by-append i t (lines_of bs) (lines_of more) in
     let f : due_by i t (lines_of (filter p bs ++ more)) ≡ due_by i t (lines_of (filter p bs)) + due_by i t (lines_of more) = ap (due_by i t) (map-append (λ b. b.line) (filter p bs) more) ∙ due_by-append i t (lines_of (filter p bs)) (lines_of more) in
     let g = due_by-fewer i t p bs in
-    omega arith
-
--- less of the same
-share-mono : (item week i w q r : ℕ) → q ≤ r → share item week i w q ≤ share item week i w r
-share-mono item week i w q r h = grind (arith, nat_tests)
-
-pub covered-less : (s : Supply) (lines : List Line) (i w q r : ℕ) → q ≤ r → IsCovered s (lines ++ line i w r ∷ []) → IsCovered s (lines ++ line i w q ∷ [])
-covered-less s lines i w q r less c j t m inside =
-    let a : due_by j t (lines ++ line i w r ∷ []) ≤ supply s j t = c j t m inside in
-    let e = due_by_more lines j t i w r in
-    let f = due_by_more lines j t i w q in
-    let g = share-mono j t i w q r less in
     omega arith

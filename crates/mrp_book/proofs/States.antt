@@ -24,7 +24,7 @@ state_more s h desk c r = λ i. record { supply = s; entries = length_push h (en
 
 -- a book without an entry
 pub keeps_none : (b : BookState) (h : History) (s : Supply) → b ≡ record { supply = s; entries = 0; standing = [] } → h ≡ [] → KeepsHistory b h
-keeps_none b h s opened none = subst (KeepsHistory b) (sym none) (subst (λ x. KeepsHistory x []) (sym (opened ∙ sym (state_none s))) (record { legal = legal-none s; few = omega arith; left = refl }))
+keeps_none b h s opened none = subst (KeepsHistory b) (sym none) (subst (λ x. KeepsHistory x []) (sym (opened ∙ sym (state_none s))) (record { history = record { legal = legal-none s; few = omega arith }; left = refl }))
 
 -- a book with one more entry
 pub keeps_more : (b after : BookState) (h longer : History) (e : Entry Call Reply) → longer ≡ h ++ e ∷ [] → after ≡ state_after b e.who e.call e.reply
@@ -33,7 +33,6 @@ keeps_more b after h longer e made stepped k few follows =
     let s : Supply = b.supply in
     let same : after ≡ state_of s (h ++ e ∷ []) = stepped ∙ ap (λ x. state_after x e.who e.call e.reply) k.left ∙ sym (state_more s h e.who e.call e.reply) in
     subst (KeepsHistory after) (sym made) (subst (λ x. KeepsHistory x (h ++ e ∷ [])) (sym same) (record {
-      legal = legal-more s h e k.legal follows;
-      few = omega (arith, length_push h e);
+      history = record { legal = legal-more s h e k.history.legal follows; few = omega (arith, length_push h e) };
       left = refl;
     }))

@@ -2,9 +2,10 @@
 use Rattle.std.specs.Prelude.{List, All}
 use Rattle.mrp_book.specs.declared.booking.Booking.{Booking}
 use Rattle.mrp_master.specs.Supply.{Supply, IsCovered, IsMaster, IsWeek}
-use Rattle.mrp_book.specs.Bookings.{lines_of}
+use Rattle.mrp_book.specs.Bookings.{AreRising, lines_of}
 
--- each booking is of a master item, in a week of the horizon, and together they are covered
+-- each booking is of a master item, in a week of the horizon, together they are covered, and their numbers rise
 pub record AreBooked (s : Supply) (bookings : List Booking) : Type 0 where
   pub lines : All (λ b. IsMaster s b.line.item × IsWeek s b.line.week) bookings
   pub covered : IsCovered s (lines_of bookings)
+  pub rising : AreRising bookings

@@ -10,8 +10,12 @@ pub record OrderBook : Type 0 where
   pub supply : Supply
   pub entries : History
 
--- a book's entries are legal and within its limit, and leave its state
-pub record KeepsHistory (state : BookState) (h : History) : Type 0 where
-  pub legal : IsLegal state.supply h
+-- the entries of a history are legal, and no more than a book takes
+pub record IsHistory (s : Supply) (h : History) : Type 0 where
+  pub legal : IsLegal s h
   pub few : length h ≤ 1000000
+
+-- a book's entries are a history, and leave its state
+pub record KeepsHistory (state : BookState) (h : History) : Type 0 where
+  pub history : IsHistory state.supply h
   pub left : state ≡ state_of state.supply h

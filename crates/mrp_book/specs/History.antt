@@ -7,7 +7,8 @@ use Rattle.mrp_book.specs.declared.call.Call.TheVariants as call
 use Rattle.mrp_book.specs.declared.reply.Reply.{Reply}
 use Rattle.mrp_book.specs.declared.reply.Reply.TheVariants as reply
 use Rattle.mrp_master.specs.declared.line.Line.{Line}
-use Rattle.mrp_master.specs.Supply.{Supply, IsMaster, IsWeek, IsAvailable}
+use Rattle.mrp_master.specs.Lines.{IsLine, IsSpot, IsWish}
+use Rattle.mrp_master.specs.Supply.{Supply, CanPromise, IsAvailable, IsEarliest}
 use Rattle.mrp_turn.specs.Log.{EachFollows, IsSeatNumber}
 use Rattle.mrp_book.specs.BookState.{BookState}
 use Rattle.mrp_book.specs.Bookings.{lines_of}
@@ -16,17 +17,6 @@ use Rattle.mrp_book.specs.Standing.{History, standing, stands_after}
 -- the number of the entry after a history
 abbrev pub next_number : History → ℕ
 next_number h = length h + 1
-
--- so much of an item can be promised in a week
-abbrev pub CanPromise : Supply → List Line → ℕ → ℕ → ℕ → Type 0
-CanPromise s booked item quantity week = (available : ℕ) × IsAvailable s booked item week available × (quantity ≤ available)
-
--- the least week in which so much can be promised, or none
-abbrev pub IsEarliest : Supply → List Line → ℕ → ℕ → Option ℕ → Type 0
-IsEarliest s booked item quantity None = (week : ℕ) → IsWeek s week → ¬ CanPromise s booked item quantity week
-IsEarliest s booked item quantity (Some week) =
-    IsWeek s week × CanPromise s booked item quantity week
-    × ((sooner : ℕ) → IsWeek s sooner → sooner < week → ¬ CanPromise s booked item quantity sooner)
 
 abbrev pub week_reply : Option ℕ → Reply
 week_reply None = reply.NoWeek
@@ -60,11 +50,11 @@ state_of s h = record { supply = s; entries = length h; standing = standing h }
 abbrev pub IsReply : Supply → History → ℕ → Call → Reply → Type 0
 IsReply s h desk c r = IsReplyIn (state_of s h) desk c r
 
--- a call whose item is a master item of the shop, in a week of its horizon
+-- a call whose line, spot or wish is one of the shop
 abbrev pub Fits : Supply → Call → Type 0
-Fits s (call.Book l) = IsMaster s l.item × IsWeek s l.week
-Fits s (call.Ask p) = IsMaster s p.item × IsWeek s p.week
-Fits s (call.When w) = IsMaster s w.item
+Fits s (call.Book l) = IsLine s l
+Fits s (call.Ask p) = IsSpot s p
+Fits s (call.When w) = IsWish s w
 Fits s (call.Cancel n) = Unit {0}
 Fits s call.Snapshot = Unit {0}
 Fits s call.Front = Unit {0}
@@ -85,11 +75,11 @@ IsLimit entries = 1000000 ≤ entries
 abbrev pub IsFull : History → Type 0
 IsFull h = IsLimit (length h)
 
--- a call that can be refused for want of memory
-abbrev pub TakesMemory : Call → Type 0
-TakesMemory (call.Book l) = Unit {0}
-TakesMemory call.Snapshot = Unit {0}
-TakesMemory c = ⊥
+-- a call that takes memory in a state: a booking that can be promised, and a snapshot
+abbrev pub TakesMemory : BookState → Call → Type 0
+TakesMemory b (call.Book l) = CanPromise b.supply (lines_of b.standing) l.item l.quantity l.week
+TakesMemory b call.Snapshot = Unit {0}
+TakesMemory b c = ⊥
 
 -- a reply that has a snapshot
 abbrev pub HasSnapshot : Reply → Type 0

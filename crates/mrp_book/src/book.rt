@@ -29,7 +29,7 @@ impl Model for Book {
 }
 
 impl Book {
-    ghost use Rattle.std.specs.Prelude.{◌≡◌, ◌↔◌, ◌++◌, ◌∷◌, ◌≤◌, [], length, Err, IfOk, OnErr};
+    ghost use Rattle.std.specs.Prelude.{◌≡◌, ◌↔◌, ◌++◌, ◌∷◌, ◌≤◌, [], length, Err, IfOk, IsTrue, OnErr};
     ghost use Rattle.std.specs.Int.{IsInRange};
     ghost use Rattle.mrp_turn.specs.Log.{entry};
     ghost use Rattle.mrp_master.specs.Supply.{supply_of};
@@ -77,6 +77,13 @@ impl Book {
         Ok((number, reply))
     }
 
+    /// Whether the book has 1,000,000 entries: every call is refused then.
+    pub fn is_full(&self) -> bool
+        ensures { IsTrue result ↔ IsFull self.now.entries }
+    {
+        self.state.is_full()
+    }
+
     /// The entries. An entry's number is its place, from 1.
     pub fn entries(&self) -> &[Entry<Call, Reply>]
         ensures entries { result.now ≡ self.now.entries }
@@ -91,6 +98,9 @@ impl Book {
         ensures { result ≡ self }
     {
         let Book { state, entries } = self;
-        History::new(state.into_supply(), entries)
+        let Some(history) = History::new(state.into_supply(), entries) else {
+            unreachable!()
+        };
+        history
     }
 }

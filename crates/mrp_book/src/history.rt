@@ -2,12 +2,14 @@
 
 use crate::call::Call;
 use crate::reply::Reply;
+use crate::state::MOST_ENTRIES;
 use mrp_master::Supply;
 use mrp_turn::Entry;
 use std::marker::Model;
 
 /// What an order book was asked and what it replied, entry by entry, with the supply that it
-/// promised of. It is legal: the entries before an entry decide its reply.
+/// promised of. It is legal: the entries before an entry decide its reply; and it has at most
+/// 1,000,000 of them.
 #[derive(Drop)]
 pub struct History {
     supply: Supply,
@@ -15,34 +17,38 @@ pub struct History {
 }
 
 impl Model for History {
-    ghost use Rattle.mrp_book.specs.Books.{OrderBook};
-    ghost use Rattle.mrp_book.specs.History.{IsLegal};
+    ghost use Rattle.mrp_book.specs.Books.{IsHistory, OrderBook};
 
     ghost Value = { OrderBook };
 
     ghost view = { λ h. record { supply = h.supply; entries = h.entries.items } };
 
-    ghost invariant = { λ h. IsLegal h.supply h.entries.items };
+    ghost invariant = { λ h. IsHistory h.supply h.entries.items };
 }
 
 impl History {
-    ghost use Rattle.std.specs.Prelude.{◌≡◌};
+    ghost use Rattle.std.specs.Prelude.{◌≡◌, ◌↔◌, ◌≤◌, ◌<◌, IfSome, IsNone, length};
     ghost use Rattle.mrp_book.specs.Books.{OrderBook};
     ghost use Rattle.mrp_book.specs.History.{IsLegal};
 
-    /// The history of entries that are legal over a supply, which the caller owes. It takes no
-    /// memory.
-    pub fn new(supply: Supply, entries: Vec<Entry<Call, Reply>>) -> History
+    /// The history of entries that are legal over a supply, which the caller owes; None exactly
+    /// where there are more than 1,000,000. It takes no memory.
+    pub fn new(supply: Supply, entries: Vec<Entry<Call, Reply>>) -> Option<History>
         requires { IsLegal supply entries.items }
-        ensures { result ≡ record { supply = supply; entries = entries.items } }
+        ensures value { IfSome result (λ h. h ≡ record { supply = supply; entries = entries.items }) }
+        ensures many { IsNone result ↔ (1000000 < length entries.items) }
     {
-        History { supply, entries }
+        if entries.len() as u64 > MOST_ENTRIES {
+            return None;
+        }
+        Some(History { supply, entries })
     }
 
     /// The entries. An entry's number is its place, from 1.
     pub fn entries(&self) -> &[Entry<Call, Reply>]
         ensures entries { result.now ≡ self.now.entries }
         ensures legal { IsLegal self.now.supply result.now }
+        ensures few { length result.now ≤ 1000000 }
     {
         &self.entries
     }

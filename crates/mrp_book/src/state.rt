@@ -14,7 +14,7 @@ use std::alloc::Global;
 use std::marker::Model;
 
 // The most entries of a book.
-const MOST_ENTRIES: u64 = 1_000_000;
+pub(crate) const MOST_ENTRIES: u64 = 1_000_000;
 
 /// An order book without its history: what it promises of, how many entries were made, and the
 /// bookings that stand.
@@ -43,13 +43,13 @@ impl Model for BookState {
 impl BookState {
     ghost use Rattle.std.specs.Prelude.{◌≡◌, ◌==◌, ◌↔◌, ◌+◌, ◌<◌, [], ℕ, Err, IfOk, IsSome, IsTrue, OnErr, OnOk, find};
     ghost use Rattle.mrp_master.specs.AtpRow.{atp_row};
-    ghost use Rattle.mrp_master.specs.Supply.{IsAvailable, IsMaster, IsSupply, IsWeek, supply_of};
+    ghost use Rattle.mrp_master.specs.Supply.{CanPromise, IsAvailable, IsEarliest, IsMaster, IsSupply, IsWeek, supply_of};
     ghost use Rattle.mrp_book.specs.Booked.{AreBooked};
     ghost use Rattle.mrp_book.specs.BookState.{BookState};
     ghost use Rattle.mrp_book.specs.Bookings.{lines_of};
     ghost use Rattle.mrp_book.specs.declared.call.Call.TheVariants as call;
     ghost use Rattle.mrp_book.specs.declared.reply.Reply.TheVariants as reply;
-    ghost use Rattle.mrp_book.specs.History.{CanPromise, Fits, IsEarliest, IsLimit, IsReplyIn, TakesMemory, state_after};
+    ghost use Rattle.mrp_book.specs.History.{Fits, IsLimit, IsReplyIn, TakesMemory, state_after};
 
     /// The state of a shop's order book without an entry.
     ///
@@ -71,7 +71,8 @@ impl BookState {
     /// for an equal shop.
     ///
     /// Errors: `Full` exactly where 1,000,000 entries were made, before all else, and `NoMemory`
-    /// where memory is refused, which only a booking and a snapshot take. Nothing has changed then.
+    /// where memory is refused, which only a booking that is not short and a snapshot take. Nothing
+    /// has changed then.
     pub fn apply(
         &mut self,
         alloc: Global,
@@ -83,7 +84,7 @@ impl BookState {
         ensures copy { IfOk result (λ answer. answer.1 ≡ answer.0) }
         ensures after { IfOk result (λ answer. self.new ≡ state_after self.old desk call.now answer.0) }
         ensures full { result ≡ Err Refused.Full ↔ IsLimit self.old.entries }
-        ensures memory { result ≡ Err Refused.NoMemory → TakesMemory call.now }
+        ensures memory { result ≡ Err Refused.NoMemory → TakesMemory self.old call.now }
         ensures refused { OnErr result (self.new ≡ self.old) }
     {
         if self.is_full() {
@@ -126,7 +127,7 @@ impl BookState {
     fn reply(&self, alloc: Global, desk: u64, call: &Call) -> Result<Reply, NoMemory>
         requires fits { Fits self.now.supply call.now }
         ensures reply { IfOk result (IsReplyIn self.now desk call.now) }
-        ensures memory { OnErr result (TakesMemory call.now) }
+        ensures memory { OnErr result (TakesMemory self.now call.now) }
     {
         match call {
             Call::Book(line) => Ok(self.reply_to_book(*line)),
@@ -235,7 +236,7 @@ impl BookState {
         requires reply { IsReplyIn self.old desk call.now reply.now }
         ensures after { OnOk result (self.new ≡ state_after self.old desk call.now reply.now) }
         ensures refused { OnErr result (self.new ≡ self.old) }
-        ensures memory { OnErr result (TakesMemory call.now) }
+        ensures memory { OnErr result (TakesMemory self.old call.now) }
     {
         match (call, reply) {
             (Call::Book(line), Reply::Booked(_)) => self.enter_booking(desk, *line)?,

@@ -5,6 +5,7 @@ use Rattle.std.specs.Int.{IsInRange}
 use Rattle.std.specs.Ordering.{int_eq}
 use Rattle.jiff.specs.Types.{Date}
 use Rattle.jiff.specs.Words.{epoch_day, weekday_of}
+use Rattle.mrp_cal.specs.declared.calendar.TheConstants.{MOST_WEEKS}
 use Rattle.mrp_cal.specs.declared.fault.CalFault.{CalFault}
 use Rattle.mrp_cal.specs.declared.fault.CalFault.TheVariants.{StartNotMonday, Weeks, NoWorkday}
 use Rattle.mrp_cal.specs.DateText.{IsPlanningYear}
@@ -45,7 +46,7 @@ holidays_in start weeks holidays =
 unfoldable pub calendar_of : Date → ℕ → List Bool → List Date → Result ShopCalendar CalFault
 calendar_of start weeks workdays holidays =
     if not (is_monday start) then Err StartNotMonday
-    else if not (nat_le 1 weeks && nat_le weeks 104) then Err Weeks
+    else if not (nat_le 1 weeks && nat_le weeks MOST_WEEKS) then Err Weeks
     else if not (has_workday workdays) then Err NoWorkday
     else Ok (record { start = start; weeks = weeks; workdays = workdays; holidays = holidays_in start weeks holidays })
 
@@ -53,7 +54,7 @@ calendar_of start weeks workdays holidays =
 pub record IsShopCalendar (c : ShopCalendar) : Type 0 where
   pub start_year : IsPlanningYear c.start.year
   pub monday : IsTrue (is_monday c.start)
-  pub weeks_in : IsInRange 1 104 c.weeks
+  pub weeks_in : IsInRange 1 MOST_WEEKS c.weeks
   pub weekdays : length c.workdays ≡ 7
   pub worked : IsTrue (has_workday c.workdays)
   pub days : length c.holidays ≡ days_in c.weeks

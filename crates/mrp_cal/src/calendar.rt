@@ -9,7 +9,7 @@ use jiff::civil::{Date, Weekday};
 use std::marker::Model;
 
 /// The most weeks that a horizon has.
-const MOST_WEEKS: u64 = 104;
+pub const MOST_WEEKS: u64 = 104;
 
 /// The days of the longest horizon.
 const MOST_DAYS: usize = 728;
@@ -84,7 +84,7 @@ impl Calendar {
     /// The weeks of the horizon, 1 to 104.
     pub fn weeks(&self) -> u16
         ensures value { result ≡ self.now.weeks }
-        ensures bound { IsInRange 1 104 result }
+        ensures bound { IsInRange 1 MOST_WEEKS result }
     {
         self.weeks
     }
@@ -147,7 +147,7 @@ fn has_workday(workdays: &[bool; 7]) -> bool
 
 // For each day from the start, whether it is one of the holidays of the horizon.
 fn holidays_from(start: Date, weeks: u16, holidays: &[Date]) -> [bool; MOST_DAYS]
-    requires { weeks ≤ 104 }
+    requires { weeks ≤ MOST_WEEKS }
     ensures { take (spec.days_in weeks) result ≡ spec.holidays_in start weeks holidays.now }
 {
     let mut days = [false; MOST_DAYS];
@@ -161,7 +161,7 @@ fn holidays_from(start: Date, weeks: u16, holidays: &[Date]) -> [bool; MOST_DAYS
 
 // The days from the start to a day of the horizon.
 fn horizon_day(start: Date, weeks: u16, date: Date) -> Option<u16>
-    requires { weeks ≤ 104 }
+    requires { weeks ≤ MOST_WEEKS }
     ensures { result ≡ spec.horizon_day weeks (epoch_day date -ℤ epoch_day start) }
 {
     let days = start.to_plain().until(date.to_plain());

@@ -7,7 +7,7 @@ mod date_text;
 mod fault;
 pub mod laws;
 
-pub use calendar::Calendar;
+pub use calendar::{Calendar, MOST_WEEKS};
 pub use date_text::read_date;
 pub use fault::CalFault;
 

@@ -13,13 +13,13 @@ use Rattle.mrp_book.specs.declared.reply.Reply.TheVariants as reply
 use Rattle.mrp_book.specs.declared.refused.Refused.{Refused}
 use Rattle.mrp_book.specs.declared.refused.Refused.TheVariants.{Full, NoMemory}
 use Rattle.mrp_book.specs.Standing.{History, standing}
-use Rattle.mrp_book.specs.History.{IsFull, IsLegal, TakesMemory}
+use Rattle.mrp_book.specs.History.{IsFull, IsLegal, TakesMemory, state_of}
 use Rattle.mrp_desk.specs.Offices.{Desk}
 
 -- Why a call was refused, in what its desk has then seen of the history
-abbrev pub HasCause : Call → History → Refused → Type 0
-HasCause c seen Full = IsFull seen
-HasCause c seen NoMemory = TakesMemory c × (¬ IsFull seen)
+abbrev pub HasCause : Supply → Call → History → Refused → Type 0
+HasCause s c seen Full = IsFull seen
+HasCause s c seen NoMemory = TakesMemory (state_of s seen) c × (¬ IsFull seen)
 
 -- What a desk's call tells of the desk, old and new
 pub record Tells (s : Supply) (c : Call) (old : Desk) (result : Result (ℕ × Reply) Refused) (new : Desk) : Type 0 where
@@ -39,7 +39,7 @@ pub record Tells (s : Supply) (c : Call) (old : Desk) (result : Result (ℕ × R
   pub added : IfOk result (λ r. new.mine ≡ old.mine ++ entry old.number c r.1 ∷ [])
   -- a refused call made no entry, and has its cause
   pub unchanged : OnErr result (new.mine ≡ old.mine)
-  pub cause : IfErr result (HasCause c new.seen)
+  pub cause : IfErr result (HasCause s c new.seen)
 
 -- What a desk's call for a snapshot tells: it has the bookings that stand in all that was seen before its entry, and so of the desk's own those that its own entries leave
 pub record IsSnapshot (s : Supply) (old new : Desk) (answer : ℕ × Reply) : Type 0 where

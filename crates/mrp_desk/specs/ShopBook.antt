@@ -22,7 +22,12 @@ pub record Answers (shop : Shop) (b : BookState) (desk : ℕ) (c : Call) (r : Re
   pub reply : IsReplyIn b desk c r
   pub left : after ≡ state_after b desk c r
 
--- a book refuses every call at its limit, before all else; and below it a booking or a snapshot, for want of memory
-abbrev pub Refuses : BookState → Call → Refused → Type 0
-Refuses b c Full = IsLimit b.entries
-Refuses b c NoMemory = TakesMemory c × (¬ IsLimit b.entries)
+-- a book refuses every call at its limit, before all else, and no call below it
+abbrev pub Refuses : BookState → Refused → Type 0
+Refuses b Full = IsLimit b.entries
+Refuses b NoMemory = ⊥
+
+-- below its limit, a booking that can be promised and a snapshot take memory
+abbrev pub WantsMemory : BookState → Call → Refused → Type 0
+WantsMemory b c Full = ⊥
+WantsMemory b c NoMemory = TakesMemory b c × (¬ IsLimit b.entries)

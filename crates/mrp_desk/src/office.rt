@@ -89,8 +89,8 @@ impl Office {
     /// owes a line of the shop and a desk of this office, here and in the calls below, which may
     /// wait for calls of other desks.
     ///
-    /// Errors: `Full` where the book has 1,000,000 entries, and `NoMemory` where memory is refused.
-    /// No entry was made then.
+    /// Errors: `Full` where the book has 1,000,000 entries, and `NoMemory` where memory is refused,
+    /// of which a short booking takes none. No entry was made then.
     pub fn book<R: Wait>(
         &self,
         rt: &R,
@@ -206,7 +206,11 @@ impl Office {
     {
         let Office { turn } = self;
         let (state, log) = turn.close(desks);
-        History::new(state.into_supply(), log.into_entries())
+        let entries = log.into_entries();
+        let Some(history) = History::new(state.into_supply(), entries) else {
+            unreachable!()
+        };
+        history
     }
 
     // A call of a desk.

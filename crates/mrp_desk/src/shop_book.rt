@@ -48,7 +48,7 @@ impl ShopBook {
 impl Object for ShopBook {
     ghost use Rattle.mrp_master.specs.Supply.{supply_of};
     ghost use Rattle.mrp_book.specs.History.{Fits};
-    ghost use Rattle.mrp_desk.specs.ShopBook.{Opens, Answers, Refuses};
+    ghost use Rattle.mrp_desk.specs.ShopBook.{Opens, Answers, Refuses, WantsMemory};
 
     type State = BookState;
 
@@ -64,10 +64,9 @@ impl Object for ShopBook {
 
     ghost answers = { Answers };
 
-    ghost refuses = { λ _ b _ call e. Refuses b call e };
+    ghost refuses = { λ _ b _ _ e. Refuses b e };
 
-    // That of memory too is told with the state, since a full book refuses before it takes memory.
-    ghost wants_memory = { λ _ _. ⊥ };
+    ghost wants_memory = { λ _ b _ call e. WantsMemory b call e };
 
     fn apply(
         &self,

@@ -5,6 +5,11 @@ use Rattle.std.specs.Prelude.{find, map}
 use Rattle.std.specs.List.{range_with_len}
 use Rattle.mrp_tables.specs.declared.item.Item.{Item}
 use Rattle.mrp_item.specs.Inputs.{Inputs, count, item_at, places}
+use Rattle.mrp_explode.specs.Explosion.{Explodes}
+use Rattle.mrp_explode.specs.declared.fault.RunFault.{RunFault}
+use Rattle.mrp_explode.specs.declared.fault.RunFault.TheVariants as run
+use Rattle.mrp_engine.specs.Fault.{run_fault}
+use Rattle.mrp_engine.specs.Planned.{PlansRun}
 use Rattle.mrp_item.specs.Plan.{plan_in, plan_of, plan_unless, first_over, is_over, outcome_of}
 
 find-below : (p : ℕ → Bool) (a n i : ℕ) → find p (range_with_len a n) ≡ Some i → i < a + n
@@ -30,3 +35,8 @@ over-within s i e = by (first_over s) refl e
 -- the entry of an item in the table
 pub entry-is : (s : Inputs) (items : List Item) (i : ℕ) (entry d : Item) → items ≡ s.tables.items → i < count s → entry ≡ get_or items i d → entry ≡ item_at s i
 entry-is s items i entry d same within read = read ∙ ap (λ (xs : List Item). get_or xs i d) same ∙ get_or_default s.tables.items i d _ within
+
+-- a run that is refused, by the name of its item
+pub refused-run : (s : Inputs) (fault : RunFault) → Explodes s (Err fault) → PlansRun s (Err (run_fault s fault))
+refused-run s (run.TooLarge item) is = (item, is, refl)
+refused-run s run.NoMemory is = tt

@@ -35,12 +35,14 @@ master-item t item m = mapped-at (λ (i : Item). is_master i.class) t.items item
 call-fits : (t : Tables) (c : ScriptCall) → IsScriptCall t.calendar.weeks t.items c → Fits (supply_of t) (call_of c)
 call-fits t (s.Book item week quantity) is =
     let (there, weeks, pieces) = is.book item week quantity refl in
-    (master-item t item there, weeks)
+    record { item = master-item t item there; week = weeks; quantity = pieces }
 call-fits t (s.Cancel entry) is = tt
 call-fits t (s.Ask item week) is =
     let (there, weeks) = is.ask item week refl in
-    (master-item t item there, weeks)
-call-fits t (s.When item quantity) is = master-item t item (is.when item quantity refl).0
+    record { item = master-item t item there; week = weeks }
+call-fits t (s.When item quantity) is =
+    let (there, pieces) = is.when item quantity refl in
+    record { item = master-item t item there; quantity = pieces }
 call-fits t s.Run is = tt
 
 -- a book of a shop takes each call of its script

@@ -3,6 +3,7 @@ use Rattle.std.proofs.Common.{◌≡◌, ◌≢◌, ◌⊎◌, ◌∙◌, ◌<�
 use Rattle.std.specs.Prelude.{All}
 use Rattle.mrp_rows.specs.Bundle.{bundle_of}
 use Rattle.mrp_rows.specs.declared.fault.Fault.{Fault}
+use Rattle.mrp_rows.specs.declared.faults.TheConstants as faults
 use Rattle.mrp_tables.specs.declared.item.Item.{Item}
 use Rattle.mrp_tables.specs.declared.rows.BillLine.{BillLine}
 use Rattle.mrp_tables.specs.Facts.{IsBillLine}
@@ -11,12 +12,13 @@ use Rattle.mrp_bill.specs.Bill.{AreWithin, IsLoopPath, IsFirstLoop, NeedsItself}
 use Rattle.mrp_bill.specs.Fault.{IsRefusal}
 use Rattle.mrp_bill.specs.Shop.{Shop}
 use Rattle.mrp_bill.specs.declared.fault.BillFault.{BillFault}
-use Rattle.std.specs.Global.{Vec}
+use Rattle.mrp_bill.specs.declared.fault.BillFault.TheVariants as bill
 use Rattle.mrp_bill.proofs.BillListed.{parent-within}
 use Rattle.mrp_engine.specs.declared.fault.DayFault.{DayFault}
 use Rattle.mrp_engine.specs.declared.fault.DayFault.TheVariants.{Refused, TooLarge, Read, Write, NoMemory}
 use Rattle.mrp_engine.specs.Day.{loop_fault}
-use Rattle.mrp_engine.specs.Opened.{Closes, Opens, OpensTables}
+use Rattle.mrp_engine.specs.Fault.{bill_fault}
+use Rattle.mrp_engine.specs.Opened.{BeginsWithin, Closes, Opens, OpensTables}
 
 lines-within : (items : List Item) (lines : List BillLine) → All (IsBillLine items) lines → AreWithin (length items) lines
 lines-within items lines all k d h = ((all k d h).parent, (all k d h).component)
@@ -39,23 +41,29 @@ path-first lines [] (i, first, round) = absurd round
 path-first lines (a ∷ []) (i, first, round) = absurd round
 path-first lines (a ∷ b ∷ more) (i, first, round) = subst (λ (x : ℕ). IsFirstLoop lines x) (sym round.0) first
 
--- a refusal by a loop tells its path
-pub refusal-path : (lines : List BillLine) (fault : BillFault) (path : Vec ℕ) → fault ≡ BillFault.Loop path → IsRefusal lines fault → IsLoopPath lines path.items
-refusal-path lines fault path is refused = subst (IsRefusal lines) is refused
+-- what refuses a bill begins within the table
+pub begins-within : (items : List Item) (lines : List BillLine) (fault : BillFault) → All (IsBillLine items) lines → length items ≤ 20000 → IsRefusal lines fault → BeginsWithin fault
+begins-within items lines (bill.Loop path) all few is = path-begins items lines path.items all few is
+begins-within items lines bill.NoMemory all few is = tt
+
+-- and refuses the tables
+pub opens-refused : (tables : Tables) (fault : BillFault) → IsRefusal tables.bills fault → OpensTables tables (Err (bill_fault fault))
+opens-refused tables (bill.Loop path) is = (slice_index path.items 0, path-first tables.bills path.items is, refl)
+opens-refused tables bill.NoMemory is = tt
 
 -- what refuses a bundle's sections or tables refuses the bundle
-pub closed : (bundle : List ℕ) (f : Fault) (r : DayFault) → (f.code ≡ 22) ⊎ (tables_of bundle ≡ Err f) → Closes f r → Opens bundle (Err r)
+pub closed : (bundle : List ℕ) (f : Fault) (r : DayFault) → (f.code ≡ faults.NO_MEMORY) ⊎ (tables_of bundle ≡ Err f) → Closes f r → Opens bundle (Err r)
 closed bundle f (Refused g) (inl memory) (same, other) = absurd (other memory)
 closed bundle f (Refused g) (inr e) (same, other) =
-    (inl (e ∙ ap (λ (h : Fault). Err h) (sym same)), λ (h : g.code ≡ 22). other (ap (λ (x : Fault). x.code) (sym same) ∙ h))
+    (inl (e ∙ ap (λ (h : Fault). Err h) (sym same)), λ (h : g.code ≡ faults.NO_MEMORY). other (ap (λ (x : Fault). x.code) (sym same) ∙ h))
 closed bundle f NoMemory why is = tt
 closed bundle f (TooLarge name) why is = is
 closed bundle f Read why is = is
 closed bundle f Write why is = is
 
 -- the loop's fault is no want of memory
-loop-code : (item : ℕ) → (loop_fault item).code ≢ 22
-loop-code item h = let bad : 21 ≡ 22 = h in absurd (omega arith)
+loop-code : (item : ℕ) → (loop_fault item).code ≢ faults.NO_MEMORY
+loop-code item h = let bad : faults.LOOP ≡ faults.NO_MEMORY = h in absurd (omega arith)
 
 -- the tables of a bundle, and what comes of their bill
 pub opened : (bundle : List ℕ) (tables : Tables) (r : Result Shop DayFault) → tables_of bundle ≡ Ok tables → OpensTables tables r → Opens bundle r
@@ -65,7 +73,7 @@ opened bundle tables (Ok shop) e (same, none) =
       no_loop = subst (λ (t : Tables). (i : ℕ) → NeedsItself t.bills i → ⊥) (sym same) none;
     }
 opened bundle tables (Err (Refused f)) e (item, first, same) =
-    (inr (tables, item, record { tables_are = e; loop = first }, same), λ (h : f.code ≡ 22). loop-code item (ap (λ (x : Fault). x.code) (sym same) ∙ h))
+    (inr (tables, item, record { tables_are = e; loop = first }, same), λ (h : f.code ≡ faults.NO_MEMORY). loop-code item (ap (λ (x : Fault). x.code) (sym same) ∙ h))
 opened bundle tables (Err NoMemory) e is = tt
 opened bundle tables (Err (TooLarge name)) e is = is
 opened bundle tables (Err Read) e is = is

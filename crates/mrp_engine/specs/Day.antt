@@ -1,6 +1,7 @@
 -- The day of a bundle: the history that answers its script, and then the report of each of its runs (profile).
 use Rattle.std.specs.Prelude.{ℕ, ◌≡◌, ◌+◌, ◌⊎◌, List, [], ◌∷◌, ◌++◌, All, flat_map, Ok, Err}
 use Rattle.mrp_rows.specs.declared.fault.Fault.{Fault}
+use Rattle.mrp_rows.specs.declared.faults.TheConstants as faults
 use Rattle.mrp_rows.specs.declared.fault.Table.TheVariants as t
 use Rattle.mrp_tables.specs.Tables.{Tables, tables_of}
 use Rattle.mrp_bill.specs.Bill.{IsFirstLoop, NeedsItself}
@@ -17,7 +18,7 @@ use Rattle.mrp_engine.specs.Script.{script_of, with_run}
 
 -- an item that needs itself
 abbrev pub loop_fault : ℕ → Fault
-loop_fault item = record { code = 21; table = t.Items; row = item + 1 }
+loop_fault item = record { code = faults.LOOP; table = t.Items; row = item + 1 }
 
 -- a bundle of these tables, in which no item needs itself
 pub record IsAccepted (bundle : List ℕ) (tables : Tables) : Type 0 where

@@ -1,11 +1,15 @@
 -- What comes of planning runs.
-use Rattle.std.specs.Prelude.{◌≡◌, List, All, map, Result, Ok, Err, ⊤}
+use Rattle.std.specs.Prelude.{ℕ, ◌≡◌, List, All, map, Result, Ok, Err, ⊤}
 use Rattle.std.specs.Global.{Vec}
 use Rattle.mrp_item.specs.Inputs.{Inputs}
 use Rattle.mrp_item.specs.Places.{WholePlan}
 use Rattle.mrp_engine.specs.declared.fault.DayFault.{DayFault}
 use Rattle.mrp_engine.specs.declared.fault.DayFault.TheVariants.{Refused, TooLarge, Read, Write, NoMemory as NoRoom}
-use Rattle.mrp_engine.specs.Day.{IsFirstRefusal, IsPlannable, IsRefusedBy}
+use Rattle.mrp_tables.specs.Tables.{Tables}
+use Rattle.mrp_master.specs.Supply.{supply_of}
+use Rattle.mrp_book.specs.Standing.{History}
+use Rattle.mrp_engine.specs.declared.day.Day.{Day}
+use Rattle.mrp_engine.specs.Day.{AnswersScript, IsFirstRefusal, IsPlannable, IsRefusedBy, day_text, runs_of}
 
 -- the plan of a run, or the name of the first item that gets too large; or memory was refused
 abbrev pub PlansRun : Inputs → Result WholePlan DayFault → Type 0
@@ -19,6 +23,26 @@ PlansRun s (Err Write) = ⊥
 -- what plans were made from
 abbrev pub inputs_of_plans : List WholePlan → List Inputs
 inputs_of_plans plans = map (λ p. p.inputs) plans
+
+-- a day whose history answers its shop's script, and each of whose runs has its plan
+pub record IsPlanned (day : Day) : Type 0 where
+  pub supply : day.history.supply ≡ supply_of day.shop.value.tables
+  pub answers : AnswersScript day.shop.value.tables day.history.entries
+  pub runs : inputs_of_plans day.plans.items ≡ runs_of day.shop.value.tables day.history.entries
+  pub plannable : All IsPlannable (runs_of day.shop.value.tables day.history.entries)
+
+-- the text of a day
+abbrev pub text_of : Day → List ℕ
+text_of day = day_text day.shop.value.tables day.history.entries
+
+-- the day of a shop of these tables, or the name of the item that the first refused run is refused by; or memory was refused
+abbrev pub PlansDay : Tables → Result Day DayFault → Type 0
+PlansDay tables (Ok day) = (day.shop.value.tables ≡ tables) × IsPlanned day
+PlansDay tables (Err (TooLarge name)) = (h : History) × AnswersScript tables h × IsFirstRefusal (runs_of tables h) name
+PlansDay tables (Err NoRoom) = ⊤
+PlansDay tables (Err (Refused f)) = ⊥
+PlansDay tables (Err Read) = ⊥
+PlansDay tables (Err Write) = ⊥
 
 -- the plans of all runs, in order, or why the first that is refused is; or memory was refused
 abbrev pub PlansRuns : List Inputs → Result (Vec WholePlan) DayFault → Type 0

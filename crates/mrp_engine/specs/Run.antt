@@ -7,6 +7,7 @@ use Rattle.mrp_report.specs.Written.{HasTaken, HasTakenFront}
 use Rattle.mrp_engine.specs.declared.fault.DayFault.{DayFault}
 use Rattle.mrp_engine.specs.declared.fault.DayFault.TheVariants.{Refused, TooLarge, Read, Write, NoMemory}
 use Rattle.mrp_engine.specs.Day.{IsAccepted, IsDay, IsRefused}
+use Rattle.mrp_rows.specs.declared.faults.TheConstants as faults
 
 -- a bundle is what a reader had left, where the reader tells it, and no longer than a bundle may be
 abbrev pub IsRead : Option (List ℕ) → List ℕ → Type 0
@@ -24,7 +25,7 @@ HasPassedLimits old new =
 -- the shop of the bundle that was read, or why the bundle is refused; or the reader or memory failed
 abbrev pub ReadsShop : Option (List ℕ) → Result Shop DayFault → Type 0
 ReadsShop given (Ok shop) = (bundle : List ℕ) × IsRead given bundle × IsAccepted bundle shop.tables
-ReadsShop given (Err (Refused f)) = (bundle : List ℕ) × IsRead given bundle × IsRefused bundle f × (f.code ≢ 22)
+ReadsShop given (Err (Refused f)) = (bundle : List ℕ) × IsRead given bundle × IsRefused bundle f × (f.code ≢ faults.NO_MEMORY)
 ReadsShop given (Err (TooLarge name)) = ⊥
 ReadsShop given (Err Read) = ⊤
 ReadsShop given (Err Write) = ⊥
@@ -49,6 +50,14 @@ IsBeforeWriting (TooLarge name) = ⊤
 IsBeforeWriting Read = ⊤
 IsBeforeWriting Write = ⊥
 IsBeforeWriting NoMemory = ⊥
+
+-- a refusal while the text is written
+abbrev pub IsWhileWriting : DayFault → Type 0
+IsWhileWriting (Refused f) = ⊥
+IsWhileWriting (TooLarge name) = ⊥
+IsWhileWriting Read = ⊥
+IsWhileWriting Write = ⊤
+IsWhileWriting NoMemory = ⊤
 
 -- an end after the reader was read to its end
 abbrev pub IsAfterReading : {X : Type 0} → Result X DayFault → Type 0

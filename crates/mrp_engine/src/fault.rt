@@ -1,7 +1,8 @@
 //! Why a day was not written whole.
 
 use mrp_qty::NoMemory;
-use mrp_rows::{Fault, Name};
+use mrp_report::ReportFault;
+use mrp_rows::{Fault, Name, ReadFault};
 use std::alloc::AllocFailed;
 use thiserror::Error;
 
@@ -45,5 +46,33 @@ impl<T: Drop> From<AllocFailed<T>> for DayFault {
 
     fn from(_refused: AllocFailed<T>) -> DayFault {
         DayFault::NoMemory
+    }
+}
+
+impl From<ReadFault> for DayFault {
+    ghost use Rattle.std.specs.Prelude.{◌≡◌};
+    ghost use Rattle.mrp_engine.specs.Fault.{reading_fault};
+
+    ghost from_gives = { λ fault given. given ≡ reading_fault fault };
+
+    fn from(fault: ReadFault) -> DayFault {
+        match fault {
+            ReadFault::Read => DayFault::Read,
+            ReadFault::NoMemory => DayFault::NoMemory,
+        }
+    }
+}
+
+impl From<ReportFault> for DayFault {
+    ghost use Rattle.std.specs.Prelude.{◌≡◌};
+    ghost use Rattle.mrp_engine.specs.Fault.{writing_fault};
+
+    ghost from_gives = { λ fault given. given ≡ writing_fault fault };
+
+    fn from(fault: ReportFault) -> DayFault {
+        match fault {
+            ReportFault::Write => DayFault::Write,
+            ReportFault::NoMemory => DayFault::NoMemory,
+        }
     }
 }

@@ -1,6 +1,7 @@
 //! Days: from a bundle's bytes to its history and reports.
 #![tactic(auto)]
 
+mod day;
 mod fault;
 pub mod laws;
 mod opening;
@@ -13,6 +14,3 @@ mod writing;
 
 pub use fault::DayFault;
 pub use run::run_day;
-
-#[cfg(test)]
-mod tests;

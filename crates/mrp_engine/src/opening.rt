@@ -2,18 +2,15 @@
 
 ghost use Rattle.std.specs.Prelude.{◌≡◌, ◌<◌, length, slice_index};
 ghost use Rattle.mrp_engine.specs.Day.{loop_fault};
-ghost use Rattle.mrp_engine.specs.Opened.{Closes, Opens, OpensTables};
+ghost use Rattle.mrp_engine.specs.Fault.{bill_fault};
+ghost use Rattle.mrp_engine.specs.Opened.{BeginsWithin, Closes, Opens, OpensTables};
 
 use crate::fault::DayFault;
 use mrp_bill::{Bill, BillFault, Shop};
+use mrp_rows::faults::{LOOP, NO_MEMORY};
 use mrp_rows::{Fault, Table, split_bundle};
 use mrp_tables::Tables;
 use std::alloc::Global;
-
-// The codes of faults that are told apart here.
-const LOOP: u8 = 21;
-
-const NO_MEMORY: u8 = 22;
 
 // Why a day is refused: the bundle's fault, or want of memory.
 fn refusal(fault: Fault) -> DayFault
@@ -39,6 +36,17 @@ fn loop_at(path: &[usize]) -> Fault
     }
 }
 
+// Why a day is refused, by what refused its bill.
+fn bill_refusal(fault: BillFault) -> DayFault
+    requires { BeginsWithin fault }
+    ensures { result ≡ bill_fault fault }
+{
+    match fault {
+        BillFault::Loop { path } => DayFault::Refused(loop_at(&path)),
+        BillFault::NoMemory => DayFault::NoMemory,
+    }
+}
+
 // The shop of tables.
 fn shop_of(alloc: Global, tables: Tables) -> Result<Shop, DayFault>
     ensures { OpensTables tables result }
@@ -47,8 +55,7 @@ fn shop_of(alloc: Global, tables: Tables) -> Result<Shop, DayFault>
     let _lines = tables.bills();
     match Bill::of(alloc, tables) {
         Ok(shop) => Ok(shop),
-        Err(BillFault::Loop { path }) => Err(DayFault::Refused(loop_at(&path))),
-        Err(BillFault::NoMemory) => Err(DayFault::NoMemory),
+        Err(fault) => Err(bill_refusal(fault)),
     }
 }
 

@@ -5,6 +5,8 @@ ghost use Rattle.mrp_master.specs.Supply.{supply_of};
 ghost use Rattle.mrp_book.specs.Booked.{AreBooked};
 ghost use Rattle.mrp_item.specs.Inputs.{inputs_of, item_at};
 ghost use Rattle.mrp_item.specs.Plan.{plan_of};
+ghost use Rattle.mrp_explode.specs.Explosion.{Explodes};
+ghost use Rattle.mrp_engine.specs.Fault.{run_fault};
 ghost use Rattle.mrp_engine.specs.Planned.{PlansRun};
 
 use crate::fault::DayFault;
@@ -34,6 +36,17 @@ fn name_of(inputs: &Inputs, item: usize) -> Name
     inputs.shop().tables().items()[item].name
 }
 
+// Why a run is refused, with the name of the item that gets too large.
+fn refusal(inputs: &Inputs, fault: RunFault) -> DayFault
+    requires { Explodes inputs.now (Err fault) }
+    ensures { result ≡ run_fault inputs.now fault }
+{
+    match fault {
+        RunFault::TooLarge { item } => DayFault::TooLarge(name_of(inputs, item)),
+        RunFault::NoMemory => DayFault::NoMemory,
+    }
+}
+
 /// The plan of a run: of a shop, and a snapshot of its order book, as the caller owes.
 ///
 /// Errors: `TooLarge` with the first item in table order that gets too large, and `NoMemory`.
@@ -49,7 +62,6 @@ pub fn plan_run(
     let inputs = inputs_of(alloc, shop, snapshot)?;
     match explode_levels(rt, alloc, &inputs) {
         Ok(plan) => Ok(plan),
-        Err(RunFault::TooLarge { item }) => Err(DayFault::TooLarge(name_of(&inputs, item))),
-        Err(RunFault::NoMemory) => Err(DayFault::NoMemory),
+        Err(fault) => Err(refusal(&inputs, fault)),
     }
 }

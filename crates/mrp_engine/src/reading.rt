@@ -10,7 +10,7 @@ ghost use Rattle.mrp_engine.specs.Run.{HasPassedLimits, IsAfterReading, IsReadWi
 use crate::fault::DayFault;
 use crate::opening::open_shop;
 use mrp_bill::Shop;
-use mrp_rows::{ReadFault, Told, read_bundle};
+use mrp_rows::{Told, read_bundle};
 use std::alloc::Global;
 use std::io::Read;
 
@@ -25,9 +25,6 @@ pub fn read_shop<R: Read>(alloc: Global, reader: &mut Told<R>) -> Result<Shop, D
     ensures failed { result ≡ Err DayFault.Read → HasPassedLimits reader.old reader.new }
     ensures front { TakesFront (R.remaining (inner_of reader.old)) (R.remaining (inner_of reader.new)) (moved_of reader.old) (moved_of reader.new) }
 {
-    match read_bundle(alloc, reader) {
-        Ok(bundle) => open_shop(alloc, &bundle),
-        Err(ReadFault::Read) => Err(DayFault::Read),
-        Err(ReadFault::NoMemory) => Err(DayFault::NoMemory),
-    }
+    let bundle = read_bundle(alloc, reader)?;
+    open_shop(alloc, &bundle)
 }

@@ -6,21 +6,38 @@ ghost use Rattle.std.specs.Io.KnownBytes.{IsAtEnd};
 ghost use Rattle.mrp_rows.specs.Streams.{TakesFront};
 ghost use Rattle.mrp_rows.specs.Told.{inner_of, moved_of};
 ghost use Rattle.mrp_rows.specs.declared.fault.Fault.{Fault};
+ghost use Rattle.mrp_rows.specs.declared.faults.TheConstants as faults;
 ghost use Rattle.mrp_report.specs.Written.{HasGivenUp};
 ghost use Rattle.mrp_engine.specs.Day.{IsRefused, IsTooLarge};
+ghost use Rattle.mrp_engine.specs.Planned.{PlansDay};
 ghost use Rattle.mrp_engine.specs.Run.{HasPassedLimits, HasTakenAll, IsAfterReading, IsBeforeWriting, IsRead, IsReadWithin, TellsDay, WritesDayFront};
 
+use crate::day::Day;
 use crate::fault::DayFault;
 use crate::reading::read_shop;
 use crate::runs::plan_runs;
 use crate::script::answer_script;
 use crate::writing::write_day;
-use mrp_report::ReportFault;
+use mrp_bill::Shop;
 use mrp_rows::Told;
 use std::alloc::Global;
 use std::io::{Read, Write};
 use std::sync::Arc;
 use std::thread::Threads;
+
+// Answers a shop's script, and plans the runs of it.
+fn plan_day(rt: &(impl Alloc + Threads + Sync), alloc: Global, shop: Shop) -> Result<Day, DayFault>
+    ensures { PlansDay shop.tables result }
+{
+    let shop = Arc::new(alloc, shop)?;
+    let history = answer_script(alloc, &shop)?;
+    let plans = plan_runs(rt, alloc, &shop, &history)?;
+    Ok(Day {
+        shop,
+        history,
+        plans,
+    })
+}
 
 /// Reads a bundle to its end, answers its script, plans its runs, and writes the history and the
 /// report of each run. Nothing is written before every run is planned.
@@ -45,7 +62,7 @@ pub fn run_day<R: Read, W: Write>(
 
     // The text of the day of the bundle that was read was written.
     ensures day { OnOk result ((text : List ℕ) × TellsDay (R.remaining (inner_of reader.old)) text × HasTakenAll W.contents writer.old writer.new text) }
-    ensures refused { (f : Fault) → result ≡ Err (DayFault.Refused f) → (bundle : List ℕ) × IsRead (R.remaining (inner_of reader.old)) bundle × IsRefused bundle f × (f.code ≢ 22) }
+    ensures refused { (f : Fault) → result ≡ Err (DayFault.Refused f) → (bundle : List ℕ) × IsRead (R.remaining (inner_of reader.old)) bundle × IsRefused bundle f × (f.code ≢ faults.NO_MEMORY) }
     ensures too_large { (name : List ℕ) → result ≡ Err (DayFault.TooLarge name) → (bundle : List ℕ) × IsRead (R.remaining (inner_of reader.old)) bundle × IsTooLarge bundle name }
 
     ensures read { result ≡ Err DayFault.Read → HasPassedLimits reader.old reader.new }
@@ -61,12 +78,8 @@ pub fn run_day<R: Read, W: Write>(
     ensures taken { TakesFront (R.remaining (inner_of reader.old)) (R.remaining (inner_of reader.new)) (moved_of reader.old) (moved_of reader.new) }
 {
     let _later = workers;
-    let shop = Arc::new(alloc, read_shop(alloc, reader)?)?;
-    let history = answer_script(alloc, &shop)?;
-    let plans = plan_runs(rt, alloc, &shop, &history)?;
-    match write_day(rt, alloc, &shop, &history, &plans, writer) {
-        Ok(()) => Ok(()),
-        Err(ReportFault::Write) => Err(DayFault::Write),
-        Err(ReportFault::NoMemory) => Err(DayFault::NoMemory),
-    }
+    let shop = read_shop(alloc, reader)?;
+    let day = plan_day(rt, alloc, shop)?;
+    write_day(rt, alloc, day, writer)?;
+    Ok(())
 }

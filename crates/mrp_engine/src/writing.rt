@@ -1,17 +1,15 @@
 //! The text of a day, written.
 
-ghost use Rattle.std.specs.Prelude.{◌≡◌, Err, OnOk, OnErr, flat_map};
-ghost use Rattle.mrp_master.specs.Supply.{supply_of};
+ghost use Rattle.std.specs.Prelude.{◌≡◌, Err, IfErr, OnOk, OnErr, flat_map};
 ghost use Rattle.mrp_report.specs.ReportText.{report_text};
 ghost use Rattle.mrp_report.specs.Written.{HasGivenUp, HasTakenFront};
-ghost use Rattle.mrp_engine.specs.Day.{day_text, runs_of};
-ghost use Rattle.mrp_engine.specs.Planned.{inputs_of_plans};
-ghost use Rattle.mrp_engine.specs.Run.{HasTakenAll};
+ghost use Rattle.mrp_engine.specs.Planned.{IsPlanned, inputs_of_plans, text_of};
+ghost use Rattle.mrp_engine.specs.Run.{HasTakenAll, IsWhileWriting};
 
-use mrp_bill::Shop;
-use mrp_book::History;
+use crate::day::Day;
+use crate::fault::DayFault;
 use mrp_item::Plan;
-use mrp_report::{ReportFault, write_history, write_report};
+use mrp_report::{write_history, write_report};
 use mrp_rows::Told;
 use std::alloc::Global;
 use std::io::Write;
@@ -22,10 +20,11 @@ fn write_reports<W: Write>(
     alloc: Global,
     plans: &[Plan],
     writer: &mut Told<W>,
-) -> Result<(), ReportFault>
+) -> Result<(), DayFault>
     ensures whole { OnOk result (HasTakenAll W.contents writer.old writer.new (flat_map report_text (inputs_of_plans plans.now))) }
     ensures front { OnErr result (HasTakenFront W.contents writer.old writer.new (flat_map report_text (inputs_of_plans plans.now))) }
-    ensures refused { result ≡ Err ReportFault.Write → HasGivenUp writer.old writer.new 1000000 }
+    ensures gave_up { result ≡ Err DayFault.Write → HasGivenUp writer.old writer.new 1000000 }
+    ensures writing { IfErr result IsWhileWriting }
 {
     for plan in plans {
         write_report(rt, alloc, plan, writer)?;
@@ -33,7 +32,24 @@ fn write_reports<W: Write>(
     Ok(())
 }
 
-/// Writes a day: the history, and then the report of each of its runs.
+// Writes the history of a planned day, and then the report of each of its runs.
+fn write_texts<W: Write>(
+    rt: &impl Alloc,
+    alloc: Global,
+    day: &Day,
+    writer: &mut Told<W>,
+) -> Result<(), DayFault>
+    requires { IsPlanned day.now }
+    ensures whole { OnOk result (HasTakenAll W.contents writer.old writer.new (text_of day.now)) }
+    ensures front { OnErr result (HasTakenFront W.contents writer.old writer.new (text_of day.now)) }
+    ensures gave_up { result ≡ Err DayFault.Write → HasGivenUp writer.old writer.new 1000000 }
+    ensures writing { IfErr result IsWhileWriting }
+{
+    write_history(alloc, &day.history, &day.shop, writer)?;
+    write_reports(rt, alloc, &day.plans, writer)
+}
+
+/// Writes a planned day, which is given up: the history, and then the report of each of its runs.
 ///
 /// Errors: `Write` where a write failed in this call, or more than 1,000,000 were interrupted in the
 /// history or in a report, and `NoMemory` where a growth of memory was refused. A front of the text
@@ -41,17 +57,14 @@ fn write_reports<W: Write>(
 pub fn write_day<W: Write>(
     rt: &impl Alloc,
     alloc: Global,
-    shop: &Shop,
-    history: &History,
-    plans: &[Plan],
+    day: Day,
     writer: &mut Told<W>,
-) -> Result<(), ReportFault>
-    requires supply { history.now.supply ≡ supply_of shop.now.tables }
-    requires runs { inputs_of_plans plans.now ≡ runs_of shop.now.tables history.now.entries }
-    ensures whole { OnOk result (HasTakenAll W.contents writer.old writer.new (day_text shop.now.tables history.now.entries)) }
-    ensures front { OnErr result (HasTakenFront W.contents writer.old writer.new (day_text shop.now.tables history.now.entries)) }
-    ensures refused { result ≡ Err ReportFault.Write → HasGivenUp writer.old writer.new 1000000 }
+) -> Result<(), DayFault>
+    requires { IsPlanned day }
+    ensures whole { OnOk result (HasTakenAll W.contents writer.old writer.new (text_of day)) }
+    ensures front { OnErr result (HasTakenFront W.contents writer.old writer.new (text_of day)) }
+    ensures gave_up { result ≡ Err DayFault.Write → HasGivenUp writer.old writer.new 1000000 }
+    ensures writing { IfErr result IsWhileWriting }
 {
-    write_history(alloc, history, shop, writer)?;
-    write_reports(rt, alloc, plans, writer)
+    write_texts(rt, alloc, &day, writer)
 }

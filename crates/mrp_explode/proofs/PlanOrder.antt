@@ -9,53 +9,32 @@ use Rattle.mrp_tables.specs.declared.rows.BillLine.{BillLine}
 use Rattle.mrp_bill.specs.Bill.{IsOrder, is_parent, parents_of}
 use Rattle.mrp_bill.proofs.Listed.{filter-range-below}
 use Rattle.mrp_item.specs.Inputs.{Inputs}
-use Rattle.mrp_item.specs.Made.{inputs_in, item_in, item_of}
-use Rattle.mrp_item.specs.declared.outcome.Outcome.{Outcome}
-use Rattle.mrp_explode.specs.Finished.{item_from}
-
--- one more outcome's item
-pub pushed-items : (old new : List Outcome) (o : Outcome) (xs : List ℕ) (i : ℕ) → map item_in old ≡ xs → new ≡ old ++ o ∷ [] → item_in o ≡ i → map item_in new ≡ xs ++ i ∷ []
-pushed-items old new o xs i same adds is =
-    ap (map item_in) adds ∙ map-append item_in old (o ∷ []) ∙ ap (λ (ys : List ℕ). ys ++ item_in o ∷ []) same ∙ ap (λ (j : ℕ). xs ++ j ∷ []) is
-
-pub pushed-inputs : (s : Inputs) (old new : List Outcome) (o : Outcome) → All (λ x. inputs_in x ≡ s) old → new ≡ old ++ o ∷ [] → inputs_in o ≡ s → All (λ x. inputs_in x ≡ s) new
-pushed-inputs s old new o all adds is = subst (All (λ x. inputs_in x ≡ s)) (sym adds) (All-push (λ x. inputs_in x ≡ s) old o all is)
-
-range-more : (a n : ℕ) → range_with_len a (suc n) ≡ range_with_len a n ++ (a + n) ∷ []
-range-more a zero = ap (λ (x : ℕ). x ∷ []) (omega arith)
-range-more a (suc n) =
-    let last : a + 1 + n ≡ a + suc n = omega arith in
-    ap (λ (xs : List ℕ). a ∷ xs) (range-more (a + 1) n ∙ ap (λ (x : ℕ). range_with_len (a + 1) n ++ x ∷ []) last)
-
-pub places-more : (n : ℕ) → range_with_len 0 n ++ n ∷ [] ≡ range_with_len 0 (n + 1)
-places-more n =
-    let next : n + 1 ≡ suc n = omega arith in
-    let here : 0 + n ≡ n = omega arith in
-    sym (ap (range_with_len 0) next ∙ range-more 0 n ∙ ap (λ (x : ℕ). range_with_len 0 n ++ x ∷ []) here)
+use Rattle.mrp_item.specs.Made.{item_from}
+use Rattle.mrp_item.specs.Places.{ItemOf}
 
 -- one more outcome is put in its place
-pub set-own : (s : Inputs) (xs : List (Option Outcome)) (item : ℕ) (o : Outcome) → item < length xs → item_of o ≡ item_from s item
-    → ((i : ℕ) (p : Outcome) → slice_index_or xs i None ≡ Some p → item_of p ≡ item_from s i)
-    → (i : ℕ) (p : Outcome) → slice_index_or (set xs item (Some o)) i None ≡ Some p → item_of p ≡ item_from s i
+pub set-own : (s : Inputs) (xs : List (Option ItemOf)) (item : ℕ) (o : ItemOf) → item < length xs → o ≡ item_from s item
+    → ((i : ℕ) (p : ItemOf) → slice_index_or xs i None ≡ Some p → p ≡ item_from s i)
+    → (i : ℕ) (p : ItemOf) → slice_index_or (set xs item (Some o)) i None ≡ Some p → p ≡ item_from s i
 set-own s xs item o within own others i p e = elim (cases_order i item) [
   | inl same ↦
       let here : slice_index_or (set xs item (Some o)) i None ≡ Some o = ap (λ k. slice_index_or (set xs item (Some o)) k None) same ∙ get_or-set_same xs item (Some o) None within in
       let outcome : o ≡ p = cc in
-      ap item_of (sym outcome) ∙ own ∙ ap (item_from s) (sym same)
+      sym outcome ∙ own ∙ ap (item_from s) (sym same)
   | inr apart ↦
       let other : i ≢ item = λ same. elim apart [ inl low ↦ absurd (omega (arith, same, low)) | inr high ↦ absurd (omega (arith, same, high)) ] in
       others i p (sym (get_or-set_other xs item i (Some o) None other) ∙ e)
 ]
 
-pub set-here : (xs : List (Option Outcome)) (item : ℕ) (o : Outcome) → item < length xs → IsSome (slice_index_or (set xs item (Some o)) item None)
-set-here xs item o within = subst (λ (x : Option Outcome). IsSome x) (sym (get_or-set_same xs item (Some o) None within)) refl
+pub set-here : (xs : List (Option ItemOf)) (item : ℕ) (o : ItemOf) → item < length xs → IsSome (slice_index_or (set xs item (Some o)) item None)
+set-here xs item o within = subst (λ (x : Option ItemOf). IsSome x) (sym (get_or-set_same xs item (Some o) None within)) refl
 
-pub set-others : (xs : List (Option Outcome)) (item i : ℕ) (o : Outcome) → item < length xs → IsSome (slice_index_or xs i None) → IsSome (slice_index_or (set xs item (Some o)) i None)
+pub set-others : (xs : List (Option ItemOf)) (item i : ℕ) (o : ItemOf) → item < length xs → IsSome (slice_index_or xs i None) → IsSome (slice_index_or (set xs item (Some o)) i None)
 set-others xs item i o within there = elim (cases_order i item) [
   | inl same ↦ subst (λ (k : ℕ). IsSome (slice_index_or (set xs item (Some o)) k None)) (sym same) (set-here xs item o within)
   | inr apart ↦
       let other : i ≢ item = λ same. elim apart [ inl low ↦ absurd (omega (arith, same, low)) | inr high ↦ absurd (omega (arith, same, high)) ] in
-      subst (λ (x : Option Outcome). IsSome x) (sym (get_or-set_other xs item i (Some o) None other)) there
+      subst (λ (x : Option ItemOf). IsSome x) (sym (get_or-set_other xs item i (Some o) None other)) there
 ]
 
 -- the parents of the next item stand before it

@@ -3,25 +3,20 @@ use Rattle.std.specs.Prelude.{ℕ, ◌≡◌, All, List, length, Option, Some, N
 use Rattle.std.specs.List.{slice_index_or}
 use Rattle.mrp_bill.specs.Bill.{parents_of}
 use Rattle.mrp_item.specs.Inputs.{Inputs, count}
-use Rattle.mrp_item.specs.Made.{item_of}
+use Rattle.mrp_item.specs.Made.{item_from}
 use Rattle.mrp_item.specs.Places.{ItemOf}
-use Rattle.mrp_item.specs.declared.outcome.Outcome.{Outcome}
 use Rattle.mrp_explode.specs.declared.finished.Finished.{Finished}
 
-abbrev pub outcome_at : Finished → ℕ → Option Outcome
+abbrev pub outcome_at : Finished → ℕ → Option ItemOf
 outcome_at f i = slice_index_or f.outcomes.items i None
 
 abbrev pub source_of : Finished → Inputs
 source_of f = f.inputs.value
 
--- the item, planned from these inputs
-abbrev pub item_from : Inputs → ℕ → ItemOf
-item_from s i = record { inputs = s; item = i }
-
 -- each outcome is its item's
 pub record AreOwn (f : Finished) : Type 0 where
   pub size : length f.outcomes.items ≡ count (source_of f)
-  pub own : (i : ℕ) (o : Outcome) → outcome_at f i ≡ Some o → item_of o ≡ item_from (source_of f) i
+  pub own : (i : ℕ) (o : ItemOf) → outcome_at f i ≡ Some o → o ≡ item_from (source_of f) i
 
 abbrev pub IsFinished : Finished → ℕ → Type 0
 IsFinished f i = IsSome (outcome_at f i)

@@ -1,9 +1,9 @@
 //! The items that are planned so far, parents before their components.
 
-ghost use Rattle.std.specs.Prelude.{◌≡◌, ◌<◌, ℕ, All, IfOk, OnOk, map};
-ghost use Rattle.mrp_item.specs.Inputs.{count, places};
-ghost use Rattle.mrp_item.specs.Made.{AreParents, inputs_in, item_in, item_of};
-ghost use Rattle.mrp_explode.specs.Finished.{AreOwn, Finishes, IsFinished, IsReady, item_from, source_of};
+ghost use Rattle.std.specs.Prelude.{◌≡◌, ◌<◌, ℕ, IfOk, OnOk};
+ghost use Rattle.mrp_item.specs.Inputs.{count};
+ghost use Rattle.mrp_item.specs.Made.{all_from, item_from, parents_from};
+ghost use Rattle.mrp_explode.specs.Finished.{AreOwn, Finishes, IsFinished, IsReady, source_of};
 ghost use Rattle.mrp_explode.specs.Explosion.{Explodes};
 
 use crate::fault::RunFault;
@@ -38,7 +38,7 @@ impl Finished {
     fn outcome(&self, item: usize) -> &Outcome
         requires own { AreOwn self.now }
         requires finished { IsFinished self.now item }
-        ensures { item_of result.now ≡ item_from (source_of self.now) item }
+        ensures { result.now ≡ item_from (source_of self.now) item }
     {
         match self.outcomes.get(item) {
             Some(Some(outcome)) => outcome,
@@ -50,8 +50,7 @@ impl Finished {
     fn copy_of(&self, item: usize) -> Result<Outcome, NoMemory>
         requires own { AreOwn self.now }
         requires finished { IsFinished self.now item }
-        ensures item { IfOk result (λ o. item_in o ≡ item) }
-        ensures inputs { IfOk result (λ o. inputs_in o ≡ source_of self.now) }
+        ensures { IfOk result (λ o. o ≡ item_from (source_of self.now) item) }
     {
         self.outcome(item).copy()
     }
@@ -61,7 +60,7 @@ impl Finished {
         requires own { AreOwn self.now }
         requires item { item < count (source_of self.now) }
         requires ready { IsReady self.now item }
-        ensures { IfOk result (λ parents. AreParents (source_of self.now) item parents.items) }
+        ensures { IfOk result (λ parents. parents.items ≡ parents_from (source_of self.now) item) }
     {
         let parents = self.inputs.shop().parents(item);
         let mut copies = Vec::with_capacity(alloc, parents.len())?;
@@ -76,7 +75,7 @@ impl Finished {
         requires own { AreOwn self.now }
         requires item { item < count (source_of self.now) }
         requires ready { IsReady self.now item }
-        ensures { IfOk result (λ o. item_of o ≡ item_from (source_of self.now) item) }
+        ensures { IfOk result (λ o. o ≡ item_from (source_of self.now) item) }
     {
         let parents = self.parents_of(alloc, item)?;
         plan_item(alloc, &self.inputs, item, &parents)
@@ -85,10 +84,10 @@ impl Finished {
     // Puts an outcome in its item's place.
     pub fn put(&mut self, outcome: Outcome)
         requires own { AreOwn self.old }
-        requires inputs { inputs_in outcome ≡ source_of self.old }
-        requires item { item_in outcome < count (source_of self.old) }
+        requires inputs { outcome.inputs ≡ source_of self.old }
+        requires item { outcome.item < count (source_of self.old) }
         ensures own { AreOwn self.new }
-        ensures finishes { Finishes self.old self.new (item_in outcome) }
+        ensures finishes { Finishes self.old self.new outcome.item }
     {
         let item = outcome.item();
         self.outcomes[item] = Some(outcome);
@@ -111,8 +110,7 @@ impl Finished {
     fn all(&self, alloc: Global) -> Result<Vec<Outcome>, NoMemory>
         requires own { AreOwn self.now }
         requires all { (i : ℕ) → i < count (source_of self.now) → IsFinished self.now i }
-        ensures items { IfOk result (λ all. map item_in all.items ≡ places (source_of self.now)) }
-        ensures inputs { IfOk result (λ all. All (λ o. inputs_in o ≡ source_of self.now) all.items) }
+        ensures { IfOk result (λ all. all.items ≡ all_from (source_of self.now)) }
     {
         let count = self.outcomes.len();
         let mut all = Vec::with_capacity(alloc, count)?;

@@ -1,10 +1,10 @@
 //! Explosion by low-level codes: the items of a code are planned side by side.
 
-ghost use Rattle.std.specs.Prelude.{◌≡◌, ◌<◌, All, IfOk, OnOk, map};
+ghost use Rattle.std.specs.Prelude.{◌≡◌, ◌<◌, All, IfOk, OnOk};
 ghost use Rattle.mrp_item.specs.Inputs.{count};
-ghost use Rattle.mrp_item.specs.Made.{item_of};
+ghost use Rattle.mrp_item.specs.Made.{item_from, items_from};
 ghost use Rattle.mrp_explode.specs.Explosion.{Explodes};
-ghost use Rattle.mrp_explode.specs.Finished.{AreOwn, FinishesAll, IsReady, item_from, source_of};
+ghost use Rattle.mrp_explode.specs.Finished.{AreOwn, FinishesAll, IsReady, source_of};
 
 use crate::fault::RunFault;
 use crate::finished::Finished;
@@ -29,7 +29,7 @@ fn outcomes_for(
     requires own { AreOwn finished.now }
     requires items { All (λ i. i < count (source_of finished.now)) items.now }
     requires ready { All (IsReady finished.now) items.now }
-    ensures { IfOk result (λ outcomes. map item_of outcomes.items ≡ map (item_from (source_of finished.now)) items.now) }
+    ensures { IfOk result (λ outcomes. outcomes.items ≡ items_from (source_of finished.now) items.now) }
 {
     items
         .par_iter()
@@ -39,7 +39,7 @@ fn outcomes_for(
                 requires own { AreOwn finished.now }
                 requires item { item.now < count (source_of finished.now) }
                 requires ready { IsReady finished.now item.now }
-                ensures { IfOk result (λ o. item_of o ≡ item_from (source_of finished.entry.now) item.now) }
+                ensures { IfOk result (λ o. o ≡ item_from (source_of finished.entry.now) item.now) }
             { finished.outcome_for(alloc, *item) },
         )
         .collect::<Result<Vec<Outcome>, NoMemory>>(rt, alloc)?

@@ -6,9 +6,13 @@ pub mod Asks
 pub mod Parents
 pub mod StartedRows
 pub mod PlannedStock
+pub mod PlannedRows
+pub mod ByKeys
+pub mod SupplyOrder
 pub mod ReceiptRows
 pub mod OwnPlan
 pub mod Firsts
+pub mod PlannedItems
 pub mod Fuel
 pub mod ShopLemmas
 pub mod Rules

@@ -1,21 +1,23 @@
 -- Lists of outcomes, one outcome after the other.
-use Rattle.std.proofs.Common.{◌≡◌, ◌∙◌, ◌<◌, ◌+◌, ℕ, zero, suc, List, [], ◌∷◌, ◌++◌, length, get_or, ap, sym, subst, arith}
-use Rattle.std.specs.Prelude.{All, map}
+use Rattle.std.proofs.Common.{◌≡◌, ◌∙◌, ◌<◌, ◌+◌, ℕ, zero, suc, List, [], ◌∷◌, ◌++◌, length, get_or, take, ap, sym, arith}
+use Rattle.std.specs.Prelude.{map}
 use Rattle.std.specs.List.{range_with_len}
-use Rattle.std.proofs.lemmas.List.{get_or-map, length-map, map-append}
-use Rattle.std.proofs.lemmas.List.Elements.{All-get_or, All-push}
-use Rattle.std.proofs.lemmas.List.FromFn.{get_or-range_with_len, length-range_with_len}
+use Rattle.std.proofs.lemmas.List.{map-append, length-map, take_more}
+use Rattle.std.proofs.lemmas.List.FromFn.{get_or-map-range_with_len, length-map-range_with_len}
 use Rattle.mrp_item.specs.Inputs.{Inputs}
-use Rattle.mrp_item.specs.Made.{inputs_in, item_in}
-use Rattle.mrp_item.specs.declared.outcome.Outcome.{Outcome}
+use Rattle.mrp_item.specs.Places.{ItemOf}
+use Rattle.mrp_item.specs.Made.{item_from, items_from}
 
 -- one more outcome
-pub pushed-items : (old new : List Outcome) (o : Outcome) (xs : List ℕ) (i : ℕ) → map item_in old ≡ xs → new ≡ old ++ o ∷ [] → item_in o ≡ i → map item_in new ≡ xs ++ i ∷ []
-pushed-items old new o xs i same adds is =
-    ap (map item_in) adds ∙ map-append item_in old (o ∷ []) ∙ ap (λ (ys : List ℕ). ys ++ item_in o ∷ []) same ∙ ap (λ (j : ℕ). xs ++ j ∷ []) is
+pub items-more : (s : Inputs) (old new : List ItemOf) (o : ItemOf) (items : List ℕ) (i : ℕ) → old ≡ items_from s items → new ≡ old ++ o ∷ [] → o ≡ item_from s i → new ≡ items_from s (items ++ i ∷ [])
+items-more s old new o items i same adds is =
+    adds ∙ ap (λ (x : ItemOf). old ++ x ∷ []) is ∙ ap (λ (xs : List ItemOf). xs ++ item_from s i ∷ []) same ∙ sym (map-append (item_from s) items (i ∷ []))
 
-pub pushed-inputs : (s : Inputs) (old new : List Outcome) (o : Outcome) → All (λ x. inputs_in x ≡ s) old → new ≡ old ++ o ∷ [] → inputs_in o ≡ s → All (λ x. inputs_in x ≡ s) new
-pushed-inputs s old new o all adds is = subst (All (λ x. inputs_in x ≡ s)) (sym adds) (All-push (λ x. inputs_in x ≡ s) old o all is)
+-- the outcome of the next of some items
+pub items-next : (s : Inputs) (old new : List ItemOf) (o : ItemOf) (items : List ℕ) (k : ℕ) → k < length items → old ≡ items_from s (take k items) → new ≡ old ++ o ∷ []
+    → o ≡ item_from s (get_or items k 0) → new ≡ items_from s (take (k + 1) items)
+items-next s old new o items k h same adds is =
+    items-more s old new o (take k items) (get_or items k 0) same adds is ∙ ap (items_from s) (sym (take_more items k 0 h))
 
 range_more : (a n : ℕ) → range_with_len a (suc n) ≡ range_with_len a n ++ (a + n) ∷ []
 range_more a zero = ap (λ (x : ℕ). x ∷ []) (omega arith)
@@ -30,11 +32,14 @@ places-more n =
     let here : 0 + n ≡ n = omega arith in
     sym (ap (range_with_len 0) next ∙ range_more 0 n ∙ ap (λ (x : ℕ). range_with_len 0 n ++ x ∷ []) here)
 
--- an outcome among those of the first items
-pub item-among : (os : List Outcome) (n p : ℕ) (o : Outcome) → map item_in os ≡ range_with_len 0 n → p < length os → o ≡ get_or os p o → item_in o ≡ p
-item-among os n p o items there is =
-    let within : p < n = omega (arith, sym (length-map os item_in) ∙ ap length items ∙ length-range_with_len 0 n) in
-    ap item_in is ∙ sym (get_or-map item_in os p o 0 there) ∙ ap (λ xs. get_or xs p 0) items ∙ get_or-range_with_len 0 n p 0 within ∙ omega arith
+-- the outcome of the next place
+pub places-next : (s : Inputs) (old new : List ItemOf) (o : ItemOf) (i : ℕ) → old ≡ items_from s (range_with_len 0 i) → new ≡ old ++ o ∷ [] → o ≡ item_from s i → new ≡ items_from s (range_with_len 0 (i + 1))
+places-next s old new o i same adds is = items-more s old new o (range_with_len 0 i) i same adds is ∙ ap (items_from s) (places-more i)
 
-pub inputs-among : (s : Inputs) (os : List Outcome) (p : ℕ) (o : Outcome) → All (λ x. inputs_in x ≡ s) os → p < length os → o ≡ get_or os p o → inputs_in o ≡ s
-inputs-among s os p o same there is = ap inputs_in is ∙ All-get_or (λ (x : Outcome). inputs_in x ≡ s) os p o there same
+-- as many outcomes as items
+pub length-items : (s : Inputs) (n : ℕ) (os : List ItemOf) → os ≡ items_from s (range_with_len 0 n) → length os ≡ n
+length-items s n os are = ap length are ∙ length-map-range_with_len (item_from s) 0 n
+
+-- the outcome at an item's place is the item's
+pub item-at : (s : Inputs) (n i : ℕ) (os : List ItemOf) (o : ItemOf) → os ≡ items_from s (range_with_len 0 n) → i < n → o ≡ get_or os i o → o ≡ item_from s i
+item-at s n i os o are within is = is ∙ ap (λ (xs : List ItemOf). get_or xs i o) are ∙ get_or-map-range_with_len (item_from s) 0 n i i o within (omega arith)

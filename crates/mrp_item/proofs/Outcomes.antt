@@ -84,6 +84,10 @@ own_plan s i = item_plan s i (row (horizon s) (gross_in s i (outcome_of s)))
 pub not_ready : (s : Inputs) (code : ℕ → ℕ) → IsRanked s code → (i : ℕ) → ready s i ≡ false → outcome_of s i ≡ Blocked
 not_ready s code ranked i e = outcome_of-unfolds s code ranked i ∙ rw e refl
 
+-- where every parent is planned, each is
+pub parent-planned : (s : Inputs) (i p : ℕ) → ready s i ≡ true → p < count s → IsParent s.tables.bills p i → is_planned (outcome_of s p) ≡ true
+parent-planned s i p all within parent = each-passes (λ p. is_planned (outcome_of s p)) (λ p. is_parent s.tables.bills p i) 0 (count s) p (omega arith) (omega arith) parent all
+
 pub is_ready : (s : Inputs) (code : ℕ → ℕ) → IsRanked s code → (i : ℕ) → ready s i ≡ true → outcome_of s i ≡ judged s i (own_plan s i)
 is_ready s code ranked i e = outcome_of-unfolds s code ranked i ∙ rw e refl
 

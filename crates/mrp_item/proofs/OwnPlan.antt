@@ -13,8 +13,8 @@ use Rattle.mrp_item.specs.Rows.{scheduled_in, stock_of}
 use Rattle.mrp_item.specs.Orders.{orders_of}
 use Rattle.mrp_item.specs.Own.{AreWithin, ArePast, IsReady, own_gross}
 use Rattle.mrp_item.specs.Plan.{ItemPlan, IsRanked, Over, Planned, Blocked, gross_in, is_planned, is_too_large, item_plan, outcome_of, receipts_of}
-use Rattle.mrp_item.specs.Made.{AreParents, inputs_in, item_in}
-use Rattle.mrp_item.specs.declared.outcome.Outcome.{Outcome}
+use Rattle.mrp_item.specs.Places.{ItemOf}
+use Rattle.mrp_item.specs.Made.{item_from, parents_from}
 use Rattle.mrp_item.proofs.Outcomes.{is_ready, not_ready}
 
 -- sums up to the last week are sums of rows
@@ -68,18 +68,11 @@ within-planned s code i ranked ready within starts =
     is_ready s code ranked i ready ∙ rw small refl
 
 -- parents that are told one by one
-each_same : (s : Inputs) (parents : List Outcome) → ((k : ℕ) (d : Outcome) → k < length parents → inputs_in (get_or parents k d) ≡ s)
-    → list_all (λ o. is_planned (outcome_of (inputs_in o) (item_in o))) parents ≡ list_all (λ o. is_planned (outcome_of s (item_in o))) parents
-each_same s [] same = refl
-each_same s (o ∷ parents) same =
-    let here : inputs_in o ≡ s = same 0 o (omega arith) in
-    ap (λ (x : Inputs). is_planned (outcome_of x (item_in o)) && list_all (λ o. is_planned (outcome_of (inputs_in o) (item_in o))) parents) here
-    ∙ ap (λ b. is_planned (outcome_of s (item_in o)) && b) (each_same s parents (λ k d h. same (suc k) d (omega arith)))
-
-pub told : (s : Inputs) (i : ℕ) (parents : List Outcome) → AreParents s i parents
-    → list_all (λ o. is_planned (outcome_of (inputs_in o) (item_in o))) parents ≡ list_all (λ p. is_planned (outcome_of s p)) (parents_of s.tables.bills (count s) i)
+pub told : (s : Inputs) (i : ℕ) (parents : List ItemOf) → parents ≡ parents_from s i
+    → list_all (λ o. is_planned (outcome_of o.inputs o.item)) parents ≡ list_all (λ p. is_planned (outcome_of s p)) (parents_of s.tables.bills (count s) i)
 told s i parents are =
-    each_same s parents are.inputs ∙ sym (list_all-map (λ p. is_planned (outcome_of s p)) item_in parents) ∙ ap (list_all (λ p. is_planned (outcome_of s p))) are.items
+    ap (list_all (λ o. is_planned (outcome_of o.inputs o.item))) are
+    ∙ list_all-map (λ o. is_planned (outcome_of o.inputs o.item)) (item_from s) (parents_of s.tables.bills (count s) i)
 
 pub blocked : (s : Inputs) (code : ℕ → ℕ) (i : ℕ) → IsRanked s code → list_all (λ p. is_planned (outcome_of s p)) (parents_of s.tables.bills (count s) i) ≡ false → outcome_of s i ≡ Blocked
 blocked s code i ranked e = not_ready s code ranked i e

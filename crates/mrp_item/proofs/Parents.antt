@@ -11,8 +11,8 @@ use Rattle.mrp_phase.specs.Weeks.{row}
 use Rattle.mrp_item.specs.Inputs.{Inputs, count, horizon}
 use Rattle.mrp_item.specs.Orders.{started_in}
 use Rattle.mrp_item.specs.Plan.{outcome_of, plan_in}
-use Rattle.mrp_item.specs.Made.{AreParents, inputs_in, item_in, starts_in}
-use Rattle.mrp_item.specs.declared.outcome.Outcome.{Outcome}
+use Rattle.mrp_item.specs.Places.{ItemOf}
+use Rattle.mrp_item.specs.Made.{item_from, parents_from}
 
 -- the numbers of a range that pass
 pub kept_at : (p : ℕ → Bool) (a n k : ℕ) → k < length (filter p (range_with_len a n))
@@ -124,19 +124,12 @@ lines-at lines i =
     lines_to_front lines i (length lines) (record { parent = 0; component = 0; per = 0 }) (omega arith)
     ∙ ap (filter (λ line. eqb line.component i)) (take_all (length lines) lines (omega arith))
 
--- what starts of a parent, by the parent's place
-pub starts-of : (s : Inputs) (i parent k : ℕ) (parents : List Outcome) (rows : List ℕ) → AreParents s i parents → k < length parents
-    → get_or (parents_of s.tables.bills (count s) i) k 0 ≡ parent → ((d : Outcome) → rows ≡ starts_in (get_or parents k d))
-    → rows ≡ row (horizon s) (started_in (plan_in (outcome_of s parent)).orders)
-starts-of s i parent k [] rows are h is starts = absurd (omega arith)
-starts-of s i parent k (first ∷ others) rows are h is starts =
-    let parents = first ∷ others in
-    let o = get_or parents k first in
-    let item : item_in o ≡ parent = sym (get_or-map item_in parents k first 0 h) ∙ ap (λ xs. get_or xs k 0) are.items ∙ is in
-    let inputs : inputs_in o ≡ s = All-get_or (λ (o : Outcome). inputs_in o ≡ s) parents k first h are.inputs in
-    starts first
-    ∙ ap (λ (x : Inputs). row (horizon x) (started_in (plan_in (outcome_of x (item_in o))).orders)) inputs
-    ∙ ap (λ n. row (horizon s) (started_in (plan_in (outcome_of s n)).orders)) item
+pub length-parents : (s : Inputs) (i : ℕ) (parents : List ItemOf) → parents ≡ parents_from s i → length (parents_of s.tables.bills (count s) i) ≡ length parents
+length-parents s i parents are = sym (ap length are ∙ length-map (parents_of s.tables.bills (count s) i) (item_from s))
 
-pub length-parents : (s : Inputs) (i : ℕ) (parents : List Outcome) → AreParents s i parents → length (parents_of s.tables.bills (count s) i) ≡ length parents
-length-parents s i parents are = ap length (sym are.items) ∙ length-map parents item_in
+-- a parent's outcome, by the parent's place
+pub parent-at : (s : Inputs) (i parent k : ℕ) (parents : List ItemOf) (o : ItemOf) → parents ≡ parents_from s i → k < length parents
+    → get_or (parents_of s.tables.bills (count s) i) k 0 ≡ parent → o ≡ get_or parents k o → o ≡ item_from s parent
+parent-at s i parent k parents o are h at is =
+    let there : k < length (parents_of s.tables.bills (count s) i) = omega (arith, h, length-parents s i parents are) in
+    is ∙ ap (λ (xs : List ItemOf). get_or xs k o) are ∙ get_or-map (item_from s) (parents_of s.tables.bills (count s) i) k 0 o there ∙ ap (item_from s) at

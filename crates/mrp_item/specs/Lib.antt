@@ -10,7 +10,9 @@ pub mod Plan
 pub mod View
 pub mod Places
 pub mod Kept
+pub mod Cases
 pub mod Own
 pub mod Whole
 pub mod Made
 pub mod Asked
+pub mod Supplies

@@ -1,7 +1,7 @@
 -- An item and what it is planned from, as contracts see outcomes.
 use Rattle.std.specs.Prelude.{ℕ, List}
 use Rattle.mrp_item.specs.Inputs.{Inputs}
-use Rattle.mrp_item.specs.Plan.{ItemPlan, Outcome}
+use Rattle.mrp_item.specs.Plan.{ItemPlan}
 
 pub record ItemOf : Type 0 where
   pub inputs : Inputs
@@ -11,11 +11,6 @@ pub record PlannedItem : Type 0 where
   pub inputs : Inputs
   pub item : ℕ
   pub plan : ItemPlan
-
-pub record ItemOutcome : Type 0 where
-  pub inputs : Inputs
-  pub item : ℕ
-  pub outcome : Outcome
 
 pub record WholePlan : Type 0 where
   pub inputs : Inputs

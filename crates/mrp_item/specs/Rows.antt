@@ -5,15 +5,12 @@ use Rattle.mrp_tables.specs.declared.rows.Receipt.{Receipt}
 use Rattle.mrp_tables.specs.declared.rows.MasterKind.{MasterKind}
 use Rattle.mrp_tables.specs.declared.rows.MasterKind.TheVariants.{Firm, Forecast}
 use Rattle.mrp_tables.specs.declared.rows.MasterRow.{MasterRow}
-use Rattle.mrp_master.specs.Supply as supply
+use Rattle.mrp_tables.specs.Master.{is_firm}
 use Rattle.mrp_master.specs.Supply.{on_hand_of}
 use Rattle.mrp_book.specs.declared.booking.Booking.{Booking}
 use Rattle.mrp_phase.specs.Weeks.{row}
 use Rattle.mrp_net.specs.declared.stock.Stock.{Stock}
 use Rattle.mrp_item.specs.Inputs.{Inputs, horizon, item_at, is_master}
-
-abbrev pub is_firm : MasterKind → Bool
-is_firm kind = supply.is_firm kind
 
 abbrev pub is_forecast : MasterKind → Bool
 is_forecast Firm = false

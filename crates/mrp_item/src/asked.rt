@@ -1,15 +1,15 @@
 //! What the parents' orders ask of an item.
 
 ghost use Rattle.std.specs.Prelude.{◌≡◌, ◌≤◌, ◌<◌, ◌+◌, ◌*◌, ℕ, true, length, sum, sum_by, slice_index, IfOk, IfErr, OnSome, IfNone};
-ghost use Rattle.std.specs.List.{list_all, slice_index_or};
 ghost use Rattle.mrp_qty.specs.Quantity.{greatest_quantity};
 ghost use Rattle.mrp_phase.specs.Weeks.{in_week, row};
 ghost use Rattle.mrp_item.specs.Asked.{asked_in, with_asked};
 ghost use Rattle.mrp_item.specs.Inputs.{count, horizon};
 ghost use Rattle.mrp_bill.specs.Bill.{IsParent, line_at};
 ghost use Rattle.mrp_item.specs.Orders.{started_in};
-ghost use Rattle.mrp_item.specs.Plan.{outcome_of, plan_in};
-ghost use Rattle.mrp_item.specs.Made.{AreParents, has_plan, starts_in};
+ghost use Rattle.mrp_item.specs.Plan.{is_planned, outcome_of, plan_in};
+ghost use Rattle.mrp_item.specs.Made.{parents_from};
+ghost use Rattle.mrp_item.specs.Own.{IsReady};
 
 use crate::due::nothing;
 use crate::inputs::Inputs;
@@ -33,15 +33,14 @@ fn place_of(numbers: &[usize], number: usize) -> usize
     }
 }
 
-// What starts of a planned parent in each week.
-fn started_at(parents: &[Outcome], place: usize) -> &[Qty]
-    requires within { place < length parents.now }
-    requires planned { list_all has_plan parents.now ≡ true }
-    ensures { (d : _) → result.now ≡ starts_in (slice_index_or parents.now place d) }
+// What starts of a planned item in each week.
+fn started_by(outcome: &Outcome) -> &[Qty]
+    requires { is_planned (outcome_of outcome.now.inputs outcome.now.item) ≡ true }
+    ensures { result.now ≡ row (horizon outcome.now.inputs) (started_in (plan_in (outcome_of outcome.now.inputs outcome.now.item)).orders) }
 {
-    match &parents[place] {
-        Outcome::Planned(planned) => planned.started().as_slice(),
-        Outcome::Over(_) | Outcome::Blocked(_) => &[],
+    match outcome.plan() {
+        Some(planned) => planned.started().as_slice(),
+        None => unreachable!(),
     }
 }
 
@@ -70,12 +69,12 @@ fn add_line(asked: &mut Vec<Qty>, started: &[Qty], per: u64) -> Option<()>
 // What starts in each week of a parent of an item.
 fn started_of<'a>(inputs: &Inputs, item: usize, parents: &'a [Outcome], parent: usize) -> &'a [Qty]
     requires item { item < count inputs.now }
-    requires parents { AreParents inputs.now item parents.now }
-    requires planned { list_all has_plan parents.now ≡ true }
+    requires parents { parents.now ≡ parents_from inputs.now item }
+    requires ready { IsReady inputs.now item }
     requires parent { IsParent inputs.now.tables.bills parent item }
     ensures { result.now ≡ row (horizon inputs.now) (started_in (plan_in (outcome_of inputs.now parent)).orders) }
 {
-    started_at(parents, place_of(inputs.shop().parents(item), parent))
+    started_by(&parents[place_of(inputs.shop().parents(item), parent)])
 }
 
 // The line at a place of the bill table.
@@ -94,8 +93,8 @@ pub fn asked_row(
     parents: &[Outcome],
 ) -> Result<Weeks<Qty>, Stop>
     requires item { item < count inputs.now }
-    requires parents { AreParents inputs.now item parents.now }
-    requires planned { list_all has_plan parents.now ≡ true }
+    requires parents { parents.now ≡ parents_from inputs.now item }
+    requires ready { IsReady inputs.now item }
     ensures value { IfOk result (λ w. w ≡ row (horizon inputs.now) (asked_in inputs.now item)) }
     ensures over { IfErr result (λ stop. stop ≡ Stop.Over → greatest_quantity < sum (row (horizon inputs.now) (asked_in inputs.now item))) }
 {

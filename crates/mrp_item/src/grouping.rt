@@ -4,22 +4,13 @@ ghost use Rattle.std.specs.Prelude.{◌≡◌, ◌<◌, ◌+◌, ◌==◌, ℕ, 
 ghost use Rattle.std.specs.List.{slice_index_or};
 ghost use Rattle.mrp_qty.specs.Quantity.{quantity_of};
 ghost use Rattle.mrp_item.specs.Dues.{firm_dues, forecast_dues, receipt_dues, booking_dues, listed};
-ghost use Rattle.mrp_item.specs.Rows.{is_firm, is_forecast};
+ghost use Rattle.mrp_item.specs.Rows.{is_forecast};
 
 use crate::due::{Due, DueLists};
 use mrp_book::Booking;
 use mrp_qty::{NoMemory, Qty};
 use mrp_tables::{MasterKind, MasterRow, Receipt, StockRow};
 use std::alloc::Global;
-
-fn is_firm_kind(kind: MasterKind) -> bool
-    ensures { result ≡ is_firm kind }
-{
-    match kind {
-        MasterKind::Firm => true,
-        MasterKind::Forecast => false,
-    }
-}
 
 fn is_forecast_kind(kind: MasterKind) -> bool
     ensures { result ≡ is_forecast kind }
@@ -42,7 +33,7 @@ pub fn firm_by_item(alloc: Global, count: usize, rows: &[MasterRow]) -> Result<D
             week: row.week,
             quantity: row.quantity,
         };
-        lists.add_if(is_firm_kind(row.kind), row.item, due)?;
+        lists.add_if(row.kind.is_firm(), row.item, due)?;
     }
     Ok(lists)
 }

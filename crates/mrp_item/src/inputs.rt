@@ -104,8 +104,8 @@ impl Inputs {
         self.shop().tables().calendar().weeks()
     }
 
-    // An item's master data.
-    pub(crate) fn entry(&self, item: usize) -> Item
+    /// An item's master data. The caller owes that the shop has the item.
+    pub fn entry(&self, item: usize) -> Item
         requires { item < count self.now }
         ensures value { result ≡ item_at self.now item }
         ensures within { IsPlannable result }

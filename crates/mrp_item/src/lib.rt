@@ -2,7 +2,6 @@
 #![tactic(auto)]
 
 mod asked;
-mod blocked;
 mod due;
 mod grouping;
 mod inputs;
@@ -10,18 +9,19 @@ pub mod laws;
 mod order;
 mod orders;
 mod outcome;
-mod over;
 mod plan;
+mod planned;
 mod planning;
 mod stocked;
 mod stop;
+mod supplies;
 mod supply;
 
-pub use blocked::BlockedItem;
 pub use due::Due;
 pub use inputs::Inputs;
 pub use order::{Order, OrderKind};
-pub use outcome::{Outcome, Planned};
-pub use over::OverItem;
+pub use outcome::Outcome;
 pub use plan::Plan;
+pub use planned::Planned;
 pub use planning::plan_item;
+pub use supplies::{Supplied, Supply};

@@ -1,195 +1,127 @@
 //! What planning makes of an item.
 
-use crate::blocked::BlockedItem;
 use crate::inputs::Inputs;
-use crate::order::Order;
-use crate::over::OverItem;
-use mrp_phase::Weeks;
-use mrp_qty::{NoMemory, Qty};
+use crate::planned::Planned;
+use mrp_qty::NoMemory;
 use std::marker::Model;
 use std::sync::Arc;
 
-/// An item's plan, for the inputs that it holds.
+// What planning makes of an item, with what it is planned from.
 #[derive(Drop)]
-pub struct Planned {
-    inputs: Arc<Inputs>,
-    item: usize,
-    gross: Weeks<Qty>,
-    receipts: Weeks<Qty>,
-    orders: Vec<Order>,
-    started: Weeks<Qty>,
+enum Case {
+    // The item is planned.
+    Planned(Planned),
+    // Its requirements, supplies or starts add up to more than the greatest quantity.
+    Over(Arc<Inputs>, usize),
+    // An item above it is over.
+    Blocked(Arc<Inputs>, usize),
 }
 
-impl Model for Planned {
-    ghost use Rattle.mrp_item.specs.Places.{PlannedItem};
-
-    ghost Value = { PlannedItem };
-
-    ghost use Rattle.mrp_item.specs.Kept.{planned_view, IsPlanned};
-
-    ghost view = { planned_view };
-
-    ghost invariant = { IsPlanned };
-}
-
-impl Planned {
-    ghost use Rattle.std.specs.Prelude.{◌≡◌, ◌<◌};
-    ghost use Rattle.mrp_phase.specs.Weeks.{row};
-    ghost use Rattle.mrp_item.specs.Inputs.{count, horizon};
-    ghost use Rattle.mrp_item.specs.Orders.{started_in};
-    ghost use Rattle.mrp_item.specs.Plan as plan;
-    ghost use Rattle.mrp_item.specs.Plan.{outcome_of};
-
-    // A plan that is the item's.
-    pub(crate) fn new(
-        inputs: Arc<Inputs>,
-        item: usize,
-        gross: Weeks<Qty>,
-        receipts: Weeks<Qty>,
-        orders: Vec<Order>,
-        started: Weeks<Qty>,
-    ) -> Planned
-        requires within { item < count inputs.value }
-        requires outcome { outcome_of inputs.value item ≡ plan.Planned (record { gross = gross; receipts = receipts; orders = orders.items }) }
-        requires started { started ≡ row (horizon inputs.value) (started_in orders.items) }
-        ensures { result ≡ record { inputs = inputs.value; item = item; plan = record { gross = gross; receipts = receipts; orders = orders.items } } }
-    {
-        Planned {
-            inputs,
-            item,
-            gross,
-            receipts,
-            orders,
-            started,
-        }
-    }
-
-    /// What the item is planned from.
-    pub fn inputs(&self) -> &Arc<Inputs>
-        ensures inputs { result.now.value ≡ self.now.inputs }
-        ensures outcome { outcome_of self.now.inputs self.now.item ≡ plan.Planned self.now.plan }
-    {
-        &self.inputs
-    }
-
-    /// The item, by its place.
-    pub fn item(&self) -> usize
-        ensures item { result ≡ self.now.item }
-        ensures within { result < count self.now.inputs }
-    {
-        self.item
-    }
-
-    /// The gross requirements of each week.
-    pub fn gross(&self) -> &Weeks<Qty>
-        ensures gross { result.now ≡ self.now.plan.gross }
-        ensures outcome { outcome_of self.now.inputs self.now.item ≡ plan.Planned self.now.plan }
-    {
-        &self.gross
-    }
-
-    /// The planned receipts up to each week.
-    pub fn receipts(&self) -> &Weeks<Qty>
-        ensures receipts { result.now ≡ self.now.plan.receipts }
-        ensures outcome { outcome_of self.now.inputs self.now.item ≡ plan.Planned self.now.plan }
-    {
-        &self.receipts
-    }
-
-    /// The orders, by due week, firm ones first; an order's number is its place from 1.
-    pub fn orders(&self) -> &[Order]
-        ensures orders { result.now ≡ self.now.plan.orders }
-        ensures outcome { outcome_of self.now.inputs self.now.item ≡ plan.Planned self.now.plan }
-    {
-        self.orders.as_slice()
-    }
-
-    /// What starts in each week: the starts of the orders released there.
-    pub fn started(&self) -> &Weeks<Qty>
-        ensures started { result.now ≡ row (horizon self.now.inputs) (started_in self.now.plan.orders) }
-        ensures outcome { outcome_of self.now.inputs self.now.item ≡ plan.Planned self.now.plan }
-    {
-        &self.started
-    }
-}
-
-/// What planning makes of an item, for the inputs that it holds (profile): the variant is the
-/// item's.
+/// What planning makes of an item, for the inputs that it holds (profile): the item is planned; or
+/// it is over, where its requirements, supplies or starts add up to more than the greatest
+/// quantity; or it is blocked, where an item above it is over. Contracts see the inputs and the
+/// item, which say which of these it is.
 #[derive(Drop)]
-pub enum Outcome {
-    /// The item is planned.
-    Planned(Arc<Planned>),
-    /// Its requirements, supplies or starts add up to more than the greatest quantity.
-    Over(OverItem),
-    /// An item above it is over.
-    Blocked(BlockedItem),
+pub struct Outcome {
+    case: Case,
+}
+
+impl Model for Outcome {
+    ghost use Rattle.mrp_item.specs.Places.{ItemOf};
+
+    ghost Value = { ItemOf };
+
+    ghost use Rattle.mrp_item.specs.Cases.{item_of, IsOwn};
+
+    ghost view = { λ o. item_of o.case };
+
+    ghost invariant = { λ o. IsOwn o.case };
 }
 
 impl Outcome {
     ghost use Rattle.std.specs.Prelude.{◌≡◌, IfOk};
+    ghost use Rattle.std.specs.Option.{option_copied};
+    ghost use Rattle.mrp_item.specs.Plan as plan;
     ghost use Rattle.mrp_item.specs.Plan.{is_over, is_planned, outcome_of};
-    ghost use Rattle.mrp_item.specs.Made.{inputs_in, item_in, has_plan, seen};
+    ghost use Rattle.mrp_item.specs.Made.{planned_item};
+
+    // The outcome of a planned item.
+    pub(crate) fn planned(planned: Planned) -> Outcome
+        requires { outcome_of planned.inputs planned.item ≡ plan.Planned planned.plan }
+        ensures { result ≡ record { inputs = planned.inputs; item = planned.item } }
+    {
+        Outcome {
+            case: Case::Planned(planned),
+        }
+    }
+
+    // The outcome of an item that is over.
+    pub(crate) fn over(inputs: Arc<Inputs>, item: usize) -> Outcome
+        requires { outcome_of inputs.value item ≡ plan.Over }
+        ensures { result ≡ record { inputs = inputs.value; item = item } }
+    {
+        Outcome {
+            case: Case::Over(inputs, item),
+        }
+    }
+
+    // The outcome of an item that is blocked.
+    pub(crate) fn blocked(inputs: Arc<Inputs>, item: usize) -> Outcome
+        requires { outcome_of inputs.value item ≡ plan.Blocked }
+        ensures { result ≡ record { inputs = inputs.value; item = item } }
+    {
+        Outcome {
+            case: Case::Blocked(inputs, item),
+        }
+    }
 
     /// What the item is planned from.
     pub fn inputs(&self) -> &Arc<Inputs>
-        ensures { result.now.value ≡ inputs_in self.now }
+        ensures { result.now.value ≡ self.now.inputs }
     {
-        match self {
-            Outcome::Planned(planned) => planned.inputs(),
-            Outcome::Over(over) => over.inputs(),
-            Outcome::Blocked(blocked) => blocked.inputs(),
+        match &self.case {
+            Case::Planned(planned) => planned.inputs(),
+            Case::Over(inputs, _) | Case::Blocked(inputs, _) => inputs,
         }
     }
 
     /// The item, by its place.
     pub fn item(&self) -> usize
-        ensures { result ≡ item_in self.now }
+        ensures { result ≡ self.now.item }
     {
-        match self {
-            Outcome::Planned(planned) => planned.item(),
-            Outcome::Over(over) => over.item(),
-            Outcome::Blocked(blocked) => blocked.item(),
+        match &self.case {
+            Case::Planned(planned) => planned.item(),
+            Case::Over(_, item) | Case::Blocked(_, item) => *item,
+        }
+    }
+
+    /// The item's plan; None where it is not planned.
+    pub fn plan(&self) -> Option<&Planned>
+        ensures { option_copied result ≡ planned_item self.now }
+    {
+        match &self.case {
+            Case::Planned(planned) => Some(planned),
+            Case::Over(_, _) | Case::Blocked(_, _) => None,
         }
     }
 
     /// Whether the item is planned.
     pub fn is_planned(&self) -> bool
-        ensures plan { result ≡ has_plan self.now }
-        ensures outcome { result ≡ is_planned (outcome_of (inputs_in self.now) (item_in self.now)) }
+        ensures { result ≡ is_planned (outcome_of self.now.inputs self.now.item) }
     {
-        match self {
-            Outcome::Planned(planned) => {
-                let _plan = planned.inputs();
-                true
-            }
-            Outcome::Over(over) => {
-                let _over = over.item();
-                false
-            }
-            Outcome::Blocked(blocked) => {
-                let _blocked = blocked.inputs();
-                false
-            }
+        match &self.case {
+            Case::Planned(_) => true,
+            Case::Over(_, _) | Case::Blocked(_, _) => false,
         }
     }
 
     /// Whether the item is over.
     pub fn is_over(&self) -> bool
-        ensures { result ≡ is_over (outcome_of (inputs_in self.now) (item_in self.now)) }
+        ensures { result ≡ is_over (outcome_of self.now.inputs self.now.item) }
     {
-        match self {
-            Outcome::Planned(planned) => {
-                let _plan = planned.orders();
-                false
-            }
-            Outcome::Over(over) => {
-                let _over = over.inputs();
-                true
-            }
-            Outcome::Blocked(blocked) => {
-                let _blocked = blocked.inputs();
-                false
-            }
+        match &self.case {
+            Case::Over(_, _) => true,
+            Case::Planned(_) | Case::Blocked(_, _) => false,
         }
     }
 
@@ -197,18 +129,13 @@ impl Outcome {
     ///
     /// Errors: `NoMemory` where a count of sharers can't rise.
     pub fn copy(&self) -> Result<Outcome, NoMemory>
-        ensures { IfOk result (λ copy. seen copy ≡ seen self.now) }
+        ensures { IfOk result (λ copy. copy ≡ self.now) }
     {
-        match self {
-            Outcome::Planned(planned) => Ok(Outcome::Planned(planned.clone()?)),
-            Outcome::Over(over) => {
-                let inputs = over.inputs().clone()?;
-                Ok(Outcome::Over(OverItem::new(inputs, over.item())))
-            }
-            Outcome::Blocked(blocked) => {
-                let inputs = blocked.inputs().clone()?;
-                Ok(Outcome::Blocked(BlockedItem::new(inputs, blocked.item())))
-            }
-        }
+        let case = match &self.case {
+            Case::Planned(planned) => Case::Planned(planned.copy()?),
+            Case::Over(inputs, item) => Case::Over(inputs.clone()?, *item),
+            Case::Blocked(inputs, item) => Case::Blocked(inputs.clone()?, *item),
+        };
+        Ok(Outcome { case })
     }
 }

@@ -2,7 +2,8 @@
 
 use crate::inputs::Inputs;
 use crate::order::Order;
-use crate::outcome::{Outcome, Planned};
+use crate::outcome::Outcome;
+use crate::planned::Planned;
 use std::marker::Model;
 use std::sync::Arc;
 
@@ -26,21 +27,20 @@ impl Model for Plan {
 }
 
 impl Plan {
-    ghost use Rattle.std.specs.Prelude.{◌≡◌, ◌<◌, All, IfOk, IfErr, Ok, Err, length, map};
-    ghost use Rattle.std.specs.List.{range_with_len};
-    ghost use Rattle.mrp_item.specs.Inputs.{count, places};
-    ghost use Rattle.mrp_item.specs.Made.{inputs_in, item_in};
+    ghost use Rattle.std.specs.Prelude.{◌≡◌, ◌<◌, IfOk, IfErr, Ok, Err};
+    ghost use Rattle.mrp_item.specs.Inputs.{count};
+    ghost use Rattle.mrp_item.specs.Made.{all_from};
     ghost use Rattle.mrp_item.specs.Plan.{outcome_of, plan_in, plan_of};
 
     /// The plan that every item's outcome makes, in table order, or the first item that is over. It
     /// takes no memory. It needs the outcomes of all items, in table order, of equal inputs.
     pub fn of(inputs: Arc<Inputs>, outcomes: Vec<Outcome>) -> Result<Plan, usize>
-        requires items { map item_in outcomes.items ≡ places inputs.value }
-        requires inputs { All (λ o. inputs_in o ≡ inputs.value) outcomes.items }
+        requires { outcomes.items ≡ all_from inputs.value }
         ensures plan { IfOk result (λ plan. plan_of inputs.value ≡ Ok plan.plans) }
         ensures inputs { IfOk result (λ plan. plan.inputs ≡ inputs.value) }
         ensures over { IfErr result (λ item. plan_of inputs.value ≡ Err item) }
     {
+        let _ranked = inputs.shop();
         let all = outcomes.as_slice();
         for outcome in all {
             if outcome.is_over() {
@@ -63,20 +63,9 @@ impl Plan {
         requires { item < count self.now.inputs }
         ensures { result.now ≡ record { inputs = self.now.inputs; item = item; plan = plan_in (outcome_of self.now.inputs item) } }
     {
-        let _ranked = self.inputs.shop();
-        match &self.outcomes[item] {
-            Outcome::Planned(planned) => {
-                let _outcome = planned.inputs();
-                planned
-            }
-            Outcome::Over(over) => {
-                let _outcome = over.inputs();
-                unreachable!()
-            }
-            Outcome::Blocked(blocked) => {
-                let _outcome = blocked.inputs();
-                unreachable!()
-            }
+        match self.outcomes[item].plan() {
+            Some(planned) => planned,
+            None => unreachable!(),
         }
     }
 

@@ -8,22 +8,22 @@ ghost use Rattle.mrp_lots.specs.Lots.{receipts};
 ghost use Rattle.mrp_item.specs.Limits.{IsSized};
 ghost use Rattle.mrp_item.specs.Inputs.{count, horizon};
 ghost use Rattle.mrp_item.specs.Lot.{rule_of};
-ghost use Rattle.mrp_item.specs.Made.{AreParents, has_plan, inputs_in, item_in, item_of, made};
+ghost use Rattle.mrp_item.specs.Kept.{plan_in_rows};
+ghost use Rattle.mrp_item.specs.Made.{item_from, parents_from};
 ghost use Rattle.mrp_item.specs.Orders.{started_in};
 ghost use Rattle.mrp_item.specs.Own.{AreWithin, ArePast, IsReady, own_gross};
 ghost use Rattle.mrp_item.specs.Plan as plan;
 ghost use Rattle.mrp_item.specs.Plan.{is_planned, outcome_of, receipts_of};
 
 use crate::asked::asked_row;
-use crate::blocked::BlockedItem;
 use crate::due::{add_in, nothing};
 use crate::inputs::Inputs;
 use crate::order::Order;
 use crate::orders::orders_for;
-use crate::outcome::{Outcome, Planned};
-use crate::over::OverItem;
+use crate::outcome::Outcome;
+use crate::planned::{PlanRows, Planned};
 use crate::stop::Stop;
-use crate::supply::{demand_row, is_master_item, stock_for};
+use crate::supply::{demand_row, stock_for};
 use mrp_lots::{Fixed, LotForLot, Period, receipts};
 use mrp_net::{NeedRow, NetFault, Stock, need};
 use mrp_phase::Weeks;
@@ -40,12 +40,12 @@ fn gross_row(
     parents: &[Outcome],
 ) -> Result<Weeks<Qty>, Stop>
     requires item { item < count inputs.now }
-    requires parents { AreParents inputs.now item parents.now }
-    requires planned { list_all has_plan parents.now ≡ true }
+    requires parents { parents.now ≡ parents_from inputs.now item }
+    requires ready { IsReady inputs.now item }
     ensures value { IfOk result (λ w. w ≡ own_gross inputs.now item) }
     ensures over { IfErr result (λ stop. stop ≡ Stop.Over → greatest_quantity < sum (own_gross inputs.now item)) }
 {
-    if is_master_item(inputs.entry(item).class) {
+    if inputs.entry(item).class.is_master() {
         demand_row(alloc, inputs, item)
     } else {
         asked_row(alloc, inputs, item, parents)
@@ -115,24 +115,9 @@ fn receipts_row(
 
 // Whether all parents are planned.
 fn are_planned(parents: &[Outcome]) -> bool
-    ensures plans { result ≡ list_all has_plan parents.now }
-    ensures outcomes { result ≡ list_all (λ o. is_planned (outcome_of (inputs_in o) (item_in o))) parents.now }
+    ensures { result ≡ list_all (λ o. is_planned (outcome_of o.inputs o.item)) parents.now }
 {
-    for parent in parents {
-        if !parent.is_planned() {
-            return false;
-        }
-    }
-    true
-}
-
-// An item's rows.
-#[derive(Drop)]
-struct OwnRows {
-    gross: Weeks<Qty>,
-    receipts: Weeks<Qty>,
-    orders: Vec<Order>,
-    started: Weeks<Qty>,
+    parents.iter().all(|parent| parent.is_planned())
 }
 
 // The rows of an item whose parents are all planned.
@@ -141,10 +126,9 @@ fn own_rows(
     inputs: &Inputs,
     item: usize,
     parents: &[Outcome],
-) -> Result<OwnRows, Stop>
+) -> Result<PlanRows, Stop>
     requires item { item < count inputs.now }
-    requires parents { AreParents inputs.now item parents.now }
-    requires plans { list_all has_plan parents.now ≡ true }
+    requires parents { parents.now ≡ parents_from inputs.now item }
     requires ready { IsReady inputs.now item }
     ensures outcome { IfOk result (λ rows. outcome_of inputs.now item ≡ plan.Planned (record { gross = rows.gross; receipts = rows.receipts; orders = rows.orders.items })) }
     ensures started { IfOk result (λ rows. rows.started ≡ row (horizon inputs.now) (started_in rows.orders.items)) }
@@ -155,7 +139,7 @@ fn own_rows(
     let receipts = receipts_row(alloc, inputs, item, &gross)?;
     let orders = orders_for(alloc, inputs, item, receipts.as_slice())?.into_vec();
     let started = started_row(alloc, inputs.weeks(), orders.as_slice())?;
-    Ok(OwnRows {
+    Ok(PlanRows {
         gross,
         receipts,
         orders,
@@ -176,27 +160,20 @@ pub fn plan_item(
     parents: &[Outcome],
 ) -> Result<Outcome, NoMemory>
     requires item { item < count inputs.now.value }
-    requires parents { AreParents inputs.now.value item parents.now }
-    ensures item { IfOk result (λ o. item_of o ≡ record { inputs = inputs.now.value; item = item }) }
-    ensures outcome { IfOk result (λ o. made o ≡ outcome_of inputs.now.value item) }
+    requires parents { parents.now ≡ parents_from inputs.now.value item }
+    ensures { IfOk result (λ o. o ≡ item_from inputs.now.value item) }
 {
     let source = inputs.clone()?;
     let _ranked = source.shop();
     if !are_planned(parents) {
-        return Ok(Outcome::Blocked(BlockedItem::new(source, item)));
+        return Ok(Outcome::blocked(source, item));
     }
     match own_rows(alloc, inputs, item, parents) {
         Ok(rows) => {
-            let OwnRows {
-                gross,
-                receipts,
-                orders,
-                started,
-            } = rows;
-            let planned = Planned::new(source, item, gross, receipts, orders, started);
-            Ok(Outcome::Planned(Arc::new(alloc, planned)?))
+            let planned = Planned::new(source, item, Arc::new(alloc, rows)?);
+            Ok(Outcome::planned(planned))
         }
-        Err(Stop::Over) => Ok(Outcome::Over(OverItem::new(source, item))),
+        Err(Stop::Over) => Ok(Outcome::over(source, item)),
         Err(Stop::NoMemory) => Err(NoMemory),
     }
 }

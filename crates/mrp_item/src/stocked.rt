@@ -1,6 +1,6 @@
 //! What a planned item has without planning.
 
-use crate::outcome::Planned;
+use crate::planned::Planned;
 use crate::stop::Stop;
 use crate::supply::stock_for;
 use mrp_net::Stock;

@@ -3,7 +3,6 @@
 ghost use Rattle.std.specs.Prelude.{◌≡◌, ◌<◌, ◌+◌, ℕ, length, max, sum, IfOk, IfErr};
 ghost use Rattle.mrp_qty.specs.Quantity.{greatest_quantity};
 ghost use Rattle.mrp_phase.specs.Weeks.{in_week, row};
-ghost use Rattle.mrp_tables.specs.Items.{is_master};
 ghost use Rattle.mrp_item.specs.Inputs.{count, horizon};
 ghost use Rattle.mrp_item.specs.Rows.{demand, scheduled_in, stock_of};
 ghost use Rattle.mrp_item.specs.Dues.{due_sum};
@@ -14,24 +13,14 @@ use crate::stop::Stop;
 use mrp_net::Stock;
 use mrp_phase::Weeks;
 use mrp_qty::{NoMemory, Qty};
-use mrp_tables::Class;
 use std::alloc::Global;
-
-pub fn is_master_item(class: Class) -> bool
-    ensures { result ≡ is_master class }
-{
-    match class {
-        Class::Master => true,
-        Class::Part => false,
-    }
-}
 
 // The firm rows of a master item, and the open receipts of another.
 fn scheduled_dues(inputs: &Inputs, item: usize) -> &[Due]
     requires { item < count inputs.now }
     ensures { (week : ℕ) → due_sum result.now week ≡ scheduled_in inputs.now item week }
 {
-    if is_master_item(inputs.entry(item).class) {
+    if inputs.entry(item).class.is_master() {
         inputs.firm(item)
     } else {
         inputs.receipts(item)

@@ -1,1 +1,2 @@
 pub mod DayEnds
+pub mod Asked

@@ -1,3 +1,3 @@
-pub mod Request
+pub mod Words
 pub mod Status
 pub mod Ends

@@ -2,6 +2,8 @@
 #![tactic(auto)]
 
 mod command;
+mod ending;
+pub mod laws;
 mod run;
 mod status;
 

@@ -1,123 +1,63 @@
 //! What the words ask for, done over an input, an output and an error stream.
 
-ghost use Rattle.std.specs.Prelude.{◌≡◌, ◌<◌, ◌⊎◌};
-ghost use Rattle.std.specs.Int.{IsInRange};
-ghost use Rattle.mrp_main.specs.Ends.{Ends, HelpEnds, PlanEnds};
-ghost use Rattle.mrp_main.specs.Status.{IsStatusOf, code_of};
+ghost use Rattle.std.specs.Prelude.{◌≡◌, ◌<◌, map, string_bytes};
+ghost use Rattle.std.specs.Result.{ForOk};
+ghost use Rattle.mrp_main.specs.Ends.{Ends, HelpEnds, IsDone, PlanEnds};
+ghost use Rattle.mrp_main.specs.Words.{HasWorkers};
 
 use crate::command::{NoRequest, Request, read_words};
-use crate::status::Status;
-use mrp_engine::{DayFault, run_day};
-use mrp_rows::{Fault, Told, Tries, fault_text, write_text};
+use crate::ending::Ending;
+use mrp_engine::run_day;
+use mrp_rows::{Told, Tries, write_text};
 use std::alloc::Global;
 use std::convert::AsStr;
 use std::io::{Read, Write};
 use std::thread::Threads;
 
-// Writes a line to the error stream: pieces of text, and a line feed. Its failure is no matter.
-fn tell<E: Write>(errors: &mut Told<E>, pieces: &[&[u8]]) {
-    let mut tries = Tries::new();
-    for piece in pieces {
-        let _ = write_text(errors, piece, &mut tries);
-    }
-    let _ = write_text(errors, b"\n", &mut tries);
-}
-
-fn tell_no_memory<E: Write>(errors: &mut Told<E>) -> Status
-    ensures { result ≡ Status.NoMemory }
-{
-    tell(errors, &[b"no memory"]);
-    Status::NoMemory
-}
-
-fn tell_refused<E: Write>(alloc: Global, fault: &Fault, errors: &mut Told<E>) -> Status
-    ensures { (result ≡ Status.Refused) ⊎ (result ≡ Status.NoMemory) }
-{
-    match fault_text(alloc, fault) {
-        Ok(text) => {
-            tell(errors, &[b"refused: ", text.as_bytes()]);
-            Status::Refused
-        }
-        Err(_) => tell_no_memory(errors),
-    }
-}
-
-// Says on the error stream why a day was not written, and with what status the program ends.
-fn tell_day<E: Write>(alloc: Global, fault: &DayFault, errors: &mut Told<E>) -> Status
-    ensures { IsStatusOf fault.now result }
-{
-    match fault {
-        DayFault::Refused(fault) => tell_refused(alloc, fault, errors),
-        DayFault::TooLarge(name) => {
-            tell(errors, &[b"too large: ", name.as_bytes()]);
-            Status::Refused
-        }
-        DayFault::Read => {
-            tell(errors, &[b"read failed"]);
-            Status::Stream
-        }
-        DayFault::Write => {
-            tell(errors, &[b"write failed"]);
-            Status::Stream
-        }
-        DayFault::NoMemory => tell_no_memory(errors),
-    }
-}
-
 // Writes the help that was asked for.
-fn write_help<W: Write, E: Write>(text: &str, output: &mut Told<W>, errors: &mut Told<E>) -> Status
-    ensures { HelpEnds W.contents text.now output.old output.new result }
+fn write_help<W: Write>(text: &str, output: &mut Told<W>) -> Ending
+    ensures { HelpEnds W.contents output.old output.new text.now result }
 {
     match write_text(output, text.as_bytes(), &mut Tries::new()) {
-        Ok(()) => Status::Done,
-        Err(_) => {
-            tell(errors, &[b"write failed"]);
-            Status::Stream
+        Ok(()) => Ending::Done,
+        Err(_) => Ending::Write,
+    }
+}
+
+// Plans the bundle of the input.
+fn plan<R: Read, W: Write>(
+    rt: &(impl Alloc + Threads + Sync),
+    alloc: Global,
+    request: Request,
+    input: &mut Told<R>,
+    output: &mut Told<W>,
+) -> Ending
+    requires workers { HasWorkers request }
+    ensures { PlanEnds R.remaining W.contents input.old input.new output.old output.new result }
+{
+    match request {
+        Request::Plan { workers } => {
+            Ending::of_day(alloc, run_day(rt, alloc, input, output, workers))
         }
     }
 }
 
-fn tell_usage<E: Write>(text: &str, errors: &mut Told<E>) -> Status
-    ensures { result ≡ Status.Usage }
-{
-    let _ = write_text(errors, text.as_bytes(), &mut Tries::new());
-    Status::Usage
-}
-
-// Plans the bundle of the input, and says on the error stream why it could not.
-fn plan<R: Read, W: Write, E: Write>(
+// Does what was asked for. The error stream has no part in it, so it decides nothing.
+fn carry_out<R: Read, W: Write>(
     rt: &(impl Alloc + Threads + Sync),
     alloc: Global,
-    workers: usize,
+    asked: Result<Request, NoRequest>,
     input: &mut Told<R>,
     output: &mut Told<W>,
-    errors: &mut Told<E>,
-) -> Status
-    requires workers { IsInRange 1 64 workers }
-    ensures { PlanEnds R.remaining W.contents input.old input.new output.old output.new result }
+) -> Ending
+    requires { ForOk asked HasWorkers }
+    ensures { Ends R.remaining W.contents input.old input.new output.old output.new asked result }
 {
-    match run_day(rt, alloc, input, output, workers) {
-        Ok(()) => Status::Done,
-        Err(fault) => tell_day(alloc, &fault, errors),
-    }
-}
-
-// Does what the words ask for, and says how it ended.
-fn carry_out<S: AsStr, R: Read, W: Write, E: Write>(
-    rt: &(impl Alloc + Threads + Sync),
-    alloc: Global,
-    words: &[S],
-    input: &mut Told<R>,
-    output: &mut Told<W>,
-    errors: &mut Told<E>,
-) -> Status
-    ensures { Ends R.remaining W.contents input.old input.new output.old output.new result }
-{
-    match read_words(alloc, words) {
-        Ok(Request::Plan { workers }) => plan(rt, alloc, workers, input, output, errors),
-        Err(NoRequest::Help(text)) => write_help(&text, output, errors),
-        Err(NoRequest::Usage(text)) => tell_usage(&text, errors),
-        Err(NoRequest::NoMemory) => tell_no_memory(errors),
+    match asked {
+        Ok(request) => plan(rt, alloc, request, input, output),
+        Err(NoRequest::Help(text)) => write_help(&text, output),
+        Err(NoRequest::Usage(text)) => Ending::Usage(text),
+        Err(NoRequest::NoMemory) => Ending::NoMemory,
     }
 }
 
@@ -128,9 +68,9 @@ fn carry_out<S: AsStr, R: Read, W: Write, E: Write>(
 /// for wrong words, 3 where memory was refused, and 4 where reading or writing failed. A line on the
 /// error stream says why; its failure does not change the status.
 ///
-/// At 0 the day of what the input had left was written, or the input is as it was and help was
-/// written. At 1 and 2, and where reading failed, nothing was written; at 3 and where writing
-/// failed, at most a front of the text.
+/// Words that ask for a plan plan: at 0 the day of what the input had left was written; at 1, and
+/// where reading failed, nothing was; at 3 and where writing failed, at most a front of the day.
+/// Words that ask for help have it written, and wrong words nothing; both leave the input as it is.
 pub fn run_words<S: AsStr, R: Read, W: Write, E: Write>(
     rt: &(impl Alloc + Threads + Sync),
     alloc: Global,
@@ -139,12 +79,11 @@ pub fn run_words<S: AsStr, R: Read, W: Write, E: Write>(
     output: &mut Told<W>,
     errors: &mut Told<E>,
 ) -> u8
-    ensures ended { (status : _) × (result ≡ code_of status)
-        × Ends R.remaining W.contents input.old input.new output.old output.new status }
+    ensures done { IsDone R.remaining W.contents E.contents (map S.text words.now)
+        input.old input.new output.old output.new errors.old errors.new result }
     ensures few { result < 5 }
 {
-    carry_out(rt, alloc, words, input, output, errors).code()
+    let end = carry_out(rt, alloc, read_words(alloc, words), input, output);
+    let _ = end.tell(errors);
+    end.status().code()
 }
-
-#[cfg(test)]
-mod tests;

@@ -9,7 +9,8 @@ use Rattle.std.proofs.lemmas.List.FromFn.{fill_by_all}
 use Rattle.std.proofs.lemmas.Bool.{eqb-true, eqb-false}
 use Rattle.mrp_tables.specs.declared.rows.MasterRow.{MasterRow}
 use Rattle.mrp_master.specs.declared.line.Line.{Line}
-use Rattle.mrp_master.specs.Supply.{firm_lines, is_firm, line}
+use Rattle.mrp_tables.specs.Master.{is_firm}
+use Rattle.mrp_master.specs.Supply.{firm_lines, line}
 
 -- one row more of an item, told of each item
 pub rows_add : (lists : List (Vec Line)) (at i : ℕ) (old new : Vec Line) (l : Line) → at < length lists → old ≡ get_or lists at old → new.items ≡ old.items ++ l ∷ []

@@ -147,14 +147,14 @@ module _ (s : Supply) (supplied : IsSupply s) (item : ℕ) (master : IsMaster s 
   pub row_fits : (week quantity : ℕ) → IsWeek s week → MoreFits week quantity → IsCoveredRow (with_booking (atp_row s item ls) week quantity)
   row_fits week quantity w fits =
       subst IsCoveredRow (sym (row_with s item ls week quantity w))
-      (row_covered s supplied item (ls ++ line item week quantity ∷ []) (from_first week quantity w.0) (λ t v. fits item t master v))
+      (row_covered s supplied item (ls ++ line item week quantity ∷ []) (from_first week quantity w.0) (λ t v. fits item master t v))
 
   pub fits_row : (week quantity : ℕ) → IsWeek s week → IsCoveredRow (with_booking (atp_row s item ls) week quantity) → MoreFits week quantity
-  fits_row week quantity w fits i t m v =
+  fits_row week quantity w fits i m t v =
       let own : ItemCovered s supplied item (ls ++ line item week quantity ∷ []) (from_first week quantity w.0) =
       covered_row s supplied item (ls ++ line item week quantity ∷ []) (from_first week quantity w.0) (subst IsCoveredRow (row_with s item ls week quantity w) fits) in
       elim (share_cases i t item week quantity) [
-        | inl none ↦ omega (arith, due_by_more ls i t item week quantity, covered i t m v)
+        | inl none ↦ omega (arith, due_by_more ls i t item week quantity, covered i m t v)
         | inr some ↦ subst (λ (x : ℕ). due_by x t (ls ++ line item week quantity ∷ []) ≤ supply s x t) some.0 (own t v)
       ]
 
@@ -175,7 +175,7 @@ module _ (s : Supply) (supplied : IsSupply s) (item : ℕ) (master : IsMaster s 
   is_row = record {
     weeks = omega (arith, length-row (opening s item) s.weeks, supplied.last);
     same = omega (arith, length-row (opening s item) s.weeks, length-row (λ week. due_in item week ls) s.weeks);
-    covered = row_covered s supplied item ls all (λ week w. covered item week master w);
+    covered = row_covered s supplied item ls all (λ week w. covered item master week w);
   }
 
   -- and its buckets up to a week hold what is available in it

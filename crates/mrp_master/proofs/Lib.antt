@@ -11,3 +11,5 @@ pub mod Rebooked
 pub mod Openings
 pub mod ItemRows
 pub mod Fresh
+pub mod Promises
+pub mod EarliestRows

@@ -14,7 +14,8 @@ use Rattle.mrp_tables.specs.declared.rows.StockRow.{StockRow}
 use Rattle.mrp_tables.specs.Facts.{AllDiffer, IsMasterRow, IsStockRow}
 use Rattle.mrp_tables.specs.Stock.{items_in_stock}
 use Rattle.mrp_master.specs.declared.line.Line.{Line}
-use Rattle.mrp_master.specs.Supply.{IsSupply, due_by, firm_lines, is_firm, line, on_hand_of}
+use Rattle.mrp_tables.specs.Master.{is_firm}
+use Rattle.mrp_master.specs.Supply.{IsSupply, due_by, firm_lines, line, on_hand_of}
 use Rattle.mrp_master.proofs.OnHand.{on_hand_within}
 
 share_within : (item week : ℕ) (l : Line) → l.quantity ≤ 1000000000 → cond (eqb l.item item && leb l.week week) l.quantity 0 ≤ 1000000000

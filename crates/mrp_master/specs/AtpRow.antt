@@ -1,8 +1,9 @@
 -- An item's supply and bookings, week by week, and its buckets (APICS Dictionary: available-to-promise; profile: its exact rules).
-use Rattle.std.specs.Prelude.{ℕ, zero, suc, ◌≡◌, ◌≤◌, ◌<◌, ◌+◌, ◌-◌, ◌==◌, ◌&&◌, if◌then◌else◌, List, [], Option, Some, None, All, length, sum_by}
+use Rattle.std.specs.Prelude.{ℕ, zero, suc, ◌≡◌, ◌≤◌, ◌+◌, ◌-◌, ◌==◌, ◌&&◌, if◌then◌else◌, List, [], Option, All, length, sum_by}
 use Rattle.std.specs.List.{slice_index_or}
 use Rattle.mrp_phase.specs.Weeks.{in_week, row, sum_to, with_week}
 use Rattle.mrp_master.specs.declared.line.Line.{Line}
+use Rattle.mrp_master.specs.Promising.{Covers, IsGreatest, IsLeastWeek}
 use Rattle.mrp_master.specs.Supply.{Supply}
 
 -- what opens in each week, and what is booked that is due in it
@@ -15,7 +16,7 @@ IsWeekOf r week = (1 ≤ week) × (week ≤ length r.supply)
 
 -- up to no week is more booked than supplied
 abbrev pub IsCoveredRow : AtpRow → Type 0
-IsCoveredRow r = (week : ℕ) → IsWeekOf r week → sum_to r.booked week ≤ sum_to r.supply week
+IsCoveredRow r = Covers (IsWeekOf r) (sum_to r.supply) (sum_to r.booked)
 
 -- a row with so much booked in a week
 abbrev pub with_booked : AtpRow → ℕ → ℕ → AtpRow
@@ -29,16 +30,12 @@ abbrev pub without_booking : AtpRow → ℕ → ℕ → AtpRow
 without_booking r week quantity = with_booked r week (in_week r.booked week - quantity)
 
 -- available to promise: the greatest quantity of which one more booking leaves the row covered
-pub record IsAvailableIn (r : AtpRow) (week quantity : ℕ) : Type 0 where
-  pub fits : IsCoveredRow (with_booking r week quantity)
-  pub greatest : (more : ℕ) → IsCoveredRow (with_booking r week more) → more ≤ quantity
+abbrev pub IsAvailableIn : AtpRow → ℕ → ℕ → Type 0
+IsAvailableIn r week quantity = IsGreatest (λ more. IsCoveredRow (with_booking r week more)) quantity
 
 -- the least week in which one more booking of so much leaves the row covered, or none
 abbrev pub IsEarliestIn : AtpRow → ℕ → Option ℕ → Type 0
-IsEarliestIn r quantity None = (week : ℕ) → IsWeekOf r week → ¬ IsCoveredRow (with_booking r week quantity)
-IsEarliestIn r quantity (Some week) =
-    IsWeekOf r week × IsCoveredRow (with_booking r week quantity)
-    × ((sooner : ℕ) → IsWeekOf r sooner → sooner < week → ¬ IsCoveredRow (with_booking r sooner quantity))
+IsEarliestIn r quantity found = IsLeastWeek (IsWeekOf r) (λ week. IsCoveredRow (with_booking r week quantity)) found
 
 -- Buckets.
 

@@ -1,3 +1,4 @@
+pub mod Promising
 pub mod Supply
 pub mod Lines
 pub mod AtpRow

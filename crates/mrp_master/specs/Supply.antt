@@ -1,14 +1,14 @@
 -- Supply, cover, and what is available to promise (APICS Dictionary: available-to-promise; profile: its exact rules).
-use Rattle.std.specs.Prelude.{ℕ, ◌≡◌, ◌≤◌, ◌+◌, ◌-◌, ◌==◌, ◌&&◌, Bool, true, false, IsTrue, if◌then◌else◌, nat_le, List, [], ◌∷◌, ◌++◌, All, map, filter, sum_by, length}
+use Rattle.std.specs.Prelude.{ℕ, zero, suc, ◌≡◌, ◌≤◌, ◌+◌, ◌-◌, ◌==◌, ◌&&◌, Bool, true, false, IsTrue, if◌then◌else◌, min, nat_le, Option, List, [], ◌∷◌, ◌++◌, All, map, filter, sum_by, length}
 use Rattle.std.specs.List.{slice_index_or, range_with_len}
 use Rattle.mrp_qty.specs.Quantity.{greatest_quantity}
-use Rattle.mrp_tables.specs.declared.rows.MasterKind.{MasterKind}
-use Rattle.mrp_tables.specs.declared.rows.MasterKind.TheVariants.{Firm, Forecast}
 use Rattle.mrp_tables.specs.declared.rows.MasterRow.{MasterRow}
 use Rattle.mrp_tables.specs.declared.rows.StockRow.{StockRow}
 use Rattle.mrp_tables.specs.Items.{is_master}
+use Rattle.mrp_tables.specs.Master.{is_firm}
 use Rattle.mrp_tables.specs.Tables.{Tables}
 use Rattle.mrp_master.specs.declared.line.Line.{Line}
+use Rattle.mrp_master.specs.Promising.{Covers, IsGreatest, IsLeastWeek}
 
 -- what promising reads of the tables: the weeks, which items are master items, and of each item what is on hand and its firm rows
 pub record Supply : Type 0 where
@@ -36,12 +36,19 @@ supply s item week = slice_index_or s.on_hand item 0 + due_by item week (slice_i
 
 -- of no master item is more due up to any week than its supply up to that week
 abbrev pub IsCovered : Supply → List Line → Type 0
-IsCovered s booked = (item week : ℕ) → IsMaster s item → IsWeek s week → due_by item week booked ≤ supply s item week
+IsCovered s booked = (item : ℕ) → IsMaster s item → Covers (IsWeek s) (supply s item) (λ week. due_by item week booked)
 
 -- available to promise: the greatest quantity of which one more booking leaves all covered
-pub record IsAvailable (s : Supply) (booked : List Line) (item week quantity : ℕ) : Type 0 where
-  pub fits : IsCovered s (booked ++ line item week quantity ∷ [])
-  pub greatest : (more : ℕ) → IsCovered s (booked ++ line item week more ∷ []) → more ≤ quantity
+abbrev pub IsAvailable : Supply → List Line → ℕ → ℕ → ℕ → Type 0
+IsAvailable s booked item week quantity = IsGreatest (λ more. IsCovered s (booked ++ line item week more ∷ [])) quantity
+
+-- so much of an item can be promised in a week
+abbrev pub CanPromise : Supply → List Line → ℕ → ℕ → ℕ → Type 0
+CanPromise s booked item quantity week = (available : ℕ) × IsAvailable s booked item week available × (quantity ≤ available)
+
+-- the least week in which so much can be promised, or none
+abbrev pub IsEarliest : Supply → List Line → ℕ → ℕ → Option ℕ → Type 0
+IsEarliest s booked item quantity found = IsLeastWeek (IsWeek s) (CanPromise s booked item quantity) found
 
 -- the least value of f from a week to the last one
 pub record IsLeastFrom (f : ℕ → ℕ) (week last least : ℕ) : Type 0 where
@@ -52,11 +59,16 @@ pub record IsLeastFrom (f : ℕ → ℕ) (week last least : ℕ) : Type 0 where
 abbrev pub uncommitted : Supply → List Line → ℕ → ℕ → ℕ
 uncommitted s booked item week = supply s item week - due_by item week booked
 
--- What the tables say.
+-- the least value of f in a week and so many weeks after it
+unfoldable pub least_from : (ℕ → ℕ) → ℕ → ℕ → ℕ
+least_from f week zero = f week
+least_from f week (suc more) = min (f week) (least_from f (suc week) more)
 
-abbrev pub is_firm : MasterKind → Bool
-is_firm Firm = true
-is_firm Forecast = false
+-- what is available to promise, as a number: the least of supply less bookings, over the weeks from this one to the last
+abbrev pub available : Supply → List Line → ℕ → ℕ → ℕ
+available s booked item week = least_from (uncommitted s booked item) week (s.weeks - week)
+
+-- What the tables say.
 
 -- what is on hand of an item; one without a stock record has 0
 abbrev pub on_hand_of : List StockRow → ℕ → ℕ

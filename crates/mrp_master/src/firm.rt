@@ -2,11 +2,11 @@
 
 ghost use Rattle.std.specs.Prelude.{◌≡◌, ◌<◌, ◌++◌, ◌∷◌, ◌==◌, ◌&&◌, [], ℕ, All, if◌then◌else◌, length, map, IfOk, OnOk};
 ghost use Rattle.std.specs.List.{range_with_len, slice_index_or};
-ghost use Rattle.mrp_master.specs.Supply.{firm_lines, is_firm, line};
+ghost use Rattle.mrp_master.specs.Supply.{firm_lines, line};
 
 use crate::line::Line;
 use mrp_qty::NoMemory;
-use mrp_tables::{MasterKind, MasterRow};
+use mrp_tables::MasterRow;
 use std::alloc::Global;
 use std::marker::Model;
 
@@ -59,15 +59,6 @@ impl FirmRows {
     }
 }
 
-fn is_firm(kind: MasterKind) -> bool
-    ensures { result ≡ is_firm kind }
-{
-    match kind {
-        MasterKind::Firm => true,
-        MasterKind::Forecast => false,
-    }
-}
-
 fn line_of(row: &MasterRow) -> Line
     ensures { result ≡ line row.now.item row.now.week row.now.quantity }
 {
@@ -85,7 +76,7 @@ pub fn firm_rows(alloc: Global, count: usize, rows: &[MasterRow]) -> Result<Firm
 {
     let mut firm = FirmRows::new(alloc, count)?;
     for row in rows {
-        if is_firm(row.kind) {
+        if row.kind.is_firm() {
             firm.add(line_of(row))?;
         }
     }

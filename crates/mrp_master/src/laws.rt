@@ -1,17 +1,28 @@
 //! What follows from the definitions alone, each law the contract of a function that does nothing.
 
-ghost use Rattle.std.specs.Prelude.{◌≡◌, ◌≢◌, ◌↔◌, ◌++◌, ◌∷◌, [], List, ℕ};
+ghost use Rattle.std.specs.Prelude.{◌≡◌, ◌≢◌, ◌↔◌, ◌++◌, ◌∷◌, [], List, Option, ℕ};
 ghost use Rattle.mrp_phase.specs.Weeks.{in_week, sum_to};
-ghost use Rattle.mrp_master.specs.AtpRow.{AtpRow, FromFirst, IsAtpRow, IsAvailableIn, IsCoveredRow, IsWeekOf, atp_row, bucket, buckets_to, with_booking, without_booking};
-ghost use Rattle.mrp_master.specs.Supply.{IsAvailable, IsCovered, IsLeastFrom, IsMaster, IsSupply, IsWeek, Supply, due_by, line, supply, uncommitted};
+ghost use Rattle.mrp_master.specs.AtpRow.{AtpRow, FromFirst, IsAtpRow, IsAvailableIn, IsCoveredRow, IsEarliestIn, IsWeekOf, atp_row, bucket, buckets_to, with_booking, without_booking};
+ghost use Rattle.mrp_master.specs.Supply.{CanPromise, IsAvailable, IsCovered, IsEarliest, IsLeastFrom, IsMaster, IsSupply, IsWeek, Supply, available, due_by, line, supply, uncommitted};
 
 /// What is available to promise.
 pub fn promising()
     // It is the least of supply less bookings, over the weeks from this one on.
     ensures least { (s : Supply) (lines : List _) (item week quantity : ℕ) → IsMaster s item → IsWeek s week → IsCovered s lines → IsLeastFrom (uncommitted s lines item) week s.weeks quantity → IsAvailable s lines item week quantity }
     ensures is_least { (s : Supply) (lines : List _) (item week quantity : ℕ) → IsMaster s item → IsWeek s week → IsAvailable s lines item week quantity → IsLeastFrom (uncommitted s lines item) week s.weeks quantity }
-    // There is one such quantity.
+    // There is such a quantity, and it is one.
+    ensures some { (s : Supply) (lines : List _) (item week : ℕ) → IsMaster s item → IsWeek s week → IsCovered s lines → IsAvailable s lines item week (available s lines item week) }
     ensures one { (s : Supply) (lines : List _) (item week p q : ℕ) → IsAvailable s lines item week p → IsAvailable s lines item week q → p ≡ q }
+    // So much can be promised exactly where one more line of so much leaves all covered.
+    ensures fits { (s : Supply) (lines : List _) (item week quantity : ℕ) → IsMaster s item → IsWeek s week → IsCovered s lines
+        → CanPromise s lines item quantity week ↔ IsCovered s (lines ++ line item week quantity ∷ []) }
+{}
+
+/// The first week in which so much can be promised.
+pub fn earliest()
+    // There is such a week, or none is, and it is one.
+    ensures some { (s : Supply) (lines : List _) (item quantity : ℕ) → IsMaster s item → IsCovered s lines → (found : Option ℕ) × IsEarliest s lines item quantity found }
+    ensures one { (s : Supply) (lines : List _) (item quantity : ℕ) (v w : Option ℕ) → IsEarliest s lines item quantity v → IsEarliest s lines item quantity w → v ≡ w }
 {}
 
 /// The row of an item: its supply, and what is due of it.
@@ -21,11 +32,13 @@ pub fn rows()
     ensures booked { (s : Supply) (lines : List _) (item week : ℕ) → FromFirst lines → IsWeek s week → sum_to (atp_row s item lines).booked week ≡ due_by item week lines }
     // A master item's row is covered where the lines are.
     ensures covered { (s : Supply) (lines : List _) (item : ℕ) → IsSupply s → IsMaster s item → FromFirst lines → IsCovered s lines → IsAtpRow (atp_row s item lines) }
-    // So much fits into the row as into the lines, and so much is available.
+    // So much fits into the row as into the lines, so much is available, and from the same week on.
     ensures fits { (s : Supply) (lines : List _) (item week quantity : ℕ) → IsSupply s → IsMaster s item → FromFirst lines → IsCovered s lines → IsWeek s week
         → IsCoveredRow (with_booking (atp_row s item lines) week quantity) ↔ IsCovered s (lines ++ line item week quantity ∷ []) }
     ensures available { (s : Supply) (lines : List _) (item week quantity : ℕ) → IsSupply s → IsMaster s item → FromFirst lines → IsCovered s lines → IsWeek s week
         → IsAvailableIn (atp_row s item lines) week quantity ↔ IsAvailable s lines item week quantity }
+    ensures earliest { (s : Supply) (lines : List _) (item quantity : ℕ) (found : Option ℕ) → IsSupply s → IsMaster s item → FromFirst lines → IsCovered s lines
+        → IsEarliestIn (atp_row s item lines) quantity found ↔ IsEarliest s lines item quantity found }
     // A line of the item is a booking of its row, and of no other.
     ensures more { (s : Supply) (lines : List _) (item week quantity : ℕ) → IsWeek s week → with_booking (atp_row s item lines) week quantity ≡ atp_row s item (lines ++ line item week quantity ∷ []) }
     ensures more_of_another { (s : Supply) (lines : List _) (item other week quantity : ℕ) → item ≢ other → atp_row s item (lines ++ line other week quantity ∷ []) ≡ atp_row s item lines }

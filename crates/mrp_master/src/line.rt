@@ -3,11 +3,10 @@
 ghost use Rattle.std.specs.Prelude.{◌≡◌, IfOk, Ok};
 ghost use Rattle.mrp_master.specs.Lines.{IsLine, IsSpot, IsWish, in_horizon, line_of, of_master, of_pieces, spot_of, wish_of};
 ghost use Rattle.mrp_master.specs.Supply.{supply_of};
-ghost use Rattle.mrp_tables.specs.Items.{is_master};
 
 use mrp_bill::Shop;
 use mrp_qty::Qty;
-use mrp_tables::{Class, Tables};
+use mrp_tables::Tables;
 use thiserror::Error;
 
 // The most pieces of a line.
@@ -117,7 +116,7 @@ fn check_item(tables: &Tables, item: usize) -> Result<(), LineFault>
 {
     match tables.items().get(item) {
         None => Err(LineFault::UnknownItem),
-        Some(entry) if is_master(entry.class) => Ok(()),
+        Some(entry) if entry.class.is_master() => Ok(()),
         Some(_) => Err(LineFault::NotMaster),
     }
 }
@@ -141,14 +140,5 @@ fn check_pieces(quantity: Qty) -> Result<(), LineFault>
         0 => Err(LineFault::ZeroQuantity),
         pieces if pieces <= MOST_PIECES => Ok(()),
         _ => Err(LineFault::TooLarge),
-    }
-}
-
-pub(crate) fn is_master(class: Class) -> bool
-    ensures { result ≡ is_master class }
-{
-    match class {
-        Class::Master => true,
-        Class::Part => false,
     }
 }

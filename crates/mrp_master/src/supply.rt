@@ -11,7 +11,7 @@ ghost use Rattle.mrp_master.specs.AtpRow.{opening};
 ghost use Rattle.mrp_master.specs.Supply.{due_by, on_hand_of};
 
 use crate::firm::{FirmRows, firm_rows};
-use crate::line::{Line, is_master};
+use crate::line::Line;
 use mrp_bill::Shop;
 use mrp_qty::{NoMemory, Qty};
 use mrp_tables::{Item, StockRow};
@@ -144,7 +144,7 @@ fn masters(alloc: Global, items: &[Item]) -> Result<Vec<bool>, NoMemory>
 {
     let masters = items
         .iter()
-        .map(|item| is_master(item.class))
+        .map(|item| item.class.is_master())
         .collect(alloc)?;
     Ok(masters)
 }

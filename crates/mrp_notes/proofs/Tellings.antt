@@ -13,8 +13,9 @@ use Rattle.mrp_phase.proofs.WeekRows.{sum_to_rises, sum_to_whole}
 use Rattle.mrp_net.specs.declared.stock.Stock.{Stock}
 use Rattle.mrp_notes.specs.declared.message.Advice.{Advice}
 use Rattle.mrp_notes.specs.declared.message.Message.{Message}
-use Rattle.mrp_notes.specs.declared.supply.Supply.{Supply}
+use Rattle.mrp_item.specs.declared.supplies.Supply.{Supply}
 use Rattle.mrp_notes.specs.Needs.{need_week, rescheduled, rescheduling}
+use Rattle.mrp_notes.specs.Release.{action_on, is_fixed}
 use Rattle.mrp_notes.specs.Told.{fixed_sum, supplied_before, message, told_of, told}
 use Rattle.mrp_notes.specs.Walk.{with_supply}
 
@@ -47,14 +48,14 @@ need_week_same gross safety a b h e =
     (λ k low high. tests_same a b (sum_to gross k + safety) (omega (arith, sum_to_rises gross k (length gross) (omega arith), sum_to_whole gross)) e)
 
 pub rescheduling_same : (gross : List ℕ) (safety a b : ℕ) (x : Supply) → sum gross + safety ≤ most → b ≡ min a most → rescheduling gross safety b x ≡ rescheduling gross safety a x
-rescheduling_same gross safety a b x h e = ap (λ o. cond x.is_fixed (rescheduled x.due o) None) (need_week_same gross safety a b h e)
+rescheduling_same gross safety a b x h e = ap (λ o. cond (is_fixed x) (rescheduled x.week o) None) (need_week_same gross safety a b h e)
 
 -- one more supply
-fixed_sum_more : (xs : List Supply) (k : ℕ) (d : Supply) → k < length xs → fixed_sum (take (k + 1) xs) ≡ fixed_sum (take k xs) + cond (get_or xs k d).is_fixed (get_or xs k d).quantity 0
+fixed_sum_more : (xs : List Supply) (k : ℕ) (d : Supply) → k < length xs → fixed_sum (take (k + 1) xs) ≡ fixed_sum (take k xs) + cond (is_fixed (get_or xs k d)) (get_or xs k d).quantity 0
 fixed_sum_more xs k d h =
-    ap (sum_by (λ (x : Supply). x.quantity)) (filter_more (λ (x : Supply). x.is_fixed) xs k d h)
-    ∙ sum_by-append (λ (x : Supply). x.quantity) (filter (λ x. x.is_fixed) (take k xs)) (cond (get_or xs k d).is_fixed (get_or xs k d ∷ []) [])
-    ∙ ap (λ n. fixed_sum (take k xs) + n) (by (get_or xs k d) (get_or xs k d).is_fixed)
+    ap (sum_by (λ (x : Supply). x.quantity)) (filter_more is_fixed xs k d h)
+    ∙ sum_by-append (λ (x : Supply). x.quantity) (filter is_fixed (take k xs)) (cond (is_fixed (get_or xs k d)) (get_or xs k d ∷ []) [])
+    ∙ ap (λ n. fixed_sum (take k xs) + n) (by (get_or xs k d) (is_fixed (get_or xs k d)))
   where
     by : (x : Supply) (b : Bool) → sum_by (λ (y : Supply). y.quantity) (cond b (x ∷ []) []) ≡ cond b x.quantity 0
     by x true = omega (arith, sum_by-cons (λ (y : Supply). y.quantity) x [])
@@ -63,17 +64,17 @@ fixed_sum_more xs k d h =
 pub supplied_more : (stock : Stock) (xs : List Supply) (k : ℕ) (x : Supply) (supplied : ℕ) → k < length xs → x ≡ get_or xs k x → supplied ≡ min (supplied_before stock xs k) most
     → with_supply supplied x ≡ min (supplied_before stock xs (k + 1)) most
 supplied_more stock xs k x supplied h is before =
-    by x.is_fixed refl
+    by (is_fixed x) refl
   where
-    more : fixed_sum (take (k + 1) xs) ≡ fixed_sum (take k xs) + cond x.is_fixed x.quantity 0
-    more = fixed_sum_more xs k x h ∙ ap (λ (y : Supply). fixed_sum (take k xs) + cond y.is_fixed y.quantity 0) (sym is)
+    more : fixed_sum (take (k + 1) xs) ≡ fixed_sum (take k xs) + cond (is_fixed x) x.quantity 0
+    more = fixed_sum_more xs k x h ∙ ap (λ (y : Supply). fixed_sum (take k xs) + cond (is_fixed y) y.quantity 0) (sym is)
 
-    by : (b : Bool) → x.is_fixed ≡ b → cond b (min (supplied + x.quantity) most) supplied ≡ min (supplied_before stock xs (k + 1)) most
+    by : (b : Bool) → is_fixed x ≡ b → cond b (min (supplied + x.quantity) most) supplied ≡ min (supplied_before stock xs (k + 1)) most
     by true e =
-        let here : cond x.is_fixed x.quantity 0 ≡ x.quantity = rw e refl in
+        let here : cond (is_fixed x) x.quantity 0 ≡ x.quantity = rw e refl in
         omega (arith, more, here, before)
     by false e =
-        let here : cond x.is_fixed x.quantity 0 ≡ 0 = rw e refl in
+        let here : cond (is_fixed x) x.quantity 0 ≡ 0 = rw e refl in
         omega (arith, more, here, before)
 
 told_more : (item : ℕ) (gross : List ℕ) (stock : Stock) (xs : List Supply) (k : ℕ) (x : Supply) → k < length xs → x ≡ get_or xs k x
@@ -97,14 +98,14 @@ pub told_next : (item : ℕ) (gross : List ℕ) (stock : Stock) (xs : List Suppl
     → sum gross + stock.safety ≤ greatest_quantity → k < length xs → x ≡ get_or xs k x → supplied ≡ min (supplied_before stock xs k) most
     → advice ≡ rescheduling gross stock.safety supplied x
     → messages ≡ flat_map (λ y. told_of item gross stock xs y.0 y.1) (take k (enumerate_from 0 xs))
-    → (messages ++ map (message item x.source) (cons_option x.action [])) ++ map (message item x.source) (cons_option advice [])
+    → (messages ++ map (message item x.source) (cons_option (action_on x) [])) ++ map (message item x.source) (cons_option advice [])
     ≡ flat_map (λ y. told_of item gross stock xs y.0 y.1) (take (k + 1) (enumerate_from 0 xs))
 told_next item gross stock xs k x supplied messages advice within h is before said so_far =
     let same : advice ≡ rescheduling gross stock.safety (supplied_before stock xs k) x =
     said ∙ rescheduling_same gross stock.safety (supplied_before stock xs k) supplied x (omega arith) before in
-    append_assoc messages (map (message item x.source) (cons_option x.action [])) (map (message item x.source) (cons_option advice []))
-    ∙ ap (λ (ys : List Message). messages ++ ys) (split item x x.action advice)
-    ∙ ap (λ o. messages ++ map (message item x.source) (cons_option x.action (cons_option o []))) same
+    append_assoc messages (map (message item x.source) (cons_option (action_on x) [])) (map (message item x.source) (cons_option advice []))
+    ∙ ap (λ (ys : List Message). messages ++ ys) (split item x (action_on x) advice)
+    ∙ ap (λ o. messages ++ map (message item x.source) (cons_option (action_on x) (cons_option o []))) same
     ∙ ap (λ (ys : List Message). ys ++ told_of item gross stock xs k x) so_far
     ∙ sym (told_more item gross stock xs k x h is)
 

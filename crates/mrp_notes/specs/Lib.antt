@@ -1,5 +1,5 @@
+pub mod Release
 pub mod Needs
 pub mod Walk
 pub mod Told
-pub mod Supplies
 pub mod Messages

@@ -2,8 +2,9 @@
 use Rattle.std.specs.Prelude.{ℕ, ◌+◌, nat_lt, if◌then◌else◌, Bool, true, false, List, length, find, Option, Some, None}
 use Rattle.mrp_phase.specs.Weeks.{weeks, sum_to}
 use Rattle.mrp_notes.specs.declared.message.Advice.{Advice}
+use Rattle.mrp_notes.specs.Release.{is_fixed}
 use Rattle.mrp_notes.specs.declared.message.Advice.TheVariants.{Release, PastDue, Earlier, Later, Cancel}
-use Rattle.mrp_notes.specs.declared.supply.Supply.{Supply}
+use Rattle.mrp_item.specs.declared.supplies.Supply.{Supply}
 
 -- the first week in which gross requirements, summed up to it, and safety stock exceed what is supplied (profile)
 abbrev pub need_week : List ℕ → ℕ → ℕ → Option ℕ
@@ -16,7 +17,7 @@ rescheduled due (Some week) = if nat_lt week due then Some (Earlier week) else i
 
 -- the same of a supply, given what is supplied before it: planning may not change a fixed one, and has its way with the others
 abbrev pub rescheduling : List ℕ → ℕ → ℕ → Supply → Option Advice
-rescheduling gross safety supplied x = if x.is_fixed then rescheduled x.due (need_week gross safety supplied) else None
+rescheduling gross safety supplied x = if is_fixed x then rescheduled x.week (need_week gross safety supplied) else None
 
 -- whether advice moves a supply or cancels it
 abbrev pub is_rescheduling : Advice → Bool

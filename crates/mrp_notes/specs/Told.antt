@@ -4,22 +4,23 @@ use Rattle.std.specs.List.{enumerate_from, cons_option}
 use Rattle.mrp_net.specs.declared.stock.Stock.{Stock}
 use Rattle.mrp_notes.specs.declared.message.Advice.{Advice}
 use Rattle.mrp_notes.specs.declared.message.Message.{Message}
-use Rattle.mrp_notes.specs.declared.message.Supplied.{Supplied}
-use Rattle.mrp_notes.specs.declared.supply.Supply.{Supply}
+use Rattle.mrp_item.specs.declared.supplies.Supplied.{Supplied}
+use Rattle.mrp_item.specs.declared.supplies.Supply.{Supply}
 use Rattle.mrp_notes.specs.Needs.{rescheduling}
+use Rattle.mrp_notes.specs.Release.{action_on, is_fixed}
 
 -- what the fixed ones of some supplies add up to
 abbrev pub fixed_sum : List Supply → ℕ
-fixed_sum supplies = sum_by (λ x. x.quantity) (filter (λ x. x.is_fixed) supplies)
+fixed_sum supplies = sum_by (λ x. x.quantity) (filter is_fixed supplies)
 
--- what is supplied before the supply at a place: what is on hand, and the fixed supplies before it
+-- what is supplied before the supply at a place: what is on hand, and the fixed supplies that come before it
 abbrev pub supplied_before : Stock → List Supply → ℕ → ℕ
 supplied_before stock supplies place = stock.on_hand + fixed_sum (take place supplies)
 
 -- what is said of the supply at a place: of its release first
 abbrev pub advice_on : List ℕ → Stock → List Supply → ℕ → Supply → List Advice
 advice_on gross stock supplies place x =
-    cons_option x.action (cons_option (rescheduling gross stock.safety (supplied_before stock supplies place) x) [])
+    cons_option (action_on x) (cons_option (rescheduling gross stock.safety (supplied_before stock supplies place) x) [])
 
 abbrev pub message : ℕ → Supplied → Advice → Message
 message item source advice = record { item = item; supply = source; advice = advice }

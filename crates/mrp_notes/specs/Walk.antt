@@ -2,7 +2,8 @@
 use Rattle.std.specs.Prelude.{ℕ, ◌≡◌, ◌≤◌, ◌<◌, ◌+◌, ◌^◌, ◌-◌, min, if◌then◌else◌, List, length}
 use Rattle.mrp_phase.specs.Weeks.{sum_to}
 use Rattle.mrp_notes.specs.declared.covered.Covered.{Covered}
-use Rattle.mrp_notes.specs.declared.supply.Supply.{Supply}
+use Rattle.mrp_notes.specs.Release.{is_fixed}
+use Rattle.mrp_item.specs.declared.supplies.Supply.{Supply}
 
 -- what is supplied covers requirements and safety stock up to each of the first weeks
 pub record IsCovered (gross : List ℕ) (safety : ℕ) (c : Covered) : Type 0 where
@@ -12,4 +13,4 @@ pub record IsCovered (gross : List ℕ) (safety : ℕ) (c : Covered) : Type 0 wh
 
 -- what is supplied behind a supply, as far as a number goes
 abbrev pub with_supply : ℕ → Supply → ℕ
-with_supply supplied x = if x.is_fixed then min (supplied + x.quantity) (2 ^ 64 - 1) else supplied
+with_supply supplied x = if is_fixed x then min (supplied + x.quantity) (2 ^ 64 - 1) else supplied

@@ -6,7 +6,8 @@ ghost use Rattle.mrp_notes.specs.Needs.{need_week, rescheduled, rescheduling};
 ghost use Rattle.mrp_notes.specs.Walk.{IsCovered, with_supply};
 
 use crate::message::Advice;
-use crate::supply::Supply;
+use crate::release::is_fixed;
+use mrp_item::Supply;
 use mrp_qty::Qty;
 
 // What is supplied, and the first weeks, as far as it covers them, with what they require. What is
@@ -73,11 +74,11 @@ impl Covered {
         ensures supplied { self.new.supplied ≡ with_supply self.old.supplied supply.now }
         ensures covered { IsCovered gross.now safety self.new }
     {
-        if !supply.is_fixed {
+        if !is_fixed(supply) {
             return None;
         }
         let needed = self.need_week(gross, safety);
         self.supplied = self.supplied.saturating_add(supply.quantity.value());
-        rescheduled(supply.due, needed)
+        rescheduled(supply.week, needed)
     }
 }

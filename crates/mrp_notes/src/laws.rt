@@ -7,9 +7,10 @@ ghost use Rattle.mrp_item.specs.Inputs.{Inputs};
 ghost use Rattle.mrp_item.specs.Plan.{ItemPlan};
 ghost use Rattle.mrp_notes.specs.Messages.{messages_of};
 ghost use Rattle.mrp_notes.specs.Needs.{is_rescheduling, need_week, rescheduling};
-ghost use Rattle.mrp_notes.specs.Supplies.{supplies_of};
+ghost use Rattle.mrp_notes.specs.Release.{is_fixed};
 ghost use Rattle.mrp_notes.specs.Told.{advice_on};
-ghost use Rattle.mrp_notes.specs.declared.supply.Supply.{Supply};
+ghost use Rattle.mrp_item.specs.declared.supplies.Supply.{Supply};
+ghost use Rattle.mrp_item.specs.Supplies.{supplies_to_come};
 
 /// A supply is needed in the first week that what is supplied before it does not cover.
 pub fn need_weeks()
@@ -24,17 +25,17 @@ pub fn need_weeks()
 
 /// A supply that is needed in the week in which it is due stays, and so does a planned order.
 pub fn stays()
-    ensures needed { (gross : List ℕ) (safety supplied : ℕ) (x : Supply) → need_week gross safety supplied ≡ Some x.due → rescheduling gross safety supplied x ≡ None }
-    ensures planned { (gross : List ℕ) (safety supplied : ℕ) (x : Supply) → x.is_fixed ≡ false → rescheduling gross safety supplied x ≡ None }
+    ensures needed { (gross : List ℕ) (safety supplied : ℕ) (x : Supply) → need_week gross safety supplied ≡ Some x.week → rescheduling gross safety supplied x ≡ None }
+    ensures planned { (gross : List ℕ) (safety supplied : ℕ) (x : Supply) → is_fixed x ≡ false → rescheduling gross safety supplied x ≡ None }
 {}
 
 /// Each message is of a supply of its item.
 pub fn supplies()
     ensures item { (s : Inputs) (i : ℕ) (plan : ItemPlan) → All (λ m. m.item ≡ i) (messages_of s i plan) }
-    ensures supply { (s : Inputs) (i : ℕ) (plan : ItemPlan) → All (λ m. Contains (map (λ x. x.source) (supplies_of s i plan.orders)) m.supply) (messages_of s i plan) }
+    ensures supply { (s : Inputs) (i : ℕ) (plan : ItemPlan) → All (λ m. Contains (map (λ x. x.source) (supplies_to_come s i plan.orders)) m.supply) (messages_of s i plan) }
 {}
 
 /// A supply is moved once, or cancelled.
 pub fn once()
-    ensures { (s : Inputs) (i : ℕ) (orders : List _) (gross : List ℕ) (stock : Stock) (place : ℕ) (x : Supply) → Contains (supplies_of s i orders) x → count_by is_rescheduling (advice_on gross stock (supplies_of s i orders) place x) ≤ 1 }
+    ensures { (supplies : List Supply) (gross : List ℕ) (stock : Stock) (place : ℕ) (x : Supply) → count_by is_rescheduling (advice_on gross stock supplies place x) ≤ 1 }
 {}

@@ -5,8 +5,9 @@ mod covered;
 pub mod laws;
 mod message;
 mod notes;
-mod supply;
+mod release;
 mod told;
 
-pub use message::{Advice, Message, Supplied};
+pub use message::{Advice, Message};
+pub use mrp_item::Supplied;
 pub use notes::{item_messages, messages};

@@ -1,13 +1,6 @@
 //! Messages to the planner.
 
-/// Where a supply comes from.
-#[derive(Clone, Copy, Debug, PartialEq, Eq)]
-pub enum Supplied {
-    /// An open receipt, by its record's number in the table.
-    Receipt(u64),
-    /// An order, by its number among the item's orders, from 1.
-    Order(usize),
-}
+use mrp_item::Supplied;
 
 /// What a message says of a supply (APICS Dictionary: action message).
 #[derive(Clone, Copy, Debug, PartialEq, Eq)]

@@ -4,7 +4,6 @@ ghost use Rattle.std.specs.Prelude.{◌≡◌, IfOk};
 ghost use Rattle.mrp_notes.specs.Messages.{messages_of, plan_messages};
 
 use crate::message::Message;
-use crate::supply::supplies;
 use crate::told::told;
 use mrp_item::{Plan, Planned};
 use mrp_qty::NoMemory;
@@ -20,9 +19,10 @@ pub fn item_messages(alloc: Global, planned: &Planned) -> Result<Vec<Message>, N
 {
     let _within = planned.inputs().weeks();
     let stock = planned.stock(alloc)?;
-    let supplies = supplies(alloc, planned)?;
+    let supplies = planned.supplies(alloc)?;
+    let (_, to_come) = supplies.as_slice().split_at(1);
     let gross = planned.gross().as_slice();
-    told(alloc, planned.item(), gross, &stock, supplies.as_slice())
+    told(alloc, planned.item(), gross, &stock, to_come)
 }
 
 /// The messages of a plan: those of each item, in table order.

@@ -6,8 +6,9 @@ ghost use Rattle.mrp_qty.specs.Quantity.{greatest_quantity};
 ghost use Rattle.mrp_notes.specs.Told.{message, told};
 
 use crate::covered::Covered;
-use crate::message::{Advice, Message, Supplied};
-use crate::supply::Supply;
+use crate::message::{Advice, Message};
+use crate::release::action_on;
+use mrp_item::{Supplied, Supply};
 use mrp_net::Stock;
 use mrp_qty::{NoMemory, Qty};
 use std::alloc::Global;
@@ -46,7 +47,7 @@ pub fn told(
     let mut messages = Vec::new(alloc);
     let mut covered = Covered::start(stock.on_hand);
     for supply in supplies {
-        tell(&mut messages, item, supply.source, supply.action)?;
+        tell(&mut messages, item, supply.source, action_on(supply))?;
         let advice = covered.advice(gross, stock.safety, supply);
         tell(&mut messages, item, supply.source, advice)?;
     }

@@ -1,6 +1,7 @@
 -- The supplies of a planned item cover its requirements.
 use Rattle.std.proofs.Common.{◌≡◌, ◌∙◌, ℕ, suc, ◌+◌, ◌<◌, ◌≤◌, Bool, true, false, cond, List, ◌∷◌, ◌++◌, length, sym, ap, arith}
 use Rattle.std.specs.Prelude.{◌==◌, filter, flat_map, map, sum, sum_by}
+use Rattle.std.specs.List.{enumerate_from}
 use Rattle.std.proofs.lemmas.List.Sums.{sum_by-cons, sum_by-append, sum_by-le-sum_by}
 use Rattle.mrp_tables.specs.declared.rows.MasterRow.{MasterRow}
 use Rattle.mrp_tables.specs.declared.rows.Receipt.{Receipt}
@@ -19,8 +20,11 @@ use Rattle.mrp_item.specs.Plan.{gross_in, needs_of, outcome_of, plan_in, receipt
 use Rattle.mrp_item.specs.Rows.{firm_rows, on_hand, open_receipts, scheduled_in, stock_of}
 use Rattle.mrp_item.proofs.OrderLaws.{orders_add}
 use Rattle.mrp_item.proofs.Rules.{rule_of-kept}
-use Rattle.mrp_peg.specs.declared.peg.Supplied.TheVariants as supplied
-use Rattle.mrp_peg.specs.Pegging.{Numbered, orders_in, requirements, supplies, supplies_in, supply}
+use Rattle.mrp_item.specs.declared.supplies.Supply.{Supply}
+use Rattle.mrp_item.specs.Dues.{receipt_due}
+use Rattle.mrp_item.specs.Supplies.{due_supply, order_supply, stock_supply, supplies_in, supplies_of, supplies_to_come}
+use Rattle.mrp_peg.specs.Matching.{amount_offered}
+use Rattle.mrp_peg.specs.Pegging.{requirements, supplies}
 use Rattle.mrp_peg.specs.Units.{Amount, total}
 use Rattle.mrp_peg.specs.Weekly.{by_weeks}
 use Rattle.mrp_peg.specs.Own.{IsOwn, own_gross}
@@ -34,6 +38,9 @@ units a = a.quantity
 
 abbrev pieces : Order → ℕ
 pieces o = o.quantity
+
+abbrev offered : Supply → ℕ
+offered x = x.quantity
 
 -- the receipts of an item do not fall
 rising : (s : Inputs) (i : ℕ) (gross : List ℕ) → IsSized (item_at s i).lot → IsNeed (horizon s) (in_week (receipts_of s i gross))
@@ -68,14 +75,14 @@ firm_in s i w = sum_by (λ r. r.quantity) (firm_rows s i w)
 abbrev ordered_in : Inputs → ℕ → ℕ → ℕ
 ordered_in s i w = sum_by pieces (filter (λ o. o.due == w) (plan_in (outcome_of s i)).orders)
 
-week_supplies : (s : Inputs) (i w : ℕ) → total (supplies_in s i w) ≡ received_in s i w + ordered_in s i w
+week_supplies : (s : Inputs) (i w : ℕ) → sum_by offered (supplies_in s i (plan_in (outcome_of s i)).orders w) ≡ received_in s i w + ordered_in s i w
 week_supplies s i w =
-    let received = map (λ r. supply (supplied.Receipt r.number) r.quantity) (open_receipts s i w) in
-    let ordered = map (λ n. supply (supplied.Order n.number) n.order.quantity) (filter (λ n. n.order.due == w) (orders_in s i)) in
-    let one = sum_by-map units (λ (r : Receipt). supply (supplied.Receipt r.number) r.quantity) (open_receipts s i w) in
-    let two = sum_by-map units (λ (n : Numbered). supply (supplied.Order n.number) n.order.quantity) (filter (λ n. n.order.due == w) (orders_in s i))
-    ∙ numbered_kept pieces (λ o. o.due == w) 1 (plan_in (outcome_of s i)).orders in
-    sum_by-append units received ordered ∙ ap (λ n. n + total ordered) one ∙ ap (λ n. received_in s i w + n) two
+    let orders = (plan_in (outcome_of s i)).orders in
+    let received = map (λ r. due_supply (receipt_due r)) (open_receipts s i w) in
+    let ordered = map (λ n. order_supply n.0 n.1) (filter (λ n. n.1.due == w) (enumerate_from 1 orders)) in
+    let one = sum_by-map offered (λ (r : Receipt). due_supply (receipt_due r)) (open_receipts s i w) in
+    let two = sum_by-map offered (λ (n : ℕ × Order). order_supply n.0 n.1) (filter (λ n. n.1.due == w) (enumerate_from 1 orders)) ∙ numbered_kept pieces (λ o. o.due == w) 1 orders in
+    sum_by-append offered received ordered ∙ ap (λ n. n + sum_by offered ordered) one ∙ ap (λ n. received_in s i w + n) two
 
 supplies_total : (s : Inputs) (i : ℕ) → IsOwn s i → total (supplies s i) ≡ on_hand s i + (sum_by (received_in s i) (weeks (horizon s)) + sum_by pieces (orders_of s i (receipts_of s i (own_gross s i))))
 unfolding supplies
@@ -85,9 +92,10 @@ supplies_total s i is =
     sym (sum_by-flat_map pieces (λ w. filter (λ o. o.due == w) orders) (weeks (horizon s)))
     ∙ sum_by_weeks pieces (λ (o : Order). o.due) 1 (horizon s) orders (λ k d h. let due = all_due s i is k d h in (due.0, omega (arith, due.1)))
     ∙ ap (sum_by pieces) (orders-own s i is) in
-    sum_by-cons units (supply supplied.Stock (on_hand s i)) (flat_map (supplies_in s i) (weeks (horizon s)))
-    ∙ ap (λ n. on_hand s i + n) (sum_by-flat_map units (supplies_in s i) (weeks (horizon s))
-    ∙ sum_by-agree (λ w. total (supplies_in s i w)) (λ w. received_in s i w + ordered_in s i w) (week_supplies s i) (weeks (horizon s))
+    sum_by-map units amount_offered (supplies_of s i orders)
+    ∙ sum_by-cons offered (stock_supply (on_hand s i)) (supplies_to_come s i orders)
+    ∙ ap (λ n. on_hand s i + n) (sum_by-flat_map offered (supplies_in s i orders) (weeks (horizon s))
+    ∙ sum_by-agree (λ w. sum_by offered (supplies_in s i orders w)) (λ w. received_in s i w + ordered_in s i w) (week_supplies s i) (weeks (horizon s))
     ∙ sum_by-add (received_in s i) (ordered_in s i) (weeks (horizon s)) ∙ ap (λ n. sum_by (received_in s i) (weeks (horizon s)) + n) ordered)
 
 scheduled_most : (s : Inputs) (i w : ℕ) → scheduled_in s i w ≤ received_in s i w + firm_in s i w

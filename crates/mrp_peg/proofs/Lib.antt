@@ -10,3 +10,5 @@ pub mod Loops
 pub mod Listed
 pub mod Totals
 pub mod Covered
+pub mod ItemSums
+pub mod NeedsDiffer

@@ -3,7 +3,7 @@ use Rattle.std.proofs.Common.{◌≡◌, ◌≢◌, ◌∙◌, ℕ, zero, suc, �
 use Rattle.std.specs.Prelude.{flat_map, nat_le, All, ◌==◌}
 use Rattle.mrp_qty.specs.Quantity.{greatest_quantity, quantity_of}
 use Rattle.std.specs.Int.{IsInRange}
-use Rattle.std.specs.List.{range_with_len}
+use Rattle.std.specs.List.{enumerate_from, range_with_len}
 use Rattle.std.specs.Option.{IsSome}
 use Rattle.std.proofs.lemmas.Bool.{eqb-true, eqb-false, eq-eqb, ne_eqb, le-leb}
 use Rattle.std.proofs.lemmas.List.{map-append, append-nil}
@@ -14,29 +14,28 @@ use Rattle.mrp_item.specs.declared.due.Due.{Due}
 use Rattle.mrp_item.specs.declared.order.Order.{Order}
 use Rattle.mrp_item.specs.Dues.{due_sum}
 use Rattle.mrp_item.proofs.DueLemmas.{due_sum_more, one_due}
-use Rattle.mrp_peg.specs.Pegging.{Numbered, numbered_from}
 use Rattle.mrp_peg.specs.Rows.{beyond}
 
 -- one more order has the next number
-pub numbered_more : (n k : ℕ) (orders : List Order) (d : Order) → k < length orders → numbered_from n (take (k + 1) orders) ≡ numbered_from n (take k orders) ++ record { number = k + n; order = get_or orders k d } ∷ []
+pub numbered_more : (n k : ℕ) (orders : List Order) (d : Order) → k < length orders → enumerate_from n (take (k + 1) orders) ≡ enumerate_from n (take k orders) ++ (k + n, get_or orders k d) ∷ []
 numbered_more n k [] d h = absurd (omega (arith, h))
 numbered_more n zero (o ∷ orders) d h =
     let none : n ≡ 0 + n = omega arith in
-    ap (λ j. record { number = j; order = o } ∷ []) none
+    ap (λ j. (j, o) ∷ []) none
 numbered_more n (suc k) (o ∷ orders) d h =
     let next : suc k + 1 ≡ suc (k + 1) = omega arith in
     let number : k + (n + 1) ≡ suc k + n = omega arith in
-    ap (λ j. numbered_from n (take j (o ∷ orders))) next
-    ∙ ap (λ l. record { number = n; order = o } ∷ l) (numbered_more (n + 1) k orders d (omega (arith, h)))
-    ∙ ap (λ j. record { number = n; order = o } ∷ (numbered_from (n + 1) (take k orders) ++ record { number = j; order = get_or orders k d } ∷ [])) number
+    ap (λ j. enumerate_from n (take j (o ∷ orders))) next
+    ∙ ap (λ l. (n, o) ∷ l) (numbered_more (n + 1) k orders d (omega (arith, h)))
+    ∙ ap (λ j. (n, o) ∷ (enumerate_from (n + 1) (take k orders) ++ (j, get_or orders k d) ∷ [])) number
 
-pub pushed_order : {Y : Type 0} (f : Numbered → Y) (old so_far now : List Y) (k : ℕ) (orders : List Order) (o : Order) → k < length orders → o ≡ get_or orders k o → so_far ≡ old ++ map f (numbered_from 1 (take k orders))
-    → now ≡ so_far ++ f (record { number = k + 1; order = o }) ∷ [] → now ≡ old ++ map f (numbered_from 1 (take (k + 1) orders))
+pub pushed_order : {Y : Type 0} (f : ℕ × Order → Y) (old so_far now : List Y) (k : ℕ) (orders : List Order) (o : Order) → k < length orders → o ≡ get_or orders k o → so_far ≡ old ++ map f (enumerate_from 1 (take k orders))
+    → now ≡ so_far ++ f ((k + 1, o)) ∷ [] → now ≡ old ++ map f (enumerate_from 1 (take (k + 1) orders))
 pushed_order f old so_far now k orders o h at is told =
-    told ∙ ap (λ l. l ++ f (record { number = k + 1; order = o }) ∷ []) is
-    ∙ ap (λ (x : Order). (old ++ map f (numbered_from 1 (take k orders))) ++ f (record { number = k + 1; order = x }) ∷ []) at
-    ∙ append_assoc old (map f (numbered_from 1 (take k orders))) (f (record { number = k + 1; order = get_or orders k o }) ∷ [])
-    ∙ ap (λ l. old ++ l) (sym (map-append f (numbered_from 1 (take k orders)) (record { number = k + 1; order = get_or orders k o } ∷ [])))
+    told ∙ ap (λ l. l ++ f ((k + 1, o)) ∷ []) is
+    ∙ ap (λ (x : Order). (old ++ map f (enumerate_from 1 (take k orders))) ++ f ((k + 1, x)) ∷ []) at
+    ∙ append_assoc old (map f (enumerate_from 1 (take k orders))) (f ((k + 1, get_or orders k o)) ∷ [])
+    ∙ ap (λ l. old ++ l) (sym (map-append f (enumerate_from 1 (take k orders)) ((k + 1, get_or orders k o) ∷ [])))
     ∙ ap (λ l. old ++ map f l) (sym (numbered_more 1 k orders o h))
 
 -- the rows of one more week
@@ -80,21 +79,6 @@ less_booked demand left bookings k b at here less h is within on so_far there to
     ∙ with_week-row (beyond demand (take k bookings)) (beyond demand (take (k + 1) bookings)) (length demand) b.week less (omega (arith, within.0)) within.1
     (omega (arith, told, own, was, more b.week, whole))
     (λ other no. let none : one_due other b ≡ 0 = ap (λ t. cond t b.quantity 0) (ne_eqb b.week other (λ e. no (sym e))) in omega (arith, more other, none))
-
--- a quantity that is there
-pub quantity_is : (q n : ℕ) → Some q ≡ quantity_of n → q ≡ n
-quantity_is q n e = by (nat_le n greatest_quantity) e
-  where
-    by : (b : Bool) → Some q ≡ cond b (Some n) None → q ≡ n
-    by true e = cc
-    by false e = absurd (cc)
-
-pub quantity_some : (o : Option ℕ) (n : ℕ) → o ≡ quantity_of n → n ≤ greatest_quantity → IsSome o
-quantity_some o n e within =
-    let there : quantity_of n ≡ Some n = ap (λ b. cond b (Some n) None) (le-leb n greatest_quantity within) in
-    let P : Option ℕ → Type 0 = λ x. IsSome x in
-    let some : IsSome (Some n) = search rules in
-    subst P (sym (e ∙ there)) some
 
 more_from : (a n : ℕ) → range_with_len a (n + 1) ≡ range_with_len a n ++ (a + n) ∷ []
 more_from a zero =

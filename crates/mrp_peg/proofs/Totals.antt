@@ -1,5 +1,6 @@
 -- The requirements of an item add up to its gross requirements.
 use Rattle.std.proofs.Common.{◌≡◌, ◌∙◌, ℕ, zero, suc, ◌+◌, ◌-◌, ◌*◌, ◌<◌, ◌≤◌, Bool, true, false, cond, List, [], ◌∷◌, ◌++◌, length, get_or, refl, sym, ap, arith, max}
+use Rattle.std.specs.List.{enumerate_from}
 use Rattle.std.specs.Prelude.{◌==◌, filter, flat_map, map, sum, sum_by, nat_lt, if◌then◌else◌}
 use Rattle.std.proofs.lemmas.Bool.{ltb-true, ltb-false}
 use Rattle.std.proofs.lemmas.List.Sums.{sum_by-cons, sum_by-append, sum-map, get_or-le-sum_by}
@@ -17,7 +18,7 @@ use Rattle.mrp_peg.specs.declared.peg.Need.{Need}
 use Rattle.mrp_peg.specs.declared.peg.NeedKind.TheVariants.{Booking as for_booking, Forecast, Parent}
 use Rattle.mrp_peg.specs.declared.matching.Wanted.{Wanted}
 use Rattle.mrp_peg.specs.Matching.{amount_wanted, amounts_wanted}
-use Rattle.mrp_peg.specs.Pegging.{Numbered, booking_needs, forecast_needs, line_needs, needed, needs_in, numbered_from, orders_in, parent_needs, requirements}
+use Rattle.mrp_peg.specs.Pegging.{booking_needs, forecast_needs, line_needs, needed, needs_in, orders_in, parent_needs, requirements}
 use Rattle.mrp_peg.specs.Rows.{all_wanted, demand_wanted, line_wanted, order_wanted, parents_wanted}
 use Rattle.mrp_peg.specs.Units.{Amount, total}
 use Rattle.mrp_peg.specs.Weekly.{AreWithin, by_weeks}
@@ -27,23 +28,23 @@ use Rattle.mrp_peg.proofs.Lists.{sum_by-flat_map, sum_by_weeks}
 use Rattle.mrp_peg.proofs.Own.{gross-within}
 use Rattle.mrp_peg.proofs.Sums.{sum_by-agree, sum_by-map}
 
-pub numbered_kept : (g : Order → ℕ) (p : Order → Bool) (n : ℕ) (orders : List Order) → sum_by (λ (x : Numbered). g x.order) (filter (λ x. p x.order) (numbered_from n orders)) ≡ sum_by g (filter p orders)
+pub numbered_kept : (g : Order → ℕ) (p : Order → Bool) (n : ℕ) (orders : List Order) → sum_by (λ (x : ℕ × Order). g x.1) (filter (λ x. p x.1) (enumerate_from n orders)) ≡ sum_by g (filter p orders)
 numbered_kept g p n [] = refl
 numbered_kept g p n (o ∷ orders) = by (p o) (numbered_kept g p (n + 1) orders)
   where
-    rest : List Numbered
-    rest = filter (λ x. p x.order) (numbered_from (n + 1) orders)
+    rest : List (ℕ × Order)
+    rest = filter (λ x. p x.1) (enumerate_from (n + 1) orders)
 
-    by : (b : Bool) → sum_by (λ (x : Numbered). g x.order) (filter (λ x. p x.order) (numbered_from (n + 1) orders)) ≡ sum_by g (filter p orders)
-        → sum_by (λ (x : Numbered). g x.order) (cond b (record { number = n; order = o } ∷ filter (λ x. p x.order) (numbered_from (n + 1) orders)) (filter (λ x. p x.order) (numbered_from (n + 1) orders)))
+    by : (b : Bool) → sum_by (λ (x : ℕ × Order). g x.1) (filter (λ x. p x.1) (enumerate_from (n + 1) orders)) ≡ sum_by g (filter p orders)
+        → sum_by (λ (x : ℕ × Order). g x.1) (cond b ((n, o) ∷ filter (λ x. p x.1) (enumerate_from (n + 1) orders)) (filter (λ x. p x.1) (enumerate_from (n + 1) orders)))
         ≡ sum_by g (cond b (o ∷ filter p orders) (filter p orders))
-    by true e = sum_by-cons (λ (x : Numbered). g x.order) (record { number = n; order = o }) rest ∙ ap (λ k. g o + k) e ∙ sym (sum_by-cons g o (filter p orders))
+    by true e = sum_by-cons (λ (x : ℕ × Order). g x.1) ((n, o)) rest ∙ ap (λ k. g o + k) e ∙ sym (sum_by-cons g o (filter p orders))
     by false e = e
 
-numbered_sum : (g : Order → ℕ) (n : ℕ) (orders : List Order) → sum_by (λ (x : Numbered). g x.order) (numbered_from n orders) ≡ sum_by g orders
+numbered_sum : (g : Order → ℕ) (n : ℕ) (orders : List Order) → sum_by (λ (x : ℕ × Order). g x.1) (enumerate_from n orders) ≡ sum_by g orders
 numbered_sum g n [] = refl
 numbered_sum g n (o ∷ orders) =
-    sum_by-cons (λ (x : Numbered). g x.order) (record { number = n; order = o }) (numbered_from (n + 1) orders) ∙ ap (λ k. g o + k) (numbered_sum g (n + 1) orders) ∙ sym (sum_by-cons g o orders)
+    sum_by-cons (λ (x : ℕ × Order). g x.1) ((n, o)) (enumerate_from (n + 1) orders) ∙ ap (λ k. g o + k) (numbered_sum g (n + 1) orders) ∙ sym (sum_by-cons g o orders)
 
 abbrev units : {A : Type 0} → Amount A → ℕ
 units a = a.quantity
@@ -51,7 +52,7 @@ units a = a.quantity
 line_total : (s : Inputs) (i w place : ℕ) → total (line_needs s i w place) ≡ asked_by (outcome_of s) w (line_at s.tables.bills place)
 line_total s i w place =
     let line = line_at s.tables.bills place in
-    sum_by-map units (λ (n : Numbered). needed i w (Parent (place + 1) n.number) (n.order.start * line.per)) (filter (λ n. n.order.release == w) (orders_in s line.parent))
+    sum_by-map units (λ (n : ℕ × Order). needed i w (Parent (place + 1) n.0) (n.1.start * line.per)) (filter (λ n. n.1.release == w) (orders_in s line.parent))
     ∙ numbered_kept (λ o. o.start * line.per) (λ o. o.release == w) 1 (plan_in (outcome_of s line.parent)).orders
 
 parents_total : (s : Inputs) (i w : ℕ) → total (parent_needs s i w) ≡ sum_by (asked_by (outcome_of s) w) (lines_to s i)

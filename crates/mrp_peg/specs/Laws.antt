@@ -1,11 +1,12 @@
 -- What holds of requirements and supplies that are matched piece by piece, and of the pegs of an item.
-use Rattle.std.specs.Prelude.{ℕ, ◌≡◌, ◌≤◌, ◌<◌, ◌-◌, ◌&&◌, Bool, min, List, filter, sum_by, count_by}
+use Rattle.std.specs.Prelude.{ℕ, ◌≡◌, ◌≢◌, ◌≤◌, ◌<◌, ◌-◌, ◌&&◌, Bool, min, List, AllPairs, filter, sum_by, count_by}
 use Rattle.std.specs.List.{range_with_len}
 use Rattle.mrp_item.specs.Inputs.{Inputs, horizon, item_at}
 use Rattle.mrp_item.specs.Limits.{IsSized}
 use Rattle.mrp_item.specs.Plan.{IsRanked, ItemPlan, Planned, outcome_of}
 use Rattle.mrp_peg.specs.declared.peg.Need.{Need}
-use Rattle.mrp_peg.specs.declared.peg.Supplied.{Supplied}
+use Rattle.mrp_peg.specs.declared.peg.Peg.{Peg}
+use Rattle.mrp_item.specs.declared.supplies.Supplied.{Supplied}
 use Rattle.mrp_peg.specs.Pegging.{pegs_of, requirements, supplies}
 use Rattle.mrp_peg.specs.Units.{Amount, is_for, matches, serves, spans, total, units}
 
@@ -20,16 +21,28 @@ abbrev pub RequirementsAddUp : Type 0
 RequirementsAddUp = (test : Need → Bool) (needs : List (Amount Need)) (supplies : List (Amount Supplied))
     → sum_by (λ m. m.quantity) (filter (λ m. is_for test m.need) (matches needs supplies)) ≡ sum_by (λ n. min n.past (total supplies) - n.first) (filter (λ n. test n.of) (spans needs))
 
+-- the pegs of any requirements of an item add up to them
+abbrev pub AddUpToRequirements : Inputs → ℕ → List Peg → Type 0
+AddUpToRequirements s i pegs = (test : Need → Bool)
+    → sum_by (λ g. g.quantity) (filter (λ g. is_for test g.need) pegs) ≡ sum_by (λ a. a.quantity) (filter (λ a. test a.of) (requirements s i))
+
+-- the pegs of any supplies of an item, with their surplus, add up to them
+abbrev pub AddUpToSupplies : Inputs → ℕ → List Peg → Type 0
+AddUpToSupplies s i pegs = (test : Supplied → Bool)
+    → sum_by (λ g. g.quantity) (filter (λ g. test g.supply) pegs) ≡ sum_by (λ a. a.quantity) (filter (λ a. test a.of) (supplies s i))
+
 -- where an item's supplies cover its requirements, the pegs of any requirements have exactly their pieces
 abbrev pub RequirementsArePegged : Type 0
-RequirementsArePegged = (s : Inputs) (i : ℕ) (test : Need → Bool) → total (requirements s i) ≤ total (supplies s i)
-    → sum_by (λ g. g.quantity) (filter (λ g. is_for test g.need) (pegs_of s i)) ≡ sum_by (λ a. a.quantity) (filter (λ a. test a.of) (requirements s i))
+RequirementsArePegged = (s : Inputs) (i : ℕ) → total (requirements s i) ≤ total (supplies s i) → AddUpToRequirements s i (pegs_of s i)
 
 -- the pegs of any supplies of an item, with their surplus, have exactly their pieces
 abbrev pub SuppliesArePegged : Type 0
-SuppliesArePegged = (s : Inputs) (i : ℕ) (test : Supplied → Bool)
-    → sum_by (λ g. g.quantity) (filter (λ g. test g.supply) (pegs_of s i)) ≡ sum_by (λ a. a.quantity) (filter (λ a. test a.of) (supplies s i))
+SuppliesArePegged = (s : Inputs) (i : ℕ) → AddUpToSupplies s i (pegs_of s i)
 
 -- the supplies of a planned item cover its requirements
 abbrev pub RequirementsAreCovered : Type 0
 RequirementsAreCovered = (s : Inputs) (i : ℕ) (code : ℕ → ℕ) (plan : ItemPlan) → IsRanked s code → outcome_of s i ≡ Planned plan → IsSized (item_at s i).lot → 0 < horizon s → total (requirements s i) ≤ total (supplies s i)
+
+-- where the numbers of the bookings rise, the needs of an item differ
+abbrev pub NeedsDiffer : Type 0
+NeedsDiffer = (s : Inputs) (i : ℕ) → AllPairs (λ a b. a.number < b.number) s.standing → AllPairs (λ a b. a.of ≢ b.of) (requirements s i)

@@ -1,10 +1,10 @@
 -- What the program's rows of requirements and supplies are.
 use Rattle.std.specs.Prelude.{ℕ, List, map, drop, [], ◌∷◌}
 use Rattle.mrp_peg.specs.declared.peg.Need.{Need}
-use Rattle.mrp_peg.specs.declared.peg.Supplied.{Supplied}
+use Rattle.mrp_item.specs.declared.supplies.Supplied.{Supplied}
+use Rattle.mrp_item.specs.declared.supplies.Supply.{Supply}
 use Rattle.mrp_peg.specs.declared.peg.Peg.{Peg}
 use Rattle.mrp_peg.specs.declared.matching.Wanted.{Wanted}
-use Rattle.mrp_peg.specs.declared.matching.Offered.{Offered}
 use Rattle.mrp_peg.specs.Units.{Amount, Match}
 
 abbrev pub amount_wanted : Wanted → Amount Need
@@ -13,10 +13,10 @@ amount_wanted w = record { of = w.need; quantity = w.quantity }
 abbrev pub amounts_wanted : List Wanted → List (Amount Need)
 amounts_wanted needs = map amount_wanted needs
 
-abbrev pub amount_offered : Offered → Amount Supplied
-amount_offered o = record { of = o.supply; quantity = o.quantity }
+abbrev pub amount_offered : Supply → Amount Supplied
+amount_offered x = record { of = x.source; quantity = x.quantity }
 
-abbrev pub amounts_offered : List Offered → List (Amount Supplied)
+abbrev pub amounts_offered : List Supply → List (Amount Supplied)
 amounts_offered supplies = map amount_offered supplies
 
 -- the pieces of the first, and 0 if there is none
@@ -27,7 +27,7 @@ first_quantity (a ∷ row) = a.quantity
 abbrev pub wanted_from : List Wanted → ℕ → ℕ
 wanted_from needs place = first_quantity (amounts_wanted (drop place needs))
 
-abbrev pub offered_from : List Offered → ℕ → ℕ
+abbrev pub offered_from : List Supply → ℕ → ℕ
 offered_from supplies place = first_quantity (amounts_offered (drop place supplies))
 
 -- a match of an item's requirements and supplies, as a peg

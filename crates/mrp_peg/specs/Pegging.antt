@@ -1,33 +1,24 @@
 -- The requirements and the supplies of an item, and its pegs (Orlicky: pegging; profile: piece by piece, first to first).
 use Rattle.std.specs.Prelude.{ℕ, ◌+◌, ◌-◌, ◌*◌, ◌==◌, ◌++◌, nat_lt, if◌then◌else◌, List, [], ◌∷◌, map, filter, flat_map}
+use Rattle.std.specs.List.{enumerate_from}
 use Rattle.mrp_bill.specs.Bill.{line_at, lines_of}
 use Rattle.mrp_phase.specs.Weeks.{weeks}
 use Rattle.mrp_item.specs.declared.order.Order.{Order}
 use Rattle.mrp_item.specs.Inputs.{Inputs, horizon, is_master, places}
 use Rattle.mrp_item.specs.Plan.{outcome_of, plan_in}
-use Rattle.mrp_item.specs.Rows.{booked, bookings_due, forecast, on_hand, open_receipts}
+use Rattle.mrp_item.specs.Rows.{booked, bookings_due, forecast}
+use Rattle.mrp_item.specs.Supplies.{supplies_of}
+use Rattle.mrp_item.specs.declared.supplies.Supplied.{Supplied}
 use Rattle.mrp_peg.specs.declared.peg.Need.{Need}
 use Rattle.mrp_peg.specs.declared.peg.NeedKind.{NeedKind}
 use Rattle.mrp_peg.specs.declared.peg.NeedKind.TheVariants.{Booking, Forecast, Parent}
-use Rattle.mrp_peg.specs.declared.peg.Supplied.{Supplied}
-use Rattle.mrp_peg.specs.declared.peg.Supplied.TheVariants as supplied
 use Rattle.mrp_peg.specs.declared.peg.Peg.{Peg}
-use Rattle.mrp_peg.specs.Matching.{peg_of}
+use Rattle.mrp_peg.specs.Matching.{amounts_offered, peg_of}
 use Rattle.mrp_peg.specs.Units.{Amount, matches}
 
--- an order with its number
-pub record Numbered : Type 0 where
-  pub number : ℕ
-  pub order : Order
-
--- orders with their numbers, from n on
-abbrev pub numbered_from : ℕ → List Order → List Numbered
-numbered_from n [] = []
-numbered_from n (order ∷ orders) = record { number = n; order = order } ∷ numbered_from (n + 1) orders
-
--- the orders of an item in the plan; an order's number is its place from 1
-abbrev pub orders_in : Inputs → ℕ → List Numbered
-orders_in s i = numbered_from 1 (plan_in (outcome_of s i)).orders
+-- the orders of an item in the plan with their numbers; an order's number is its place from 1
+abbrev pub orders_in : Inputs → ℕ → List (ℕ × Order)
+orders_in s i = enumerate_from 1 (plan_in (outcome_of s i)).orders
 
 abbrev pub needed : ℕ → ℕ → NeedKind → ℕ → Amount Need
 needed i week kind quantity = record { of = record { item = i; week = week; kind = kind }; quantity = quantity }
@@ -45,7 +36,7 @@ forecast_needs s i week =
 abbrev pub line_needs : Inputs → ℕ → ℕ → ℕ → List (Amount Need)
 line_needs s i week place =
     let line = line_at s.tables.bills place in
-    map (λ n. needed i week (Parent (place + 1) n.number) (n.order.start * line.per)) (filter (λ n. n.order.release == week) (orders_in s line.parent))
+    map (λ n. needed i week (Parent (place + 1) n.0) (n.1.start * line.per)) (filter (λ n. n.1.release == week) (orders_in s line.parent))
 
 -- what parents ask in a week, by bill record and then by order
 abbrev pub parent_needs : Inputs → ℕ → ℕ → List (Amount Need)
@@ -59,18 +50,9 @@ needs_in s i week = if is_master s i then booking_needs s i week ++ forecast_nee
 unfoldable pub requirements : Inputs → ℕ → List (Amount Need)
 requirements s i = flat_map (needs_in s i) (weeks (horizon s))
 
-abbrev pub supply : Supplied → ℕ → Amount Supplied
-supply what quantity = record { of = what; quantity = quantity }
-
--- what comes in a week: open receipts in table order, then orders by number, firm ones before the planned one
-abbrev pub supplies_in : Inputs → ℕ → ℕ → List (Amount Supplied)
-supplies_in s i week =
-    map (λ r. supply (supplied.Receipt r.number) r.quantity) (open_receipts s i week)
-    ++ map (λ n. supply (supplied.Order n.number) n.order.quantity) (filter (λ n. n.order.due == week) (orders_in s i))
-
--- the supplies of an item: what is on hand, then week by week
+-- the supplies of an item, in their order
 unfoldable pub supplies : Inputs → ℕ → List (Amount Supplied)
-supplies s i = supply supplied.Stock (on_hand s i) ∷ flat_map (supplies_in s i) (weeks (horizon s))
+supplies s i = amounts_offered (supplies_of s i (plan_in (outcome_of s i)).orders)
 
 -- the pegs of an item
 unfoldable pub pegs_of : Inputs → ℕ → List Peg

@@ -1,6 +1,6 @@
 //! What follows from the definitions alone, each law the contract of a function that does nothing.
 
-ghost use Rattle.mrp_peg.specs.Laws.{MatchesAreUnits, RequirementsAddUp, RequirementsAreCovered, RequirementsArePegged, SuppliesArePegged};
+ghost use Rattle.mrp_peg.specs.Laws.{MatchesAreUnits, NeedsDiffer, RequirementsAddUp, RequirementsAreCovered, RequirementsArePegged, SuppliesArePegged};
 
 /// Piece by piece: what is matched of requirements and supplies is the count of the k for which the
 /// k-th required piece is of the ones and the k-th supplied piece of the others; and of requirements
@@ -21,4 +21,10 @@ pub fn sums()
 /// add up to it.
 pub fn cover()
     ensures { RequirementsAreCovered }
+{}
+
+/// No two requirements of an item are of one need, where the numbers of its bookings rise: a booking
+/// goes by its number, what a parent's order asks by the bill line and the order's number.
+pub fn needs()
+    ensures { NeedsDiffer }
 {}

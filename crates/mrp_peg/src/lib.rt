@@ -8,7 +8,7 @@ mod ordering;
 mod parents;
 mod peg;
 mod pegging;
-mod supplies;
 
-pub use peg::{Need, NeedKind, Peg, Supplied};
+pub use mrp_item::Supplied;
+pub use peg::{Need, NeedKind, Peg};
 pub use pegging::{item_pegs, pegs};

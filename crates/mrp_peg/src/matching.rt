@@ -4,7 +4,8 @@ ghost use Rattle.std.specs.Prelude.{◌≡◌, ◌-◌, ◌++◌, ◌∷◌, [],
 ghost use Rattle.mrp_peg.specs.Units.{matches};
 ghost use Rattle.mrp_peg.specs.Matching.{amounts_offered, amounts_wanted, offered_from, peg_of, wanted_from};
 
-use crate::peg::{Need, Peg, Supplied};
+use crate::peg::{Need, Peg};
+use mrp_item::Supply;
 use mrp_qty::{NoMemory, Qty};
 use std::alloc::Global;
 
@@ -12,14 +13,6 @@ use std::alloc::Global;
 #[derive(Clone, Copy, Debug, PartialEq, Eq)]
 pub struct Wanted {
     pub need: Need,
-    pub quantity: Qty,
-}
-
-/// A supply, the week in which it comes (0 for what is on hand) and its pieces.
-#[derive(Clone, Copy, Debug, PartialEq, Eq)]
-pub struct Offered {
-    pub week: u16,
-    pub supply: Supplied,
     pub quantity: Qty,
 }
 
@@ -48,11 +41,11 @@ fn wanted_at(needs: &[Wanted], place: usize) -> Qty
 }
 
 // The pieces of the supply at a place, and 0 past the last.
-fn offered_at(supplies: &[Offered], place: usize) -> Qty
+fn offered_at(supplies: &[Supply], place: usize) -> Qty
     ensures { result ≡ offered_from supplies.now place }
 {
     match supplies.get(place) {
-        Some(offered) => offered.quantity,
+        Some(supply) => supply.quantity,
         None => Qty::new(0).unwrap(),
     }
 }
@@ -73,7 +66,7 @@ pub fn matched(
     alloc: Global,
     item: usize,
     needs: &[Wanted],
-    supplies: &[Offered],
+    supplies: &[Supply],
 ) -> Result<Vec<Peg>, NoMemory>
     ensures { IfOk result (λ pegs. pegs.items ≡ map (peg_of item) (matches (amounts_wanted needs.now) (amounts_offered supplies.now))) }
 {
@@ -83,7 +76,7 @@ pub fn matched(
     let mut wanted = wanted_at(needs, i);
     let mut offered = offered_at(supplies, j);
     while j < supplies.len() {
-        let supply = supplies[j].supply;
+        let supply = supplies[j].source;
         if i < needs.len() {
             let peg = Peg {
                 item,

@@ -6,7 +6,7 @@ ghost use Rattle.mrp_item.specs.Inputs.{count, horizon, is_master};
 ghost use Rattle.mrp_bill.specs.Bill.{line_at};
 ghost use Rattle.mrp_peg.specs.Own.{IsOwn};
 ghost use Rattle.mrp_peg.specs.Weekly.{AreWithin};
-ghost use Rattle.mrp_peg.specs.Pegging.{numbered_from};
+ghost use Rattle.std.specs.List.{enumerate_from};
 ghost use Rattle.mrp_peg.specs.Rows.{all_wanted, order_wanted, parents_wanted};
 
 use crate::matching::Wanted;
@@ -25,7 +25,7 @@ fn add_line(
     orders: &[Order],
 ) -> Result<(), NoMemory>
     requires { All (λ order. order.start * per ≤ greatest_quantity) orders.now }
-    ensures { OnOk result (needs.new.items ≡ needs.old.items ++ map (order_wanted item line per) (numbered_from 1 orders.now)) }
+    ensures { OnOk result (needs.new.items ≡ needs.old.items ++ map (order_wanted item line per) (enumerate_from 1 orders.now)) }
 {
     for (place, order) in orders.iter().enumerate() {
         let kind = NeedKind::Parent {

@@ -1,5 +1,6 @@
 //! What needs an item, what serves the need, and what a need goes back to.
 
+use mrp_item::Supplied;
 use mrp_qty::Qty;
 
 /// What needs pieces of an item.
@@ -27,17 +28,6 @@ pub struct Need {
     pub week: u16,
     /// What needs it.
     pub kind: NeedKind,
-}
-
-/// What serves the requirements of an item.
-#[derive(Clone, Copy, Debug, PartialEq, Eq)]
-pub enum Supplied {
-    /// What is on hand.
-    Stock,
-    /// The open receipt with this record number, from 1.
-    Receipt(u64),
-    /// The item's order with this number, from 1.
-    Order(usize),
 }
 
 /// Pieces of a supply that serve a requirement, or that no requirement takes (Orlicky: pegging).

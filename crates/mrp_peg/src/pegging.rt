@@ -1,11 +1,14 @@
 //! The pegs of an item and of a plan.
 
-ghost use Rattle.std.specs.Prelude.{◌≡◌, ◌<◌, IfOk};
-ghost use Rattle.mrp_item.specs.Inputs.{count, horizon, is_master};
+ghost use Rattle.std.specs.Prelude.{◌≡◌, ◌<◌, ◌≤◌, IfOk, OnOk};
+ghost use Rattle.mrp_item.specs.Inputs.{count, horizon, is_master, item_at};
+ghost use Rattle.mrp_item.specs.Limits.{IsSized};
+ghost use Rattle.mrp_peg.specs.Laws.{AddUpToRequirements, AddUpToSupplies};
+ghost use Rattle.mrp_peg.specs.Units.{total};
 ghost use Rattle.mrp_peg.specs.Own.{IsOwn};
 ghost use Rattle.mrp_peg.specs.Weekly.{AreWithin};
 ghost use Rattle.mrp_peg.specs.Matching.{amounts_wanted};
-ghost use Rattle.mrp_peg.specs.Pegging.{pegs_of, plan_pegs, requirements};
+ghost use Rattle.mrp_peg.specs.Pegging.{pegs_of, plan_pegs, requirements, supplies};
 ghost use Rattle.mrp_peg.specs.Rows.{all_wanted};
 
 use crate::demand::demand_of;
@@ -13,21 +16,17 @@ use crate::matching::{Wanted, matched};
 use crate::ordering::sort_needs;
 use crate::parents::parents_of;
 use crate::peg::Peg;
-use crate::supplies::supplies_of;
 use mrp_item::{Inputs, Plan};
 use mrp_qty::NoMemory;
-use mrp_tables::Class;
 use std::alloc::Global;
 
 // Whether the master schedule plans an item.
 fn is_master_item(inputs: &Inputs, item: usize) -> bool
     requires { item < count inputs.now }
-    ensures { result ≡ is_master inputs.now item }
+    ensures class { result ≡ is_master inputs.now item }
+    ensures sized { IsSized (item_at inputs.now item).lot }
 {
-    match inputs.shop().tables().items()[item].class {
-        Class::Master => true,
-        Class::Part => false,
-    }
+    inputs.entry(item).class.is_master()
 }
 
 // The requirements of an item, in no order of weeks.
@@ -35,7 +34,8 @@ fn listed_needs(alloc: Global, plan: &Plan, item: usize) -> Result<Vec<Wanted>, 
     requires item { item < count plan.now.inputs }
     requires own { IsOwn plan.now.inputs item }
     requires within { AreWithin (λ wanted. wanted.need.week) 1 (horizon plan.now.inputs) (all_wanted plan.now.inputs item) }
-    ensures { IfOk result (λ needs. needs.items ≡ all_wanted plan.now.inputs item) }
+    ensures needs { IfOk result (λ needs. needs.items ≡ all_wanted plan.now.inputs item) }
+    ensures sized { IsSized (item_at plan.now.inputs item).lot }
 {
     let inputs: &Inputs = plan.inputs();
     let _weeks = inputs.weeks();
@@ -47,12 +47,14 @@ fn listed_needs(alloc: Global, plan: &Plan, item: usize) -> Result<Vec<Wanted>, 
     }
 }
 
-// The requirements of an item, in order.
+// The requirements of an item, in order. The item's supplies cover them.
 fn needs_of(alloc: Global, plan: &Plan, item: usize) -> Result<Vec<Wanted>, NoMemory>
     requires { item < count plan.now.inputs }
-    ensures { IfOk result (λ needs. amounts_wanted needs.items ≡ requirements plan.now.inputs item) }
+    ensures needs { IfOk result (λ needs. amounts_wanted needs.items ≡ requirements plan.now.inputs item) }
+    ensures covered { OnOk result (total (requirements plan.now.inputs item) ≤ total (supplies plan.now.inputs item)) }
 {
     let inputs: &Inputs = plan.inputs();
+    let _weeks = inputs.weeks();
     let _planned = plan.item(item).inputs();
     let _ranked = inputs.shop();
     let _booked = inputs.snapshot();
@@ -63,15 +65,18 @@ fn needs_of(alloc: Global, plan: &Plan, item: usize) -> Result<Vec<Wanted>, NoMe
 
 /// The pegs of an item, by its place, in order of requirement and supply, surplus last (Orlicky:
 /// pegging; profile: the first piece required is served by the first piece supplied, and so on). The
-/// caller owes that the shop has the item.
+/// pegs of each requirement add up to it, and those of each supply, with its surplus, to the supply.
+/// The caller owes that the shop has the item.
 ///
 /// Errors: `NoMemory` where memory is refused.
 pub fn item_pegs(alloc: Global, plan: &Plan, item: usize) -> Result<Vec<Peg>, NoMemory>
     requires { item < count plan.now.inputs }
     ensures pegs { IfOk result (λ pegs. pegs.items ≡ pegs_of plan.now.inputs item) }
+    ensures requirements { IfOk result (λ pegs. AddUpToRequirements plan.now.inputs item pegs.items) }
+    ensures supplies { IfOk result (λ pegs. AddUpToSupplies plan.now.inputs item pegs.items) }
 {
     let needs = needs_of(alloc, plan, item)?;
-    let supplies = supplies_of(alloc, plan, item)?;
+    let supplies = plan.item(item).supplies(alloc)?;
     matched(alloc, item, &needs, &supplies)
 }
 

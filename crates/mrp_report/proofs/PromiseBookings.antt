@@ -89,7 +89,7 @@ fronts-covered s bookings item k dues is are master same within t inside =
       sums-rise (due_sum (take (k + 1) dues)) (λ week. due_in item week (lines_of bookings)) s.weeks t few last,
       booked_to s item (lines_of bookings) t (from_first s bookings are) last,
       supplied_to s item (lines_of bookings) t (firm_from_first s is item) inside.0 last,
-      are.covered item t master (inside.0, last),
+      are.covered item master t (inside.0, last),
     )
 
 -- each due of an item is in a week of the horizon

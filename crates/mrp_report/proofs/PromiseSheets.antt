@@ -4,7 +4,7 @@ use Rattle.std.specs.Prelude.{IsTrue, if◌then◌else◌, sum_by}
 use Rattle.std.specs.List.{flat_map}
 use Rattle.mrp_phase.specs.Weeks.{in_week, row, sum_to}
 use Rattle.mrp_phase.proofs.WeekRows.{in_week_row, length-row}
-use Rattle.mrp_master.specs.Supply.{IsMaster, IsSupply, IsWeek, supply_of, uncommitted}
+use Rattle.mrp_master.specs.Supply.{IsMaster, IsSupply, IsWeek, least_from, supply_of, uncommitted}
 use Rattle.mrp_master.specs.AtpRow.{AtpRow, atp_row, bucket, due_in, opening}
 use Rattle.mrp_master.proofs.ItemRows.{booked_to, firm_from_first, supplied_to}
 use Rattle.mrp_book.proofs.Entries.{from_first}
@@ -14,7 +14,7 @@ use Rattle.mrp_item.specs.Inputs.{Inputs, count, horizon, is_master, item_at}
 use Rattle.mrp_item.specs.Rows.{booked, firm_rows, open_receipts, scheduled_in}
 use Rattle.mrp_report.specs.declared.promises.PromiseRow.{PromiseRow}
 use Rattle.mrp_report.specs.declared.promise_sheet.PromiseSheet.{PromiseSheet}
-use Rattle.mrp_report.specs.PromiseRows.{available, least_from, promise_row, promises_of}
+use Rattle.mrp_report.specs.PromiseRows.{available, promise_row, promises_of}
 use Rattle.mrp_report.specs.PromiseSheet.{IsPromiseSheet, available_in, sheet_promise, uncommitted_in}
 use Rattle.mrp_report.specs.PromiseText.{promise_text}
 use Rattle.mrp_report.specs.ReportText.{promised_text}

@@ -3,24 +3,17 @@ use Rattle.std.proofs.Common.{◌≡◌, ◌≢◌, ◌∙◌, ℕ, zero, suc, �
 use Rattle.std.proofs.lemmas.Bool.{cases_lt}
 use Rattle.mrp_phase.specs.Weeks.{in_week, row, sum_to, with_week}
 use Rattle.mrp_phase.proofs.WeekRows.{in_week_changed, in_week_kept, in_week_row, sum_to_suc}
-use Rattle.mrp_master.specs.Supply.{IsLeastFrom}
+use Rattle.mrp_master.specs.Supply.{IsLeastFrom, least_from}
 use Rattle.mrp_master.specs.AtpRow.{AtpRow, IsAtpRow, IsAvailableIn, IsCoveredRow, IsWeekOf, bucket, buckets_to, with_booking}
-use Rattle.mrp_master.proofs.Available.{least, least_is}
+use Rattle.mrp_master.proofs.Available.{least_is}
 use Rattle.mrp_master.proofs.Carried.{buckets_available}
-use Rattle.mrp_report.specs.PromiseRows.{least_from}
 use Rattle.mrp_report.specs.PromiseSheet.{available_in, uncommitted_in}
 
 -- Least values.
 
-least-from-is : (f : ℕ → ℕ) (week more : ℕ) → least f week more ≡ least_from f week more
-unfolding least least_from
-least-from-is f week zero = refl
-least-from-is f week (suc more) = ap (min (f week)) (least-from-is f (suc week) more)
-
 pub is-least-from : (f : ℕ → ℕ) (week last : ℕ) → week ≤ last → IsLeastFrom f week last (least_from f week (last - week))
 is-least-from f week last within =
-    let end : last ≡ week + (last - week) = omega (arith, within) in
-    subst (λ n. IsLeastFrom f week last n) (least-from-is f week (last - week)) (least_is f (last - week) week last end)
+    least_is f (last - week) week last (omega (arith, within))
 
 pub least-from-same : (f g : ℕ → ℕ) (more week : ℕ) → ((t : ℕ) → week ≤ t → t ≤ week + more → f t ≡ g t) → least_from f week more ≡ least_from g week more
 unfolding least_from

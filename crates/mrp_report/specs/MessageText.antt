@@ -5,20 +5,12 @@ use Rattle.mrp_item.specs.declared.order.Order.{Order}
 use Rattle.mrp_notes.specs.declared.message.Advice.{Advice}
 use Rattle.mrp_notes.specs.declared.message.Advice.TheVariants as advice
 use Rattle.mrp_notes.specs.declared.message.Message.{Message}
-use Rattle.mrp_notes.specs.declared.message.Supplied.{Supplied}
-use Rattle.mrp_notes.specs.declared.message.Supplied.TheVariants as supplied
-use Rattle.mrp_report.specs.declared.source.Source.{Source}
-use Rattle.mrp_report.specs.declared.source.Source.TheVariants as source
 use Rattle.mrp_report.specs.Cells.{number_cell}
 use Rattle.mrp_report.specs.Section.{row, section_head}
 use Rattle.mrp_report.specs.SourceText.{source_name, source_word}
 
 abbrev pub messages_head : List ℕ
 messages_head = section_head (codes "[messages]") (codes "item" ∷ codes "supply" ∷ codes "source" ∷ codes "message" ∷ codes "value" ∷ [])
-
-abbrev pub source_told : Supplied → Source
-source_told (supplied.Receipt number) = source.Receipt number
-source_told (supplied.Order number) = source.Order number
 
 -- what is said of a supply (APICS Dictionary: action message)
 abbrev pub advice_word : Advice → List ℕ
@@ -39,4 +31,4 @@ advice_value advice.Cancel = None
 -- a message about an item with this name and these orders
 abbrev pub message_text : Tables → List ℕ → List Order → Message → List ℕ
 message_text t name orders m =
-    row (name ∷ source_word orders (source_told m.supply) ∷ source_name t (source_told m.supply) ∷ advice_word m.advice ∷ number_cell (advice_value m.advice) ∷ [])
+    row (name ∷ source_word orders m.supply ∷ source_name t m.supply ∷ advice_word m.advice ∷ number_cell (advice_value m.advice) ∷ [])

@@ -6,10 +6,6 @@ use Rattle.mrp_peg.specs.declared.peg.Need.{Need}
 use Rattle.mrp_peg.specs.declared.peg.NeedKind.{NeedKind}
 use Rattle.mrp_peg.specs.declared.peg.NeedKind.TheVariants as kind
 use Rattle.mrp_peg.specs.declared.peg.Peg.{Peg}
-use Rattle.mrp_peg.specs.declared.peg.Supplied.{Supplied}
-use Rattle.mrp_peg.specs.declared.peg.Supplied.TheVariants as supplied
-use Rattle.mrp_report.specs.declared.source.Source.{Source}
-use Rattle.mrp_report.specs.declared.source.Source.TheVariants as source
 use Rattle.mrp_report.specs.Cells.{parent_name}
 use Rattle.mrp_report.specs.Section.{row, section_head}
 use Rattle.mrp_report.specs.SourceText.{source_name, source_word}
@@ -29,12 +25,7 @@ abbrev pub need_cells : Tables → Option Need → List (List ℕ)
 need_cells t (Some need) = decimal need.week ∷ kind_cells t need.kind
 need_cells t None = [] ∷ codes "surplus" ∷ [] ∷ [] ∷ [] ∷ []
 
-abbrev pub source_of : Supplied → Source
-source_of supplied.Stock = source.Stock
-source_of (supplied.Receipt number) = source.Receipt number
-source_of (supplied.Order number) = source.Order number
-
 -- a peg, of an item with this name and these orders
 abbrev pub peg_text : Tables → List ℕ → List Order → Peg → List ℕ
 peg_text t name orders p =
-    row (name ∷ (need_cells t p.need ++ (source_word orders (source_of p.supply) ∷ source_name t (source_of p.supply) ∷ decimal p.quantity ∷ [])))
+    row (name ∷ (need_cells t p.need ++ (source_word orders p.supply ∷ source_name t p.supply ∷ decimal p.quantity ∷ [])))

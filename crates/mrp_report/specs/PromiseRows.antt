@@ -1,21 +1,17 @@
 -- What can be promised of each master item and week (APICS Dictionary: available-to-promise; profile: its exact rules).
-use Rattle.std.specs.Prelude.{ℕ, zero, suc, ◌-◌, min, List, sum_by}
+use Rattle.std.specs.Prelude.{ℕ, List, sum_by}
 use Rattle.mrp_phase.specs.Weeks.{row}
-use Rattle.mrp_master.specs.Supply.{Supply, supply_of, uncommitted}
+use Rattle.mrp_master.specs.Supply as promise
+use Rattle.mrp_master.specs.Supply.{supply_of}
 use Rattle.mrp_master.specs.AtpRow.{AtpRow, atp_row, bucket}
 use Rattle.mrp_book.specs.Bookings.{lines_of}
 use Rattle.mrp_item.specs.Inputs.{Inputs, horizon}
 use Rattle.mrp_item.specs.Rows.{booked, firm_rows}
 use Rattle.mrp_report.specs.declared.promises.PromiseRow.{PromiseRow}
 
--- the least value of f in a week and so many weeks after it
-unfoldable pub least_from : (ℕ → ℕ) → ℕ → ℕ → ℕ
-least_from f week zero = f week
-least_from f week (suc more) = min (f week) (least_from f (suc week) more)
-
--- available to promise: the least of supply less standing bookings, over the weeks from this one to the last
+-- available to promise beside the standing bookings
 abbrev pub available : Inputs → ℕ → ℕ → ℕ
-available s i week = least_from (uncommitted (supply_of s.tables) (lines_of s.standing) i) week (horizon s - week)
+available s i week = promise.available (supply_of s.tables) (lines_of s.standing) i week
 
 -- an item's supply and standing bookings, week by week
 abbrev pub promises_of : Inputs → ℕ → AtpRow

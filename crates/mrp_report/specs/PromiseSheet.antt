@@ -5,7 +5,7 @@ use Rattle.mrp_phase.specs.Weeks.{in_week, sum_to}
 use Rattle.mrp_master.specs.AtpRow.{AtpRow, bucket, buckets_to}
 use Rattle.mrp_report.specs.declared.promises.PromiseRow.{PromiseRow}
 use Rattle.mrp_report.specs.declared.promise_sheet.PromiseSheet.{PromiseSheet}
-use Rattle.mrp_report.specs.PromiseRows.{least_from}
+use Rattle.mrp_master.specs.Supply.{least_from}
 
 -- a sheet of at most two years, with a firm quantity, a supply and bookings for each week
 pub record IsPromiseSheet (s : PromiseSheet) : Type 0 where

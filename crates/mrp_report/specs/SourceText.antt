@@ -2,8 +2,8 @@
 use Rattle.std.specs.Prelude.{ℕ, ◌-◌, List, [], ◌∷◌, codes, decimal, Option, Some, None, slice_get}
 use Rattle.mrp_tables.specs.Tables.{Tables}
 use Rattle.mrp_item.specs.declared.order.Order.{Order}
-use Rattle.mrp_report.specs.declared.source.Source.{Source}
-use Rattle.mrp_report.specs.declared.source.Source.TheVariants as source
+use Rattle.mrp_item.specs.declared.supplies.Supplied.{Supplied}
+use Rattle.mrp_item.specs.declared.supplies.Supplied.TheVariants as supplied
 use Rattle.mrp_report.specs.OrderText.{kind_word}
 use Rattle.mrp_report.specs.ReceiptNames.{receipt_name}
 
@@ -12,13 +12,13 @@ word_of None = []
 word_of (Some o) = kind_word o.kind
 
 -- the word for a supply of an item with these orders; an order goes by its number from 1
-abbrev pub source_word : List Order → Source → List ℕ
-source_word orders source.Stock = codes "stock"
-source_word orders (source.Receipt number) = codes "open"
-source_word orders (source.Order number) = word_of (slice_get orders (number - 1))
+abbrev pub source_word : List Order → Supplied → List ℕ
+source_word orders supplied.Stock = codes "stock"
+source_word orders (supplied.Receipt number) = codes "open"
+source_word orders (supplied.Order number) = word_of (slice_get orders (number - 1))
 
 -- which supply it is: the name of a receipt's order, by the receipt's record number, or an order's number
-abbrev pub source_name : Tables → Source → List ℕ
-source_name t source.Stock = []
-source_name t (source.Receipt number) = receipt_name t number
-source_name t (source.Order number) = decimal number
+abbrev pub source_name : Tables → Supplied → List ℕ
+source_name t supplied.Stock = []
+source_name t (supplied.Receipt number) = receipt_name t number
+source_name t (supplied.Order number) = decimal number

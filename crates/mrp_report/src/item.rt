@@ -1,7 +1,6 @@
 //! An item's rows of the section `plan`.
 
 ghost use Rattle.std.specs.Prelude.{◌≡◌, ◌++◌, OnOk};
-ghost use Rattle.mrp_tables.specs.Items.{is_master};
 ghost use Rattle.mrp_item.specs.Inputs.{item_at};
 ghost use Rattle.mrp_report.specs.ReportText.{item_text};
 
@@ -9,17 +8,8 @@ use crate::page::Page;
 use crate::sheet::Sheet;
 use mrp_item::Planned;
 use mrp_qty::NoMemory;
-use mrp_tables::{Class, Item};
+use mrp_tables::Item;
 use std::alloc::Global;
-
-pub(crate) fn is_master(class: Class) -> bool
-    ensures { result ≡ is_master class }
-{
-    match class {
-        Class::Master => true,
-        Class::Part => false,
-    }
-}
 
 // What the tables say of a planned item.
 pub(crate) fn entry_of(planned: &Planned) -> Item
@@ -36,7 +26,7 @@ pub(crate) fn item_rows(alloc: Global, page: &mut Page, planned: &Planned) -> Re
     let stock = planned.stock(alloc)?;
     let sheet = Sheet {
         weeks: planned.inputs().shop().tables().calendar().weeks(),
-        is_master: is_master(entry.class),
+        is_master: entry.class.is_master(),
         on_hand: stock.on_hand,
         gross: planned.gross().as_slice(),
         scheduled: stock.scheduled.as_slice(),

@@ -20,8 +20,6 @@ mod section;
 mod sheet;
 mod shop_names;
 mod source;
-#[cfg(test)]
-mod tests;
 
 pub use fault::ReportFault;
 pub use history::write_history;

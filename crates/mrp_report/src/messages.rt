@@ -1,15 +1,15 @@
 //! The section `messages`.
 
 ghost use Rattle.std.specs.Prelude.{◌≡◌, ◌++◌, OnOk, flat_map};
-ghost use Rattle.mrp_report.specs.MessageText.{advice_value, advice_word, message_text, messages_head, source_told};
+ghost use Rattle.mrp_report.specs.MessageText.{advice_value, advice_word, message_text, messages_head};
 
 use crate::cell::number_cell;
 use crate::page::Page;
 use crate::shop_names::ShopNames;
-use crate::source::{Source, WhichCell};
+use crate::source::{WhichCell, source_word, which_supply};
 use itoa::Buffer;
 use mrp_item::Order;
-use mrp_notes::{Advice, Message, Supplied};
+use mrp_notes::{Advice, Message};
 use mrp_qty::NoMemory;
 
 // Adds the line and the header of the section.
@@ -46,16 +46,6 @@ fn advice_value(advice: Advice) -> Option<u64>
     }
 }
 
-// The supply that a message is about.
-fn source_told(supply: Supplied) -> Source
-    ensures { result ≡ source_told supply }
-{
-    match supply {
-        Supplied::Receipt(number) => Source::Receipt(number),
-        Supplied::Order(number) => Source::Order(number),
-    }
-}
-
 // Adds a message about a supply of an item.
 fn message_row(
     page: &mut Page,
@@ -67,11 +57,11 @@ fn message_row(
     ensures { OnOk result (page.new ≡ page.old ++ message_text names.now.tables.now name.now orders.now message.now) }
 {
     let mut value = Buffer::new();
-    let source = source_told(message.supply);
-    let mut which = WhichCell::new(source.which(names));
+    let supply = message.supply;
+    let mut which = WhichCell::new(which_supply(supply, names));
     page.row(&[
         name,
-        source.word(orders),
+        source_word(&supply, orders),
         which.text(),
         advice_word(&message.advice),
         number_cell(&mut value, advice_value(message.advice)),

@@ -1,16 +1,16 @@
 //! The section `pegs`.
 
 ghost use Rattle.std.specs.Prelude.{◌≡◌, ◌++◌, OnOk, flat_map};
-ghost use Rattle.mrp_report.specs.PegText.{need_cells, peg_text, pegs_head, source_of};
+ghost use Rattle.mrp_report.specs.PegText.{need_cells, peg_text, pegs_head};
 ghost use Rattle.mrp_report.specs.PegCells.{needed_cells};
 
 use crate::cell::{number_cell, parent_name};
 use crate::page::Page;
 use crate::shop_names::ShopNames;
-use crate::source::{Source, WhichCell};
+use crate::source::{WhichCell, source_word, which_supply};
 use itoa::Buffer;
 use mrp_item::Order;
-use mrp_peg::{Need, NeedKind, Peg, Supplied};
+use mrp_peg::{Need, NeedKind, Peg};
 use mrp_qty::NoMemory;
 use mrp_tables::Tables;
 
@@ -83,17 +83,6 @@ impl<'a> Needed<'a> {
     }
 }
 
-// The supply that a peg is of.
-fn source_of(supply: Supplied) -> Source
-    ensures { result ≡ source_of supply }
-{
-    match supply {
-        Supplied::Stock => Source::Stock,
-        Supplied::Receipt(number) => Source::Receipt(number),
-        Supplied::Order(number) => Source::Order(number),
-    }
-}
-
 // Adds a peg of an item.
 fn peg_row(
     page: &mut Page,
@@ -109,8 +98,8 @@ fn peg_row(
     let mut line = Buffer::new();
     let mut quantity = Buffer::new();
     let needed = Needed::of(names.tables, peg.need);
-    let source = source_of(peg.supply);
-    let mut which = WhichCell::new(source.which(names));
+    let supply = peg.supply;
+    let mut which = WhichCell::new(which_supply(supply, names));
     page.row(&[
         name,
         number_cell(&mut week, needed.week),
@@ -118,7 +107,7 @@ fn peg_row(
         number_cell(&mut number, needed.number),
         needed.parent,
         number_cell(&mut line, needed.line),
-        source.word(orders),
+        source_word(&supply, orders),
         which.text(),
         quantity.format(peg.quantity.value()).as_bytes(),
     ])

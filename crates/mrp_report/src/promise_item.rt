@@ -7,7 +7,7 @@ ghost use Rattle.mrp_item.specs.Inputs.{count, is_master};
 ghost use Rattle.mrp_report.specs.PromiseRows.{promises_of};
 ghost use Rattle.mrp_report.specs.ReportText.{promised_text};
 
-use crate::item::{entry_of, is_master};
+use crate::item::entry_of;
 use crate::page::Page;
 use crate::promise_sheet::PromiseSheet;
 use mrp_item::{Inputs, Planned};
@@ -48,7 +48,7 @@ pub(crate) fn item_promises(
     ensures { OnOk result (page.new ≡ page.old ++ promised_text planned.now.inputs planned.now.item) }
 {
     let entry = entry_of(planned);
-    if !is_master(entry.class) {
+    if !entry.class.is_master() {
         return Ok(());
     }
     let weeks = supply.weeks();

@@ -7,47 +7,34 @@ ghost use Rattle.mrp_report.specs.Which.{which_cell};
 use crate::orders::kind_word;
 use crate::shop_names::ShopNames;
 use itoa::Buffer;
-use mrp_item::Order;
+use mrp_item::{Order, Supplied};
 use mrp_rows::Name;
 
-// A supply of an item.
-#[derive(Clone, Copy)]
-pub(crate) enum Source {
-    // What is on hand.
-    Stock,
-    // An open receipt, by its record's number.
-    Receipt(u64),
-    // An order, by its number.
-    Order(usize),
+// The word for a supply of an item with these orders.
+pub(crate) fn source_word<'a>(supply: &'a Supplied, orders: &[Order]) -> &'a [u8]
+    ensures { result.now ≡ source_word orders.now supply.now }
+{
+    match supply {
+        Supplied::Stock => b"stock",
+        Supplied::Receipt(_) => b"open",
+        Supplied::Order(number) => match orders.get(number.saturating_sub(1)) {
+            Some(order) => kind_word(order.kind),
+            None => b"",
+        },
+    }
 }
 
-impl Source {
-    // The word for a supply of an item with these orders.
-    pub(crate) fn word(&self, orders: &[Order]) -> &[u8]
-        ensures { result.now ≡ source_word orders.now self.now }
-    {
-        match self {
-            Source::Stock => b"stock",
-            Source::Receipt(_) => b"open",
-            Source::Order(number) => match orders.get(number.saturating_sub(1)) {
-                Some(order) => kind_word(order.kind),
-                None => b"",
-            },
-        }
-    }
-
-    // Which supply it is.
-    pub(crate) fn which(self, names: &ShopNames<'_>) -> Which
-        ensures { which_cell result ≡ source_name names.now.tables.now self }
-    {
-        match self {
-            Source::Stock => Which::Nothing,
-            Source::Receipt(number) => match names.receipt(number) {
-                Some(name) => Which::Name(name),
-                None => Which::Nothing,
-            },
-            Source::Order(number) => Which::Number(number),
-        }
+// Which supply it is.
+pub(crate) fn which_supply(supply: Supplied, names: &ShopNames<'_>) -> Which
+    ensures { which_cell result ≡ source_name names.now.tables.now supply }
+{
+    match supply {
+        Supplied::Stock => Which::Nothing,
+        Supplied::Receipt(number) => match names.receipt(number) {
+            Some(name) => Which::Name(name),
+            None => Which::Nothing,
+        },
+        Supplied::Order(number) => Which::Number(number),
     }
 }
 

@@ -4,6 +4,7 @@ use Rattle.std.specs.List.{slice_index_or, before_first, onto_first, list_all, p
 use Rattle.std.specs.Str.{bytes_eq}
 use Rattle.mrp_qty.specs.Reading.{◌>>=◌}
 use Rattle.mrp_rows.specs.declared.fault.Fault.{Fault}
+use Rattle.mrp_rows.specs.declared.faults.TheConstants as faults
 use Rattle.mrp_rows.specs.declared.fault.Table.{Table}
 use Rattle.mrp_rows.specs.declared.fault.Table.TheVariants as t
 use Rattle.mrp_rows.specs.Tables.{table_index}
@@ -77,19 +78,19 @@ table_of name =
 
 -- the fault of text before the first section line
 abbrev pub text_before_section : Fault
-text_before_section = record { code = 1; table = t.Bundle; row = 0 }
+text_before_section = record { code = faults.TEXT_BEFORE_SECTION; table = t.Bundle; row = 0 }
 
 -- the fault of a section line that names no table: the section lines are counted, this one too
 abbrev pub unknown_section : ℕ → Fault
-unknown_section count = record { code = 2; table = t.Bundle; row = count }
+unknown_section count = record { code = faults.UNKNOWN_SECTION; table = t.Bundle; row = count }
 
 -- the fault of a table with two sections
 abbrev pub section_twice : Table → Fault
-section_twice table = record { code = 3; table = table; row = 0 }
+section_twice table = record { code = faults.SECTION_TWICE; table = table; row = 0 }
 
 -- the fault of a table with no section
 abbrev pub missing_section : Table → Fault
-missing_section table = record { code = 4; table = table; row = 0 }
+missing_section table = record { code = faults.MISSING_SECTION; table = table; row = 0 }
 
 -- the tables' texts so far, at the tables' places
 abbrev pub Texts : Type 0

@@ -7,6 +7,7 @@ use Rattle.mrp_qty.specs.Digits.{number_of}
 use Rattle.mrp_qty.specs.declared.number.NumberFault.{NumberFault}
 use Rattle.mrp_qty.specs.declared.number.NumberFault.TheVariants.{Empty, NotDigits, TooLarge}
 use Rattle.mrp_rows.specs.declared.fault.Fault.{Fault}
+use Rattle.mrp_rows.specs.declared.faults.TheConstants as faults
 use Rattle.mrp_rows.specs.Left.{Cells}
 use Rattle.mrp_rows.specs.Name.{name_in}
 
@@ -28,25 +29,25 @@ abbrev pub or_code : {X : Type 0} → ℕ → Option X → Result X ℕ
 or_code code (Some x) = Ok x
 or_code code None = Err code
 
--- a name, or code 7
+-- a name, or NAME
 abbrev pub name_of : List ℕ → Result (List ℕ) ℕ
-name_of cell = or_code 7 (name_in cell)
+name_of cell = or_code faults.NAME (name_in cell)
 
--- a number that is at least this: 11 where it is less, or too large; 8 where there is none
+-- a number that is at least this: RANGE where it is less, or too large; NUMBER where there is none
 abbrev pub at_least : ℕ → Result ℕ NumberFault → Result ℕ ℕ
-at_least least (Ok n) = if nat_le least n then Ok n else Err 11
-at_least least (Err TooLarge) = Err 11
-at_least least (Err Empty) = Err 8
-at_least least (Err NotDigits) = Err 8
+at_least least (Ok n) = if nat_le least n then Ok n else Err faults.RANGE
+at_least least (Err TooLarge) = Err faults.RANGE
+at_least least (Err Empty) = Err faults.NUMBER
+at_least least (Err NotDigits) = Err faults.NUMBER
 
--- a number within limits, or code 8 where the cell is empty or not digits alone, or code 11 outside the limits
+-- a number within limits, or NUMBER where the cell is empty or not digits alone, or RANGE outside the limits
 abbrev pub number_cell : ℕ → ℕ → List ℕ → Result ℕ ℕ
 number_cell least most cell = at_least least (number_of most cell)
 
--- a date, or code 9
+-- a date, or DATE
 abbrev pub date_cell : List ℕ → Result Date ℕ
-date_cell cell = or_code 9 (date_of cell)
+date_cell cell = or_code faults.DATE (date_of cell)
 
--- the place of a cell among words, from 0, or code 10
+-- the place of a cell among words, from 0, or WORD
 abbrev pub word_of : List (List ℕ) → List ℕ → Result ℕ ℕ
-word_of words cell = or_code 10 (position (pointwise nat_eq cell) words)
+word_of words cell = or_code faults.WORD (position (pointwise nat_eq cell) words)

@@ -2,6 +2,7 @@
 use Rattle.std.specs.Prelude.{ℕ, ◌≡◌, ◌≢◌, ◌⊎◌, ◌+◌, if◌then◌else◌, List, [], ◌∷◌, length, Option, Some, None, Result, Ok, Err, min, nat_eq, true, false}
 use Rattle.std.specs.Cmp.Lexicographic.{pointwise}
 use Rattle.mrp_rows.specs.declared.fault.Fault.{Fault}
+use Rattle.mrp_rows.specs.declared.faults.TheConstants as faults
 use Rattle.mrp_rows.specs.declared.fault.Table.{Table}
 use Rattle.mrp_rows.specs.Columns.{columns_of, width_of}
 use Rattle.mrp_rows.specs.Left.{Cells, Left}
@@ -9,11 +10,11 @@ use Rattle.mrp_rows.specs.Records.{records_of}
 
 -- the header is not the columns' names, or there is no record
 abbrev pub header_fault : Table → Fault
-header_fault table = record { code = 5; table = table; row = 0 }
+header_fault table = record { code = faults.HEADER; table = table; row = 0 }
 
 -- memory was refused for a table's record of this number
 abbrev pub memory_fault : Table → ℕ → Fault
-memory_fault table number = record { code = 22; table = table; row = number }
+memory_fault table number = record { code = faults.NO_MEMORY; table = table; row = number }
 
 -- the records after the header, where its cells are exactly the names of the table's columns, in order (profile)
 abbrev pub after_header : Table → List (List (List ℕ)) → Result Left Fault
@@ -55,4 +56,4 @@ NextIs old (Ok (Some r)) new =
     × (new.number ≡ next_number old.number) × (new.table ≡ old.table) × (old.is_over ≡ false) × (new.is_over ≡ false)
 NextIs old (Err f) new =
     (old.is_over ≡ false) × IsOver new × (new.table ≡ old.table) × (f.table ≡ old.table) × (f.row ≡ old.number)
-    × ((f.code ≡ 22) ⊎ ((f.code ≡ 6) × (r : List (List ℕ)) × (rest : List (List (List ℕ))) × (old.left ≡ r ∷ rest) × (length r ≢ width_of old.table)))
+    × ((f.code ≡ faults.NO_MEMORY) ⊎ ((f.code ≡ faults.COLUMNS) × (r : List (List ℕ)) × (rest : List (List (List ℕ))) × (old.left ≡ r ∷ rest) × (length r ≢ width_of old.table)))

@@ -3,22 +3,15 @@
 //! A line begins at the front of the bundle and after each line feed or carriage return. A line
 //! whose first byte is `[` is a section line, wherever it stands, also inside a quoted cell.
 
-ghost use Rattle.std.specs.Prelude.{◌≡◌, ◌≢◌, ◌≤◌, ◌<◌, ◌∷◌, ◌||◌, ◌==◌, ◌-◌, ◌+◌, IfSome, OnOk, length, take, drop, position, slice_index};
+ghost use Rattle.std.specs.Prelude.{◌≡◌, ◌≤◌, ◌<◌, ◌∷◌, ◌||◌, ◌==◌, ◌-◌, ◌+◌, IfSome, OnOk, length, take, drop, position, slice_index};
 ghost use Rattle.std.specs.List.{list_all};
 ghost use Rattle.mrp_rows.specs.Tables.{table_index};
 ghost use Rattle.mrp_rows.specs.Bundle.{ends_line, lines_of, line_text, sections_in, table_of, without_mark, without_line_ends, section_text, all_texts, text_at, bundle_of};
 ghost use Rattle.mrp_rows.specs.Placing.{texts_of, Places, PlacesAll, IsAtSection, GivesText, taken};
 
 use crate::fault::{Fault, Table};
+use crate::faults::{MISSING_SECTION, SECTION_TWICE, TEXT_BEFORE_SECTION, UNKNOWN_SECTION};
 use std::marker::Model;
-
-const TEXT_BEFORE_SECTION: u8 = 1;
-
-const UNKNOWN_SECTION: u8 = 2;
-
-const SECTION_TWICE: u8 = 3;
-
-const MISSING_SECTION: u8 = 4;
 
 /// The texts of the nine tables' sections, borrowed from the bundle.
 ///
@@ -37,16 +30,19 @@ impl<'a> Model for Sections<'a> {
 }
 
 impl<'a> Sections<'a> {
-    ghost use Rattle.std.specs.Prelude.{◌≡◌, ◌≢◌};
+    ghost use Rattle.std.specs.Prelude.{◌≡◌};
     ghost use Rattle.mrp_rows.specs.Bundle.{text_in};
 
     /// The text of a table's section: what follows its line, without the line ends in front
-    /// and without one byte order mark behind these. The bundle itself has no section.
+    /// and without one byte order mark behind these. The bundle itself has no section, and an
+    /// empty text.
     pub fn text_of(&self, table: Table) -> &'a [u8]
-        requires { table ≢ Table.Bundle }
         ensures { result.now ≡ text_in self.now table }
     {
-        self.texts[table.index()]
+        match self.texts.get(table.index()) {
+            Some(text) => text,
+            None => b"",
+        }
     }
 }
 

@@ -1,6 +1,6 @@
 //! A table's records, one after the other.
 
-ghost use Rattle.std.specs.Prelude.{◌≡◌, ◌≢◌, false};
+ghost use Rattle.std.specs.Prelude.{◌≡◌, false};
 ghost use Rattle.mrp_rows.specs.Bundle.{text_in};
 ghost use Rattle.mrp_rows.specs.Next.{GivesUnless, NextIs, TakesNext, memory_fault, opened};
 ghost use Rattle.mrp_rows.specs.Reading.{IsReading, ReadsCells};
@@ -9,17 +9,12 @@ ghost use Rattle.mrp_rows.specs.Records.{records_of};
 use crate::bundle::Sections;
 use crate::column::{columns, is_header};
 use crate::fault::{Fault, Table};
+use crate::faults::{COLUMNS, HEADER, NO_MEMORY};
 use crate::row::Row;
 use csv::{ByteRecord, Reader, ReaderBuilder};
 use mrp_qty::NoMemory;
 use std::alloc::Global;
 use std::marker::Model;
-
-const HEADER: u8 = 5;
-
-const COLUMNS: u8 = 6;
-
-const NO_MEMORY: u8 = 22;
 
 // Room for a record's bytes: most are shorter, and a longer one makes its own.
 const USUAL_LENGTH: usize = 64;
@@ -67,12 +62,11 @@ impl<'a> Cursor<'a> {
         }
     }
 
-    /// The records of a table, behind its header. The caller owes a table other than the bundle.
+    /// The records of a table, behind its header.
     ///
-    /// Errors, at row 0: 5, where the header's cells are not exactly the names of the table's
-    /// columns, also where there is no record; 22, where memory is refused.
+    /// Errors, at row 0: `HEADER`, where the header's cells are not exactly the names of the table's
+    /// columns, also where there is no record, as in the bundle, which has no section; `NO_MEMORY`.
     pub fn new(alloc: Global, sections: &Sections<'a>, table: Table) -> Result<Cursor<'a>, Fault>
-        requires { table ≢ Table.Bundle }
         ensures { GivesUnless (memory_fault table 0) result
             (opened table (text_in sections.now table)) }
     {
@@ -110,8 +104,8 @@ impl<'a> Cursor<'a> {
 
     /// The next record, or None at the end. After a refusal there is none for good.
     ///
-    /// Errors, at the record's number: 6, where it has another count of cells than its table has
-    /// columns; 22, where memory is refused.
+    /// Errors, at the record's number: `COLUMNS`, where it has another count of cells than its table
+    /// has columns; `NO_MEMORY`.
     pub fn next(&mut self) -> Result<Option<Row>, Fault>
         ensures { NextIs self.old result self.new }
     {

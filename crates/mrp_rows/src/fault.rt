@@ -61,7 +61,7 @@ impl Table {
 /// What is wrong, in which table, and in which record of it.
 #[derive(Clone, Copy, Debug, PartialEq, Eq)]
 pub struct Fault {
-    /// The fault's number.
+    /// The fault's number, one of [`crate::faults`].
     pub code: u8,
     /// The table that it stands in.
     pub table: Table,

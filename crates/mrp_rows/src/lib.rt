@@ -7,6 +7,7 @@ mod column;
 mod cursor;
 mod fault;
 mod fault_texts;
+pub mod faults;
 mod join;
 mod name;
 pub mod record_laws;
@@ -21,5 +22,8 @@ pub use fault_texts::fault_text;
 pub use join::join_bundle;
 pub use name::Name;
 pub use row::Row;
-pub use streams::{ReadFault, Tries, WriteFault, read_bundle, read_within, write_text};
+pub use streams::{
+    GREATEST_BUNDLE, READ_CALLS, ReadFault, Tries, WRITE_TRIES, WriteFault, read_bundle,
+    read_within, write_text,
+};
 pub use told::Told;

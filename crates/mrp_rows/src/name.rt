@@ -1,6 +1,6 @@
 //! Names of items, centres and orders.
 
-ghost use Rattle.std.specs.Prelude.{◌≡◌, ◌≤◌, IsTrue, nat_eq, length, Option, Some, None};
+ghost use Rattle.std.specs.Prelude.{◌≡◌, ◌≤◌, IsTrue, nat_eq, length, Option, Some, None, true};
 ghost use Rattle.std.specs.List.{list_all};
 ghost use Rattle.std.specs.Hash as fed;
 ghost use Rattle.std.specs.Cmp.Lexicographic.{pointwise, nat_list_eq_equiv};
@@ -24,20 +24,24 @@ pub struct Name {
 }
 
 impl Model for Name {
-    ghost use Rattle.std.specs.Prelude.{ℕ, List, length, take};
+    ghost use Rattle.std.specs.Prelude.{◌≡◌, ℕ, List, length, take, true};
+    ghost use Rattle.mrp_rows.specs.Name.{is_name};
     ghost use Rattle.mrp_rows.specs.Padding.{IsPadded, padded, padded-take, length-take};
 
     ghost Value = { List ℕ };
 
     ghost view = { λ n. take n.len n.bytes };
 
-    ghost invariant = { λ n. IsPadded n.len n.bytes };
+    ghost invariant = { λ n. record {
+      padding : IsPadded n.len n.bytes;
+      name : is_name (take n.len n.bytes) ≡ true;
+    } };
 
     ghost inverse = { λ text. record { bytes = padded text; len = length text } };
 
     ghost inverse_ok = { λ n h i. record {
-      bytes = padded-take n.len n.bytes h i;
-      len = length-take n.len n.bytes h i;
+      bytes = padded-take n.len n.bytes h.padding i;
+      len = length-take n.len n.bytes h.padding i;
     } };
 }
 
@@ -95,7 +99,8 @@ impl Name {
 
     /// The name's text.
     pub fn as_bytes(&self) -> &[u8]
-        ensures { result.now ≡ self.now }
+        ensures text { result.now ≡ self.now }
+        ensures name { is_name result.now ≡ true }
     {
         let (text, _) = self.bytes.split_at(usize::from(self.len));
         text

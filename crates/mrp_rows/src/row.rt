@@ -1,29 +1,21 @@
 //! A table's records and their cells.
 
-ghost use Rattle.std.specs.Prelude.{◌≡◌, ◌<◌, length, map, nat_eq, position, IfOk};
+ghost use Rattle.std.specs.Prelude.{◌≡◌, ◌<◌, length, map, nat_eq, position, IfOk, true};
 ghost use Rattle.csv.specs.Records.{fields_of};
 ghost use Rattle.mrp_cal.specs.DateText.{IsPlanningYear};
 ghost use Rattle.std.specs.Cmp.Lexicographic.{pointwise};
 ghost use Rattle.std.specs.Int.{IsInRange};
 ghost use Rattle.mrp_rows.specs.Cell.{blame, cell_at, date_cell, fault_at, name_of, number_cell, word_of};
+ghost use Rattle.mrp_rows.specs.Name.{is_name};
 
 use crate::fault::{Fault, Table};
+use crate::faults::{DATE, NAME, NUMBER, RANGE, WORD};
 use crate::name::Name;
 use csv::ByteRecord;
 use jiff::civil::Date;
 use mrp_cal::read_date;
 use mrp_qty::{NumberFault, read_number};
 use std::marker::Model;
-
-const NAME: u8 = 7;
-
-const NUMBER: u8 = 8;
-
-const DATE: u8 = 9;
-
-const WORD: u8 = 10;
-
-const RANGE: u8 = 11;
 
 /// A record of a table, with its number: records after the header are counted from 1.
 ///
@@ -55,6 +47,20 @@ impl Row {
         }
     }
 
+    /// The table that it stands in.
+    pub fn table(&self) -> Table
+        ensures { result ≡ self.now.table }
+    {
+        self.table
+    }
+
+    /// Its number in the table.
+    pub fn record(&self) -> u32
+        ensures { result ≡ self.now.number }
+    {
+        self.number
+    }
+
     /// A refusal of this record, with a fault's number.
     pub fn fault(&self, code: u8) -> Fault
         ensures { result ≡ fault_at self.now code }
@@ -83,10 +89,11 @@ impl Row {
 
     /// A cell as a name.
     ///
-    /// Errors: 7, where it is no name.
+    /// Errors: `NAME`, where it is no name.
     pub fn name(&self, column: usize) -> Result<Name, Fault>
         requires { column < length self.now.cells }
-        ensures { result ≡ blame self.now (name_of (cell_at self.now column)) }
+        ensures cell { result ≡ blame self.now (name_of (cell_at self.now column)) }
+        ensures name { IfOk result (λ name. is_name name ≡ true) }
     {
         match Name::new(self.cell(column)) {
             Some(name) => Ok(name),
@@ -96,7 +103,8 @@ impl Row {
 
     /// A cell as a number from `least` to `most`; leading zeros are accepted.
     ///
-    /// Errors: 8, where it is empty or not digits alone; 11, where the number is outside the limits.
+    /// Errors: `NUMBER`, where it is empty or not digits alone; `RANGE`, where the number is outside
+    /// the limits.
     pub fn number(&self, column: usize, least: u64, most: u64) -> Result<u64, Fault>
         requires { column < length self.now.cells }
         ensures number { result
@@ -119,7 +127,7 @@ impl Row {
 
     /// A cell as a date, `YYYY-MM-DD` in the years 1900 to 2999.
     ///
-    /// Errors: 9, where it is none.
+    /// Errors: `DATE`, where it is none.
     pub fn date(&self, column: usize) -> Result<Date, Fault>
         requires { column < length self.now.cells }
         ensures date { result ≡ blame self.now (date_cell (cell_at self.now column)) }
@@ -133,7 +141,7 @@ impl Row {
 
     /// A cell as one of these words: its place among them, from 0.
     ///
-    /// Errors: 10, where it is none of them.
+    /// Errors: `WORD`, where it is none of them.
     #[tactic(auto, using(crate::proofs::WordPlaces::position_map))]
     pub fn word(&self, column: usize, words: &[&str]) -> Result<usize, Fault>
         requires { column < length self.now.cells }

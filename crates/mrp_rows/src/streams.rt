@@ -10,17 +10,17 @@ use std::alloc::{AllocError, Global};
 use std::io::{Read, Write};
 use std::marker::Model;
 
-// The greatest bundle, in bytes.
-const GREATEST_BUNDLE: usize = 67_108_864;
+/// The greatest bundle, in bytes.
+pub const GREATEST_BUNDLE: usize = 67_108_864;
 
-// How many calls of `read` a bundle may take.
-const READ_CALLS: u32 = 100_000_000;
+/// How many calls of `read` a bundle may take.
+pub const READ_CALLS: u32 = 100_000_000;
 
 // How many bytes a call of `read` is asked for.
 const PIECE: usize = 65_536;
 
-// How often interrupted writes are tried again in one call.
-const WRITE_TRIES: u32 = 1_000_000;
+/// How often interrupted writes are tried again in one call.
+pub const WRITE_TRIES: u32 = 1_000_000;
 
 /// Why a bundle could not be read, in the order in which it is looked for.
 #[derive(Clone, Copy, Debug, PartialEq, Eq)]
@@ -67,7 +67,7 @@ impl Tries {
 
     /// The 1,000,000 tries of one call.
     pub fn new() -> Tries
-        ensures { result ≡ 1000000 }
+        ensures { result ≡ WRITE_TRIES }
     {
         Tries { left: WRITE_TRIES }
     }
@@ -203,14 +203,14 @@ pub fn read_bundle<R: Read>(alloc: Global, reader: &mut Told<R>) -> Result<Vec<u
     ensures bytes { IfOk result (λ bytes.
         IfSome (R.remaining (inner_of reader.old)) (λ xs. bytes.items ≡ xs)) }
     ensures end { OnOk result (IsAtEnd (R.remaining (inner_of reader.new))) }
-    ensures within { IfOk result (λ bytes. vec_len bytes ≤ 67108864) }
-    ensures calls { OnOk result (calls_of reader.new ≤ calls_of reader.old + 100000000) }
+    ensures within { IfOk result (λ bytes. vec_len bytes ≤ GREATEST_BUNDLE) }
+    ensures calls { OnOk result (calls_of reader.new ≤ calls_of reader.old + READ_CALLS) }
     ensures failures { OnOk result (failures_of reader.new ≡ failures_of reader.old) }
 
     ensures refused { result ≡ Err ReadFault.Read
         → HasRisenBy 1 (failures_of reader.old) (failures_of reader.new)
-        ⊎ HasRisenBy 100000000 (calls_of reader.old) (calls_of reader.new)
-        ⊎ HasRisenBy 67108865 (moved_of reader.old) (moved_of reader.new) }
+        ⊎ HasRisenBy READ_CALLS (calls_of reader.old) (calls_of reader.new)
+        ⊎ HasRisenBy (GREATEST_BUNDLE + 1) (moved_of reader.old) (moved_of reader.new) }
     ensures front { TakesFront (R.remaining (inner_of reader.old)) (R.remaining (inner_of reader.new))
         (moved_of reader.old) (moved_of reader.new) }
 {

@@ -3,6 +3,7 @@ use Rattle.std.proofs.Common.{◌≡◌, ◌≢◌, ◌==◌, ◌&&◌, eqb, Boo
 use Rattle.std.specs.Prelude.{if◌then◌else◌}
 use Rattle.std.proofs.lemmas.Bool.{ne_eqb}
 use Rattle.mrp_rows.specs.declared.fault.Fault.{Fault}
+use Rattle.mrp_rows.specs.declared.faults.TheConstants as faults
 use Rattle.mrp_rows.specs.Left.{Cells, Left}
 use Rattle.mrp_rows.specs.Next.{NextIs, memory_fault}
 use Rattle.mrp_rows.specs.Columns.{width_of}
@@ -11,35 +12,35 @@ use Rattle.mrp_tables.specs.Limits.{record_limit}
 
 -- a refusal of the cursor, but for a record past the limit
 abbrev pub past_first : Fault → Fault
-past_first f = if (f.code == 6) && is_past (record_limit f.table) f.row then record { code = 20; table = f.table; row = f.row } else f
+past_first f = if (f.code == faults.COLUMNS) && is_past (record_limit f.table) f.row then record { code = faults.TOO_MANY; table = f.table; row = f.row } else f
 
 same_fault : (a b : Fault) → a.code ≡ b.code → a.table ≡ b.table → a.row ≡ b.row → a ≡ b
 same_fault a b e f g = λ i. record { code = e i; table = f i; row = g i }
 
-stays : (f : Fault) → f.code ≡ 22 → past_first f ≡ f
+stays : (f : Fault) → f.code ≡ faults.NO_MEMORY → past_first f ≡ f
 stays f memory = rw memory refl
 
 -- a record past its limit
-past : (f : Fault) (r : Cells) → f.code ≡ 6 → f.table ≡ r.table → f.row ≡ r.number → is_past (record_limit r.table) r.number ≡ true → admitted r ≡ Err (past_first f)
+past : (f : Fault) (r : Cells) → f.code ≡ faults.COLUMNS → f.table ≡ r.table → f.row ≡ r.number → is_past (record_limit r.table) r.number ≡ true → admitted r ≡ Err (past_first f)
 past f r code table row h =
     rw (code, table, row, h) refl
 
 -- a record within its limit, with another count of cells
-within : (f : Fault) (r : Cells) → f.code ≡ 6 → f.table ≡ r.table → f.row ≡ r.number → is_past (record_limit r.table) r.number ≡ false
+within : (f : Fault) (r : Cells) → f.code ≡ faults.COLUMNS → f.table ≡ r.table → f.row ≡ r.number → is_past (record_limit r.table) r.number ≡ false
     → length r.cells ≢ width_of r.table → admitted r ≡ Err (past_first f)
 within f r code table row h wide =
     let w : eqb (length r.cells) (width_of r.table) ≡ false = ne_eqb _ _ wide in
     let kept : past_first f ≡ f = rw (code, table, row, h) refl in
-    let same : record { code = 6; table = r.table; row = r.number } ≡ f = same_fault _ f (sym code) (sym table) (sym row) in
+    let same : record { code = faults.COLUMNS; table = r.table; row = r.number } ≡ f = same_fault _ f (sym code) (sym table) (sym row) in
     rw (h, w, kept) (ap (λ g. Err g) same)
 
-either : (f : Fault) (r : Cells) → f.code ≡ 6 → f.table ≡ r.table → f.row ≡ r.number → length r.cells ≢ width_of r.table
+either : (f : Fault) (r : Cells) → f.code ≡ faults.COLUMNS → f.table ≡ r.table → f.row ≡ r.number → length r.cells ≢ width_of r.table
     → (b : Bool) → is_past (record_limit r.table) r.number ≡ b → admitted r ≡ Err (past_first f)
 either f r code table row wide true h = past f r code table row h
 either f r code table row wide false h = within f r code table row h wide
 
 -- a refusal of memory stays, at the record
-memory : (f : Fault) (old : Left) → f.code ≡ 22 → f.table ≡ old.table → f.row ≡ old.number → past_first f ≡ memory_fault old.table old.number
+memory : (f : Fault) (old : Left) → f.code ≡ faults.NO_MEMORY → f.table ≡ old.table → f.row ≡ old.number → past_first f ≡ memory_fault old.table old.number
 memory f old code at row = stays f code ∙ same_fault f (memory_fault old.table old.number) code at row
 
 pub refuses : (old new : Left) (f : Fault) → NextIs old (Err f) new → NextAdmitted old (Err (past_first f)) new

@@ -6,14 +6,19 @@ use Rattle.std.specs.Cmp.Lexicographic.{pointwise}
 use Rattle.mrp_qty.specs.Reading.{◌>>=◌}
 use Rattle.jiff.specs.Types.{Date}
 use Rattle.mrp_cal.specs.Calendar.{ShopCalendar, is_monday, week_of}
+use Rattle.mrp_cal.specs.declared.calendar.TheConstants.{MOST_WEEKS}
 use Rattle.mrp_rows.specs.declared.fault.Fault.{Fault}
+use Rattle.mrp_rows.specs.declared.faults.TheConstants as faults
 use Rattle.mrp_rows.specs.Columns.{width_of}
 use Rattle.mrp_rows.specs.Left.{Cells}
 use Rattle.mrp_rows.specs.Cell.{blame, cell_at, date_cell, fault_at, name_of, number_cell, or_code, word_of}
+use Rattle.mrp_tables.specs.declared.limits.TheConstants as limits
 use Rattle.mrp_tables.specs.declared.item.Item.{Item}
 use Rattle.mrp_tables.specs.declared.rows.StockRow.{StockRow}
+use Rattle.mrp_tables.specs.declared.calendar.Entry.{Entry}
+use Rattle.mrp_tables.specs.declared.calendar.Entry.TheVariants.{Start, Weeks, Workdays, Holiday}
 use Rattle.mrp_tables.specs.Bills.{bill_row}
-use Rattle.mrp_tables.specs.Calendar.{holiday_row, start_cells, weeks_cells, workdays_cell, workdays_cells}
+use Rattle.mrp_tables.specs.Calendar.{entry_row, holiday_cells, start_cells, weeks_cells, workdays_cell, workdays_cells}
 use Rattle.mrp_tables.specs.Items.{class_words, greatest_size, is_master, is_master_at, item_cells, item_checked, item_row, known, least_size, names_of}
 use Rattle.mrp_tables.specs.Laws.{FaultsAtItsRecord, FaultsAtTheirRecords, IsAt}
 use Rattle.mrp_tables.specs.Master.{kind_words, master_row}
@@ -24,7 +29,7 @@ use Rattle.mrp_tables.specs.Receipts.{order_cells, order_checked, orders_of, rec
 use Rattle.mrp_tables.specs.declared.rows.ScriptCall.{ScriptCall}
 use Rattle.mrp_tables.specs.declared.rows.ScriptCall.TheVariants as call
 use Rattle.mrp_tables.specs.Script.{ask_cells, book_cells, call_at, cancel_cells, mastered, script_row, spot_of, when_cells}
-use Rattle.mrp_tables.specs.Limits.{call_words, lot_words, most_safety, most_scrap, record_limit}
+use Rattle.mrp_tables.specs.Limits.{call_words, lot_words, record_limit}
 use Rattle.mrp_tables.specs.Tables.{untaken}
 use Rattle.mrp_tables.specs.Stock.{items_in_stock, stock_cells, stock_checked, stock_row}
 
@@ -55,17 +60,17 @@ last_unless r code true y = tt
 last_unless r code false y = own r code
 
 admits : (r : Cells) (past wide : Bool) → is_past (record_limit r.table) r.number ≡ past → (length r.cells == width_of r.table) ≡ wide → IfErr (admitted r) (IsAt r)
-admits r true wide e w = rw e (own r 20)
+admits r true wide e w = rw e (own r faults.TOO_MANY)
 admits r false true e w = rw (e, w) tt
-admits r false false e w = rw (e, w) (own r 6)
+admits r false false e w = rw (e, w) (own r faults.COLUMNS)
 
 pub admitted_at : (r : Cells) → IfErr (admitted r) (IsAt r)
 admitted_at r = admits r (is_past (record_limit r.table) r.number) (length r.cells == width_of r.table) refl refl
 
 admits_same : (r : Cells) (past wide : Bool) → is_past (record_limit r.table) r.number ≡ past → (length r.cells == width_of r.table) ≡ wide → (c : Cells) → admitted r ≡ Ok c → r ≡ c
-admits_same r true wide e w c given = let refused : admitted r ≡ Err (fault_at r 20) = rw e refl in absurd cc
+admits_same r true wide e w c given = let refused : admitted r ≡ Err (fault_at r faults.TOO_MANY) = rw e refl in absurd cc
 admits_same r false true e w c given = let kept : admitted r ≡ Ok r = rw (e, w) refl in cc
-admits_same r false false e w c given = let refused : admitted r ≡ Err (fault_at r 6) = rw (e, w) refl in absurd cc
+admits_same r false false e w c given = let refused : admitted r ≡ Err (fault_at r faults.COLUMNS) = rw (e, w) refl in absurd cc
 
 -- what is admitted is the record
 pub admitted_same : (r c : Cells) → admitted r ≡ Ok c → r ≡ c
@@ -80,36 +85,42 @@ reads read h before r = by (admitted r) refl (admitted_at r)
     by (Err f) e at = at
 
 pub untaken_at : {X : Type 0} → FaultsAtItsRecord (untaken {X = X})
-untaken_at {X} = reads (untaken {X = X}) (λ before r. own r 20)
+untaken_at {X} = reads (untaken {X = X}) (λ before r. own r faults.TOO_MANY)
 
-pub start_at : (r : Cells) → IfErr (start_cells r) (IsAt r)
+start_at : (r : Cells) → IfErr (start_cells r) (IsAt r)
 unfolding start_cells
 start_at r =
     cell r (word_of (codes "start" ∷ []) (cell_at r 0)) _ (λ key.
-    cell r (date_cell (cell_at r 1)) _ (λ date. last_unless r 11 (is_monday date) date))
+    cell r (date_cell (cell_at r 1)) _ (λ date. last_unless r faults.RANGE (is_monday date) date))
 
-pub weeks_at : (r : Cells) → IfErr (weeks_cells r) (IsAt r)
+weeks_at : (r : Cells) → IfErr (weeks_cells r) (IsAt r)
 unfolding weeks_cells
-weeks_at r = cell r (word_of (codes "weeks" ∷ []) (cell_at r 0)) _ (λ key. blamed r (number_cell 1 104 (cell_at r 1)))
+weeks_at r = cell r (word_of (codes "weeks" ∷ []) (cell_at r 0)) _ (λ key. blamed r (number_cell 1 MOST_WEEKS (cell_at r 1)))
 
-pub workdays_at : (r : Cells) → IfErr (workdays_cells r) (IsAt r)
+workdays_at : (r : Cells) → IfErr (workdays_cells r) (IsAt r)
 unfolding workdays_cells
 workdays_at r = cell r (word_of (codes "workdays" ∷ []) (cell_at r 0)) _ (λ key. blamed r (workdays_cell (cell_at r 1)))
 
-pub holiday_at : (r : Cells) → IfErr (holiday_row r) (IsAt r)
-unfolding holiday_row
+holiday_at : (r : Cells) → IfErr (holiday_cells r) (IsAt r)
+unfolding holiday_cells
 holiday_at r = cell r (word_of (codes "holiday" ∷ []) (cell_at r 0)) _ (λ key.
     blamed r (date_cell (cell_at r 1)))
+
+entry_at : (before : List Entry) (r : Cells) → IfErr (entry_row before r) (IsAt r)
+entry_at [] r = step r (start_cells r) (λ date. Ok (Start date)) (start_at r) (λ date. tt)
+entry_at (start ∷ []) r = step r (weeks_cells r) (λ weeks. Ok (Weeks weeks)) (weeks_at r) (λ weeks. tt)
+entry_at (start ∷ weeks ∷ []) r = step r (workdays_cells r) (λ workdays. Ok (Workdays workdays)) (workdays_at r) (λ workdays. tt)
+entry_at (start ∷ weeks ∷ workdays ∷ holidays) r = step r (holiday_cells r) (λ date. Ok (Holiday date)) (holiday_at r) (λ date. tt)
 
 bill_at : (items : List Item) (r : Cells) → IfErr (bill_row items r) (IsAt r)
 unfolding bill_row
 bill_at items r =
     cell r (name_of (cell_at r 0)) _ (λ parent_name.
     cell r (name_of (cell_at r 1)) _ (λ component_name.
-    cell r (number_cell 1 1000000 (cell_at r 2)) _ (λ per.
+    cell r (number_cell 1 limits.MOST_PER (cell_at r 2)) _ (λ per.
     cell r (known items parent_name) _ (λ parent.
     cell r (known items component_name) _ (λ component.
-    last r 19 (is_master_at items component) _)))))
+    last r faults.MASTER_COMPONENT (is_master_at items component) _)))))
 
 master_at : (calendar : ShopCalendar) (items : List Item) (r : Cells) → IfErr (master_row calendar items r) (IsAt r)
 unfolding master_row
@@ -117,24 +128,24 @@ master_at calendar items r =
     cell r (name_of (cell_at r 0)) _ (λ name.
     cell r (word_of kind_words (cell_at r 1)) _ (λ kind.
     cell r (date_cell (cell_at r 2)) _ (λ date.
-    cell r (number_cell 0 1000000000 (cell_at r 3)) _ (λ quantity.
+    cell r (number_cell 0 limits.MOST_PIECES (cell_at r 3)) _ (λ quantity.
     cell r (known items name) _ (λ item.
-    cell r (or_code 15 (week_of calendar date)) _ (λ week.
-    last r 16 (not (is_master_at items item)) _))))))
+    cell r (or_code faults.DATE_OUTSIDE (week_of calendar date)) _ (λ week.
+    last r faults.NOT_MASTER (not (is_master_at items item)) _))))))
 
 stock_at : (items : List Item) (before : List StockRow) (r : Cells) → IfErr (stock_row items before r) (IsAt r)
 unfolding stock_cells
 stock_at items before r = step r (stock_cells items r) (stock_checked before r)
     (cell r (name_of (cell_at r 0)) _ (λ name.
-    cell r (number_cell 0 1000000000 (cell_at r 1)) _ (λ on_hand.
+    cell r (number_cell 0 limits.MOST_PIECES (cell_at r 1)) _ (λ on_hand.
     cell r (known items name) _ (λ item. tt))))
-    (λ row. last r 12 (list_any (nat_eq row.item) (items_in_stock before)) row)
+    (λ row. last r faults.REPEATED (list_any (nat_eq row.item) (items_in_stock before)) row)
 
 placed_at : (calendar : ShopCalendar) (items : List Item) (r : Cells) (o : OpenOrder) → IfErr (receipt_placed calendar items r o) (IsAt r)
 unfolding receipt_placed
 placed_at calendar items r o =
-    cell r (or_code 15 (week_of calendar o.date)) _ (λ week.
-    last r 18 (is_master_at items o.item) _)
+    cell r (or_code faults.DATE_OUTSIDE (week_of calendar o.date)) _ (λ week.
+    last r faults.MASTER_RECEIPT (is_master_at items o.item) _)
 
 receipt_at : (calendar : ShopCalendar) (items : List Item) (before : List Receipt) (r : Cells) → IfErr (receipt_row calendar items before r) (IsAt r)
 unfolding order_cells
@@ -142,33 +153,33 @@ receipt_at calendar items before r = step r (order_cells items r) (λ o. order_c
     (cell r (name_of (cell_at r 0)) _ (λ name.
     cell r (name_of (cell_at r 1)) _ (λ order.
     cell r (date_cell (cell_at r 2)) _ (λ date.
-    cell r (number_cell 0 1000000000 (cell_at r 3)) _ (λ quantity.
+    cell r (number_cell 0 limits.MOST_PIECES (cell_at r 3)) _ (λ quantity.
     cell r (known items name) _ (λ item. tt))))))
     (λ o. step r (order_checked (orders_of before) r o) (receipt_placed calendar items r)
-    (last r 12 (list_any (same_order (o.item, o.order)) (orders_of before)) o)
+    (last r faults.REPEATED (list_any (same_order (o.item, o.order)) (orders_of before)) o)
     (λ checked. placed_at calendar items r checked))
 
 checked_at : (before : List Item) (r : Cells) (item : Item) (repeated : Bool) → list_any (pointwise nat_eq item.name) (names_of before) ≡ repeated → IfErr (item_checked before r item) (IsAt r)
-checked_at before r item true e = rw e (own r 12)
-checked_at before r item false e = rw e (last r 17 (is_master item.class && nat_lt 0 item.safety) item)
+checked_at before r item true e = rw e (own r faults.REPEATED)
+checked_at before r item false e = rw e (last r faults.MASTER_SAFETY (is_master item.class && nat_lt 0 item.safety) item)
 
 item_at_record : (before : List Item) (r : Cells) → IfErr (item_row before r) (IsAt r)
 unfolding item_cells
 item_at_record before r = step r (item_cells r) (item_checked before r)
     (cell r (name_of (cell_at r 0)) _ (λ name.
     cell r (word_of class_words (cell_at r 1)) _ (λ class.
-    cell r (number_cell 0 104 (cell_at r 2)) _ (λ lead.
-    cell r (number_cell 0 most_scrap (cell_at r 3)) _ (λ scrap.
+    cell r (number_cell 0 limits.MOST_LEAD (cell_at r 2)) _ (λ lead.
+    cell r (number_cell 0 limits.MOST_SCRAP (cell_at r 3)) _ (λ scrap.
     cell r (word_of lot_words (cell_at r 4)) _ (λ lot.
     cell r (number_cell (least_size lot) (greatest_size lot) (cell_at r 5)) _ (λ size.
-    cell r (number_cell 0 most_safety (cell_at r 6)) _ (λ safety. tt))))))))
+    cell r (number_cell 0 limits.MOST_PIECES (cell_at r 6)) _ (λ safety. tt))))))))
     (λ item. checked_at before r item (list_any (pointwise nat_eq item.name) (names_of before)) refl)
 
 spot_at : (calendar : ShopCalendar) (items : List Item) (r : Cells) (name : List ℕ) (date : Date) → IfErr (spot_of calendar items r name date) (IsAt r)
 unfolding spot_of
 spot_at calendar items r name date =
     cell r (known items name) _ (λ item.
-    cell r (or_code 15 (week_of calendar date)) _ (λ week.
+    cell r (or_code faults.DATE_OUTSIDE (week_of calendar date)) _ (λ week.
     cell r (mastered items item) _ (λ master. tt)))
 
 book_at : (calendar : ShopCalendar) (items : List Item) (r : Cells) → IfErr (book_cells calendar items r) (IsAt r)
@@ -176,12 +187,12 @@ unfolding book_cells
 book_at calendar items r =
     cell r (name_of (cell_at r 2)) _ (λ name.
     cell r (date_cell (cell_at r 3)) _ (λ date.
-    cell r (number_cell 1 1000000000 (cell_at r 4)) _ (λ quantity.
+    cell r (number_cell 1 limits.MOST_PIECES (cell_at r 4)) _ (λ quantity.
     step r (spot_of calendar items r name date) _ (spot_at calendar items r name date) (λ spot. tt))))
 
 cancel_at : (r : Cells) → IfErr (cancel_cells r) (IsAt r)
 unfolding cancel_cells
-cancel_at r = cell r (number_cell 1 1000000 (cell_at r 5)) _ (λ entry. tt)
+cancel_at r = cell r (number_cell 1 limits.MOST_ENTRIES (cell_at r 5)) _ (λ entry. tt)
 
 ask_at : (calendar : ShopCalendar) (items : List Item) (r : Cells) → IfErr (ask_cells calendar items r) (IsAt r)
 unfolding ask_cells
@@ -194,7 +205,7 @@ when_at : (items : List Item) (r : Cells) → IfErr (when_cells items r) (IsAt r
 unfolding when_cells
 when_at items r =
     cell r (name_of (cell_at r 2)) _ (λ name.
-    cell r (number_cell 1 1000000000 (cell_at r 4)) _ (λ quantity.
+    cell r (number_cell 1 limits.MOST_PIECES (cell_at r 4)) _ (λ quantity.
     cell r (known items name) _ (λ item.
     cell r (mastered items item) _ (λ master. tt))))
 
@@ -213,16 +224,13 @@ call_at_record calendar items r place =
 script_at : (calendar : ShopCalendar) (items : List Item) (r : Cells) → IfErr (script_row calendar items r) (IsAt r)
 unfolding script_row
 script_at calendar items r =
-    cell r (number_cell 1 64 (cell_at r 0)) _ (λ desk.
+    cell r (number_cell 1 limits.MOST_DESKS (cell_at r 0)) _ (λ desk.
     cell r (word_of call_words (cell_at r 1)) _ (λ place.
     step r (call_at calendar items r place) _ (call_at_record calendar items r place) (λ own. tt)))
 
 pub at_their_records : FaultsAtTheirRecords
 at_their_records = record {
-  start = reads (by_itself start_cells) (λ before r. start_at r);
-  weeks = reads (by_itself weeks_cells) (λ before r. weeks_at r);
-  workdays = reads (by_itself workdays_cells) (λ before r. workdays_at r);
-  holidays = reads (by_itself holiday_row) (λ before r. holiday_at r);
+  calendar = reads entry_row entry_at;
   items = reads item_row item_at_record;
   stock = λ items. reads (stock_row items) (stock_at items);
   receipts = λ calendar items. reads (receipt_row calendar items) (receipt_at calendar items);

@@ -5,6 +5,7 @@ use Rattle.std.specs.Cmp.Lexicographic.{pointwise}
 use Rattle.std.proofs.lemmas.Bool.{ltb-false}
 use Rattle.mrp_qty.specs.Reading.{◌>>=◌}
 use Rattle.mrp_rows.specs.declared.fault.Fault.{Fault}
+use Rattle.mrp_rows.specs.declared.faults.TheConstants as faults
 use Rattle.mrp_rows.specs.declared.fault.Table.{Table}
 use Rattle.mrp_rows.specs.declared.fault.Table.TheVariants as t
 use Rattle.mrp_rows.specs.Columns.{columns_of}
@@ -12,25 +13,26 @@ use Rattle.mrp_rows.specs.Left.{Cells, Left}
 use Rattle.mrp_rows.specs.Cell.{fault_at}
 use Rattle.mrp_rows.specs.Next.{after_header, header_fault, next_number, opened}
 use Rattle.mrp_rows.specs.Records.{records_of}
+use Rattle.mrp_tables.specs.declared.limits.TheConstants as limits
 use Rattle.mrp_tables.specs.Reading.{Gives, Reads, admitted, is_past, rows_from, rows_of}
 use Rattle.mrp_tables.specs.Limits.{record_limit}
 
 -- every limit is a number of a record
 limit_number : (table : Table) (limit : ℕ) → record_limit table ≡ Some limit → limit < 4294967294
-limit_number t.Calendar limit e = let same : 1003 ≡ limit = cc in omega arith
-limit_number t.Items limit e = let same : 20000 ≡ limit = cc in omega arith
+limit_number t.Calendar limit e = let same : limits.MOST_CALENDAR_RECORDS ≡ limit = cc in omega arith
+limit_number t.Items limit e = let same : limits.MOST_ITEMS ≡ limit = cc in omega arith
 limit_number t.Centres limit e = let same : 0 ≡ limit = cc in omega arith
 limit_number t.Stock limit e = absurd cc
-limit_number t.Receipts limit e = let same : 100000 ≡ limit = cc in omega arith
-limit_number t.Bills limit e = let same : 100000 ≡ limit = cc in omega arith
+limit_number t.Receipts limit e = let same : limits.MOST_ROWS ≡ limit = cc in omega arith
+limit_number t.Bills limit e = let same : limits.MOST_ROWS ≡ limit = cc in omega arith
 limit_number t.Routings limit e = let same : 0 ≡ limit = cc in omega arith
-limit_number t.Master limit e = let same : 100000 ≡ limit = cc in omega arith
-limit_number t.Script limit e = let same : 100000 ≡ limit = cc in omega arith
+limit_number t.Master limit e = let same : limits.MOST_ROWS ≡ limit = cc in omega arith
+limit_number t.Script limit e = let same : limits.MOST_ROWS ≡ limit = cc in omega arith
 limit_number t.Bundle limit e = absurd cc
 
 -- an admitted record is within the limit
 admitted_within : (r : Cells) (c : Cells) (past : Bool) → is_past (record_limit r.table) r.number ≡ past → admitted r ≡ Ok c → past ≡ false
-admitted_within r c true h e = let refused : admitted r ≡ Err (fault_at r 20) = rw h refl in absurd cc
+admitted_within r c true h e = let refused : admitted r ≡ Err (fault_at r faults.TOO_MANY) = rw h refl in absurd cc
 admitted_within r c false h e = refl
 
 -- the rows so far are fewer than the number of the next record

@@ -4,6 +4,7 @@ mod Admitting
 mod Blaming
 mod Counting
 mod Distinct
+mod Entries
 mod Gathering
 mod Kept
 mod Opening

@@ -1,5 +1,5 @@
 -- A table's records are its own.
-use Rattle.std.proofs.Common.{◌≡◌, ℕ, Bool, true, false, List, [], ◌∷◌, Ok, Err, Result, inl, inr, sym, subst, ap, ◌∙◌, refl}
+use Rattle.std.proofs.Common.{◌≡◌, ◌⊎◌, ℕ, Bool, true, false, List, [], ◌∷◌, Ok, Err, Result, inl, inr, sym, subst, ap, ◌∙◌, refl}
 use Rattle.std.specs.Cmp.Lexicographic.{pointwise}
 use Rattle.std.specs.Prelude.{nat_eq, if◌then◌else◌}
 use Rattle.mrp_rows.specs.declared.fault.Fault.{Fault}
@@ -10,8 +10,9 @@ use Rattle.mrp_rows.specs.Columns.{columns_of}
 use Rattle.mrp_rows.specs.Left.{Left}
 use Rattle.mrp_rows.specs.Next.{after_header, header_fault, opened}
 use Rattle.mrp_rows.specs.Records.{records_of}
-use Rattle.mrp_tables.specs.Calendar.{calendar_in, calendar_of}
-use Rattle.mrp_tables.specs.Reading.{Gives, IsMemoryFault, IsRefusedBehind, IsRefusedIn, Reads, rows_from, rows_of}
+use Rattle.mrp_tables.specs.declared.calendar.Entry.{Entry}
+use Rattle.mrp_tables.specs.Calendar.{calendar_from, calendar_of, entry_row}
+use Rattle.mrp_tables.specs.Reading.{Gives, IsRefusedBehind, IsRefusedIn, Reads, rows_from, rows_of}
 
 by_header : (t : Table) (made c : Left) (same : Bool) → made.table ≡ t → (if same then Ok made else Err (header_fault t)) ≡ Ok c → c.table ≡ t
 by_header t made c true own e = let h : made ≡ c = cc in ap (λ (l : Left). l.table) (sym h) ∙ own
@@ -37,9 +38,13 @@ gathered-read view reads t text c empty (Err f) opens none (inr why) =
     let own : c.table ≡ t = after_header-table t (records_of text) c opens in
     inr (rw opens (rw (own, none) at why))
 
--- the same of the calendar
-pub calendar-read : {X : Type 0} (view : X → ShopCalendar) (text : List ℕ) (c : Left) (r : Result X Fault)
-    → opened t.Calendar text ≡ Ok c → Gives (IsMemoryFault c.table) view r (calendar_in c) → Gives (IsMemoryFault t.Calendar) view r (calendar_of text)
-calendar-read view text c r opens given =
-    let own : c.table ≡ t.Calendar = after_header-table t.Calendar (records_of text) c opens in
-    rw opens (subst (λ (table : Table). Gives (IsMemoryFault table) view r (calendar_in c)) own given)
+-- the calendar of entries that were read
+pub calendar-read : (IsRefusal : Fault → Type 0) (text : List ℕ) (entries : List Entry) (r : Result ShopCalendar Fault)
+    → rows_of entry_row t.Calendar text ≡ Ok entries → r ≡ calendar_from entries → Gives IsRefusal (λ c. c) r (calendar_of text)
+calendar-read IsRefusal text entries (Ok c) read is = rw read (sym is)
+calendar-read IsRefusal text entries (Err f) read is = inr (rw read (sym is))
+
+pub calendar-refused : (IsRefusal : Fault → Type 0) (text : List ℕ) (f : Fault)
+    → IsRefusal f ⊎ (rows_of entry_row t.Calendar text ≡ Err f) → IsRefusal f ⊎ (calendar_of text ≡ Err f)
+calendar-refused IsRefusal text f (inl memory) = inl memory
+calendar-refused IsRefusal text f (inr why) = inr (rw why refl)

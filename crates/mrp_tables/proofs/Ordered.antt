@@ -4,6 +4,7 @@ use Rattle.std.specs.Prelude.{IfOk}
 use Rattle.std.specs.List.{list_any}
 use Rattle.mrp_cal.specs.Calendar.{ShopCalendar}
 use Rattle.mrp_rows.specs.declared.fault.Fault.{Fault}
+use Rattle.mrp_rows.specs.declared.faults.TheConstants as faults
 use Rattle.mrp_rows.specs.Left.{Cells}
 use Rattle.mrp_rows.specs.Cell.{fault_at}
 use Rattle.mrp_tables.specs.declared.item.Item.{Item}
@@ -12,7 +13,7 @@ use Rattle.mrp_tables.specs.declared.rows.Receipt.{Receipt}
 use Rattle.mrp_tables.specs.Receipts.{order_cells, receipt_beside, receipt_placed, same_order}
 
 pub repeated : (calendar : ShopCalendar) (items : List Item) (seen : List (ℕ × List ℕ)) (r : Cells) (o : OpenOrder)
-    → order_cells items r ≡ Ok o → list_any (same_order (o.item, o.order)) seen ≡ true → receipt_beside calendar items seen r ≡ Err (fault_at r 12)
+    → order_cells items r ≡ Ok o → list_any (same_order (o.item, o.order)) seen ≡ true → receipt_beside calendar items seen r ≡ Err (fault_at r faults.REPEATED)
 repeated calendar items seen r o read found = rw (read, found) refl
 
 pub placed : (calendar : ShopCalendar) (items : List Item) (seen : List (ℕ × List ℕ)) (r : Cells) (o : OpenOrder)

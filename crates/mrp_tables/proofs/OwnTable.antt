@@ -10,11 +10,13 @@ use Rattle.mrp_rows.specs.Columns.{columns_of}
 use Rattle.mrp_rows.specs.Left.{Cells, Left}
 use Rattle.mrp_rows.specs.Next.{after_header, header_fault, next_number, opened}
 use Rattle.mrp_rows.specs.Records.{records_of}
-use Rattle.mrp_tables.specs.Calendar.{calendar_in, calendar_of, holiday_row, next_as, next_from, next_of, start_cells, weeks_cells, workdays_cells}
+use Rattle.mrp_tables.specs.declared.calendar.Entry.{Entry}
+use Rattle.mrp_tables.specs.declared.calendar.Entry.TheVariants.{Start, Weeks, Workdays, Holiday}
+use Rattle.mrp_tables.specs.Calendar.{calendar_from, calendar_of, entry_row}
 use Rattle.mrp_tables.specs.Laws.{FaultsAtItsRecord, IsAt, read_one}
-use Rattle.mrp_tables.specs.Reading.{Reads, admitted, by_itself, rows_from, rows_of}
-use Rattle.mrp_tables.proofs.Blaming.{admitted_at, admitted_same, at_their_records, start_at, weeks_at, workdays_at}
-use Rattle.mrp_tables.proofs.RowLaws.{bind_assoc, from_one}
+use Rattle.mrp_tables.specs.Reading.{Reads, admitted, rows_from, rows_of}
+use Rattle.mrp_tables.proofs.Blaming.{at_their_records}
+use Rattle.mrp_tables.proofs.RowLaws.{bind_assoc}
 
 -- a fault, if there is one, is of this table
 abbrev pub IsOf : {X : Type 0} → Table → Result X Fault → Type 0
@@ -51,62 +53,11 @@ rows_own read h table text =
     follows table (opened table text) (λ all. rows_from read table [] all.number all.left) (header_own table (records_of text))
     (λ all e. rows_from_own read h table [] all.number all.left)
 
--- the next record is the table's, and so is what is left
-next_tables : (table : Table) (number : ℕ) (left : List (List (List ℕ))) (p : Cells × Left) → next_from table number left ≡ Ok p → (p.0.table ≡ table) × (p.1.table ≡ table)
-next_tables table number [] p e = absurd cc
-next_tables table number (cells ∷ rest) p e = by (admitted r) refl e
-  where
-    r : Cells
-    r = record { table = table; number = number; cells = cells }
-
-    after : Left
-    after = record { table = table; number = next_number number; left = rest; is_over = false }
-
-    by : (a : Result Cells Fault) → admitted r ≡ a → (a >>= λ c. Ok (c, after)) ≡ Ok p → (p.0.table ≡ table) × (p.1.table ≡ table)
-    by (Ok c) is given =
-        let same : (c, after) ≡ p = cc in
-        (ap (λ (q : Cells × Left). q.0.table) (sym same) ∙ ap (λ (k : Cells). k.table) (sym (admitted_same r c is)), ap (λ (q : Cells × Left). q.1.table) (sym same))
-    by (Err f) is given = absurd cc
-
-next_own : (table : Table) (number : ℕ) (left : List (List (List ℕ))) → IsOf table (next_from table number left)
-next_own table number [] = refl
-next_own table number (cells ∷ rest) =
-    let r : Cells = record { table = table; number = number; cells = cells } in
-    follows table (admitted r) (λ c. Ok (c, record { table = table; number = next_number number; left = rest; is_over = false })) (at_table r (admitted r) (admitted_at r)) (λ c e. tt)
-
--- a calendar's next record
-next_as_own : {X : Type 0} (read : Cells → Result X Fault) → ((r : Cells) → IfErr (read r) (IsAt r)) → (all : Left) → IsOf all.table (next_as read all)
-next_as_own read h all =
-    follows all.table (next_of all) (λ p. read p.0 >>= λ x. Ok (x, p.1)) (next_own all.table all.number all.left)
-    (λ p e. follows all.table (read p.0) (λ x. Ok (x, p.1)) (rw (← (next_tables all.table all.number all.left p e).0) (at_table p.0 (read p.0) (h p.0))) (λ x given. tt))
-
-next_as_left : {X : Type 0} (read : Cells → Result X Fault) (all : Left) (q : X × Left) → next_as read all ≡ Ok q → q.1.table ≡ all.table
-next_as_left {X} read all q e = by (next_of all) refl e
-  where
-    by : (o : Result (Cells × Left) Fault) → next_of all ≡ o → (o >>= λ p. read p.0 >>= λ x. Ok (x, p.1)) ≡ Ok q → q.1.table ≡ all.table
-    by (Err f) is given = absurd cc
-    by (Ok p) is given = read_by (read p.0) given
-      where
-        read_by : (x : Result X Fault) → (x >>= λ x. Ok (x, p.1)) ≡ Ok q → q.1.table ≡ all.table
-        read_by (Err f) given = absurd cc
-        read_by (Ok x) given =
-            let same : (x, p.1) ≡ q = cc in
-            ap (λ (k : X × Left). k.1.table) (sym same) ∙ (next_tables all.table all.number all.left p is).1
-
-calendar_in_own : (all : Left) → IsOf all.table (calendar_in all)
-unfolding calendar_in
-calendar_in_own all =
-    follows all.table (next_as start_cells all) _ (next_as_own start_cells start_at all) (λ start is.
-    let first : start.1.table ≡ all.table = next_as_left start_cells all start is in
-    follows all.table (next_as weeks_cells start.1) _ (rw (← first) (next_as_own weeks_cells weeks_at start.1)) (λ weeks is'.
-    let second : weeks.1.table ≡ all.table = next_as_left weeks_cells start.1 weeks is' ∙ first in
-    follows all.table (next_as workdays_cells weeks.1) _ (rw (← second) (next_as_own workdays_cells workdays_at weeks.1)) (λ workdays is''.
-    let third : workdays.1.table ≡ all.table = next_as_left workdays_cells weeks.1 workdays is'' ∙ second in
-    follows all.table (rows_from (by_itself holiday_row) workdays.1.table [] workdays.1.number workdays.1.left) _
-    (rw (← third) (rows_from_own (by_itself holiday_row) at_their_records.holidays workdays.1.table [] workdays.1.number workdays.1.left))
-    (λ holidays e. tt))))
+from_own : (entries : List Entry) → IsOf t.Calendar (calendar_from entries)
+from_own (Start start ∷ Weeks weeks ∷ Workdays workdays ∷ holidays) = tt
+from_own entries = refl
 
 pub calendar_own : (text : List ℕ) → IsOf t.Calendar (calendar_of text)
 calendar_own text =
-    follows t.Calendar (opened t.Calendar text) calendar_in (header_own t.Calendar (records_of text))
-    (λ all e. rw (← (from_one t.Calendar (records_of text) all e).0) (calendar_in_own all))
+    follows t.Calendar (rows_of entry_row t.Calendar text) calendar_from
+    (rows_own entry_row at_their_records.calendar t.Calendar text) (λ entries e. from_own entries)

@@ -4,6 +4,7 @@ use Rattle.std.specs.Prelude.{IsOk, map, take}
 use Rattle.mrp_cal.specs.Calendar.{ShopCalendar}
 use Rattle.mrp_rows.specs.Bundle.{text_in}
 use Rattle.mrp_rows.specs.declared.fault.Fault.{Fault}
+use Rattle.mrp_rows.specs.declared.faults.TheConstants as faults
 use Rattle.mrp_rows.specs.declared.fault.Table.{Table}
 use Rattle.mrp_rows.specs.declared.fault.Table.TheVariants as t
 use Rattle.mrp_rows.specs.Tables.{table_index}
@@ -14,11 +15,11 @@ use Rattle.mrp_tables.specs.declared.rows.Operation.{Operation}
 use Rattle.mrp_tables.specs.declared.rows.Receipt.{Receipt}
 use Rattle.mrp_tables.specs.declared.rows.StockRow.{StockRow}
 use Rattle.mrp_tables.specs.Bills.{bill_row}
-use Rattle.mrp_tables.specs.Calendar.{calendar_of}
+use Rattle.mrp_tables.specs.Calendar.{calendar_of, entry_row}
 use Rattle.mrp_tables.specs.Items.{item_row}
 use Rattle.mrp_tables.specs.Laws.{IsMemoryRefusal, IsRefusedAt, all_whole, reading_of, table_order}
 use Rattle.mrp_tables.specs.Master.{master_row}
-use Rattle.mrp_tables.specs.Reading.{IsMemoryFault, IsRefusedBehind, IsRefusedIn, Reads, by_itself, rows_of}
+use Rattle.mrp_tables.specs.Reading.{IsRefusedBehind, IsRefusedIn, Reads, by_itself, rows_of}
 use Rattle.mrp_tables.specs.Receipts.{receipt_row}
 use Rattle.mrp_tables.specs.Script.{script_row}
 use Rattle.mrp_tables.specs.Stock.{stock_row}
@@ -30,8 +31,12 @@ middle_whole : (texts : List (List ℕ)) (calendar : ShopCalendar) (items : List
 middle_whole texts calendar items (Ok m) e ok = (m, middle_read texts calendar items m e)
 middle_whole texts calendar items (Err f) e ok = absurd cc
 
--- a refusal of memory is of code 22, and at its table
-pub memory_behind : {X : Type 0} (read : Reads X) (own : Table) (before : List X) (number : ℕ) (left : List (List (List ℕ))) (f : Fault) → IsRefusedBehind read own before number left f → IsMemoryFault own f
+-- a refusal of memory, at its table
+record IsMemoryFault (own : Table) (f : Fault) : Type 0 where
+  code : f.code ≡ faults.NO_MEMORY
+  table : f.table ≡ own
+
+memory_behind : {X : Type 0} (read : Reads X) (own : Table) (before : List X) (number : ℕ) (left : List (List (List ℕ))) (f : Fault) → IsRefusedBehind read own before number left f → IsMemoryFault own f
 memory_behind read own before number left f behind = record { code = ap (λ (g : Fault). g.code) behind.fault; table = ap (λ (g : Fault). g.table) behind.fault }
 
 memory_in : {X : Type 0} (read : Reads X) (own : Table) (text : List ℕ) (f : Fault) → IsRefusedIn read own text f → IsMemoryFault own f
@@ -48,10 +53,10 @@ refusal texts f own memory at earlier = record {
 }
 
 pub refused_calendar : (texts : List (List ℕ)) → (f : Fault)
-    → IsMemoryFault t.Calendar f ⊎ (calendar_of (text_in texts t.Calendar) ≡ Err f) → IsMemoryRefusal texts f ⊎ (head_in texts ≡ Err f)
+    → IsRefusedIn entry_row t.Calendar (text_in texts t.Calendar) f ⊎ (calendar_of (text_in texts t.Calendar) ≡ Err f) → IsMemoryRefusal texts f ⊎ (head_in texts ≡ Err f)
 unfolding head_in
 refused_calendar texts f (inl memory) =
-    inl (refusal texts f t.Calendar memory memory refl)
+    inl (refusal texts f t.Calendar (memory_in entry_row t.Calendar (text_in texts t.Calendar) f memory) memory refl)
 refused_calendar texts f (inr e) = inr (rw e refl)
 
 pub refused_items : (texts : List (List ℕ)) → (calendar : ShopCalendar) → calendar_of (text_in texts t.Calendar) ≡ Ok calendar → (f : Fault)

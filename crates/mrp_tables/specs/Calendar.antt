@@ -1,42 +1,36 @@
--- The calendar's table (profile).
-use Rattle.std.specs.Prelude.{ℕ, ◌==◌, ◌&&◌, ◌||◌, Bool, if◌then◌else◌, List, [], ◌∷◌, length, map, codes, Result, Ok, Err, false}
+-- The calendar's table (profile): the start, the weeks, the workdays, and then holidays.
+use Rattle.std.specs.Prelude.{ℕ, ◌≡◌, ◌+◌, ◌==◌, ◌&&◌, ◌||◌, Bool, true, if◌then◌else◌, List, [], ◌∷◌, length, map, codes, Option, Some, None, Result, Ok, Err}
+use Rattle.std.specs.Int.{IsInRange}
 use Rattle.std.specs.List.{list_all}
 use Rattle.mrp_qty.specs.Reading.{◌>>=◌}
 use Rattle.jiff.specs.Types.{Date}
 use Rattle.mrp_cal.specs.Calendar.{ShopCalendar, holidays_in, has_workday, is_monday}
+use Rattle.mrp_cal.specs.DateText.{IsPlanningYear}
+use Rattle.mrp_cal.specs.declared.calendar.TheConstants.{MOST_WEEKS}
 use Rattle.mrp_rows.specs.declared.fault.Fault.{Fault}
-use Rattle.mrp_rows.specs.declared.fault.Table.{Table}
+use Rattle.mrp_rows.specs.declared.faults.TheConstants as faults
 use Rattle.mrp_rows.specs.declared.fault.Table.TheVariants as t
-use Rattle.mrp_rows.specs.Left.{Cells, Left}
-use Rattle.mrp_rows.specs.Next.{next_number, opened}
+use Rattle.mrp_rows.specs.Left.{Cells}
 use Rattle.mrp_rows.specs.Cell.{cell_at, fault_at, blame, number_cell, word_of, date_cell}
-use Rattle.mrp_tables.specs.Reading.{admitted, by_itself, rows_from}
+use Rattle.mrp_tables.specs.declared.calendar.Entry.{Entry}
+use Rattle.mrp_tables.specs.declared.calendar.Entry.TheVariants.{Start, Weeks, Workdays, Holiday}
+use Rattle.mrp_tables.specs.Reading.{rows_of}
 
--- the next record and what is left after it; where there is none, code 6 at the record that is missing
-abbrev pub next_from : Table → ℕ → List (List (List ℕ)) → Result (Cells × Left) Fault
-next_from table number [] = Err (record { code = 6; table = table; row = number })
-next_from table number (cells ∷ rest) =
-    admitted (record { table = table; number = number; cells = cells }) >>= λ r.
-    Ok (r, record { table = table; number = next_number number; left = rest; is_over = false })
-
-abbrev pub next_of : Left → Result (Cells × Left) Fault
-next_of all = next_from all.table all.number all.left
-
--- the key of a record, or code 10
+-- the key of a record, or WORD
 abbrev pub keyed : List ℕ → Cells → Result ℕ Fault
 keyed key r = blame r (word_of (key ∷ []) (cell_at r 0))
 
--- a date that is a Monday, or code 11
+-- a date that is a Monday, or RANGE
 unfoldable pub start_cells : Cells → Result Date Fault
 start_cells r = do
   _ ← keyed (codes "start") r
   date ← blame r (date_cell (cell_at r 1))
-  if is_monday date then Ok date else Err (fault_at r 11)
+  if is_monday date then Ok date else Err (fault_at r faults.RANGE)
 
 unfoldable pub weeks_cells : Cells → Result ℕ Fault
 weeks_cells r = do
   _ ← keyed (codes "weeks") r
-  blame r (number_cell 1 104 (cell_at r 1))
+  blame r (number_cell 1 MOST_WEEKS (cell_at r 1))
 
 -- seven of 0 and 1
 abbrev pub are_flags : List ℕ → Bool
@@ -45,33 +39,66 @@ are_flags cell = (length cell == 7) && list_all (λ byte. (byte == 48) || (byte 
 abbrev pub flags_of : List ℕ → List Bool
 flags_of cell = map (λ byte. byte == 49) cell
 
--- seven of 0 and 1 from Monday, or code 10; at least one 1, or code 11
+-- seven of 0 and 1 from Monday, or WORD; at least one 1, or RANGE
 abbrev pub workdays_cell : List ℕ → Result (List Bool) ℕ
 workdays_cell cell =
-    if are_flags cell then (if has_workday (flags_of cell) then Ok (flags_of cell) else Err 11) else Err 10
+    if are_flags cell then (if has_workday (flags_of cell) then Ok (flags_of cell) else Err faults.RANGE) else Err faults.WORD
 
 unfoldable pub workdays_cells : Cells → Result (List Bool) Fault
 workdays_cells r = do
   _ ← keyed (codes "workdays") r
   blame r (workdays_cell (cell_at r 1))
 
-unfoldable pub holiday_row : Cells → Result Date Fault
-holiday_row r = do
+unfoldable pub holiday_cells : Cells → Result Date Fault
+holiday_cells r = do
   _ ← keyed (codes "holiday") r
   blame r (date_cell (cell_at r 1))
 
--- what the next record reads as, and what is left
-abbrev pub next_as : {X : Type 0} → (Cells → Result X Fault) → Left → Result (X × Left) Fault
-next_as read all = next_of all >>= λ p. read p.0 >>= λ x. Ok (x, p.1)
+-- what a record says behind the entries of those before it
+abbrev pub entry_row : List Entry → Cells → Result Entry Fault
+entry_row [] r = start_cells r >>= λ date. Ok (Start date)
+entry_row (start ∷ []) r = weeks_cells r >>= λ weeks. Ok (Weeks weeks)
+entry_row (start ∷ weeks ∷ []) r = workdays_cells r >>= λ workdays. Ok (Workdays workdays)
+entry_row (start ∷ weeks ∷ workdays ∷ holidays) r = holiday_cells r >>= λ date. Ok (Holiday date)
 
--- the calendar of a table: the start, the weeks, the workdays, and then holidays
-unfoldable pub calendar_in : Left → Result ShopCalendar Fault
-calendar_in all =
-    next_as start_cells all >>= λ start.
-    next_as weeks_cells start.1 >>= λ weeks.
-    next_as workdays_cells weeks.1 >>= λ workdays.
-    rows_from (by_itself holiday_row) workdays.1.table [] workdays.1.number workdays.1.left >>= λ holidays.
-    Ok (record { start = start.0; weeks = weeks.0; workdays = workdays.0; holidays = holidays_in start.0 weeks.0 holidays })
+-- the dates of the holidays among entries
+abbrev pub dates_of : List Entry → List Date
+dates_of [] = []
+dates_of (Start date ∷ entries) = dates_of entries
+dates_of (Weeks weeks ∷ entries) = dates_of entries
+dates_of (Workdays workdays ∷ entries) = dates_of entries
+dates_of (Holiday date ∷ entries) = date ∷ dates_of entries
+
+-- the record of this number is missing
+abbrev pub missing_record : ℕ → Fault
+missing_record number = record { code = faults.COLUMNS; table = t.Calendar; row = number }
+
+-- the calendar that entries make; or the first record that is missing
+abbrev pub calendar_from : List Entry → Result ShopCalendar Fault
+calendar_from (Start start ∷ Weeks weeks ∷ Workdays workdays ∷ holidays) =
+    Ok (record { start = start; weeks = weeks; workdays = workdays; holidays = holidays_in start weeks (dates_of holidays) })
+calendar_from entries = Err (missing_record (length entries + 1))
 
 abbrev pub calendar_of : List ℕ → Result ShopCalendar Fault
-calendar_of text = opened t.Calendar text >>= calendar_in
+calendar_of text = rows_of entry_row t.Calendar text >>= calendar_from
+
+-- the entries of what is kept of them
+abbrev pub entries_of : Option Date → Option ℕ → Option (List Bool) → List Date → List Entry
+entries_of None weeks workdays holidays = []
+entries_of (Some start) None workdays holidays = Start start ∷ []
+entries_of (Some start) (Some weeks) None holidays = Start start ∷ Weeks weeks ∷ []
+entries_of (Some start) (Some weeks) (Some workdays) holidays = Start start ∷ Weeks weeks ∷ Workdays workdays ∷ map Holiday holidays
+
+-- an entry within its limits
+abbrev pub IsEntry : Entry → Type 0
+IsEntry (Start date) = (is_monday date ≡ true) × IsPlanningYear date.year
+IsEntry (Weeks weeks) = IsInRange 1 MOST_WEEKS weeks
+IsEntry (Workdays workdays) = has_workday workdays ≡ true
+IsEntry (Holiday date) = Unit {0}
+
+-- what is kept of the entries: each within its limits, and nothing of one without those before it
+abbrev pub AreKept : Option Date → Option ℕ → Option (List Bool) → List Date → Type 0
+AreKept None weeks workdays holidays = (weeks ≡ None) × (workdays ≡ None) × (holidays ≡ [])
+AreKept (Some start) None workdays holidays = IsEntry (Start start) × (workdays ≡ None) × (holidays ≡ [])
+AreKept (Some start) (Some weeks) None holidays = IsEntry (Start start) × IsEntry (Weeks weeks) × (holidays ≡ [])
+AreKept (Some start) (Some weeks) (Some workdays) holidays = IsEntry (Start start) × IsEntry (Weeks weeks) × IsEntry (Workdays workdays)

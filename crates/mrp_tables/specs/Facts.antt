@@ -1,6 +1,8 @@
 -- What the rows of accepted tables keep: cells within their limits, places of items that are there, weeks of the horizon.
 use Rattle.std.specs.Prelude.{ℕ, ◌≡◌, ◌≢◌, ◌<◌, ◌≤◌, true, false, List, length, AllPairs}
 use Rattle.std.specs.Int.{IsInRange}
+use Rattle.mrp_rows.specs.Name.{is_name}
+use Rattle.mrp_tables.specs.declared.limits.TheConstants as limits
 use Rattle.mrp_tables.specs.declared.item.Item.{Item}
 use Rattle.mrp_tables.specs.declared.item.LotRule.TheVariants.{Fixed, Period}
 use Rattle.mrp_tables.specs.declared.rows.StockRow.{StockRow}
@@ -12,19 +14,19 @@ use Rattle.mrp_tables.specs.declared.rows.ScriptCall.{ScriptCall}
 use Rattle.mrp_tables.specs.declared.rows.ScriptCall.TheVariants as call
 use Rattle.mrp_tables.specs.declared.rows.ScriptRow.{ScriptRow}
 use Rattle.mrp_tables.specs.Items.{is_master, is_master_at}
-use Rattle.mrp_tables.specs.Limits.{most_safety, most_scrap}
 
 -- no two of a list are the same
 abbrev pub AllDiffer : {X : Type 0} → List X → Type 0
 AllDiffer xs = AllPairs (λ x y. x ≢ y) xs
 
--- an item: weeks of lead time, scrap in a thousand, a fixed lot's pieces, a period's weeks, pieces of safety stock, of which a master item has none
+-- an item: a name, weeks of lead time, scrap in a thousand, a fixed lot's pieces, a period's weeks, pieces of safety stock, of which a master item has none
 pub record IsItem (item : Item) : Type 0 where
-  pub lead : item.lead ≤ 104
-  pub scrap : item.scrap ≤ most_scrap
-  pub fixed : (pieces : ℕ) → item.lot ≡ Fixed pieces → IsInRange 1 1000000000 pieces
-  pub period : (weeks : ℕ) → item.lot ≡ Period weeks → IsInRange 1 104 weeks
-  pub safety : item.safety ≤ most_safety
+  pub name : is_name item.name ≡ true
+  pub lead : item.lead ≤ limits.MOST_LEAD
+  pub scrap : item.scrap ≤ limits.MOST_SCRAP
+  pub fixed : (pieces : ℕ) → item.lot ≡ Fixed pieces → IsInRange 1 limits.MOST_PIECES pieces
+  pub period : (weeks : ℕ) → item.lot ≡ Period weeks → IsInRange 1 limits.MOST_PERIOD weeks
+  pub safety : item.safety ≤ limits.MOST_PIECES
   pub master : is_master item.class ≡ true → item.safety ≡ 0
 
 -- what is read of an item before it is looked at whole: an item, unless a master item has safety stock
@@ -34,19 +36,21 @@ IsItemUnlessStocked item = (is_master item.class ≡ true → item.safety ≡ 0)
 -- what is on hand of an item, in pieces
 pub record IsStockRow (items : List Item) (row : StockRow) : Type 0 where
   pub item : row.item < length items
-  pub on_hand : row.on_hand ≤ 1000000000
+  pub on_hand : row.on_hand ≤ limits.MOST_PIECES
 
--- an open order of an item that is there
+-- an open order of an item that is there, with a name of its own
 pub record IsOpenOrder (items : List Item) (order : OpenOrder) : Type 0 where
   pub item : order.item < length items
-  pub quantity : order.quantity ≤ 1000000000
+  pub name : is_name order.order ≡ true
+  pub quantity : order.quantity ≤ limits.MOST_PIECES
 
--- an open receipt of a part, due in a week of the horizon, of at least one piece
+-- an open receipt of a part, with its order's name, due in a week of the horizon, of at least one piece
 pub record IsReceipt (weeks : ℕ) (items : List Item) (row : Receipt) : Type 0 where
   pub item : row.item < length items
+  pub order : is_name row.order ≡ true
   pub part : is_master_at items row.item ≡ false
   pub week : IsInRange 1 weeks row.week
-  pub quantity : IsInRange 1 1000000000 row.quantity
+  pub quantity : IsInRange 1 limits.MOST_PIECES row.quantity
 
 -- what is read of an open receipt: a receipt, if it has a piece
 abbrev pub IsReceiptIfAny : ℕ → List Item → Receipt → Type 0
@@ -57,14 +61,14 @@ pub record IsBillLine (items : List Item) (line : BillLine) : Type 0 where
   pub parent : line.parent < length items
   pub component : line.component < length items
   pub part : is_master_at items line.component ≡ false
-  pub per : IsInRange 1 1000000 line.per
+  pub per : IsInRange 1 limits.MOST_PER line.per
 
 -- a row of a master item in a week of the horizon, of at least one piece
 pub record IsMasterRow (weeks : ℕ) (items : List Item) (row : MasterRow) : Type 0 where
   pub item : row.item < length items
   pub master : is_master_at items row.item ≡ true
   pub week : IsInRange 1 weeks row.week
-  pub quantity : IsInRange 1 1000000000 row.quantity
+  pub quantity : IsInRange 1 limits.MOST_PIECES row.quantity
 
 -- what is read of a row of the master schedule: a row, if it has a piece
 abbrev pub IsMasterRowIfAny : ℕ → List Item → MasterRow → Type 0
@@ -77,12 +81,12 @@ pub record IsMasterItem (items : List Item) (place : ℕ) : Type 0 where
 
 -- a call of a script: of master items, in weeks of the horizon, of at least one piece; of an entry by its number
 pub record IsScriptCall (weeks : ℕ) (items : List Item) (given : ScriptCall) : Type 0 where
-  pub book : (item week quantity : ℕ) → given ≡ call.Book item week quantity → IsMasterItem items item × IsInRange 1 weeks week × IsInRange 1 1000000000 quantity
-  pub cancel : (entry : ℕ) → given ≡ call.Cancel entry → IsInRange 1 1000000 entry
+  pub book : (item week quantity : ℕ) → given ≡ call.Book item week quantity → IsMasterItem items item × IsInRange 1 weeks week × IsInRange 1 limits.MOST_PIECES quantity
+  pub cancel : (entry : ℕ) → given ≡ call.Cancel entry → IsInRange 1 limits.MOST_ENTRIES entry
   pub ask : (item week : ℕ) → given ≡ call.Ask item week → IsMasterItem items item × IsInRange 1 weeks week
-  pub when : (item quantity : ℕ) → given ≡ call.When item quantity → IsMasterItem items item × IsInRange 1 1000000000 quantity
+  pub when : (item quantity : ℕ) → given ≡ call.When item quantity → IsMasterItem items item × IsInRange 1 limits.MOST_PIECES quantity
 
 -- a row of the script: the call of a desk
 pub record IsScriptRow (weeks : ℕ) (items : List Item) (row : ScriptRow) : Type 0 where
-  pub desk : IsInRange 1 64 row.desk
+  pub desk : IsInRange 1 limits.MOST_DESKS row.desk
   pub call : IsScriptCall weeks items row.call

@@ -4,16 +4,18 @@ use Rattle.std.specs.List.{list_any}
 use Rattle.std.specs.Cmp.Lexicographic.{pointwise}
 use Rattle.mrp_qty.specs.Reading.{◌>>=◌}
 use Rattle.mrp_rows.specs.declared.fault.Fault.{Fault}
+use Rattle.mrp_rows.specs.declared.faults.TheConstants as faults
 use Rattle.mrp_rows.specs.declared.fault.Table.TheVariants as t
 use Rattle.mrp_rows.specs.Left.{Cells}
 use Rattle.mrp_rows.specs.Cell.{cell_at, fault_at, blame, or_code, name_of, number_cell, word_of}
+use Rattle.mrp_tables.specs.declared.limits.TheConstants as limits
 use Rattle.mrp_tables.specs.declared.item.Class.{Class}
 use Rattle.mrp_tables.specs.declared.item.Class.TheVariants.{Master, Part}
 use Rattle.mrp_tables.specs.declared.item.LotRule.{LotRule}
 use Rattle.mrp_tables.specs.declared.item.LotRule.TheVariants.{LotForLot, Fixed, Period}
 use Rattle.mrp_tables.specs.declared.item.Item.{Item}
 use Rattle.mrp_tables.specs.Reading.{rows_of}
-use Rattle.mrp_tables.specs.Limits.{lot_words, most_scrap, most_safety}
+use Rattle.mrp_tables.specs.Limits.{lot_words}
 
 abbrev pub class_words : List (List ℕ)
 class_words = codes "master" ∷ codes "part" ∷ []
@@ -34,18 +36,18 @@ abbrev pub least_size : ℕ → ℕ
 least_size place = if place == 0 then 0 else 1
 
 abbrev pub greatest_size : ℕ → ℕ
-greatest_size place = if nat_lt place 2 then 1000000000 else 104
+greatest_size place = if nat_lt place 2 then limits.MOST_PIECES else limits.MOST_PERIOD
 
 -- a record's cells, from left to right
 unfoldable pub item_cells : Cells → Result Item Fault
 item_cells r = do
   name ← blame r (name_of (cell_at r 0))
   class ← blame r (word_of class_words (cell_at r 1))
-  lead ← blame r (number_cell 0 104 (cell_at r 2))
-  scrap ← blame r (number_cell 0 most_scrap (cell_at r 3))
+  lead ← blame r (number_cell 0 limits.MOST_LEAD (cell_at r 2))
+  scrap ← blame r (number_cell 0 limits.MOST_SCRAP (cell_at r 3))
   lot ← blame r (word_of lot_words (cell_at r 4))
   size ← blame r (number_cell (least_size lot) (greatest_size lot) (cell_at r 5))
-  safety ← blame r (number_cell 0 most_safety (cell_at r 6))
+  safety ← blame r (number_cell 0 limits.MOST_PIECES (cell_at r 6))
   Ok (record { name = name; class = class_at class; lead = lead; scrap = scrap; lot = lot_at lot size; safety = safety })
 
 abbrev pub names_of : List Item → List (List ℕ)
@@ -55,9 +57,9 @@ names_of items = map (λ i. i.name) items
 abbrev pub place_of : List ℕ → List Item → Option ℕ
 place_of name items = position (pointwise nat_eq name) (names_of items)
 
--- the place of the item with a name, or code 13
+-- the place of the item with a name, or UNKNOWN_ITEM
 abbrev pub known : List Item → List ℕ → Result ℕ ℕ
-known items name = or_code 13 (place_of name items)
+known items name = or_code faults.UNKNOWN_ITEM (place_of name items)
 
 -- the item at a place
 abbrev pub item_at : List Item → ℕ → Item
@@ -66,11 +68,11 @@ item_at items place = slice_index_or items place (record { name = []; class = Pa
 abbrev pub is_master_at : List Item → ℕ → Bool
 is_master_at items place = is_master (item_at items place).class
 
--- no earlier item has the name, or code 12; a master item has no safety stock, or code 17
+-- no earlier item has the name, or REPEATED; a master item has no safety stock, or MASTER_SAFETY
 abbrev pub item_checked : List Item → Cells → Item → Result Item Fault
 item_checked before r item =
-    if list_any (pointwise nat_eq item.name) (names_of before) then Err (fault_at r 12)
-    else if is_master item.class && nat_lt 0 item.safety then Err (fault_at r 17)
+    if list_any (pointwise nat_eq item.name) (names_of before) then Err (fault_at r faults.REPEATED)
+    else if is_master item.class && nat_lt 0 item.safety then Err (fault_at r faults.MASTER_SAFETY)
     else Ok item
 
 abbrev pub item_row : List Item → Cells → Result Item Fault

@@ -4,6 +4,7 @@ use Rattle.mrp_qty.specs.Reading.{◌>>=◌}
 use Rattle.mrp_cal.specs.Calendar.{ShopCalendar}
 use Rattle.mrp_rows.specs.Bundle.{text_in}
 use Rattle.mrp_rows.specs.declared.fault.Fault.{Fault}
+use Rattle.mrp_rows.specs.declared.faults.TheConstants as faults
 use Rattle.mrp_rows.specs.declared.fault.Table.{Table}
 use Rattle.mrp_rows.specs.declared.fault.Table.TheVariants as t
 use Rattle.mrp_rows.specs.Columns.{width_of}
@@ -15,10 +16,10 @@ use Rattle.mrp_tables.specs.declared.item.Item.{Item}
 use Rattle.mrp_tables.specs.declared.rows.Centre.{Centre}
 use Rattle.mrp_tables.specs.declared.rows.Operation.{Operation}
 use Rattle.mrp_tables.specs.Bills.{bill_row, bills_of}
-use Rattle.mrp_tables.specs.Calendar.{calendar_of, holiday_row, start_cells, weeks_cells, workdays_cells}
+use Rattle.mrp_tables.specs.Calendar.{calendar_of, entry_row}
 use Rattle.mrp_tables.specs.Items.{item_row, items_of}
 use Rattle.mrp_tables.specs.Master.{master_of, master_row}
-use Rattle.mrp_tables.specs.Reading.{IsMemoryFault, IsRefusedIn, Reads, admitted, by_itself, is_past, rows_of}
+use Rattle.mrp_tables.specs.Reading.{IsRefusedIn, Reads, admitted, by_itself, is_past, rows_of}
 use Rattle.mrp_tables.specs.Receipts.{receipt_row, receipts_of}
 use Rattle.mrp_tables.specs.Script.{script_of, script_row}
 use Rattle.mrp_tables.specs.Limits.{record_limit}
@@ -62,8 +63,8 @@ pub record IsReadInTurn {X : Type 0} (read : Reads X) (table : Table) (text : Li
 
 -- a record past its table's limit is refused for that, whatever its cells; one within it that has not a cell for each column, for that; all others are read
 pub record IsAdmittedFirst {X : Type 0} (read : Reads X) (before : List X) (r : Cells) : Type 0 where
-  pub past : is_past (record_limit r.table) r.number ≡ true → read_one read before r ≡ Err (fault_at r 20)
-  pub wide : is_past (record_limit r.table) r.number ≡ false → length r.cells ≢ width_of r.table → read_one read before r ≡ Err (fault_at r 6)
+  pub past : is_past (record_limit r.table) r.number ≡ true → read_one read before r ≡ Err (fault_at r faults.TOO_MANY)
+  pub wide : is_past (record_limit r.table) r.number ≡ false → length r.cells ≢ width_of r.table → read_one read before r ≡ Err (fault_at r faults.COLUMNS)
   pub admitted : is_past (record_limit r.table) r.number ≡ false → length r.cells ≡ width_of r.table → read_one read before r ≡ read before r
 
 -- a fault stands at a record
@@ -77,10 +78,7 @@ FaultsAtItsRecord {X} read = (before : List X) (r : Cells) → IfErr (read_one r
 
 -- each table's faults stand at their records
 pub record FaultsAtTheirRecords : Type 0 where
-  pub start : FaultsAtItsRecord (by_itself start_cells)
-  pub weeks : FaultsAtItsRecord (by_itself weeks_cells)
-  pub workdays : FaultsAtItsRecord (by_itself workdays_cells)
-  pub holidays : FaultsAtItsRecord (by_itself holiday_row)
+  pub calendar : FaultsAtItsRecord entry_row
   pub items : FaultsAtItsRecord item_row
   pub stock : (items : List Item) → FaultsAtItsRecord (stock_row items)
   pub receipts : (calendar : ShopCalendar) (items : List Item) → FaultsAtItsRecord (receipt_row calendar items)
@@ -139,9 +137,9 @@ pub record IsToldAtItsTable (texts : List (List ℕ)) (f : Fault) : Type 0 where
   pub own : reading_of texts f.table ≡ Err f
   pub earlier : all_whole (map (reading_of texts) (take (table_index f.table) table_order)) ≡ Ok tt
 
--- memory was refused while a table was read: for its header, or for a record behind those that are read; in the calendar for any
+-- memory was refused while a table was read: for its header, or for a record behind those that are read
 abbrev pub IsRefusedAt : List (List ℕ) → Fault → Table → Type 0
-IsRefusedAt texts f t.Calendar = IsMemoryFault t.Calendar f
+IsRefusedAt texts f t.Calendar = IsRefusedIn entry_row t.Calendar (text_in texts t.Calendar) f
 IsRefusedAt texts f t.Items = IsRefusedIn item_row t.Items (text_in texts t.Items) f
 IsRefusedAt texts f t.Centres = IsRefusedIn (untaken {X = Centre}) t.Centres (text_in texts t.Centres) f
 IsRefusedAt texts f t.Stock =
@@ -165,7 +163,7 @@ IsRefusedAt texts f t.Bundle = ⊥
 
 -- memory was refused while a table was read: the records before the fault's are read, and the tables before it are all read whole
 pub record IsMemoryRefusal (texts : List (List ℕ)) (f : Fault) : Type 0 where
-  pub code : f.code ≡ 22
+  pub code : f.code ≡ faults.NO_MEMORY
   pub at : IsRefusedAt texts f f.table
   pub earlier : all_whole (map (reading_of texts) (take (table_index f.table) table_order)) ≡ Ok tt
 

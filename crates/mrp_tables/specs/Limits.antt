@@ -2,18 +2,19 @@
 use Rattle.std.specs.Prelude.{ℕ, List, [], ◌∷◌, codes, Option, Some, None}
 use Rattle.mrp_rows.specs.declared.fault.Table.{Table}
 use Rattle.mrp_rows.specs.declared.fault.Table.TheVariants as t
+use Rattle.mrp_tables.specs.declared.limits.TheConstants as limits
 
 -- the most records that a table has, where it has a limit: centres and routings take none
 abbrev pub record_limit : Table → Option ℕ
-record_limit t.Calendar = Some 1003
-record_limit t.Items = Some 20000
+record_limit t.Calendar = Some limits.MOST_CALENDAR_RECORDS
+record_limit t.Items = Some limits.MOST_ITEMS
 record_limit t.Centres = Some 0
 record_limit t.Stock = None
-record_limit t.Receipts = Some 100000
-record_limit t.Bills = Some 100000
+record_limit t.Receipts = Some limits.MOST_ROWS
+record_limit t.Bills = Some limits.MOST_ROWS
 record_limit t.Routings = Some 0
-record_limit t.Master = Some 100000
-record_limit t.Script = Some 100000
+record_limit t.Master = Some limits.MOST_ROWS
+record_limit t.Script = Some limits.MOST_ROWS
 record_limit t.Bundle = None
 
 -- the words for the lot rules, in the order of their places
@@ -23,11 +24,3 @@ lot_words = codes "lfl" ∷ codes "fixed" ∷ codes "period" ∷ []
 -- the words for the calls of a script, in the order of their places
 abbrev pub call_words : List (List ℕ)
 call_words = codes "book" ∷ codes "cancel" ∷ codes "ask" ∷ codes "when" ∷ codes "run" ∷ []
-
--- the most scrap in a thousand
-abbrev pub most_scrap : ℕ
-most_scrap = 900
-
--- the most safety stock, in pieces
-abbrev pub most_safety : ℕ
-most_safety = 1000000000

@@ -1,11 +1,13 @@
 -- The master schedule (APICS Dictionary: master production schedule; profile: its form).
-use Rattle.std.specs.Prelude.{ℕ, ◌==◌, not, nat_lt, if◌then◌else◌, List, [], ◌∷◌, codes, filter, Result, Ok, Err}
+use Rattle.std.specs.Prelude.{ℕ, ◌==◌, Bool, true, false, not, nat_lt, if◌then◌else◌, List, [], ◌∷◌, codes, filter, Result, Ok, Err}
 use Rattle.mrp_qty.specs.Reading.{◌>>=◌}
 use Rattle.mrp_cal.specs.Calendar.{ShopCalendar, week_of}
 use Rattle.mrp_rows.specs.declared.fault.Fault.{Fault}
+use Rattle.mrp_rows.specs.declared.faults.TheConstants as faults
 use Rattle.mrp_rows.specs.declared.fault.Table.TheVariants as t
 use Rattle.mrp_rows.specs.Left.{Cells}
 use Rattle.mrp_rows.specs.Cell.{cell_at, fault_at, blame, or_code, name_of, number_cell, word_of, date_cell}
+use Rattle.mrp_tables.specs.declared.limits.TheConstants as limits
 use Rattle.mrp_tables.specs.declared.item.Item.{Item}
 use Rattle.mrp_tables.specs.declared.rows.MasterKind.{MasterKind}
 use Rattle.mrp_tables.specs.declared.rows.MasterKind.TheVariants.{Firm, Forecast}
@@ -19,16 +21,21 @@ kind_words = codes "firm" ∷ codes "forecast" ∷ []
 abbrev pub kind_at : ℕ → MasterKind
 kind_at place = if place == 0 then Firm else Forecast
 
+-- an order of the master schedule, and no forecast
+abbrev pub is_firm : MasterKind → Bool
+is_firm Firm = true
+is_firm Forecast = false
+
 -- the cells from left to right; then an item that is there, a week of the horizon, and a master item
 unfoldable pub master_row : ShopCalendar → List Item → Cells → Result MasterRow Fault
 master_row calendar items r = do
   name ← blame r (name_of (cell_at r 0))
   kind ← blame r (word_of kind_words (cell_at r 1))
   date ← blame r (date_cell (cell_at r 2))
-  quantity ← blame r (number_cell 0 1000000000 (cell_at r 3))
+  quantity ← blame r (number_cell 0 limits.MOST_PIECES (cell_at r 3))
   item ← blame r (known items name)
-  week ← blame r (or_code 15 (week_of calendar date))
-  if not (is_master_at items item) then Err (fault_at r 16) else Ok (record { number = r.number; item = item; kind = kind_at kind; week = week; quantity = quantity })
+  week ← blame r (or_code faults.DATE_OUTSIDE (week_of calendar date))
+  if not (is_master_at items item) then Err (fault_at r faults.NOT_MASTER) else Ok (record { number = r.number; item = item; kind = kind_at kind; week = week; quantity = quantity })
 
 -- a row of quantity 0 is checked like any other, and then counts as no row
 abbrev pub that_count : List MasterRow → List MasterRow

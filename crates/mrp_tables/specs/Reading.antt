@@ -2,6 +2,7 @@
 use Rattle.std.specs.Prelude.{ℕ, ◌≡◌, ◌⊎◌, ◌==◌, Bool, false, nat_lt, if◌then◌else◌, List, [], ◌∷◌, ◌++◌, length, Option, Some, None, Result, Ok, Err}
 use Rattle.mrp_qty.specs.Reading.{◌>>=◌}
 use Rattle.mrp_rows.specs.declared.fault.Fault.{Fault}
+use Rattle.mrp_rows.specs.declared.faults.TheConstants as faults
 use Rattle.mrp_rows.specs.declared.fault.Table.{Table}
 use Rattle.mrp_rows.specs.Columns.{width_of}
 use Rattle.mrp_rows.specs.Left.{Cells, Left}
@@ -13,12 +14,12 @@ abbrev pub is_past : Option ℕ → ℕ → Bool
 is_past None number = false
 is_past (Some limit) number = nat_lt limit number
 
--- a record within its table's limit, or code 20, and with a cell for each column, or code 6
+-- a record within its table's limit, or TOO_MANY, and with a cell for each column, or COLUMNS
 abbrev pub admitted : Cells → Result Cells Fault
 admitted r =
-    if is_past (record_limit r.table) r.number then Err (fault_at r 20)
+    if is_past (record_limit r.table) r.number then Err (fault_at r faults.TOO_MANY)
     else if length r.cells == width_of r.table then Ok r
-    else Err (fault_at r 6)
+    else Err (fault_at r faults.COLUMNS)
 
 -- how a record is read, given the rows of the records before it
 abbrev pub Reads : Type 0 → Type 0
@@ -38,11 +39,6 @@ rows_from read t before number (cells ∷ rest) =
 -- a table's rows, or its first fault
 abbrev pub rows_of : {X : Type 0} → Reads X → Table → List ℕ → Result (List X) Fault
 rows_of read t text = opened t text >>= λ all. rows_from read t [] all.number all.left
-
--- memory was refused while a table was read
-pub record IsMemoryFault (own : Table) (f : Fault) : Type 0 where
-  pub code : f.code ≡ 22
-  pub table : f.table ≡ own
 
 -- the number of the record behind these
 abbrev pub number_behind : ℕ → List (List (List ℕ)) → ℕ
@@ -71,7 +67,7 @@ Gives IsRefusal view (Err f) read = IsRefusal f ⊎ (read ≡ Err f)
 -- adding a record's row: the row is what the record reads as, or nothing is added; where memory was refused, the fault is at the record
 abbrev pub Adds : {X : Type 0} → Reads X → List X → Cells → Result (Unit {0}) Fault → List X → Type 0
 Adds {X} read old r (Ok u) new = (x : X) × (read old r ≡ Ok x) × (new ≡ old ++ (x ∷ []))
-Adds read old r (Err f) new = (new ≡ old) × ((f ≡ fault_at r 22) ⊎ (read old r ≡ Err f))
+Adds read old r (Err f) new = (new ≡ old) × ((f ≡ fault_at r faults.NO_MEMORY) ⊎ (read old r ≡ Err f))
 
 -- the next record of a table, admitted; none where none is left; or why it is refused: for want of memory at its number
 abbrev pub NextAdmitted : Left → Result (Option Cells) Fault → Left → Type 0
@@ -83,8 +79,3 @@ NextAdmitted old (Err f) new =
     (f ≡ memory_fault old.table old.number)
     ⊎ ((cells : List (List ℕ)) × (rest : List (List (List ℕ))) × (old.left ≡ cells ∷ rest)
     × (admitted (record { table = old.table; number = old.number; cells = cells }) ≡ Err f))
-
--- a step along the records that are left, unless memory was refused at the first of them
-abbrev pub Steps : {X : Type 0} → (Left → Result (X × Left) Fault) → Left → Result X Fault → Left → Type 0
-Steps step old (Ok x) new = step old ≡ Ok (x, new)
-Steps step old (Err f) new = (f ≡ memory_fault old.table old.number) ⊎ (step old ≡ Err f)

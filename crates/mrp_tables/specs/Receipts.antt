@@ -5,9 +5,11 @@ use Rattle.std.specs.Cmp.Lexicographic.{pointwise}
 use Rattle.mrp_qty.specs.Reading.{◌>>=◌}
 use Rattle.mrp_cal.specs.Calendar.{ShopCalendar, week_of}
 use Rattle.mrp_rows.specs.declared.fault.Fault.{Fault}
+use Rattle.mrp_rows.specs.declared.faults.TheConstants as faults
 use Rattle.mrp_rows.specs.declared.fault.Table.TheVariants as t
 use Rattle.mrp_rows.specs.Left.{Cells}
 use Rattle.mrp_rows.specs.Cell.{cell_at, fault_at, blame, or_code, name_of, number_cell, date_cell}
+use Rattle.mrp_tables.specs.declared.limits.TheConstants as limits
 use Rattle.mrp_tables.specs.declared.item.Item.{Item}
 use Rattle.mrp_tables.specs.declared.receipts.OpenOrder.{OpenOrder}
 use Rattle.mrp_tables.specs.declared.rows.Receipt.{Receipt}
@@ -21,25 +23,25 @@ orders_of rows = map (λ r. (r.item, r.order)) rows
 abbrev pub same_order : ℕ × List ℕ → ℕ × List ℕ → Bool
 same_order a b = nat_eq a.0 b.0 && pointwise nat_eq a.1 b.1
 
--- the cells from left to right; then an item that is there, or code 13
+-- the cells from left to right; then an item that is there, or UNKNOWN_ITEM
 unfoldable pub order_cells : List Item → Cells → Result OpenOrder Fault
 order_cells items r = do
   name ← blame r (name_of (cell_at r 0))
   order ← blame r (name_of (cell_at r 1))
   date ← blame r (date_cell (cell_at r 2))
-  quantity ← blame r (number_cell 0 1000000000 (cell_at r 3))
+  quantity ← blame r (number_cell 0 limits.MOST_PIECES (cell_at r 3))
   item ← blame r (known items name)
   Ok (record { item = item; order = order; date = date; quantity = quantity })
 
--- an item and an order that were not seen before, or code 12: an item that is repeated is there, so no record has both faults
+-- an item and an order that were not seen before, or REPEATED: an item that is repeated is there, so no record has both faults
 abbrev pub order_checked : List (ℕ × List ℕ) → Cells → OpenOrder → Result OpenOrder Fault
-order_checked seen r o = if list_any (same_order (o.item, o.order)) seen then Err (fault_at r 12) else Ok o
+order_checked seen r o = if list_any (same_order (o.item, o.order)) seen then Err (fault_at r faults.REPEATED) else Ok o
 
--- a week of the horizon, or code 15; no master item, or code 18
+-- a week of the horizon, or DATE_OUTSIDE; no master item, or MASTER_RECEIPT
 unfoldable pub receipt_placed : ShopCalendar → List Item → Cells → OpenOrder → Result Receipt Fault
 receipt_placed calendar items r o = do
-  week ← blame r (or_code 15 (week_of calendar o.date))
-  if is_master_at items o.item then Err (fault_at r 18) else Ok (record { number = r.number; item = o.item; order = o.order; week = week; quantity = o.quantity })
+  week ← blame r (or_code faults.DATE_OUTSIDE (week_of calendar o.date))
+  if is_master_at items o.item then Err (fault_at r faults.MASTER_RECEIPT) else Ok (record { number = r.number; item = o.item; order = o.order; week = week; quantity = o.quantity })
 
 -- a record, beside the items and orders that were seen
 abbrev pub receipt_beside : ShopCalendar → List Item → List (ℕ × List ℕ) → Cells → Result Receipt Fault

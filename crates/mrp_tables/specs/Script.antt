@@ -4,9 +4,11 @@ use Rattle.mrp_qty.specs.Reading.{◌>>=◌}
 use Rattle.jiff.specs.Types.{Date}
 use Rattle.mrp_cal.specs.Calendar.{ShopCalendar, week_of}
 use Rattle.mrp_rows.specs.declared.fault.Fault.{Fault}
+use Rattle.mrp_rows.specs.declared.faults.TheConstants as faults
 use Rattle.mrp_rows.specs.declared.fault.Table.TheVariants as t
 use Rattle.mrp_rows.specs.Left.{Cells}
 use Rattle.mrp_rows.specs.Cell.{cell_at, blame, or_code, name_of, number_cell, word_of, date_cell}
+use Rattle.mrp_tables.specs.declared.limits.TheConstants as limits
 use Rattle.mrp_tables.specs.declared.item.Item.{Item}
 use Rattle.mrp_tables.specs.declared.rows.ScriptCall.{ScriptCall}
 use Rattle.mrp_tables.specs.declared.rows.ScriptCall.TheVariants as call
@@ -15,15 +17,15 @@ use Rattle.mrp_tables.specs.Items.{known, is_master_at}
 use Rattle.mrp_tables.specs.Reading.{by_itself, rows_of}
 use Rattle.mrp_tables.specs.Limits.{call_words}
 
--- the place of a master item, or code 16
+-- the place of a master item, or NOT_MASTER
 abbrev pub mastered : List Item → ℕ → Result ℕ ℕ
-mastered items item = if is_master_at items item then Ok item else Err 16
+mastered items item = if is_master_at items item then Ok item else Err faults.NOT_MASTER
 
 -- the master item of a name and the week of a date: an item that is there, a week of the horizon, and a master item
 unfoldable pub spot_of : ShopCalendar → List Item → Cells → List ℕ → Date → Result (ℕ × ℕ) Fault
 spot_of calendar items r name date = do
   item ← blame r (known items name)
-  week ← blame r (or_code 15 (week_of calendar date))
+  week ← blame r (or_code faults.DATE_OUTSIDE (week_of calendar date))
   master ← blame r (mastered items item)
   Ok (master, week)
 
@@ -32,14 +34,14 @@ unfoldable pub book_cells : ShopCalendar → List Item → Cells → Result Scri
 book_cells calendar items r = do
   name ← blame r (name_of (cell_at r 2))
   date ← blame r (date_cell (cell_at r 3))
-  quantity ← blame r (number_cell 1 1000000000 (cell_at r 4))
+  quantity ← blame r (number_cell 1 limits.MOST_PIECES (cell_at r 4))
   spot ← spot_of calendar items r name date
   Ok (call.Book spot.0 spot.1 quantity)
 
 -- a cancellation reads the cell of the entry's number
 unfoldable pub cancel_cells : Cells → Result ScriptCall Fault
 cancel_cells r = do
-  entry ← blame r (number_cell 1 1000000 (cell_at r 5))
+  entry ← blame r (number_cell 1 limits.MOST_ENTRIES (cell_at r 5))
   Ok (call.Cancel entry)
 
 -- a question of what is available reads the cells of item and date
@@ -54,7 +56,7 @@ ask_cells calendar items r = do
 unfoldable pub when_cells : List Item → Cells → Result ScriptCall Fault
 when_cells items r = do
   name ← blame r (name_of (cell_at r 2))
-  quantity ← blame r (number_cell 1 1000000000 (cell_at r 4))
+  quantity ← blame r (number_cell 1 limits.MOST_PIECES (cell_at r 4))
   item ← blame r (known items name)
   master ← blame r (mastered items item)
   Ok (call.When master quantity)
@@ -71,7 +73,7 @@ call_at calendar items r place =
 -- the desk, the word of the call, and then the call's own cells from left to right and what they name
 unfoldable pub script_row : ShopCalendar → List Item → Cells → Result ScriptRow Fault
 script_row calendar items r = do
-  desk ← blame r (number_cell 1 64 (cell_at r 0))
+  desk ← blame r (number_cell 1 limits.MOST_DESKS (cell_at r 0))
   place ← blame r (word_of call_words (cell_at r 1))
   own ← call_at calendar items r place
   Ok (record { desk = desk; call = own })

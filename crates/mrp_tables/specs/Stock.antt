@@ -3,9 +3,11 @@ use Rattle.std.specs.Prelude.{ℕ, nat_eq, if◌then◌else◌, List, map, Resul
 use Rattle.std.specs.List.{list_any}
 use Rattle.mrp_qty.specs.Reading.{◌>>=◌}
 use Rattle.mrp_rows.specs.declared.fault.Fault.{Fault}
+use Rattle.mrp_rows.specs.declared.faults.TheConstants as faults
 use Rattle.mrp_rows.specs.declared.fault.Table.TheVariants as t
 use Rattle.mrp_rows.specs.Left.{Cells}
 use Rattle.mrp_rows.specs.Cell.{cell_at, fault_at, blame, name_of, number_cell}
+use Rattle.mrp_tables.specs.declared.limits.TheConstants as limits
 use Rattle.mrp_tables.specs.declared.item.Item.{Item}
 use Rattle.mrp_tables.specs.declared.rows.StockRow.{StockRow}
 use Rattle.mrp_tables.specs.Items.{known}
@@ -14,17 +16,17 @@ use Rattle.mrp_tables.specs.Reading.{rows_of}
 abbrev pub items_in_stock : List StockRow → List ℕ
 items_in_stock rows = map (λ s. s.item) rows
 
--- the cells from left to right; then an item that is there, or code 13
+-- the cells from left to right; then an item that is there, or UNKNOWN_ITEM
 unfoldable pub stock_cells : List Item → Cells → Result StockRow Fault
 stock_cells items r = do
   name ← blame r (name_of (cell_at r 0))
-  on_hand ← blame r (number_cell 0 1000000000 (cell_at r 1))
+  on_hand ← blame r (number_cell 0 limits.MOST_PIECES (cell_at r 1))
   item ← blame r (known items name)
   Ok (record { item = item; on_hand = on_hand })
 
--- no earlier row has the item, or code 12: an item that is repeated is there, so no record has both faults
+-- no earlier row has the item, or REPEATED: an item that is repeated is there, so no record has both faults
 abbrev pub stock_checked : List StockRow → Cells → StockRow → Result StockRow Fault
-stock_checked before r row = if list_any (nat_eq row.item) (items_in_stock before) then Err (fault_at r 12) else Ok row
+stock_checked before r row = if list_any (nat_eq row.item) (items_in_stock before) then Err (fault_at r faults.REPEATED) else Ok row
 
 abbrev pub stock_row : List Item → List StockRow → Cells → Result StockRow Fault
 stock_row items before r = stock_cells items r >>= stock_checked before r

@@ -4,9 +4,11 @@ use Rattle.mrp_qty.specs.Reading.{◌>>=◌}
 use Rattle.mrp_cal.specs.Calendar.{ShopCalendar}
 use Rattle.mrp_rows.specs.Bundle.{bundle_of, text_in}
 use Rattle.mrp_rows.specs.declared.fault.Fault.{Fault}
+use Rattle.mrp_rows.specs.declared.faults.TheConstants as faults
 use Rattle.mrp_rows.specs.declared.fault.Table.TheVariants as t
 use Rattle.mrp_rows.specs.Cell.{fault_at}
 use Rattle.mrp_rows.specs.Left.{Cells}
+use Rattle.mrp_tables.specs.declared.limits.TheConstants as limits
 use Rattle.mrp_tables.specs.declared.item.Item.{Item}
 use Rattle.mrp_tables.specs.declared.rows.Centre.{Centre}
 use Rattle.mrp_tables.specs.declared.rows.StockRow.{StockRow}
@@ -39,7 +41,7 @@ pub record Tables : Type 0 where
 
 -- a record of a table that takes none: its limit refuses it before it is read
 abbrev pub untaken : {X : Type 0} → List X → Cells → Result X Fault
-untaken before r = Err (fault_at r 20)
+untaken before r = Err (fault_at r faults.TOO_MANY)
 
 -- the first three tables, the next, and the last
 pub record Head : Type 0 where
@@ -95,20 +97,20 @@ joined h m l = record {
 pub record AreTables (t : Tables) : Type 0 where
   pub items : All IsItem t.items
   pub names : AllDiffer (names_of t.items)
-  pub item_count : length t.items ≤ 20000
+  pub item_count : length t.items ≤ limits.MOST_ITEMS
   pub centres : t.centres ≡ []
   pub stock : All (IsStockRow t.items) t.stock
   pub stocked : AllDiffer (items_in_stock t.stock)
   pub receipts : All (IsReceipt t.calendar.weeks t.items) t.receipts
   pub ordered : AllDiffer (orders_of t.receipts)
-  pub receipt_count : length t.receipts ≤ 100000
+  pub receipt_count : length t.receipts ≤ limits.MOST_ROWS
   pub bills : All (IsBillLine t.items) t.bills
-  pub line_count : length t.bills ≤ 100000
+  pub line_count : length t.bills ≤ limits.MOST_ROWS
   pub routings : t.routings ≡ []
   pub master : All (IsMasterRow t.calendar.weeks t.items) t.master
-  pub master_count : length t.master ≤ 100000
+  pub master_count : length t.master ≤ limits.MOST_ROWS
   pub script : All (IsScriptRow t.calendar.weeks t.items) t.script
-  pub script_count : length t.script ≤ 100000
+  pub script_count : length t.script ≤ limits.MOST_ROWS
 
 -- the tables of the sections' texts, in the order of their faults
 unfoldable pub tables_in : List (List ℕ) → Result Tables Fault

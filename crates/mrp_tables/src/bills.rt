@@ -4,15 +4,14 @@ ghost use Rattle.std.specs.Prelude.{◌≡◌, length, IfOk};
 ghost use Rattle.mrp_tables.specs.Bills.{bill_row};
 ghost use Rattle.mrp_tables.specs.Facts.{IsBillLine};
 
-use crate::codes::{MASTER_COMPONENT, NO_MEMORY, UNKNOWN_ITEM};
 use crate::items::Items;
+use crate::limits::MOST_PER;
 use crate::reading::TableRows;
 use crate::rows::BillLine;
+use mrp_rows::faults::{MASTER_COMPONENT, NO_MEMORY, UNKNOWN_ITEM};
 use mrp_rows::{Fault, Row};
 use std::alloc::Global;
 use std::marker::Model;
-
-const MOST_PER: u64 = 1_000_000;
 
 /// The bill lines so far.
 #[derive(Drop)]

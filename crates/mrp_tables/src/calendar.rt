@@ -3,35 +3,143 @@
 ghost use Rattle.std.specs.Prelude.{◌≡◌, ◌==◌, ◌||◌, Option, Some, None, if◌then◌else◌, length, true, IfOk};
 ghost use Rattle.std.specs.Int.{IsInRange};
 ghost use Rattle.std.specs.List.{list_all};
-ghost use Rattle.mrp_cal.specs.Calendar.{has_workday, holidays_in, is_monday};
+ghost use Rattle.mrp_cal.specs.Calendar.{has_workday, is_monday};
 ghost use Rattle.mrp_cal.specs.DateText.{IsPlanningYear};
-ghost use Rattle.mrp_rows.specs.Columns.{width_of};
 ghost use Rattle.mrp_rows.specs.Cell.{blame, cell_at};
-ghost use Rattle.mrp_tables.specs.Calendar.{are_flags, calendar_in, flags_of, holiday_row, keyed, next_as, next_of, start_cells, weeks_cells, workdays_cell, workdays_cells};
-ghost use Rattle.mrp_tables.specs.Reading.{Gives, IsMemoryFault, Steps};
+ghost use Rattle.mrp_tables.specs.Calendar.{are_flags, flags_of, holiday_cells, missing_record, start_cells, weeks_cells, workdays_cells};
 
-use crate::codes::{COLUMNS, NO_MEMORY, RANGE, WORD};
-use crate::reading::{TableRows, gather, next_record};
+use crate::reading::TableRows;
 use jiff::civil::{Date, Weekday};
-use mrp_cal::Calendar;
-use mrp_rows::{Cursor, Fault, Row, Table};
+use mrp_cal::{Calendar, MOST_WEEKS};
+use mrp_rows::faults::{COLUMNS, NO_MEMORY, RANGE, WORD};
+use mrp_rows::{Fault, Row, Table};
 use std::alloc::Global;
 use std::marker::Model;
 
-// The next record, which has to be there.
-fn next_present(cursor: &mut Cursor<'_>) -> Result<Row, Fault>
-    ensures steps { Steps next_of cursor.old result cursor.new }
-    ensures wide { IfOk result (λ r. length r.cells ≡ width_of cursor.old.table) }
-    ensures table { cursor.new.table ≡ cursor.old.table }
+/// What a record of the calendar's table says.
+#[derive(Clone, Copy)]
+pub(crate) enum Entry {
+    /// The day on which the horizon begins, a Monday.
+    Start(Date),
+    /// The weeks of the horizon.
+    Weeks(u64),
+    /// Which weekdays are worked, from Monday.
+    Workdays([bool; 7]),
+    /// A day on which nobody works.
+    Holiday(Date),
+}
+
+/// The entries so far: the start, the weeks, the workdays, and then holidays.
+#[derive(Drop)]
+pub(crate) struct Entries {
+    start: Option<Date>,
+    weeks: Option<u64>,
+    workdays: Option<[bool; 7]>,
+    holidays: Vec<Date>,
+}
+
+impl Model for Entries {
+    ghost use Rattle.std.specs.Prelude.{List};
+    ghost use Rattle.mrp_tables.specs.declared.calendar.Entry.{Entry};
+    ghost use Rattle.mrp_tables.specs.Calendar.{AreKept, entries_of};
+
+    ghost Value = { List Entry };
+
+    ghost view = { λ t. entries_of t.start t.weeks t.workdays t.holidays.items };
+
+    ghost invariant = { λ t. AreKept t.start t.weeks t.workdays t.holidays.items };
+}
+
+impl TableRows for Entries {
+    type Line = Entry;
+
+    ghost use Rattle.std.specs.Prelude.{◌≡◌};
+    ghost use Rattle.mrp_tables.specs.Calendar.{entry_row};
+    ghost use Rattle.mrp_tables.specs.Gathered.{nothing};
+
+    ghost takes = { λ count. count ≡ 2 };
+
+    ghost rows = { λ t. t };
+
+    ghost reads = { λ t. entry_row };
+
+    ghost beside = { λ t. nothing };
+
+    fn add(&mut self, row: &Row) -> Result<(), Fault> {
+        match self.entry(row)? {
+            Entry::Start(date) => self.start = Some(date),
+            Entry::Weeks(weeks) => self.weeks = Some(weeks),
+            Entry::Workdays(workdays) => self.workdays = Some(workdays),
+            Entry::Holiday(date) => {
+                if self.holidays.push(date).is_err() {
+                    return Err(row.fault(NO_MEMORY));
+                }
+            }
+        }
+        Ok(())
+    }
+}
+
+impl Entries {
+    ghost use Rattle.std.specs.Prelude.{◌≡◌, [], length, IfOk};
+    ghost use Rattle.mrp_tables.specs.Calendar.{IsEntry, calendar_from, entry_row};
+
+    pub(crate) fn new(alloc: Global) -> Entries
+        ensures { result ≡ [] }
+    {
+        Entries {
+            start: None,
+            weeks: None,
+            workdays: None,
+            holidays: Vec::new(alloc),
+        }
+    }
+
+    // What a record says behind these entries.
+    fn entry(&self, row: &Row) -> Result<Entry, Fault>
+        requires { length row.now.cells ≡ 2 }
+        ensures cells { result ≡ entry_row self.now row.now }
+        ensures within { IfOk result IsEntry }
+    {
+        if self.start.is_none() {
+            Ok(Entry::Start(start_of(row)?))
+        } else if self.weeks.is_none() {
+            Ok(Entry::Weeks(weeks_of(row)?))
+        } else if self.workdays.is_none() {
+            Ok(Entry::Workdays(workdays_of(row)?))
+        } else {
+            Ok(Entry::Holiday(holiday_of(row)?))
+        }
+    }
+
+    // The calendar of the entries.
+    #[tactic(auto, unfolding(mrp_cal::specs::Calendar::calendar_of))]
+    pub(crate) fn into_calendar(self) -> Result<Calendar, Fault>
+        ensures { result ≡ calendar_from self }
+    {
+        let Some(start) = self.start else {
+            return Err(missing_record(1));
+        };
+        let Some(weeks) = self.weeks else {
+            return Err(missing_record(2));
+        };
+        let Some(workdays) = self.workdays else {
+            return Err(missing_record(3));
+        };
+        match Calendar::new(start, weeks, workdays, self.holidays.as_slice()) {
+            Ok(calendar) => Ok(calendar),
+            Err(_) => unreachable!(),
+        }
+    }
+}
+
+fn missing_record(number: u32) -> Fault
+    ensures { result ≡ missing_record number }
 {
-    let missing = Fault {
+    Fault {
         code: COLUMNS,
-        table: cursor.table(),
-        row: cursor.number(),
-    };
-    match next_record(cursor)? {
-        Some(row) => Ok(row),
-        None => Err(missing),
+        table: Table::Calendar,
+        row: number,
     }
 }
 
@@ -55,10 +163,10 @@ fn start_of(row: &Row) -> Result<Date, Fault>
 fn weeks_of(row: &Row) -> Result<u64, Fault>
     requires { length row.now.cells ≡ 2 }
     ensures weeks { result ≡ weeks_cells row.now }
-    ensures within { IfOk result (IsInRange 1 104) }
+    ensures within { IfOk result (IsInRange 1 MOST_WEEKS) }
 {
     row.word(0, &["weeks"])?;
-    row.number(1, 1, 104)
+    row.number(1, 1, MOST_WEEKS)
 }
 
 #[tactic(auto, unfolding(crate::specs::Calendar::workdays_cells))]
@@ -111,100 +219,11 @@ fn are_flag_bytes(cell: &[u8]) -> bool
     cell.iter().all(|byte| *byte == b'0' || *byte == b'1')
 }
 
-#[tactic(auto, unfolding(crate::specs::Calendar::holiday_row))]
+#[tactic(auto, unfolding(crate::specs::Calendar::holiday_cells))]
 fn holiday_of(row: &Row) -> Result<Date, Fault>
     requires { length row.now.cells ≡ 2 }
-    ensures { result ≡ holiday_row row.now }
+    ensures { result ≡ holiday_cells row.now }
 {
     row.word(0, &["holiday"])?;
     row.date(1)
-}
-
-fn next_start(cursor: &mut Cursor<'_>) -> Result<Date, Fault>
-    requires { width_of cursor.old.table ≡ 2 }
-    ensures steps { Steps (next_as start_cells) cursor.old result cursor.new }
-    ensures monday { IfOk result (λ d. is_monday d ≡ true) }
-    ensures year { IfOk result (λ d. IsPlanningYear d.year) }
-    ensures table { cursor.new.table ≡ cursor.old.table }
-{
-    start_of(&next_present(cursor)?)
-}
-
-fn next_weeks(cursor: &mut Cursor<'_>) -> Result<u64, Fault>
-    requires { width_of cursor.old.table ≡ 2 }
-    ensures steps { Steps (next_as weeks_cells) cursor.old result cursor.new }
-    ensures within { IfOk result (IsInRange 1 104) }
-    ensures table { cursor.new.table ≡ cursor.old.table }
-{
-    weeks_of(&next_present(cursor)?)
-}
-
-fn next_workdays(cursor: &mut Cursor<'_>) -> Result<[bool; 7], Fault>
-    requires { width_of cursor.old.table ≡ 2 }
-    ensures steps { Steps (next_as workdays_cells) cursor.old result cursor.new }
-    ensures worked { IfOk result (λ w. has_workday w ≡ true) }
-    ensures table { cursor.new.table ≡ cursor.old.table }
-{
-    workdays_of(&next_present(cursor)?)
-}
-
-/// The holidays so far.
-#[derive(Drop)]
-struct Holidays {
-    dates: Vec<Date>,
-}
-
-impl Model for Holidays {
-    ghost use Rattle.std.specs.Prelude.{List};
-    ghost use Rattle.jiff.specs.Types.{Date};
-
-    ghost Value = { List Date };
-
-    ghost view = { λ t. t.dates.items };
-}
-
-impl TableRows for Holidays {
-    type Line = Date;
-
-    ghost use Rattle.mrp_tables.specs.Gathered.{nothing};
-    ghost use Rattle.std.specs.Prelude.{◌≡◌};
-    ghost use Rattle.mrp_tables.specs.Calendar.{holiday_row};
-    ghost use Rattle.mrp_tables.specs.Reading.{by_itself};
-
-    ghost takes = { λ count. count ≡ 2 };
-
-    ghost rows = { λ t. t };
-
-    ghost reads = { λ t. by_itself holiday_row };
-
-    ghost beside = { λ t. nothing };
-
-    fn add(&mut self, row: &Row) -> Result<(), Fault> {
-        let date = holiday_of(row)?;
-        if self.dates.push(date).is_err() {
-            return Err(row.fault(NO_MEMORY));
-        }
-        Ok(())
-    }
-}
-
-// The calendar of the records that a cursor over its table has.
-#[tactic(auto, unfolding(crate::specs::Calendar::calendar_in, mrp_cal::specs::Calendar::calendar_of))]
-pub(crate) fn calendar_in(alloc: Global, cursor: &mut Cursor<'_>) -> Result<Calendar, Fault>
-    requires { width_of cursor.old.table ≡ 2 }
-    ensures { Gives (IsMemoryFault cursor.old.table) (λ c. c) result (calendar_in cursor.old) }
-{
-    let start = next_start(cursor)?;
-    let weeks = next_weeks(cursor)?;
-    let workdays = next_workdays(cursor)?;
-    let holidays = gather(
-        cursor,
-        Holidays {
-            dates: Vec::new(alloc),
-        },
-    )?;
-    match Calendar::new(start, weeks, workdays, holidays.dates.as_slice()) {
-        Ok(calendar) => Ok(calendar),
-        Err(_) => unreachable!(),
-    }
 }

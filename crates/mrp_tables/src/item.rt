@@ -4,8 +4,8 @@ ghost use Rattle.std.specs.Prelude.{◌≡◌, ◌==◌, if◌then◌else◌, �
 ghost use Rattle.std.specs.Int.{IsInRange};
 ghost use Rattle.mrp_tables.specs.Items.{class_at, greatest_size, least_size, lot_at};
 
-use crate::cells::{MOST_PIECES, quantity};
-use crate::limits::{LOT_WORDS, MOST_SAFETY, MOST_SCRAP};
+use crate::cells::quantity;
+use crate::limits::{LOT_WORDS, MOST_LEAD, MOST_PERIOD, MOST_PIECES, MOST_SCRAP};
 use mrp_qty::Qty;
 use mrp_rows::{Fault, Name, Row};
 
@@ -16,6 +16,21 @@ pub enum Class {
     Master,
     /// Planned by the requirements that its parents' orders cause.
     Part,
+}
+
+impl Class {
+    ghost use Rattle.std.specs.Prelude.{◌≡◌};
+    ghost use Rattle.mrp_tables.specs.Items.{is_master};
+
+    /// Whether it is a master item's.
+    pub fn is_master(self) -> bool
+        ensures { result ≡ is_master self }
+    {
+        match self {
+            Class::Master => true,
+            Class::Part => false,
+        }
+    }
 }
 
 /// How net requirements are put together into orders (APICS Dictionary: lot sizing).
@@ -36,9 +51,9 @@ pub struct Item {
     pub name: Name,
     /// Whether the master schedule plans it.
     pub class: Class,
-    /// The lead time, in weeks, up to 104.
+    /// The lead time, in weeks, up to `MOST_LEAD`.
     pub lead: u64,
-    /// The scrap, in pieces of a thousand, up to 900.
+    /// The scrap, in pieces of a thousand, up to `MOST_SCRAP`.
     pub scrap: u64,
     /// The lot rule.
     pub lot: LotRule,
@@ -60,11 +75,11 @@ impl Item {
     {
         let name = row.name(0)?;
         let class = row.word(1, &["master", "part"])?;
-        let lead = row.number(2, 0, 104)?;
+        let lead = row.number(2, 0, MOST_LEAD)?;
         let scrap = row.number(3, 0, MOST_SCRAP)?;
         let lot = row.word(4, LOT_WORDS)?;
         let size = row.number(5, least_size(lot), greatest_size(lot))?;
-        let safety = quantity(row, 6, 0, MOST_SAFETY)?;
+        let safety = quantity(row, 6, 0, MOST_PIECES)?;
         Ok(Item {
             name,
             class: class_at(class),
@@ -95,14 +110,14 @@ fn least_size(lot: usize) -> u64
 fn greatest_size(lot: usize) -> u64
     ensures { result ≡ greatest_size lot }
 {
-    if lot < 2 { MOST_PIECES } else { 104 }
+    if lot < 2 { MOST_PIECES } else { MOST_PERIOD }
 }
 
 fn lot_at(lot: usize, size: u64) -> LotRule
     requires { IsInRange (least_size lot) (greatest_size lot) size }
     ensures rule { result ≡ lot_at lot size }
-    ensures fixed { (pieces : ℕ) → result ≡ LotRule.Fixed pieces → IsInRange 1 1000000000 pieces }
-    ensures period { (weeks : ℕ) → result ≡ LotRule.Period weeks → IsInRange 1 104 weeks }
+    ensures fixed { (pieces : ℕ) → result ≡ LotRule.Fixed pieces → IsInRange 1 MOST_PIECES pieces }
+    ensures period { (weeks : ℕ) → result ≡ LotRule.Period weeks → IsInRange 1 MOST_PERIOD weeks }
 {
     match lot {
         0 => LotRule::LotForLot,

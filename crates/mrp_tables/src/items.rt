@@ -3,10 +3,10 @@
 ghost use Rattle.std.specs.Prelude.{◌≡◌, ◌&&◌, nat_lt};
 ghost use Rattle.mrp_tables.specs.Items.{is_master};
 
-use crate::codes::{MASTER_SAFETY, NO_MEMORY, REPEATED};
-use crate::item::{Class, Item};
+use crate::item::Item;
 use crate::reading::TableRows;
 use indexmap::IndexSet;
+use mrp_rows::faults::{MASTER_SAFETY, NO_MEMORY, REPEATED};
 use mrp_rows::{Fault, Name, Row};
 use std::alloc::Global;
 use std::marker::Model;
@@ -73,7 +73,7 @@ impl TableRows for Items {
 fn is_stocked_master(item: &Item) -> bool
     ensures { result ≡ (is_master item.now.class && nat_lt 0 item.now.safety) }
 {
-    item.class == Class::Master && item.safety.value() > 0
+    item.class.is_master() && item.safety.value() > 0
 }
 
 impl Items {
@@ -111,6 +111,6 @@ impl Items {
         requires { place < length self.now }
         ensures { result ≡ is_master_at self.now place }
     {
-        self.items[place].class == Class::Master
+        self.items[place].class.is_master()
     }
 }

@@ -4,11 +4,10 @@
 mod bills;
 mod calendar;
 mod cells;
-mod codes;
 mod item;
 mod items;
 pub mod laws;
-mod limits;
+pub mod limits;
 mod master;
 mod reading;
 mod receipts;

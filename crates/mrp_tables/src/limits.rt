@@ -1,4 +1,4 @@
-//! What the program takes: each limit is looked at in one place.
+//! What the program takes: each limit stands in one place.
 
 ghost use Rattle.std.specs.Prelude.{◌≡◌, option_map};
 ghost use Rattle.mrp_tables.specs.Limits.{record_limit};
@@ -11,20 +11,44 @@ pub(crate) const LOT_WORDS: &[&str] = &["lfl", "fixed", "period"];
 /// The words for the calls of a script, in the order of their places.
 pub(crate) const CALL_WORDS: &[&str] = &["book", "cancel", "ask", "when", "run"];
 
-/// The most scrap in a thousand.
-pub(crate) const MOST_SCRAP: u64 = 900;
+/// The most records of the calendar: its start, its weeks, its workdays and 1,000 holidays.
+pub const MOST_CALENDAR_RECORDS: u32 = 1_003;
 
-/// The most safety stock, in pieces.
-pub(crate) const MOST_SAFETY: u64 = 1_000_000_000;
+/// The most items.
+pub const MOST_ITEMS: u32 = 20_000;
+
+/// The most records of the open receipts, of the bills, of the master schedule and of the script.
+pub const MOST_ROWS: u32 = 100_000;
+
+/// The longest lead time, in weeks.
+pub const MOST_LEAD: u64 = 104;
+
+/// The longest period of a lot rule, in weeks.
+pub const MOST_PERIOD: u64 = 104;
+
+/// The most scrap in a thousand.
+pub const MOST_SCRAP: u64 = 900;
+
+/// The most pieces that a cell says.
+pub const MOST_PIECES: u64 = 1_000_000_000;
+
+/// The most pieces of a component in a piece of its parent.
+pub const MOST_PER: u64 = 1_000_000;
+
+/// The most desks.
+pub const MOST_DESKS: u64 = 64;
+
+/// The most entries of the order book.
+pub const MOST_ENTRIES: u64 = 1_000_000;
 
 /// The most records that a table has, where it has a limit: centres and routings take none.
 pub(crate) fn most_records(table: Table) -> Option<u32>
     ensures { result ≡ record_limit table }
 {
     match table {
-        Table::Calendar => Some(1_003),
-        Table::Items => Some(20_000),
-        Table::Receipts | Table::Bills | Table::Master | Table::Script => Some(100_000),
+        Table::Calendar => Some(MOST_CALENDAR_RECORDS),
+        Table::Items => Some(MOST_ITEMS),
+        Table::Receipts | Table::Bills | Table::Master | Table::Script => Some(MOST_ROWS),
         Table::Centres | Table::Routings => Some(0),
         Table::Stock | Table::Bundle => None,
     }

@@ -4,12 +4,13 @@ ghost use Rattle.std.specs.Prelude.{◌≡◌, ◌==◌, if◌then◌else◌, le
 ghost use Rattle.mrp_tables.specs.Facts.{IsMasterRowIfAny};
 ghost use Rattle.mrp_tables.specs.Master.{kind_at, master_row, that_count};
 
-use crate::cells::{MOST_PIECES, quantity};
-use crate::codes::{DATE_OUTSIDE, NO_MEMORY, NOT_MASTER, UNKNOWN_ITEM};
+use crate::cells::quantity;
 use crate::items::Items;
+use crate::limits::MOST_PIECES;
 use crate::reading::TableRows;
 use crate::rows::{MasterKind, MasterRow};
 use mrp_cal::Calendar;
+use mrp_rows::faults::{DATE_OUTSIDE, NO_MEMORY, NOT_MASTER, UNKNOWN_ITEM};
 use mrp_rows::{Fault, Row};
 use std::alloc::Global;
 use std::marker::Model;
@@ -90,7 +91,7 @@ fn master_row(row: &Row, calendar: &Calendar, items: &Items) -> Result<MasterRow
         return Err(row.fault(NOT_MASTER));
     }
     Ok(MasterRow {
-        number: row.fault(0).row,
+        number: row.record(),
         item,
         kind: kind_at(kind),
         week,

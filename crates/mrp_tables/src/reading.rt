@@ -1,13 +1,13 @@
 //! Reading a table's records, one after the other.
 
-ghost use Rattle.std.specs.Prelude.{◌≡◌, ◌==◌, ◌&&◌, ◌≢◌, ◌≤◌, if◌then◌else◌, ℕ, [], length, IfOk, IfSome};
+ghost use Rattle.std.specs.Prelude.{◌≡◌, ◌==◌, ◌&&◌, ◌≤◌, if◌then◌else◌, ℕ, [], length, IfOk, IfSome};
 ghost use Rattle.mrp_rows.specs.Bundle.{text_in};
 ghost use Rattle.mrp_rows.specs.Columns.{width_of};
 ghost use Rattle.mrp_tables.specs.Reading.{Adds, Gives, IsRefusedBehind, IsRefusedIn, NextAdmitted, is_past, rows_from, rows_of};
 ghost use Rattle.mrp_tables.specs.Limits.{record_limit};
 
-use crate::codes::{COLUMNS, TOO_MANY};
 use crate::limits::most_records;
+use mrp_rows::faults::{COLUMNS, TOO_MANY};
 use mrp_rows::{Cursor, Fault, Row, Sections, Table};
 use std::alloc::Global;
 use std::marker::Model;
@@ -23,8 +23,8 @@ fn is_past_limit(table: Table, number: u32) -> bool
 
 /// A table's next record, or None at the end.
 ///
-/// Errors, at the record's number: 20, past the table's limit; then 6, another count of cells than
-/// the table has columns; 22, where memory is refused.
+/// Errors, at the record's number: `TOO_MANY`, past the table's limit; then `COLUMNS`, another count
+/// of cells than the table has columns; `NO_MEMORY`.
 pub(crate) fn next_record(cursor: &mut Cursor<'_>) -> Result<Option<Row>, Fault>
     ensures next { NextAdmitted cursor.old result cursor.new }
     ensures wide { IfOk result (λ next. IfSome next (λ r. length r.cells ≡ width_of cursor.old.table)) }
@@ -32,9 +32,8 @@ pub(crate) fn next_record(cursor: &mut Cursor<'_>) -> Result<Option<Row>, Fault>
 {
     match cursor.next() {
         Ok(Some(row)) => {
-            let past = row.fault(TOO_MANY);
-            if is_past_limit(past.table, past.row) {
-                Err(past)
+            if is_past_limit(row.table(), row.record()) {
+                Err(row.fault(TOO_MANY))
             } else {
                 Ok(Some(row))
             }
@@ -46,7 +45,7 @@ pub(crate) fn next_record(cursor: &mut Cursor<'_>) -> Result<Option<Row>, Fault>
 
 // A record past its table's limit is refused for that, whatever its cells.
 fn past_first(fault: Fault) -> Fault
-    ensures { result ≡ (if (fault.code == 6) && is_past (record_limit fault.table) fault.row then record { code = 20; table = fault.table; row = fault.row } else fault) }
+    ensures { result ≡ (if (fault.code == COLUMNS) && is_past (record_limit fault.table) fault.row then record { code = TOO_MANY; table = fault.table; row = fault.row } else fault) }
 {
     if fault.code == COLUMNS && is_past_limit(fault.table, fault.row) {
         Fault {
@@ -108,7 +107,6 @@ pub(crate) fn read_table<G: TableRows>(
     table: Table,
     empty: G,
 ) -> Result<G, Fault>
-    requires table { table ≢ Table.Bundle }
     requires takes { G.takes (width_of table) }
     requires empty { G.rows empty ≡ [] }
     ensures rows { Gives (IsRefusedIn (G.reads empty) table (text_in sections.now table))

@@ -5,15 +5,16 @@ ghost use Rattle.std.specs.List.{list_any};
 ghost use Rattle.mrp_tables.specs.Facts.{IsOpenOrder, IsReceiptIfAny};
 ghost use Rattle.mrp_tables.specs.Receipts.{order_cells, receipt_beside, receipt_placed, receipts_that_count, same_order};
 
-use crate::cells::{MOST_PIECES, quantity};
-use crate::codes::{DATE_OUTSIDE, MASTER_RECEIPT, NO_MEMORY, REPEATED, UNKNOWN_ITEM};
+use crate::cells::quantity;
 use crate::items::Items;
+use crate::limits::MOST_PIECES;
 use crate::reading::TableRows;
 use crate::rows::Receipt;
 use indexmap::IndexSet;
 use jiff::civil::Date;
 use mrp_cal::Calendar;
 use mrp_qty::Qty;
+use mrp_rows::faults::{DATE_OUTSIDE, MASTER_RECEIPT, NO_MEMORY, REPEATED, UNKNOWN_ITEM};
 use mrp_rows::{Fault, Name, Row};
 use std::alloc::Global;
 use std::marker::Model;
@@ -144,7 +145,7 @@ fn receipt_placed(
         return Err(row.fault(MASTER_RECEIPT));
     }
     Ok(Receipt {
-        number: row.fault(0).row,
+        number: row.record(),
         item: order.item,
         order: order.order,
         week,

@@ -74,6 +74,21 @@ pub enum MasterKind {
     Forecast,
 }
 
+impl MasterKind {
+    ghost use Rattle.std.specs.Prelude.{◌≡◌};
+    ghost use Rattle.mrp_tables.specs.Master.{is_firm};
+
+    /// Whether it is an order.
+    pub fn is_firm(self) -> bool
+        ensures { result ≡ is_firm self }
+    {
+        match self {
+            MasterKind::Firm => true,
+            MasterKind::Forecast => false,
+        }
+    }
+}
+
 /// A row of the master schedule.
 #[derive(Clone, Copy, Debug, PartialEq, Eq)]
 pub struct MasterRow {

@@ -6,14 +6,14 @@ ghost use Rattle.mrp_tables.specs.declared.item.Item.{Item};
 ghost use Rattle.mrp_tables.specs.Facts.{IsMasterItem, IsScriptCall, IsScriptRow};
 ghost use Rattle.mrp_tables.specs.Script.{ask_cells, book_cells, call_at, cancel_cells, script_row, spot_of, when_cells};
 
-use crate::cells::{MOST_PIECES, quantity};
-use crate::codes::{DATE_OUTSIDE, NO_MEMORY, NOT_MASTER, UNKNOWN_ITEM};
+use crate::cells::quantity;
 use crate::items::Items;
-use crate::limits::CALL_WORDS;
+use crate::limits::{CALL_WORDS, MOST_DESKS, MOST_ENTRIES, MOST_PIECES};
 use crate::reading::TableRows;
 use crate::rows::{ScriptCall, ScriptRow};
 use jiff::civil::Date;
 use mrp_cal::Calendar;
+use mrp_rows::faults::{DATE_OUTSIDE, NO_MEMORY, NOT_MASTER, UNKNOWN_ITEM};
 use mrp_rows::{Fault, Name, Row};
 use std::alloc::Global;
 use std::marker::Model;
@@ -30,10 +30,6 @@ const DATE: usize = 3;
 const QUANTITY: usize = 4;
 
 const NUMBER: usize = 5;
-
-const MOST_DESKS: u64 = 64;
-
-const MOST_ENTRIES: u64 = 1_000_000;
 
 /// The script's rows so far.
 #[derive(Drop)]

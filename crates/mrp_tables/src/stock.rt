@@ -4,12 +4,13 @@ ghost use Rattle.std.specs.Prelude.{◌≡◌, length, IfOk};
 ghost use Rattle.mrp_tables.specs.Facts.{IsStockRow};
 ghost use Rattle.mrp_tables.specs.Stock.{stock_cells};
 
-use crate::cells::{MOST_PIECES, quantity};
-use crate::codes::{NO_MEMORY, REPEATED, UNKNOWN_ITEM};
+use crate::cells::quantity;
 use crate::items::Items;
+use crate::limits::MOST_PIECES;
 use crate::reading::TableRows;
 use crate::rows::StockRow;
 use indexmap::IndexSet;
+use mrp_rows::faults::{NO_MEMORY, REPEATED, UNKNOWN_ITEM};
 use mrp_rows::{Fault, Row};
 use std::alloc::Global;
 use std::marker::Model;

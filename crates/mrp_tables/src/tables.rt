@@ -2,17 +2,18 @@
 
 ghost use Rattle.std.specs.Prelude.{◌≡◌, ◌≤◌, [], All, IfOk, IsOk, Ok, length};
 ghost use Rattle.mrp_rows.specs.Bundle.{text_in};
-ghost use Rattle.mrp_tables.specs.Calendar.{calendar_of};
+ghost use Rattle.mrp_tables.specs.Calendar.{calendar_of, entry_row};
+ghost use Rattle.mrp_tables.specs.declared.limits.TheConstants.{MOST_ITEMS, MOST_ROWS};
 ghost use Rattle.mrp_tables.specs.Facts.{AllDiffer, IsBillLine, IsMasterRow, IsReceipt, IsScriptRow, IsStockRow};
 ghost use Rattle.mrp_tables.specs.Laws.{IsMemoryRefusal};
-ghost use Rattle.mrp_tables.specs.Reading.{Gives, IsMemoryFault};
+ghost use Rattle.mrp_tables.specs.Reading.{Gives, IsRefusedIn};
 ghost use Rattle.mrp_tables.specs.Receipts.{orders_of};
 ghost use Rattle.mrp_tables.specs.Seen.{head_of, middle_of, tail_of};
 ghost use Rattle.mrp_tables.specs.Stock.{items_in_stock};
 ghost use Rattle.mrp_tables.specs.Tables.{head_in, middle_in, tail_in};
 
 use crate::bills::Bills;
-use crate::calendar::calendar_in;
+use crate::calendar::Entries;
 use crate::item::Item;
 use crate::items::Items;
 use crate::master::Master;
@@ -22,7 +23,7 @@ use crate::rows::{BillLine, Centre, MasterRow, Operation, Receipt, ScriptRow, St
 use crate::script::Script;
 use crate::stock::Stock;
 use mrp_cal::Calendar;
-use mrp_rows::{Cursor, Fault, Name, Sections, Table};
+use mrp_rows::{Fault, Name, Sections, Table};
 use std::alloc::Global;
 use std::marker::Model;
 
@@ -53,7 +54,7 @@ pub(crate) struct Tail {
 #[tactic(auto, unfolding(crate::specs::Tables::head_in))]
 fn read_head(alloc: Global, sections: &Sections<'_>) -> Result<Head, Fault>
     ensures head { Gives (IsMemoryRefusal sections.now) head_of result (head_in sections.now) }
-    ensures items { IfOk result (λ h. length h.items ≤ 20000) }
+    ensures items { IfOk result (λ h. length h.items ≤ MOST_ITEMS) }
     ensures centres { IfOk result (λ h. h.centres.items ≡ []) }
 {
     let calendar = read_calendar(alloc, sections)?;
@@ -67,11 +68,10 @@ fn read_head(alloc: Global, sections: &Sections<'_>) -> Result<Head, Fault>
 }
 
 fn read_calendar(alloc: Global, sections: &Sections<'_>) -> Result<Calendar, Fault>
-    ensures { Gives (IsMemoryFault Table.Calendar) (λ c. c) result
-        (calendar_of (text_in sections.now Table.Calendar)) }
+    ensures { Gives (IsRefusedIn entry_row Table.Calendar (text_in sections.now Table.Calendar))
+        (λ c. c) result (calendar_of (text_in sections.now Table.Calendar)) }
 {
-    let mut cursor = Cursor::new(alloc, sections, Table::Calendar)?;
-    calendar_in(alloc, &mut cursor)
+    read_table(alloc, sections, Table::Calendar, Entries::new(alloc))?.into_calendar()
 }
 
 #[tactic(auto, unfolding(crate::specs::Tables::middle_in))]
@@ -82,11 +82,11 @@ fn read_middle(alloc: Global, sections: &Sections<'_>, head: &Head) -> Result<Mi
     ensures stock { IfOk result (λ m. All (IsStockRow head.now.items) m.stock.items) }
     ensures stocked { IfOk result (λ m. AllDiffer (items_in_stock m.stock.items)) }
     ensures bills { IfOk result (λ m. All (IsBillLine head.now.items) m.bills.items) }
-    ensures line_count { IfOk result (λ m. length m.bills.items ≤ 100000) }
+    ensures line_count { IfOk result (λ m. length m.bills.items ≤ MOST_ROWS) }
     ensures receipts { IfOk result (λ m.
         All (IsReceipt head.now.calendar.weeks head.now.items) m.receipts.items) }
     ensures ordered { IfOk result (λ m. AllDiffer (orders_of m.receipts.items)) }
-    ensures receipt_count { IfOk result (λ m. length m.receipts.items ≤ 100000) }
+    ensures receipt_count { IfOk result (λ m. length m.receipts.items ≤ MOST_ROWS) }
 {
     let calendar = &head.calendar;
     let items = &head.items;
@@ -113,11 +113,11 @@ fn read_tail(alloc: Global, sections: &Sections<'_>, head: &Head) -> Result<Tail
         (tail_in sections.now head.now.calendar head.now.items) }
     ensures master { IfOk result (λ l.
         All (IsMasterRow head.now.calendar.weeks head.now.items) l.master.items) }
-    ensures master_count { IfOk result (λ l. length l.master.items ≤ 100000) }
+    ensures master_count { IfOk result (λ l. length l.master.items ≤ MOST_ROWS) }
     ensures routings { IfOk result (λ l. l.routings.items ≡ []) }
     ensures script { IfOk result (λ l.
         All (IsScriptRow head.now.calendar.weeks head.now.items) l.script.items) }
-    ensures script_count { IfOk result (λ l. length l.script.items ≤ 100000) }
+    ensures script_count { IfOk result (λ l. length l.script.items ≤ MOST_ROWS) }
 {
     let calendar = &head.calendar;
     let items = &head.items;
@@ -170,13 +170,13 @@ impl Tables {
     ghost use Rattle.mrp_tables.specs.Reading.{Gives};
     ghost use Rattle.mrp_tables.specs.Tables.{tables_in};
 
-    /// The tables of a bundle's sections, or their first fault: table by table, first the header
-    /// (5), then record by record what is wrong with the record (20, 6), with its cells from left to
-    /// right (7 to 11) and with what they name (12 to 19). A calendar of fewer than three records has
-    /// 6 at the first that is missing.
+    /// The tables of a bundle's sections, or their first fault: table by table, first the header,
+    /// then record by record that there are too many, their count of cells, their cells from left to
+    /// right and what these name. A calendar of fewer than three records has `COLUMNS` at the first
+    /// that is missing.
     ///
-    /// Errors: a fault, at its table and record, the header's at row 0; 22, where memory is refused,
-    /// at the table and record that are being read.
+    /// Errors: a fault, at its table and record, the header's at row 0; `NO_MEMORY` at the table and
+    /// record that are being read.
     #[tactic(auto, unfolding(crate::specs::Tables::tables_in))]
     pub fn read(alloc: Global, sections: &Sections<'_>) -> Result<Tables, Fault>
         ensures { Gives (IsMemoryRefusal sections.now) (λ t. t) result (tables_in sections.now) }
@@ -199,7 +199,7 @@ impl Tables {
         ensures rows { result.now ≡ self.now.items }
         ensures within { All IsItem result.now }
         ensures names { AllDiffer (names_of result.now) }
-        ensures count { length result.now ≤ 20000 }
+        ensures count { length result.now ≤ MOST_ITEMS }
     {
         self.head.items.as_slice()
     }
@@ -234,7 +234,7 @@ impl Tables {
         ensures rows { result.now ≡ self.now.receipts }
         ensures within { All (IsReceipt self.now.calendar.weeks self.now.items) result.now }
         ensures once { AllDiffer (orders_of result.now) }
-        ensures count { length result.now ≤ 100000 }
+        ensures count { length result.now ≤ MOST_ROWS }
     {
         self.middle.receipts.as_slice()
     }
@@ -243,7 +243,7 @@ impl Tables {
     pub fn bills(&self) -> &[BillLine]
         ensures rows { result.now ≡ self.now.bills }
         ensures within { All (IsBillLine self.now.items) result.now }
-        ensures count { length result.now ≤ 100000 }
+        ensures count { length result.now ≤ MOST_ROWS }
     {
         self.middle.bills.as_slice()
     }
@@ -260,7 +260,7 @@ impl Tables {
     pub fn master(&self) -> &[MasterRow]
         ensures rows { result.now ≡ self.now.master }
         ensures within { All (IsMasterRow self.now.calendar.weeks self.now.items) result.now }
-        ensures count { length result.now ≤ 100000 }
+        ensures count { length result.now ≤ MOST_ROWS }
     {
         self.tail.master.as_slice()
     }
@@ -269,7 +269,7 @@ impl Tables {
     pub fn script(&self) -> &[ScriptRow]
         ensures rows { result.now ≡ self.now.script }
         ensures within { All (IsScriptRow self.now.calendar.weeks self.now.items) result.now }
-        ensures count { length result.now ≤ 100000 }
+        ensures count { length result.now ≤ MOST_ROWS }
     {
         self.tail.script.as_slice()
     }

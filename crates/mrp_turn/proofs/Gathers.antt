@@ -8,7 +8,7 @@ use Rattle.mrp_turn.specs.declared.views.LiveSeat.{LiveSeat}
 use Rattle.mrp_turn.specs.Lists.{Each, total, Has, StartsWith}
 use Rattle.mrp_turn.specs.Log.{entries_by, AreFrom, LeadsTo}
 use Rattle.mrp_turn.specs.Rule.{live, account, alone, is_named, IsTrueOf}
-use Rattle.mrp_turn.specs.Steps.{joined, Lost, Taken}
+use Rattle.mrp_turn.specs.Steps.{joined, IsIdle, Lost, Taken}
 use Rattle.mrp_turn.specs.Seen.{TurnId, Seated, HasNumber}
 use Rattle.mrp_turn.specs.Calls.{StandsFor}
 use Rattle.mrp_turn.proofs.Lists.{Each-map, Each-append, All-from_Each}
@@ -45,20 +45,24 @@ named (q ∷ qs) p n h e = ⊎_elim
 
 module _ {O S C R : Type 0} where
   pub begins : (key : About O) (x : Seated O C R) (m : M O S C R) → m ≡ (live (alone x.turn.about (account x.number x.seen x.mine)), []) → 1 ≤ x.number → x.turn.about ≡ key → StandsFor key (x ∷ []) m
-  begins key x m e one k = (alone x.turn.about (account x.number x.seen x.mine), e, refl, k, one, (inl refl, tt))
+  begins key x m e one k = record { seat = alone x.turn.about (account x.number x.seen x.mine); is = e; rests = refl; about = k; numbered = one; all = (inl refl, tt) }
 
   pub gathers : (key key' : About O) (first x : Seated O C R) (done : List (Seated O C R)) (m n m' : M O S C R) → StandsFor key (first ∷ done) m → n ≡ (live (alone key' (account x.number x.seen x.mine)), [])
       → m' ≡ (joined m.0 n.0, m.1) → StandsFor key (first ∷ x ∷ done) m'
-  gathers key key' first x done m n m' h e is = let s : LiveSeat O C R = h.0 in let own : Account C R = account x.number x.seen x.mine in let ps : List (Account C R) = s.own ∷ s.kept in
+  gathers key key' first x done m n m' h e is = let s : LiveSeat O C R = h.seat in let own : Account C R = account x.number x.seen x.mine in let ps : List (Account C R) = s.own ∷ s.kept in
       let w : LiveSeat O C R = record s { kept = s.kept ++ own ∷ [] } in
-      let more : (y : Seated O C R) → Has ps (account y.number y.seen y.mine) → Has (ps ++ own ∷ []) (account y.number y.seen y.mine) = λ y k. Has-left ps (own ∷ []) (account y.number y.seen y.mine) k in (
-        w,
-        is ∙ (λ i. (joined (h.1 i).0 (e i).0, (h.1 i).1)),
-        h.2,
-        h.3,
-        h.4,
-        (more first h.5.0, (Has-right ps (own ∷ []) own (inl refl), Each-map (λ y. Has ps (account y.number y.seen y.mine)) (λ y. Has (ps ++ own ∷ []) (account y.number y.seen y.mine)) done more h.5.1)),
-      )
+      let more : (y : Seated O C R) → Has ps (account y.number y.seen y.mine) → Has (ps ++ own ∷ []) (account y.number y.seen y.mine) = λ y k. Has-left ps (own ∷ []) (account y.number y.seen y.mine) k in record {
+        seat = w;
+        is = is ∙ (λ i. (joined (h.is i).0 (e i).0, (h.is i).1));
+        rests = h.rests;
+        about = h.about;
+        numbered = h.numbered;
+        all = (more first h.all.0, (Has-right ps (own ∷ []) own (inl refl), Each-map (λ y. Has ps (account y.number y.seen y.mine)) (λ y. Has (ps ++ own ∷ []) (account y.number y.seen y.mine)) done more h.all.1));
+      }
+
+  -- such a seat is idle
+  pub idles : (key : About O) (seats : List (Seated O C R)) (m : M O S C R) → StandsFor key seats m → IsIdle key m
+  idles key seats m h = record { seat = h.seat; is = h.is; rests = h.rests; about = h.about; numbered = h.numbered }
 
 module _ {O C R : Type 0} where
   -- the seat that was popped is of the turn that all seats are of
@@ -89,23 +93,23 @@ module _ {O S C R : Type 0} (opens : O → S → Type 0) (answers : O → S → 
   -- the seat that keeps all seats can't lose
   pub never_lost : (key : About O) (seats rest : List (Seated O C R)) (first : Seated O C R) (m n : M O S C R) → seats ≡ rest ++ first ∷ [] → StandsFor key (first ∷ rest) m
       → ((n : ℕ) → 1 ≤ n → n ≤ key.seats → (x : Seated O C R) × Has seats x × (x.number ≡ n)) → Lost opens answers m n → ⊥
-  never_lost key seats rest first m n e h all lost = lost.1 h.0 h.1 (λ k one most.
-      let x = all k one (subst (λ (a : About O). k ≤ a.seats) h.3 most) in
+  never_lost key seats rest first m n e h all lost = lost.1 h.seat h.is (λ k one most.
+      let x = all k one (subst (λ (a : About O). k ≤ a.seats) h.about most) in
       let there : Has (first ∷ rest) x.0 = last_first rest first x.0 (subst (λ (l : List (Seated O C R)). Has l x.0) e x.1) in
-      let kept : Has (h.0.own ∷ h.0.kept) (account x.0.number x.0.seen x.0.mine) = Each-Has (λ y. Has (h.0.own ∷ h.0.kept) (account y.number y.seen y.mine)) (first ∷ rest) x.0 h.5 there in
-      named (h.0.own ∷ h.0.kept) (account x.0.number x.0.seen x.0.mine) k kept x.2)
+      let kept : Has (h.seat.own ∷ h.seat.kept) (account x.0.number x.0.seen x.0.mine) = Each-Has (λ y. Has (h.seat.own ∷ h.seat.kept) (account y.number y.seen y.mine)) (first ∷ rest) x.0 h.all there in
+      named (h.seat.own ∷ h.seat.kept) (account x.0.number x.0.seen x.0.mine) k kept x.2)
 
   -- what the take then tells, of the log that is given back
   pub closes : (key : About O) (seats rest : List (Seated O C R)) (first : Seated O C R) (m n : M O S C R) (held : Held S C R) (log : List (Entry C R)) → seats ≡ rest ++ first ∷ [] → log ≡ held.log.items
       → StandsFor key (first ∷ rest) m → Taken opens answers m held n → ((n : ℕ) → 1 ≤ n → n ≤ key.seats → HasNumber seats n)
       → Closed (opens key.object) (answers key.object) key.seats seats log held.state
   closes key seats rest first m n held log shape same h taken all =
-      let t = taken h.0 h.1 in let found : List (Entry C R) = t.0 in let ps : List (Account C R) = h.0.own ∷ h.0.kept in
+      let t = taken h.seat h.is in let found : List (Entry C R) = t.0 in let ps : List (Account C R) = h.seat.own ∷ h.seat.kept in
       let is : found ≡ log = sym t.2.0 ∙ sym same in
-      let each : Each (λ x. IsTrueOf found (account x.number x.seen x.mine)) (first ∷ rest) = Each-map (λ x. Has ps (account x.number x.seen x.mine)) (λ x. IsTrueOf found (account x.number x.seen x.mine)) (first ∷ rest) (λ x k. Each-Has (IsTrueOf found) ps (account x.number x.seen x.mine) t.2.4 k) h.5 in
+      let each : Each (λ x. IsTrueOf found (account x.number x.seen x.mine)) (first ∷ rest) = Each-map (λ x. Has ps (account x.number x.seen x.mine)) (λ x. IsTrueOf found (account x.number x.seen x.mine)) (first ∷ rest) (λ x k. Each-Has (IsTrueOf found) ps (account x.number x.seen x.mine) t.2.4 k) h.all in
       let told : Each (λ x. IsTrueOf log (account x.number x.seen x.mine)) seats = subst (λ (x : List (Seated O C R) × List (Entry C R)). Each (λ y. IsTrueOf x.1 (account y.number y.seen y.mine)) x.0) (λ i. (sym shape i, is i)) (Each-append (λ x. IsTrueOf found (account x.number x.seen x.mine)) rest (first ∷ []) each.1 (each.0, tt)) in
-      let from : AreFrom key.seats log = subst (λ (x : About O × List (Entry C R)). AreFrom x.0.seats x.1) (λ i. (h.3 i, is i)) t.2.3 in record {
-        legal = subst (λ (x : About O × List (Entry C R)). LeadsTo (answers x.0.object) (opens x.0.object) x.1 held.state) (λ i. (h.3 i, is i)) t.2.1;
+      let from : AreFrom key.seats log = subst (λ (x : About O × List (Entry C R)). AreFrom x.0.seats x.1) (λ i. (h.about i, is i)) t.2.3 in record {
+        legal = subst (λ (x : About O × List (Entry C R)). LeadsTo (answers x.0.object) (opens x.0.object) x.1 held.state) (λ i. (h.about i, is i)) t.2.1;
         seen = All-from_Each (λ x. StartsWith log x.seen) seats (Each-map (λ x. IsTrueOf log (account x.number x.seen x.mine)) (λ x. StartsWith log x.seen) seats (λ x k. k.0) told);
         mine = All-from_Each (λ x. x.mine ≡ entries_by x.number log) seats (Each-map (λ x. IsTrueOf log (account x.number x.seen x.mine)) (λ x. x.mine ≡ entries_by x.number log) seats (λ x k. k.1) told);
         in_range = All-from_Each (λ e. (1 ≤ e.who) × (e.who ≤ key.seats)) log from;

@@ -16,7 +16,7 @@ use Rattle.mrp_turn.specs.declared.views.View.{View}
 use Rattle.mrp_turn.specs.declared.views.View.TheVariants.{Spent, Live}
 use Rattle.mrp_turn.specs.Lists.{Each, total}
 use Rattle.mrp_turn.specs.Log.{AreFrom, LeadsTo}
-use Rattle.mrp_turn.specs.Rule.{live, account, blanks, is_named, names, is_holder, seen_of, IsTrueOf, Knows, starting, Busy, FollowsRule}
+use Rattle.mrp_turn.specs.Rule.{live, account, blanks, is_named, names, is_holder, seen_of, IsTrueOf, Knows, starting, Free, Busy, FollowsRule}
 use Rattle.mrp_turn.specs.Steps.{holding, given, behind_first, first_seat, cut_left, cut_right, noted, joined, took, gave, looked}
 use Rattle.mrp_turn.proofs.Lists.{stays, only, inside, starts_all, Each-append, Each-map, total-append, total-set, term_le, terms_le}
 use Rattle.mrp_turn.proofs.Names.{is_named-self, apart, unnamed, notes_unnamed, blanks_above, blanks_once, blanks_true, note_none, all_true_more}
@@ -60,15 +60,32 @@ module _ {O S C R : Type 0} (opens : O → S → Type 0) (answers : O → S → 
     knows = only (Knows key []) (starting key) (refl, ((([], refl), refl), blanks_true C R 1 key.seats));
     once = λ n l u. let t : total (is_named n) (blanks {C = C} {R = R} 1 key.seats) ≡ 1 = blanks_once C R 1 key.seats n l (omega arith) in omega (arith, t, gap n l);
     no_more = λ n l. let t : total (is_named n) (blanks {C = C} {R = R} 1 key.seats) ≡ 0 = blanks_above C R 1 key.seats n (omega arith) in omega (arith, t, gap n (omega arith));
-    word = inl (refl, (held, refl, (empty, refl, room), only (λ (v : V). is_holder v ≡ false) (starting key) refl));
+    word = inl (
+      refl,
+      record {
+        held = held;
+        at_home = refl;
+        stores = record { log_is = empty; state_is = refl; room = room };
+        idle = only (λ (v : V). is_holder v ≡ false) (starting key) refl;
+      },
+    );
   }
 
-  holder_is : (st : St) (log : List (Entry C R)) (id : ℕ) (s : LiveSeat O C R) → s.holds ≡ true → get_elem? st.views id ≡ some (live s) → (b : Busy log st) → (id ≡ b.0) × (live s ≡ live b.1)
-  holder_is st log id s h at b = let same : id ≡ b.0 = b.6 id (live s) at h in (same, some-injective (live s) (live b.1) (sym at ∙ (ap (λ j. get_elem? st.views j) same ∙ b.2)))
+  holder_is : (st : St) (log : List (Entry C R)) (id : ℕ) (s : LiveSeat O C R) → s.holds ≡ true → get_elem? st.views id ≡ some (live s) → (b : Busy log st) → (id ≡ b.holder) × (live s ≡ live b.seat)
+  holder_is st log id s h at b = let same : id ≡ b.holder = b.no_other id (live s) at h in (same, some-injective (live s) (live b.seat) (sym at ∙ (ap (λ j. get_elem? st.views j) same ∙ b.there)))
 
-  not_here : (st : St) (log : List (Entry C R)) (id : ℕ) (v : V) → is_holder v ≡ false → get_elem? st.views id ≡ some v → (b : Busy log st) → b.0 ≢ id
-  not_here st log id v idle at b e = let there : get_elem? st.views id ≡ some (live b.1) = ap (λ j. get_elem? st.views j) (sym e) ∙ b.2 in
-      true≢false (sym b.3 ∙ (ap is_holder (some-injective (live b.1) v (sym there ∙ at)) ∙ idle))
+  not_here : (st : St) (log : List (Entry C R)) (id : ℕ) (v : V) → is_holder v ≡ false → get_elem? st.views id ≡ some v → (b : Busy log st) → b.holder ≢ id
+  not_here st log id v idle at b e = let there : get_elem? st.views id ≡ some (live b.seat) = ap (λ j. get_elem? st.views j) (sym e) ∙ b.there in
+      true≢false (sym b.holds ∙ (ap is_holder (some-injective (live b.seat) v (sym there ∙ at)) ∙ idle))
+
+  -- the slot stays at home where the views change, if no seat holds it
+  still_free : (st : St) (views : List V) {key : About O} {log : List (Entry C R)} {state : S} → (free : Free key log state st) → ((j : ℕ) (v : V) → get_elem? views j ≡ some v → is_holder v ≡ false)
+      → Free key log state (record { words = st.words; homes = st.homes; views = views })
+  still_free st views free idle = record { held = free.held; at_home = free.at_home; stores = free.stores; idle = idle }
+
+  -- who holds the slot is told by the views alone
+  still_busy : (st : St) (words : List ℕ) {log : List (Entry C R)} → (b : Busy log st) → Busy log (record { words = words; homes = st.homes; views = st.views })
+  still_busy st words b = record { holder = b.holder; seat = b.seat; there = b.there; holds = b.holds; seen = b.seen; numbered = b.numbered; no_other = b.no_other }
 
   first_idle : (a : About O) (ps : List (Account C R)) → is_holder (first_seat a ps) ≡ false
   first_idle a [] = refl
@@ -93,10 +110,10 @@ module _ {O S C R : Type 0} (opens : O → S → Type 0) (answers : O → S → 
       let marked : get_or (set st.words 0 now) 0 0 ≡ now = get_or-set_same st.words 0 now 0 (omega (arith, r.one_word)) in
       let is_marked : get_or (set st.words 0 now) 0 0 ≢ 0 = λ (e : get_or (set st.words 0 now) 0 0 ≡ 0). absurd (omega (arith, marked, e, some_mark)) in
       ⊎_elim
-      (λ free. let held : Held S C R = free.1.0 in let stores = free.1.2 in let w : V = live (holding s r.log) in (
+      (λ free. let held : Held S C R = free.1.held in let stores = free.1.stores in let w : V = live (holding s r.log) in (
         w,
         takes 0 (Some held),
-        free.1.1,
+        free.1.at_home,
         record {
           log = r.log;
           state = r.state;
@@ -108,15 +125,15 @@ module _ {O S C R : Type 0} (opens : O → S → Type 0) (answers : O → S → 
           no_more = λ n l. omega (arith, total-set (names n) st.views id (live s) w at, r.no_more n l);
           word = inr (
             is_marked,
-            (
-              id,
-              holding s r.log,
-              set_here st.views id w (inside st.views id (live s) at),
-              refl,
-              refl,
-              numbered,
-              λ j v e h. ⊎_elim (λ (t : (j ≡ id) × (w ≡ v)). t.0) (λ (t : (j ≢ id) × (get_elem? st.views j ≡ some v)). absurd (true≢false (sym h ∙ free.1.3 j v t.1))) (at_set st.views id j w v e),
-            ),
+            record {
+              holder = id;
+              seat = holding s r.log;
+              there = set_here st.views id w (inside st.views id (live s) at);
+              holds = refl;
+              seen = refl;
+              numbered = numbered;
+              no_other = λ j v e h. ⊎_elim (λ (t : (j ≡ id) × (w ≡ v)). t.0) (λ (t : (j ≢ id) × (get_elem? st.views j ≡ some v)). absurd (true≢false (sym h ∙ free.1.idle j v t.1))) (at_set st.views id j w v e);
+            },
           );
         },
         (
@@ -125,9 +142,9 @@ module _ {O S C R : Type 0} (opens : O → S → Type 0) (answers : O → S → 
             r.log,
             refl,
             (
-              stores.0,
-              subst (λ (x : S). LeadsTo (answers s.about.object) (opens s.about.object) r.log x) (sym stores.1) (subst (λ (k : About O). LeadsTo (answers k.object) (opens k.object) r.log r.state) (sym about) r.legal),
-              subst (λ (k : About O). k.room ≤ vec_capacity held.log) (sym about) stores.2,
+              stores.log_is,
+              subst (λ (x : S). LeadsTo (answers s.about.object) (opens s.about.object) r.log x) (sym stores.state_is) (subst (λ (k : About O). LeadsTo (answers k.object) (opens k.object) r.log r.state) (sym about) r.legal),
+              subst (λ (k : About O). k.room ≤ vec_capacity held.log) (sym about) stores.room,
               subst (λ (k : About O). AreFrom k.seats r.log) (sym about) r.numbered,
               known.1,
             ),
@@ -148,22 +165,22 @@ module _ {O S C R : Type 0} (opens : O → S → Type 0) (answers : O → S → 
           knows = r.knows;
           once = r.once;
           no_more = r.no_more;
-          word = inr (is_marked, b);
+          word = inr (is_marked, still_busy st (set st.words 0 now) b);
         }),
         (
           (λ z. absurd (full z)),
           λ _. (
             refl,
-            λ covers. dite (ℕ_discrete b.0 id)
-                (λ same. let there : get_elem? st.views id ≡ some (live b.1) = ap (λ j. get_elem? st.views j) (sym same) ∙ b.2 in
-                let e : live s ≡ live b.1 = some-injective (live s) (live b.1) (sym at ∙ there) in
-                true≢false (sym b.3 ∙ (ap is_holder (sym e) ∙ idle)))
-                (λ other. let n : ℕ = b.1.own.number in
-                let theirs : is_named n b.1.own ≡ 1 = is_named-self b.1.own n refl in
-                let both : names n (live s) + names n (live b.1) ≤ total (names n) st.views = terms_le (names n) st.views id b.0 (live s) (live b.1) other at b.2 in
-                let one_of : 1 ≤ n = b.5 in
-                let rest : ℕ = total (is_named n) b.1.kept in
-                let split : names n (live b.1) ≡ is_named n b.1.own + rest = refl in
+            λ covers. dite (ℕ_discrete b.holder id)
+                (λ same. let there : get_elem? st.views id ≡ some (live b.seat) = ap (λ j. get_elem? st.views j) (sym same) ∙ b.there in
+                let e : live s ≡ live b.seat = some-injective (live s) (live b.seat) (sym at ∙ there) in
+                true≢false (sym b.holds ∙ (ap is_holder (sym e) ∙ idle)))
+                (λ other. let n : ℕ = b.seat.own.number in
+                let theirs : is_named n b.seat.own ≡ 1 = is_named-self b.seat.own n refl in
+                let both : names n (live s) + names n (live b.seat) ≤ total (names n) st.views = terms_le (names n) st.views id b.holder (live s) (live b.seat) other at b.there in
+                let one_of : 1 ≤ n = b.numbered in
+                let rest : ℕ = total (is_named n) b.seat.kept in
+                let split : names n (live b.seat) ≡ is_named n b.seat.own + rest = refl in
                 dite (dec_le n key.seats)
                 (λ few. let mine : 1 ≤ names n (live s) = covers n one_of (subst (λ (k : About O). n ≤ k.seats) (sym about) few) in absurd (omega (arith, theirs, both, mine, r.once n one_of few)))
                 (λ many. absurd (omega (arith, theirs, both, r.no_more n (omega (arith, many)))))),
@@ -181,10 +198,10 @@ module _ {O S C R : Type 0} (opens : O → S → Type 0) (answers : O → S → 
       let about = known.0 in
       let n : ℕ = s.own.number in
       let log : List (Entry C R) = held.log.items in
-      let b : Busy r.log st = ⊎_elim (λ free. absurd (true≢false (sym holds ∙ free.1.3 id (live s) at))) (λ busy. busy.1) r.word in
+      let b : Busy r.log st = ⊎_elim (λ free. absurd (true≢false (sym holds ∙ free.1.idle id (live s) at))) (λ busy. busy.1) r.word in
       let h = holder_is st r.log id s holds at b in
-      let seen : s.own.seen ≡ r.log = ap seen_of h.1 ∙ b.4 in
-      let from_one : 1 ≤ n = subst (λ (v : V). 1 ≤ number_of v) (sym h.1) b.5 in
+      let seen : s.own.seen ≡ r.log = ap seen_of h.1 ∙ b.seen in
+      let from_one : 1 ≤ n = subst (λ (v : V). 1 ≤ number_of v) (sym h.1) b.numbered in
       let log_is : r.log ++ new ≡ log = sym (grows ∙ ap (λ x. x ++ new) seen) in
       let own : is_named n s.own ≡ 1 = is_named-self s.own n refl in
       let w : V = live (given s log) in
@@ -207,12 +224,12 @@ module _ {O S C R : Type 0} (opens : O → S → Type 0) (answers : O → S → 
           no_more = λ m l. omega (arith, total-set (names m) st.views id (live s) w at, r.no_more m l, same_names m (omega arith));
           word = inl (
             get_or-set_same st.words 0 0 0 (omega (arith, r.one_word)),
-            (
-              held,
-              set_here st.homes 0 (some (Some held)) (omega arith),
-              (refl, refl, subst (λ (k : About O). k.room ≤ vec_capacity held.log) about room),
-              stays (λ (v : V). is_holder v ≡ false) st.views id w refl (λ j v ne e. not_true (is_holder v) (λ t. ne (b.6 j v e t ∙ sym h.0))),
-            ),
+            record {
+              held = held;
+              at_home = set_here st.homes 0 (some (Some held)) (omega arith);
+              stores = record { log_is = refl; state_is = refl; room = subst (λ (k : About O). k.room ≤ vec_capacity held.log) about room };
+              idle = stays (λ (v : V). is_holder v ≡ false) st.views id w refl (λ j v ne e. not_true (is_holder v) (λ t. ne (b.no_other j v e t ∙ sym h.0)));
+            },
           );
         },
         refl,
@@ -240,22 +257,22 @@ module _ {O S C R : Type 0} (opens : O → S → Type 0) (answers : O → S → 
         once = λ n l u. counts n l ∙ r.once n l u;
         no_more = λ n l. counts n (omega arith) ∙ r.no_more n l;
         word = ⊎_elim
-            (λ free. inl (free.0, (free.1.0, free.1.1, free.1.2, each (λ x. is_holder x ≡ false) idle_left idle_right free.1.3)))
-            (λ busy. let b : Busy r.log st = busy.1 in let other : b.0 ≢ id = not_here st r.log id v idle at b in
+            (λ free. inl (free.0, still_free st new free.1 (each (λ x. is_holder x ≡ false) idle_left idle_right free.1.idle)))
+            (λ busy. let b : Busy r.log st = busy.1 in let other : b.holder ≢ id = not_here st r.log id v idle at b in
             inr (
               busy.0,
-              (
-                b.0,
-                b.1,
-                at_longer vs (right ∷ []) b.0 (live b.1) (set_else st.views id b.0 left other ∙ b.2),
-                b.3,
-                b.4,
-                b.5,
-                λ j x e h. ⊎_elim
+              record {
+                holder = b.holder;
+                seat = b.seat;
+                there = at_longer vs (right ∷ []) b.holder (live b.seat) (set_else st.views id b.holder left other ∙ b.there);
+                holds = b.holds;
+                seen = b.seen;
+                numbered = b.numbered;
+                no_other = λ j x e h. ⊎_elim
                     (λ (t : get_elem? vs j ≡ some x). ⊎_elim (λ (u : (j ≡ id) × (left ≡ x)). absurd (true≢false (sym h ∙ (ap is_holder (sym u.1) ∙ idle_left))))
-                    (λ (u : (j ≢ id) × (get_elem? st.views j ≡ some x)). b.6 j x u.1 h) (at_set st.views id j left x t))
-                    (λ (t : right ≡ x). absurd (true≢false (sym h ∙ (ap is_holder (sym t) ∙ idle_right)))) (at_snoc vs right x j e),
-              ),
+                    (λ (u : (j ≢ id) × (get_elem? st.views j ≡ some x)). b.no_other j x u.1 h) (at_set st.views id j left x t))
+                    (λ (t : right ≡ x). absurd (true≢false (sym h ∙ (ap is_holder (sym t) ∙ idle_right)))) (at_snoc vs right x j e);
+              },
             ))
             r.word;
       }
@@ -293,23 +310,23 @@ module _ {O S C R : Type 0} (opens : O → S → Type 0) (answers : O → S → 
         once = λ n l u. counts n ∙ r.once n l u;
         no_more = λ n l. counts n ∙ r.no_more n l;
         word = ⊎_elim
-            (λ free. inl (free.0, (free.1.0, free.1.1, free.1.2, each (λ x. is_holder x ≡ false) idle refl free.1.3)))
+            (λ free. inl (free.0, still_free st new free.1 (each (λ x. is_holder x ≡ false) idle refl free.1.idle)))
             (λ busy. let b : Busy r.log st = busy.1 in
-            let here : b.0 ≢ id = not_here st r.log id (live s) idle at b in
-            let away : b.0 ≢ other = not_here st r.log other (live t) idle_other was b in
+            let here : b.holder ≢ id = not_here st r.log id (live s) idle at b in
+            let away : b.holder ≢ other = not_here st r.log other (live t) idle_other was b in
             inr (
               busy.0,
-              (
-                b.0,
-                b.1,
-                set_else vs other b.0 Spent away ∙ (set_else st.views id b.0 both here ∙ b.2),
-                b.3,
-                b.4,
-                b.5,
-                λ j x e h. ⊎_elim (λ (u : (j ≡ other) × (Spent ≡ x)). absurd (true≢false (sym h ∙ ap is_holder (sym u.1))))
+              record {
+                holder = b.holder;
+                seat = b.seat;
+                there = set_else vs other b.holder Spent away ∙ (set_else st.views id b.holder both here ∙ b.there);
+                holds = b.holds;
+                seen = b.seen;
+                numbered = b.numbered;
+                no_other = λ j x e h. ⊎_elim (λ (u : (j ≡ other) × (Spent ≡ x)). absurd (true≢false (sym h ∙ ap is_holder (sym u.1))))
                     (λ (u : (j ≢ other) × (get_elem? vs j ≡ some x)). ⊎_elim (λ (q : (j ≡ id) × (both ≡ x)). absurd (true≢false (sym h ∙ (ap is_holder (sym q.1) ∙ idle))))
-                    (λ (q : (j ≢ id) × (get_elem? st.views j ≡ some x)). b.6 j x q.1 h) (at_set st.views id j both x u.1)) (at_set vs other j Spent x e),
-              ),
+                    (λ (q : (j ≢ id) × (get_elem? st.views j ≡ some x)). b.no_other j x q.1 h) (at_set st.views id j both x u.1)) (at_set vs other j Spent x e);
+              },
             ))
             r.word;
       }

@@ -22,9 +22,9 @@ module _ {O S C R : Type 0} where
   rests key n m seen mine e = e ∙ ap (λ (x : M O S C R). (live (alone key (account n (seen_of x.0) (mine_of x.0))), [])) (sym e)
 
   pub is_seat : (key : About O) (n : ℕ) (m : M O S C R) (seen mine : List (Entry C R)) → m ≡ (live (alone key (account n seen mine)), []) → (key' : About O) → key ≡ key' → IsAt key' n m
-  is_seat key n m seen mine e key' k = (alone key (account n seen mine), e, refl, k, refl, tt)
+  is_seat key n m seen mine e key' k = record { seat = alone key (account n seen mine); is = e; rests = refl; about = k; number = refl; notes = tt }
 
-module _ {O S C R E : Type 0} (opens : O → S → Type 0) (answers : O → S → ℕ → C → R → S → Type 0) (refuses : O → S → ℕ → C → E → Type 0) (wants_memory : C → E → Type 0) where
+module _ {O S C R E : Type 0} (opens : O → S → Type 0) (answers : O → S → ℕ → C → R → S → Type 0) (refuses wants_memory : O → S → ℕ → C → E → Type 0) where
   abbrev seated : TurnId O → ℕ → List (Entry C R) → List (Entry C R) → Seated O C R
   seated turn n seen mine = record { turn = turn; number = n; seen = seen; mine = mine }
 
@@ -47,7 +47,7 @@ module _ {O S C R : Type 0} where
   joined_is s n m key key' own seen e f is = is ∙ (λ i. (joined (e i).0 (f i).0, (e i).1))
 
   pub is_noting : (key : About O) (own : Account C R) (m : M O S C R) (seen : List (Entry C R)) → m ≡ (live (noting key own seen), []) → (key' : About O) → key ≡ key' → IsAt key' own.number m
-  is_noting key own m seen e key' k = (noting key own seen, e, refl, k, refl, (refl, tt))
+  is_noting key own m seen e key' k = record { seat = noting key own seen; is = e; rests = refl; about = k; number = refl; notes = (refl, tt) }
 
   pub met : (m : M O S C R) (key : About O) (n : ℕ) (seen mine theirs theirs' : List (Entry C R)) → m ≡ (live (alone key (account n seen mine)), []) → theirs ≡ theirs' → StartsWith seen theirs → StartsWith (seen_of m.0) theirs'
   met m key n seen mine theirs theirs' e t h = subst (λ (x : M O S C R × List (Entry C R)). StartsWith (seen_of x.0.0) x.1) (λ i. (sym e i, t i)) h

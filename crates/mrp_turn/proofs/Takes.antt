@@ -22,15 +22,15 @@ module _ {O S C R : Type 0} (opens : O → S → Type 0) (answers : O → S → 
   pub told : (m n : M) (found : ℕ) → TookFrom opens answers m.0 m.1 found n → (s : LiveSeat O C R) → m ≡ (live s, []) → TookFrom opens answers (live s) [] found n
   told m n found h s e = subst (λ (x : M). TookFrom opens answers x.0 x.1 found n) e h
 
-  pub lost : (key : About O) (m n : M) (found : ℕ) → TookFrom opens answers m.0 m.1 found n → found ≢ 0 → IsIdle opens answers key m → Lost opens answers m n
-  lost key m n found h ne idle = (((told m n found h idle.0 idle.1).1 ne).0 ∙ sym idle.1, λ s e. ((told m n found h s e).1 ne).1)
+  pub lost : (key : About O) (m n : M) (found : ℕ) → TookFrom opens answers m.0 m.1 found n → found ≢ 0 → IsIdle key m → Lost opens answers m n
+  lost key m n found h ne idle = (((told m n found h idle.seat idle.is).1 ne).0 ∙ sym idle.is, λ s e. ((told m n found h s e).1 ne).1)
 
   pub won : (m n : M) (found : ℕ) → TookFrom opens answers m.0 m.1 found n → found ≡ 0 → (s : LiveSeat O C R) → m ≡ (live s, []) → Won opens answers s [] n
   won m n found h z s e = (told m n found h s e).0 z
 
-  pub takes_out : (key : About O) (m n n' : M) (result : Home) → ((s : LiveSeat O C R) → m ≡ (live s, []) → Won opens answers s [] n) → IsIdle opens answers key m
+  pub takes_out : (key : About O) (m n n' : M) (result : Home) → ((s : LiveSeat O C R) → m ≡ (live s, []) → Won opens answers s [] n) → IsIdle key m
       → n.1 ≡ (0, result) ∷ rest n.1 → n' ≡ (n.0, (0, None) ∷ rest n.1) → MatchOption result (Lost opens answers m n') (λ held. Taken opens answers m held n')
-  takes_out key m n n' None w idle e e' = let h = w idle.0 idle.1 in let f : Some h.0 ≡ None = sym (ap (λ (x : M). first_or x.1) h.2) ∙ ap first_or e in cc
+  takes_out key m n n' None w idle e e' = let h = w idle.seat idle.is in let f : Some h.0 ≡ None = sym (ap (λ (x : M). first_or x.1) h.2) ∙ ap first_or e in cc
   takes_out key m n n' (Some held) w idle e e' = λ s is. let h = w s is in
       let f : Some h.0 ≡ Some held = sym (ap (λ (x : M). first_or x.1) h.2) ∙ ap first_or e in
       let same : h.0 ≡ held = cc in

@@ -70,20 +70,28 @@ alone key own = record { about = key; own = own; kept = []; holds = false }
 abbrev pub starting : {O C R : Type 0} → About O → View O C R
 starting key = live (record { about = key; own = account 0 [] []; kept = blanks 1 key.seats; holds = false })
 
-module _ {O S C R : Type 0} where
-  -- the value has the log and the state, and as many places as were reserved
-  abbrev pub Stores : About O → List (Entry C R) → S → Held S C R → Type 0
-  Stores key log state held = (held.log.items ≡ log) × (held.state ≡ state) × (key.room ≤ vec_capacity held.log)
+-- the value has the log and the state, and as many places as were reserved
+pub record Stores {O S C R : Type 0} (key : About O) (log : List (Entry C R)) (state : S) (held : Held S C R) : Type 0 where
+  pub log_is : held.log.items ≡ log
+  pub state_is : held.state ≡ state
+  pub room : key.room ≤ vec_capacity held.log
 
-  -- the slot is at home, and no seat holds it
-  abbrev pub Free : About O → List (Entry C R) → S → State (Option (Held S C R)) (View O C R) → Type 0
-  Free key log state s = (held : Held S C R) × (get_elem? s.homes 0 ≡ some (some (Some held))) × Stores key log state held
-      × ((j : ℕ) (v : View O C R) → get_elem? s.views j ≡ some v → is_holder v ≡ false)
+-- the slot is at home with the log and the state, and no seat holds it
+pub record Free {O S C R : Type 0} (key : About O) (log : List (Entry C R)) (state : S) (s : State (Option (Held S C R)) (View O C R)) : Type 0 where
+  pub held : Held S C R
+  pub at_home : get_elem? s.homes 0 ≡ some (some (Some held))
+  pub stores : Stores key log state held
+  pub idle : (j : ℕ) (v : View O C R) → get_elem? s.views j ≡ some v → is_holder v ≡ false
 
-  -- one seat alone holds the slot. It is no note, and has seen the whole log
-  abbrev pub Busy : List (Entry C R) → State (Option (Held S C R)) (View O C R) → Type 0
-  Busy log s = (holder : ℕ) × (w : LiveSeat O C R) × (get_elem? s.views holder ≡ some (live w)) × (w.holds ≡ true) × (w.own.seen ≡ log) × (1 ≤ w.own.number)
-      × ((j : ℕ) (v : View O C R) → get_elem? s.views j ≡ some v → is_holder v ≡ true → j ≡ holder)
+-- one seat alone holds the slot. It is no note, and has seen the whole log
+pub record Busy {O S C R : Type 0} (log : List (Entry C R)) (s : State (Option (Held S C R)) (View O C R)) : Type 0 where
+  pub holder : ℕ
+  pub seat : LiveSeat O C R
+  pub there : get_elem? s.views holder ≡ some (live seat)
+  pub holds : seat.holds ≡ true
+  pub seen : seat.own.seen ≡ log
+  pub numbered : 1 ≤ seat.own.number
+  pub no_other : (j : ℕ) (v : View O C R) → get_elem? s.views j ≡ some v → is_holder v ≡ true → j ≡ holder
 
 -- Between any two steps there is a log, which is legal and leads to a state, and
 pub record FollowsRule {O S C R : Type 0} (opens : O → S → Type 0) (answers : O → S → ℕ → C → R → S → Type 0) (key : About O) (s : State (Option (Held S C R)) (View O C R)) : Type 0 where

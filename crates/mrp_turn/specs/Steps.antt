@@ -87,11 +87,15 @@ module _ {O S C R : Type 0} where
   abbrev pub gave : Step (Option (Held S C R)) → Me (Option (Held S C R)) (View O C R) → ℕ → Me (Option (Held S C R)) (View O C R) → Type 0
   gave st m r n = GaveFrom m.0 m.1 n
 
-module _ {O S C R : Type 0} (opens : O → S → Type 0) (answers : O → S → ℕ → C → R → S → Type 0) where
-  -- a seat that holds nothing, and is no note
-  abbrev pub IsIdle : About O → Me (Option (Held S C R)) (View O C R) → Type 0
-  IsIdle key m = (s : LiveSeat O C R) × (m ≡ (live s, [])) × (s.holds ≡ false) × (s.about ≡ key) × (1 ≤ s.own.number)
+-- a seat that holds nothing, and is no note
+pub record IsIdle {O S C R : Type 0} (key : About O) (m : Me (Option (Held S C R)) (View O C R)) : Type 0 where
+  pub seat : LiveSeat O C R
+  pub is : m ≡ (live seat, [])
+  pub rests : seat.holds ≡ false
+  pub about : seat.about ≡ key
+  pub numbered : 1 ≤ seat.own.number
 
+module _ {O S C R : Type 0} (opens : O → S → Type 0) (answers : O → S → ℕ → C → R → S → Type 0) where
   -- the seat has taken the slot, and the value out of it
   abbrev pub Taken : Me (Option (Held S C R)) (View O C R) → Held S C R → Me (Option (Held S C R)) (View O C R) → Type 0
   Taken m held n = (s : LiveSeat O C R) → m ≡ (live s, []) → (log : List (Entry C R)) × (n ≡ (live (holding s log), (0, None) ∷ [])) × Opens opens answers s held log

@@ -78,9 +78,9 @@ impl<O: Object> Model for Turn<O> {
 impl<O: Object> Turn<O> {
     ghost use Rattle.mrp_turn.specs.Rule.{starting};
     ghost use Rattle.mrp_turn.specs.Lists.{StartsWith, Each};
-    ghost use Rattle.mrp_turn.specs.Log.{IsLegal, LeadsTo, entries_by};
+    ghost use Rattle.mrp_turn.specs.Log.{LeadsTo, entries_by};
     ghost use Rattle.mrp_turn.specs.Seen.{HasNumber};
-    ghost use Rattle.mrp_turn.specs.Calls.{GrowsBy, HasCause, IsAt, RunTells, StandsFor};
+    ghost use Rattle.mrp_turn.specs.Calls.{IsAt, RunTells, SeatTells, StandsFor};
     ghost use Rattle.mrp_turn.specs.Steps.{IsIdle, Taken, Lost, MayGiveFrom, GivenFrom};
     ghost use Rattle.mrp_turn.specs.Faults.{HasFault};
 
@@ -166,7 +166,7 @@ impl<O: Object> Turn<O> {
     // Takes the slot and the value in it, if no seat has it. The word becomes at least `mark`, also where one has.
     fn try_take(&self, place: &mut Place<O>, mark: u64) -> Option<Held<O::State, O::Call, O::Reply>>
         requires turn { place.old.table_id ≡ self.now.table }
-        requires idle { IsIdle O.opens O.answers self.now.about place.old.me }
+        requires idle { IsIdle self.now.about place.old.me }
         requires mark { 1 ≤ mark }
         ensures same { place.new.table_id ≡ place.old.table_id }
         ensures taken { MatchOption result
@@ -184,7 +184,7 @@ impl<O: Object> Turn<O> {
     // Takes the slot, and waits for it while another seat has it.
     fn take<R: Wait>(&self, rt: &R, place: &mut Place<O>) -> Held<O::State, O::Call, O::Reply>
         requires turn { place.old.table_id ≡ self.now.table }
-        requires idle { IsIdle O.opens O.answers self.now.about place.old.me }
+        requires idle { IsIdle self.now.about place.old.me }
         ensures same { place.new.table_id ≡ place.old.table_id }
         ensures taken { Taken O.opens O.answers place.old.me result place.new.me }
     {
@@ -212,7 +212,7 @@ impl<O: Object> Turn<O> {
     // A look leaves the seat as it is.
     fn looks_free(&self, place: &mut Place<O>) -> bool
         requires turn { place.old.table_id ≡ self.now.table }
-        requires idle { IsIdle O.opens O.answers self.now.about place.old.me }
+        requires idle { IsIdle self.now.about place.old.me }
         ensures same { (place.new.table_id ≡ place.old.table_id) × (place.new.me ≡ place.old.me) }
     {
         for _ in 0..LOOKS {
@@ -276,28 +276,10 @@ impl<O: Object> Turn<O> {
         requires turn { seat.old.turn ≡ self.now }
         requires call { O.fits self.now.about.object call }
         ensures same { (seat.new.turn ≡ seat.old.turn) × (seat.new.number ≡ seat.old.number) }
-
-        // What the seat has seen is a legal log, and begins with what it had seen before.
-        ensures legal { IsLegal
-            (O.answers self.now.about.object) (O.opens self.now.about.object) seat.new.seen }
-        ensures seen { StartsWith seat.new.seen seat.old.seen }
-        // Its own entries are all those of what it has seen under its number.
-        ensures mine { seat.new.mine ≡ entries_by seat.old.number seat.new.seen }
-
-        // An answered call is the last entry that the seat has seen, and new; the number is that entry's.
-        ensures last { IfOk result
-            (λ r. GrowsBy seat.old.seen (entry seat.old.number call r.1) seat.new.seen) }
-        ensures number { IfOk result (λ r. r.0 ≡ length seat.new.seen) }
-        // Its own entries have grown by this one alone.
-        ensures added { IfOk result
-            (λ r. seat.new.mine ≡ seat.old.mine ++ entry seat.old.number call r.1 ∷ []) }
-
-        // A refused call made no entry. The cause holds in what the seat has seen.
-        ensures unchanged { OnErr result (seat.new.mine ≡ seat.old.mine) }
-        ensures cause { IfErr result (HasCause
-            (O.opens self.now.about.object) (O.answers self.now.about.object)
-            (O.refuses self.now.about.object) O.wants_memory
-            self.now.about.room seat.old.number call seat.new.seen) }
+        // What the seat has then seen is a legal log that goes on from what it had seen, and its own entries are those of
+        // the log. An answered call is the last entry; a refused one made none, and has its cause.
+        ensures told { SeatTells
+            O.opens O.answers O.refuses O.wants_memory self.now.about call seat.old result seat.new }
     {
         self.run(rt, seat.number, &mut seat.place, call)
     }
@@ -317,22 +299,9 @@ impl<O: Object> Turn<O> {
         ensures same { (seat.new.turn ≡ seat.old.turn) × (seat.new.number ≡ seat.old.number) }
         ensures other { other.new ≡ other.old }
         ensures met { StartsWith seat.new.seen other.old.seen }
-
         // The rest is as for `call`.
-        ensures legal { IsLegal
-            (O.answers self.now.about.object) (O.opens self.now.about.object) seat.new.seen }
-        ensures seen { StartsWith seat.new.seen seat.old.seen }
-        ensures mine { seat.new.mine ≡ entries_by seat.old.number seat.new.seen }
-        ensures last { IfOk result
-            (λ r. GrowsBy seat.old.seen (entry seat.old.number call r.1) seat.new.seen) }
-        ensures number { IfOk result (λ r. r.0 ≡ length seat.new.seen) }
-        ensures added { IfOk result
-            (λ r. seat.new.mine ≡ seat.old.mine ++ entry seat.old.number call r.1 ∷ []) }
-        ensures unchanged { OnErr result (seat.new.mine ≡ seat.old.mine) }
-        ensures cause { IfErr result (HasCause
-            (O.opens self.now.about.object) (O.answers self.now.about.object)
-            (O.refuses self.now.about.object) O.wants_memory
-            self.now.about.room seat.old.number call seat.new.seen) }
+        ensures told { SeatTells
+            O.opens O.answers O.refuses O.wants_memory self.now.about call seat.old result seat.new }
     {
         let note = self.table.shared.split_seat::<Note>(&mut other.place);
         self.table.shared.join_seat::<Keep>(&mut seat.place, note);
@@ -401,7 +370,7 @@ fn answer<O: Object>(
         × (r.0 ≡ length held.new.log.items)
         × O.answers object.now held.old.state who call r.1 held.new.state)
         (λ f. (held.new.log.items ≡ held.old.log.items) × (held.new.state ≡ held.old.state)
-        × Explains (O.refuses object.now held.old.state who call) (O.wants_memory call)
+        × Explains (O.refuses object.now held.old.state who call) (O.wants_memory object.now held.old.state who call)
         (vec_capacity held.old.log) (length held.old.log.items) f) }
 {
     if held.log.try_reserve(1).is_err() {

@@ -1,25 +1,17 @@
-use Rattle.std.proofs.Common.{◌∙◌, ◌≤◌, ℕ, List, ap, length, slice_index}
+use Rattle.std.proofs.Common.{◌≤◌, Err, length, subst, sym}
 use Rattle.std.specs.Prelude.{All}
 use Rattle.mrp_tables.specs.Facts.{IsBillLine}
-use Rattle.mrp_engine.specs.Day.{loop_fault}
-use Rattle.mrp_engine.proofs.ShopFaults.{path-begins, path-first, refusal-path}
+use Rattle.mrp_engine.specs.Opened.{OpensTables}
+use Rattle.mrp_engine.specs.declared.fault.DayFault.{DayFault}
+use Rattle.mrp_engine.proofs.ShopFaults.{begins-within, opens-refused}
 use Rattle.mrp_engine.proofs.opening.shop_of.Goals as goal
 
-pub loop_at-requires-clause-some : goal.loop_at-requires-clause-some
-loop_at-requires-clause-some c =
+pub bill_refusal-requires : goal.bill_refusal-requires
+bill_refusal-requires c =
     let few : length c.args.tables.items ≤ 20000 = rw c.items-items.ensures.rows at c.items-items.ensures.count in
     let lines : All (IsBillLine c.args.tables.items) c.args.tables.bills = rw c.bills-lines.ensures.rows at c.bills-lines.ensures.within in
-    rw c.deref.ensures.value (path-begins c.args.tables.items c.args.tables.bills c.in-Err-Loop.path.items lines few (refusal-path c.args.tables.bills c.in-Err-Loop.field-0 c.in-Err-Loop.path c.in-Err-Loop.field-0-is c.in-Err-Loop.ensures.refused)).0
+    begins-within c.args.tables.items c.args.tables.bills c.in-Err.fault lines few c.in-Err.ensures.refused
 
-pub loop_at-requires-clause-within : goal.loop_at-requires-clause-within
-loop_at-requires-clause-within c =
-    let few : length c.args.tables.items ≤ 20000 = rw c.items-items.ensures.rows at c.items-items.ensures.count in
-    let lines : All (IsBillLine c.args.tables.items) c.args.tables.bills = rw c.bills-lines.ensures.rows at c.bills-lines.ensures.within in
-    rw c.deref.ensures.value (path-begins c.args.tables.items c.args.tables.bills c.in-Err-Loop.path.items lines few (refusal-path c.args.tables.bills c.in-Err-Loop.field-0 c.in-Err-Loop.path c.in-Err-Loop.field-0-is c.in-Err-Loop.ensures.refused)).1
-
-pub returns-in-Err-Loop : goal.returns-in-Err-Loop
-returns-in-Err-Loop c = (
-  slice_index c.in-Err-Loop.path.items 0,
-  path-first c.args.tables.bills c.in-Err-Loop.path.items (refusal-path c.args.tables.bills c.in-Err-Loop.field-0 c.in-Err-Loop.path c.in-Err-Loop.field-0-is c.in-Err-Loop.ensures.refused),
-  c.loop_at.ensures ∙ ap (λ (path : List ℕ). loop_fault (slice_index path 0)) c.deref.ensures.value,
-)
+pub returns-in-Err : goal.returns-in-Err
+returns-in-Err c =
+    subst (λ (f : DayFault). OpensTables c.args.tables (Err f)) (sym c.bill_refusal.ensures) (opens-refused c.args.tables c.in-Err.fault c.in-Err.ensures.refused)

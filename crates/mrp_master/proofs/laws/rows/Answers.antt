@@ -2,6 +2,7 @@
 use Rattle.mrp_master.specs.Supply.{line}
 use Rattle.std.proofs.Common.{refl, ◌++◌, ◌∷◌}
 use Rattle.mrp_master.proofs.ItemRows.{available_row, booked_to, firm_from_first, fits_row, is_row, parted, row_available, row_fits, row_same_with, row_same_without, row_with, row_without, supplied_to}
+use Rattle.mrp_master.proofs.EarliestRows.{earliest_row, row_earliest}
 use Rattle.mrp_master.proofs.laws.rows.Goals as goal
 
 pub returns : goal.returns
@@ -11,6 +12,7 @@ returns c = record {
   covered = λ s lines item k m first covered. is_row s k item m lines first covered;
   fits = λ s lines item week quantity k m first covered w. (fits_row s k item m lines first covered week quantity w, row_fits s k item m lines first covered week quantity w);
   available = λ s lines item week quantity k m first covered w. (available_row s k item m lines first covered week quantity w, row_available s k item m lines first covered week quantity w);
+  earliest = λ s lines item quantity found k m first covered. (earliest_row s k item m lines first covered quantity found, row_earliest s k item m lines first covered quantity found);
   more = λ s lines item week quantity w. row_with s item lines week quantity w;
   more_of_another = λ s lines item other week quantity ne. row_same_with s item lines (line other week quantity) ne;
   less = λ s before after item week quantity w.

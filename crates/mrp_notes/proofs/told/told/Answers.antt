@@ -1,6 +1,7 @@
 use Rattle.std.proofs.Common.{◌≡◌, ◌∙◌, ◌++◌, [], List, map, take, length, ap, arith}
-use Rattle.std.specs.Prelude.{flat_map}
+use Rattle.std.specs.Prelude.{flat_map, Option}
 use Rattle.std.specs.List.{cons_option, enumerate_from}
+use Rattle.mrp_notes.specs.declared.message.Advice.{Advice}
 use Rattle.mrp_notes.specs.declared.message.Message.{Message}
 use Rattle.mrp_notes.specs.Told.{message, told_of}
 use Rattle.mrp_notes.proofs.Tellings.{supplied_more, told_next, told_all}
@@ -21,6 +22,7 @@ loop-supply-preserved c =
       messages =
           c.in_ok-tell-2.ensures
           ∙ ap (λ (ms : List Message). ms ++ map (message item x.source) (cons_option advice [])) c.in_ok-tell.ensures
+          ∙ ap (λ (o : Option Advice). (c.loop-supply.messages.items ++ map (message item x.source) (cons_option o [])) ++ map (message item x.source) (cons_option advice [])) c.action_on.ensures
           ∙ told_next item gross stock supplies k x supplied c.loop-supply.messages.items advice c.requires.within c.loop-supply-test.true c.supply-item.is known.supplied c.advice-advice.ensures.advice known.messages;
       supplied = c.advice-advice.ensures.supplied ∙ supplied_more stock supplies k x supplied c.loop-supply-test.true c.supply-item.is known.supplied;
       covered = c.advice-advice.ensures.covered;

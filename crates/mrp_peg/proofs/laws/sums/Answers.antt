@@ -1,29 +1,8 @@
-use Rattle.std.proofs.Common.{◌≡◌, ◌∙◌, ℕ, Bool, true, false, cond, List, [], ◌∷◌, refl, ap, sym, ◌+◌}
-use Rattle.std.specs.Prelude.{map, filter, sum_by}
-use Rattle.std.proofs.lemmas.List.Sums.{sum_by-cons}
-use Rattle.mrp_peg.specs.declared.peg.Peg.{Peg}
-use Rattle.mrp_peg.specs.Units.{matches, is_for}
-use Rattle.mrp_peg.specs.Pegging.{requirements, supplies, pegs_of}
-use Rattle.mrp_peg.specs.Matching.{peg_of}
-use Rattle.mrp_peg.proofs.Sums.{covered, supplied}
+use Rattle.mrp_peg.proofs.ItemSums.{to-requirements, to-supplies}
 use Rattle.mrp_peg.proofs.laws.sums.Goals as goal
 
--- what passes adds up to the same before and after a change that keeps the quantities
-mapped : {X Y : Type 0} (f : Y → ℕ) (test : Y → Bool) (g : X → Y) (xs : List X) → sum_by f (filter test (map g xs)) ≡ sum_by (λ x. f (g x)) (filter (λ x. test (g x)) xs)
-mapped f test g [] = refl
-mapped {X} {Y} f test g (x ∷ xs) = by (test (g x)) (mapped f test g xs)
-  where
-    by : (b : Bool) → sum_by f (filter test (map g xs)) ≡ sum_by (λ y. f (g y)) (filter (λ y. test (g y)) xs)
-        → sum_by f (cond b (g x ∷ filter test (map g xs)) (filter test (map g xs))) ≡ sum_by (λ y. f (g y)) (cond b (x ∷ filter (λ y. test (g y)) xs) (filter (λ y. test (g y)) xs))
-    by true e = sum_by-cons f (g x) (filter test (map g xs)) ∙ ap (λ n. f (g x) + n) e ∙ sym (sum_by-cons (λ y. f (g y)) x (filter (λ y. test (g y)) xs))
-    by false e = e
-
 pub returns-clause-requirements : goal.returns-clause-requirements
-unfolding pegs_of
-returns-clause-requirements c = λ p item test enough.
-    mapped (λ (g : Peg). g.quantity) (λ g. is_for test g.need) (peg_of item) (matches (requirements p item) (supplies p item)) ∙ covered test (requirements p item) (supplies p item) enough
+returns-clause-requirements c = to-requirements
 
 pub returns-clause-supplies : goal.returns-clause-supplies
-unfolding pegs_of
-returns-clause-supplies c = λ p item test.
-    mapped (λ (g : Peg). g.quantity) (λ g. test g.supply) (peg_of item) (matches (requirements p item) (supplies p item)) ∙ supplied test (requirements p item) (supplies p item)
+returns-clause-supplies c = to-supplies

@@ -2,7 +2,8 @@ use Rattle.std.proofs.Common.{◌≡◌, ◌∙◌, ◌++◌, ◌∷◌, [], ◌
 use Rattle.mrp_qty.specs.Quantity.{quantity_of}
 use Rattle.mrp_peg.specs.declared.peg.NeedKind.TheVariants.{Parent}
 use Rattle.mrp_peg.specs.Rows.{order_wanted}
-use Rattle.mrp_peg.proofs.Loops.{pushed_order, quantity_is}
+use Rattle.mrp_item.proofs.PlannedStock.{quantity_is}
+use Rattle.mrp_peg.proofs.Loops.{pushed_order}
 use Rattle.mrp_peg.proofs.parents.add_line.Goals as goal
 
 pub loop-place-preserved : goal.loop-place-preserved

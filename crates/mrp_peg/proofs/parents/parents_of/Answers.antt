@@ -11,7 +11,7 @@ use Rattle.mrp_item.specs.declared.order.Order.{Order}
 use Rattle.mrp_item.specs.Inputs.{Inputs}
 use Rattle.mrp_item.specs.Plan.{HasParents, outcome_of, plan_in}
 use Rattle.mrp_item.proofs.Parents.{kept_at, line-parent}
-use Rattle.mrp_peg.specs.Pegging.{numbered_from}
+use Rattle.std.specs.List.{enumerate_from}
 use Rattle.mrp_peg.specs.Rows.{line_wanted, order_wanted}
 use Rattle.mrp_peg.proofs.Loop.{take_end}
 use Rattle.mrp_peg.proofs.Totals.{asked_within}
@@ -90,8 +90,8 @@ loop-place-preserved c =
     let line : c.line_of-line.result ≡ line_at s.tables.bills place = c.line_of-line.ensures ∙ ap (λ (ls : List BillLine). line_at ls place) bills in
     one_line (line_wanted s i) c.lines_to-place-items.result.now k c.loop-place.needs.items c.add_line.new.needs.items c.loop-place-test.true c.loop-place.invariant
     (c.in_ok-add_line.ensures
-    ∙ ap (λ (os : List Order). c.loop-place.needs.items ++ map (order_wanted i (place + 1) c.line_of-line.result.per) (numbered_from 1 os)) c.orders-orders.ensures
-    ∙ ap (λ (l : BillLine). c.loop-place.needs.items ++ map (order_wanted i (place + 1) l.per) (numbered_from 1 (plan_in (outcome_of s l.parent)).orders)) line)
+    ∙ ap (λ (os : List Order). c.loop-place.needs.items ++ map (order_wanted i (place + 1) c.line_of-line.result.per) (enumerate_from 1 os)) c.orders-orders.ensures
+    ∙ ap (λ (l : BillLine). c.loop-place.needs.items ++ map (order_wanted i (place + 1) l.per) (enumerate_from 1 (plan_in (outcome_of s l.parent)).orders)) line)
 
 pub returns : goal.returns
 returns c =

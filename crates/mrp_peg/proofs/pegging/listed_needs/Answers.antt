@@ -4,7 +4,8 @@ use Rattle.std.specs.Int.{IsInRange}
 use Rattle.mrp_phase.specs.Weeks.{row, weeks}
 use Rattle.mrp_item.specs.declared.due.Due.{Due}
 use Rattle.mrp_item.specs.Dues.{booking_dues}
-use Rattle.mrp_item.specs.Inputs.{Inputs, horizon, is_master}
+use Rattle.mrp_item.specs.Inputs.{Inputs, horizon, is_master, item_at}
+use Rattle.mrp_item.specs.Limits.{IsSized}
 use Rattle.mrp_item.specs.Places.{PlannedItem}
 use Rattle.mrp_item.specs.Plan.{outcome_of, plan_in}
 use Rattle.mrp_peg.specs.declared.matching.Wanted.{Wanted}
@@ -34,17 +35,17 @@ parents_of-requires c =
     let e = c.deref-inputs.ensures ∙ c.inputs.ensures.inputs in
     record {
       item = c.requires.item;
-      part = sym (ap (λ (y : Inputs). is_master y c.args.item) e) ∙ sym c.is_master_item.ensures ∙ c.if-is_master_item.false;
+      part = sym (ap (λ (y : Inputs). is_master y c.args.item) e) ∙ sym c.is_master_item.ensures.class ∙ c.if-is_master_item.false;
       own = c.requires.own;
       within = c.requires.within;
     }
 
-pub returns-then-is_master_item : goal.returns-then-is_master_item
-returns-then-is_master_item c =
+pub returns-then-is_master_item-clause-needs : goal.returns-then-is_master_item-clause-needs
+returns-then-is_master_item-clause-needs c =
     let s = c.args.plan.now.inputs in
     let i = c.args.item in
     let e : c.deref-inputs.result.now ≡ s = c.deref-inputs.ensures ∙ c.inputs.ensures.inputs in
-    let master : is_master s i ≡ true = sym (ap (λ (y : Inputs). is_master y i) e) ∙ sym c.is_master_item.ensures ∙ c.if-is_master_item.true in
+    let master : is_master s i ≡ true = sym (ap (λ (y : Inputs). is_master y i) e) ∙ sym c.is_master_item.ensures.class ∙ c.if-is_master_item.true in
     let gross : c.as_slice.result.now ≡ (plan_in (outcome_of s i)).gross = c.as_slice.ensures ∙ c.gross-demand.ensures.gross ∙ ap (λ (p : PlannedItem). p.plan.gross) c.item.ensures in
     let size : length c.as_slice.result.now ≡ horizon s = ap length gross ∙ gross-length s i c.requires.own in
     let dues : c.bookings.result.now ≡ booking_dues s.standing i = c.bookings.ensures.dues ∙ ap (λ (y : Inputs). booking_dues y.standing i) e in
@@ -56,11 +57,19 @@ returns-then-is_master_item c =
     let Q : List Wanted → Type 0 = λ l. IfOk c.demand_of.result (λ needs. needs.items ≡ l) in
     subst Q whole c.demand_of.ensures
 
-pub returns-else-is_master_item : goal.returns-else-is_master_item
-returns-else-is_master_item c =
+pub returns-else-is_master_item-clause-needs : goal.returns-else-is_master_item-clause-needs
+returns-else-is_master_item-clause-needs c =
     let s = c.args.plan.now.inputs in
     let i = c.args.item in
     let e : c.deref-inputs.result.now ≡ s = c.deref-inputs.ensures ∙ c.inputs.ensures.inputs in
-    let part : is_master s i ≡ false = sym (ap (λ (y : Inputs). is_master y i) e) ∙ sym c.is_master_item.ensures ∙ c.if-is_master_item.false in
+    let part : is_master s i ≡ false = sym (ap (λ (y : Inputs). is_master y i) e) ∙ sym c.is_master_item.ensures.class ∙ c.if-is_master_item.false in
     let Q : List Wanted → Type 0 = λ l. IfOk c.parents_of.result (λ needs. needs.items ≡ l) in
     subst Q (sym (ap (λ b. cond b (demand_wanted s i) (parents_wanted s i)) part)) c.parents_of.ensures
+
+pub returns-then-is_master_item-clause-sized : goal.returns-then-is_master_item-clause-sized
+returns-then-is_master_item-clause-sized c =
+    subst (λ (y : Inputs). IsSized (item_at y c.args.item).lot) (c.deref-inputs.ensures ∙ c.inputs.ensures.inputs) c.is_master_item.ensures.sized
+
+pub returns-else-is_master_item-clause-sized : goal.returns-else-is_master_item-clause-sized
+returns-else-is_master_item-clause-sized c =
+    subst (λ (y : Inputs). IsSized (item_at y c.args.item).lot) (c.deref-inputs.ensures ∙ c.inputs.ensures.inputs) c.is_master_item.ensures.sized

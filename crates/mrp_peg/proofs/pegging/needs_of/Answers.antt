@@ -1,4 +1,4 @@
-use Rattle.std.proofs.Common.{◌≡◌, ◌∙◌, ℕ, List, sym, ap, subst}
+use Rattle.std.proofs.Common.{◌≡◌, ◌∙◌, ◌<◌, ℕ, List, sym, ap, subst, arith}
 use Rattle.std.specs.Prelude.{slice_index}
 use Rattle.mrp_master.specs.Supply.{supply_of}
 use Rattle.mrp_book.specs.Booked.{AreBooked}
@@ -9,6 +9,7 @@ use Rattle.mrp_item.specs.Plan.{IsRanked, Planned, outcome_of}
 use Rattle.mrp_peg.specs.declared.matching.Wanted.{Wanted}
 use Rattle.mrp_peg.specs.Matching.{amounts_wanted}
 use Rattle.mrp_peg.specs.Weekly.{AreWithin, by_weeks}
+use Rattle.mrp_peg.proofs.Covered.{covered_item}
 use Rattle.mrp_peg.proofs.Listed.{requirements_are, wanted_within}
 use Rattle.mrp_peg.proofs.Own.{own}
 use Rattle.mrp_peg.proofs.pegging.needs_of.Goals as goal
@@ -32,8 +33,8 @@ listed_needs-requires-clause-within c =
     let B : Inputs → Type 0 = λ x. AreBooked (supply_of x.tables) x.standing in
     wanted_within s c.args.item code (subst R e c.shop-ranked.ensures.ranked) (subst B e c.snapshot-booked.ensures.booked)
 
-pub returns : goal.returns
-returns c =
+pub returns-clause-needs : goal.returns-clause-needs
+returns-clause-needs c =
     let s = c.args.plan.now.inputs in
     let i = c.args.item in
     let code = slice_index c.shop-ranked.result.now.codes in
@@ -44,6 +45,17 @@ returns c =
     let within = wanted_within s i code ranked (subst B e c.snapshot-booked.ensures.booked) in
     let outcome : outcome_of s i ≡ Planned c.item.result.now.plan = sym (ap (λ (x : PlannedItem). outcome_of x.inputs x.item) c.item.ensures) ∙ c.inputs-planned.ensures.outcome in
     let W : List Wanted → Type 0 = λ l. AreWithin (λ (w : Wanted). w.need.week) 1 (horizon s) l in
-    let sorted = c.in_ok-sort_needs.ensures 1 (horizon s) (subst W (sym c.in_ok-needs.ensures) within) in
-    ap amounts_wanted (sorted ∙ ap (by_weeks (λ (w : Wanted). w.need.week) (weeks (horizon s))) c.in_ok-needs.ensures)
+    let sorted = c.in_ok-sort_needs.ensures 1 (horizon s) (subst W (sym c.in_ok-needs.ensures.needs) within) in
+    ap amounts_wanted (sorted ∙ ap (by_weeks (λ (w : Wanted). w.need.week) (weeks (horizon s))) c.in_ok-needs.ensures.needs)
     ∙ requirements_are s i (own s i code c.item.result.now.plan ranked outcome)
+
+pub returns-clause-covered : goal.returns-clause-covered
+returns-clause-covered c =
+    let s = c.args.plan.now.inputs in
+    let i = c.args.item in
+    let code = slice_index c.shop-ranked.result.now.codes in
+    let e : c.deref-inputs.result.now ≡ s = c.deref-inputs.ensures ∙ c.inputs.ensures.inputs in
+    let R : Inputs → Type 0 = λ x. IsRanked x code in
+    let outcome : outcome_of s i ≡ Planned c.item.result.now.plan = sym (ap (λ (x : PlannedItem). outcome_of x.inputs x.item) c.item.ensures) ∙ c.inputs-planned.ensures.outcome in
+    let weeks : 0 < horizon s = omega (arith, c.weeks-weeks.ensures.first, c.weeks-weeks.ensures.value, ap horizon e) in
+    covered_item s i (own s i code c.item.result.now.plan (subst R e c.shop-ranked.ensures.ranked) outcome) c.in_ok-needs.ensures.sized weeks

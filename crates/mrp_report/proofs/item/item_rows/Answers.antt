@@ -50,6 +50,6 @@ returns c =
       received_is = c.as_slice-3.ensures ∙ c.receipts.ensures.receipts;
       started_is = c.as_slice-4.ensures ∙ c.started.ensures.started;
     } in
-    let name : c.as_bytes.result.now ≡ (item_at s c.args.planned.now.item).name = c.as_bytes.ensures ∙ ap (λ (e : Item). e.name) entry in
+    let name : c.as_bytes.result.now ≡ (item_at s c.args.planned.now.item).name = c.as_bytes.ensures.text ∙ ap (λ (e : Item). e.name) entry in
     let Writes : List ℕ → Type 0 = λ text. OnOk c.write.result (c.write.new.page ≡ c.args.page.now ++ text) in
     subst Writes (sheet-text sheet s c.args.planned.now.item c.args.planned.now.plan c.as_bytes.result.now of name) c.write.ensures

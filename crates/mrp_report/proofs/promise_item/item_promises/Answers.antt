@@ -71,6 +71,6 @@ returns c =
       supplied = subst IsSupply c.requires c.weeks-weeks.ensures.kept;
       stands = subst (λ (x : Supply). AreBooked x s.standing) c.requires (subst (λ (x : Inputs). AreBooked c.args.supply.now x.standing) inputs c.in_ok-row.ensures.stands);
     } in
-    let name : c.as_bytes.result.now ≡ (item_at s i).name = c.as_bytes.ensures ∙ ap (λ (e : Item). e.name) entry in
+    let name : c.as_bytes.result.now ≡ (item_at s i).name = c.as_bytes.ensures.text ∙ ap (λ (e : Item). e.name) entry in
     let Writes : List ℕ → Type 0 = λ text. OnOk c.write.result (c.write.new.page ≡ c.args.page.now ++ text) in
     subst Writes (promises-text sheet s i c.as_bytes.result.now of name) c.write.ensures

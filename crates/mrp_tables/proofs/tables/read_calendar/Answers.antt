@@ -4,4 +4,4 @@ use Rattle.mrp_tables.proofs.Opening.{calendar-read}
 use Rattle.mrp_tables.proofs.tables.read_calendar.Goals as goal
 
 pub returns : goal.returns
-returns c = calendar-read (λ x. x) (text_in c.args.sections.now t.Calendar) c.in_ok-cursor.cursor c.calendar_in.result c.in_ok-cursor.ensures c.calendar_in.ensures
+returns c = calendar-read _ (text_in c.args.sections.now t.Calendar) c.in_ok-read_table.field-0 c.into_calendar.result c.in_ok-read_table.ensures.rows c.into_calendar.ensures

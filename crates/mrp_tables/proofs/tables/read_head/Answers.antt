@@ -1,11 +1,12 @@
 use Rattle.std.proofs.lemmas.Result.{err_from_is_err_and}
+use Rattle.mrp_tables.specs.declared.limits.TheConstants as limits
 use Rattle.mrp_tables.proofs.Refused.{refused_calendar, refused_centres, refused_items}
 use Rattle.std.proofs.Common.{◌∙◌, refl}
 use Rattle.mrp_tables.proofs.Counting.{no_rows}
 use Rattle.mrp_tables.proofs.tables.read_head.Goals as goal
 
 pub returns-clause-items : goal.returns-clause-items
-returns-clause-items c = c.in_ok-items.ensures.count 20000 refl
+returns-clause-items c = c.in_ok-items.ensures.count limits.MOST_ITEMS refl
 
 pub returns-clause-centres : goal.returns-clause-centres
 returns-clause-centres c = c.into_rows.ensures ∙ no_rows _ (c.in_ok-centres.ensures.count 0 refl)

@@ -1,4 +1,5 @@
 use Rattle.std.proofs.lemmas.Result.{err_from_is_err_and}
+use Rattle.mrp_tables.specs.declared.limits.TheConstants as limits
 use Rattle.mrp_tables.specs.Seen.{head_of}
 use Rattle.mrp_tables.proofs.Refused.{refused_routings, refused_master, refused_script}
 use Rattle.std.proofs.Common.{◌∙◌, refl, ◌≤◌, length, arith}
@@ -7,12 +8,12 @@ use Rattle.mrp_tables.proofs.tables.read_tail.Goals as goal
 
 pub returns-clause-master_count : goal.returns-clause-master_count
 returns-clause-master_count c =
-    let read : length c.in_ok-master.master.rows ≤ 100000 = c.in_ok-master.ensures.count 100000 refl in
+    let read : length c.in_ok-master.master.rows ≤ limits.MOST_ROWS = c.in_ok-master.ensures.count limits.MOST_ROWS refl in
     let kept : length c.into_rows-2.result.items ≤ length c.in_ok-master.master.rows = c.into_rows-2.ensures.count in
     omega arith
 
 pub returns-clause-script_count : goal.returns-clause-script_count
-returns-clause-script_count c = rw c.into_rows-3.ensures.rows (c.in_ok-script.ensures.count 100000 refl)
+returns-clause-script_count c = rw c.into_rows-3.ensures.rows (c.in_ok-script.ensures.count limits.MOST_ROWS refl)
 
 pub returns-clause-routings : goal.returns-clause-routings
 returns-clause-routings c = c.into_rows.ensures ∙ no_rows _ (c.in_ok-routings.ensures.count 0 refl)

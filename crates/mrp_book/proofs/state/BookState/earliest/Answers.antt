@@ -2,7 +2,7 @@ use Rattle.std.proofs.Common.{subst}
 use Rattle.mrp_master.specs.AtpRow.{IsEarliestIn}
 use Rattle.mrp_book.specs.Bookings.{lines_of}
 use Rattle.mrp_book.proofs.Entries.{from_first}
-use Rattle.mrp_book.proofs.Earliest.{earliest_row}
+use Rattle.mrp_master.proofs.EarliestRows.{earliest_row}
 use Rattle.mrp_book.proofs.state.BookState.earliest.Goals as goal
 
 pub returns : goal.returns

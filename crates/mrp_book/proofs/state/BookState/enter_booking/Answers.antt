@@ -3,7 +3,8 @@ use Rattle.mrp_book.specs.declared.booking.Booking.{Booking}
 use Rattle.mrp_book.specs.declared.call.Call.TheVariants as call
 use Rattle.mrp_book.specs.declared.made.Made.{Made}
 use Rattle.mrp_book.specs.Bookings.{lines_of}
-use Rattle.mrp_book.specs.History.{CanPromise, Fits}
+use Rattle.mrp_master.specs.Supply.{CanPromise}
+use Rattle.mrp_book.specs.History.{Fits}
 use Rattle.mrp_book.specs.Made.{standing_of}
 use Rattle.mrp_book.proofs.Entries.{keeps_booking, take_fits, take_week}
 use Rattle.mrp_book.proofs.state.BookState.enter_booking.Goals as goal
@@ -13,7 +14,7 @@ take-requires-clause-week c =
     let i = c.self.inside in
     let b : Booking = record { number = i.entries + 1; desk = c.args.desk; line = c.args.line } in
     let fits : Fits i.supply (call.Book c.args.line) = subst (λ x. Fits x.supply (call.Book c.args.line)) (sym c.self.view_is) c.requires.fits in
-    take_week i.supply i.entries i.rows.items i.made.items c.self.invariant b fits.0 fits.1 c.index_mut.result.now c.index_mut.ensures.value
+    take_week i.supply i.entries i.rows.items i.made.items c.self.invariant b fits.item fits.week c.index_mut.result.now c.index_mut.ensures.value
 
 pub take-requires-clause-available : goal.take-requires-clause-available
 take-requires-clause-available c =
@@ -22,7 +23,7 @@ take-requires-clause-available c =
     let fits : Fits i.supply (call.Book c.args.line) = subst (λ x. Fits x.supply (call.Book c.args.line)) (sym c.self.view_is) c.requires.fits in
     let can : CanPromise i.supply (lines_of (standing_of i.made.items)) c.args.line.item c.args.line.quantity c.args.line.week =
     subst (λ x. CanPromise x.supply (lines_of x.standing) c.args.line.item c.args.line.quantity c.args.line.week) (sym c.self.view_is) c.requires.available in
-    take_fits i.supply i.entries i.rows.items i.made.items c.self.invariant b fits.0 fits.1 can c.index_mut.result.now c.index_mut.ensures.value
+    take_fits i.supply i.entries i.rows.items i.made.items c.self.invariant b fits.item fits.week can c.index_mut.result.now c.index_mut.ensures.value
 
 pub invariant_of-self-2 : goal.invariant_of-self-2
 invariant_of-self-2 c =
@@ -32,5 +33,5 @@ invariant_of-self-2 c =
     let can : CanPromise i.supply (lines_of (standing_of i.made.items)) c.args.line.item c.args.line.quantity c.args.line.week =
     subst (λ x. CanPromise x.supply (lines_of x.standing) c.args.line.item c.args.line.quantity c.args.line.week) (sym c.self.view_is) c.requires.available in
     let few : i.entries < 1000000 = subst (λ x. x.entries < 1000000) (sym c.self.view_is) c.requires.few in
-    keeps_booking i.supply i.entries i.rows.items i.made.items c.self.invariant b fits.0 fits.1 refl few can c.index_mut.result.now c.take.new.row c.index_mut.ensures.value c.take.ensures
+    keeps_booking i.supply i.entries i.rows.items i.made.items c.self.invariant b fits.item fits.week refl few can c.index_mut.result.now c.take.new.row c.index_mut.ensures.value c.take.ensures
     c.push_reserved.new.self.items (c.push_reserved.ensures.items ∙ ap (λ (xs : List Made). xs ++ record { booking = b; stands = true } ∷ []) c.try_reserve.ensures.items)

@@ -1,4 +1,5 @@
-use Rattle.std.proofs.Common.{◌≡◌, ◌≤◌, ◌∙◌, length, sym, ap, subst}
+use Rattle.std.proofs.Common.{◌≡◌, ◌≤◌, ◌∙◌, length, sym, ap, subst, arith, rules}
+use Rattle.std.proofs.lemmas.Grind.{common_steps}
 use Rattle.std.specs.Prelude.{All}
 use Rattle.mrp_turn.specs.Lists.{StartsWith}
 use Rattle.mrp_turn.specs.Seen.{HasNumber}
@@ -15,25 +16,31 @@ pub new-requires : goal.new-requires
 new-requires c =
     let h = is_history c.self.inside.turn.about.object c.close-state.result.1 c.close-state.result.0 c.close-state.ensures.legal in
     let supply : c.into_supply.result ≡ supply_at c.self.inside.turn = c.into_supply.ensures ∙ ap (λ (b : BookState). b.supply) h.left in
-    subst (λ (s : Supply). IsLegal s c.into_entries.result.items) (sym supply) (subst (IsLegal (supply_at c.self.inside.turn)) (sym c.into_entries.ensures) h.legal)
+    subst (λ (s : Supply). IsLegal s c.into_entries-entries.result.items) (sym supply) (subst (IsLegal (supply_at c.self.inside.turn)) (sym c.into_entries-entries.ensures) h.legal)
+
+pub unreachable-requires : goal.unreachable-requires
+unreachable-requires c =
+    let h = is_history c.self.inside.turn.about.object c.close-state.result.1 c.close-state.result.0 c.close-state.ensures.legal in
+    let few : length c.into_entries-entries.result.items ≤ 1000000 = subst (λ (log : History). length log ≤ 1000000) (sym c.into_entries-entries.ensures) h.few in
+    first_of (search rules, grind (arith, common_steps))
 
 pub returns-clause-supply : goal.returns-clause-supply
 returns-clause-supply c =
     let h = is_history c.self.inside.turn.about.object c.close-state.result.1 c.close-state.result.0 c.close-state.ensures.legal in
-    ap (λ (b : OrderBook). b.supply) c.new.ensures ∙ c.into_supply.ensures ∙ ap (λ (b : BookState). b.supply) h.left ∙ ap supply_at c.self.view_is
+    ap (λ (b : OrderBook). b.supply) c.in-Some.ensures.value ∙ c.into_supply.ensures ∙ ap (λ (b : BookState). b.supply) h.left ∙ ap supply_at c.self.view_is
 
 pub returns-clause-few : goal.returns-clause-few
 returns-clause-few c =
     let h = is_history c.self.inside.turn.about.object c.close-state.result.1 c.close-state.result.0 c.close-state.ensures.legal in
-    let entries : c.new.result.entries ≡ c.close-state.result.1 = ap (λ (b : OrderBook). b.entries) c.new.ensures ∙ c.into_entries.ensures in
+    let entries : c.in-Some.history.entries ≡ c.close-state.result.1 = ap (λ (b : OrderBook). b.entries) c.in-Some.ensures.value ∙ c.into_entries-entries.ensures in
     subst (λ (log : History). length log ≤ 1000000) (sym entries) h.few
 
 pub returns-clause-seen : goal.returns-clause-seen
 returns-clause-seen c =
-    let entries : c.new.result.entries ≡ c.close-state.result.1 = ap (λ (b : OrderBook). b.entries) c.new.ensures ∙ c.into_entries.ensures in
+    let entries : c.in-Some.history.entries ≡ c.close-state.result.1 = ap (λ (b : OrderBook). b.entries) c.in-Some.ensures.value ∙ c.into_entries-entries.ensures in
     subst (λ (log : History). All (λ d. StartsWith log d.seen) c.args.desks.items) (sym entries) c.close-state.ensures.seen
 
 pub returns-clause-callers : goal.returns-clause-callers
 returns-clause-callers c =
-    let entries : c.new.result.entries ≡ c.close-state.result.1 = ap (λ (b : OrderBook). b.entries) c.new.ensures ∙ c.into_entries.ensures in
+    let entries : c.in-Some.history.entries ≡ c.close-state.result.1 = ap (λ (b : OrderBook). b.entries) c.in-Some.ensures.value ∙ c.into_entries-entries.ensures in
     subst (λ (log : History). All (λ e. HasNumber c.args.desks.items e.who) log) (sym entries) c.close-state.ensures.callers

@@ -1,7 +1,6 @@
 use Rattle.std.proofs.Common.{◌≡◌, take}
-use Rattle.std.specs.Prelude.{All, map}
-use Rattle.mrp_item.specs.Made.{inputs_in, item_in}
+use Rattle.mrp_item.specs.Made.{items_from}
 use Rattle.mrp_explode.proofs.finished.Finished.parents_of.Given as goal
 
 abbrev pub invariant-loop-parent : goal.invariant-loop-parent
-invariant-loop-parent l = (map item_in l.copies.items ≡ take l.parent-index l.parents) × All (λ o. inputs_in o ≡ l.self.inputs.value) l.copies.items
+invariant-loop-parent l = l.copies.items ≡ items_from l.self.inputs.value (take l.parent-index l.parents)

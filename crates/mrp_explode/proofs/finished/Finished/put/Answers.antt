@@ -1,7 +1,8 @@
-use Rattle.std.proofs.Common.{◌≡◌, ◌∙◌, ◌<◌, Some, refl, sym, arith, ap, length, length-set}
+use Rattle.std.proofs.Common.{◌≡◌, ◌∙◌, ◌<◌, ℕ, Some, None, set, refl, sym, subst, arith, ap, length, length-set}
+use Rattle.std.specs.Prelude.{IsSome}
+use Rattle.std.specs.List.{slice_index_or}
 use Rattle.mrp_item.specs.Inputs.{Inputs}
-use Rattle.mrp_item.specs.Made.{item_in, item_of}
-use Rattle.mrp_explode.specs.Finished.{item_from}
+use Rattle.mrp_item.specs.Made.{item_from}
 use Rattle.mrp_explode.proofs.PlanOrder.{set-own, set-here, set-others}
 use Rattle.mrp_explode.proofs.finished.Finished.put.Goals as goal
 
@@ -11,7 +12,7 @@ returns-clause-own c =
     let s = c.args.self.now.inputs.value in
     let item = c.item-item.result in
     let within : item < length c.args.self.now.outcomes.items = omega (arith, c.requires.own.size, c.requires.item, c.item-item.ensures) in
-    let same : item_of o ≡ item_from s item = ap (λ (x : Inputs). item_from x (item_in o)) c.requires.inputs ∙ ap (item_from s) (sym c.item-item.ensures) in
+    let same : o ≡ item_from s item = ap (λ (x : Inputs). item_from x o.item) c.requires.inputs ∙ ap (item_from s) (sym c.item-item.ensures) in
     record {
       size = length-set c.args.self.now.outcomes.items item (Some o) ∙ c.requires.own.size;
       own = set-own s c.args.self.now.outcomes.items item o within same c.requires.own.own;
@@ -24,6 +25,6 @@ returns-clause-finishes c =
     let within : item < length c.args.self.now.outcomes.items = omega (arith, c.requires.own.size, c.requires.item, c.item-item.ensures) in
     record {
       source = refl;
-      here = rw (← c.item-item.ensures) (set-here c.args.self.now.outcomes.items item o within);
+      here = subst (λ (n : ℕ). IsSome (slice_index_or (set c.args.self.now.outcomes.items item (Some o)) n None)) c.item-item.ensures (set-here c.args.self.now.outcomes.items item o within);
       others = λ i there. set-others c.args.self.now.outcomes.items item i o within there;
     }

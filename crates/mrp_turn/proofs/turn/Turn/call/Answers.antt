@@ -11,34 +11,6 @@ pub invariant_of-seat : goal.invariant_of-seat
 invariant_of-seat g c = let s = c.seat.inside in let m = s.place.me in let told = c.run.ensures.told (alone s.about.value (account s.number (seen_of m.0) (mine_of m.0))) c.seat.invariant.2 in
     (c.seat.invariant.0, c.seat.invariant.1, rests s.about.value s.number c.run.new.place.me told.0 told.1 told.2)
 
-pub returns-clause-legal : goal.returns-clause-legal
-returns-clause-legal g c = let ob = g.O.Object in let s = c.seat.inside in let m = s.place.me in let told = c.run.ensures.told (alone s.about.value (account s.number (seen_of m.0) (mine_of m.0))) c.seat.invariant.2 in
-    (seat_told ob.opens ob.answers ob.refuses ob.wants_memory c.args.call c.run.result _ c.args.seat.now c.seat.view_is c.args.self.now c.requires.turn s.number c.run.new.place.me told.0 told.1 told.2 told.3).legal
-
-pub returns-clause-seen : goal.returns-clause-seen
-returns-clause-seen g c = let ob = g.O.Object in let s = c.seat.inside in let m = s.place.me in let told = c.run.ensures.told (alone s.about.value (account s.number (seen_of m.0) (mine_of m.0))) c.seat.invariant.2 in
-    (seat_told ob.opens ob.answers ob.refuses ob.wants_memory c.args.call c.run.result _ c.args.seat.now c.seat.view_is c.args.self.now c.requires.turn s.number c.run.new.place.me told.0 told.1 told.2 told.3).goes_on
-
-pub returns-clause-mine : goal.returns-clause-mine
-returns-clause-mine g c = let ob = g.O.Object in let s = c.seat.inside in let m = s.place.me in let told = c.run.ensures.told (alone s.about.value (account s.number (seen_of m.0) (mine_of m.0))) c.seat.invariant.2 in
-    (seat_told ob.opens ob.answers ob.refuses ob.wants_memory c.args.call c.run.result _ c.args.seat.now c.seat.view_is c.args.self.now c.requires.turn s.number c.run.new.place.me told.0 told.1 told.2 told.3).exact
-
-pub returns-clause-last : goal.returns-clause-last
-returns-clause-last g c = let ob = g.O.Object in let s = c.seat.inside in let m = s.place.me in let told = c.run.ensures.told (alone s.about.value (account s.number (seen_of m.0) (mine_of m.0))) c.seat.invariant.2 in
-    (seat_told ob.opens ob.answers ob.refuses ob.wants_memory c.args.call c.run.result _ c.args.seat.now c.seat.view_is c.args.self.now c.requires.turn s.number c.run.new.place.me told.0 told.1 told.2 told.3).last
-
-pub returns-clause-number : goal.returns-clause-number
-returns-clause-number g c = let ob = g.O.Object in let s = c.seat.inside in let m = s.place.me in let told = c.run.ensures.told (alone s.about.value (account s.number (seen_of m.0) (mine_of m.0))) c.seat.invariant.2 in
-    (seat_told ob.opens ob.answers ob.refuses ob.wants_memory c.args.call c.run.result _ c.args.seat.now c.seat.view_is c.args.self.now c.requires.turn s.number c.run.new.place.me told.0 told.1 told.2 told.3).number
-
-pub returns-clause-added : goal.returns-clause-added
-returns-clause-added g c = let ob = g.O.Object in let s = c.seat.inside in let m = s.place.me in let told = c.run.ensures.told (alone s.about.value (account s.number (seen_of m.0) (mine_of m.0))) c.seat.invariant.2 in
-    (seat_told ob.opens ob.answers ob.refuses ob.wants_memory c.args.call c.run.result _ c.args.seat.now c.seat.view_is c.args.self.now c.requires.turn s.number c.run.new.place.me told.0 told.1 told.2 told.3).added
-
-pub returns-clause-unchanged : goal.returns-clause-unchanged
-returns-clause-unchanged g c = let ob = g.O.Object in let s = c.seat.inside in let m = s.place.me in let told = c.run.ensures.told (alone s.about.value (account s.number (seen_of m.0) (mine_of m.0))) c.seat.invariant.2 in
-    (seat_told ob.opens ob.answers ob.refuses ob.wants_memory c.args.call c.run.result _ c.args.seat.now c.seat.view_is c.args.self.now c.requires.turn s.number c.run.new.place.me told.0 told.1 told.2 told.3).unchanged
-
-pub returns-clause-cause : goal.returns-clause-cause
-returns-clause-cause g c = let ob = g.O.Object in let s = c.seat.inside in let m = s.place.me in let told = c.run.ensures.told (alone s.about.value (account s.number (seen_of m.0) (mine_of m.0))) c.seat.invariant.2 in
-    (seat_told ob.opens ob.answers ob.refuses ob.wants_memory c.args.call c.run.result _ c.args.seat.now c.seat.view_is c.args.self.now c.requires.turn s.number c.run.new.place.me told.0 told.1 told.2 told.3).cause
+pub returns-clause-told : goal.returns-clause-told
+returns-clause-told g c = let ob = g.O.Object in let s = c.seat.inside in let m = s.place.me in let told = c.run.ensures.told (alone s.about.value (account s.number (seen_of m.0) (mine_of m.0))) c.seat.invariant.2 in
+    seat_told ob.opens ob.answers ob.refuses ob.wants_memory c.args.call c.run.result _ c.args.seat.now c.seat.view_is c.args.self.now c.requires.turn s.number c.run.new.place.me told.0 told.1 told.2 told.3

@@ -22,7 +22,7 @@ join_seat-requires g c =
       made.0 ∙ (ap (λ t. t.table) turn ∙ sym here),
       ap (λ x. x.1) made.2,
       omega (arith, c.self.invariant.0),
-      rw (stands.1, made.2) (joins g.O.Object.opens g.O.Object.answers c.self.inside.table.shared.key c.loop-next.place.id c.into_place.result.id stands.0 (alone c.in-Some.next.turn.about (account c.in-Some.next.number c.in-Some.next.seen c.in-Some.next.mine)) stands.2 refl),
+      rw (stands.is, made.2) (joins g.O.Object.opens g.O.Object.answers c.self.inside.table.shared.key c.loop-next.place.id c.into_place.result.id stands.seat (alone c.in-Some.next.turn.about (account c.in-Some.next.number c.in-Some.next.seen c.in-Some.next.mine)) stands.rests refl),
     )
 
 pub loop-next-preserved : goal.loop-next-preserved

@@ -41,77 +41,14 @@ invariant_of-seat g c = let s = c.seat.inside in let m = s.place.me in let o = c
     let told = c.run.ensures.told (noting s.about.value own its.seen) both in
     (c.seat.invariant.0, c.seat.invariant.1, rests s.about.value s.number c.run.new.place.me told.0 told.1 told.2)
 
-pub returns-clause-legal : goal.returns-clause-legal
-returns-clause-legal g c = let ob = g.O.Object in let s = c.seat.inside in let m = s.place.me in let o = c.other.inside in let p = o.place.me in
+pub returns-clause-told : goal.returns-clause-told
+returns-clause-told g c = let ob = g.O.Object in let s = c.seat.inside in let m = s.place.me in let o = c.other.inside in let p = o.place.me in
     let own = account s.number (seen_of m.0) (mine_of m.0) in
     let its = account o.number (seen_of p.0) (mine_of p.0) in
     let note = note_is p c.split_seat-note.result.me o.about.value its c.other.invariant.2 c.split_seat-note.ensures.4 in
     let both = joined_is m c.split_seat-note.result.me c.join_seat.new.seat.me s.about.value o.about.value own its.seen c.seat.invariant.2 note c.join_seat.ensures.2 in
     let told = c.run.ensures.told (noting s.about.value own its.seen) both in
-    (seat_told ob.opens ob.answers ob.refuses ob.wants_memory c.args.call c.run.result _ c.args.seat.now c.seat.view_is c.args.self.now c.requires.turn.0 s.number c.run.new.place.me told.0 told.1 told.2 told.3).legal
-
-pub returns-clause-seen : goal.returns-clause-seen
-returns-clause-seen g c = let ob = g.O.Object in let s = c.seat.inside in let m = s.place.me in let o = c.other.inside in let p = o.place.me in
-    let own = account s.number (seen_of m.0) (mine_of m.0) in
-    let its = account o.number (seen_of p.0) (mine_of p.0) in
-    let note = note_is p c.split_seat-note.result.me o.about.value its c.other.invariant.2 c.split_seat-note.ensures.4 in
-    let both = joined_is m c.split_seat-note.result.me c.join_seat.new.seat.me s.about.value o.about.value own its.seen c.seat.invariant.2 note c.join_seat.ensures.2 in
-    let told = c.run.ensures.told (noting s.about.value own its.seen) both in
-    (seat_told ob.opens ob.answers ob.refuses ob.wants_memory c.args.call c.run.result _ c.args.seat.now c.seat.view_is c.args.self.now c.requires.turn.0 s.number c.run.new.place.me told.0 told.1 told.2 told.3).goes_on
-
-pub returns-clause-mine : goal.returns-clause-mine
-returns-clause-mine g c = let ob = g.O.Object in let s = c.seat.inside in let m = s.place.me in let o = c.other.inside in let p = o.place.me in
-    let own = account s.number (seen_of m.0) (mine_of m.0) in
-    let its = account o.number (seen_of p.0) (mine_of p.0) in
-    let note = note_is p c.split_seat-note.result.me o.about.value its c.other.invariant.2 c.split_seat-note.ensures.4 in
-    let both = joined_is m c.split_seat-note.result.me c.join_seat.new.seat.me s.about.value o.about.value own its.seen c.seat.invariant.2 note c.join_seat.ensures.2 in
-    let told = c.run.ensures.told (noting s.about.value own its.seen) both in
-    (seat_told ob.opens ob.answers ob.refuses ob.wants_memory c.args.call c.run.result _ c.args.seat.now c.seat.view_is c.args.self.now c.requires.turn.0 s.number c.run.new.place.me told.0 told.1 told.2 told.3).exact
-
-pub returns-clause-last : goal.returns-clause-last
-returns-clause-last g c = let ob = g.O.Object in let s = c.seat.inside in let m = s.place.me in let o = c.other.inside in let p = o.place.me in
-    let own = account s.number (seen_of m.0) (mine_of m.0) in
-    let its = account o.number (seen_of p.0) (mine_of p.0) in
-    let note = note_is p c.split_seat-note.result.me o.about.value its c.other.invariant.2 c.split_seat-note.ensures.4 in
-    let both = joined_is m c.split_seat-note.result.me c.join_seat.new.seat.me s.about.value o.about.value own its.seen c.seat.invariant.2 note c.join_seat.ensures.2 in
-    let told = c.run.ensures.told (noting s.about.value own its.seen) both in
-    (seat_told ob.opens ob.answers ob.refuses ob.wants_memory c.args.call c.run.result _ c.args.seat.now c.seat.view_is c.args.self.now c.requires.turn.0 s.number c.run.new.place.me told.0 told.1 told.2 told.3).last
-
-pub returns-clause-number : goal.returns-clause-number
-returns-clause-number g c = let ob = g.O.Object in let s = c.seat.inside in let m = s.place.me in let o = c.other.inside in let p = o.place.me in
-    let own = account s.number (seen_of m.0) (mine_of m.0) in
-    let its = account o.number (seen_of p.0) (mine_of p.0) in
-    let note = note_is p c.split_seat-note.result.me o.about.value its c.other.invariant.2 c.split_seat-note.ensures.4 in
-    let both = joined_is m c.split_seat-note.result.me c.join_seat.new.seat.me s.about.value o.about.value own its.seen c.seat.invariant.2 note c.join_seat.ensures.2 in
-    let told = c.run.ensures.told (noting s.about.value own its.seen) both in
-    (seat_told ob.opens ob.answers ob.refuses ob.wants_memory c.args.call c.run.result _ c.args.seat.now c.seat.view_is c.args.self.now c.requires.turn.0 s.number c.run.new.place.me told.0 told.1 told.2 told.3).number
-
-pub returns-clause-added : goal.returns-clause-added
-returns-clause-added g c = let ob = g.O.Object in let s = c.seat.inside in let m = s.place.me in let o = c.other.inside in let p = o.place.me in
-    let own = account s.number (seen_of m.0) (mine_of m.0) in
-    let its = account o.number (seen_of p.0) (mine_of p.0) in
-    let note = note_is p c.split_seat-note.result.me o.about.value its c.other.invariant.2 c.split_seat-note.ensures.4 in
-    let both = joined_is m c.split_seat-note.result.me c.join_seat.new.seat.me s.about.value o.about.value own its.seen c.seat.invariant.2 note c.join_seat.ensures.2 in
-    let told = c.run.ensures.told (noting s.about.value own its.seen) both in
-    (seat_told ob.opens ob.answers ob.refuses ob.wants_memory c.args.call c.run.result _ c.args.seat.now c.seat.view_is c.args.self.now c.requires.turn.0 s.number c.run.new.place.me told.0 told.1 told.2 told.3).added
-
-pub returns-clause-unchanged : goal.returns-clause-unchanged
-returns-clause-unchanged g c = let ob = g.O.Object in let s = c.seat.inside in let m = s.place.me in let o = c.other.inside in let p = o.place.me in
-    let own = account s.number (seen_of m.0) (mine_of m.0) in
-    let its = account o.number (seen_of p.0) (mine_of p.0) in
-    let note = note_is p c.split_seat-note.result.me o.about.value its c.other.invariant.2 c.split_seat-note.ensures.4 in
-    let both = joined_is m c.split_seat-note.result.me c.join_seat.new.seat.me s.about.value o.about.value own its.seen c.seat.invariant.2 note c.join_seat.ensures.2 in
-    let told = c.run.ensures.told (noting s.about.value own its.seen) both in
-    (seat_told ob.opens ob.answers ob.refuses ob.wants_memory c.args.call c.run.result _ c.args.seat.now c.seat.view_is c.args.self.now c.requires.turn.0 s.number c.run.new.place.me told.0 told.1 told.2 told.3).unchanged
-
-pub returns-clause-cause : goal.returns-clause-cause
-returns-clause-cause g c = let ob = g.O.Object in let s = c.seat.inside in let m = s.place.me in let o = c.other.inside in let p = o.place.me in
-    let own = account s.number (seen_of m.0) (mine_of m.0) in
-    let its = account o.number (seen_of p.0) (mine_of p.0) in
-    let note = note_is p c.split_seat-note.result.me o.about.value its c.other.invariant.2 c.split_seat-note.ensures.4 in
-    let both = joined_is m c.split_seat-note.result.me c.join_seat.new.seat.me s.about.value o.about.value own its.seen c.seat.invariant.2 note c.join_seat.ensures.2 in
-    let told = c.run.ensures.told (noting s.about.value own its.seen) both in
-    (seat_told ob.opens ob.answers ob.refuses ob.wants_memory c.args.call c.run.result _ c.args.seat.now c.seat.view_is c.args.self.now c.requires.turn.0 s.number c.run.new.place.me told.0 told.1 told.2 told.3).cause
+    seat_told ob.opens ob.answers ob.refuses ob.wants_memory c.args.call c.run.result _ c.args.seat.now c.seat.view_is c.args.self.now c.requires.turn.0 s.number c.run.new.place.me told.0 told.1 told.2 told.3
 
 pub returns-clause-met : goal.returns-clause-met
 returns-clause-met g c = let s = c.seat.inside in let m = s.place.me in let o = c.other.inside in let p = o.place.me in

@@ -1,5 +1,0 @@
-use Rattle.mrp_turn.proofs.Callers.{new_turns}
-use Rattle.desk_tests.proofs.tests.Pair.open.Goals as goal
-
-pub last_desk-requires : goal.last_desk-requires
-last_desk-requires c = let made = c.in_ok-office.ensures in new_turns c.in_ok-office.office c.in_ok-office.desks.items 2 made.count made.desks

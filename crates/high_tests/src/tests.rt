@@ -1,0 +1,36 @@
+//! What no worked day shows: calls of the libraries, readers and writers that fail, and words.
+
+ghost use Rattle.std.specs.Prelude.{◌≡◌, Ok};
+
+use std::fmt::Debug;
+use std::io::Eprint;
+use std::process::{Abort, Termination};
+use std::test::Fail;
+
+mod commands;
+mod days;
+mod explosions;
+mod notes;
+mod pegging;
+mod reports;
+mod streams;
+mod texts;
+
+// Fails unless the two are equal. One proof of the comparison serves all calls.
+fn same<T: PartialEq + Debug + Drop>(rt: &impl Abort, got: T, want: T) {
+    assert_eq!(rt; got, want);
+}
+
+// What was made. Fails where nothing was, and says why: a `?` in a test has all that it owns proved
+// to be let go.
+fn made<R: Abort + Eprint, T>(rt: &R, made: Result<T, Fail>) -> T
+    ensures { made ≡ Ok result }
+{
+    match made {
+        Ok(value) => value,
+        Err(fail) => {
+            let _status = Err::<(), Fail>(fail).report(rt);
+            rt.panic("nothing was made")
+        }
+    }
+}

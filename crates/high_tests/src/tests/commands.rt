@@ -1,0 +1,226 @@
+//! What the program's words do over an input, an output and an error stream.
+
+use super::streams::{Turn, reader, writer};
+use super::texts::{BICYCLE_HISTORY, BICYCLE_REPORT};
+use super::{made, same};
+use mrp_main::run_words;
+use sample_shops::bicycles;
+use std::alloc::Global;
+use std::process::Abort;
+use std::thread::Threads;
+
+const PLAN: &[&str] = &["plan"];
+
+// What a run is given: the input's text, and the turns of the three streams.
+#[derive(Clone, Copy)]
+struct Streams<'a> {
+    input: &'a str,
+    reads: &'a [Turn],
+    writes: &'a [Turn],
+    tells: &'a [Turn],
+}
+
+impl<'a> Streams<'a> {
+    // Streams that move all.
+    fn of(input: &'a str) -> Streams<'a> {
+        Streams {
+            input,
+            reads: &[],
+            writes: &[],
+            tells: &[],
+        }
+    }
+}
+
+// What a run left: its status, its output and its error stream, and how often its reads and its
+// writes were interrupted.
+#[derive(Drop)]
+struct Left {
+    status: u8,
+    output: String,
+    errors: String,
+    interrupted: (u64, u64),
+}
+
+// What these words leave.
+fn left_by<R: Alloc + Abort + Threads + Sync>(
+    rt: &R,
+    alloc: Global,
+    words: &[&str],
+    streams: Streams<'_>,
+) -> Left {
+    let mut input = reader(streams.reads, streams.input);
+    let mut output = writer(alloc, streams.writes);
+    let mut errors = writer(alloc, streams.tells);
+    let status = run_words(rt, alloc, words, &mut input, &mut output, &mut errors);
+    let interrupted = (input.interrupted(), output.interrupted());
+    Left {
+        status,
+        output: String::from_utf8(output.into_inner().taken).expect(rt, "text"),
+        errors: String::from_utf8(errors.into_inner().taken).expect(rt, "text"),
+        interrupted,
+    }
+}
+
+// Fails unless the bicycles were planned.
+fn is_planned(rt: &impl Abort, left: &Left) {
+    same(rt, left.errors.as_str(), "");
+    same(rt, left.status, 0);
+    same(
+        rt,
+        left.output.as_str().strip_prefix(BICYCLE_HISTORY),
+        Some(BICYCLE_REPORT),
+    );
+}
+
+// Fails unless a run ended so, with these bytes of output.
+fn has_ended(rt: &impl Abort, left: &Left, status: u8, output: &str, errors: &str) {
+    same(rt, left.status, status);
+    same(rt, left.output.as_str(), output);
+    same(rt, left.errors.as_str(), errors);
+}
+
+#[test]
+fn bundles_are_planned_by_1_to_64_workers(rt: HostRuntime) {
+    const WORDS: [&[&str]; 4] = [
+        &["plan"],
+        &["plan", "--workers", "1"],
+        &["plan", "--workers", "64"],
+        &["plan", "--workers=08"],
+    ];
+    let bundle = made(&rt, bicycles().bundle(rt.alloc()));
+    for words in WORDS {
+        is_planned(&rt, &left_by(&rt, rt.alloc(), words, Streams::of(&bundle)));
+    }
+}
+
+#[test]
+fn short_and_interrupted_reads_and_writes_are_gone_on_with(rt: HostRuntime) {
+    let bundle = made(&rt, bicycles().bundle(rt.alloc()));
+    let streams = Streams {
+        reads: &[Turn::Moves(7), Turn::Interrupts, Turn::Moves(1)],
+        writes: &[
+            Turn::Interrupts,
+            Turn::Moves(3),
+            Turn::Interrupts,
+            Turn::Moves(1),
+        ],
+        ..Streams::of(&bundle)
+    };
+    let left = left_by(&rt, rt.alloc(), PLAN, streams);
+    is_planned(&rt, &left);
+    same(&rt, left.interrupted, (1, 2));
+}
+
+#[test]
+fn a_reader_that_fails_is_told(rt: HostRuntime) {
+    let bundle = made(&rt, bicycles().bundle(rt.alloc()));
+    let streams = Streams {
+        reads: &[Turn::Moves(100), Turn::Fails],
+        ..Streams::of(&bundle)
+    };
+    let left = left_by(&rt, rt.alloc(), PLAN, streams);
+    has_ended(&rt, &left, 4, "", "read failed\n");
+}
+
+#[test]
+fn a_writer_that_fails_has_a_front_of_the_day(rt: HostRuntime) {
+    const WRITES: [&[Turn]; 3] = [
+        &[Turn::Moves(12), Turn::Fails],
+        &[Turn::Moves(12), Turn::Moves(0)],
+        &[Turn::Moves(12), Turn::Interrupts],
+    ];
+    let bundle = made(&rt, bicycles().bundle(rt.alloc()));
+    for writes in WRITES {
+        let streams = Streams {
+            writes,
+            ..Streams::of(&bundle)
+        };
+        let left = left_by(&rt, rt.alloc(), PLAN, streams);
+        has_ended(&rt, &left, 4, "[history]\nen", "write failed\n");
+    }
+}
+
+// The status of a run whose error stream fails.
+fn unheard_status<R: Alloc + Abort + Threads + Sync>(
+    rt: &R,
+    alloc: Global,
+    words: &[&str],
+    input: &str,
+) -> u8 {
+    let streams = Streams {
+        tells: &[Turn::Fails],
+        ..Streams::of(input)
+    };
+    left_by(rt, alloc, words, streams).status
+}
+
+#[test]
+fn a_failing_error_stream_changes_no_status(rt: HostRuntime) {
+    let alloc = rt.alloc();
+    let bundle = made(&rt, bicycles().bundle(alloc));
+    let wrong = ["plan", "--workers", "0"];
+    same(&rt, unheard_status(&rt, alloc, PLAN, &bundle), 0);
+    same(&rt, unheard_status(&rt, alloc, PLAN, ""), 1);
+    same(&rt, unheard_status(&rt, alloc, &wrong, &bundle), 2);
+    same(&rt, unheard_status(&rt, alloc, &["--help"], &bundle), 0);
+}
+
+#[test]
+fn wrong_words_are_usage(rt: HostRuntime) {
+    const WRONG: [(&[&str], &str); 9] = [
+        (
+            &[],
+            "error: 'mrp' requires a subcommand but one was not provided",
+        ),
+        (&["plans"], "error: unrecognized subcommand 'plans'"),
+        (
+            &["plan", "--workers", "0"],
+            "error: invalid value '0' for '--workers <N>': 0 is not in 1..=64",
+        ),
+        (
+            &["plan", "--workers", "65"],
+            "error: invalid value '65' for '--workers <N>': 65 is not in 1..=64",
+        ),
+        (
+            &["plan", "--workers", "x"],
+            "error: invalid value 'x' for '--workers <N>': invalid digit found in string",
+        ),
+        (
+            &["plan", "--workers"],
+            "error: a value is required for '--workers <N>' but none was supplied",
+        ),
+        (
+            &["plan", "--workers", "1", "--workers", "2"],
+            "error: the argument '--workers <N>' cannot be used multiple times",
+        ),
+        (&["plan", "more"], "error: unexpected argument 'more' found"),
+        (
+            &["--workers", "2"],
+            "error: unexpected argument '--workers' found",
+        ),
+    ];
+    let bundle = made(&rt, bicycles().bundle(rt.alloc()));
+    for (words, line) in WRONG {
+        let left = left_by(&rt, rt.alloc(), words, Streams::of(&bundle));
+        same(&rt, left.status, 2);
+        same(&rt, left.output.as_str(), "");
+        same(&rt, left.errors.as_str().lines().next(), Some(line));
+    }
+}
+
+#[test]
+fn help_is_written_to_the_output(rt: HostRuntime) {
+    const ASKED: [&[&str]; 4] = [
+        &["--help"],
+        &["plan", "--help"],
+        &["help"],
+        &["help", "plan"],
+    ];
+    for words in ASKED {
+        let left = left_by(&rt, rt.alloc(), words, Streams::of(""));
+        same(&rt, left.status, 0);
+        assert!(rt; left.output.as_str().contains("mrp plan < shop.bundle"));
+        same(&rt, left.errors.as_str(), "");
+    }
+}

@@ -1,0 +1,56 @@
+//! Days, by a call of the library.
+
+use super::texts::{LOTS_HISTORY, LOTS_REPORT};
+use super::{made, same};
+use mrp_engine::{DayFault, run_day};
+use mrp_rows::{Name, Told};
+use sample_shops::{Records, bicycles_in_lots, tower};
+use std::alloc::Global;
+use std::process::Abort;
+use std::thread::Threads;
+
+// What the day of a bundle has written, which ended so.
+fn day_of<R: Alloc + Abort + Threads + Sync>(
+    rt: &R,
+    alloc: Global,
+    bundle: &str,
+    end: Result<(), DayFault>,
+) -> String {
+    let mut reader = Told::new(bundle.as_bytes());
+    let mut writer = Told::new(Vec::new(alloc));
+    same(rt, run_day(rt, alloc, &mut reader, &mut writer, 64), end);
+    String::from_utf8(writer.into_inner()).expect(rt, "text")
+}
+
+#[test]
+fn a_day_has_its_history_and_its_report(rt: HostRuntime) {
+    let shop = Records {
+        script: "\
+1,book,BIKE,2025-01-20,12,\n\
+1,book,BIKE,2025-02-03,25,\n\
+2,ask,BIKE,2025-01-06,,\n\
+2,book,BIKE,2025-01-13,15,\n\
+2,book,BIKE,2025-01-06,10,\n\
+1,ask,BIKE,2025-01-20,,\n\
+1,run,,,,\n",
+        ..bicycles_in_lots()
+    };
+    let text = day_of(&rt, rt.alloc(), &made(&rt, shop.bundle(rt.alloc())), Ok(()));
+    same(
+        &rt,
+        text.as_str().strip_prefix(LOTS_HISTORY),
+        Some(LOTS_REPORT),
+    );
+}
+
+#[test]
+fn nothing_is_written_where_a_later_run_gets_too_large(rt: HostRuntime) {
+    let shop = Records {
+        script: "1,run,,,,\n1,book,TOP,2025-01-06,1,\n1,run,,,,\n",
+        ..tower()
+    };
+    let name = Name::new(b"B").expect(&rt, "a name");
+    let end = Err(DayFault::TooLarge(name));
+    let text = day_of(&rt, rt.alloc(), &made(&rt, shop.bundle(rt.alloc())), end);
+    same(&rt, text.as_str(), "");
+}

@@ -1,0 +1,142 @@
+//! Texts of reports and histories.
+
+use super::streams::{FakeWriter, Turn, writer};
+use super::texts::{BICYCLE_REPORT, CALLED};
+use super::{made, same};
+use mrp_item::Plan;
+use mrp_report::{ReportFault, write_history, write_report};
+use mrp_rows::Told;
+use sample_shops::{Asked, bicycles, book_of};
+use std::alloc::Global;
+use std::io::{Eprint, Write};
+use std::process::Abort;
+
+// Fails unless the text was written.
+fn has_text(rt: &impl Abort, writer: Told<Vec<u8>>, want: &str) {
+    let text = String::from_utf8(writer.into_inner()).expect(rt, "text");
+    same(rt, text.as_str(), want);
+}
+
+// Fails unless a plan has this report.
+pub fn has_report<R: Alloc + Abort>(rt: &R, alloc: Global, plan: &Plan, want: &str) {
+    let mut writer = Told::new(Vec::new(alloc));
+    same(rt, write_report(rt, alloc, plan, &mut writer), Ok(()));
+    has_text(rt, writer, want);
+}
+
+// Writers that fail, and how many bytes they take before.
+const FAILING: [(&[Turn], usize); 4] = [
+    (&[Turn::Fails], 0),
+    (&[Turn::Moves(1), Turn::Fails], 1),
+    (&[Turn::Moves(100), Turn::Fails], 100),
+    (&[Turn::Moves(100), Turn::Moves(0)], 100),
+];
+
+// Fails unless the write failed once, and the writer has taken so many bytes of the text.
+fn has_front(
+    rt: &impl Abort,
+    written: Result<(), ReportFault>,
+    writer: Told<FakeWriter<'_>>,
+    text: &str,
+    count: usize,
+) {
+    same(rt, written, Err(ReportFault::Write));
+    same(rt, writer.failures(), 1);
+    let taken = writer.into_inner().taken;
+    same(rt, Some(taken.as_slice()), text.as_bytes().get(..count));
+}
+
+#[test]
+fn a_failing_writer_has_a_front_of_the_report(rt: HostRuntime) {
+    let plan = made(&rt, bicycles().plan(rt.alloc(), &[]));
+    for (turns, count) in FAILING {
+        let mut writer = writer(rt.alloc(), turns);
+        let written = write_report(&rt, rt.alloc(), &plan, &mut writer);
+        has_front(&rt, written, writer, BICYCLE_REPORT, count);
+    }
+}
+
+// Writes the history of these calls of the bicycles' desks.
+fn write_calls<R: Abort + Eprint, W: Write>(
+    rt: &R,
+    alloc: Global,
+    calls: &[(u64, Asked)],
+    writer: &mut Told<W>,
+) -> Result<(), ReportFault> {
+    let shop = made(rt, bicycles().shop(alloc));
+    let history = made(rt, book_of(alloc, &shop, calls)).into_history();
+    write_history(alloc, &history, &shop, writer)
+}
+
+// Every call of two desks, and the front that a third asks for.
+const CALLS: &[(u64, Asked)] = &[
+    (1, Asked::Book(3, 12)),
+    (1, Asked::Book(5, 25)),
+    (2, Asked::Ask(1)),
+    (2, Asked::Book(2, 15)),
+    (2, Asked::Book(1, 10)),
+    (1, Asked::Ask(3)),
+    (2, Asked::Cancel(2)),
+    (1, Asked::Cancel(2)),
+    (1, Asked::Cancel(2)),
+    (1, Asked::Cancel(4)),
+    (1, Asked::Ask(3)),
+    (1, Asked::When(28)),
+    (2, Asked::When(51)),
+    (1, Asked::Snapshot),
+    (64, Asked::Front),
+];
+
+#[test]
+fn each_call_and_reply_has_its_row(rt: HostRuntime) {
+    let mut writer = Told::new(Vec::new(rt.alloc()));
+    same(
+        &rt,
+        write_calls(&rt, rt.alloc(), CALLS, &mut writer),
+        Ok(()),
+    );
+    same(&rt, writer.calls(), 1);
+    has_text(&rt, writer, CALLED);
+}
+
+#[test]
+fn a_failing_writer_has_a_front_of_the_history(rt: HostRuntime) {
+    for (turns, count) in FAILING {
+        let mut writer = writer(rt.alloc(), turns);
+        let written = write_calls(&rt, rt.alloc(), CALLS, &mut writer);
+        has_front(&rt, written, writer, CALLED, count);
+    }
+}
+
+// So many calls of desk 64 for the front.
+fn fronts(rt: &impl Abort, alloc: Global, count: u64) -> Vec<(u64, Asked)> {
+    let mut calls = Vec::new(alloc);
+    for _ in 0..count {
+        calls.push((64, Asked::Front)).expect(rt, "memory");
+    }
+    calls
+}
+
+// The text of their history.
+fn fronts_text(rt: &impl Abort, alloc: Global, count: u64) -> String {
+    let head = "[history]\nentry,desk,call,item,week,quantity,number,reply,value\n";
+    let mut text = String::from_str(alloc, head).expect(rt, "memory");
+    for number in 1..=count {
+        let row = format!(in alloc; "{number},64,front,,,,,front,{number}\n").expect(rt, "memory");
+        text.push_str(&row).expect(rt, "memory");
+    }
+    text
+}
+
+#[test]
+fn a_long_history_is_written_page_by_page(rt: HostRuntime) {
+    let calls = fronts(&rt, rt.alloc(), 100_000);
+    let mut writer = Told::new(Vec::new(rt.alloc()));
+    same(
+        &rt,
+        write_calls(&rt, rt.alloc(), &calls, &mut writer),
+        Ok(()),
+    );
+    assert!(rt; 10 < writer.calls() && writer.calls() < 100);
+    has_text(&rt, writer, &fronts_text(&rt, rt.alloc(), 100_000));
+}

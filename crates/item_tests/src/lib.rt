@@ -1,6 +1,0 @@
-//! Worked plans of `mrp_item`, in a crate of their own: within it they would have each of its
-//! functions proved a second time.
-#![tactic(auto)]
-
-#[cfg(test)]
-mod tests;

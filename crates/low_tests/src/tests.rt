@@ -1,0 +1,48 @@
+//! Worked values, calls with ample memory, readers and writers that fail, and threads. Tests stop
+//! where a call fails, so that no proof has to follow what is let go on the way out.
+
+ghost use Rattle.std.specs.Prelude.{◌≢◌};
+
+use mrp_qty::Qty;
+use mrp_rows::Table;
+use std::fmt::Debug;
+use std::process::Abort;
+
+mod bundles;
+mod calendars;
+mod cells;
+mod cursors;
+mod faults;
+mod joined;
+mod limits;
+mod lots;
+mod netting;
+mod quantities;
+mod streams;
+mod tables;
+mod told;
+mod turns;
+mod weeks;
+
+// The greatest quantity.
+const MOST: u64 = 1_000_000_000_000_000;
+
+// Fails unless the two are equal. One proof of the comparison serves all calls.
+fn same<T: PartialEq + Debug + Drop>(rt: &impl Abort, got: T, want: T) {
+    assert_eq!(rt; got, want);
+}
+
+// So many pieces.
+fn pieces(rt: &impl Abort, count: u64) -> Qty {
+    Qty::new(count).expect(rt, "a quantity")
+}
+
+// The table, which has to be one of the nine.
+fn one_of_nine(rt: &impl Abort, table: Table) -> Table
+    ensures { result ≢ Table.Bundle }
+{
+    if let Table::Bundle = table {
+        panic!(rt; "a table");
+    }
+    table
+}

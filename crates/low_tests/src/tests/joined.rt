@@ -1,0 +1,94 @@
+//! Tables that are kept apart, joined to a bundle.
+
+use super::{one_of_nine, same};
+use mrp_rows::{Table, fault_text, join_bundle, split_bundle};
+use std::alloc::Global;
+use std::process::Abort;
+
+#[test]
+fn a_part_is_its_section_line_its_bytes_and_a_line_feed(rt: HostRuntime) {
+    const PARTS: &[(Table, &[u8])] = &[
+        (Table::Stock, b"item,onhand\nBIKE,10"),
+        (Table::Items, b""),
+        (Table::Script, b"\n"),
+    ];
+    const BUNDLE: &[u8] = b"[stock]\nitem,onhand\nBIKE,10\n[items]\n\n[script]\n\n\n";
+    let bundle = join_bundle(rt.alloc(), PARTS).expect(&rt, "memory");
+    same(&rt, bundle.as_slice(), BUNDLE);
+    let nothing = join_bundle(rt.alloc(), &[]).expect(&rt, "memory");
+    same(&rt, nothing.len(), 0);
+}
+
+// The tables of a shop, in their order, as they are kept apart.
+const SHOP: [(Table, &[u8]); 9] = [
+    (
+        Table::Calendar,
+        b"key,value\nstart,2025-01-06\nweeks,6\nworkdays,1111100\n",
+    ),
+    (Table::Items, b"item,class,lead,scrap,lot,size,safety\n"),
+    (Table::Centres, b"centre,minutes\nWELD,20\n"),
+    (Table::Stock, b"item,onhand\nBIKE,10\nWHEEL,30"),
+    (Table::Receipts, b"\xEF\xBB\xBFitem,order,date,quantity\n"),
+    (Table::Bills, b"parent,component,per\r\nBIKE,FRAME,1\r\n"),
+    (Table::Routings, b"item,op,centre,setup,run,offset\n"),
+    (Table::Master, b""),
+    (Table::Script, b"desk,call,item,date,quantity,number\n"),
+];
+
+// The texts of the sections that they are joined to.
+const SECTIONS: &[(Table, &[u8])] = &[
+    (
+        Table::Calendar,
+        b"key,value\nstart,2025-01-06\nweeks,6\nworkdays,1111100\n\n",
+    ),
+    (Table::Items, b"item,class,lead,scrap,lot,size,safety\n\n"),
+    (Table::Centres, b"centre,minutes\nWELD,20\n\n"),
+    (Table::Stock, b"item,onhand\nBIKE,10\nWHEEL,30\n"),
+    (Table::Receipts, b"item,order,date,quantity\n\n"),
+    (Table::Bills, b"parent,component,per\r\nBIKE,FRAME,1\r\n\n"),
+    (Table::Routings, b"item,op,centre,setup,run,offset\n\n"),
+    (Table::Master, b""),
+    (Table::Script, b"desk,call,item,date,quantity,number\n\n"),
+];
+
+#[test]
+fn the_joined_tables_of_a_shop_are_split_again(rt: HostRuntime) {
+    let bundle = join_bundle(rt.alloc(), &SHOP).expect(&rt, "memory");
+    let sections = split_bundle(&bundle).expect(&rt, "sections");
+    for (table, want) in SECTIONS {
+        let text = sections.text_of(one_of_nine(&rt, *table));
+        same(&rt, (*table, text), (*table, *want));
+    }
+}
+
+// The fault of a bundle as text, or that there is none.
+fn told(rt: &impl Abort, alloc: Global, bundle: &[u8]) -> String {
+    match split_bundle(bundle) {
+        Ok(_) => String::from_str(alloc, "accepted").expect(rt, "memory"),
+        Err(fault) => fault_text(alloc, &fault).expect(rt, "memory"),
+    }
+}
+
+#[test]
+fn joined_tables_have_the_faults_of_their_bundle(rt: HostRuntime) {
+    // What stands in the place of the stock, and what the bundle is told.
+    const PARTS: &[(Table, &[u8], &str)] = &[
+        (Table::Stock, b"item,onhand\n", "accepted"),
+        (
+            Table::Stock,
+            b"item,onhand\n[orders]\nBIKE,10\n",
+            "2 unknown-section bundle 5",
+        ),
+        (Table::Items, b"item,onhand\n", "3 section-twice items 0"),
+        (Table::Bundle, b"", "2 unknown-section bundle 4"),
+    ];
+    for (table, bytes, want) in PARTS {
+        let mut parts = SHOP;
+        parts[3] = (*table, *bytes);
+        let bundle = join_bundle(rt.alloc(), &parts).expect(&rt, "memory");
+        same(&rt, told(&rt, rt.alloc(), &bundle).as_str(), *want);
+    }
+    let bundle = join_bundle(rt.alloc(), &SHOP[1..]).expect(&rt, "memory");
+    let text = told(&rt, rt.alloc(), &bundle);
+    same(&rt, text.as_str(), "4 missing-section calendar 0");
+}

@@ -1,0 +1,177 @@
+//! Tables of as many records as their limits, and of one more.
+
+use super::same;
+use mrp_rows::{Fault, Name, fault_text, split_bundle};
+use mrp_tables::Tables;
+use std::alloc::Global;
+use std::process::Abort;
+
+const SHOP: &str = "\
+[calendar]\n\
+key,value\n\
+start,2025-01-06\n\
+weeks,6\n\
+workdays,1111100\n\
+holiday,2025-01-20\n\
+[items]\n\
+item,class,lead,scrap,lot,size,safety\n\
+BIKE,master,1,0,lfl,0,0\n\
+FRAME,part,1,0,lfl,0,0\n\
+WHEEL,part,1,0,lfl,0,0\n\
+P,part,1,0,lfl,0,0\n\
+[centres]\n\
+centre,minutes\n\
+[stock]\n\
+item,onhand\n\
+[receipts]\n\
+item,order,date,quantity\n\
+FRAME,R,2025-01-22,15\n\
+[bills]\n\
+parent,component,per\n\
+BIKE,FRAME,1\n\
+BIKE,WHEEL,2\n\
+[routings]\n\
+item,op,centre,setup,run,offset\n\
+[master]\n\
+item,row,date,quantity\n\
+BIKE,forecast,2025-01-27,6\n\
+[script]\n\
+desk,call,item,date,quantity,number\n\
+1,run,,,,\n";
+
+// How many rows the tables of a bundle have, or their first fault.
+fn counts(alloc: Global, bundle: &str) -> Result<[usize; 5], Fault> {
+    let sections = split_bundle(bundle.as_bytes())?;
+    let tables = Tables::read(alloc, &sections)?;
+    Ok([
+        tables.items().len(),
+        tables.receipts().len(),
+        tables.bills().len(),
+        tables.master().len(),
+        tables.script().len(),
+    ])
+}
+
+// Fails unless the shop, where these records stand in the place of one of its own, has so many
+// rows, or this fault.
+fn has_rows(
+    rt: &impl Abort,
+    alloc: Global,
+    record: &str,
+    records: &str,
+    want: Result<[usize; 5], &str>,
+) {
+    let (front, back) = SHOP.split_once(record).expect(rt, "the record");
+    let bundle = [front, records, back].concat(alloc).expect(rt, "memory");
+    match counts(alloc, &bundle) {
+        Ok(counts) => same(rt, Ok(counts), want),
+        Err(fault) => {
+            let text = fault_text(alloc, &fault).expect(rt, "memory");
+            same(rt, Err(text.as_str()), want);
+        }
+    }
+}
+
+// So many times the same record.
+fn repeated(rt: &impl Abort, alloc: Global, record: &str, count: usize) -> String {
+    let mut records = String::new(alloc);
+    for _ in 0..count {
+        records.push_str(record).expect(rt, "memory");
+    }
+    records
+}
+
+#[test]
+fn a_record_past_its_tables_limit_is_refused(rt: HostRuntime) {
+    // A record, how often it stands, and the rows of items, receipts, bills, master and script.
+    const REPEATED: &[(&str, usize, Result<[usize; 5], &str>)] = &[
+        ("holiday,2025-01-20\n", 1_000, Ok([4, 1, 2, 1, 1])),
+        (
+            "holiday,2025-01-20\n",
+            1_001,
+            Err("20 too-many calendar 1004"),
+        ),
+        ("BIKE,WHEEL,2\n", 99_999, Ok([4, 1, 100_000, 1, 1])),
+        ("BIKE,WHEEL,2\n", 100_000, Err("20 too-many bills 100001")),
+        (
+            "BIKE,forecast,2025-01-27,6\n",
+            100_000,
+            Ok([4, 1, 2, 100_000, 1]),
+        ),
+        (
+            "BIKE,forecast,2025-01-27,6\n",
+            100_001,
+            Err("20 too-many master 100001"),
+        ),
+        ("1,run,,,,\n", 100_000, Ok([4, 1, 2, 1, 100_000])),
+        ("1,run,,,,\n", 100_001, Err("20 too-many script 100001")),
+    ];
+    for (record, count, want) in REPEATED {
+        let records = repeated(&rt, rt.alloc(), record, *count);
+        has_rows(&rt, rt.alloc(), record, &records, *want);
+    }
+}
+
+// So many records that differ in a number from 1 on, which stands where they are cut.
+fn numbered(rt: &impl Abort, alloc: Global, front: &str, back: &str, count: u32) -> String {
+    let mut records = String::new(alloc);
+    for n in 1..=count {
+        let record = format!(in alloc; "{front}{n}{back}").expect(rt, "memory");
+        records.push_str(&record).expect(rt, "memory");
+    }
+    records
+}
+
+#[test]
+fn an_item_or_receipt_past_the_limit_is_refused(rt: HostRuntime) {
+    // A record, the pieces of those that stand in its place, how many they are, and the rows.
+    const NUMBERED: &[(&str, &str, &str, u32, Result<[usize; 5], &str>)] = &[
+        (
+            "P,part,1,0,lfl,0,0\n",
+            "P",
+            ",part,1,0,lfl,0,0\n",
+            19_997,
+            Ok([20_000, 1, 2, 1, 1]),
+        ),
+        (
+            "P,part,1,0,lfl,0,0\n",
+            "P",
+            ",part,1,0,lfl,0,0\n",
+            19_998,
+            Err("20 too-many items 20001"),
+        ),
+        (
+            "FRAME,R,2025-01-22,15\n",
+            "FRAME,R",
+            ",2025-01-22,15\n",
+            100_000,
+            Ok([4, 100_000, 2, 1, 1]),
+        ),
+        (
+            "FRAME,R,2025-01-22,15\n",
+            "FRAME,R",
+            ",2025-01-22,15\n",
+            100_001,
+            Err("20 too-many receipts 100001"),
+        ),
+    ];
+    for (record, front, back, count, want) in NUMBERED {
+        let records = numbered(&rt, rt.alloc(), front, back, *count);
+        has_rows(&rt, rt.alloc(), record, &records, *want);
+    }
+}
+
+#[test]
+fn the_last_of_as_many_items_as_the_limit_is_found(rt: HostRuntime) {
+    let items = numbered(&rt, rt.alloc(), "P", ",part,1,0,lfl,0,0\n", 19_997);
+    let (front, back) = SHOP
+        .split_once("P,part,1,0,lfl,0,0\n")
+        .expect(&rt, "the record");
+    let bundle = [front, items.as_str(), back]
+        .concat(rt.alloc())
+        .expect(&rt, "memory");
+    let sections = split_bundle(bundle.as_bytes()).expect(&rt, "sections");
+    let tables = Tables::read(rt.alloc(), &sections).expect(&rt, "tables");
+    let last = Name::new(b"P19997").expect(&rt, "a name");
+    same(&rt, tables.find(&last), Some(19_999));
+}

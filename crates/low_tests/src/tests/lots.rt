@@ -1,0 +1,98 @@
+//! Planned receipts of the lot rules.
+
+ghost use Rattle.std.specs.Prelude.{◌≡◌, ◌<◌, ◌≤◌, ◌+◌, ℕ, length, IfOk};
+ghost use Rattle.mrp_phase.specs.Weeks.{in_week};
+
+use super::weeks::{has_row, row_of};
+use super::{MOST, pieces, same};
+use mrp_lots::{Fixed, Lot, LotForLot, Period, receipts};
+use mrp_net::{NeedRow, NetFault, Stock, need};
+use mrp_phase::Weeks;
+use mrp_qty::Qty;
+use std::alloc::Global;
+use std::process::Abort;
+
+// The needs of six weeks of gross requirements, with nothing on hand and nothing scheduled.
+fn needs_of(rt: &impl Abort, alloc: Global, gross: &[u64; 6]) -> NeedRow {
+    let gross = row_of(rt, alloc, gross);
+    let stock = Stock {
+        on_hand: pieces(rt, 0),
+        safety: pieces(rt, 0),
+        scheduled: row_of(rt, alloc, &[0; 6]),
+    };
+    assert_eq!(rt; gross.weeks(), stock.scheduled.weeks());
+    need(alloc, &gross, &stock).expect(rt, "needs")
+}
+
+// What any lot rule keeps: its receipts cover the needs, and nothing is ordered where they do.
+fn lawful<L: Lot>(alloc: Global, needs: &NeedRow, lot: &L) -> Result<Weeks<Qty>, NetFault>
+    ensures covers { IfOk result (λ w. (t : ℕ) → 0 < t → t ≤ length needs.now → in_week needs.now t ≤ in_week w t) }
+    ensures idle { IfOk result (λ w. (t : ℕ) → t + 1 ≤ length needs.now → in_week needs.now (t + 1) ≤ in_week w t → in_week w (t + 1) ≡ in_week w t) }
+{
+    let _rises = needs.as_slice();
+    let received = receipts(alloc, needs, lot)?;
+    Ok(received)
+}
+
+// Fails unless a rule makes these receipts of the needs of gross requirements.
+fn comes<L: Lot>(rt: &impl Abort, alloc: Global, gross: &[u64; 6], lot: &L, want: &[u64; 6]) {
+    let needs = needs_of(rt, alloc, gross);
+    let received = lawful(alloc, &needs, lot).expect(rt, "receipts");
+    has_row(rt, alloc, &received, want);
+}
+
+#[test]
+fn bikes_come_lot_for_lot(rt: HostRuntime) {
+    let gross = [0, 8, 0, 0, 3, 0];
+    comes(&rt, rt.alloc(), &gross, &LotForLot, &[0, 8, 8, 8, 11, 11]);
+}
+
+#[test]
+fn frames_come_in_lots_of_20(rt: HostRuntime) {
+    let gross = [1, 20, 0, 8, 0, 0];
+    comes(
+        &rt,
+        rt.alloc(),
+        &gross,
+        &Fixed::new(20),
+        &[20, 40, 40, 40, 40, 40],
+    );
+}
+
+#[test]
+fn wheels_come_for_two_weeks(rt: HostRuntime) {
+    let gross = [0, 26, 0, 46, 0, 0];
+    comes(
+        &rt,
+        rt.alloc(),
+        &gross,
+        &Period::new(2),
+        &[0, 26, 26, 72, 72, 72],
+    );
+}
+
+#[test]
+fn a_period_ends_with_the_horizon(rt: HostRuntime) {
+    let gross = [5, 0, 0, 0, 0, 7];
+    comes(
+        &rt,
+        rt.alloc(),
+        &gross,
+        &Period::new(5),
+        &[5, 5, 5, 5, 5, 12],
+    );
+    comes(&rt, rt.alloc(), &gross, &Period::new(104), &[12; 6]);
+}
+
+#[test]
+fn lots_past_the_greatest_quantity_are_too_large(rt: HostRuntime) {
+    let needs = needs_of(&rt, rt.alloc(), &[1, 0, 0, 0, 0, MOST - 1]);
+    let third = Fixed::new(333_333_333_333_334);
+    same(
+        &rt,
+        receipts(rt.alloc(), &needs, &third).err(),
+        Some(NetFault::TooLarge),
+    );
+    let whole = Fixed::new(MOST);
+    comes(&rt, rt.alloc(), &[1, 0, 0, 0, 0, 0], &whole, &[MOST; 6]);
+}

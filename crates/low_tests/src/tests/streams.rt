@@ -1,0 +1,181 @@
+//! Bundles read whole and texts written whole, over readers and writers that fail.
+
+use super::same;
+use super::told::{Turn, fake_reader, fake_writer};
+use mrp_rows::{ReadFault, Told, Tries, WriteFault, read_bundle, read_within, write_text};
+use std::alloc::Global;
+use std::io;
+use std::io::{ErrorKind, Read, Write};
+use std::process::Abort;
+
+// A reader and a writer that never gets through.
+#[derive(Drop)]
+struct Interrupted;
+
+impl Read for Interrupted {
+    fn read(&mut self, _buf: &mut [u8]) -> io::Result<usize> {
+        Err(io::Error::from(ErrorKind::Interrupted))
+    }
+}
+
+impl Write for Interrupted {
+    fn write(&mut self, _buf: &[u8]) -> io::Result<usize> {
+        Err(io::Error::from(ErrorKind::Interrupted))
+    }
+
+    fn flush(&mut self) -> io::Result<()> {
+        Ok(())
+    }
+}
+
+#[test]
+fn a_text_is_written_whole_over_short_and_interrupted_writes(rt: HostRuntime) {
+    const TURNS: &[Turn] = &[
+        Turn::Moves(1),
+        Turn::Interrupts,
+        Turn::Moves(2),
+        Turn::Moves(1),
+    ];
+    const TEXTS: &[&[u8]] = &[b"abcdef", b"", b"gh"];
+    let mut writer = fake_writer(rt.alloc(), TURNS);
+    let mut tries = Tries::new();
+    for text in TEXTS {
+        same(&rt, write_text(&mut writer, text, &mut tries), Ok(()));
+    }
+    same(&rt, writer.calls(), 6);
+    same(&rt, writer.interrupted(), 1);
+    same(&rt, writer.failures(), 0);
+    let taken = writer.into_inner().taken;
+    same(&rt, taken.as_slice(), b"abcdefgh".as_slice());
+}
+
+#[test]
+fn a_failing_writer_has_a_front_of_the_text(rt: HostRuntime) {
+    const FAILING: &[[Turn; 4]] = &[
+        [
+            Turn::Moves(2),
+            Turn::Interrupts,
+            Turn::Moves(1),
+            Turn::Fails,
+        ],
+        [
+            Turn::Moves(2),
+            Turn::Interrupts,
+            Turn::Moves(1),
+            Turn::Moves(0),
+        ],
+    ];
+    for turns in FAILING {
+        let mut writer = fake_writer(rt.alloc(), turns);
+        let written = write_text(&mut writer, b"abcdef", &mut Tries::new());
+        same(&rt, written, Err(WriteFault));
+        same(&rt, writer.failures(), 1);
+        let taken = writer.into_inner().taken;
+        same(&rt, taken.as_slice(), b"abc".as_slice());
+    }
+}
+
+#[test]
+fn interrupted_writes_are_tried_again_a_million_times(rt: HostRuntime) {
+    // A text, what comes of it, and how many writes have then been interrupted.
+    const WRITES: &[(&[u8], Result<(), WriteFault>, u64)] = &[
+        (b"", Ok(()), 0),
+        (b"a", Err(WriteFault), 1_000_001),
+        (b"a", Err(WriteFault), 1_000_002),
+    ];
+    let mut writer = Told::new(Interrupted);
+    let mut tries = Tries::new();
+    for (text, want, interrupted) in WRITES {
+        same(&rt, write_text(&mut writer, text, &mut tries), *want);
+        same(&rt, writer.interrupted(), *interrupted);
+        same(&rt, writer.calls(), *interrupted);
+    }
+    same(&rt, writer.failures(), 0);
+}
+
+// What a reader gives as a bundle.
+fn bundle_from<R: Read>(rt: &impl Abort, alloc: Global, reader: &mut Told<R>) -> Vec<u8> {
+    read_bundle(alloc, reader).expect(rt, "a bundle")
+}
+
+#[test]
+fn a_bundle_is_read_to_its_end(rt: HostRuntime) {
+    let mut given = Vec::new(rt.alloc());
+    for n in 0..200_000_u32 {
+        given.push((n % 251) as u8).expect(&rt, "memory");
+    }
+    let mut reader = Told::new(given.as_slice());
+    let bytes = bundle_from(&rt, rt.alloc(), &mut reader);
+    same(&rt, bytes.as_slice(), given.as_slice());
+    same(&rt, reader.into_inner().len(), 0);
+    let mut empty = Told::new(b"".as_slice());
+    same(&rt, bundle_from(&rt, rt.alloc(), &mut empty).len(), 0);
+}
+
+#[test]
+fn a_bundle_is_read_over_short_and_interrupted_reads(rt: HostRuntime) {
+    const TURNS: &[Turn] = &[
+        Turn::Moves(1),
+        Turn::Interrupts,
+        Turn::Moves(2),
+        Turn::Interrupts,
+        Turn::Interrupts,
+    ];
+    let mut reader = fake_reader(TURNS, b"abcdef");
+    let bytes = bundle_from(&rt, rt.alloc(), &mut reader);
+    same(&rt, bytes.as_slice(), b"abcdef".as_slice());
+    same(&rt, reader.calls(), 7);
+    same(&rt, reader.interrupted(), 3);
+    same(&rt, reader.failures(), 0);
+}
+
+#[test]
+fn a_failing_reader_is_told(rt: HostRuntime) {
+    const TURNS: &[Turn] = &[Turn::Moves(3), Turn::Interrupts, Turn::Fails];
+    let mut reader = fake_reader(TURNS, b"abcdef");
+    let fault = read_bundle(rt.alloc(), &mut reader).err();
+    same(&rt, fault, Some(ReadFault::Read));
+    same(&rt, reader.failures(), 1);
+    same(&rt, reader.calls(), 3);
+}
+
+#[test]
+fn a_bundle_has_at_most_67_108_864_bytes(rt: HostRuntime) {
+    let mut whole = Told::new(io::repeat(b'x').take(67_108_864));
+    same(
+        &rt,
+        bundle_from(&rt, rt.alloc(), &mut whole).len(),
+        67_108_864,
+    );
+    let mut more = Told::new(io::repeat(b'x').take(67_108_865));
+    let fault = read_bundle(rt.alloc(), &mut more).err();
+    same(&rt, fault, Some(ReadFault::Read));
+    same(&rt, more.failures(), 0);
+}
+
+#[test]
+fn reads_past_the_limit_of_calls_are_refused(rt: HostRuntime) {
+    let mut reader = Told::new(Interrupted);
+    let fault = read_within(rt.alloc(), &mut reader, 10, 1_000).err();
+    same(&rt, fault, Some(ReadFault::Read));
+    same(&rt, reader.calls(), 1_000);
+    same(&rt, reader.interrupted(), 1_000);
+    same(&rt, reader.failures(), 0);
+}
+
+#[test]
+fn the_end_may_come_at_the_last_call_and_the_last_byte(rt: HostRuntime) {
+    const TURNS: &[Turn] = &[Turn::Moves(2), Turn::Moves(1)];
+    // The most bytes and calls, and whether three bytes are read so.
+    const LIMITS: &[(usize, u32, bool)] = &[
+        (3, 3, true),
+        (2, 3, false),
+        (3, 2, false),
+        (usize::MAX, u32::MAX, true),
+    ];
+    for (most_bytes, most_calls, want) in LIMITS {
+        let mut reader = fake_reader(TURNS, b"abc");
+        let read = read_within(rt.alloc(), &mut reader, *most_bytes, *most_calls);
+        same(&rt, read.is_ok(), *want);
+    }
+}

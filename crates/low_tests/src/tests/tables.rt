@@ -1,0 +1,271 @@
+//! What the tables of a shop read as.
+
+use super::same;
+use jiff::civil::date;
+use mrp_rows::{Name, split_bundle};
+use mrp_tables::{BillLine, Class, Item, LotRule, MasterKind, ScriptCall, Tables};
+use std::alloc::Global;
+use std::process::Abort;
+
+// Bicycles in lots, with rows of no pieces and calls of each kind.
+const SHOP: &str = "\
+[calendar]\n\
+key,value\n\
+start,2025-01-06\n\
+weeks,6\n\
+workdays,1111100\n\
+holiday,2025-01-20\n\
+[items]\n\
+item,class,lead,scrap,lot,size,safety\n\
+BIKE,master,1,0,lfl,0,0\n\
+FRAME,part,1,100,fixed,20,5\n\
+WHEEL,part,2,0,period,2,0\n\
+\"A,B\",part,0,900,lfl,7,1000000000\n\
+[centres]\n\
+centre,minutes\n\
+[stock]\n\
+item,onhand\n\
+WHEEL,30\n\
+BIKE,10\n\
+[receipts]\n\
+item,order,date,quantity\n\
+WHEEL,X2,2025-02-16,1000000000\n\
+FRAME,X2,2025-01-06,1\n\
+FRAME,R0,2025-01-22,0\n\
+\"FRAME\",\"R,1\",2025-01-22,015\n\
+[bills]\n\
+parent,component,per\n\
+BIKE,FRAME,1\n\
+BIKE,WHEEL,2\n\
+[routings]\n\
+item,op,centre,setup,run,offset\n\
+[master]\n\
+item,row,date,quantity\n\
+BIKE,firm,2025-01-20,20\n\
+BIKE,firm,2025-02-03,0\n\
+BIKE,firm,2025-02-03,20\n\
+BIKE,forecast,2025-01-13,8\n\
+BIKE,forecast,2025-01-27,6\n\
+[script]\n\
+desk,call,item,date,quantity,number\n\
+1,book,BIKE,2025-01-20,12,\n\
+1,book,BIKE,2025-02-03,25,\n\
+2,ask,BIKE,2025-01-06,,\n\
+2,when,BIKE,,11,\n\
+64,cancel,,,,1000000\n\
+1,cancel,,,,02\n\
+1,run,,,,\n";
+
+fn read(rt: &impl Abort, alloc: Global, bundle: &str) -> Tables {
+    let sections = split_bundle(bundle.as_bytes()).expect(rt, "sections");
+    Tables::read(alloc, &sections).expect(rt, "tables")
+}
+
+fn name(rt: &impl Abort, text: &str) -> Name {
+    Name::new(text.as_bytes()).expect(rt, "a name")
+}
+
+#[test]
+fn dates_are_read_as_weeks_of_the_calendar(rt: HostRuntime) {
+    let shop = read(&rt, rt.alloc(), SHOP);
+    let calendar = shop.calendar();
+    same(&rt, calendar.weeks(), 6);
+    same(&rt, calendar.week_of(date(2025, 2, 16)), Some(6));
+    same(&rt, calendar.week_of(date(2025, 2, 17)), None);
+}
+
+// An item: name, class, lead, scrap, lot rule and safety stock.
+type ItemCells = (&'static str, Class, u64, u64, LotRule, u64);
+
+// Fails unless an item is so.
+fn is_item(rt: &impl Abort, item: &Item, want: &ItemCells) {
+    let (word, class, lead, scrap, lot, safety) = *want;
+    same(rt, item.name, name(rt, word));
+    same(rt, (item.class, item.lot), (class, lot));
+    same(
+        rt,
+        (item.lead, item.scrap, item.safety.value()),
+        (lead, scrap, safety),
+    );
+}
+
+#[test]
+fn items_are_read_with_scrap_lots_and_safety_stock(rt: HostRuntime) {
+    const ITEMS: &[ItemCells] = &[
+        ("BIKE", Class::Master, 1, 0, LotRule::LotForLot, 0),
+        ("FRAME", Class::Part, 1, 100, LotRule::Fixed(20), 5),
+        ("WHEEL", Class::Part, 2, 0, LotRule::Period(2), 0),
+        (
+            "A,B",
+            Class::Part,
+            0,
+            900,
+            LotRule::LotForLot,
+            1_000_000_000,
+        ),
+    ];
+    let shop = read(&rt, rt.alloc(), SHOP);
+    same(&rt, shop.items().len(), ITEMS.len());
+    for (item, want) in shop.items().iter().zip(ITEMS) {
+        is_item(&rt, item, want);
+    }
+}
+
+#[test]
+fn items_are_found_by_their_whole_names(rt: HostRuntime) {
+    const NAMES: &[(&str, Option<usize>)] = &[
+        ("BIKE", Some(0)),
+        ("FRAME", Some(1)),
+        ("WHEEL", Some(2)),
+        ("A,B", Some(3)),
+        ("bike", None),
+        ("BIK", None),
+        ("BIKES", None),
+    ];
+    let shop = read(&rt, rt.alloc(), SHOP);
+    for (text, want) in NAMES {
+        let place = shop.find(&name(&rt, text));
+        same(&rt, (*text, place), (*text, *want));
+    }
+}
+
+#[test]
+fn stock_and_bill_lines_are_read_with_their_places(rt: HostRuntime) {
+    const ON_HAND: &[(usize, u64)] = &[(2, 30), (0, 10)];
+    const LINES: &[BillLine] = &[
+        BillLine {
+            parent: 0,
+            component: 1,
+            per: 1,
+        },
+        BillLine {
+            parent: 0,
+            component: 2,
+            per: 2,
+        },
+    ];
+    let shop = read(&rt, rt.alloc(), SHOP);
+    same(&rt, shop.stock().len(), ON_HAND.len());
+    for (row, want) in shop.stock().iter().zip(ON_HAND) {
+        same(&rt, (row.item, row.on_hand.value()), *want);
+    }
+    same(&rt, shop.bills(), LINES);
+}
+
+#[test]
+fn receipts_of_some_pieces_stand_in_table_order(rt: HostRuntime) {
+    // Record, item, order, week and pieces.
+    const RECEIPTS: &[(u32, usize, &str, u16, u64)] = &[
+        (1, 2, "X2", 6, 1_000_000_000),
+        (2, 1, "X2", 1, 1),
+        (4, 1, "R,1", 3, 15),
+    ];
+    let shop = read(&rt, rt.alloc(), SHOP);
+    same(&rt, shop.receipts().len(), RECEIPTS.len());
+    for (row, want) in shop.receipts().iter().zip(RECEIPTS) {
+        let (number, item, order, week, count) = *want;
+        same(&rt, (row.number, row.item), (number, item));
+        same(&rt, row.order, name(&rt, order));
+        same(&rt, (row.week, row.quantity.value()), (week, count));
+    }
+}
+
+#[test]
+fn firm_rows_and_forecasts_of_some_pieces_stand_in_table_order(rt: HostRuntime) {
+    // Record, item, kind, week and pieces.
+    const ROWS: &[(u32, usize, MasterKind, u16, u64)] = &[
+        (1, 0, MasterKind::Firm, 3, 20),
+        (3, 0, MasterKind::Firm, 5, 20),
+        (4, 0, MasterKind::Forecast, 2, 8),
+        (5, 0, MasterKind::Forecast, 4, 6),
+    ];
+    let shop = read(&rt, rt.alloc(), SHOP);
+    same(&rt, shop.master().len(), ROWS.len());
+    for (row, want) in shop.master().iter().zip(ROWS) {
+        let got = (
+            row.number,
+            row.item,
+            row.kind,
+            row.week,
+            row.quantity.value(),
+        );
+        same(&rt, got, *want);
+    }
+}
+
+// A call: its word, item and week, and its quantity or number.
+type CallCells = (&'static str, usize, u16, u64);
+
+fn cells_of(call: ScriptCall) -> CallCells {
+    match call {
+        ScriptCall::Book {
+            item,
+            week,
+            quantity,
+        } => ("book", item, week, quantity.value()),
+        ScriptCall::Cancel { entry } => ("cancel", 0, 0, entry),
+        ScriptCall::Ask { item, week } => ("ask", item, week, 0),
+        ScriptCall::When { item, quantity } => ("when", item, 0, quantity.value()),
+        ScriptCall::Run => ("run", 0, 0, 0),
+    }
+}
+
+#[test]
+fn calls_are_read_with_places_and_weeks(rt: HostRuntime) {
+    const CALLS: &[(u64, CallCells)] = &[
+        (1, ("book", 0, 3, 12)),
+        (1, ("book", 0, 5, 25)),
+        (2, ("ask", 0, 1, 0)),
+        (2, ("when", 0, 0, 11)),
+        (64, ("cancel", 0, 0, 1_000_000)),
+        (1, ("cancel", 0, 0, 2)),
+        (1, ("run", 0, 0, 0)),
+    ];
+    let shop = read(&rt, rt.alloc(), SHOP);
+    same(&rt, shop.script().len(), CALLS.len());
+    for (row, want) in shop.script().iter().zip(CALLS) {
+        same(&rt, (row.desk, cells_of(row.call)), *want);
+    }
+}
+
+// A calendar, and no record in any other table.
+const NO_RECORDS: &str = "\
+[calendar]\n\
+key,value\n\
+start,2025-01-06\n\
+weeks,6\n\
+workdays,1111100\n\
+[items]\n\
+item,class,lead,scrap,lot,size,safety\n\
+[centres]\n\
+centre,minutes\n\
+[stock]\n\
+item,onhand\n\
+[receipts]\n\
+item,order,date,quantity\n\
+[bills]\n\
+parent,component,per\n\
+[routings]\n\
+item,op,centre,setup,run,offset\n\
+[master]\n\
+item,row,date,quantity\n\
+[script]\n\
+desk,call,item,date,quantity,number\n";
+
+#[test]
+fn tables_of_headers_alone_have_no_rows(rt: HostRuntime) {
+    let shop = read(&rt, rt.alloc(), NO_RECORDS);
+    same(&rt, shop.calendar().weeks(), 6);
+    let counts = [
+        shop.items().len(),
+        shop.centres().len(),
+        shop.stock().len(),
+        shop.receipts().len(),
+        shop.bills().len(),
+        shop.routings().len(),
+        shop.master().len(),
+        shop.script().len(),
+    ];
+    same(&rt, counts, [0; 8]);
+    same(&rt, shop.find(&name(&rt, "BIKE")), None);
+}

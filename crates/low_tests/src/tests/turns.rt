@@ -1,0 +1,208 @@
+//! Calls by turns, from one thread and from many.
+
+ghost use Rattle.std.specs.Prelude.{◌≡◌, ℕ, ◌+◌, ◌<◌, ◌≤◌, All, Contains, IfOk, length, slice_get, slice_index_or, Some, vec_len};
+ghost use Rattle.mrp_turn.specs.Seen.{newcomer, Seated};
+
+use super::same;
+use mrp_turn::tally::{Call, MOST, Refused, Reply, Tally};
+use mrp_turn::{CallFault, Entry, Log, Seat, Turn, TurnFault};
+use std::alloc::{AllocError, Global};
+use std::process::Abort;
+use std::sync::Wait;
+use std::test::Fail;
+use std::thread;
+use std::thread::Threads;
+
+// Fails unless a new lock has so many seats, with the numbers from 1 on.
+fn has_seats(rt: &impl Abort, alloc: Global, count: u64) {
+    let (_turn, seats) = Turn::new(alloc, Tally, 0, 4, count).expect(rt, "a lock");
+    same(rt, seats.len() as u64, count);
+    for place in 0..seats.len() {
+        same(rt, seats[place].number(), place as u64 + 1);
+    }
+}
+
+#[test]
+fn makes_1_to_64_seats(rt: HostRuntime) {
+    for seats in [0, 65] {
+        let refused = Turn::new(rt.alloc(), Tally, 0, 4, seats).err();
+        same(&rt, refused, Some(TurnFault::Seats));
+    }
+    has_seats(&rt, rt.alloc(), 1);
+    has_seats(&rt, rt.alloc(), 64);
+}
+
+#[test]
+fn seats_split_and_joined_leave_an_empty_log(rt: HostRuntime) -> Result<(), Fail> {
+    for count in 1..=64 {
+        let (turn, seats) = Turn::new(rt.alloc(), Tally, 0, 0, count)?;
+        let (state, log) = turn.close(seats);
+        assert_eq!(rt; state, 0);
+        assert!(rt; log.is_empty());
+    }
+    Ok(())
+}
+
+// What a call is answered, its entry's number and the sum; None where the sum would be too high.
+fn answer<R: Wait + Abort>(
+    rt: &R,
+    turn: &Turn<Tally>,
+    seat: &mut Seat<Tally>,
+    call: Call,
+) -> Option<(u64, u64)>
+    requires { seat.old.turn ≡ turn.now }
+    ensures { seat.new.turn ≡ seat.old.turn }
+{
+    match turn.call(rt, seat, call) {
+        Ok((number, Reply::Sum(sum))) => Some((number, sum)),
+        Err(CallFault::Refused(Refused::TooHigh)) => None,
+        Err(CallFault::NoMemory) => panic!(rt; "no memory"),
+    }
+}
+
+// The first two seats of a lock with so much room.
+fn two_seats(alloc: Global, room: usize) -> Result<(Turn<Tally>, Seat<Tally>, Seat<Tally>), Fail>
+    ensures { IfOk result (λ r. (r.1.turn ≡ r.0) × (r.2.turn ≡ r.0)) }
+{
+    let (turn, mut seats) = Turn::new(alloc, Tally, 0, room, 2)?;
+    let second = seats.pop().ok_or("two seats")?;
+    let first = seats.pop().ok_or("two seats")?;
+    Ok((turn, first, second))
+}
+
+#[test]
+fn a_sum_that_is_too_high_leaves_state_and_log(rt: HostRuntime) -> Result<(), Fail> {
+    let (turn, mut seat, _) = two_seats(rt.alloc(), 0)?;
+    same(
+        &rt,
+        answer(&rt, &turn, &mut seat, Call::Add(1)),
+        Some((1, 1)),
+    );
+    same(&rt, answer(&rt, &turn, &mut seat, Call::Add(MOST)), None);
+    same(&rt, answer(&rt, &turn, &mut seat, Call::Read), Some((2, 1)));
+    Ok(())
+}
+
+#[test]
+fn a_sum_may_reach_the_greatest(rt: HostRuntime) -> Result<(), Fail> {
+    let (turn, mut seat, _) = two_seats(rt.alloc(), 3)?;
+    let highest = answer(&rt, &turn, &mut seat, Call::Add(MOST));
+    same(&rt, highest, Some((1, MOST)));
+    same(
+        &rt,
+        answer(&rt, &turn, &mut seat, Call::Add(u64::MAX)),
+        None,
+    );
+    let read = answer(&rt, &turn, &mut seat, Call::Read);
+    same(&rt, read, Some((2, MOST)));
+    Ok(())
+}
+
+#[test]
+fn a_seat_that_meets_another_goes_on_from_its_calls(rt: HostRuntime) -> Result<(), Fail> {
+    let (turn, mut first, mut second) = two_seats(rt.alloc(), 2)?;
+    same(
+        &rt,
+        answer(&rt, &turn, &mut first, Call::Add(5)),
+        Some((1, 5)),
+    );
+    let met = turn.meet(&rt, &mut second, &mut first, Call::Read);
+    assert!(rt; matches!(met, Ok((2, Reply::Sum(5)))));
+    Ok(())
+}
+
+// Calls Add(1) that often.
+fn add_ones<R: Wait>(rt: &R, turn: &Turn<Tally>, mut seat: Seat<Tally>, times: u64) -> Seat<Tally>
+    requires { seat.turn ≡ turn.now }
+    ensures { (result.turn ≡ seat.turn) × (result.number ≡ seat.number) }
+{
+    for _ in 0..times {
+        let _ = turn.call(rt, &mut seat, Call::Add(1));
+    }
+    seat
+}
+
+// Each seat calls Add(1) that often, in a thread of its own.
+fn add_all<R: Threads + Wait + Sync>(
+    rt: &R,
+    turn: &Turn<Tally>,
+    seats: Vec<Seat<Tally>>,
+    times: u64,
+) -> Result<Vec<Seat<Tally>>, AllocError>
+    requires { All (λ s. s.turn ≡ turn.now) seats.items }
+    ensures { IfOk result (λ v. (vec_len v ≡ vec_len seats) × ((k : ℕ) (d : _) → k < vec_len seats → ((slice_index_or v.items k d).turn ≡ turn.now) × ((slice_index_or v.items k d).number ≡ (slice_index_or seats.items k d).number))) }
+{
+    thread::map_vec(
+        rt,
+        seats,
+        &|seat: Seat<Tally>| -> Seat<Tally>
+            requires { seat.turn ≡ turn.now }
+            ensures { (result.turn ≡ turn.entry.now) × (result.number ≡ seat.number) }
+        { add_ones(rt, turn, seat, times) },
+    )
+}
+
+// The state and the log after so many seats have called Add(1) so often, each in a thread of its own.
+fn counted<R: Threads + Wait + Sync>(
+    rt: &R,
+    alloc: Global,
+    count: u64,
+    times: u64,
+) -> Result<(u64, Log<Call, Reply>), Fail> {
+    let (turn, seats) = Turn::new(alloc, Tally, 0, 2000, count)?;
+    let seats = add_all(rt, &turn, seats, times)?;
+    Ok(turn.close(seats))
+}
+
+#[test]
+fn one_seat_leaves_its_calls_in_order(rt: HostRuntime) -> Result<(), Fail> {
+    const ENTRIES: &[(u64, Call, Reply)] = &[
+        (1, Call::Add(1), Reply::Sum(1)),
+        (1, Call::Add(1), Reply::Sum(2)),
+        (1, Call::Add(1), Reply::Sum(3)),
+    ];
+    let (state, log) = counted(&rt, rt.alloc(), 1, 3)?;
+    same(&rt, state, 3);
+    same(&rt, log.len(), ENTRIES.len());
+    for (entry, want) in log.entries().iter().zip(ENTRIES) {
+        same(&rt, (entry.who, entry.call, entry.reply), *want);
+    }
+    Ok(())
+}
+
+// Fails unless so many seats, which call so often in threads of their own, have that many entries
+// each, and the state has all that they added.
+fn all_stand(rt: &impl Abort, state: u64, log: &Log<Call, Reply>, count: u64, times: u64) {
+    same(rt, state, count.saturating_mul(times));
+    same(rt, log.len() as u64, count.saturating_mul(times));
+    for who in 1..=count {
+        let own = log.entries().iter().filter(|e| e.who == who).count();
+        same(rt, own as u64, times);
+    }
+}
+
+#[test]
+fn calls_from_threads_all_stand_in_one_log(rt: HostRuntime) -> Result<(), Fail> {
+    for (count, times) in [(2, 1000), (64, 10)] {
+        let (state, log) = counted(&rt, rt.alloc(), count, times)?;
+        all_stand(&rt, state, &log, count, times);
+    }
+    Ok(())
+}
+
+#[test]
+fn a_log_gives_its_entries_back(rt: HostRuntime) {
+    let mut entries = Vec::new(rt.alloc());
+    let entry = Entry {
+        who: 3,
+        call: 'a',
+        reply: 7u8,
+    };
+    entries.push(entry).expect(&rt, "memory");
+    let log = Log::from_entries(entries);
+    assert!(rt; !log.is_empty());
+    same(&rt, log.len(), 1);
+    for Entry { who, call, reply } in log.into_entries() {
+        same(&rt, (who, call, reply), (3, 'a', 7));
+    }
+}

@@ -1,0 +1,271 @@
+//! Bills of material: parents, components, low-level codes and loops.
+
+ghost use Rattle.std.specs.Prelude.{◌<◌};
+
+use super::{made, same};
+use mrp_bill::{Bill, BillFault, Shop};
+use mrp_tables::Tables;
+use sample_shops::{Records, no_records};
+use std::alloc::Global;
+use std::process::Abort;
+
+// A line: the places of the item that is made, and of the one that goes into it.
+type Line = (usize, usize);
+
+// The records of so many items.
+fn items(rt: &impl Abort, alloc: Global, count: usize) -> String {
+    let mut items = String::new(alloc);
+    for item in 0..count {
+        let record = format!(in alloc; "P{item},part,0,0,lfl,0,0\n").expect(rt, "memory");
+        items.push_str(&record).expect(rt, "memory");
+    }
+    items
+}
+
+// The records of these lines.
+fn bills(rt: &impl Abort, alloc: Global, lines: &[Line]) -> String {
+    let mut bills = String::new(alloc);
+    for (parent, component) in lines {
+        let record = format!(in alloc; "P{parent},P{component},1\n").expect(rt, "memory");
+        bills.push_str(&record).expect(rt, "memory");
+    }
+    bills
+}
+
+// The tables of so many items with these lines.
+fn tables_of(rt: &impl Abort, alloc: Global, count: usize, lines: &[Line]) -> Tables {
+    let items = items(rt, alloc, count);
+    let bills = bills(rt, alloc, lines);
+    let shop = Records {
+        items: &items,
+        bills: &bills,
+        ..no_records()
+    };
+    made(rt, shop.tables(alloc))
+}
+
+// The shop of so many items, where these lines are accepted.
+fn accepted(rt: &impl Abort, alloc: Global, count: usize, lines: &[Line]) -> Shop {
+    Bill::of(alloc, tables_of(rt, alloc, count, lines)).expect(rt, "a shop")
+}
+
+// The loop's path, where these lines are refused.
+fn refused(rt: &impl Abort, alloc: Global, count: usize, lines: &[Line]) -> Vec<usize> {
+    match Bill::of(alloc, tables_of(rt, alloc, count, lines)) {
+        Ok(_) => panic!(rt; "accepted"),
+        Err(BillFault::Loop { path }) => path,
+        Err(BillFault::NoMemory) => panic!(rt; "no memory"),
+    }
+}
+
+// An item: its code, its parents and components, and the lines to it.
+type ItemCells = (usize, &'static [usize], &'static [usize], &'static [usize]);
+
+// Lines, their items, an order with parents before their components, and the greatest code.
+#[derive(Clone, Copy)]
+struct Worked {
+    lines: &'static [Line],
+    items: &'static [ItemCells],
+    order: &'static [usize],
+    depth: usize,
+}
+
+const ACCEPTED: &[Worked] = &[
+    // A bike with a frame of tubes, and screws in the bike and the tubes.
+    Worked {
+        lines: &[(0, 3), (0, 1), (1, 2), (2, 3)],
+        items: &[
+            (0, &[], &[1, 3], &[]),
+            (1, &[0], &[2], &[1]),
+            (2, &[1], &[3], &[2]),
+            (3, &[0, 2], &[], &[0, 3]),
+        ],
+        order: &[0, 1, 2, 3],
+        depth: 3,
+    },
+    // A diamond is no loop.
+    Worked {
+        lines: &[(3, 1), (3, 2), (1, 0), (2, 0)],
+        items: &[
+            (2, &[1, 2], &[], &[2, 3]),
+            (1, &[3], &[0], &[0]),
+            (1, &[3], &[0], &[1]),
+            (0, &[], &[1, 2], &[]),
+        ],
+        order: &[3, 2, 1, 0],
+        depth: 2,
+    },
+    // Two lines of one pair are one parent.
+    Worked {
+        lines: &[(2, 0), (1, 0), (2, 0), (2, 1), (1, 0)],
+        items: &[
+            (2, &[1, 2], &[], &[0, 1, 2, 4]),
+            (1, &[2], &[0], &[3]),
+            (0, &[], &[0, 1], &[]),
+        ],
+        order: &[2, 1, 0],
+        depth: 2,
+    },
+    Worked {
+        lines: &[],
+        items: &[(0, &[], &[], &[]), (0, &[], &[], &[])],
+        order: &[0, 1],
+        depth: 0,
+    },
+    Worked {
+        lines: &[],
+        items: &[],
+        order: &[],
+        depth: 0,
+    },
+];
+
+// Fails unless an item is so.
+fn is_item(rt: &impl Abort, shop: &Shop, item: usize, want: &ItemCells) {
+    let (code, parents, children, lines) = *want;
+    assert!(rt; item < shop.tables().items().len());
+    same(rt, shop.code(item), code);
+    same(rt, shop.parents(item), parents);
+    same(rt, shop.children(item), children);
+    same(rt, shop.lines_to(item), lines);
+}
+
+#[test]
+fn items_have_their_parents_components_and_codes(rt: HostRuntime) {
+    for want in ACCEPTED {
+        let shop = accepted(&rt, rt.alloc(), want.items.len(), want.lines);
+        same(&rt, shop.tables().bills().len(), want.lines.len());
+        same(&rt, shop.order(), want.order);
+        same(&rt, shop.depth(), want.depth);
+        for item in 0..want.items.len() {
+            is_item(&rt, &shop, item, &want.items[item]);
+        }
+    }
+}
+
+// How many items there are, their lines, and the path from the first item that needs itself.
+const REFUSED: &[(usize, &[Line], &[usize])] = &[
+    (3, &[(0, 1), (1, 2), (2, 0)], &[0, 1, 2, 0]),
+    (1, &[(0, 0)], &[0, 0]),
+    (3, &[(0, 1), (1, 2), (2, 2)], &[2, 2]),
+    // 0 stands above the loop of 2 and 3, and 1 below it.
+    (4, &[(0, 2), (2, 3), (3, 2), (3, 1)], &[2, 3, 2]),
+    // 3 and 4 need each other, and 1 and 2; 0 stands between.
+    (
+        5,
+        &[(3, 4), (4, 3), (4, 0), (0, 2), (2, 1), (1, 2)],
+        &[1, 2, 1],
+    ),
+    // Up from 0 a walk first meets the loop of 4 and 5; the first item on a loop is 1.
+    (
+        6,
+        &[(4, 0), (5, 4), (4, 5), (1, 4), (2, 1), (1, 2)],
+        &[1, 2, 1],
+    ),
+    // A loop behind a diamond.
+    (
+        5,
+        &[(0, 1), (0, 2), (1, 3), (2, 3), (3, 4), (4, 2)],
+        &[2, 3, 4, 2],
+    ),
+];
+
+#[test]
+fn the_first_item_that_needs_itself_is_named_with_its_path(rt: HostRuntime) {
+    for (count, lines, want) in REFUSED {
+        let path = refused(&rt, rt.alloc(), *count, lines);
+        same(&rt, path.as_slice(), *want);
+    }
+}
+
+fn push(rt: &impl Abort, lines: &mut Vec<Line>, parent: usize, component: usize) {
+    lines.push((parent, component)).expect(rt, "memory");
+}
+
+#[test]
+fn a_hundred_thousand_lines_of_one_pair_are_one_parent(rt: HostRuntime) {
+    let mut lines = Vec::new(rt.alloc());
+    for _ in 0..100_000 {
+        push(&rt, &mut lines, 0, 1);
+    }
+    let shop = accepted(&rt, rt.alloc(), 2, &lines);
+    assert_eq!(rt; shop.tables().items().len(), 2);
+    same(&rt, shop.parents(1), [0].as_slice());
+    same(&rt, shop.children(0), [1].as_slice());
+    same(&rt, shop.lines_to(1).len(), 100_000);
+}
+
+// The items 0 to 19999, each the parent of the next.
+fn long_chain(rt: &impl Abort, alloc: Global) -> Vec<Line> {
+    let mut lines = Vec::new(alloc);
+    for item in 0..19_999 {
+        push(rt, &mut lines, item, item + 1);
+    }
+    lines
+}
+
+#[test]
+fn a_chain_of_twenty_thousand_items_is_accepted(rt: HostRuntime) {
+    let lines = long_chain(&rt, rt.alloc());
+    let shop = accepted(&rt, rt.alloc(), 20_000, &lines);
+    same(&rt, shop.depth(), 19_999);
+}
+
+#[test]
+fn a_loop_of_twenty_thousand_items_is_named_in_full(rt: HostRuntime) {
+    let mut lines = long_chain(&rt, rt.alloc());
+    push(&rt, &mut lines, 19_999, 0);
+    let path = refused(&rt, rt.alloc(), 20_000, &lines);
+    same(&rt, path.len(), 20_001);
+    for place in 0..path.len() {
+        same(&rt, path[place], place % 20_000);
+    }
+}
+
+// A number below a count, and the state that follows.
+fn random(state: u64, count: usize) -> (usize, u64)
+    requires { 0 < count }
+{
+    let state = state
+        .wrapping_mul(6_364_136_223_846_793_005)
+        .wrapping_add(1_442_695_040_888_963_407);
+    ((state >> 33) as usize % count, state)
+}
+
+// So many lines, less those from an item to itself, each from an item to a later one, at random.
+fn random_lines(rt: &impl Abort, alloc: Global, count: usize, many: usize) -> Vec<Line>
+    requires { 0 < count }
+{
+    let mut lines = Vec::new(alloc);
+    let mut state: u64 = 1;
+    for _ in 0..many {
+        let (left, next) = random(state, count);
+        let (right, last) = random(next, count);
+        state = last;
+        if left != right {
+            push(rt, &mut lines, left.min(right), left.max(right));
+        }
+    }
+    lines
+}
+
+#[test]
+fn a_hundred_thousand_random_lines_are_accepted(rt: HostRuntime) {
+    let lines = random_lines(&rt, rt.alloc(), 20_000, 100_000);
+    let shop = accepted(&rt, rt.alloc(), 20_000, &lines);
+    same(&rt, shop.order().len(), 20_000);
+}
+
+#[test]
+fn one_line_closes_a_loop_among_a_hundred_thousand(rt: HostRuntime) {
+    let mut lines = random_lines(&rt, rt.alloc(), 20_000, 99_999);
+    let (parent, component) = *lines.first().expect(&rt, "a line");
+    push(&rt, &mut lines, component, parent);
+    let path = refused(&rt, rt.alloc(), 20_000, &lines);
+    same(&rt, path.first(), path.last());
+    // Every loop goes through the one line that leads to an earlier item.
+    assert!(rt;
+        path.windows(2)
+            .any(|pair| pair == [component, parent].as_slice())
+    );
+}

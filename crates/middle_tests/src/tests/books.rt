@@ -1,0 +1,267 @@
+//! Order books: days of desks, snapshots, and states without entries.
+
+ghost use Rattle.std.specs.Prelude.{◌≡◌};
+ghost use Rattle.mrp_master.specs.Supply.{supply_of};
+
+use super::{made, pieces, same};
+use mrp_bill::Shop;
+use mrp_book::{Book, BookState, Booking, Line, Reply, Snapshot};
+use mrp_phase::PhaseFault;
+use sample_shops::{Asked, Said, bicycles, said};
+use std::alloc::Global;
+use std::process::Abort;
+
+// The order book of the bicycles, of which 10 are on hand and 20 firm in the weeks 3 and 5.
+#[derive(Drop)]
+struct Day {
+    shop: Shop,
+    book: Book,
+    ghost same_shop: { book.supply ≡ supply_of shop.tables },
+}
+
+impl Day {
+    fn open(rt: &impl Abort, alloc: Global) -> Day {
+        let shop = made(rt, bicycles().shop(alloc));
+        let book = Book::open(alloc, &shop).expect(rt, "memory");
+        Day { shop, book }
+    }
+
+    // What a desk is answered: the entry's number, and the reply.
+    fn call(&mut self, rt: &impl Abort, alloc: Global, desk: u64, asked: Asked) -> (u64, Reply) {
+        assert!(rt; 1 <= desk && desk <= 64);
+        let call = made(rt, asked.call(&self.shop));
+        self.book.call(alloc, desk, call).expect(rt, "a reply")
+    }
+}
+
+// A desk, what it asks, and what it is answered.
+type Answered = (u64, Asked, Said);
+
+// Fails unless the calls are answered so, by entries with the numbers from the first on.
+fn are_answered(rt: &impl Abort, alloc: Global, day: &mut Day, first: u64, script: &[Answered]) {
+    for (number, (desk, asked, want)) in (first..).zip(script) {
+        let (got, reply) = day.call(rt, alloc, *desk, *asked);
+        same(rt, (got, said(&reply)), (number, *want));
+    }
+}
+
+// The first six calls of a day of two desks.
+const MORNING: &[Answered] = &[
+    (1, Asked::Book(3, 12), ("booked", 1)),
+    (1, Asked::Book(5, 25), ("booked", 2)),
+    (2, Asked::Ask(1), ("available", 10)),
+    (2, Asked::Book(2, 15), ("short", 10)),
+    (2, Asked::Book(1, 10), ("booked", 5)),
+    (1, Asked::Ask(3), ("available", 3)),
+];
+
+// A day after its first six calls.
+fn morning(rt: &impl Abort, alloc: Global) -> Day {
+    let mut day = Day::open(rt, alloc);
+    are_answered(rt, alloc, &mut day, 1, MORNING);
+    day
+}
+
+// The snapshot of a reply.
+fn taken(rt: &impl Abort, reply: Reply) -> Snapshot {
+    match reply {
+        Reply::Taken(snapshot) => snapshot,
+        _ => panic!(rt; "a snapshot"),
+    }
+}
+
+// A booking: number, desk, week and pieces.
+type Booked = (u64, u64, u16, u64);
+
+fn booking(rt: &impl Abort, booked: &Booked) -> Booking {
+    let (number, desk, week, count) = *booked;
+    let line = Line {
+        item: 0,
+        week,
+        quantity: pieces(rt, count),
+    };
+    Booking { number, desk, line }
+}
+
+// Fails unless these bookings stand.
+fn stand(rt: &impl Abort, snapshot: &Snapshot, want: &[Booked]) {
+    same(rt, snapshot.standing().len(), want.len());
+    for (got, booked) in snapshot.standing().iter().zip(want) {
+        same(rt, *got, booking(rt, booked));
+    }
+}
+
+#[test]
+fn desks_book_until_nothing_is_available(rt: HostRuntime) {
+    let mut day = morning(&rt, rt.alloc());
+    let (number, reply) = day.call(&rt, rt.alloc(), 1, Asked::Snapshot);
+    same(&rt, number, 7);
+    let snapshot = taken(&rt, reply);
+    same(&rt, snapshot.front(), 7);
+    stand(
+        &rt,
+        &snapshot,
+        &[(1, 1, 3, 12), (2, 1, 5, 25), (5, 2, 1, 10)],
+    );
+}
+
+#[test]
+fn a_desk_cancels_its_own_bookings(rt: HostRuntime) {
+    const AFTERNOON: &[Answered] = &[
+        (2, Asked::Cancel(2), ("not-yours", 0)),
+        (1, Asked::Cancel(2), ("cancelled", 0)),
+        (1, Asked::Cancel(2), ("not-standing", 0)),
+        (1, Asked::Cancel(4), ("not-standing", 0)),
+        (1, Asked::Ask(3), ("available", 8)),
+        (1, Asked::When(28), ("week", 5)),
+        (1, Asked::Snapshot, ("taken", 13)),
+    ];
+    let mut day = morning(&rt, rt.alloc());
+    are_answered(&rt, rt.alloc(), &mut day, 7, AFTERNOON);
+    let history = day.book.into_history();
+    same(&rt, history.entries().len(), 13);
+    let last = history.entries().last().expect(&rt, "an entry");
+    let Reply::Taken(snapshot) = &last.reply else {
+        panic!(rt; "a snapshot");
+    };
+    stand(&rt, snapshot, &[(1, 1, 3, 12), (5, 2, 1, 10)]);
+}
+
+#[test]
+fn what_is_available_grows_with_the_firm_rows(rt: HostRuntime) {
+    const QUESTIONS: &[Answered] = &[
+        (1, Asked::Ask(1), ("available", 10)),
+        (1, Asked::Ask(3), ("available", 30)),
+        (1, Asked::Ask(5), ("available", 50)),
+        (1, Asked::When(11), ("week", 3)),
+        (1, Asked::When(51), ("no-week", 0)),
+        (64, Asked::Front, ("front", 6)),
+    ];
+    let mut day = Day::open(&rt, rt.alloc());
+    are_answered(&rt, rt.alloc(), &mut day, 1, QUESTIONS);
+}
+
+// What stands at an entry, from these bookings.
+fn snapshot_of(
+    rt: &impl Abort,
+    alloc: Global,
+    front: u64,
+    weeks: u16,
+    booked: &[Booked],
+) -> Result<Snapshot, PhaseFault> {
+    let mut standing = Vec::new(alloc);
+    for one in booked {
+        standing.push(booking(rt, one)).expect(rt, "memory");
+    }
+    Snapshot::new(alloc, front, weeks, standing)
+}
+
+#[test]
+fn a_copy_of_a_reply_is_equal(rt: HostRuntime) {
+    const STANDING: &[Booked] = &[(1, 1, 3, 12), (5, 2, 1, 10)];
+    let snapshot = snapshot_of(&rt, rt.alloc(), 7, 6, STANDING).expect(&rt, "a snapshot");
+    let copy = snapshot.copy().expect(&rt, "memory");
+    same(&rt, copy.front(), 7);
+    let reply = Reply::Taken(copy).copy().expect(&rt, "memory");
+    let copy = taken(&rt, reply);
+    same(&rt, copy.front(), 7);
+    stand(&rt, &copy, STANDING);
+}
+
+#[test]
+fn copies_of_replies_say_the_same(rt: HostRuntime) {
+    for reply in [Reply::Booked(3), Reply::Week(104), Reply::NoWeek] {
+        let copy = reply.copy().expect(&rt, "memory");
+        same(&rt, said(&copy), said(&reply));
+    }
+}
+
+// Fails unless so much of an item is booked in each week.
+fn is_demanded(rt: &impl Abort, alloc: Global, snapshot: &Snapshot, item: usize, want: &[u64]) {
+    let demand = snapshot.demand(alloc, item).expect(rt, "memory");
+    same(rt, demand.weeks(), want.len());
+    for (quantity, count) in demand.as_slice().iter().zip(want) {
+        same(rt, quantity.value(), *count);
+    }
+}
+
+#[test]
+fn what_stands_is_demanded_in_its_week(rt: HostRuntime) {
+    let mut day = morning(&rt, rt.alloc());
+    let (_, reply) = day.call(&rt, rt.alloc(), 1, Asked::Snapshot);
+    let before = taken(&rt, reply);
+    same(&rt, before.weeks(), 6);
+    is_demanded(&rt, rt.alloc(), &before, 0, &[10, 0, 12, 0, 25, 0]);
+    is_demanded(&rt, rt.alloc(), &before, 1, &[0; 6]);
+    let (_, cancelled) = day.call(&rt, rt.alloc(), 1, Asked::Cancel(2));
+    same(&rt, said(&cancelled), ("cancelled", 0));
+    let (_, reply) = day.call(&rt, rt.alloc(), 1, Asked::Snapshot);
+    let after = taken(&rt, reply);
+    is_demanded(&rt, rt.alloc(), &after, 0, &[10, 0, 12, 0, 0, 0]);
+    is_demanded(&rt, rt.alloc(), &before, 0, &[10, 0, 12, 0, 25, 0]);
+}
+
+#[test]
+fn a_snapshot_has_at_most_the_greatest_quantity(rt: HostRuntime) {
+    const MOST: &[Booked] = &[(1, 1, 3, 999_999_999_999_999), (2, 1, 5, 1)];
+    const MORE: &[Booked] = &[(1, 1, 3, 999_999_999_999_999), (2, 1, 5, 2)];
+    let snapshot = snapshot_of(&rt, rt.alloc(), 3, 4, MOST).expect(&rt, "a snapshot");
+    is_demanded(
+        &rt,
+        rt.alloc(),
+        &snapshot,
+        0,
+        &[0, 0, 999_999_999_999_999, 0],
+    );
+    let refused = snapshot_of(&rt, rt.alloc(), 3, 4, MORE).err();
+    same(&rt, refused, Some(PhaseFault::TooLarge));
+}
+
+// The state of the shop's book, without its entries.
+#[derive(Drop)]
+struct Between {
+    shop: Shop,
+    state: BookState,
+    ghost same_shop: { state.supply ≡ supply_of shop.tables },
+}
+
+impl Between {
+    fn open(rt: &impl Abort, alloc: Global) -> Between {
+        let shop = made(rt, bicycles().shop(alloc));
+        let state = BookState::open(alloc, &shop).expect(rt, "memory");
+        Between { shop, state }
+    }
+
+    // What a desk is answered, and the copy.
+    fn apply(&mut self, rt: &impl Abort, alloc: Global, desk: u64, asked: Asked) -> (Said, Said) {
+        let call = made(rt, asked.call(&self.shop));
+        let (reply, copy) = self.state.apply(alloc, desk, &call).expect(rt, "a reply");
+        (said(&reply), said(&copy))
+    }
+}
+
+#[test]
+fn a_state_answers_with_an_equal_copy(rt: HostRuntime) {
+    const CALLS: &[Answered] = &[
+        (1, Asked::When(11), ("week", 3)),
+        (1, Asked::When(51), ("no-week", 0)),
+        (1, Asked::Ask(3), ("available", 30)),
+        (1, Asked::Book(3, 12), ("booked", 4)),
+        (2, Asked::Book(5, 39), ("short", 38)),
+        (2, Asked::Cancel(4), ("not-yours", 0)),
+        (1, Asked::Cancel(4), ("cancelled", 0)),
+        (1, Asked::Cancel(4), ("not-standing", 0)),
+        (2, Asked::Ask(5), ("available", 50)),
+        (2, Asked::Snapshot, ("taken", 10)),
+        (2, Asked::Front, ("front", 11)),
+    ];
+    let mut between = Between::open(&rt, rt.alloc());
+    same(&rt, between.state.next_number(), 1);
+    for (desk, asked, want) in CALLS {
+        let answer = between.apply(&rt, rt.alloc(), *desk, *asked);
+        same(&rt, answer, (*want, *want));
+    }
+    same(&rt, between.state.next_number(), 12);
+    same(&rt, between.state.is_full(), false);
+    same(&rt, between.state.into_supply().weeks(), 6);
+}

@@ -1,0 +1,290 @@
+//! Offices, whose desks share one order book, in threads of their own too.
+
+ghost use Rattle.std.specs.Prelude.{◌≡◌, ℕ, ◌<◌, All, IfOk, IfSome, slice_index_or, vec_len};
+
+use super::{made, pieces, same};
+use mrp_bill::Shop;
+use mrp_book::{History, Line, Refused, Reply, Spot, Wish};
+use mrp_desk::{Desk, Office, OfficeFault};
+use sample_shops::{Asked, Said, bicycles, said};
+use std::alloc::{AllocError, Global};
+use std::process::Abort;
+use std::sync::Wait;
+use std::test::Fail;
+use std::thread;
+use std::thread::Threads;
+
+#[test]
+fn an_office_has_1_to_64_desks(rt: HostRuntime) {
+    for desks in [0, 65] {
+        let shop = made(&rt, bicycles().shop(rt.alloc()));
+        let refused = Office::open(rt.alloc(), shop, desks).err();
+        same(&rt, refused, Some(OfficeFault::Desks));
+    }
+    let shop = made(&rt, bicycles().shop(rt.alloc()));
+    let (_office, desks) = Office::open(rt.alloc(), shop, 64).expect(&rt, "an office");
+    same(&rt, desks.len(), 64);
+}
+
+// What a desk is answered: the entry's number and the reply, or why there is none.
+fn called<R: Wait + Abort>(
+    rt: &R,
+    office: &Office,
+    desk: &mut Desk,
+    asked: Asked,
+) -> Result<(u64, Reply), Refused>
+    requires { desk.old.turn ≡ office.now }
+    ensures { (desk.new.turn ≡ desk.old.turn) × (desk.new.number ≡ desk.old.number) }
+{
+    let shop: &Shop = office.shop();
+    match asked {
+        Asked::Book(week, count) => {
+            let line = Line::new(shop, 0, week, pieces(rt, count)).expect(rt, "a line");
+            office.book(rt, desk, line)
+        }
+        Asked::Cancel(number) => office.cancel(rt, desk, number),
+        Asked::Ask(week) => {
+            let spot = Spot::new(shop, 0, week).expect(rt, "a spot");
+            office.ask(rt, desk, spot)
+        }
+        Asked::When(count) => {
+            let wish = Wish::new(shop, 0, pieces(rt, count)).expect(rt, "a wish");
+            office.when(rt, desk, wish)
+        }
+        Asked::Snapshot => office.snapshot(rt, desk),
+        Asked::Front => office.front(rt, desk),
+    }
+}
+
+// What a desk is answered: the entry's number, and what the reply says.
+fn answer<R: Wait + Abort>(rt: &R, office: &Office, desk: &mut Desk, asked: Asked) -> (u64, Said)
+    requires { desk.old.turn ≡ office.now }
+    ensures { (desk.new.turn ≡ desk.old.turn) × (desk.new.number ≡ desk.old.number) }
+{
+    let (number, reply) = called(rt, office, desk, asked).expect(rt, "a reply");
+    (number, said(&reply))
+}
+
+// The last of an office's desks, and the desks before it.
+fn last_desk(office: &Office, mut desks: Vec<Desk>) -> Option<(Desk, Vec<Desk>)>
+    requires { All (λ d. d.turn ≡ office.now) desks.items }
+    ensures { IfSome result (λ r. (r.0.turn ≡ office.now) × All (λ d. d.turn ≡ office.now) r.1.items) }
+{
+    let last = desks.pop()?;
+    Some((last, desks))
+}
+
+// An office of two desks.
+#[derive(Drop)]
+struct Pair {
+    office: Office,
+    first: Desk,
+    second: Desk,
+    ghost first_of_office: { first.turn ≡ office },
+    ghost second_of_office: { second.turn ≡ office },
+    ghost count: { office.about.seats ≡ 2 },
+    ghost first_number: { first.number ≡ 1 },
+    ghost second_number: { second.number ≡ 2 },
+}
+
+impl Pair {
+    fn open(alloc: Global) -> Result<Pair, Fail> {
+        let shop = bicycles().shop(alloc)?;
+        let (office, desks) = Office::open(alloc, shop, 2)?;
+        let (second, desks) = last_desk(&office, desks).ok_or("two desks")?;
+        let (first, _) = last_desk(&office, desks).ok_or("two desks")?;
+        if first.number() != 1 || second.number() != 2 {
+            return Err("the desks 1 and 2".into());
+        }
+        Ok(Pair {
+            office,
+            first,
+            second,
+        })
+    }
+
+    // What the first desk is answered, or the second.
+    fn answer<R: Wait + Abort>(&mut self, rt: &R, is_first: bool, asked: Asked) -> (u64, Said) {
+        if is_first {
+            answer(rt, &self.office, &mut self.first, asked)
+        } else {
+            answer(rt, &self.office, &mut self.second, asked)
+        }
+    }
+
+    // A snapshot by the first desk: the number of its entry, its front, and how many bookings stand.
+    fn snapshot<R: Wait + Abort>(&mut self, rt: &R) -> (u64, u64, usize) {
+        let (number, reply) = self
+            .office
+            .snapshot(rt, &mut self.first)
+            .expect(rt, "a reply");
+        let Reply::Taken(snapshot) = reply else {
+            panic!(rt; "a snapshot");
+        };
+        (number, snapshot.front(), snapshot.standing().len())
+    }
+
+    fn close(self, alloc: Global) -> Result<History, Fail> {
+        let Pair {
+            office,
+            first,
+            second,
+        } = self;
+        let mut desks = Vec::with_capacity(alloc, 2)?;
+        desks.push_reserved(first);
+        desks.push_reserved(second);
+        Ok(office.close(desks))
+    }
+}
+
+#[test]
+fn two_desks_call_on_one_book(rt: HostRuntime) {
+    const CALLS: &[(bool, Asked, Said)] = &[
+        (true, Asked::Book(3, 12), ("booked", 1)),
+        (true, Asked::Book(5, 25), ("booked", 2)),
+        (false, Asked::Ask(1), ("available", 10)),
+        (false, Asked::Book(2, 15), ("short", 10)),
+        (false, Asked::Book(1, 10), ("booked", 5)),
+        (true, Asked::Ask(3), ("available", 3)),
+        (false, Asked::Cancel(2), ("not-yours", 0)),
+        (true, Asked::Cancel(2), ("cancelled", 0)),
+        (true, Asked::Cancel(2), ("not-standing", 0)),
+        (true, Asked::Cancel(4), ("not-standing", 0)),
+        (true, Asked::Ask(3), ("available", 8)),
+        (true, Asked::When(28), ("week", 5)),
+        (false, Asked::Snapshot, ("taken", 13)),
+        (false, Asked::Front, ("front", 14)),
+    ];
+    let mut pair = made(&rt, Pair::open(rt.alloc()));
+    for (number, (is_first, asked, want)) in (1..).zip(CALLS) {
+        let answer = pair.answer(&rt, *is_first, *asked);
+        same(&rt, answer, (number, *want));
+    }
+    same(&rt, pair.snapshot(&rt), (15, 15, 2));
+}
+
+// The desk, after it asked for the front so many times.
+fn after_fronts<R: Wait>(rt: &R, office: &Office, mut desk: Desk, times: u64) -> Desk
+    requires { desk.turn ≡ office.now }
+    ensures { result.turn ≡ desk.turn }
+{
+    for _ in 0..times {
+        let _ = office.front(rt, &mut desk);
+    }
+    desk
+}
+
+// Fails unless a call is refused because the book is full.
+fn is_refused<R: Wait + Abort>(rt: &R, office: &Office, desk: &mut Desk, asked: Asked)
+    requires { desk.old.turn ≡ office.now }
+    ensures { desk.new.turn ≡ desk.old.turn }
+{
+    let refused = called(rt, office, desk, asked).err();
+    same(rt, refused, Some(Refused::Full));
+}
+
+#[test]
+fn a_full_book_refuses_every_call(rt: HostRuntime) {
+    let Pair {
+        office,
+        first,
+        mut second,
+    } = made(&rt, Pair::open(rt.alloc()));
+    let mut first = after_fronts(&rt, &office, first, 999_999);
+    let last = answer(&rt, &office, &mut first, Asked::Front);
+    same(&rt, last, (1_000_000, ("front", 1_000_000)));
+    is_refused(&rt, &office, &mut first, Asked::Front);
+    is_refused(&rt, &office, &mut first, Asked::Book(3, 1));
+    is_refused(&rt, &office, &mut first, Asked::Cancel(1));
+    is_refused(&rt, &office, &mut second, Asked::Ask(3));
+    is_refused(&rt, &office, &mut second, Asked::When(1));
+    is_refused(&rt, &office, &mut second, Asked::Snapshot);
+    let met = office.meet(&rt, &mut second, &mut first).err();
+    same(&rt, met, Some(Refused::Full));
+}
+
+// The desk, after it booked 25 pieces in the third call on its book.
+fn after_booking<R: Wait + Abort>(rt: &R, office: &Office, mut desk: Desk) -> Desk
+    requires { desk.turn ≡ office.now }
+    ensures { result.turn ≡ desk.turn }
+{
+    let booked = answer(rt, office, &mut desk, Asked::Book(5, 25));
+    same(rt, booked, (3, ("booked", 3)));
+    desk
+}
+
+// Has each desk book 25 pieces, in a thread of its own.
+fn book_in_threads<R: Threads + Wait + Sync + Abort>(
+    rt: &R,
+    office: &Office,
+    desks: Vec<Desk>,
+) -> Result<Vec<Desk>, AllocError>
+    requires { All (λ d. d.turn ≡ office.now) desks.items }
+    ensures { IfOk result (λ v. (vec_len v ≡ vec_len desks) × ((k : ℕ) (d : _) → k < vec_len desks → (slice_index_or v.items k d).turn ≡ office.now)) }
+{
+    thread::map_vec(
+        rt,
+        desks,
+        &|desk: Desk| -> Desk
+            requires { desk.turn ≡ office.now }
+            ensures { result.turn ≡ office.entry.now }
+        { after_booking(rt, office, desk) },
+    )
+}
+
+impl Pair {
+    // The pair, after the second desk booked in a thread of its own.
+    fn book_in_a_thread<R: Threads + Wait + Sync + Abort>(
+        self,
+        rt: &R,
+        alloc: Global,
+    ) -> Result<Pair, Fail> {
+        let Pair {
+            office,
+            first,
+            second,
+        } = self;
+        let mut seconds = Vec::with_capacity(alloc, 1)?;
+        seconds.push_reserved(second);
+        let seconds = book_in_threads(rt, &office, seconds)?;
+        let (second, _) = last_desk(&office, seconds).ok_or("one desk")?;
+        if second.number() != 2 {
+            return Err("the desk 2".into());
+        }
+        Ok(Pair {
+            office,
+            first,
+            second,
+        })
+    }
+}
+
+// A pair whose desks have made four calls, the third in a thread of its own.
+fn after_four_calls<R: Threads + Wait + Sync + Abort>(rt: &R, alloc: Global) -> Pair {
+    let mut pair = made(rt, Pair::open(alloc));
+    let booked = pair.answer(rt, true, Asked::Book(3, 12));
+    same(rt, booked, (1, ("booked", 1)));
+    same(rt, pair.snapshot(rt), (2, 2, 1));
+    let mut pair = made(rt, pair.book_in_a_thread(rt, alloc));
+    same(rt, pair.snapshot(rt), (4, 4, 2));
+    pair
+}
+
+#[test]
+fn a_closed_office_has_every_call_once(rt: HostRuntime) {
+    let pair = after_four_calls(&rt, rt.alloc());
+    let history = made(&rt, pair.close(rt.alloc()));
+    same(&rt, history.entries().len(), 4);
+}
+
+#[test]
+fn a_desk_that_meets_another_makes_an_entry(rt: HostRuntime) {
+    let Pair {
+        office,
+        mut first,
+        mut second,
+    } = after_four_calls(&rt, rt.alloc());
+    let met = office.meet(&rt, &mut second, &mut first);
+    let (number, reply) = met.expect(&rt, "a reply");
+    same(&rt, (number, said(&reply)), (5, ("front", 5)));
+}

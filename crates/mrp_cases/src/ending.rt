@@ -1,0 +1,79 @@
+//! How a run of the program ends, and in what two endings differ.
+
+ghost use Rattle.std.specs.Prelude.{◌≡◌, ◌↔◌, IsTrue, IsNone, string_bytes};
+
+use std::alloc::{AllocError, Global};
+
+/// How a run ends: its exit status, the day that it writes, and the words of its error stream.
+#[derive(Drop)]
+pub struct Ending {
+    pub status: u8,
+    pub day: String,
+    pub words: String,
+}
+
+// The first line that two texts do not share: its number, from 1, and what each text has there.
+struct OtherLine<'a> {
+    number: usize,
+    ended: &'a str,
+    wanted: &'a str,
+}
+
+// What is told of a text that has no such line.
+const NO_LINE: &str = "(no line)";
+
+fn other_line<'a>(ended: &'a str, wanted: &'a str) -> Option<OtherLine<'a>>
+    ensures { IsNone result ↔ (ended.now ≡ wanted.now) }
+{
+    if ended == wanted {
+        return None;
+    }
+    let shared = ended
+        .split('\n')
+        .zip(wanted.split('\n'))
+        .take_while(|(ended, wanted)| ended == wanted)
+        .count();
+    Some(OtherLine {
+        number: shared.saturating_add(1),
+        ended: ended.split('\n').nth(shared).unwrap_or(NO_LINE),
+        wanted: wanted.split('\n').nth(shared).unwrap_or(NO_LINE),
+    })
+}
+
+// Tells, behind what is told already, the first line in which a text is another than it is wanted.
+fn tell_line(told: &mut String, text: &str, ended: &str, wanted: &str) -> Result<(), AllocError> {
+    if let Some(line) = other_line(ended, wanted) {
+        let OtherLine {
+            number,
+            ended,
+            wanted,
+        } = line;
+        write!(
+            told,
+            "; {text}, line {number}: {ended:?}, and not {wanted:?}"
+        )?;
+    }
+    Ok(())
+}
+
+impl Ending {
+    /// Whether a run has ended exactly as it is wanted to.
+    pub fn is(&self, wanted: &Ending) -> bool
+        ensures { IsTrue result ↔ (self.now.status ≡ wanted.now.status)
+            × (string_bytes self.now.day ≡ string_bytes wanted.now.day)
+            × (string_bytes self.now.words ≡ string_bytes wanted.now.words) }
+    {
+        self.status == wanted.status && self.day == wanted.day && self.words == wanted.words
+    }
+
+    /// Tells what is other than it is wanted: the status, and the first other line of the day and of the words.
+    pub fn told_beside(&self, alloc: Global, wanted: &Ending) -> Result<String, AllocError> {
+        let mut told = String::new(alloc);
+        if self.status != wanted.status {
+            write!(told, "; status {}, and not {}", self.status, wanted.status)?;
+        }
+        tell_line(&mut told, "day", &self.day, &wanted.day)?;
+        tell_line(&mut told, "words", &self.words, &wanted.words)?;
+        Ok(told)
+    }
+}

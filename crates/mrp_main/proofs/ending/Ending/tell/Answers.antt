@@ -1,0 +1,26 @@
+use Rattle.std.proofs.Common.{◌∙◌, ◌++◌, [], ◌∷◌, ℕ, List, ap, codes, subst, sym}
+use Rattle.std.specs.Prelude.{OnErr, OnOk}
+use Rattle.mrp_report.specs.Written.{HasTakenFront}
+use Rattle.mrp_engine.specs.Run.{HasTakenAll}
+use Rattle.mrp_main.specs.Ends.{words_of}
+use Rattle.mrp_main.proofs.ending.Ending.tell.Goals as goal
+
+pub returns-in-TooLarge-clause-whole : goal.returns-in-TooLarge-clause-whole
+returns-in-TooLarge-clause-whole g c =
+    subst (λ (t : List ℕ). OnOk c.write_line-in-TooLarge.result (HasTakenAll g.E.Write.contents c.args.errors.now c.write_line-in-TooLarge.new.errors t))
+    (ap (λ (name : List ℕ). codes "too large: " ++ name ++ 10 ∷ []) c.as_bytes-in-TooLarge.ensures.text ∙ sym (ap words_of c.in-TooLarge.is)) c.write_line-in-TooLarge.ensures.whole
+
+pub returns-in-TooLarge-clause-front : goal.returns-in-TooLarge-clause-front
+returns-in-TooLarge-clause-front g c =
+    subst (λ (t : List ℕ). OnErr c.write_line-in-TooLarge.result (HasTakenFront g.E.Write.contents c.args.errors.now c.write_line-in-TooLarge.new.errors t))
+    (ap (λ (name : List ℕ). codes "too large: " ++ name ++ 10 ∷ []) c.as_bytes-in-TooLarge.ensures.text ∙ sym (ap words_of c.in-TooLarge.is)) c.write_line-in-TooLarge.ensures.front
+
+pub returns-in-Read-clause-whole : goal.returns-in-Read-clause-whole
+returns-in-Read-clause-whole g c =
+    subst (λ (t : List ℕ). OnOk c.write_line-in-Read.result (HasTakenAll g.E.Write.contents c.args.errors.now c.write_line-in-Read.new.errors t)) (sym (ap words_of c.in-Read.is))
+    c.write_line-in-Read.ensures.whole
+
+pub returns-in-Write-clause-whole : goal.returns-in-Write-clause-whole
+returns-in-Write-clause-whole g c =
+    subst (λ (t : List ℕ). OnOk c.write_line-in-Write.result (HasTakenAll g.E.Write.contents c.args.errors.now c.write_line-in-Write.new.errors t)) (sym (ap words_of c.in-Write.is))
+    c.write_line-in-Write.ensures.whole

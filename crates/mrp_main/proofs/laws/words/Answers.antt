@@ -1,0 +1,82 @@
+use Rattle.std.proofs.Common.{◌≡◌, [], ◌∷◌, codes, refl}
+use Rattle.clap.specs.declared.error.kind.ErrorKind.TheVariants as kind
+use Rattle.clap.proofs.OnLiterals.{clap_on_literals}
+use Rattle.mrp_main.specs.Words.{refusals}
+use Rattle.mrp_main.proofs.laws.words.Goals as goal
+
+plan-words : refusals (codes "plan" ∷ []) ≡ []
+unfolding clap_on_literals
+plan-words = refl
+
+workers-words : refusals (codes "plan" ∷ codes "--workers" ∷ codes "64" ∷ []) ≡ []
+unfolding clap_on_literals
+workers-words = refl
+
+joined-words : refusals (codes "plan" ∷ codes "--workers=1" ∷ []) ≡ []
+unfolding clap_on_literals
+joined-words = refl
+
+help-words : refusals (codes "--help" ∷ []) ≡ kind.DisplayHelp ∷ []
+unfolding clap_on_literals
+help-words = refl
+
+short-words : refusals (codes "-h" ∷ []) ≡ kind.DisplayHelp ∷ []
+unfolding clap_on_literals
+short-words = refl
+
+of-plan-words : refusals (codes "plan" ∷ codes "--help" ∷ []) ≡ kind.DisplayHelp ∷ []
+unfolding clap_on_literals
+of-plan-words = refl
+
+none-words : refusals [] ≡ kind.MissingSubcommand ∷ []
+unfolding clap_on_literals
+none-words = refl
+
+unknown-words : refusals (codes "explode" ∷ []) ≡ kind.UnknownArgument ∷ kind.InvalidSubcommand ∷ []
+unfolding clap_on_literals
+unknown-words = refl
+
+no-worker-words : refusals (codes "plan" ∷ codes "--workers=0" ∷ []) ≡ kind.ValueValidation ∷ []
+unfolding clap_on_literals
+no-worker-words = refl
+
+too-many-words : refusals (codes "plan" ∷ codes "--workers=65" ∷ []) ≡ kind.ValueValidation ∷ []
+unfolding clap_on_literals
+too-many-words = refl
+
+no-number-words : refusals (codes "plan" ∷ codes "--workers=many" ∷ []) ≡ kind.ValueValidation ∷ []
+unfolding clap_on_literals
+no-number-words = refl
+
+pub returns-clause-plan : goal.returns-clause-plan
+returns-clause-plan c = plan-words
+
+pub returns-clause-workers : goal.returns-clause-workers
+returns-clause-workers c = workers-words
+
+pub returns-clause-joined : goal.returns-clause-joined
+returns-clause-joined c = joined-words
+
+pub returns-clause-help : goal.returns-clause-help
+returns-clause-help c = help-words
+
+pub returns-clause-short : goal.returns-clause-short
+returns-clause-short c = short-words
+
+pub returns-clause-of_plan : goal.returns-clause-of_plan
+returns-clause-of_plan c = of-plan-words
+
+pub returns-clause-none : goal.returns-clause-none
+returns-clause-none c = none-words
+
+pub returns-clause-unknown : goal.returns-clause-unknown
+returns-clause-unknown c = unknown-words
+
+pub returns-clause-no_worker : goal.returns-clause-no_worker
+returns-clause-no_worker c = no-worker-words
+
+pub returns-clause-too_many : goal.returns-clause-too_many
+returns-clause-too_many c = too-many-words
+
+pub returns-clause-no_number : goal.returns-clause-no_number
+returns-clause-no_number c = no-number-words

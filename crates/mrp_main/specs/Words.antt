@@ -1,0 +1,67 @@
+-- What the words of the command line ask for, as `clap` reads them (profile).
+use Rattle.std.specs.Prelude.{◌≡◌, ◌≢◌, ◌⊎◌, List, [], ◌∷◌, Some, true, codes, Result, Ok, Err, ⊤}
+use Rattle.std.specs.Int.{IsInRange}
+use Rattle.clap.specs.Walk.{Rule, Text}
+use Rattle.clap.specs.Simple.{App, new_app, new_rule, on_top, with_rule, with_subcommand}
+use Rattle.clap.specs.Kinds.{IsAmong, Kinds}
+use Rattle.clap.specs.Faults.{fault_of}
+use Rattle.clap.specs.declared.builder.action.ArgAction.TheVariants.{Set}
+use Rattle.clap.specs.declared.builder.value_parser.ValueParser.TheVariants.{Unsigned}
+use Rattle.clap.specs.declared.error.kind.ErrorKind.{ErrorKind}
+use Rattle.clap.specs.declared.error.kind.ErrorKind.TheVariants.{DisplayHelp, DisplayVersion, OutOfMemory}
+use Rattle.mrp_main.specs.declared.command.Request.{Request}
+use Rattle.mrp_main.specs.declared.command.Request.TheVariants.{Plan}
+use Rattle.mrp_main.specs.declared.command.NoRequest.{NoRequest}
+use Rattle.mrp_main.specs.declared.command.NoRequest.TheVariants.{Help, Usage, NoMemory}
+
+-- `--workers N`, a number from 1 to 64, or 1 where it is left out
+abbrev pub workers_rule : Rule
+workers_rule = record (new_rule (codes "workers")) {
+  long = Some (codes "workers");
+  action = Some Set;
+  value_names = 1;
+  defaults = codes "1" ∷ [];
+  parser = Some (Unsigned 1 64);
+}
+
+-- `plan`
+abbrev pub plan_command : App
+plan_command = with_rule (new_app (codes "plan")) workers_rule
+
+-- `mrp`, without its name: one of its subcommands has to be there
+abbrev pub mrp_command : App
+mrp_command =
+    with_subcommand (on_top (λ s. record s { no_binary_name = true; subcommand_required = true }) (new_app (codes "mrp"))) plan_command.top
+
+-- why clap may refuse the words; help is a refusal too, and words that are taken have none
+abbrev pub refusals : List Text → Kinds
+refusals words = fault_of mrp_command words
+
+-- a refusal that is an answer: help, or a version
+abbrev pub IsAnswer : ErrorKind → Type 0
+IsAnswer kind = (kind ≡ DisplayHelp) ⊎ (kind ≡ DisplayVersion)
+
+-- help was asked for
+abbrev pub AskForHelp : List Text → Type 0
+AskForHelp words = (kind : ErrorKind) × IsAmong kind (refusals words) × IsAnswer kind
+
+-- the words are wrong
+abbrev pub AreWrong : List Text → Type 0
+AreWrong words = (kind : ErrorKind) × IsAmong kind (refusals words) × (IsAnswer kind → ⊥)
+
+-- 1 to 64 workers
+abbrev pub HasWorkers : Request → Type 0
+HasWorkers (Plan workers) = IsInRange 1 64 workers
+
+-- what an error of clap's asks for, by its kind
+abbrev pub IsOfKind : ErrorKind → NoRequest → Type 0
+IsOfKind kind (Help text) = IsAnswer kind
+IsOfKind kind (Usage text) = (kind ≢ OutOfMemory) × (IsAnswer kind → ⊥)
+IsOfKind kind NoMemory = kind ≡ OutOfMemory
+
+-- what the words ask for, or memory was refused
+abbrev pub Asks : List Text → Result Request NoRequest → Type 0
+Asks words (Ok request) = refusals words ≡ []
+Asks words (Err (Help text)) = AskForHelp words
+Asks words (Err (Usage text)) = AreWrong words
+Asks words (Err NoMemory) = ⊤

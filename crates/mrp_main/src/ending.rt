@@ -1,0 +1,124 @@
+//! How a command ended.
+
+ghost use Rattle.std.specs.Prelude.{◌≡◌, ◌++◌, ◌∷◌, [], OnOk, OnErr, MatchResult};
+ghost use Rattle.mrp_report.specs.Written.{HasGivenUp, HasTakenFront};
+ghost use Rattle.mrp_engine.specs.Run.{HasTakenAll};
+
+use crate::status::Status;
+use mrp_engine::DayFault;
+use mrp_qty::NoMemory;
+use mrp_rows::{Name, Told, Tries, WriteFault, fault_text, write_text};
+use std::alloc::Global;
+use std::io::Write;
+
+/// How a command ended, with what is said of it.
+#[derive(Drop)]
+pub enum Ending {
+    /// What was asked for was done.
+    Done,
+    /// The bundle has a fault, of this text.
+    Refused(String),
+    /// The plan of the item of this name gets too large.
+    TooLarge(Name),
+    /// The words are wrong, as this text says.
+    Usage(String),
+    /// A growth of memory was refused.
+    NoMemory,
+    /// The input failed, or passed a limit.
+    Read,
+    /// The output failed, or was interrupted too often.
+    Write,
+}
+
+// Writes a text to the error stream.
+fn write_whole<E: Write>(errors: &mut Told<E>, text: &[u8]) -> Result<(), WriteFault>
+    ensures whole { OnOk result (HasTakenAll E.contents errors.old errors.new text.now) }
+    ensures front { OnErr result (HasTakenFront E.contents errors.old errors.new text.now) }
+    ensures gave_up { OnErr result (HasGivenUp errors.old errors.new 1000000) }
+{
+    write_text(errors, text, &mut Tries::new())
+}
+
+// Writes a line of two parts to the error stream.
+fn write_line<E: Write>(errors: &mut Told<E>, head: &[u8], rest: &[u8]) -> Result<(), WriteFault>
+    ensures whole { OnOk result (HasTakenAll E.contents errors.old errors.new (head.now ++ rest.now ++ 10 ∷ [])) }
+    ensures front { OnErr result (HasTakenFront E.contents errors.old errors.new (head.now ++ rest.now ++ 10 ∷ [])) }
+    ensures gave_up { OnErr result (HasGivenUp errors.old errors.new 1000000) }
+{
+    write_whole(errors, head)?;
+    write_whole(errors, rest)?;
+    write_whole(errors, b"\n")
+}
+
+impl Ending {
+    ghost use Rattle.std.specs.Prelude.{◌≡◌, MatchResult, OnOk, OnErr};
+    ghost use Rattle.mrp_report.specs.Written.{HasGivenUp, HasTakenFront};
+    ghost use Rattle.mrp_engine.specs.Run.{HasTakenAll};
+    ghost use Rattle.mrp_main.specs.Ends.{IsEndOf, words_of};
+    ghost use Rattle.mrp_main.specs.Status.{status_of};
+
+    // A bundle was refused: its fault's text, or want of memory for it.
+    fn of_text(text: Result<String, NoMemory>) -> Ending
+        ensures { MatchResult text (λ t. result ≡ Ending.Refused t) (λ _. result ≡ Ending.NoMemory) }
+    {
+        match text {
+            Ok(text) => Ending::Refused(text),
+            Err(NoMemory) => Ending::NoMemory,
+        }
+    }
+
+    // A day was not written whole. The text of a fault takes memory, of which there may be none.
+    fn of_fault(alloc: Global, fault: &DayFault) -> Ending
+        ensures { IsEndOf fault.now result }
+    {
+        match fault {
+            DayFault::Refused(fault) => Ending::of_text(fault_text(alloc, fault)),
+            DayFault::TooLarge(name) => Ending::TooLarge(*name),
+            DayFault::Read => Ending::Read,
+            DayFault::Write => Ending::Write,
+            DayFault::NoMemory => Ending::NoMemory,
+        }
+    }
+
+    /// How a day ended. The text of a fault takes memory.
+    pub fn of_day(alloc: Global, day: Result<(), DayFault>) -> Ending
+        ensures { MatchResult day (λ _. result ≡ Ending.Done) (λ fault. IsEndOf fault result) }
+    {
+        match day {
+            Ok(()) => Ending::Done,
+            Err(fault) => Ending::of_fault(alloc, &fault),
+        }
+    }
+
+    /// The exit status.
+    pub fn status(&self) -> Status
+        ensures { result ≡ status_of self.now }
+    {
+        match self {
+            Ending::Done => Status::Done,
+            Ending::Refused(_) | Ending::TooLarge(_) => Status::Refused,
+            Ending::Usage(_) => Status::Usage,
+            Ending::NoMemory => Status::NoMemory,
+            Ending::Read | Ending::Write => Status::Stream,
+        }
+    }
+
+    /// Says on the error stream how the command ended: nothing where it was done.
+    ///
+    /// Errors: where a write failed. A front was written then.
+    pub fn tell<E: Write>(&self, errors: &mut Told<E>) -> Result<(), WriteFault>
+        ensures whole { OnOk result (HasTakenAll E.contents errors.old errors.new (words_of self.now)) }
+        ensures front { OnErr result (HasTakenFront E.contents errors.old errors.new (words_of self.now)) }
+        ensures gave_up { OnErr result (HasGivenUp errors.old errors.new 1000000) }
+    {
+        match self {
+            Ending::Done => Ok(()),
+            Ending::Refused(text) => write_line(errors, b"refused: ", text.as_bytes()),
+            Ending::TooLarge(name) => write_line(errors, b"too large: ", name.as_bytes()),
+            Ending::Usage(text) => write_whole(errors, text.as_bytes()),
+            Ending::NoMemory => write_line(errors, b"no memory", b""),
+            Ending::Read => write_line(errors, b"read failed", b""),
+            Ending::Write => write_line(errors, b"write failed", b""),
+        }
+    }
+}

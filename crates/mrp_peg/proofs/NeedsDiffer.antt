@@ -1,0 +1,175 @@
+-- The needs of an item differ.
+use Rattle.std.proofs.Common.{◌≡◌, ◌≢◌, ◌∙◌, ℕ, zero, suc, ◌+◌, ◌<◌, ◌≤◌, Bool, true, false, cond, List, [], ◌∷◌, ◌++◌, length, get_or, map, refl, sym, ap, arith}
+use Rattle.std.specs.Prelude.{◌==◌, ◌&&◌, ◌-◌, ◌*◌, nat_lt, All, AllPairs, filter, flat_map}
+use Rattle.std.specs.List.{enumerate_from, range_with_len}
+use Rattle.std.proofs.lemmas.List.Elements.{All-nil, All-cons, All-append, All-map, All-filter}
+use Rattle.std.proofs.lemmas.List.Kept.{AllPairs-cons, AllPairs-filter}
+use Rattle.mrp_bill.specs.Bill.{line_at, lines_of}
+use Rattle.mrp_book.specs.declared.booking.Booking.{Booking}
+use Rattle.mrp_phase.specs.Weeks.{weeks}
+use Rattle.mrp_item.specs.declared.order.Order.{Order}
+use Rattle.mrp_item.specs.Inputs.{Inputs, horizon, is_master}
+use Rattle.mrp_item.specs.Rows.{booked, bookings_due, forecast}
+use Rattle.mrp_peg.specs.declared.peg.Need.{Need}
+use Rattle.mrp_peg.specs.declared.peg.NeedKind.{NeedKind}
+use Rattle.mrp_peg.specs.declared.peg.NeedKind.TheVariants.{Booking as for_booking, Forecast, Parent}
+use Rattle.mrp_peg.specs.Pegging.{booking_needs, forecast_needs, line_needs, needed, needs_in, orders_in, parent_needs, requirements}
+use Rattle.mrp_peg.specs.Units.{Amount}
+
+module _ {X : Type 0} (R : X → X → Type 0) where
+  none-pairs : AllPairs R []
+  none-pairs i j d lt h = absurd (omega (arith, h))
+
+  -- one list after another
+  append-pairs : (xs ys : List X) → AllPairs R xs → AllPairs R ys → All (λ x. All (R x) ys) xs → AllPairs R (xs ++ ys)
+  append-pairs [] ys here there across = there
+  append-pairs (x ∷ xs) ys here there across =
+      AllPairs-cons R x (xs ++ ys)
+      (All-append (R x) xs ys (λ k d h. here 0 (suc k) d (omega arith) (omega (arith, h))) (across 0 x (omega arith)))
+      (append-pairs xs ys (λ i j d lt h. here (suc i) (suc j) d (omega (arith, lt)) (omega (arith, h))) there (λ k d h. across (suc k) d (omega (arith, h))))
+
+  module _ {K : Type 0} (f : K → List X) (Q : K → K → Type 0) (apart : (k l : K) → Q k l → All (λ x. All (R x) (f l)) (f k)) where
+    all-apart : (k : K) (ks : List K) → All (Q k) ks → All (λ x. All (R x) (flat_map f ks)) (f k)
+    all-apart k [] all = λ i d h. All-nil (R (get_or (f k) i d))
+    all-apart k (l ∷ ks) all = λ i d h.
+        All-append (R (get_or (f k) i d)) (f l) (flat_map f ks) (apart k l (all 0 l (omega arith)) i d h) (all-apart k ks (λ j e g. all (suc j) e (omega (arith, g))) i d h)
+
+    -- the lists of some keys, one after another
+    flat-pairs : (ks : List K) → ((k : K) → AllPairs R (f k)) → AllPairs Q ks → AllPairs R (flat_map f ks)
+    flat-pairs [] each keys = none-pairs
+    flat-pairs (k ∷ ks) each keys =
+        append-pairs (f k) (flat_map f ks) (each k) (flat-pairs ks each (λ i j d lt h. keys (suc i) (suc j) d (omega (arith, lt)) (omega (arith, h))))
+        (all-apart k ks (λ j d h. keys 0 (suc j) d (omega arith) (omega (arith, h))))
+
+-- what is made of elements
+map-pairs : {X Y : Type 0} (Q : X → X → Type 0) (R : Y → Y → Type 0) (f : X → Y) → ((x y : X) → Q x y → R (f x) (f y)) → (xs : List X) → AllPairs Q xs → AllPairs R (map f xs)
+map-pairs Q R f step [] pairs = none-pairs R
+map-pairs Q R f step (x ∷ xs) pairs =
+    AllPairs-cons R (f x) (map f xs) (All-map (R (f x)) f xs (λ k d h. step x (get_or xs k d) (pairs 0 (suc k) d (omega arith) (omega (arith, h)))))
+    (map-pairs Q R f step xs (λ i j d lt h. pairs (suc i) (suc j) d (omega (arith, lt)) (omega (arith, h))))
+
+range-least : (a n : ℕ) → All (λ k. a ≤ k) (range_with_len a n)
+range-least a zero = All-nil (λ k. a ≤ k)
+range-least a (suc n) = All-cons (λ k. a ≤ k) a (range_with_len (a + 1) n) (omega arith) (λ k d h. omega (arith, range-least (a + 1) n k d h))
+
+range-pairs : (a n : ℕ) → AllPairs (λ k l. k < l) (range_with_len a n)
+range-pairs a zero = none-pairs (λ k l. k < l)
+range-pairs a (suc n) = AllPairs-cons (λ k l. k < l) a (range_with_len (a + 1) n) (λ k d h. omega (arith, range-least (a + 1) n k d h)) (range-pairs (a + 1) n)
+
+numbers-least : (n : ℕ) (orders : List Order) → All (λ x. n ≤ x.0) (enumerate_from n orders)
+numbers-least n [] = All-nil (λ x. n ≤ x.0)
+numbers-least n (o ∷ orders) = All-cons (λ x. n ≤ x.0) (n, o) (enumerate_from (n + 1) orders) (omega arith) (λ k d h. omega (arith, numbers-least (n + 1) orders k d h))
+
+number-pairs : (n : ℕ) (orders : List Order) → AllPairs (λ x y. x.0 < y.0) (enumerate_from n orders)
+number-pairs n [] = none-pairs (λ x y. x.0 < y.0)
+number-pairs n (o ∷ orders) =
+    AllPairs-cons (λ x y. x.0 < y.0) (n, o) (enumerate_from (n + 1) orders) (λ k d h. omega (arith, numbers-least (n + 1) orders k d h)) (number-pairs (n + 1) orders)
+
+-- two requirements are of different needs
+abbrev Differ : Amount Need → Amount Need → Type 0
+Differ a b = a.of ≢ b.of
+
+abbrev kind_of : Amount Need → NeedKind
+kind_of a = a.of.kind
+
+kinds-differ : (a b : Amount Need) → kind_of a ≢ kind_of b → Differ a b
+kinds-differ a b apart same = apart (ap (λ n. n.kind) same)
+
+bookings-differ : (m n : ℕ) → m < n → for_booking m ≢ for_booking n
+bookings-differ m n low same = let e : m ≡ n = cc in absurd (omega (arith, e, low))
+
+lines-differ : (k l a b : ℕ) → k < l → Parent (k + 1) a ≢ Parent (l + 1) b
+lines-differ k l a b low same = let e : k + 1 ≡ l + 1 = cc in absurd (omega (arith, e, low))
+
+orders-differ : (k a b : ℕ) → a < b → Parent k a ≢ Parent k b
+orders-differ k a b low same = let e : a ≡ b = cc in absurd (omega (arith, e, low))
+
+-- the bookings of a week
+booking-pairs : (s : Inputs) (i w : ℕ) → AllPairs (λ a b. a.number < b.number) s.standing → AllPairs Differ (booking_needs s i w)
+booking-pairs s i w rising =
+    map-pairs (λ (a b : Booking). a.number < b.number) Differ (λ (b : Booking). needed i w (for_booking b.number) b.line.quantity)
+    (λ a b low. kinds-differ (needed i w (for_booking a.number) a.line.quantity) (needed i w (for_booking b.number) b.line.quantity) (bookings-differ a.number b.number low))
+    (bookings_due s i w) (AllPairs-filter (λ (a b : Booking). a.number < b.number) (λ (b : Booking). (b.line.item == i) && (b.line.week == w)) s.standing rising)
+
+-- the bookings of a week and its forecast
+master-pairs : (s : Inputs) (i w : ℕ) → AllPairs (λ a b. a.number < b.number) s.standing → AllPairs Differ (booking_needs s i w ++ forecast_needs s i w)
+master-pairs s i w rising = by (nat_lt (booked s i w) (forecast s i w))
+  where
+    left : Amount Need
+    left = needed i w Forecast (forecast s i w - booked s i w)
+
+    by : (b : Bool) → AllPairs Differ (booking_needs s i w ++ cond b (left ∷ []) [])
+    by true =
+        append-pairs Differ (booking_needs s i w) (left ∷ []) (booking-pairs s i w rising) (AllPairs-cons Differ left [] (All-nil (Differ left)) (none-pairs Differ))
+        (All-map (λ x. All (Differ x) (left ∷ [])) (λ (b : Booking). needed i w (for_booking b.number) b.line.quantity) (bookings_due s i w)
+        (λ k d h. let x = needed i w (for_booking (get_or (bookings_due s i w) k d).number) (get_or (bookings_due s i w) k d).line.quantity in
+        All-cons (Differ x) left [] (kinds-differ x left (λ e. cc)) (All-nil (Differ x))))
+    by false = append-pairs Differ (booking_needs s i w) [] (booking-pairs s i w rising) (none-pairs Differ) (λ k d h. All-nil (Differ (get_or (booking_needs s i w) k d)))
+
+-- what the orders of a parent ask by a line
+line-pairs : (s : Inputs) (i w place : ℕ) → AllPairs Differ (line_needs s i w place)
+line-pairs s i w place =
+    let line = line_at s.tables.bills place in
+    let need : ℕ × Order → Amount Need = λ n. needed i w (Parent (place + 1) n.0) (n.1.start * line.per) in
+    map-pairs (λ (x y : ℕ × Order). x.0 < y.0) Differ need (λ x y low. kinds-differ (need x) (need y) (orders-differ (place + 1) x.0 y.0 low))
+    (filter (λ n. n.1.release == w) (orders_in s line.parent))
+    (AllPairs-filter (λ (x y : ℕ × Order). x.0 < y.0) (λ n. n.1.release == w) (orders_in s line.parent) (number-pairs 1 _))
+
+-- what two lines ask
+lines-apart : (s : Inputs) (i w k l : ℕ) → k < l → All (λ x. All (Differ x) (line_needs s i w l)) (line_needs s i w k)
+lines-apart s i w k l low =
+    let one = line_at s.tables.bills k in
+    let other = line_at s.tables.bills l in
+    let need : ℕ × Order → Amount Need = λ n. needed i w (Parent (k + 1) n.0) (n.1.start * one.per) in
+    let next : ℕ × Order → Amount Need = λ n. needed i w (Parent (l + 1) n.0) (n.1.start * other.per) in
+    let ours = filter (λ n. n.1.release == w) (orders_in s one.parent) in
+    let theirs = filter (λ n. n.1.release == w) (orders_in s other.parent) in
+    All-map (λ x. All (Differ x) (map next theirs)) need ours
+    (λ a d h. All-map (Differ (need (get_or ours a d))) next theirs
+    (λ b e g. kinds-differ (need (get_or ours a d)) (next (get_or theirs b e)) (lines-differ k l (get_or ours a d).0 (get_or theirs b e).0 low)))
+
+-- the needs of a week
+week-pairs : (s : Inputs) (i w : ℕ) → AllPairs (λ a b. a.number < b.number) s.standing → AllPairs Differ (needs_in s i w)
+week-pairs s i w rising = by (is_master s i)
+  where
+    by : (b : Bool) → AllPairs Differ (cond b (booking_needs s i w ++ forecast_needs s i w) (parent_needs s i w))
+    by true = master-pairs s i w rising
+    by false =
+        flat-pairs Differ (line_needs s i w) (λ k l. k < l) (lines-apart s i w) (lines_of s.tables.bills i) (line-pairs s i w)
+        (AllPairs-filter (λ k l. k < l) (λ place. (line_at s.tables.bills place).component == i) (range_with_len 0 (length s.tables.bills)) (range-pairs 0 (length s.tables.bills)))
+
+abbrev IsOfWeek : ℕ → Amount Need → Type 0
+IsOfWeek w a = a.of.week ≡ w
+
+-- each need of a week is of the week
+of-week : (s : Inputs) (i w : ℕ) → All (IsOfWeek w) (needs_in s i w)
+of-week s i w = by (is_master s i)
+  where
+    lines : (places : List ℕ) → All (IsOfWeek w) (flat_map (line_needs s i w) places)
+    lines [] = All-nil (IsOfWeek w)
+    lines (place ∷ places) =
+        All-append (IsOfWeek w) (line_needs s i w place) (flat_map (line_needs s i w) places)
+        (All-map (IsOfWeek w) (λ (n : ℕ × Order). needed i w (Parent (place + 1) n.0) (n.1.start * (line_at s.tables.bills place).per)) (filter (λ n. n.1.release == w) (orders_in s (line_at s.tables.bills place).parent)) (λ k d h. refl))
+        (lines places)
+
+    left : (b : Bool) → All (IsOfWeek w) (cond b (needed i w Forecast (forecast s i w - booked s i w) ∷ []) [])
+    left true = All-cons (IsOfWeek w) (needed i w Forecast (forecast s i w - booked s i w)) [] refl (All-nil (IsOfWeek w))
+    left false = All-nil (IsOfWeek w)
+
+    by : (b : Bool) → All (IsOfWeek w) (cond b (booking_needs s i w ++ forecast_needs s i w) (parent_needs s i w))
+    by true =
+        All-append (IsOfWeek w) (booking_needs s i w) (forecast_needs s i w)
+        (All-map (IsOfWeek w) (λ (b : Booking). needed i w (for_booking b.number) b.line.quantity) (bookings_due s i w) (λ k d h. refl)) (left (nat_lt (booked s i w) (forecast s i w)))
+    by false = lines (lines_of s.tables.bills i)
+
+-- the needs of two weeks
+weeks-apart : (s : Inputs) (i v w : ℕ) → v < w → All (λ x. All (Differ x) (needs_in s i w)) (needs_in s i v)
+weeks-apart s i v w low = λ a d h b e g.
+    let one = of-week s i v a d h in
+    let other = of-week s i w b e g in
+    λ same. absurd (omega (arith, one, other, low, ap (λ n. n.week) same))
+
+-- all needs of an item
+pub needs-differ : (s : Inputs) (i : ℕ) → AllPairs (λ a b. a.number < b.number) s.standing → AllPairs (λ a b. a.of ≢ b.of) (requirements s i)
+unfolding requirements
+needs-differ s i rising = flat-pairs Differ (needs_in s i) (λ v w. v < w) (weeks-apart s i) (weeks (horizon s)) (λ w. week-pairs s i w rising) (range-pairs 1 (horizon s))

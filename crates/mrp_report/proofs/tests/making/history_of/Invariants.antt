@@ -1,6 +1,0 @@
-use Rattle.std.proofs.Common.{◌≡◌}
-use Rattle.mrp_master.specs.Supply.{supply_of}
-use Rattle.mrp_report.proofs.tests.making.history_of.Given as goal
-
-abbrev pub invariant-loop-desk : goal.invariant-loop-desk
-invariant-loop-desk l = l.order_book.supply ≡ supply_of l.shop.tables

@@ -1,0 +1,39 @@
+//! Order books of sample shops.
+
+ghost use Rattle.std.specs.Prelude.{◌≡◌, IfOk};
+ghost use Rattle.mrp_master.specs.Supply.{supply_of};
+ghost use Rattle.mrp_book.specs.Booked.{AreBooked};
+
+use crate::asked::Asked;
+use mrp_bill::Shop;
+use mrp_book::{Book, Call, Reply, Snapshot};
+use std::alloc::Global;
+use std::test::Fail;
+
+/// The order book of a shop, after these calls of its desks.
+pub fn book_of(alloc: Global, shop: &Shop, calls: &[(u64, Asked)]) -> Result<Book, Fail>
+    ensures { IfOk result (λ b. b.supply ≡ supply_of shop.now.tables) }
+{
+    let mut book = Book::open(alloc, shop)?;
+    for (desk, asked) in calls {
+        if *desk < 1 || 64 < *desk {
+            return Err(Fail::from("a desk from 1 to 64"));
+        }
+        let call = asked.call(shop)?;
+        book.call(alloc, *desk, call)?;
+    }
+    Ok(book)
+}
+
+/// What stands after these calls of a shop's desks: desk 1 asks for it.
+pub fn snapshot_of(alloc: Global, shop: &Shop, calls: &[(u64, Asked)]) -> Result<Snapshot, Fail>
+    ensures { IfOk result (λ s. AreBooked (supply_of shop.now.tables) s.standing) }
+{
+    let mut book = book_of(alloc, shop, calls)?;
+    let _legal = book.entries();
+    let (_, reply) = book.call(alloc, 1, Call::Snapshot)?;
+    match reply {
+        Reply::Taken(snapshot) => Ok(snapshot),
+        _ => Err(Fail::from("a snapshot")),
+    }
+}
