@@ -10,7 +10,8 @@ use Rattle.mrp_qty.specs.Quantity.{greatest_quantity}
 use Rattle.mrp_phase.specs.Weeks.{in_week, row, with_week}
 use Rattle.mrp_phase.proofs.WeekRows.{in_week_replicate, in_week_row, row_is, row_same, with_week-row}
 use Rattle.mrp_master.specs.declared.line.Line.{Line}
-use Rattle.mrp_master.specs.Supply.{Supply, IsMaster, IsSupply, IsWeek}
+use Rattle.mrp_master.specs.Lines.{IsLine}
+use Rattle.mrp_master.specs.Supply.{Supply, IsMaster, IsSupply}
 use Rattle.mrp_master.specs.AtpRow.{due_in}
 use Rattle.mrp_book.specs.declared.booking.Booking.{Booking}
 use Rattle.mrp_book.specs.Booked.{AreBooked}
@@ -30,12 +31,12 @@ pub little_together : (weeks : ℕ) (bs : List Booking) → sum_by (λ (b : Book
 little_together weeks bs h item week a b = omega (arith, due_in-le-all item week bs)
 
 -- of an item that is no master item nothing is booked
-nothing_of : (s : Supply) (item week : ℕ) (bs : List Booking) → ¬ IsMaster s item → All (λ (b : Booking). IsMaster s b.line.item × IsWeek s b.line.week) bs → due_in item week (lines_of bs) ≡ 0
+nothing_of : (s : Supply) (item week : ℕ) (bs : List Booking) → ¬ IsMaster s item → All (λ (b : Booking). IsLine s b.line) bs → due_in item week (lines_of bs) ≡ 0
 nothing_of s item week [] fails all = refl
 nothing_of s item week (b ∷ bs) fails all =
-    let In : Booking → Type 0 = λ (b : Booking). IsMaster s b.line.item × IsWeek s b.line.week in
-    let inside : IsMaster s b.line.item × IsWeek s b.line.week = All-head In b bs all in
-    let apart : item ≢ b.line.item = λ (e : item ≡ b.line.item). fails (subst (IsMaster s) (sym e) inside.0) in
+    let In : Booking → Type 0 = λ (b : Booking). IsLine s b.line in
+    let inside : IsLine s b.line = All-head In b bs all in
+    let apart : item ≢ b.line.item = λ (e : item ≡ b.line.item). fails (subst (IsMaster s) (sym e) inside.item) in
     omega (arith, due_in-cons item week b.line (lines_of bs), part_other_item item week b.line apart, nothing_of s item week bs fails (All-tail In b bs all))
 
 -- what a book books is little

@@ -9,7 +9,8 @@ use Rattle.std.proofs.lemmas.List.Elements.{All-filter, All-get_or, All-head, Al
 use Rattle.std.proofs.lemmas.List.Kept.{AllPairs-filter}
 use Rattle.std.proofs.lemmas.List.Quantifiers.{all_pairs_push}
 use Rattle.mrp_master.specs.declared.line.Line.{Line}
-use Rattle.mrp_master.specs.Supply.{Supply, CanPromise, IsCovered, IsMaster, IsWeek, line}
+use Rattle.mrp_master.specs.Lines.{IsLine}
+use Rattle.mrp_master.specs.Supply.{Supply, CanPromise, IsCovered, IsMaster, line}
 use Rattle.mrp_master.specs.AtpRow.{AtpRow, IsCoveredRow, IsWeekOf, atp_row, due_in, with_booking, without_booking}
 use Rattle.mrp_phase.specs.Weeks.{in_week}
 use Rattle.mrp_book.specs.declared.booking.Booking.{Booking}
@@ -28,7 +29,7 @@ IsBefore a b = a.number < b.number
 
 -- lines of the horizon are due from week 1 on
 pub from_first : (s : Supply) (bs : List Booking) → AreBooked s bs → FromFirst (lines_of bs)
-from_first s bs booked = All-map (λ l. 1 ≤ l.week) (λ (b : Booking). b.line) bs (All-weaker (λ (b : Booking). IsMaster s b.line.item × IsWeek s b.line.week) (λ (b : Booking). 1 ≤ b.line.week) (λ b h. h.1.0) bs booked.lines)
+from_first s bs booked = All-map (λ l. 1 ≤ l.week) (λ (b : Booking). b.line) bs (All-weaker (λ (b : Booking). IsLine s b.line) (λ (b : Booking). 1 ≤ b.line.week) (λ b is_line. is_line.week.0) bs booked.lines)
 
 -- what is found in a list holds of its elements
 find-all : (P : Booking → Type 0) (p : Booking → Bool) (bs : List Booking) (b : Booking) → find p bs ≡ Some b → All P bs → P b
@@ -118,23 +119,23 @@ module _ (s : Supply) (entries : ℕ) (rows : List (Option AtpRow)) (made : List
 
   -- A booking.
 
-  module _ (b : Booking) (master : IsMaster s b.line.item) (week : IsWeek s b.line.week) where
+  module _ (b : Booking) (is_line : IsLine s b.line) where
     lines-push : lines_of (standing_of made ++ b ∷ []) ≡ due ++ b.line ∷ []
     lines-push = map-append (λ (b : Booking). b.line) (standing_of made) (b ∷ [])
 
     pub take_week : (found : Option AtpRow) → found ≡ get_or rows b.line.item found → (r : AtpRow) → found ≡ Some r → IsWeekOf r b.line.week
     take_week found here r is =
-        let same : Some (atp_row s b.line.item due) ≡ Some r = sym (row_found b.line.item found master here) ∙ is in
+        let same : Some (atp_row s b.line.item due) ≡ Some r = sym (row_found b.line.item found is_line.item here) ∙ is in
         let own : atp_row s b.line.item due ≡ r = cc in
-        subst (λ (x : AtpRow). IsWeekOf x b.line.week) own (week_of_row s b.line.item due b.line.week week)
+        subst (λ (x : AtpRow). IsWeekOf x b.line.week) own (week_of_row s b.line.item due b.line.week is_line.week)
 
     pub take_fits : CanPromise s due b.line.item b.line.quantity b.line.week → (found : Option AtpRow) → found ≡ get_or rows b.line.item found → (r : AtpRow) → found ≡ Some r → IsCoveredRow (with_booking r b.line.week b.line.quantity)
     take_fits can found here r is =
-        let same : Some (atp_row s b.line.item due) ≡ Some r = sym (row_found b.line.item found master here) ∙ is in
+        let same : Some (atp_row s b.line.item due) ≡ Some r = sym (row_found b.line.item found is_line.item here) ∙ is in
         let own : atp_row s b.line.item due ≡ r = cc in
         let all : FromFirst due = from_first s (standing_of made) k.booked in
         let fits : IsCovered s (due ++ line b.line.item b.line.week b.line.quantity ∷ []) = promise_fits s due b.line.item b.line.week b.line.quantity can in
-        subst (λ (x : AtpRow). IsCoveredRow (with_booking x b.line.week b.line.quantity)) own (row_fits s k.supplied b.line.item master due all k.booked.covered b.line.week b.line.quantity week fits)
+        subst (λ (x : AtpRow). IsCoveredRow (with_booking x b.line.week b.line.quantity)) own (row_fits s k.supplied b.line.item is_line.item due all k.booked.covered b.line.week b.line.quantity is_line.week fits)
 
     pub keeps_booking : b.number ≡ entries + 1 → entries < 1000000 → CanPromise s due b.line.item b.line.quantity b.line.week
         → (found new : Option AtpRow) → found ≡ get_or rows b.line.item found → new ≡ option_map (λ (r : AtpRow). with_booking r b.line.week b.line.quantity) found
@@ -145,15 +146,15 @@ module _ (s : Supply) (entries : ℕ) (rows : List (Option AtpRow)) (made : List
         let all : FromFirst due = from_first s (standing_of made) k.booked in
         let fits : IsCovered s (due ++ b.line ∷ []) = promise_fits s due b.line.item b.line.week b.line.quantity can in
         let row : new ≡ Some (atp_row s b.line.item (lines_of later)) =
-        taken ∙ ap (option_map (λ (r : AtpRow). with_booking r b.line.week b.line.quantity)) (row_found b.line.item found master here)
-        ∙ ap Some (row_with s b.line.item due b.line.week b.line.quantity week ∙ ap (atp_row s b.line.item) (sym lines-push)) in
+        taken ∙ ap (option_map (λ (r : AtpRow). with_booking r b.line.week b.line.quantity)) (row_found b.line.item found is_line.item here)
+        ∙ ap Some (row_with s b.line.item due b.line.week b.line.quantity is_line.week ∙ ap (atp_row s b.line.item) (sym lines-push)) in
         let stand : standing_of (made ++ m ∷ []) ≡ later = standing_of-push made b in
         subst (λ (x : List Made). KeepsState s (entries + 1) (set rows b.line.item new) x) (sym made_longer) (record {
           supplied = k.supplied;
           by_item = subst (HasRows s (set rows b.line.item new)) (sym stand)
-              (changed_rows b.line.item new later master row (λ other ne. sym (row_same_with s other due b.line ne) ∙ ap (atp_row s other) (sym lines-push)));
+              (changed_rows b.line.item new later is_line.item row (λ other ne. sym (row_same_with s other due b.line ne) ∙ ap (atp_row s other) (sym lines-push)));
           booked = subst (AreBooked s) (sym stand) (record {
-            lines = All-push (λ (b : Booking). IsMaster s b.line.item × IsWeek s b.line.week) (standing_of made) b k.booked.lines (master, week);
+            lines = All-push (λ (b : Booking). IsLine s b.line) (standing_of made) b k.booked.lines is_line;
             covered = subst (IsCovered s) (sym lines-push) fits;
             rising = rising-booked b numbered;
           });
@@ -194,9 +195,9 @@ module _ (s : Supply) (entries : ℕ) (rows : List (Option AtpRow)) (made : List
     after = set made place (cancelled m)
 
     -- the standing booking is of the shop
-    pub cancel_lines : m.stands ≡ true → IsMaster s m.booking.line.item × IsWeek s m.booking.line.week
+    pub cancel_lines : m.stands ≡ true → IsLine s m.booking.line
     cancel_lines stands =
-        find-all (λ (b : Booking). IsMaster s b.line.item × IsWeek s b.line.week) (has_number m.booking.number) (standing_of made) m.booking
+        find-all (λ (b : Booking). IsLine s b.line) (has_number m.booking.number) (standing_of made) m.booking
         (found_at m.booking.number own_number ∙ ap (λ (v : Bool). if v then Some m.booking else None) stands) k.booked.lines
 
     parts : m.stands ≡ true → (item week : ℕ) → due_in item week due ≡ due_in item week (lines_of (standing_of after)) + part item week m.booking.line
@@ -229,17 +230,17 @@ module _ (s : Supply) (entries : ℕ) (rows : List (Option AtpRow)) (made : List
     module _ (stands : m.stands ≡ true) where
       row_of_it : (found : Option AtpRow) → found ≡ get_or rows m.booking.line.item found → (r : AtpRow) → found ≡ Some r → atp_row s m.booking.line.item due ≡ r
       row_of_it found is r some =
-          let same : Some (atp_row s m.booking.line.item due) ≡ Some r = sym (row_found m.booking.line.item found (cancel_lines stands).0 is) ∙ some in
+          let same : Some (atp_row s m.booking.line.item due) ≡ Some r = sym (row_found m.booking.line.item found (cancel_lines stands).item is) ∙ some in
           cc
 
       pub give_week : (found : Option AtpRow) → found ≡ get_or rows m.booking.line.item found → (r : AtpRow) → found ≡ Some r → IsWeekOf r m.booking.line.week
       give_week found is r some =
-          subst (λ (x : AtpRow). IsWeekOf x m.booking.line.week) (row_of_it found is r some) (week_of_row s m.booking.line.item due m.booking.line.week (cancel_lines stands).1)
+          subst (λ (x : AtpRow). IsWeekOf x m.booking.line.week) (row_of_it found is r some) (week_of_row s m.booking.line.item due m.booking.line.week (cancel_lines stands).week)
 
       pub give_booked : (found : Option AtpRow) → found ≡ get_or rows m.booking.line.item found → (r : AtpRow) → found ≡ Some r → m.booking.line.quantity ≤ in_week r.booked m.booking.line.week
       give_booked found is r some =
           subst (λ (x : AtpRow). m.booking.line.quantity ≤ in_week x.booked m.booking.line.week) (row_of_it found is r some)
-          (booked_at_least s m.booking.line.item due (lines_of (standing_of after)) m.booking.line (cancel_lines stands).1 refl (parts stands m.booking.line.item))
+          (booked_at_least s m.booking.line.item due (lines_of (standing_of after)) m.booking.line (cancel_lines stands).week refl (parts stands m.booking.line.item))
 
       fewer_covered : IsCovered s (lines_of (filter (is_other m.booking.number) (standing_of made)))
       fewer_covered =
@@ -252,13 +253,13 @@ module _ (s : Supply) (entries : ℕ) (rows : List (Option AtpRow)) (made : List
           let l : Line = m.booking.line in
           let others : List Line = lines_of (standing_of after) in
           let row : new ≡ Some (atp_row s l.item others) =
-          given ∙ ap (option_map (λ (r : AtpRow). without_booking r l.week l.quantity)) (row_found l.item found (cancel_lines stands).0 is)
-          ∙ ap Some (row_without s l.item due others l (cancel_lines stands).1 refl (parts stands l.item)) in
+          given ∙ ap (option_map (λ (r : AtpRow). without_booking r l.week l.quantity)) (row_found l.item found (cancel_lines stands).item is)
+          ∙ ap Some (row_without s l.item due others l (cancel_lines stands).week refl (parts stands l.item)) in
           record {
             supplied = k.supplied;
-            by_item = changed_rows l.item new (standing_of after) (cancel_lines stands).0 row (λ other ne. row_same_without s other due others l ne (parts stands other));
+            by_item = changed_rows l.item new (standing_of after) (cancel_lines stands).item row (λ other ne. row_same_without s other due others l ne (parts stands other));
             booked = subst (AreBooked s) (sym standing_after_cancel) (record {
-              lines = All-filter (is_other m.booking.number) (λ (b : Booking). IsMaster s b.line.item × IsWeek s b.line.week) (standing_of made) k.booked.lines;
+              lines = All-filter (is_other m.booking.number) (λ (b : Booking). IsLine s b.line) (standing_of made) k.booked.lines;
               covered = fewer_covered;
               rising = AllPairs-filter IsBefore (is_other m.booking.number) (standing_of made) k.booked.rising;
             });

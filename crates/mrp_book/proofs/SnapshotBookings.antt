@@ -1,11 +1,9 @@
 -- What stands in a legal history, and at its snapshots, is what a book of the shop may have.
 use Rattle.std.proofs.Common.{◌≡◌, ◌∙◌, ℕ, ◌+◌, ◌<◌, List, ◌∷◌, ◌++◌, length, take, drop, get_or, sym, ap, subst}
 use Rattle.std.proofs.lemmas.List.{drop_more, take-append-drop}
-use Rattle.std.proofs.lemmas.List.Elements.{All-weaker}
 use Rattle.mrp_turn.specs.declared.log.Entry.{Entry}
 use Rattle.mrp_turn.specs.Log.{entry}
-use Rattle.mrp_master.specs.Lines.{IsLine}
-use Rattle.mrp_master.specs.Supply.{IsMaster, IsWeek, Supply}
+use Rattle.mrp_master.specs.Supply.{Supply}
 use Rattle.mrp_book.specs.declared.booking.Booking.{Booking}
 use Rattle.mrp_book.specs.declared.call.Call.{Call}
 use Rattle.mrp_book.specs.declared.reply.Reply.{Reply}
@@ -19,7 +17,7 @@ use Rattle.mrp_book.proofs.Promised.{rising, snapped}
 
 pub standing-booked : (s : Supply) (h : History) → IsLegal s h → AreBooked s (standing h)
 standing-booked s h legal = record {
-  lines = All-weaker (λ (b : Booking). IsLine s b.line) (λ (b : Booking). IsMaster s b.line.item × IsWeek s b.line.week) (λ b l. (l.item, l.week)) (standing h) (legal-lines s h legal);
+  lines = legal-lines s h legal;
   covered = legal-covered s h legal;
   rising = (rising s h legal).0;
 }

@@ -14,7 +14,7 @@ take-requires-clause-week c =
     let i = c.self.inside in
     let b : Booking = record { number = i.entries + 1; desk = c.args.desk; line = c.args.line } in
     let fits : Fits i.supply (call.Book c.args.line) = subst (λ x. Fits x.supply (call.Book c.args.line)) (sym c.self.view_is) c.requires.fits in
-    take_week i.supply i.entries i.rows.items i.made.items c.self.invariant b fits.item fits.week c.index_mut.result.now c.index_mut.ensures.value
+    take_week i.supply i.entries i.rows.items i.made.items c.self.invariant b fits c.index_mut.result.now c.index_mut.ensures.value
 
 pub take-requires-clause-available : goal.take-requires-clause-available
 take-requires-clause-available c =
@@ -23,7 +23,7 @@ take-requires-clause-available c =
     let fits : Fits i.supply (call.Book c.args.line) = subst (λ x. Fits x.supply (call.Book c.args.line)) (sym c.self.view_is) c.requires.fits in
     let can : CanPromise i.supply (lines_of (standing_of i.made.items)) c.args.line.item c.args.line.quantity c.args.line.week =
     subst (λ x. CanPromise x.supply (lines_of x.standing) c.args.line.item c.args.line.quantity c.args.line.week) (sym c.self.view_is) c.requires.available in
-    take_fits i.supply i.entries i.rows.items i.made.items c.self.invariant b fits.item fits.week can c.index_mut.result.now c.index_mut.ensures.value
+    take_fits i.supply i.entries i.rows.items i.made.items c.self.invariant b fits can c.index_mut.result.now c.index_mut.ensures.value
 
 pub invariant_of-self-2 : goal.invariant_of-self-2
 invariant_of-self-2 c =
@@ -33,5 +33,5 @@ invariant_of-self-2 c =
     let can : CanPromise i.supply (lines_of (standing_of i.made.items)) c.args.line.item c.args.line.quantity c.args.line.week =
     subst (λ x. CanPromise x.supply (lines_of x.standing) c.args.line.item c.args.line.quantity c.args.line.week) (sym c.self.view_is) c.requires.available in
     let few : i.entries < 1000000 = subst (λ x. x.entries < 1000000) (sym c.self.view_is) c.requires.few in
-    keeps_booking i.supply i.entries i.rows.items i.made.items c.self.invariant b fits.item fits.week refl few can c.index_mut.result.now c.take.new.row c.index_mut.ensures.value c.take.ensures
+    keeps_booking i.supply i.entries i.rows.items i.made.items c.self.invariant b fits refl few can c.index_mut.result.now c.take.new.row c.index_mut.ensures.value c.take.ensures
     c.push_reserved.new.self.items (c.push_reserved.ensures.items ∙ ap (λ (xs : List Made). xs ++ record { booking = b; stands = true } ∷ []) c.try_reserve.ensures.items)

@@ -31,7 +31,7 @@ index_mut-requires c =
     let holds : HoldsAt (λ (x : Made). x.booking.number ≡ c.args.number) i.made.items place = subst (λ (xs : List Made). HoldsAt (λ (x : Made). x.booking.number ≡ c.args.number) xs place) c.deref.ensures.value facts.found in
     let some : is_some (find (has_number c.args.number) (standing_of i.made.items)) ≡ true = subst (λ b. is_some (find (has_number c.args.number) b.standing) ≡ true) (sym c.self.view_is) c.requires.stands in
     let stands : m.stands ≡ true = stands_if_found i.supply i.entries i.rows.items i.made.items c.self.invariant place m within c.index_mut-made.ensures.value c.args.number holds some in
-    omega (arith, i.rows.ok.0, row_inside i.supply i.entries i.rows.items i.made.items c.self.invariant m.booking.line.item (cancel_lines i.supply i.entries i.rows.items i.made.items c.self.invariant place m within c.index_mut-made.ensures.value stands).0)
+    omega (arith, i.rows.ok.0, row_inside i.supply i.entries i.rows.items i.made.items c.self.invariant m.booking.line.item (cancel_lines i.supply i.entries i.rows.items i.made.items c.self.invariant place m within c.index_mut-made.ensures.value stands).item)
 
 pub give-requires-clause-week : goal.give-requires-clause-week
 give-requires-clause-week c =
