@@ -1,10 +1,9 @@
 -- What a planned item has without planning is a quantity.
-use Rattle.std.proofs.Common.{◌≡◌, ◌∙◌, ℕ, ◌+◌, ◌≤◌, ◌<◌, ◌||◌, Bool, true, false, cond, length, ap, sym, subst, refl, arith, rules, Option, Some, None}
-use Rattle.std.proofs.lemmas.Bool.{le-leb, ltb-false}
-use Rattle.std.specs.Prelude.{if◌then◌else◌, sum, nat_le, nat_lt}
+use Rattle.std.proofs.Common.{◌≡◌, ◌∙◌, ℕ, ◌+◌, ◌≤◌, ◌||◌, Bool, true, false, ap, sym, refl, arith}
+use Rattle.std.proofs.lemmas.Bool.{ltb-false}
+use Rattle.std.specs.Prelude.{if◌then◌else◌, sum, nat_lt}
 use Rattle.std.specs.List.{list_all}
-use Rattle.std.specs.Option.{IsSome}
-use Rattle.mrp_qty.specs.Quantity.{greatest_quantity, quantity_of}
+use Rattle.mrp_qty.specs.Quantity.{greatest_quantity}
 use Rattle.mrp_phase.specs.Weeks.{row, sum_to, in_week}
 use Rattle.mrp_phase.proofs.WeekRows.{length-row, sum_to_whole}
 use Rattle.mrp_bill.specs.Bill.{parents_of}
@@ -34,18 +33,3 @@ planned-supplies s i plan e =
     ap (sum_to (stock_of s i).scheduled) (sym (length-row (scheduled_in s i) (horizon s))) ∙ sum_to_whole (stock_of s i).scheduled in
     let at_most = ltb-false greatest_quantity ((stock_of s i).on_hand + sum_to (stock_of s i).scheduled (horizon s) + in_week p.receipts (horizon s)) within in
     omega (arith, whole, at_most)
-
--- a quantity that is there
-pub quantity_is : (q n : ℕ) → Some q ≡ quantity_of n → q ≡ n
-quantity_is q n e = by (nat_le n greatest_quantity) e
-  where
-    by : (b : Bool) → Some q ≡ cond b (Some n) None → q ≡ n
-    by true e = cc
-    by false e = absurd (cc)
-
-pub quantity_some : (o : Option ℕ) (n : ℕ) → o ≡ quantity_of n → n ≤ greatest_quantity → IsSome o
-quantity_some o n e within =
-    let there : quantity_of n ≡ Some n = ap (λ b. cond b (Some n) None) (le-leb n greatest_quantity within) in
-    let P : Option ℕ → Type 0 = λ x. IsSome x in
-    let some : IsSome (Some n) = search rules in
-    subst P (sym (e ∙ there)) some

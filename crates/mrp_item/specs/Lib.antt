@@ -7,6 +7,7 @@ pub mod Lot
 pub mod Orders
 pub mod Recursion
 pub mod Plan
+pub mod ShopRows
 pub mod View
 pub mod Places
 pub mod Kept

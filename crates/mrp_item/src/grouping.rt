@@ -1,15 +1,13 @@
 //! The tables' rows, grouped by their items.
 
-ghost use Rattle.std.specs.Prelude.{◌≡◌, ◌<◌, ◌+◌, ◌==◌, ℕ, length, filter, sum_by, None, IfOk};
-ghost use Rattle.std.specs.List.{slice_index_or};
-ghost use Rattle.mrp_qty.specs.Quantity.{quantity_of};
+ghost use Rattle.std.specs.Prelude.{◌≡◌, ◌<◌, ℕ, length, IfOk};
 ghost use Rattle.mrp_item.specs.Dues.{firm_dues, forecast_dues, receipt_dues, booking_dues, listed};
 ghost use Rattle.mrp_item.specs.Rows.{is_forecast};
 
 use crate::due::{Due, DueLists};
 use mrp_book::Booking;
-use mrp_qty::{NoMemory, Qty};
-use mrp_tables::{MasterKind, MasterRow, Receipt, StockRow};
+use mrp_qty::NoMemory;
+use mrp_tables::{MasterKind, MasterRow, Receipt};
 use std::alloc::Global;
 
 fn is_forecast_kind(kind: MasterKind) -> bool
@@ -92,29 +90,4 @@ pub fn bookings_by_item(alloc: Global, count: usize, rows: &[Booking]) -> Result
         lists.add(line.item, due)?;
     }
     Ok(lists)
-}
-
-// A sum with one more quantity, as far as sums go.
-fn raised(sum: Option<Qty>, more: Qty) -> Option<Qty>
-    ensures { (n : ℕ) → sum ≡ quantity_of n → result ≡ quantity_of (n + more) }
-{
-    sum?.add(more)
-}
-
-// What is on hand of each item; None past the greatest quantity.
-pub fn on_hand_by_item(
-    alloc: Global,
-    count: usize,
-    rows: &[StockRow],
-) -> Result<Vec<Option<Qty>>, NoMemory>
-    ensures size { IfOk result (λ v. length v.items ≡ count) }
-    ensures sums { IfOk result (λ v. (i : ℕ) → i < count → slice_index_or v.items i None ≡ quantity_of (sum_by (λ r. r.on_hand) (filter (λ r. r.item == i) rows.now))) }
-{
-    let mut sums = vec![in alloc; Qty::new(0); count]?;
-    for row in rows {
-        if row.item < sums.len() {
-            sums[row.item] = raised(sums[row.item], row.on_hand);
-        }
-    }
-    Ok(sums)
 }

@@ -1,9 +1,8 @@
 //! What a plan is made from.
 
 use crate::due::{Due, DueLists};
-use crate::grouping::{
-    bookings_by_item, firm_by_item, forecasts_by_item, on_hand_by_item, receipts_by_item,
-};
+use crate::grouping::bookings_by_item;
+use crate::shop_rows::ShopRows;
 use mrp_bill::Shop;
 use mrp_book::Snapshot;
 use mrp_qty::{NoMemory, Qty};
@@ -15,13 +14,9 @@ use std::sync::Arc;
 /// What a plan is made from: a shop, and what stands of its order book.
 #[derive(Drop)]
 pub struct Inputs {
-    shop: Arc<Shop>,
+    rows: Arc<ShopRows>,
     snapshot: Snapshot,
-    firm: DueLists,
-    forecasts: DueLists,
-    receipts: DueLists,
     bookings: DueLists,
-    on_hand: Vec<Option<Qty>>,
 }
 
 impl Model for Inputs {
@@ -39,7 +34,6 @@ impl Model for Inputs {
 impl Inputs {
     ghost use Rattle.std.specs.Prelude.{◌≡◌, ◌≤◌, ◌<◌, All, IfOk, slice_index};
     ghost use Rattle.std.specs.Int.{IsInRange};
-    ghost use Rattle.mrp_qty.specs.Quantity.{quantity_of};
     ghost use Rattle.mrp_master.specs.Supply.{supply_of};
     ghost use Rattle.mrp_book.specs.Booked.{AreBooked};
     ghost use Rattle.mrp_item.specs.Inputs.{count, horizon, inputs_of, item_at};
@@ -49,31 +43,46 @@ impl Inputs {
     ghost use Rattle.mrp_item.specs.Plan.{IsRanked, HasParents};
 
     /// The inputs of a shop and a snapshot of its order book. The caller owes that the book is that
-    /// of an equal shop: its bookings are of master items, in weeks of the horizon, and covered.
+    /// of an equal shop: its bookings are of master items, in weeks of the horizon, of pieces that can
+    /// be booked, by rising numbers, and covered.
     ///
     /// Errors: `NoMemory` where memory is refused.
     pub fn new(alloc: Global, shop: Arc<Shop>, snapshot: Snapshot) -> Result<Arc<Inputs>, NoMemory>
         requires { AreBooked (supply_of shop.value.tables) snapshot.standing }
         ensures { IfOk result (λ inputs. inputs.value ≡ inputs_of shop.value.tables snapshot) }
     {
-        let tables = shop.tables();
+        Inputs::over(alloc, ShopRows::of(alloc, shop)?, snapshot)
+    }
+
+    /// The inputs of a shop, whose rows are shared, and a snapshot of its order book. The caller owes
+    /// of the snapshot what `new` is owed.
+    ///
+    /// Errors: `NoMemory` where memory is refused.
+    pub fn over(
+        alloc: Global,
+        rows: Arc<ShopRows>,
+        snapshot: Snapshot,
+    ) -> Result<Arc<Inputs>, NoMemory>
+        requires { AreBooked (supply_of rows.value.tables) snapshot.standing }
+        ensures { IfOk result (λ inputs. inputs.value ≡ inputs_of rows.value.tables snapshot) }
+    {
+        let tables = rows.shop().tables();
         let _within = tables.bills();
         let count = tables.items().len();
-        let firm = firm_by_item(alloc, count, tables.master())?;
-        let forecasts = forecasts_by_item(alloc, count, tables.master())?;
-        let receipts = receipts_by_item(alloc, count, tables.receipts())?;
         let bookings = bookings_by_item(alloc, count, snapshot.standing())?;
-        let on_hand = on_hand_by_item(alloc, count, tables.stock())?;
         let inputs = Inputs {
-            shop,
+            rows,
             snapshot,
-            firm,
-            forecasts,
-            receipts,
             bookings,
-            on_hand,
         };
         Ok(Arc::new(alloc, inputs)?)
+    }
+
+    /// The shop's rows, grouped by item.
+    pub fn rows(&self) -> &Arc<ShopRows>
+        ensures { result.now.value.tables ≡ self.now.tables }
+    {
+        &self.rows
     }
 
     /// The shop.
@@ -82,8 +91,7 @@ impl Inputs {
         ensures ranked { IsRanked self.now (slice_index result.now.codes) }
         ensures parents { HasParents self.now }
     {
-        let _rows = &self.firm;
-        &self.shop
+        self.rows.shop()
     }
 
     /// What stands of the order book.
@@ -118,7 +126,7 @@ impl Inputs {
         requires { item < count self.now }
         ensures { result.now ≡ firm_dues self.now.tables.master item }
     {
-        self.firm.of(item)
+        self.rows.firm(item)
     }
 
     // The forecasts of an item.
@@ -126,7 +134,7 @@ impl Inputs {
         requires { item < count self.now }
         ensures { result.now ≡ forecast_dues self.now.tables.master item }
     {
-        self.forecasts.of(item)
+        self.rows.forecasts(item)
     }
 
     /// The open receipts of an item, in table order, by the numbers of their records. The caller
@@ -137,7 +145,7 @@ impl Inputs {
         ensures within { All (λ due. IsInRange 1 (horizon self.now) due.week) result.now }
     {
         let _within = self.shop().tables().receipts();
-        self.receipts.of(item)
+        self.rows.receipts(item)
     }
 
     /// The bookings of an item that stand, by their numbers. The caller owes that the shop has the
@@ -150,11 +158,11 @@ impl Inputs {
         self.bookings.of(item)
     }
 
-    /// What is on hand of an item; None past 10^15. The caller owes that the shop has the item.
-    pub fn on_hand(&self, item: usize) -> Option<Qty>
+    /// What is on hand of an item, in pieces. The caller owes that the shop has the item.
+    pub fn on_hand(&self, item: usize) -> Qty
         requires { item < count self.now }
-        ensures { result ≡ quantity_of (on_hand self.now item) }
+        ensures { result ≡ on_hand self.now item }
     {
-        self.on_hand[item]
+        self.rows.on_hand(item)
     }
 }

@@ -82,7 +82,7 @@ impl Planned {
         let orders = self.orders();
         let room = receipts.len().saturating_add(orders.len());
         let mut supplies = Vec::with_capacity(alloc, room.saturating_add(1))?;
-        let on_hand = inputs.on_hand(item).unwrap();
+        let on_hand = inputs.on_hand(item);
         supplies.push(Supply {
             source: Supplied::Stock,
             week: 0,

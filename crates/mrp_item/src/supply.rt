@@ -34,9 +34,7 @@ pub fn stock_for(alloc: Global, inputs: &Inputs, item: usize) -> Result<Stock, S
     ensures over { IfErr result (λ stop. stop ≡ Stop.Over → greatest_quantity < (stock_of inputs.now item).on_hand + sum (stock_of inputs.now item).scheduled) }
 {
     let entry = inputs.entry(item);
-    let Some(on_hand) = inputs.on_hand(item) else {
-        return Err(Stop::Over);
-    };
+    let on_hand = inputs.on_hand(item);
     let scheduled = dated(alloc, inputs.weeks(), scheduled_dues(inputs, item))?;
     Ok(Stock {
         on_hand,

@@ -77,16 +77,8 @@ impl Supply {
         }
     }
 
-    /// The supply of an item up to a week, in pieces: what is on hand, and the firm rows up to the
-    /// week.
-    pub fn up_to(&self, item: usize, week: u16) -> Qty
-        ensures { result ≡ supply self.now item week }
-    {
-        quantity(self.stock(item).value() + due_by(item, week, self.firm.of(item)))
-    }
-
-    // What is on hand of an item; nothing where there is no such item.
-    fn stock(&self, item: usize) -> Qty
+    /// What is on hand of an item, in pieces; 0 where there is no such item.
+    pub fn on_hand(&self, item: usize) -> Qty
         ensures value { result ≡ slice_index_or self.now.on_hand item 0 }
         ensures kept { IsSupply self.now }
     {
@@ -96,13 +88,21 @@ impl Supply {
         }
     }
 
+    /// The supply of an item up to a week, in pieces: what is on hand, and the firm rows up to the
+    /// week.
+    pub fn up_to(&self, item: usize, week: u16) -> Qty
+        ensures { result ≡ supply self.now item week }
+    {
+        quantity(self.on_hand(item).value() + due_by(item, week, self.firm.of(item)))
+    }
+
     // What comes in of an item in each week: its firm rows, and in week 1 what is on hand.
     pub(crate) fn openings(&self, alloc: Global, item: usize) -> Result<Vec<Qty>, NoMemory>
         ensures value { IfOk result (λ openings. openings.items ≡ row self.now.weeks (opening self.now item)) }
         ensures kept { IsSupply self.now }
     {
         let mut openings = vec![in alloc; quantity(0); usize::from(self.weeks)]?;
-        openings[0] = self.stock(item);
+        openings[0] = self.on_hand(item);
         for line in self.firm.of(item) {
             if line.item == item {
                 let place = usize::from(line.week) - 1;

@@ -11,4 +11,5 @@ pub mod Listed
 pub mod Totals
 pub mod Covered
 pub mod ItemSums
+pub mod PlanSums
 pub mod NeedsDiffer

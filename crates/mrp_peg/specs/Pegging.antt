@@ -58,6 +58,10 @@ supplies s i = amounts_offered (supplies_of s i (plan_in (outcome_of s i)).order
 unfoldable pub pegs_of : Inputs → ℕ → List Peg
 pegs_of s i = map (peg_of i) (matches (requirements s i) (supplies s i))
 
+-- those of some pegs that are an item's
+abbrev pub pegs_for : ℕ → List Peg → List Peg
+pegs_for i pegs = filter (λ g. g.item == i) pegs
+
 -- the pegs of a plan, in table order of the items
 abbrev pub plan_pegs : Inputs → List Peg
 plan_pegs s = flat_map (pegs_of s) (places s)

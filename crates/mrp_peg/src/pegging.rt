@@ -1,6 +1,6 @@
 //! The pegs of an item and of a plan.
 
-ghost use Rattle.std.specs.Prelude.{◌≡◌, ◌<◌, ◌≤◌, IfOk, OnOk};
+ghost use Rattle.std.specs.Prelude.{◌≡◌, ◌<◌, ◌≤◌, ℕ, IfOk, OnOk};
 ghost use Rattle.mrp_item.specs.Inputs.{count, horizon, is_master, item_at};
 ghost use Rattle.mrp_item.specs.Limits.{IsSized};
 ghost use Rattle.mrp_peg.specs.Laws.{AddUpToRequirements, AddUpToSupplies};
@@ -8,7 +8,7 @@ ghost use Rattle.mrp_peg.specs.Units.{total};
 ghost use Rattle.mrp_peg.specs.Own.{IsOwn};
 ghost use Rattle.mrp_peg.specs.Weekly.{AreWithin};
 ghost use Rattle.mrp_peg.specs.Matching.{amounts_wanted};
-ghost use Rattle.mrp_peg.specs.Pegging.{pegs_of, plan_pegs, requirements, supplies};
+ghost use Rattle.mrp_peg.specs.Pegging.{pegs_for, pegs_of, plan_pegs, requirements, supplies};
 ghost use Rattle.mrp_peg.specs.Rows.{all_wanted};
 
 use crate::demand::demand_of;
@@ -80,11 +80,14 @@ pub fn item_pegs(alloc: Global, plan: &Plan, item: usize) -> Result<Vec<Peg>, No
     matched(alloc, item, &needs, &supplies)
 }
 
-/// The pegs of all items, in table order.
+/// The pegs of all items, in table order. The pegs of each requirement add up to it, and those of
+/// each supply, with its surplus, to the supply.
 ///
 /// Errors: `NoMemory` where memory is refused.
 pub fn pegs(alloc: Global, plan: &Plan) -> Result<Vec<Peg>, NoMemory>
-    ensures { IfOk result (λ pegs. pegs.items ≡ plan_pegs plan.now.inputs) }
+    ensures pegs { IfOk result (λ pegs. pegs.items ≡ plan_pegs plan.now.inputs) }
+    ensures requirements { IfOk result (λ pegs. (i : ℕ) → i < count plan.now.inputs → AddUpToRequirements plan.now.inputs i (pegs_for i pegs.items)) }
+    ensures supplies { IfOk result (λ pegs. (i : ℕ) → i < count plan.now.inputs → AddUpToSupplies plan.now.inputs i (pegs_for i pegs.items)) }
 {
     let mut all = Vec::new(alloc);
     for item in 0..plan.inputs().shop().tables().items().len() {

@@ -2,8 +2,8 @@ use Rattle.std.proofs.Common.{◌≡◌, ◌∙◌, arith, ap}
 use Rattle.std.proofs.lemmas.Result.{err_from_is_err_and}
 use Rattle.mrp_phase.specs.Weeks.{row}
 use Rattle.mrp_item.specs.Inputs.{horizon, item_at}
-use Rattle.mrp_item.specs.Rows.{on_hand, scheduled_in}
-use Rattle.mrp_item.proofs.DueRows.{dated-row, dated-past, quantity-is}
+use Rattle.mrp_item.specs.Rows.{scheduled_in}
+use Rattle.mrp_item.proofs.DueRows.{dated-row, dated-past}
 use Rattle.mrp_item.proofs.supply.stock_for.Goals as goal
 
 pub returns-in_err-scheduled-clause-over : goal.returns-in_err-scheduled-clause-over
@@ -21,6 +21,5 @@ returns-clause-value c =
     let i = c.args.item in
     let scheduled : c.in_ok-scheduled.scheduled ≡ row (horizon s) (scheduled_in s i) =
     dated-row c.scheduled_dues.result.now (scheduled_in s i) c.weeks.result c.in_ok-scheduled.scheduled c.scheduled_dues.ensures c.in_ok-scheduled.ensures.value ∙ ap (λ n. row n (scheduled_in s i)) c.weeks.ensures.value in
-    let there : c.in-Some.on_hand ≡ on_hand s i = quantity-is c.in-Some.on_hand (on_hand s i) c.in-Some.ensures in
     let safety : c.entry-entry.result.safety ≡ (item_at s i).safety = ap (λ e. e.safety) c.entry-entry.ensures.value in
-    λ k. record { on_hand = there k; safety = safety k; scheduled = scheduled k }
+    λ k. record { on_hand = c.on_hand-on_hand.ensures k; safety = safety k; scheduled = scheduled k }

@@ -1,9 +1,8 @@
-use Rattle.std.proofs.Common.{◌≡◌, ◌∙◌, ◌≤◌, ◌++◌, ◌∷◌, [], ℕ, List, map, sym, ap, rules, arith, Some}
+use Rattle.std.proofs.Common.{◌≡◌, ◌∙◌, ◌++◌, ◌∷◌, [], ℕ, List, map, ap, rules}
 use Rattle.std.specs.Prelude.{All}
 use Rattle.std.specs.Int.{IsInRange}
 use Rattle.std.specs.List.{enumerate_from}
 use Rattle.std.proofs.lemmas.List.Sorted.{IsNonDecreasingBy-from_sort_by_key, answers_always}
-use Rattle.mrp_qty.specs.Quantity.{greatest_quantity, quantity_of}
 use Rattle.mrp_item.specs.declared.due.Due.{Due}
 use Rattle.mrp_item.specs.declared.order.Order.{Order}
 use Rattle.mrp_item.specs.declared.supplies.Supply.{Supply}
@@ -13,18 +12,8 @@ use Rattle.mrp_item.specs.Rows.{on_hand}
 use Rattle.mrp_item.specs.Supplies.{due_supply, order_supply, stock_supply}
 use Rattle.mrp_item.proofs.OrderWeeks.{due-within}
 use Rattle.mrp_item.proofs.PlannedRows.{planned_rows}
-use Rattle.mrp_item.proofs.PlannedStock.{planned-supplies, quantity_is, quantity_some}
 use Rattle.mrp_item.proofs.SupplyOrder.{coming, coming_within, in_order}
 use Rattle.mrp_item.proofs.planned.Planned.supplies.Goals as goal
-
-pub unwrap-on_hand-requires : goal.unwrap-on_hand-requires
-unwrap-on_hand-requires c =
-    let planned = c.args.self.now in
-    let s = planned.inputs in
-    let i = planned.item in
-    let inputs : c.deref-inputs.result.now ≡ s = c.deref-inputs.ensures ∙ c.inputs.ensures.inputs in
-    let within : on_hand s i ≤ greatest_quantity = omega (arith, planned-supplies s i planned.plan c.inputs.ensures.outcome) in
-    quantity_some c.on_hand.result (on_hand s i) (rw (inputs, c.item-item.ensures.item) at c.on_hand.ensures) within
 
 pub returns : goal.returns
 returns c =
@@ -36,15 +25,14 @@ returns c =
     let orders = c.orders-orders.result.now in
     let own : receipts ≡ receipt_dues s.tables.receipts i = rw (inputs, c.item-item.ensures.item) at c.receipts-receipts.ensures.dues in
     let given : orders ≡ planned.plan.orders = c.orders-orders.ensures.orders in
-    let known : Some c.unwrap-on_hand.result ≡ quantity_of (on_hand s i) = sym c.unwrap-on_hand.ensures ∙ (rw (inputs, c.item-item.ensures.item) at c.on_hand.ensures) in
-    let hand : c.unwrap-on_hand.result ≡ on_hand s i = quantity_is c.unwrap-on_hand.result (on_hand s i) known in
+    let hand : c.on_hand-on_hand.result ≡ on_hand s i = rw (inputs, c.item-item.ensures.item) at c.on_hand-on_hand.ensures in
     let before = c.add_orders.new.supplies.items in
     let F : ℕ → List Due → List Order → List Supply = λ q rs os. stock_supply q ∷ coming rs os in
-    let items : before ≡ F c.unwrap-on_hand.result receipts orders =
+    let items : before ≡ F c.on_hand-on_hand.result receipts orders =
     c.in_ok-add_orders.ensures
     ∙ ap (λ (xs : List Supply). xs ++ map (λ o. order_supply o.0 o.1) (enumerate_from 1 orders)) (c.in_ok-add_receipts.ensures
     ∙ ap (λ (xs : List Supply). xs ++ map due_supply receipts) (c.in_ok-push.ensures.items
-    ∙ ap (λ (xs : List Supply). xs ++ stock_supply c.unwrap-on_hand.result ∷ []) c.in_ok-supplies.ensures.items)) in
+    ∙ ap (λ (xs : List Supply). xs ++ stock_supply c.on_hand-on_hand.result ∷ []) c.in_ok-supplies.ensures.items)) in
     let named : before ≡ F (on_hand s i) (receipt_dues s.tables.receipts i) planned.plan.orders =
     items ∙ ap (λ q. F q receipts orders) hand ∙ ap (λ rs. F (on_hand s i) rs orders) own ∙ ap (λ os. F (on_hand s i) (receipt_dues s.tables.receipts i) os) given in
     let all_orders : All (λ (o : Order). IsInRange 1 (horizon s) o.due) planned.plan.orders = rw (planned_rows s i planned.plan c.inputs.ensures.outcome).orders (due-within s i planned.plan.receipts) in

@@ -11,9 +11,9 @@ pub loop-line-init : goal.loop-line-init
 loop-line-init c =
     let s : Supply = c.args.self.now in
     let weeks : c.self.inside.weeks ≡ s.weeks = ap (λ (x : Supply). x.weeks) c.self.view_is in
-    opened_start s c.args.item c.of-line-items.result.now c.in_ok-openings.openings.items c.stock.result c.stock.ensures.kept.first
+    opened_start s c.args.item c.of-line-items.result.now c.in_ok-openings.openings.items c.on_hand.result c.on_hand.ensures.kept.first
     (c.in_ok-openings.ensures.items_if_clones_equal (λ y e. e) ∙ ap (λ n. replicate n c.quantity.result) (c.from.ensures ∙ weeks) ∙ ap (λ (q : ℕ). replicate s.weeks q) c.quantity.ensures)
-    c.stock.ensures.value
+    c.on_hand.ensures.value
 
 pub quantity-requires-then-line-item : goal.quantity-requires-then-line-item
 quantity-requires-then-line-item c =
@@ -24,13 +24,13 @@ quantity-requires-then-line-item c =
     let l : Line = c.line-item.result in
     let openings : List ℕ = c.loop-line.openings.items in
     let own_lines : lines ≡ get_or s.firm item [] = c.of-line-items.ensures ∙ ap (λ (x : Supply). get_or x.firm item []) c.self.view_is in
-    let inside : IsWeek s l.week = line_inside s item k lines l c.stock.ensures.kept c.loop-line-test.true c.line-item.is own_lines in
+    let inside : IsWeek s l.week = line_inside s item k lines l c.on_hand.ensures.kept c.loop-line-test.true c.line-item.is own_lines in
     let place : c.from-place.result - 1 ≡ l.week - 1 = omega (arith, c.from-place.ensures) in
     let there : c.from-place.result - 1 < length openings = omega (arith, inside.0, inside.1, c.loop-line.invariant.size, c.from-place.ensures) in
     omega (
       arith,
       opened_little s item k lines openings l c.loop-line.invariant c.loop-line-test.true c.line-item.is c.if-line-item.true inside.0 inside.1 own_lines,
-      c.stock.ensures.kept.little item l.week,
+      c.on_hand.ensures.kept.little item l.week,
       get_or_read openings (c.from-place.result - 1) c.index.result.now there c.index.ensures 0,
       ap (λ i. get_or openings i 0) place,
       c.value.ensures.pieces,
@@ -46,7 +46,7 @@ loop-line-preserved c =
     let l : Line = c.line-item.result in
     let openings : List ℕ = c.loop-line.openings.items in
     let own_lines : lines ≡ get_or s.firm item [] = c.of-line-items.ensures ∙ ap (λ (x : Supply). get_or x.firm item []) c.self.view_is in
-    let inside : IsWeek s l.week = line_inside s item k lines l c.stock.ensures.kept c.loop-line-test.true c.line-item.is own_lines in
+    let inside : IsWeek s l.week = line_inside s item k lines l c.on_hand.ensures.kept c.loop-line-test.true c.line-item.is own_lines in
     elim c.if-line-item.branch [
       | then-line-item w ↦
           let place : w.from-place.result - 1 ≡ l.week - 1 = omega (arith, w.from-place.ensures) in

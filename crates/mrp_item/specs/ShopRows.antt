@@ -1,0 +1,19 @@
+-- What a shop's rows keep, grouped by their items.
+use Rattle.std.specs.Prelude.{ℕ, ◌≡◌, ◌<◌, length}
+use Rattle.mrp_master.specs.Supply.{supply_of}
+use Rattle.mrp_item.specs.Dues.{listed, firm_dues, forecast_dues, receipt_dues}
+use Rattle.mrp_item.specs.declared.shop_rows.ShopRows.TheInside.{Inside}
+
+-- how many items there are
+abbrev pub items_of : Inside → ℕ
+items_of a = length a.shop.value.tables.items
+
+-- what promising reads of the shop, and what is due of each item
+pub record KeepsShopRows (a : Inside) : Type 0 where
+  pub supply : a.supply ≡ supply_of a.shop.value.tables
+  pub firm_size : length a.firm ≡ items_of a
+  pub firm : (i : ℕ) → i < items_of a → listed a.firm i ≡ firm_dues a.shop.value.tables.master i
+  pub forecast_size : length a.forecasts ≡ items_of a
+  pub forecast : (i : ℕ) → i < items_of a → listed a.forecasts i ≡ forecast_dues a.shop.value.tables.master i
+  pub receipts_size : length a.receipts ≡ items_of a
+  pub receipts : (i : ℕ) → i < items_of a → listed a.receipts i ≡ receipt_dues a.shop.value.tables.receipts i
