@@ -10,10 +10,9 @@ ghost use Rattle.mrp_engine.specs.Fault.{run_fault};
 ghost use Rattle.mrp_engine.specs.Planned.{PlansRun};
 
 use crate::fault::DayFault;
-use mrp_bill::Shop;
 use mrp_book::Snapshot;
 use mrp_explode::{RunFault, explode_levels};
-use mrp_item::{Inputs, Plan};
+use mrp_item::{Inputs, Plan, ShopRows};
 use mrp_qty::NoMemory;
 use mrp_rows::Name;
 use std::alloc::Global;
@@ -21,11 +20,15 @@ use std::sync::Arc;
 use std::thread::Threads;
 
 // What a run is planned from.
-fn inputs_of(alloc: Global, shop: &Arc<Shop>, snapshot: &Snapshot) -> Result<Arc<Inputs>, NoMemory>
-    requires { AreBooked (supply_of shop.now.value.tables) snapshot.now.standing }
-    ensures { IfOk result (λ inputs. inputs.value ≡ inputs_of shop.now.value.tables snapshot.now) }
+fn inputs_of(
+    alloc: Global,
+    rows: &Arc<ShopRows>,
+    snapshot: &Snapshot,
+) -> Result<Arc<Inputs>, NoMemory>
+    requires { AreBooked (supply_of rows.now.value.tables) snapshot.now.standing }
+    ensures { IfOk result (λ inputs. inputs.value ≡ inputs_of rows.now.value.tables snapshot.now) }
 {
-    Inputs::new(alloc, shop.clone()?, snapshot.copy()?)
+    Inputs::over(alloc, rows.clone()?, snapshot.copy()?)
 }
 
 // The name of an item.
@@ -47,19 +50,19 @@ fn refusal(inputs: &Inputs, fault: RunFault) -> DayFault
     }
 }
 
-/// The plan of a run: of a shop, and a snapshot of its order book, as the caller owes.
+/// The plan of a run: of a shop, by its rows, and a snapshot of its order book, as the caller owes.
 ///
 /// Errors: `TooLarge` with the first item in table order that gets too large, and `NoMemory`.
 pub fn plan_run(
     rt: &(impl Threads + Sync),
     alloc: Global,
-    shop: &Arc<Shop>,
+    rows: &Arc<ShopRows>,
     snapshot: &Snapshot,
 ) -> Result<Plan, DayFault>
-    requires { AreBooked (supply_of shop.now.value.tables) snapshot.now.standing }
-    ensures { PlansRun (inputs_of shop.now.value.tables snapshot.now) result }
+    requires { AreBooked (supply_of rows.now.value.tables) snapshot.now.standing }
+    ensures { PlansRun (inputs_of rows.now.value.tables snapshot.now) result }
 {
-    let inputs = inputs_of(alloc, shop, snapshot)?;
+    let inputs = inputs_of(alloc, rows, snapshot)?;
     match explode_levels(rt, alloc, &inputs) {
         Ok(plan) => Ok(plan),
         Err(fault) => Err(refusal(&inputs, fault)),

@@ -1,6 +1,6 @@
 //! A day: from a reader's bundle to a writer's history and reports.
 
-ghost use Rattle.std.specs.Prelude.{◌≡◌, ◌≢◌, ◌⊎◌, ℕ, List, Err, OnOk, IfErr};
+ghost use Rattle.std.specs.Prelude.{◌≡◌, ◌≢◌, ◌⊎◌, ℕ, List, Err, OnOk, IfOk, IfErr};
 ghost use Rattle.std.specs.Int.{IsInRange};
 ghost use Rattle.std.specs.Io.KnownBytes.{IsAtEnd};
 ghost use Rattle.mrp_rows.specs.Streams.{TakesFront};
@@ -19,11 +19,20 @@ use crate::runs::plan_runs;
 use crate::script::answer_script;
 use crate::writing::write_day;
 use mrp_bill::Shop;
+use mrp_item::ShopRows;
+use mrp_qty::NoMemory;
 use mrp_rows::Told;
 use std::alloc::Global;
 use std::io::{Read, Write};
 use std::sync::Arc;
 use std::thread::Threads;
+
+// The rows of a shop.
+fn rows_of(alloc: Global, shop: &Arc<Shop>) -> Result<Arc<ShopRows>, NoMemory>
+    ensures { IfOk result (λ rows. rows.value ≡ shop.now.value) }
+{
+    ShopRows::of(alloc, shop.clone()?)
+}
 
 // Answers a shop's script, and plans the runs of it.
 fn plan_day(rt: &(impl Alloc + Threads + Sync), alloc: Global, shop: Shop) -> Result<Day, DayFault>
@@ -31,7 +40,8 @@ fn plan_day(rt: &(impl Alloc + Threads + Sync), alloc: Global, shop: Shop) -> Re
 {
     let shop = Arc::new(alloc, shop)?;
     let history = answer_script(alloc, &shop)?;
-    let plans = plan_runs(rt, alloc, &shop, &history)?;
+    let rows = rows_of(alloc, &shop)?;
+    let plans = plan_runs(rt, alloc, &rows, &history)?;
     Ok(Day {
         shop,
         history,

@@ -7,31 +7,30 @@ ghost use Rattle.mrp_engine.specs.Planned.{PlansRuns};
 
 use crate::fault::DayFault;
 use crate::planning::plan_run;
-use mrp_bill::Shop;
 use mrp_book::{History, Reply};
-use mrp_item::Plan;
+use mrp_item::{Plan, ShopRows};
 use std::alloc::Global;
 use std::sync::Arc;
 use std::thread::Threads;
 
 /// The plans of a history's runs, in order of entries, each from the snapshot that its entry was
-/// answered. The caller owes a history of an equal shop.
+/// answered, all over the rows of one shop. The caller owes a history of an equal shop.
 ///
 /// Errors: `TooLarge` with the first item in table order that gets too large in the first run with
 /// such an item, and `NoMemory`.
 pub fn plan_runs(
     rt: &(impl Threads + Sync),
     alloc: Global,
-    shop: &Arc<Shop>,
+    rows: &Arc<ShopRows>,
     history: &History,
 ) -> Result<Vec<Plan>, DayFault>
-    requires { history.now.supply ≡ supply_of shop.now.value.tables }
-    ensures { PlansRuns (runs_of shop.now.value.tables history.now.entries) result }
+    requires { history.now.supply ≡ supply_of rows.now.value.tables }
+    ensures { PlansRuns (runs_of rows.now.value.tables history.now.entries) result }
 {
     let mut plans = Vec::new(alloc);
     for entry in history.entries() {
         if let Reply::Taken(snapshot) = &entry.reply {
-            plans.push(plan_run(rt, alloc, shop, snapshot)?)?;
+            plans.push(plan_run(rt, alloc, rows, snapshot)?)?;
         }
     }
     Ok(plans)

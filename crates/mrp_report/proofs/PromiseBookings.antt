@@ -10,6 +10,7 @@ use Rattle.mrp_tables.specs.Items as items
 use Rattle.mrp_tables.specs.Tables.{Tables}
 use Rattle.mrp_tables.specs.declared.item.Item.{Item}
 use Rattle.mrp_master.specs.declared.line.Line.{Line}
+use Rattle.mrp_master.specs.Lines.{IsLine}
 use Rattle.mrp_master.specs.Supply.{IsMaster, IsSupply, IsWeek, Supply, due_by, supply, supply_of}
 use Rattle.mrp_master.specs.AtpRow.{AtpRow, IsCoveredRow, IsWeekOf, atp_row, due_in, opening, with_booking}
 use Rattle.mrp_master.proofs.ItemRows.{booked_to, firm_from_first, supplied_to}
@@ -98,7 +99,7 @@ due-inside s bookings item k d dues are same within is =
     let all : All (λ (x : Due). IsWeek s x.week) (booking_dues bookings item) =
     All-map (λ (x : Due). IsWeek s x.week) booking_due (filter (λ (b : Booking). eqb b.line.item item) bookings)
     (All-filter (λ (b : Booking). eqb b.line.item item) (λ (b : Booking). IsWeek s b.line.week) bookings
-    (All-weaker (λ (b : Booking). IsMaster s b.line.item × IsWeek s b.line.week) (λ (b : Booking). IsWeek s b.line.week) (λ b both. both.1) bookings are.lines)) in
+    (All-weaker (λ (b : Booking). IsLine s b.line) (λ (b : Booking). IsWeek s b.line.week) (λ b own. own.week) bookings are.lines)) in
     subst (λ (x : Due). IsWeek s x.week) (sym is) (All-get_or (λ (x : Due). IsWeek s x.week) dues k d within (All-same (λ (x : Due). IsWeek s x.week) dues (booking_dues bookings item) same all))
 
 -- the dues of an item are what its bookings have due

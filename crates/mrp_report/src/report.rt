@@ -35,7 +35,7 @@ fn write_section<W: Write>(
     writer: &mut Told<W>,
     tries: &mut Tries,
 ) -> Result<(), ReportFault>
-    requires supply { readings.now.supply ≡ supply_of plan.now.inputs.tables }
+    requires supply { readings.now.supply.now ≡ supply_of plan.now.inputs.tables }
     requires names { readings.now.names.tables.now ≡ plan.now.inputs.tables }
     ensures passed { OnOk result (PassesOn W.contents writer.old writer.new (page.old ++ section_text plan.now.inputs section) page.new (tries.old - tries.new)) }
     ensures tries { tries.new ≤ tries.old }
@@ -68,7 +68,7 @@ pub fn write_report<W: Write>(
 {
     let mut tries = Tries::new();
     let mut page = Page::new(alloc);
-    let readings = Readings::of(alloc, plan.inputs().shop())?;
+    let readings = Readings::of(alloc, plan.inputs())?;
     write_run(&mut page, plan)?;
     for section in SECTIONS {
         write_section(

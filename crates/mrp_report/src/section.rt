@@ -14,8 +14,7 @@ use crate::plan::plan_section;
 use crate::promise_item::item_promises;
 use crate::promises::promises_section;
 use crate::shop_names::ShopNames;
-use mrp_bill::Shop;
-use mrp_item::Plan;
+use mrp_item::{Inputs, Plan};
 use mrp_master::Supply;
 use mrp_notes::item_messages;
 use mrp_peg::item_pegs;
@@ -45,18 +44,18 @@ pub(crate) const SECTIONS: [Section; 5] = [
 // things.
 #[derive(Drop)]
 pub(crate) struct Readings<'a> {
-    supply: Supply,
+    supply: &'a Supply,
     names: ShopNames<'a>,
 }
 
 impl<'a> Readings<'a> {
-    pub(crate) fn of(alloc: Global, shop: &'a Shop) -> Result<Readings<'a>, NoMemory>
-        ensures supply { IfOk result (λ readings. readings.supply ≡ supply_of shop.now.tables) }
-        ensures names { IfOk result (λ readings. readings.names.tables.now ≡ shop.now.tables) }
+    pub(crate) fn of(alloc: Global, inputs: &'a Inputs) -> Result<Readings<'a>, NoMemory>
+        ensures supply { IfOk result (λ readings. readings.supply.now ≡ supply_of inputs.now.tables) }
+        ensures names { IfOk result (λ readings. readings.names.tables.now ≡ inputs.now.tables) }
     {
         Ok(Readings {
-            supply: Supply::of(alloc, shop)?,
-            names: ShopNames::of(alloc, shop.tables())?,
+            supply: inputs.rows().supply(),
+            names: ShopNames::of(alloc, inputs.shop().tables())?,
         })
     }
 }
@@ -84,7 +83,7 @@ impl Section {
         readings: &Readings<'_>,
         item: usize,
     ) -> Result<(), NoMemory>
-        requires supply { readings.now.supply ≡ supply_of plan.now.inputs.tables }
+        requires supply { readings.now.supply.now ≡ supply_of plan.now.inputs.tables }
         requires names { readings.now.names.tables.now ≡ plan.now.inputs.tables }
         requires within { item < count plan.now.inputs }
         ensures { OnOk result (page.new ≡ page.old ++ rows_of plan.now.inputs self item) }
@@ -93,7 +92,7 @@ impl Section {
         let entry = entry_of(planned);
         let name = entry.name.as_bytes();
         match self {
-            Section::Promises => item_promises(alloc, page, &readings.supply, planned),
+            Section::Promises => item_promises(alloc, page, readings.supply, planned),
             Section::Plan => item_rows(alloc, page, planned),
             Section::Orders => order_rows(page, name, planned.orders()),
             Section::Pegs => {

@@ -162,7 +162,7 @@ fn inputs_tell_receipts_and_bookings_by_their_numbers(rt: HostRuntime) {
     let inputs = made(&rt, bicycles_in_lots().inputs(rt.alloc(), morning()));
     assert_eq!(rt; inputs.shop().tables().items().len(), 3);
     same(&rt, inputs.weeks(), 6);
-    same(&rt, inputs.on_hand(1), Qty::new(12));
+    same(&rt, Some(inputs.on_hand(1)), Qty::new(12));
     are_due(&rt, inputs.receipts(1), &[(1, 3, 15)]);
     same(&rt, inputs.snapshot().front(), 7);
     are_due(
@@ -170,6 +170,15 @@ fn inputs_tell_receipts_and_bookings_by_their_numbers(rt: HostRuntime) {
         inputs.bookings(0),
         &[(1, 3, 12), (2, 5, 25), (5, 1, 10)],
     );
+}
+
+#[test]
+fn inputs_tell_the_rows_of_their_shop(rt: HostRuntime) {
+    let inputs = made(&rt, bicycles_in_lots().inputs(rt.alloc(), morning()));
+    let rows = inputs.rows();
+    assert_eq!(rt; rows.shop().tables().items().len(), 3);
+    same(&rt, Some(rows.supply().on_hand(1)), Qty::new(12));
+    same(&rt, Some(rows.supply().up_to(0, 3)), Qty::new(30));
 }
 
 // What planning makes of an item.

@@ -16,7 +16,7 @@ use Rattle.mrp_engine.proofs.runs.plan_runs.Goals.{in-Taken+in_ok-plan_run+in_ok
 
 pub plan_run-requires : goal.plan_run-requires
 plan_run-requires g c =
-    let t = c.args.shop.now.value.tables in
+    let t = c.args.rows.now.value.tables in
     let h = c.entries-entry-items.result.now in
     let legal : IsLegal (supply_of t) h = subst (λ (x : Supply). IsLegal x h) c.requires c.entries-entry-items.ensures.legal in (
       search (sendable, crosses) depth 40,
@@ -25,7 +25,7 @@ plan_run-requires g c =
 
 pub returns-in_err-plan_run : goal.returns-in_err-plan_run
 returns-in_err-plan_run g c =
-    let t = c.args.shop.now.value.tables in
+    let t = c.args.rows.now.value.tables in
     let h = c.entries-entry-items.result.now in
     let refused : PlansRun (inputs_of t c.in-Taken.snapshot) (Err c.in_err-plan_run.field-0.0) = c.in_err-plan_run.ensures in
     let fails : c.from_residual.result ≡ Err c.in_err-plan_run.field-0.0 = search rules in
@@ -35,7 +35,7 @@ returns-in_err-plan_run g c =
 
 pub loop-entry-preserved : goal.loop-entry-preserved
 loop-entry-preserved g c =
-    let t = c.args.shop.now.value.tables in
+    let t = c.args.rows.now.value.tables in
     let h = c.entries-entry-items.result.now in
     let k = c.loop-entry.entry-index in
     elim c.match-entry.branch [
@@ -51,5 +51,5 @@ loop-entry-preserved g c =
 
 pub returns : goal.returns
 returns g c =
-    planned-all c.args.shop.now.value.tables c.entries-entry-items.result.now c.args.history.now.entries c.loop-entry.entry-index c.loop-entry.plans.items c.entries-entry-items.ensures.entries
+    planned-all c.args.rows.now.value.tables c.entries-entry-items.result.now c.args.history.now.entries c.loop-entry.entry-index c.loop-entry.plans.items c.entries-entry-items.ensures.entries
     (omega (arith, c.loop-entry-test.false)) c.loop-entry.invariant

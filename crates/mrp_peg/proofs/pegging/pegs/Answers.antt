@@ -1,11 +1,15 @@
-use Rattle.std.proofs.Common.{◌≡◌, ◌∙◌, ◌++◌, ◌+◌, ◌∷◌, [], ℕ, inl, inr, ap, sym, subst, arith}
+use Rattle.std.proofs.Common.{◌≡◌, ◌∙◌, ◌++◌, ◌+◌, ◌∷◌, [], ℕ, List, length, inl, inr, ap, sym, subst, arith}
 use Rattle.std.specs.Prelude.{flat_map}
 use Rattle.std.specs.List.{range_with_len}
 use Rattle.std.proofs.lemmas.Bool.{cases_lt}
 use Rattle.std.proofs.lemmas.List.{append-nil}
 use Rattle.std.proofs.lemmas.List.Concat.{flat_map-append}
-use Rattle.mrp_peg.specs.Laws.{AddUpToRequirements}
-use Rattle.mrp_peg.specs.Pegging.{pegs_of}
+use Rattle.mrp_tables.specs.Tables.{Tables}
+use Rattle.mrp_tables.specs.declared.item.Item.{Item}
+use Rattle.mrp_item.specs.Inputs.{Inputs, count}
+use Rattle.mrp_peg.specs.declared.peg.Peg.{Peg}
+use Rattle.mrp_peg.specs.Laws.{AddUpToRequirements, AddUpToSupplies}
+use Rattle.mrp_peg.specs.Pegging.{pegs_for, pegs_of, plan_pegs}
 use Rattle.mrp_peg.proofs.Loops.{range_more}
 use Rattle.mrp_peg.proofs.PlanSums.{plan-requirements, plan-supplies}
 use Rattle.mrp_peg.proofs.pegging.pegs.Goals as goal
@@ -29,7 +33,17 @@ loop-item-preserved c =
     }
 
 pub returns-clause-requirements : goal.returns-clause-requirements
-returns-clause-requirements c = ?
+returns-clause-requirements c = λ i within.
+    let s = c.args.plan.now.inputs in
+    let items = c.items-item-end.ensures.rows ∙ ap (λ (t : Tables). t.items) (c.tables.ensures.value ∙ c.shop.ensures.tables ∙ ap (λ (x : Inputs). x.tables) (c.deref.ensures ∙ c.inputs.ensures.inputs)) in
+    let all : c.loop-item.item ≡ count s = omega (arith, c.loop-item-test.false, c.loop-item.auto.item-end, ap (length {A = Item}) items) in
+    let whole : c.loop-item.all.items ≡ plan_pegs s = c.loop-item.invariant.whole ∙ ap (λ (n : ℕ). flat_map (pegs_of s) (range_with_len 0 n)) all in
+    subst (λ (pegs : List Peg). AddUpToRequirements s i (pegs_for i pegs)) (sym whole) (plan-requirements s i within (c.loop-item.invariant.sums i (omega (arith, within, all))))
 
 pub returns-clause-supplies : goal.returns-clause-supplies
-returns-clause-supplies c = ?
+returns-clause-supplies c = λ i within.
+    let s = c.args.plan.now.inputs in
+    let items = c.items-item-end.ensures.rows ∙ ap (λ (t : Tables). t.items) (c.tables.ensures.value ∙ c.shop.ensures.tables ∙ ap (λ (x : Inputs). x.tables) (c.deref.ensures ∙ c.inputs.ensures.inputs)) in
+    let all : c.loop-item.item ≡ count s = omega (arith, c.loop-item-test.false, c.loop-item.auto.item-end, ap (length {A = Item}) items) in
+    let whole : c.loop-item.all.items ≡ plan_pegs s = c.loop-item.invariant.whole ∙ ap (λ (n : ℕ). flat_map (pegs_of s) (range_with_len 0 n)) all in
+    subst (λ (pegs : List Peg). AddUpToSupplies s i (pegs_for i pegs)) (sym whole) (plan-supplies s i within)
