@@ -1,15 +1,14 @@
 -- What is due, one row at a time.
-use Rattle.std.proofs.Common.{◌≡◌, ◌≢◌, ◌∙◌, ℕ, zero, ◌+◌, ◌<◌, ◌≤◌, Bool, true, false, cond, eqb, List, [], ◌∷◌, ◌++◌, length, take, map, get_or, replicate, set, refl, sym, ap, arith}
+use Rattle.std.proofs.Common.{◌≡◌, ◌≢◌, ◌∙◌, ℕ, zero, ◌+◌, ◌<◌, ◌≤◌, Bool, true, false, cond, eqb, List, [], ◌∷◌, ◌++◌, length, take, map, get_or, replicate, refl, sym, ap, arith}
 use Rattle.std.specs.Prelude.{filter, sum, sum_by}
-use Rattle.std.proofs.lemmas.List.{length-replicate, map-append, map-set, length-map, get_or-map, get_or-set_same, get_or-set_other, append-nil}
+use Rattle.std.proofs.lemmas.List.{length-replicate, map-append}
 use Rattle.std.proofs.lemmas.List.Elements.{filter_more}
-use Rattle.std.specs.Global.{Vec}
 use Rattle.std.proofs.lemmas.Bool.{eqb-true, eqb-false, eq-eqb}
 use Rattle.std.proofs.lemmas.List.Sums.{sum_by-cons, sum_by_more, sum_by_more_le}
 use Rattle.mrp_phase.specs.Weeks.{row, in_week, with_week}
 use Rattle.mrp_phase.proofs.WeekRows.{row_is, row_same, in_week_row, in_week_changed, in_week_kept, in_week_replicate, length-with_week}
 use Rattle.mrp_item.specs.declared.due.Due.{Due}
-use Rattle.mrp_item.specs.Dues.{due_in, due_sum, dues_of, listed, with_more}
+use Rattle.mrp_item.specs.Dues.{due_in, due_sum, dues_of, with_more}
 
 -- a quantity that is due in a week, and 0 in another
 abbrev pub one_due : ℕ → Due → ℕ
@@ -72,26 +71,6 @@ dated_more dues k d xs n h is so_far =
 
 pub dated_none : (n : ℕ) → replicate n 0 ≡ row n (due_sum [])
 dated_none n = row_is (replicate n 0) (due_sum []) n (length-replicate n 0) (λ t a b. in_week_replicate n t)
-
--- one thing more that is due of an item, told of each item
-pub listed_add : (lists : List (Vec Due)) (at i : ℕ) (old new : Vec Due) (d : Due) → at < length lists → old ≡ get_or lists at old → new.items ≡ old.items ++ d ∷ []
-    → listed (map (λ v. v.items) (set lists at new)) i ≡ listed (map (λ v. v.items) lists) i ++ cond (eqb at i) (d ∷ []) []
-listed_add lists at i old new d h read pushed = by (eqb at i) refl
-  where
-    items : Vec Due → List Due
-    items v = v.items
-
-    before : listed (map (λ v. v.items) lists) at ≡ old.items
-    before = get_or-map (λ (v : Vec Due). v.items) lists at old [] h ∙ ap (λ (v : Vec Due). v.items) (sym read)
-
-    by : (same : Bool) → eqb at i ≡ same → listed (map (λ v. v.items) (set lists at new)) i ≡ listed (map (λ v. v.items) lists) i ++ cond same (d ∷ []) []
-    by true e =
-        let same : at ≡ i = eqb-true at i e in
-        let k : at < length (map (λ (w : Vec Due). w.items) lists) = omega (arith, length-map lists (λ w. w.items)) in
-        rw (← same) (rw (map-set (λ (w : Vec Due). w.items) lists at new) (get_or-set_same (map (λ w. w.items) lists) at new.items [] k) ∙ pushed ∙ ap (λ xs. xs ++ d ∷ []) (sym before))
-    by false e =
-        let other : i ≢ at = (let no : at ≢ i = eqb-false at i e in omega arith) in
-        rw (map-set (λ (w : Vec Due). w.items) lists at new) (get_or-set_other (map (λ w. w.items) lists) at i new.items [] other) ∙ sym (append-nil (listed (map (λ w. w.items) lists) i))
 
 -- what one more row says is due
 pub dues_more : {R : Type 0} (keep : R → Bool) (due : R → Due) (rows : List R) (k : ℕ) (d r : R) → k < length rows → r ≡ get_or rows k d

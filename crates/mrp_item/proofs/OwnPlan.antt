@@ -1,6 +1,6 @@
 -- What an item's rows make of it.
-use Rattle.std.proofs.Common.{◌≡◌, ◌∙◌, ℕ, ◌+◌, ◌<◌, ◌≤◌, inl, inr, Bool, true, false, suc, List, [], ◌∷◌, length, get_or, refl, sym, ap, arith}
-use Rattle.std.specs.Prelude.{◌||◌, ◌&&◌, sum, sum_by, nat_lt}
+use Rattle.std.proofs.Common.{◌≡◌, ◌∙◌, ℕ, ◌+◌, ◌<◌, ◌≤◌, inl, inr, Bool, true, false, List, length, refl, sym, ap, arith}
+use Rattle.std.specs.Prelude.{◌||◌, sum, sum_by, nat_lt}
 use Rattle.std.specs.List.{list_all}
 use Rattle.std.proofs.lemmas.Bool.{lt-ltb, le-ltb}
 use Rattle.std.proofs.lemmas.List.Folds.{list_all-map}

@@ -4,13 +4,10 @@ use Rattle.std.specs.Prelude.{filter, ◌||◌, ◌&&◌}
 use Rattle.std.specs.List.{range_with_len}
 use Rattle.std.proofs.lemmas.Bool.{eqb-true, eqb-false, eq-eqb}
 use Rattle.std.proofs.lemmas.List.{get_or-map, length-map, map-append}
-use Rattle.std.proofs.lemmas.List.Elements.{All-get_or, filter_more}
+use Rattle.std.proofs.lemmas.List.Elements.{filter_more}
 use Rattle.mrp_tables.specs.declared.rows.BillLine.{BillLine}
 use Rattle.mrp_bill.specs.Bill.{is_parent, IsParent, parents_of, line_at, lines_of}
-use Rattle.mrp_phase.specs.Weeks.{row}
-use Rattle.mrp_item.specs.Inputs.{Inputs, count, horizon}
-use Rattle.mrp_item.specs.Orders.{started_in}
-use Rattle.mrp_item.specs.Plan.{outcome_of, plan_in}
+use Rattle.mrp_item.specs.Inputs.{Inputs, count}
 use Rattle.mrp_item.specs.Places.{ItemOf}
 use Rattle.mrp_item.specs.Made.{item_from, parents_from}
 

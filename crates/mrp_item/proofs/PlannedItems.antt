@@ -1,7 +1,6 @@
 -- The plan of an item, if planning makes one.
-use Rattle.std.proofs.Common.{◌≡◌, ◌∙◌, ℕ, true, false, sym, ap, refl}
-use Rattle.std.specs.Prelude.{Option, Some, None}
-use Rattle.mrp_item.specs.Inputs.{Inputs}
+use Rattle.std.proofs.Common.{◌≡◌, ◌∙◌, false, sym, ap, refl}
+use Rattle.std.specs.Prelude.{Some, None}
 use Rattle.mrp_item.specs.Places.{ItemOf, PlannedItem}
 use Rattle.mrp_item.specs.Plan.{Outcome, Planned, Over, Blocked, is_planned, outcome_of, plan_in}
 use Rattle.mrp_item.specs.Made.{planned_as, planned_item}

@@ -1,10 +1,13 @@
-//! The tables' rows, grouped by their items.
+//! The rows of the tables and the bookings, grouped by their items.
 
-ghost use Rattle.std.specs.Prelude.{◌≡◌, ◌<◌, ℕ, length, IfOk};
-ghost use Rattle.mrp_item.specs.Dues.{firm_dues, forecast_dues, receipt_dues, booking_dues, listed};
+ghost use Rattle.std.specs.Prelude.{◌≡◌, ◌<◌, ℕ, All, length, filter, map, IfOk};
+ghost use Rattle.mrp_tables.specs.Master.{is_firm};
+ghost use Rattle.mrp_item.specs.Dues.{booking_dues, firm_dues, forecast_dues, listed, receipt_dues};
+ghost use Rattle.mrp_item.specs.Grouped.{of_booking, of_master, of_receipt};
 ghost use Rattle.mrp_item.specs.Rows.{is_forecast};
 
-use crate::due::{Due, DueLists};
+use crate::due::Due;
+use crate::due_lists::{DueLists, ItemDue};
 use mrp_book::Booking;
 use mrp_qty::NoMemory;
 use mrp_tables::{MasterKind, MasterRow, Receipt};
@@ -19,21 +22,97 @@ fn is_forecast_kind(kind: MasterKind) -> bool
     }
 }
 
-// The firm rows of each item.
-pub fn firm_by_item(alloc: Global, count: usize, rows: &[MasterRow]) -> Result<DueLists, NoMemory>
-    ensures size { IfOk result (λ d. length d ≡ count) }
-    ensures lists { IfOk result (λ d. (i : ℕ) → i < count → listed d i ≡ firm_dues rows.now i) }
+// What a row of the master schedule says.
+fn due_of_master(row: &MasterRow) -> ItemDue
+    ensures { result ≡ of_master row.now }
 {
-    let mut lists = DueLists::new(alloc, count)?;
-    for row in rows {
-        let due = Due {
+    ItemDue {
+        item: row.item,
+        due: Due {
             number: u64::from(row.number),
             week: row.week,
             quantity: row.quantity,
-        };
-        lists.add_if(row.kind.is_firm(), row.item, due)?;
+        },
     }
-    Ok(lists)
+}
+
+// What an open receipt says.
+fn due_of_receipt(row: &Receipt) -> ItemDue
+    ensures { result ≡ of_receipt row.now }
+{
+    ItemDue {
+        item: row.item,
+        due: Due {
+            number: u64::from(row.number),
+            week: row.week,
+            quantity: row.quantity,
+        },
+    }
+}
+
+// What a booking says.
+fn due_of_booking(booking: &Booking) -> ItemDue
+    ensures { result ≡ of_booking booking.now }
+{
+    let line = booking.line;
+    ItemDue {
+        item: line.item,
+        due: Due {
+            number: booking.number,
+            week: line.week,
+            quantity: line.quantity,
+        },
+    }
+}
+
+// What the firm rows say.
+fn firm(alloc: Global, rows: &[MasterRow]) -> Result<Vec<ItemDue>, NoMemory>
+    ensures { IfOk result (λ dues. dues.items ≡ map of_master (filter (λ r. is_firm r.kind) rows.now)) }
+{
+    let dues = rows
+        .iter()
+        .filter(|row| row.kind.is_firm())
+        .map(|row| due_of_master(row))
+        .collect(alloc)?;
+    Ok(dues)
+}
+
+// What the forecasts say.
+fn forecasts(alloc: Global, rows: &[MasterRow]) -> Result<Vec<ItemDue>, NoMemory>
+    ensures { IfOk result (λ dues. dues.items ≡ map of_master (filter (λ r. is_forecast r.kind) rows.now)) }
+{
+    let dues = rows
+        .iter()
+        .filter(|row| is_forecast_kind(row.kind))
+        .map(|row| due_of_master(row))
+        .collect(alloc)?;
+    Ok(dues)
+}
+
+// What the open receipts say.
+fn receipts(alloc: Global, rows: &[Receipt]) -> Result<Vec<ItemDue>, NoMemory>
+    ensures { IfOk result (λ dues. dues.items ≡ map of_receipt rows.now) }
+{
+    let dues = rows.iter().map(|row| due_of_receipt(row)).collect(alloc)?;
+    Ok(dues)
+}
+
+// What the bookings say.
+fn bookings(alloc: Global, rows: &[Booking]) -> Result<Vec<ItemDue>, NoMemory>
+    ensures { IfOk result (λ dues. dues.items ≡ map of_booking rows.now) }
+{
+    let dues = rows.iter().map(|row| due_of_booking(row)).collect(alloc)?;
+    Ok(dues)
+}
+
+// The firm rows of each item.
+pub fn firm_by_item(alloc: Global, count: usize, rows: &[MasterRow]) -> Result<DueLists, NoMemory>
+    requires { All (λ r. r.item < count) rows.now }
+    ensures size { IfOk result (λ d. length d ≡ count) }
+    ensures lists { IfOk result (λ d. (i : ℕ) → i < count → listed d i ≡ firm_dues rows.now i) }
+{
+    let dues = firm(alloc, rows)?;
+    DueLists::of_dues(alloc, count, &dues)
 }
 
 // The forecasts of each item.
@@ -42,52 +121,30 @@ pub fn forecasts_by_item(
     count: usize,
     rows: &[MasterRow],
 ) -> Result<DueLists, NoMemory>
+    requires { All (λ r. r.item < count) rows.now }
     ensures size { IfOk result (λ d. length d ≡ count) }
     ensures lists { IfOk result (λ d. (i : ℕ) → i < count → listed d i ≡ forecast_dues rows.now i) }
 {
-    let mut lists = DueLists::new(alloc, count)?;
-    for row in rows {
-        let due = Due {
-            number: u64::from(row.number),
-            week: row.week,
-            quantity: row.quantity,
-        };
-        lists.add_if(is_forecast_kind(row.kind), row.item, due)?;
-    }
-    Ok(lists)
+    let dues = forecasts(alloc, rows)?;
+    DueLists::of_dues(alloc, count, &dues)
 }
 
 // The open receipts of each item.
 pub fn receipts_by_item(alloc: Global, count: usize, rows: &[Receipt]) -> Result<DueLists, NoMemory>
+    requires { All (λ r. r.item < count) rows.now }
     ensures size { IfOk result (λ d. length d ≡ count) }
     ensures lists { IfOk result (λ d. (i : ℕ) → i < count → listed d i ≡ receipt_dues rows.now i) }
 {
-    let mut lists = DueLists::new(alloc, count)?;
-    for row in rows {
-        let due = Due {
-            number: u64::from(row.number),
-            week: row.week,
-            quantity: row.quantity,
-        };
-        lists.add(row.item, due)?;
-    }
-    Ok(lists)
+    let dues = receipts(alloc, rows)?;
+    DueLists::of_dues(alloc, count, &dues)
 }
 
 // The bookings of each item.
 pub fn bookings_by_item(alloc: Global, count: usize, rows: &[Booking]) -> Result<DueLists, NoMemory>
+    requires { All (λ b. b.line.item < count) rows.now }
     ensures size { IfOk result (λ d. length d ≡ count) }
     ensures lists { IfOk result (λ d. (i : ℕ) → i < count → listed d i ≡ booking_dues rows.now i) }
 {
-    let mut lists = DueLists::new(alloc, count)?;
-    for row in rows {
-        let line = row.line;
-        let due = Due {
-            number: row.number,
-            week: line.week,
-            quantity: line.quantity,
-        };
-        lists.add(line.item, due)?;
-    }
-    Ok(lists)
+    let dues = bookings(alloc, rows)?;
+    DueLists::of_dues(alloc, count, &dues)
 }

@@ -1,6 +1,7 @@
 //! What a plan is made from.
 
-use crate::due::{Due, DueLists};
+use crate::due::Due;
+use crate::due_lists::DueLists;
 use crate::grouping::bookings_by_item;
 use crate::shop_rows::ShopRows;
 use mrp_bill::Shop;

@@ -3,6 +3,7 @@
 
 mod asked;
 mod due;
+mod due_lists;
 mod grouping;
 mod inputs;
 pub mod laws;

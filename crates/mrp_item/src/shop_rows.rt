@@ -1,6 +1,7 @@
 //! A shop's rows, grouped by their items.
 
-use crate::due::{Due, DueLists};
+use crate::due::Due;
+use crate::due_lists::DueLists;
 use crate::grouping::{firm_by_item, forecasts_by_item, receipts_by_item};
 use mrp_bill::Shop;
 use mrp_master::Supply;

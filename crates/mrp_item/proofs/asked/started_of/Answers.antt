@@ -1,4 +1,4 @@
-use Rattle.std.proofs.Common.{◌≡◌, ◌∙◌, ◌<◌, List, ℕ, true, length, get_or, sym, ap, arith}
+use Rattle.std.proofs.Common.{◌≡◌, ◌∙◌, ◌<◌, List, ℕ, length, get_or, sym, ap, arith}
 use Rattle.mrp_tables.specs.Tables.{Tables}
 use Rattle.mrp_bill.specs.Bill.{is_parent, parents_of}
 use Rattle.mrp_phase.specs.Weeks.{row}

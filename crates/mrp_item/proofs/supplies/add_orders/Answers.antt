@@ -1,4 +1,4 @@
-use Rattle.std.proofs.Common.{◌≡◌, ◌∙◌, ◌+◌, ◌<◌, ◌++◌, ◌∷◌, [], ℕ, List, length, map, take, sym, ap, arith, append_assoc}
+use Rattle.std.proofs.Common.{◌∙◌, ◌+◌, ◌<◌, ◌++◌, ◌∷◌, [], List, length, map, take, sym, ap, arith, append_assoc}
 use Rattle.std.specs.List.{enumerate_from}
 use Rattle.mrp_item.specs.declared.supplies.Supply.{Supply}
 use Rattle.mrp_item.specs.Supplies.{order_supply}

@@ -7,7 +7,7 @@ use Rattle.mrp_item.specs.declared.due.Due.{Due}
 use Rattle.mrp_item.specs.declared.order.Order.{Order}
 use Rattle.mrp_item.specs.declared.supplies.Supply.{Supply}
 use Rattle.mrp_item.specs.Dues.{receipt_dues}
-use Rattle.mrp_item.specs.Inputs.{Inputs, horizon}
+use Rattle.mrp_item.specs.Inputs.{horizon}
 use Rattle.mrp_item.specs.Rows.{on_hand}
 use Rattle.mrp_item.specs.Supplies.{due_supply, order_supply, stock_supply}
 use Rattle.mrp_item.proofs.OrderWeeks.{due-within}
