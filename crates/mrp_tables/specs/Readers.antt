@@ -1,4 +1,4 @@
--- How each table is read: one line for each (profile).
+-- How the tables are read: one reader for each (profile).
 use Rattle.std.specs.Prelude.{ℕ, ◌≡◌, List, Result, Ok, Err}
 use Rattle.mrp_qty.specs.Reading.{◌>>=◌}
 use Rattle.mrp_cal.specs.Calendar.{ShopCalendar}
