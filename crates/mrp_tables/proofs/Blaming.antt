@@ -30,7 +30,7 @@ use Rattle.mrp_tables.specs.declared.rows.ScriptCall.{ScriptCall}
 use Rattle.mrp_tables.specs.declared.rows.ScriptCall.TheVariants as call
 use Rattle.mrp_tables.specs.Script.{ask_cells, book_cells, call_at, cancel_cells, mastered, script_row, spot_of, when_cells}
 use Rattle.mrp_tables.specs.Limits.{call_words, lot_words, record_limit}
-use Rattle.mrp_tables.specs.Tables.{untaken}
+use Rattle.mrp_tables.specs.Readers.{untaken}
 use Rattle.mrp_tables.specs.Stock.{items_in_stock, stock_cells, stock_checked, stock_row}
 
 own : (r : Cells) (code : ℕ) → IsAt r (fault_at r code)

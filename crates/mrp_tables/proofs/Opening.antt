@@ -1,17 +1,13 @@
 -- A table's records are its own.
-use Rattle.std.proofs.Common.{◌≡◌, ◌⊎◌, ℕ, Bool, true, false, List, [], ◌∷◌, Ok, Err, Result, inl, inr, sym, subst, ap, ◌∙◌, refl}
+use Rattle.std.proofs.Common.{◌≡◌, ℕ, Bool, true, false, List, [], ◌∷◌, Ok, Err, Result, inl, inr, sym, subst, ap, ◌∙◌, refl}
 use Rattle.std.specs.Cmp.Lexicographic.{pointwise}
 use Rattle.std.specs.Prelude.{nat_eq, if◌then◌else◌}
 use Rattle.mrp_rows.specs.declared.fault.Fault.{Fault}
 use Rattle.mrp_rows.specs.declared.fault.Table.{Table}
-use Rattle.mrp_rows.specs.declared.fault.Table.TheVariants as t
-use Rattle.mrp_cal.specs.Calendar.{ShopCalendar}
 use Rattle.mrp_rows.specs.Columns.{columns_of}
 use Rattle.mrp_rows.specs.Left.{Left}
 use Rattle.mrp_rows.specs.Next.{after_header, header_fault, opened}
 use Rattle.mrp_rows.specs.Records.{records_of}
-use Rattle.mrp_tables.specs.declared.calendar.Entry.{Entry}
-use Rattle.mrp_tables.specs.Calendar.{calendar_from, calendar_of, entry_row}
 use Rattle.mrp_tables.specs.Reading.{Gives, IsRefusedBehind, IsRefusedIn, Reads, rows_from, rows_of}
 
 by_header : (t : Table) (made c : Left) (same : Bool) → made.table ≡ t → (if same then Ok made else Err (header_fault t)) ≡ Ok c → c.table ≡ t
@@ -37,14 +33,3 @@ gathered-read {X} {Y} view reads t text c empty (Err f) opens none (inl memory) 
 gathered-read view reads t text c empty (Err f) opens none (inr why) =
     let own : c.table ≡ t = after_header-table t (records_of text) c opens in
     inr (rw opens (rw (own, none) at why))
-
--- the calendar of entries that were read
-pub calendar-read : (IsRefusal : Fault → Type 0) (text : List ℕ) (entries : List Entry) (r : Result ShopCalendar Fault)
-    → rows_of entry_row t.Calendar text ≡ Ok entries → r ≡ calendar_from entries → Gives IsRefusal (λ c. c) r (calendar_of text)
-calendar-read IsRefusal text entries (Ok c) read is = rw read (sym is)
-calendar-read IsRefusal text entries (Err f) read is = inr (rw read (sym is))
-
-pub calendar-refused : (IsRefusal : Fault → Type 0) (text : List ℕ) (f : Fault)
-    → IsRefusal f ⊎ (rows_of entry_row t.Calendar text ≡ Err f) → IsRefusal f ⊎ (calendar_of text ≡ Err f)
-calendar-refused IsRefusal text f (inl memory) = inl memory
-calendar-refused IsRefusal text f (inr why) = inr (rw why refl)

@@ -1,5 +1,5 @@
 -- A fault stands at its own table.
-use Rattle.std.proofs.Common.{◌≡◌, ℕ, Bool, true, false, List, [], ◌∷◌, ◌++◌, Result, Ok, Err, refl, sym, ap, ◌∙◌}
+use Rattle.std.proofs.Common.{◌≡◌, ℕ, Bool, true, false, List, [], ◌∷◌, ◌++◌, Result, Ok, Err, refl}
 use Rattle.std.specs.Prelude.{IfErr, if◌then◌else◌, nat_eq}
 use Rattle.std.specs.Cmp.Lexicographic.{pointwise}
 use Rattle.mrp_qty.specs.Reading.{◌>>=◌}
@@ -11,8 +11,8 @@ use Rattle.mrp_rows.specs.Left.{Cells, Left}
 use Rattle.mrp_rows.specs.Next.{after_header, header_fault, next_number, opened}
 use Rattle.mrp_rows.specs.Records.{records_of}
 use Rattle.mrp_tables.specs.declared.calendar.Entry.{Entry}
-use Rattle.mrp_tables.specs.declared.calendar.Entry.TheVariants.{Start, Weeks, Workdays, Holiday}
-use Rattle.mrp_tables.specs.Calendar.{calendar_from, calendar_of, entry_row}
+use Rattle.mrp_tables.specs.declared.calendar.Entry.TheVariants.{Start, Weeks, Workdays}
+use Rattle.mrp_tables.specs.Calendar.{calendar_from, entry_row}
 use Rattle.mrp_tables.specs.Laws.{FaultsAtItsRecord, IsAt, read_one}
 use Rattle.mrp_tables.specs.Reading.{Reads, admitted, rows_from, rows_of}
 use Rattle.mrp_tables.proofs.Blaming.{at_their_records}
@@ -57,7 +57,7 @@ from_own : (entries : List Entry) → IsOf t.Calendar (calendar_from entries)
 from_own (Start start ∷ Weeks weeks ∷ Workdays workdays ∷ holidays) = tt
 from_own entries = refl
 
-pub calendar_own : (text : List ℕ) → IsOf t.Calendar (calendar_of text)
+pub calendar_own : (text : List ℕ) → IsOf t.Calendar (rows_of entry_row t.Calendar text >>= calendar_from)
 calendar_own text =
     follows t.Calendar (rows_of entry_row t.Calendar text) calendar_from
     (rows_own entry_row at_their_records.calendar t.Calendar text) (λ entries e. from_own entries)

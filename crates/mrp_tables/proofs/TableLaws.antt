@@ -1,72 +1,133 @@
--- The tables of a bundle, read in turn.
-use Rattle.std.proofs.Common.{◌≡◌, ℕ, List, Result, Ok, Err, refl}
-use Rattle.mrp_cal.specs.Calendar.{ShopCalendar}
-use Rattle.mrp_rows.specs.Bundle.{text_in}
+-- The tables of a bundle, read in turn: which one gives the fault.
+use Rattle.std.proofs.Common.{◌≡◌, ◌⊎◌, ℕ, suc, ◌+◌, List, [], ◌∷◌, ◌++◌, Result, Ok, Err, inl, inr, refl, sym, ap, subst, ◌∙◌, take, map, arith}
+use Rattle.mrp_qty.specs.Reading.{◌>>=◌}
 use Rattle.mrp_rows.specs.declared.fault.Fault.{Fault}
+use Rattle.mrp_rows.specs.declared.fault.Table.{Table}
 use Rattle.mrp_rows.specs.declared.fault.Table.TheVariants as t
-use Rattle.mrp_tables.specs.declared.item.Item.{Item}
-use Rattle.mrp_tables.specs.declared.rows.Centre.{Centre}
-use Rattle.mrp_tables.specs.declared.rows.StockRow.{StockRow}
-use Rattle.mrp_tables.specs.declared.rows.Receipt.{Receipt}
-use Rattle.mrp_tables.specs.declared.rows.BillLine.{BillLine}
-use Rattle.mrp_tables.specs.declared.rows.Operation.{Operation}
-use Rattle.mrp_tables.specs.declared.rows.MasterRow.{MasterRow}
-use Rattle.mrp_tables.specs.declared.rows.ScriptRow.{ScriptRow}
-use Rattle.mrp_tables.specs.Bills.{bills_of}
-use Rattle.mrp_tables.specs.Calendar.{calendar_of}
-use Rattle.mrp_tables.specs.Items.{items_of}
-use Rattle.mrp_tables.specs.Laws.{IsFirstTablesFault}
-use Rattle.mrp_tables.specs.Master.{master_of}
-use Rattle.mrp_tables.specs.Reading.{rows_of}
-use Rattle.mrp_tables.specs.Receipts.{receipts_of}
-use Rattle.mrp_tables.specs.Script.{script_of}
-use Rattle.mrp_tables.specs.Stock.{stock_of}
-use Rattle.mrp_tables.specs.Tables.{head_in, middle_in, untaken, tables_in, tail_in}
+use Rattle.mrp_rows.specs.Tables.{table_index}
+use Rattle.mrp_tables.specs.Laws.{IsFirstTablesFault, all_whole, reading_of, table_order, whole}
+use Rattle.mrp_tables.specs.Readers.{table_in}
+use Rattle.mrp_tables.specs.Tables.{tables_in}
 
-by_script : (texts : List (List ℕ)) → (calendar : ShopCalendar) → calendar_of (text_in texts t.Calendar) ≡ Ok calendar → (items : List Item) → items_of (text_in texts t.Items) ≡ Ok items → (centres : List Centre) → rows_of (untaken {X = Centre}) t.Centres (text_in texts t.Centres) ≡ Ok centres → (stock : List StockRow) → stock_of items (text_in texts t.Stock) ≡ Ok stock → (receipts : List Receipt) → receipts_of calendar items (text_in texts t.Receipts) ≡ Ok receipts → (bills : List BillLine) → bills_of items (text_in texts t.Bills) ≡ Ok bills → (routings : List Operation) → rows_of (untaken {X = Operation}) t.Routings (text_in texts t.Routings) ≡ Ok routings → (master : List MasterRow) → master_of calendar items (text_in texts t.Master) ≡ Ok master → (r : Result (List ScriptRow) Fault) → script_of calendar items (text_in texts t.Script) ≡ r → IsFirstTablesFault texts
-unfolding tables_in head_in middle_in tail_in
-by_script texts calendar is_calendar items is_items centres is_centres stock is_stock receipts is_receipts bills is_bills routings is_routings master is_master (Err f) is = rw (is_calendar, is_items, is_centres, is_stock, is_receipts, is_bills, is_routings, is_master, is) refl
-by_script texts calendar is_calendar items is_items centres is_centres stock is_stock receipts is_receipts bills is_bills routings is_routings master is_master (Ok script) is = rw (is_calendar, is_items, is_centres, is_stock, is_receipts, is_bills, is_routings, is_master, is) refl
-
-by_master : (texts : List (List ℕ)) → (calendar : ShopCalendar) → calendar_of (text_in texts t.Calendar) ≡ Ok calendar → (items : List Item) → items_of (text_in texts t.Items) ≡ Ok items → (centres : List Centre) → rows_of (untaken {X = Centre}) t.Centres (text_in texts t.Centres) ≡ Ok centres → (stock : List StockRow) → stock_of items (text_in texts t.Stock) ≡ Ok stock → (receipts : List Receipt) → receipts_of calendar items (text_in texts t.Receipts) ≡ Ok receipts → (bills : List BillLine) → bills_of items (text_in texts t.Bills) ≡ Ok bills → (routings : List Operation) → rows_of (untaken {X = Operation}) t.Routings (text_in texts t.Routings) ≡ Ok routings → (r : Result (List MasterRow) Fault) → master_of calendar items (text_in texts t.Master) ≡ r → IsFirstTablesFault texts
-unfolding tables_in head_in middle_in tail_in
-by_master texts calendar is_calendar items is_items centres is_centres stock is_stock receipts is_receipts bills is_bills routings is_routings (Err f) is = rw (is_calendar, is_items, is_centres, is_stock, is_receipts, is_bills, is_routings, is) refl
-by_master texts calendar is_calendar items is_items centres is_centres stock is_stock receipts is_receipts bills is_bills routings is_routings (Ok master) is = by_script texts calendar is_calendar items is_items centres is_centres stock is_stock receipts is_receipts bills is_bills routings is_routings master is (script_of calendar items (text_in texts t.Script)) refl
-
-by_routings : (texts : List (List ℕ)) → (calendar : ShopCalendar) → calendar_of (text_in texts t.Calendar) ≡ Ok calendar → (items : List Item) → items_of (text_in texts t.Items) ≡ Ok items → (centres : List Centre) → rows_of (untaken {X = Centre}) t.Centres (text_in texts t.Centres) ≡ Ok centres → (stock : List StockRow) → stock_of items (text_in texts t.Stock) ≡ Ok stock → (receipts : List Receipt) → receipts_of calendar items (text_in texts t.Receipts) ≡ Ok receipts → (bills : List BillLine) → bills_of items (text_in texts t.Bills) ≡ Ok bills → (r : Result (List Operation) Fault) → rows_of (untaken {X = Operation}) t.Routings (text_in texts t.Routings) ≡ r → IsFirstTablesFault texts
-unfolding tables_in head_in middle_in tail_in
-by_routings texts calendar is_calendar items is_items centres is_centres stock is_stock receipts is_receipts bills is_bills (Err f) is = rw (is_calendar, is_items, is_centres, is_stock, is_receipts, is_bills, is) refl
-by_routings texts calendar is_calendar items is_items centres is_centres stock is_stock receipts is_receipts bills is_bills (Ok routings) is = by_master texts calendar is_calendar items is_items centres is_centres stock is_stock receipts is_receipts bills is_bills routings is (master_of calendar items (text_in texts t.Master)) refl
-
-by_bills : (texts : List (List ℕ)) → (calendar : ShopCalendar) → calendar_of (text_in texts t.Calendar) ≡ Ok calendar → (items : List Item) → items_of (text_in texts t.Items) ≡ Ok items → (centres : List Centre) → rows_of (untaken {X = Centre}) t.Centres (text_in texts t.Centres) ≡ Ok centres → (stock : List StockRow) → stock_of items (text_in texts t.Stock) ≡ Ok stock → (receipts : List Receipt) → receipts_of calendar items (text_in texts t.Receipts) ≡ Ok receipts → (r : Result (List BillLine) Fault) → bills_of items (text_in texts t.Bills) ≡ r → IsFirstTablesFault texts
-unfolding tables_in head_in middle_in tail_in
-by_bills texts calendar is_calendar items is_items centres is_centres stock is_stock receipts is_receipts (Err f) is = rw (is_calendar, is_items, is_centres, is_stock, is_receipts, is) refl
-by_bills texts calendar is_calendar items is_items centres is_centres stock is_stock receipts is_receipts (Ok bills) is = by_routings texts calendar is_calendar items is_items centres is_centres stock is_stock receipts is_receipts bills is (rows_of (untaken {X = Operation}) t.Routings (text_in texts t.Routings)) refl
-
-by_receipts : (texts : List (List ℕ)) → (calendar : ShopCalendar) → calendar_of (text_in texts t.Calendar) ≡ Ok calendar → (items : List Item) → items_of (text_in texts t.Items) ≡ Ok items → (centres : List Centre) → rows_of (untaken {X = Centre}) t.Centres (text_in texts t.Centres) ≡ Ok centres → (stock : List StockRow) → stock_of items (text_in texts t.Stock) ≡ Ok stock → (r : Result (List Receipt) Fault) → receipts_of calendar items (text_in texts t.Receipts) ≡ r → IsFirstTablesFault texts
-unfolding tables_in head_in middle_in tail_in
-by_receipts texts calendar is_calendar items is_items centres is_centres stock is_stock (Err f) is = rw (is_calendar, is_items, is_centres, is_stock, is) refl
-by_receipts texts calendar is_calendar items is_items centres is_centres stock is_stock (Ok receipts) is = by_bills texts calendar is_calendar items is_items centres is_centres stock is_stock receipts is (bills_of items (text_in texts t.Bills)) refl
-
-by_stock : (texts : List (List ℕ)) → (calendar : ShopCalendar) → calendar_of (text_in texts t.Calendar) ≡ Ok calendar → (items : List Item) → items_of (text_in texts t.Items) ≡ Ok items → (centres : List Centre) → rows_of (untaken {X = Centre}) t.Centres (text_in texts t.Centres) ≡ Ok centres → (r : Result (List StockRow) Fault) → stock_of items (text_in texts t.Stock) ≡ r → IsFirstTablesFault texts
-unfolding tables_in head_in middle_in tail_in
-by_stock texts calendar is_calendar items is_items centres is_centres (Err f) is = rw (is_calendar, is_items, is_centres, is) refl
-by_stock texts calendar is_calendar items is_items centres is_centres (Ok stock) is = by_receipts texts calendar is_calendar items is_items centres is_centres stock is (receipts_of calendar items (text_in texts t.Receipts)) refl
-
-by_centres : (texts : List (List ℕ)) → (calendar : ShopCalendar) → calendar_of (text_in texts t.Calendar) ≡ Ok calendar → (items : List Item) → items_of (text_in texts t.Items) ≡ Ok items → (r : Result (List Centre) Fault) → rows_of (untaken {X = Centre}) t.Centres (text_in texts t.Centres) ≡ r → IsFirstTablesFault texts
-unfolding tables_in head_in middle_in tail_in
-by_centres texts calendar is_calendar items is_items (Err f) is = rw (is_calendar, is_items, is) refl
-by_centres texts calendar is_calendar items is_items (Ok centres) is = by_stock texts calendar is_calendar items is_items centres is (stock_of items (text_in texts t.Stock)) refl
-
-by_items : (texts : List (List ℕ)) → (calendar : ShopCalendar) → calendar_of (text_in texts t.Calendar) ≡ Ok calendar → (r : Result (List Item) Fault) → items_of (text_in texts t.Items) ≡ r → IsFirstTablesFault texts
-unfolding tables_in head_in middle_in tail_in
-by_items texts calendar is_calendar (Err f) is = rw (is_calendar, is) refl
-by_items texts calendar is_calendar (Ok items) is = by_centres texts calendar is_calendar items is (rows_of (untaken {X = Centre}) t.Centres (text_in texts t.Centres)) refl
-
-by_calendar : (texts : List (List ℕ)) → (r : Result (ShopCalendar) Fault) → calendar_of (text_in texts t.Calendar) ≡ r → IsFirstTablesFault texts
-unfolding tables_in head_in middle_in tail_in
-by_calendar texts (Err f) is = rw is refl
-by_calendar texts (Ok calendar) is = by_items texts calendar is (items_of (text_in texts t.Items)) refl
+-- a table that is read, and what follows
+in_turn : {X Y : Type 0} (x : Result X Fault) (next : X → Result Y Fault) (rest : Result (Unit {0}) Fault)
+    → ((a : X) → whole (next a) ≡ rest) → whole (x >>= next) ≡ (whole x >>= λ w. rest)
+in_turn (Ok a) next rest follows = follows a
+in_turn (Err f) next rest follows = refl
 
 pub first_tables_fault : (texts : List (List ℕ)) → IsFirstTablesFault texts
-first_tables_fault texts = by_calendar texts (calendar_of (text_in texts t.Calendar)) refl
+unfolding tables_in
+first_tables_fault texts =
+    in_turn (table_in texts t.Calendar) _ _ (λ calendar.
+    in_turn (table_in texts t.Items) _ _ (λ items.
+    in_turn (table_in texts t.Centres) _ _ (λ centres.
+    in_turn (table_in texts t.Stock) _ _ (λ stock.
+    in_turn (table_in texts t.Receipts) _ _ (λ receipts.
+    in_turn (table_in texts t.Bills) _ _ (λ bills.
+    in_turn (table_in texts t.Routings) _ _ (λ routings.
+    in_turn (table_in texts t.Master) _ _ (λ master.
+    in_turn (table_in texts t.Script) _ _ (λ script. refl)))))))))
+
+-- that the tables before one are all read whole
+abbrev pub AreWholeBefore : List (List ℕ) → Table → Type 0
+AreWholeBefore texts own = all_whole (map (reading_of texts) (take (table_index own) table_order)) ≡ Ok tt
+
+-- one more table is read whole
+pub whole_and : {X : Type 0} {x : Result X Fault} {a : X} {rest : Result (Unit {0}) Fault} → x ≡ Ok a → rest ≡ Ok tt → (whole x >>= λ w. rest) ≡ Ok tt
+whole_and e given = rw e given
+
+-- tables that stand at their places, from this one on
+abbrev pub AreInOrder : ℕ → List Table → Type 0
+AreInOrder place [] = Unit {0}
+AreInOrder place (own ∷ more) = (table_index own ≡ place) × AreInOrder (suc place) more
+
+in_order : AreInOrder 0 table_order
+in_order = (refl, (refl, (refl, (refl, (refl, (refl, (refl, (refl, (refl, tt)))))))))
+
+-- the first table that is not read whole, behind tables that are
+pub record IsFirstFault (read : Table → Result (Unit {0}) Fault) (place : ℕ) (tables : List Table) (f : Fault) : Type 0 where
+  pub own : Table
+  pub behind : ℕ
+  pub at : table_index own ≡ place + behind
+  pub refused : read own ≡ Err f
+  pub earlier : all_whole (map read (take behind tables)) ≡ Ok tt
+
+first_of_all : (read : Table → Result (Unit {0}) Fault) (place : ℕ) (tables : List Table) (f : Fault)
+    → AreInOrder place tables → all_whole (map read tables) ≡ Err f → IsFirstFault read place tables f
+first_of_all read place [] f order given = absurd cc
+first_of_all read place (own ∷ more) f order given = by (read own) refl given (first_of_all read (suc place) more f order.1)
+  where
+    by : (r : Result (Unit {0}) Fault) → read own ≡ r → (r >>= λ w. all_whole (map read more)) ≡ Err f
+        → (all_whole (map read more) ≡ Err f → IsFirstFault read (suc place) more f) → IsFirstFault read place (own ∷ more) f
+    by (Err g) is refused later = record { own = own; behind = 0; at = omega (arith, order.0); refused = is ∙ refused; earlier = refl }
+    by (Ok w) is refused later =
+        let rest = later refused in
+        record {
+          own = rest.own;
+          behind = suc rest.behind;
+          at = omega (arith, rest.at);
+          refused = rest.refused;
+          earlier = rw is rest.earlier;
+        }
+
+-- a bundle's fault is that of a table behind others that are read whole
+pub record IsRefusedByTable (texts : List (List ℕ)) (f : Fault) : Type 0 where
+  pub own : Table
+  pub refused : reading_of texts own ≡ Err f
+  pub earlier : AreWholeBefore texts own
+
+pub refused_by_table : (texts : List (List ℕ)) (f : Fault) → tables_in texts ≡ Err f → IsRefusedByTable texts f
+refused_by_table texts f given =
+    let told : whole (tables_in texts) ≡ Err f = rw given refl in
+    let first = first_of_all (reading_of texts) 0 table_order f in_order (sym (first_tables_fault texts) ∙ told) in
+    let at : first.behind ≡ table_index first.own = omega (arith, first.at) in
+    record {
+      own = first.own;
+      refused = first.refused;
+      earlier = subst (λ n. all_whole (map (reading_of texts) (take n table_order)) ≡ Ok tt) at first.earlier;
+    }
+
+-- and the other way round: such a table's fault is the bundle's
+whole_then : (read : Table → Result (Unit {0}) Fault) (before rest : List Table) → all_whole (map read before) ≡ Ok tt → all_whole (map read (before ++ rest)) ≡ all_whole (map read rest)
+whole_then read [] rest given = refl
+whole_then read (own ∷ more) rest given = by (read own) refl given (whole_then read more rest)
+  where
+    by : (r : Result (Unit {0}) Fault) → read own ≡ r → (r >>= λ w. all_whole (map read more)) ≡ Ok tt
+        → (all_whole (map read more) ≡ Ok tt → all_whole (map read (more ++ rest)) ≡ all_whole (map read rest))
+        → (read own >>= λ w. all_whole (map read (more ++ rest))) ≡ all_whole (map read rest)
+    by (Err g) is refused later = absurd cc
+    by (Ok w) is all later = rw is (later all)
+
+behind : (own : Table) → (own ≡ t.Bundle) ⊎ ((rest : List Table) × (table_order ≡ take (table_index own) table_order ++ (own ∷ rest)))
+behind t.Calendar = inr (_, refl)
+behind t.Items = inr (_, refl)
+behind t.Centres = inr (_, refl)
+behind t.Stock = inr (_, refl)
+behind t.Receipts = inr (_, refl)
+behind t.Bills = inr (_, refl)
+behind t.Routings = inr (_, refl)
+behind t.Master = inr (_, refl)
+behind t.Script = inr (_, refl)
+behind t.Bundle = inl refl
+
+fault_of_all : (texts : List (List ℕ)) (f : Fault) (own : Table) (rest : List Table) → AreWholeBefore texts own → reading_of texts own ≡ Err f
+    → all_whole (map (reading_of texts) (take (table_index own) table_order ++ (own ∷ rest))) ≡ Err f
+fault_of_all texts f own rest earlier refused =
+    whole_then (reading_of texts) (take (table_index own) table_order) (own ∷ rest) earlier ∙ ap (λ (r : Result (Unit {0}) Fault). r >>= λ w. all_whole (map (reading_of texts) rest)) refused
+
+unwhole : {X : Type 0} (r : Result X Fault) (f : Fault) → whole r ≡ Err f → r ≡ Err f
+unwhole (Ok x) f given = absurd cc
+unwhole (Err g) f given = let same : g ≡ f = cc in ap (λ h. Err h) same
+
+pub refused_behind : (texts : List (List ℕ)) (f : Fault) (own : Table) → AreWholeBefore texts own → table_in texts own ≡ Err f → tables_in texts ≡ Err f
+refused_behind texts f own earlier refused = by (behind own)
+  where
+    told : reading_of texts own ≡ Err f
+    told = rw refused refl
+
+    by : (own ≡ t.Bundle) ⊎ ((rest : List Table) × (table_order ≡ take (table_index own) table_order ++ (own ∷ rest))) → tables_in texts ≡ Err f
+    by (inl bundle) = let bad : reading_of texts t.Bundle ≡ Err f = subst (λ (at : Table). reading_of texts at ≡ Err f) bundle told in absurd cc
+    by (inr (rest, parts)) =
+        let all : all_whole (map (reading_of texts) table_order) ≡ Err f =
+        subst (λ (tables : List Table). all_whole (map (reading_of texts) tables) ≡ Err f) (sym parts) (fault_of_all texts f own rest earlier told) in
+        unwhole (tables_in texts) f (first_tables_fault texts ∙ all)

@@ -1,16 +1,14 @@
 -- The bills of material (Orlicky: bill of material), a line for each component (profile: its form).
-use Rattle.std.specs.Prelude.{ℕ, if◌then◌else◌, List, Result, Ok, Err}
+use Rattle.std.specs.Prelude.{if◌then◌else◌, List, Result, Ok, Err}
 use Rattle.mrp_qty.specs.Reading.{◌>>=◌}
 use Rattle.mrp_rows.specs.declared.fault.Fault.{Fault}
 use Rattle.mrp_rows.specs.declared.faults.TheConstants as faults
-use Rattle.mrp_rows.specs.declared.fault.Table.TheVariants as t
 use Rattle.mrp_rows.specs.Left.{Cells}
 use Rattle.mrp_rows.specs.Cell.{cell_at, fault_at, blame, name_of, number_cell}
 use Rattle.mrp_tables.specs.declared.limits.TheConstants as limits
 use Rattle.mrp_tables.specs.declared.item.Item.{Item}
 use Rattle.mrp_tables.specs.declared.rows.BillLine.{BillLine}
 use Rattle.mrp_tables.specs.Items.{known, is_master_at}
-use Rattle.mrp_tables.specs.Reading.{by_itself, rows_of}
 
 -- the cells from left to right; then items that are there, and no master item as component
 unfoldable pub bill_row : List Item → Cells → Result BillLine Fault
@@ -21,6 +19,3 @@ bill_row items r = do
   parent ← blame r (known items parent_name)
   component ← blame r (known items component_name)
   if is_master_at items component then Err (fault_at r faults.MASTER_COMPONENT) else Ok (record { parent = parent; component = component; per = per })
-
-abbrev pub bills_of : List Item → List ℕ → Result (List BillLine) Fault
-bills_of items text = rows_of (by_itself (bill_row items)) t.Bills text

@@ -14,7 +14,6 @@ use Rattle.mrp_rows.specs.Left.{Cells}
 use Rattle.mrp_rows.specs.Cell.{cell_at, fault_at, blame, number_cell, word_of, date_cell}
 use Rattle.mrp_tables.specs.declared.calendar.Entry.{Entry}
 use Rattle.mrp_tables.specs.declared.calendar.Entry.TheVariants.{Start, Weeks, Workdays, Holiday}
-use Rattle.mrp_tables.specs.Reading.{rows_of}
 
 -- the key of a record, or WORD
 abbrev pub keyed : List ℕ → Cells → Result ℕ Fault
@@ -78,9 +77,6 @@ abbrev pub calendar_from : List Entry → Result ShopCalendar Fault
 calendar_from (Start start ∷ Weeks weeks ∷ Workdays workdays ∷ holidays) =
     Ok (record { start = start; weeks = weeks; workdays = workdays; holidays = holidays_in start weeks (dates_of holidays) })
 calendar_from entries = Err (missing_record (length entries + 1))
-
-abbrev pub calendar_of : List ℕ → Result ShopCalendar Fault
-calendar_of text = rows_of entry_row t.Calendar text >>= calendar_from
 
 -- the entries of what is kept of them
 abbrev pub entries_of : Option Date → Option ℕ → Option (List Bool) → List Date → List Entry

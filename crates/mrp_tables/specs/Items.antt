@@ -5,7 +5,6 @@ use Rattle.std.specs.Cmp.Lexicographic.{pointwise}
 use Rattle.mrp_qty.specs.Reading.{◌>>=◌}
 use Rattle.mrp_rows.specs.declared.fault.Fault.{Fault}
 use Rattle.mrp_rows.specs.declared.faults.TheConstants as faults
-use Rattle.mrp_rows.specs.declared.fault.Table.TheVariants as t
 use Rattle.mrp_rows.specs.Left.{Cells}
 use Rattle.mrp_rows.specs.Cell.{cell_at, fault_at, blame, or_code, name_of, number_cell, word_of}
 use Rattle.mrp_tables.specs.declared.limits.TheConstants as limits
@@ -14,7 +13,6 @@ use Rattle.mrp_tables.specs.declared.item.Class.TheVariants.{Master, Part}
 use Rattle.mrp_tables.specs.declared.item.LotRule.{LotRule}
 use Rattle.mrp_tables.specs.declared.item.LotRule.TheVariants.{LotForLot, Fixed, Period}
 use Rattle.mrp_tables.specs.declared.item.Item.{Item}
-use Rattle.mrp_tables.specs.Reading.{rows_of}
 use Rattle.mrp_tables.specs.Limits.{lot_words}
 
 abbrev pub class_words : List (List ℕ)
@@ -77,6 +75,3 @@ item_checked before r item =
 
 abbrev pub item_row : List Item → Cells → Result Item Fault
 item_row before r = item_cells r >>= item_checked before r
-
-abbrev pub items_of : List ℕ → Result (List Item) Fault
-items_of text = rows_of item_row t.Items text

@@ -2,7 +2,6 @@
 use Rattle.std.specs.Prelude.{ℕ, ◌≡◌, ◌≢◌, ◌<◌, true, false, ◌+◌, min, List, [], ◌∷◌, length, map, take, slice_index_or, IfErr, Result, Ok, Err}
 use Rattle.mrp_qty.specs.Reading.{◌>>=◌}
 use Rattle.mrp_cal.specs.Calendar.{ShopCalendar}
-use Rattle.mrp_rows.specs.Bundle.{text_in}
 use Rattle.mrp_rows.specs.declared.fault.Fault.{Fault}
 use Rattle.mrp_rows.specs.declared.faults.TheConstants as faults
 use Rattle.mrp_rows.specs.declared.fault.Table.{Table}
@@ -13,18 +12,17 @@ use Rattle.mrp_rows.specs.Cell.{fault_at}
 use Rattle.mrp_rows.specs.Next.{opened}
 use Rattle.mrp_rows.specs.Tables.{table_index}
 use Rattle.mrp_tables.specs.declared.item.Item.{Item}
-use Rattle.mrp_tables.specs.declared.rows.Centre.{Centre}
-use Rattle.mrp_tables.specs.declared.rows.Operation.{Operation}
-use Rattle.mrp_tables.specs.Bills.{bill_row, bills_of}
-use Rattle.mrp_tables.specs.Calendar.{calendar_of, entry_row}
-use Rattle.mrp_tables.specs.Items.{item_row, items_of}
-use Rattle.mrp_tables.specs.Master.{master_of, master_row}
-use Rattle.mrp_tables.specs.Reading.{IsRefusedIn, Reads, admitted, by_itself, is_past, rows_of}
-use Rattle.mrp_tables.specs.Receipts.{receipt_row, receipts_of}
-use Rattle.mrp_tables.specs.Script.{script_of, script_row}
+use Rattle.mrp_tables.specs.Bills.{bill_row}
+use Rattle.mrp_tables.specs.Calendar.{entry_row}
+use Rattle.mrp_tables.specs.Items.{item_row}
+use Rattle.mrp_tables.specs.Master.{master_row}
+use Rattle.mrp_tables.specs.Readers.{IsRefusedAt, table_in}
+use Rattle.mrp_tables.specs.Reading.{Reads, admitted, by_itself, is_past, rows_of}
+use Rattle.mrp_tables.specs.Receipts.{receipt_row}
+use Rattle.mrp_tables.specs.Script.{script_row}
 use Rattle.mrp_tables.specs.Limits.{record_limit}
-use Rattle.mrp_tables.specs.Stock.{stock_of, stock_row}
-use Rattle.mrp_tables.specs.Tables.{Tables, untaken, tables_in}
+use Rattle.mrp_tables.specs.Stock.{stock_row}
+use Rattle.mrp_tables.specs.Tables.{Tables, tables_in}
 
 -- the number of the record at a place, counted from 0
 abbrev pub number_at : ℕ → ℕ
@@ -91,36 +89,21 @@ abbrev pub whole : {X : Type 0} → Result X Fault → Result (Unit {0}) Fault
 whole (Ok x) = Ok tt
 whole (Err f) = Err f
 
--- whether a table is read whole, beside the earlier tables that it looks at
+-- whether a table is read whole, beside the tables that it looks at
 abbrev pub reading_of : List (List ℕ) → Table → Result (Unit {0}) Fault
-reading_of texts t.Calendar = whole (calendar_of (text_in texts t.Calendar))
-reading_of texts t.Items = whole (items_of (text_in texts t.Items))
-reading_of texts t.Centres = whole (rows_of (untaken {X = Centre}) t.Centres (text_in texts t.Centres))
-reading_of texts t.Stock = items_of (text_in texts t.Items) >>= λ items. whole (stock_of items (text_in texts t.Stock))
-reading_of texts t.Receipts =
-    calendar_of (text_in texts t.Calendar) >>= λ calendar.
-    items_of (text_in texts t.Items) >>= λ items. whole (receipts_of calendar items (text_in texts t.Receipts))
-reading_of texts t.Bills = items_of (text_in texts t.Items) >>= λ items. whole (bills_of items (text_in texts t.Bills))
-reading_of texts t.Routings = whole (rows_of (untaken {X = Operation}) t.Routings (text_in texts t.Routings))
-reading_of texts t.Master =
-    calendar_of (text_in texts t.Calendar) >>= λ calendar.
-    items_of (text_in texts t.Items) >>= λ items. whole (master_of calendar items (text_in texts t.Master))
-reading_of texts t.Script =
-    calendar_of (text_in texts t.Calendar) >>= λ calendar.
-    items_of (text_in texts t.Items) >>= λ items. whole (script_of calendar items (text_in texts t.Script))
-reading_of texts t.Bundle = Ok tt
+reading_of texts own = whole (table_in texts own)
 
--- each table of a bundle is what its own text reads as, beside the earlier tables that it looks at
+-- each table of a bundle is what its own text reads as, beside the tables that it looks at
 pub record AreOfTheirTexts (texts : List (List ℕ)) (tables : Tables) : Type 0 where
-  pub calendar : calendar_of (text_in texts t.Calendar) ≡ Ok tables.calendar
-  pub items : items_of (text_in texts t.Items) ≡ Ok tables.items
-  pub centres : rows_of untaken t.Centres (text_in texts t.Centres) ≡ Ok tables.centres
-  pub stock : stock_of tables.items (text_in texts t.Stock) ≡ Ok tables.stock
-  pub receipts : receipts_of tables.calendar tables.items (text_in texts t.Receipts) ≡ Ok tables.receipts
-  pub bills : bills_of tables.items (text_in texts t.Bills) ≡ Ok tables.bills
-  pub routings : rows_of untaken t.Routings (text_in texts t.Routings) ≡ Ok tables.routings
-  pub master : master_of tables.calendar tables.items (text_in texts t.Master) ≡ Ok tables.master
-  pub script : script_of tables.calendar tables.items (text_in texts t.Script) ≡ Ok tables.script
+  pub calendar : table_in texts t.Calendar ≡ Ok tables.calendar
+  pub items : table_in texts t.Items ≡ Ok tables.items
+  pub centres : table_in texts t.Centres ≡ Ok tables.centres
+  pub stock : table_in texts t.Stock ≡ Ok tables.stock
+  pub receipts : table_in texts t.Receipts ≡ Ok tables.receipts
+  pub bills : table_in texts t.Bills ≡ Ok tables.bills
+  pub routings : table_in texts t.Routings ≡ Ok tables.routings
+  pub master : table_in texts t.Master ≡ Ok tables.master
+  pub script : table_in texts t.Script ≡ Ok tables.script
 
 -- the tables in the order of their faults
 abbrev pub table_order : List Table
@@ -136,30 +119,6 @@ all_whole (r ∷ rest) = r >>= λ whole. all_whole rest
 pub record IsToldAtItsTable (texts : List (List ℕ)) (f : Fault) : Type 0 where
   pub own : reading_of texts f.table ≡ Err f
   pub earlier : all_whole (map (reading_of texts) (take (table_index f.table) table_order)) ≡ Ok tt
-
--- memory was refused while a table was read: for its header, or for a record behind those that are read
-abbrev pub IsRefusedAt : List (List ℕ) → Fault → Table → Type 0
-IsRefusedAt texts f t.Calendar = IsRefusedIn entry_row t.Calendar (text_in texts t.Calendar) f
-IsRefusedAt texts f t.Items = IsRefusedIn item_row t.Items (text_in texts t.Items) f
-IsRefusedAt texts f t.Centres = IsRefusedIn (untaken {X = Centre}) t.Centres (text_in texts t.Centres) f
-IsRefusedAt texts f t.Stock =
-    (items : List Item) × (items_of (text_in texts t.Items) ≡ Ok items) × IsRefusedIn (stock_row items) t.Stock (text_in texts t.Stock) f
-IsRefusedAt texts f t.Receipts =
-    (calendar : ShopCalendar) × (calendar_of (text_in texts t.Calendar) ≡ Ok calendar)
-    × (items : List Item) × (items_of (text_in texts t.Items) ≡ Ok items)
-    × IsRefusedIn (receipt_row calendar items) t.Receipts (text_in texts t.Receipts) f
-IsRefusedAt texts f t.Bills =
-    (items : List Item) × (items_of (text_in texts t.Items) ≡ Ok items) × IsRefusedIn (by_itself (bill_row items)) t.Bills (text_in texts t.Bills) f
-IsRefusedAt texts f t.Routings = IsRefusedIn (untaken {X = Operation}) t.Routings (text_in texts t.Routings) f
-IsRefusedAt texts f t.Master =
-    (calendar : ShopCalendar) × (calendar_of (text_in texts t.Calendar) ≡ Ok calendar)
-    × (items : List Item) × (items_of (text_in texts t.Items) ≡ Ok items)
-    × IsRefusedIn (by_itself (master_row calendar items)) t.Master (text_in texts t.Master) f
-IsRefusedAt texts f t.Script =
-    (calendar : ShopCalendar) × (calendar_of (text_in texts t.Calendar) ≡ Ok calendar)
-    × (items : List Item) × (items_of (text_in texts t.Items) ≡ Ok items)
-    × IsRefusedIn (by_itself (script_row calendar items)) t.Script (text_in texts t.Script) f
-IsRefusedAt texts f t.Bundle = ⊥
 
 -- memory was refused while a table was read: the records before the fault's are read, and the tables before it are all read whole
 pub record IsMemoryRefusal (texts : List (List ℕ)) (f : Fault) : Type 0 where

@@ -6,9 +6,9 @@ pub mod Items
 pub mod Laws
 pub mod Limits
 pub mod Master
+pub mod Readers
 pub mod Reading
 pub mod Receipts
 pub mod Script
-pub mod Seen
 pub mod Stock
 pub mod Tables

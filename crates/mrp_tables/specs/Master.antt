@@ -4,7 +4,6 @@ use Rattle.mrp_qty.specs.Reading.{◌>>=◌}
 use Rattle.mrp_cal.specs.Calendar.{ShopCalendar, week_of}
 use Rattle.mrp_rows.specs.declared.fault.Fault.{Fault}
 use Rattle.mrp_rows.specs.declared.faults.TheConstants as faults
-use Rattle.mrp_rows.specs.declared.fault.Table.TheVariants as t
 use Rattle.mrp_rows.specs.Left.{Cells}
 use Rattle.mrp_rows.specs.Cell.{cell_at, fault_at, blame, or_code, name_of, number_cell, word_of, date_cell}
 use Rattle.mrp_tables.specs.declared.limits.TheConstants as limits
@@ -13,7 +12,6 @@ use Rattle.mrp_tables.specs.declared.rows.MasterKind.{MasterKind}
 use Rattle.mrp_tables.specs.declared.rows.MasterKind.TheVariants.{Firm, Forecast}
 use Rattle.mrp_tables.specs.declared.rows.MasterRow.{MasterRow}
 use Rattle.mrp_tables.specs.Items.{known, is_master_at}
-use Rattle.mrp_tables.specs.Reading.{by_itself, rows_of}
 
 abbrev pub kind_words : List (List ℕ)
 kind_words = codes "firm" ∷ codes "forecast" ∷ []
@@ -40,6 +38,3 @@ master_row calendar items r = do
 -- a row of quantity 0 is checked like any other, and then counts as no row
 abbrev pub that_count : List MasterRow → List MasterRow
 that_count rows = filter (λ row. nat_lt 0 row.quantity) rows
-
-abbrev pub master_of : ShopCalendar → List Item → List ℕ → Result (List MasterRow) Fault
-master_of calendar items text = rows_of (by_itself (master_row calendar items)) t.Master text >>= λ rows. Ok (that_count rows)

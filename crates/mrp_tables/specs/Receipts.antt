@@ -6,7 +6,6 @@ use Rattle.mrp_qty.specs.Reading.{◌>>=◌}
 use Rattle.mrp_cal.specs.Calendar.{ShopCalendar, week_of}
 use Rattle.mrp_rows.specs.declared.fault.Fault.{Fault}
 use Rattle.mrp_rows.specs.declared.faults.TheConstants as faults
-use Rattle.mrp_rows.specs.declared.fault.Table.TheVariants as t
 use Rattle.mrp_rows.specs.Left.{Cells}
 use Rattle.mrp_rows.specs.Cell.{cell_at, fault_at, blame, or_code, name_of, number_cell, date_cell}
 use Rattle.mrp_tables.specs.declared.limits.TheConstants as limits
@@ -14,7 +13,6 @@ use Rattle.mrp_tables.specs.declared.item.Item.{Item}
 use Rattle.mrp_tables.specs.declared.receipts.OpenOrder.{OpenOrder}
 use Rattle.mrp_tables.specs.declared.rows.Receipt.{Receipt}
 use Rattle.mrp_tables.specs.Items.{known, is_master_at}
-use Rattle.mrp_tables.specs.Reading.{rows_of}
 
 -- the item and the order's name of each row
 abbrev pub orders_of : List Receipt → List (ℕ × List ℕ)
@@ -55,6 +53,3 @@ receipt_row calendar items before r = receipt_beside calendar items (orders_of b
 -- a row of quantity 0 is checked like any other, and then counts as no row
 abbrev pub receipts_that_count : List Receipt → List Receipt
 receipts_that_count rows = filter (λ row. nat_lt 0 row.quantity) rows
-
-abbrev pub receipts_of : ShopCalendar → List Item → List ℕ → Result (List Receipt) Fault
-receipts_of calendar items text = rows_of (receipt_row calendar items) t.Receipts text >>= λ rows. Ok (receipts_that_count rows)

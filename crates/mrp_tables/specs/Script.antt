@@ -5,7 +5,6 @@ use Rattle.jiff.specs.Types.{Date}
 use Rattle.mrp_cal.specs.Calendar.{ShopCalendar, week_of}
 use Rattle.mrp_rows.specs.declared.fault.Fault.{Fault}
 use Rattle.mrp_rows.specs.declared.faults.TheConstants as faults
-use Rattle.mrp_rows.specs.declared.fault.Table.TheVariants as t
 use Rattle.mrp_rows.specs.Left.{Cells}
 use Rattle.mrp_rows.specs.Cell.{cell_at, blame, or_code, name_of, number_cell, word_of, date_cell}
 use Rattle.mrp_tables.specs.declared.limits.TheConstants as limits
@@ -14,7 +13,6 @@ use Rattle.mrp_tables.specs.declared.rows.ScriptCall.{ScriptCall}
 use Rattle.mrp_tables.specs.declared.rows.ScriptCall.TheVariants as call
 use Rattle.mrp_tables.specs.declared.rows.ScriptRow.{ScriptRow}
 use Rattle.mrp_tables.specs.Items.{known, is_master_at}
-use Rattle.mrp_tables.specs.Reading.{by_itself, rows_of}
 use Rattle.mrp_tables.specs.Limits.{call_words}
 
 -- the place of a master item, or NOT_MASTER
@@ -77,6 +75,3 @@ script_row calendar items r = do
   place ← blame r (word_of call_words (cell_at r 1))
   own ← call_at calendar items r place
   Ok (record { desk = desk; call = own })
-
-abbrev pub script_of : ShopCalendar → List Item → List ℕ → Result (List ScriptRow) Fault
-script_of calendar items text = rows_of (by_itself (script_row calendar items)) t.Script text

@@ -4,14 +4,12 @@ use Rattle.std.specs.List.{list_any}
 use Rattle.mrp_qty.specs.Reading.{◌>>=◌}
 use Rattle.mrp_rows.specs.declared.fault.Fault.{Fault}
 use Rattle.mrp_rows.specs.declared.faults.TheConstants as faults
-use Rattle.mrp_rows.specs.declared.fault.Table.TheVariants as t
 use Rattle.mrp_rows.specs.Left.{Cells}
 use Rattle.mrp_rows.specs.Cell.{cell_at, fault_at, blame, name_of, number_cell}
 use Rattle.mrp_tables.specs.declared.limits.TheConstants as limits
 use Rattle.mrp_tables.specs.declared.item.Item.{Item}
 use Rattle.mrp_tables.specs.declared.rows.StockRow.{StockRow}
 use Rattle.mrp_tables.specs.Items.{known}
-use Rattle.mrp_tables.specs.Reading.{rows_of}
 
 abbrev pub items_in_stock : List StockRow → List ℕ
 items_in_stock rows = map (λ s. s.item) rows
@@ -30,6 +28,3 @@ stock_checked before r row = if list_any (nat_eq row.item) (items_in_stock befor
 
 abbrev pub stock_row : List Item → List StockRow → Cells → Result StockRow Fault
 stock_row items before r = stock_cells items r >>= stock_checked before r
-
-abbrev pub stock_of : List Item → List ℕ → Result (List StockRow) Fault
-stock_of items text = rows_of (stock_row items) t.Stock text

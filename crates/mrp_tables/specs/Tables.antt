@@ -1,13 +1,10 @@
 -- The typed tables of a bundle (profile).
-use Rattle.std.specs.Prelude.{ℕ, ◌≡◌, ◌≤◌, List, [], All, length, Result, Ok, Err}
+use Rattle.std.specs.Prelude.{ℕ, ◌≡◌, ◌≤◌, List, [], All, length, Result, Ok}
 use Rattle.mrp_qty.specs.Reading.{◌>>=◌}
 use Rattle.mrp_cal.specs.Calendar.{ShopCalendar}
-use Rattle.mrp_rows.specs.Bundle.{bundle_of, text_in}
+use Rattle.mrp_rows.specs.Bundle.{bundle_of}
 use Rattle.mrp_rows.specs.declared.fault.Fault.{Fault}
-use Rattle.mrp_rows.specs.declared.faults.TheConstants as faults
 use Rattle.mrp_rows.specs.declared.fault.Table.TheVariants as t
-use Rattle.mrp_rows.specs.Cell.{fault_at}
-use Rattle.mrp_rows.specs.Left.{Cells}
 use Rattle.mrp_tables.specs.declared.limits.TheConstants as limits
 use Rattle.mrp_tables.specs.declared.item.Item.{Item}
 use Rattle.mrp_tables.specs.declared.rows.Centre.{Centre}
@@ -17,15 +14,11 @@ use Rattle.mrp_tables.specs.declared.rows.BillLine.{BillLine}
 use Rattle.mrp_tables.specs.declared.rows.Operation.{Operation}
 use Rattle.mrp_tables.specs.declared.rows.MasterRow.{MasterRow}
 use Rattle.mrp_tables.specs.declared.rows.ScriptRow.{ScriptRow}
-use Rattle.mrp_tables.specs.Bills.{bills_of}
-use Rattle.mrp_tables.specs.Calendar.{calendar_of}
 use Rattle.mrp_tables.specs.Facts.{AllDiffer, IsBillLine, IsItem, IsMasterRow, IsReceipt, IsScriptRow, IsStockRow}
-use Rattle.mrp_tables.specs.Items.{items_of, names_of}
-use Rattle.mrp_tables.specs.Master.{master_of}
-use Rattle.mrp_tables.specs.Reading.{rows_of}
-use Rattle.mrp_tables.specs.Receipts.{orders_of, receipts_of}
-use Rattle.mrp_tables.specs.Script.{script_of}
-use Rattle.mrp_tables.specs.Stock.{items_in_stock, stock_of}
+use Rattle.mrp_tables.specs.Items.{names_of}
+use Rattle.mrp_tables.specs.Readers.{table_in}
+use Rattle.mrp_tables.specs.Receipts.{orders_of}
+use Rattle.mrp_tables.specs.Stock.{items_in_stock}
 
 -- the tables, each as its rows in table order
 pub record Tables : Type 0 where
@@ -38,60 +31,6 @@ pub record Tables : Type 0 where
   pub routings : List Operation
   pub master : List MasterRow
   pub script : List ScriptRow
-
--- a record of a table that takes none: its limit refuses it before it is read
-abbrev pub untaken : {X : Type 0} → List X → Cells → Result X Fault
-untaken before r = Err (fault_at r faults.TOO_MANY)
-
--- the first three tables, the next, and the last
-pub record Head : Type 0 where
-  pub calendar : ShopCalendar
-  pub items : List Item
-  pub centres : List Centre
-
-pub record Middle : Type 0 where
-  pub stock : List StockRow
-  pub receipts : List Receipt
-  pub bills : List BillLine
-
-pub record Tail : Type 0 where
-  pub routings : List Operation
-  pub master : List MasterRow
-  pub script : List ScriptRow
-
-unfoldable pub head_in : List (List ℕ) → Result Head Fault
-head_in texts = do
-  calendar ← calendar_of (text_in texts t.Calendar)
-  items ← items_of (text_in texts t.Items)
-  centres ← rows_of untaken t.Centres (text_in texts t.Centres)
-  Ok (record { calendar = calendar; items = items; centres = centres })
-
-unfoldable pub middle_in : List (List ℕ) → ShopCalendar → List Item → Result Middle Fault
-middle_in texts calendar items = do
-  stock ← stock_of items (text_in texts t.Stock)
-  receipts ← receipts_of calendar items (text_in texts t.Receipts)
-  bills ← bills_of items (text_in texts t.Bills)
-  Ok (record { stock = stock; receipts = receipts; bills = bills })
-
-unfoldable pub tail_in : List (List ℕ) → ShopCalendar → List Item → Result Tail Fault
-tail_in texts calendar items = do
-  routings ← rows_of untaken t.Routings (text_in texts t.Routings)
-  master ← master_of calendar items (text_in texts t.Master)
-  script ← script_of calendar items (text_in texts t.Script)
-  Ok (record { routings = routings; master = master; script = script })
-
-abbrev pub joined : Head → Middle → Tail → Tables
-joined h m l = record {
-  calendar = h.calendar;
-  items = h.items;
-  centres = h.centres;
-  stock = m.stock;
-  receipts = m.receipts;
-  bills = m.bills;
-  routings = l.routings;
-  master = l.master;
-  script = l.script;
-}
 
 -- what accepted tables keep: rows within their limits, of items that are there and weeks of the horizon; names that differ, items that stand in the stock at most once, and orders of an item that stand in the receipts at most once; no more rows than the limits, so none of a table that takes no record
 pub record AreTables (t : Tables) : Type 0 where
@@ -115,10 +54,26 @@ pub record AreTables (t : Tables) : Type 0 where
 -- the tables of the sections' texts, in the order of their faults
 unfoldable pub tables_in : List (List ℕ) → Result Tables Fault
 tables_in texts = do
-  head ← head_in texts
-  middle ← middle_in texts head.calendar head.items
-  tail ← tail_in texts head.calendar head.items
-  Ok (joined head middle tail)
+  calendar ← table_in texts t.Calendar
+  items ← table_in texts t.Items
+  centres ← table_in texts t.Centres
+  stock ← table_in texts t.Stock
+  receipts ← table_in texts t.Receipts
+  bills ← table_in texts t.Bills
+  routings ← table_in texts t.Routings
+  master ← table_in texts t.Master
+  script ← table_in texts t.Script
+  Ok (record {
+    calendar = calendar;
+    items = items;
+    centres = centres;
+    stock = stock;
+    receipts = receipts;
+    bills = bills;
+    routings = routings;
+    master = master;
+    script = script;
+  })
 
 -- the tables of a bundle, or its first fault
 abbrev pub tables_of : List ℕ → Result Tables Fault

@@ -6,10 +6,10 @@ ghost use Rattle.mrp_tables.specs.Facts.{IsBillLine};
 
 use crate::items::Items;
 use crate::limits::MOST_PER;
-use crate::reading::TableRows;
+use crate::reading::{TableRows, read_table};
 use crate::rows::BillLine;
 use mrp_rows::faults::{MASTER_COMPONENT, NO_MEMORY, UNKNOWN_ITEM};
-use mrp_rows::{Fault, Row};
+use mrp_rows::{Fault, Row, Sections, Table};
 use std::alloc::Global;
 use std::marker::Model;
 
@@ -84,10 +84,26 @@ fn bill_line(row: &Row, items: &Items) -> Result<BillLine, Fault>
 }
 
 impl<'a> Bills<'a> {
-    ghost use Rattle.std.specs.Prelude.{◌≡◌, [], All};
+    ghost use Rattle.std.specs.Prelude.{◌≡◌, ◌≤◌, [], All, IfOk, Ok, length};
+    ghost use Rattle.mrp_tables.specs.declared.limits.TheConstants.{MOST_ROWS};
     ghost use Rattle.mrp_tables.specs.Facts.{IsBillLine};
+    ghost use Rattle.mrp_tables.specs.Readers.{GivesTable, items_in};
 
-    pub(crate) fn new(alloc: Global, items: &'a Items) -> Bills<'a>
+    pub(crate) fn read(
+        alloc: Global,
+        sections: &Sections<'_>,
+        items: &'a Items,
+    ) -> Result<Vec<BillLine>, Fault>
+        requires { items_in sections.now ≡ Ok items.now }
+        ensures table { GivesTable sections.now Table.Bills result (λ lines. lines.items) }
+        ensures within { IfOk result (λ lines. All (IsBillLine items.now) lines.items) }
+        ensures count { IfOk result (λ lines. length lines.items ≤ MOST_ROWS) }
+    {
+        let bills = read_table(alloc, sections, Table::Bills, Bills::new(alloc, items))?;
+        Ok(bills.into_lines())
+    }
+
+    fn new(alloc: Global, items: &'a Items) -> Bills<'a>
         ensures { result ≡ record { items = items.now; rows = [] } }
     {
         Bills {
@@ -96,7 +112,7 @@ impl<'a> Bills<'a> {
         }
     }
 
-    pub(crate) fn into_lines(self) -> Vec<BillLine>
+    fn into_lines(self) -> Vec<BillLine>
         ensures rows { result.items ≡ self.entry.rows }
         ensures within { All (IsBillLine self.entry.items) result.items }
     {

@@ -8,11 +8,11 @@ ghost use Rattle.mrp_cal.specs.DateText.{IsPlanningYear};
 ghost use Rattle.mrp_rows.specs.Cell.{blame, cell_at};
 ghost use Rattle.mrp_tables.specs.Calendar.{are_flags, flags_of, holiday_cells, missing_record, start_cells, weeks_cells, workdays_cells};
 
-use crate::reading::TableRows;
+use crate::reading::{TableRows, read_table};
 use jiff::civil::{Date, Weekday};
 use mrp_cal::{Calendar, MOST_WEEKS};
 use mrp_rows::faults::{COLUMNS, NO_MEMORY, RANGE, WORD};
-use mrp_rows::{Fault, Row, Table};
+use mrp_rows::{Fault, Row, Sections, Table};
 use std::alloc::Global;
 use std::marker::Model;
 
@@ -83,8 +83,15 @@ impl TableRows for Entries {
 impl Entries {
     ghost use Rattle.std.specs.Prelude.{◌≡◌, [], length, IfOk};
     ghost use Rattle.mrp_tables.specs.Calendar.{IsEntry, calendar_from, entry_row};
+    ghost use Rattle.mrp_tables.specs.Readers.{GivesTable};
 
-    pub(crate) fn new(alloc: Global) -> Entries
+    pub(crate) fn read(alloc: Global, sections: &Sections<'_>) -> Result<Calendar, Fault>
+        ensures { GivesTable sections.now Table.Calendar result (λ calendar. calendar) }
+    {
+        read_table(alloc, sections, Table::Calendar, Entries::new(alloc))?.into_calendar()
+    }
+
+    fn new(alloc: Global) -> Entries
         ensures { result ≡ [] }
     {
         Entries {
@@ -114,7 +121,7 @@ impl Entries {
 
     // The calendar of the entries.
     #[tactic(auto, unfolding(mrp_cal::specs::Calendar::calendar_of))]
-    pub(crate) fn into_calendar(self) -> Result<Calendar, Fault>
+    fn into_calendar(self) -> Result<Calendar, Fault>
         ensures { result ≡ calendar_from self }
     {
         let Some(start) = self.start else {

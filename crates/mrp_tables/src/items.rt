@@ -4,10 +4,10 @@ ghost use Rattle.std.specs.Prelude.{◌≡◌, ◌&&◌, nat_lt};
 ghost use Rattle.mrp_tables.specs.Items.{is_master};
 
 use crate::item::Item;
-use crate::reading::TableRows;
+use crate::reading::{TableRows, read_table};
 use indexmap::IndexSet;
 use mrp_rows::faults::{MASTER_SAFETY, NO_MEMORY, REPEATED};
-use mrp_rows::{Fault, Name, Row};
+use mrp_rows::{Fault, Name, Row, Sections, Table};
 use std::alloc::Global;
 use std::marker::Model;
 
@@ -77,11 +77,20 @@ fn is_stocked_master(item: &Item) -> bool
 }
 
 impl Items {
-    ghost use Rattle.std.specs.Prelude.{◌≡◌, ◌<◌, [], length, All, IfSome};
+    ghost use Rattle.std.specs.Prelude.{◌≡◌, ◌<◌, ◌≤◌, [], length, All, IfOk, IfSome};
+    ghost use Rattle.mrp_tables.specs.declared.limits.TheConstants.{MOST_ITEMS};
     ghost use Rattle.mrp_tables.specs.Facts.{AllDiffer, IsItem};
     ghost use Rattle.mrp_tables.specs.Items.{is_master_at, names_of, place_of};
+    ghost use Rattle.mrp_tables.specs.Readers.{GivesTable};
 
-    pub(crate) fn new(alloc: Global) -> Items
+    pub(crate) fn read(alloc: Global, sections: &Sections<'_>) -> Result<Items, Fault>
+        ensures table { GivesTable sections.now Table.Items result (λ items. items) }
+        ensures count { IfOk result (λ items. length items ≤ MOST_ITEMS) }
+    {
+        read_table(alloc, sections, Table::Items, Items::new(alloc))
+    }
+
+    fn new(alloc: Global) -> Items
         ensures { result ≡ [] }
     {
         Items {

@@ -7,11 +7,11 @@ ghost use Rattle.mrp_tables.specs.Master.{kind_at, master_row, that_count};
 use crate::cells::quantity;
 use crate::items::Items;
 use crate::limits::MOST_PIECES;
-use crate::reading::TableRows;
+use crate::reading::{TableRows, read_table};
 use crate::rows::{MasterKind, MasterRow};
 use mrp_cal::Calendar;
 use mrp_rows::faults::{DATE_OUTSIDE, NO_MEMORY, NOT_MASTER, UNKNOWN_ITEM};
-use mrp_rows::{Fault, Row};
+use mrp_rows::{Fault, Row, Sections, Table};
 use std::alloc::Global;
 use std::marker::Model;
 
@@ -100,11 +100,30 @@ fn master_row(row: &Row, calendar: &Calendar, items: &Items) -> Result<MasterRow
 }
 
 impl<'a> Master<'a> {
-    ghost use Rattle.std.specs.Prelude.{◌≡◌, ◌≤◌, [], All, length};
+    ghost use Rattle.std.specs.Prelude.{◌≡◌, ◌≤◌, [], All, IfOk, Ok, length};
+    ghost use Rattle.mrp_tables.specs.declared.limits.TheConstants.{MOST_ROWS};
     ghost use Rattle.mrp_tables.specs.Facts.{IsMasterRow};
     ghost use Rattle.mrp_tables.specs.Master.{that_count};
+    ghost use Rattle.mrp_tables.specs.Readers.{GivesTable, calendar_in, items_in};
 
-    pub(crate) fn new(alloc: Global, calendar: &'a Calendar, items: &'a Items) -> Master<'a>
+    pub(crate) fn read(
+        alloc: Global,
+        sections: &Sections<'_>,
+        calendar: &'a Calendar,
+        items: &'a Items,
+    ) -> Result<Vec<MasterRow>, Fault>
+        requires calendar { calendar_in sections.now ≡ Ok calendar.now }
+        requires items { items_in sections.now ≡ Ok items.now }
+        ensures table { GivesTable sections.now Table.Master result (λ rows. rows.items) }
+        ensures within { IfOk result (λ rows. All (IsMasterRow calendar.now.weeks items.now) rows.items) }
+        ensures count { IfOk result (λ rows. length rows.items ≤ MOST_ROWS) }
+    {
+        let empty = Master::new(alloc, calendar, items);
+        let master = read_table(alloc, sections, Table::Master, empty)?;
+        Ok(master.into_rows())
+    }
+
+    fn new(alloc: Global, calendar: &'a Calendar, items: &'a Items) -> Master<'a>
         ensures { result ≡ record { calendar = calendar.now; items = items.now; rows = [] } }
     {
         Master {
@@ -115,7 +134,7 @@ impl<'a> Master<'a> {
     }
 
     // The rows that count: a row of quantity 0 counts as none.
-    pub(crate) fn into_rows(self) -> Vec<MasterRow>
+    fn into_rows(self) -> Vec<MasterRow>
         ensures rows { result.items ≡ that_count self.entry.rows }
         ensures count { length result.items ≤ length self.entry.rows }
         ensures within { All (IsMasterRow self.entry.calendar.weeks self.entry.items) result.items }

@@ -136,7 +136,7 @@ impl<T: Drop> TableRows for Untaken<T> {
     type Line = T;
 
     ghost use Rattle.mrp_tables.specs.Gathered.{nothing};
-    ghost use Rattle.mrp_tables.specs.Tables.{untaken};
+    ghost use Rattle.mrp_tables.specs.Readers.{untaken};
 
     ghost takes = { λ count. Unit {0} };
 
@@ -151,10 +151,28 @@ impl<T: Drop> TableRows for Untaken<T> {
     }
 }
 
-impl<T> Untaken<T> {
-    ghost use Rattle.std.specs.Prelude.{◌≡◌, []};
+impl<T: Drop> Untaken<T> {
+    ghost use Rattle.std.specs.Prelude.{◌≡◌, [], IfOk, Some};
+    ghost use Rattle.mrp_rows.specs.Bundle.{text_in};
+    ghost use Rattle.mrp_tables.specs.Limits.{record_limit};
+    ghost use Rattle.mrp_tables.specs.Readers.{untaken};
+    ghost use Rattle.mrp_tables.specs.Reading.{Gives, IsRefusedIn, rows_of};
 
-    pub(crate) fn new(alloc: Global) -> Untaken<T>
+    pub(crate) fn read(
+        alloc: Global,
+        sections: &Sections<'_>,
+        table: Table,
+    ) -> Result<Vec<T>, Fault>
+        requires { record_limit table ≡ Some 0 }
+        ensures rows { Gives (IsRefusedIn (untaken {X = T}) table (text_in sections.now table))
+            (λ rows. rows.items) result (rows_of untaken table (text_in sections.now table)) }
+        ensures none { IfOk result (λ rows. rows.items ≡ []) }
+    {
+        let rows = read_table(alloc, sections, table, Untaken::new(alloc))?;
+        Ok(rows.into_rows())
+    }
+
+    fn new(alloc: Global) -> Untaken<T>
         ensures { result ≡ [] }
     {
         Untaken {
@@ -162,7 +180,7 @@ impl<T> Untaken<T> {
         }
     }
 
-    pub(crate) fn into_rows(self) -> Vec<T>
+    fn into_rows(self) -> Vec<T>
         ensures { result.items ≡ self }
     {
         let Untaken { rows } = self;

@@ -8,14 +8,14 @@ ghost use Rattle.mrp_tables.specs.Receipts.{order_cells, receipt_beside, receipt
 use crate::cells::quantity;
 use crate::items::Items;
 use crate::limits::MOST_PIECES;
-use crate::reading::TableRows;
+use crate::reading::{TableRows, read_table};
 use crate::rows::Receipt;
 use indexmap::IndexSet;
 use jiff::civil::Date;
 use mrp_cal::Calendar;
 use mrp_qty::Qty;
 use mrp_rows::faults::{DATE_OUTSIDE, MASTER_RECEIPT, NO_MEMORY, REPEATED, UNKNOWN_ITEM};
-use mrp_rows::{Fault, Name, Row};
+use mrp_rows::{Fault, Name, Row, Sections, Table};
 use std::alloc::Global;
 use std::marker::Model;
 
@@ -154,11 +154,31 @@ fn receipt_placed(
 }
 
 impl<'a> Receipts<'a> {
-    ghost use Rattle.std.specs.Prelude.{◌≡◌, ◌≤◌, [], All, length};
+    ghost use Rattle.std.specs.Prelude.{◌≡◌, ◌≤◌, [], All, IfOk, Ok, length};
+    ghost use Rattle.mrp_tables.specs.declared.limits.TheConstants.{MOST_ROWS};
     ghost use Rattle.mrp_tables.specs.Facts.{AllDiffer, IsReceipt};
+    ghost use Rattle.mrp_tables.specs.Readers.{GivesTable, calendar_in, items_in};
     ghost use Rattle.mrp_tables.specs.Receipts.{orders_of, receipts_that_count};
 
-    pub(crate) fn new(alloc: Global, calendar: &'a Calendar, items: &'a Items) -> Receipts<'a>
+    pub(crate) fn read(
+        alloc: Global,
+        sections: &Sections<'_>,
+        calendar: &'a Calendar,
+        items: &'a Items,
+    ) -> Result<Vec<Receipt>, Fault>
+        requires calendar { calendar_in sections.now ≡ Ok calendar.now }
+        requires items { items_in sections.now ≡ Ok items.now }
+        ensures table { GivesTable sections.now Table.Receipts result (λ rows. rows.items) }
+        ensures within { IfOk result (λ rows. All (IsReceipt calendar.now.weeks items.now) rows.items) }
+        ensures once { IfOk result (λ rows. AllDiffer (orders_of rows.items)) }
+        ensures count { IfOk result (λ rows. length rows.items ≤ MOST_ROWS) }
+    {
+        let empty = Receipts::new(alloc, calendar, items);
+        let receipts = read_table(alloc, sections, Table::Receipts, empty)?;
+        Ok(receipts.into_rows())
+    }
+
+    fn new(alloc: Global, calendar: &'a Calendar, items: &'a Items) -> Receipts<'a>
         ensures { result ≡ record { calendar = calendar.now; items = items.now; rows = [] } }
     {
         Receipts {
@@ -170,7 +190,7 @@ impl<'a> Receipts<'a> {
     }
 
     // The rows that count: a row of quantity 0 counts as none.
-    pub(crate) fn into_rows(self) -> Vec<Receipt>
+    fn into_rows(self) -> Vec<Receipt>
         ensures rows { result.items ≡ receipts_that_count self.entry.rows }
         ensures count { length result.items ≤ length self.entry.rows }
         ensures within { All (IsReceipt self.entry.calendar.weeks self.entry.items) result.items }

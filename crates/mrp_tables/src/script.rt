@@ -9,12 +9,12 @@ ghost use Rattle.mrp_tables.specs.Script.{ask_cells, book_cells, call_at, cancel
 use crate::cells::quantity;
 use crate::items::Items;
 use crate::limits::{CALL_WORDS, MOST_DESKS, MOST_ENTRIES, MOST_PIECES};
-use crate::reading::TableRows;
+use crate::reading::{TableRows, read_table};
 use crate::rows::{ScriptCall, ScriptRow};
 use jiff::civil::Date;
 use mrp_cal::Calendar;
 use mrp_rows::faults::{DATE_OUTSIDE, NO_MEMORY, NOT_MASTER, UNKNOWN_ITEM};
-use mrp_rows::{Fault, Name, Row};
+use mrp_rows::{Fault, Name, Row, Sections, Table};
 use std::alloc::Global;
 use std::marker::Model;
 
@@ -187,10 +187,29 @@ fn spot(
 }
 
 impl<'a> Script<'a> {
-    ghost use Rattle.std.specs.Prelude.{◌≡◌, [], All};
+    ghost use Rattle.std.specs.Prelude.{◌≡◌, ◌≤◌, [], All, IfOk, Ok, length};
+    ghost use Rattle.mrp_tables.specs.declared.limits.TheConstants.{MOST_ROWS};
     ghost use Rattle.mrp_tables.specs.Facts.{IsScriptRow};
+    ghost use Rattle.mrp_tables.specs.Readers.{GivesTable, calendar_in, items_in};
 
-    pub(crate) fn new(alloc: Global, calendar: &'a Calendar, items: &'a Items) -> Script<'a>
+    pub(crate) fn read(
+        alloc: Global,
+        sections: &Sections<'_>,
+        calendar: &'a Calendar,
+        items: &'a Items,
+    ) -> Result<Vec<ScriptRow>, Fault>
+        requires calendar { calendar_in sections.now ≡ Ok calendar.now }
+        requires items { items_in sections.now ≡ Ok items.now }
+        ensures table { GivesTable sections.now Table.Script result (λ rows. rows.items) }
+        ensures within { IfOk result (λ rows. All (IsScriptRow calendar.now.weeks items.now) rows.items) }
+        ensures count { IfOk result (λ rows. length rows.items ≤ MOST_ROWS) }
+    {
+        let empty = Script::new(alloc, calendar, items);
+        let script = read_table(alloc, sections, Table::Script, empty)?;
+        Ok(script.into_rows())
+    }
+
+    fn new(alloc: Global, calendar: &'a Calendar, items: &'a Items) -> Script<'a>
         ensures { result ≡ record { calendar = calendar.now; items = items.now; rows = [] } }
     {
         Script {
@@ -200,7 +219,7 @@ impl<'a> Script<'a> {
         }
     }
 
-    pub(crate) fn into_rows(self) -> Vec<ScriptRow>
+    fn into_rows(self) -> Vec<ScriptRow>
         ensures rows { result.items ≡ self.entry.rows }
         ensures within { All (IsScriptRow self.entry.calendar.weeks self.entry.items) result.items }
     {

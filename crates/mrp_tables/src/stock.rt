@@ -7,11 +7,11 @@ ghost use Rattle.mrp_tables.specs.Stock.{stock_cells};
 use crate::cells::quantity;
 use crate::items::Items;
 use crate::limits::MOST_PIECES;
-use crate::reading::TableRows;
+use crate::reading::{TableRows, read_table};
 use crate::rows::StockRow;
 use indexmap::IndexSet;
 use mrp_rows::faults::{NO_MEMORY, REPEATED, UNKNOWN_ITEM};
-use mrp_rows::{Fault, Row};
+use mrp_rows::{Fault, Row, Sections, Table};
 use std::alloc::Global;
 use std::marker::Model;
 
@@ -86,11 +86,26 @@ fn stock_cells(row: &Row, items: &Items) -> Result<StockRow, Fault>
 }
 
 impl<'a> Stock<'a> {
-    ghost use Rattle.std.specs.Prelude.{◌≡◌, [], All};
+    ghost use Rattle.std.specs.Prelude.{◌≡◌, [], All, IfOk, Ok};
     ghost use Rattle.mrp_tables.specs.Facts.{AllDiffer, IsStockRow};
+    ghost use Rattle.mrp_tables.specs.Readers.{GivesTable, items_in};
     ghost use Rattle.mrp_tables.specs.Stock.{items_in_stock};
 
-    pub(crate) fn new(alloc: Global, items: &'a Items) -> Stock<'a>
+    pub(crate) fn read(
+        alloc: Global,
+        sections: &Sections<'_>,
+        items: &'a Items,
+    ) -> Result<Vec<StockRow>, Fault>
+        requires { items_in sections.now ≡ Ok items.now }
+        ensures table { GivesTable sections.now Table.Stock result (λ rows. rows.items) }
+        ensures within { IfOk result (λ rows. All (IsStockRow items.now) rows.items) }
+        ensures once { IfOk result (λ rows. AllDiffer (items_in_stock rows.items)) }
+    {
+        let stock = read_table(alloc, sections, Table::Stock, Stock::new(alloc, items))?;
+        Ok(stock.into_rows())
+    }
+
+    fn new(alloc: Global, items: &'a Items) -> Stock<'a>
         ensures { result ≡ record { items = items.now; rows = [] } }
     {
         Stock {
@@ -100,7 +115,7 @@ impl<'a> Stock<'a> {
         }
     }
 
-    pub(crate) fn into_rows(self) -> Vec<StockRow>
+    fn into_rows(self) -> Vec<StockRow>
         ensures rows { result.items ≡ self.entry.rows }
         ensures within { All (IsStockRow self.entry.items) result.items }
         ensures distinct { AllDiffer (items_in_stock result.items) }

@@ -1,0 +1,92 @@
+-- How the tables are read: one reader for each (profile).
+use Rattle.std.specs.Prelude.{ℕ, ◌≡◌, List, Result, Ok, Err}
+use Rattle.mrp_qty.specs.Reading.{◌>>=◌}
+use Rattle.mrp_cal.specs.Calendar.{ShopCalendar}
+use Rattle.mrp_rows.specs.Bundle.{text_in}
+use Rattle.mrp_rows.specs.declared.fault.Fault.{Fault}
+use Rattle.mrp_rows.specs.declared.fault.Table.{Table}
+use Rattle.mrp_rows.specs.declared.fault.Table.TheVariants as t
+use Rattle.mrp_rows.specs.declared.faults.TheConstants as faults
+use Rattle.mrp_rows.specs.Cell.{fault_at}
+use Rattle.mrp_rows.specs.Next.{header_fault}
+use Rattle.mrp_tables.specs.declared.calendar.Entry.{Entry}
+use Rattle.mrp_tables.specs.declared.item.Item.{Item}
+use Rattle.mrp_tables.specs.declared.rows.Centre.{Centre}
+use Rattle.mrp_tables.specs.declared.rows.Operation.{Operation}
+use Rattle.mrp_tables.specs.Bills.{bill_row}
+use Rattle.mrp_tables.specs.Calendar.{calendar_from, entry_row}
+use Rattle.mrp_tables.specs.Items.{item_row}
+use Rattle.mrp_tables.specs.Master.{master_row, that_count}
+use Rattle.mrp_tables.specs.Reading.{Gives, IsRefusedIn, Reads, by_itself, rows_of}
+use Rattle.mrp_tables.specs.Receipts.{receipt_row, receipts_that_count}
+use Rattle.mrp_tables.specs.Script.{script_row}
+use Rattle.mrp_tables.specs.Stock.{stock_row}
+
+-- a table's reader: how its records are read, beside the tables that it looks at, and what is made of their rows
+pub record Reader : Type 1 where
+  pub Row : Type 0
+  pub Whole : Type 0
+  pub reads : Result (Reads Row) Fault
+  pub made : Result (List Row) Fault → Result Whole Fault
+
+-- what a table's text reads as by a reader
+abbrev pub read_by : (reader : Reader) → Table → List ℕ → Result reader.Whole Fault
+read_by reader own text = reader.made (reader.reads >>= λ read. rows_of read own text)
+
+-- a table that is its rows
+abbrev pub rows_by : {X : Type 0} → Result (Reads X) Fault → Reader
+rows_by {X} reads = record { Row = X; Whole = List X; reads = reads; made = λ rows. rows }
+
+-- a table that is those of its rows that count
+abbrev pub rows_that : {X : Type 0} → (List X → List X) → Result (Reads X) Fault → Reader
+rows_that {X} count reads = record { Row = X; Whole = List X; reads = reads; made = λ read. read >>= λ rows. Ok (count rows) }
+
+-- the calendar and the items look at no table
+abbrev pub calendar_reader : Reader
+calendar_reader = record { Row = Entry; Whole = ShopCalendar; reads = Ok entry_row; made = λ read. read >>= calendar_from }
+
+abbrev pub items_reader : Reader
+items_reader = rows_by (Ok item_row)
+
+abbrev pub calendar_in : List (List ℕ) → Result ShopCalendar Fault
+calendar_in texts = read_by calendar_reader t.Calendar (text_in texts t.Calendar)
+
+abbrev pub items_in : List (List ℕ) → Result (List Item) Fault
+items_in texts = read_by items_reader t.Items (text_in texts t.Items)
+
+-- others look at the items, and those with dates at the calendar too
+abbrev pub by_items : {X : Type 0} → List (List ℕ) → (List Item → Reads X) → Result (Reads X) Fault
+by_items texts reads = items_in texts >>= λ items. Ok (reads items)
+
+abbrev pub by_dates : {X : Type 0} → List (List ℕ) → (ShopCalendar → List Item → Reads X) → Result (Reads X) Fault
+by_dates texts reads = calendar_in texts >>= λ calendar. by_items texts (reads calendar)
+
+-- a record of a table that takes none: its limit refuses it before it is read
+abbrev pub untaken : {X : Type 0} → Reads X
+untaken before r = Err (fault_at r faults.TOO_MANY)
+
+-- each table's reader; the bundle itself has no records, and nothing in it is refused
+abbrev pub reader_of : List (List ℕ) → Table → Reader
+reader_of texts t.Calendar = calendar_reader
+reader_of texts t.Items = items_reader
+reader_of texts t.Centres = rows_by (Ok (untaken {X = Centre}))
+reader_of texts t.Stock = rows_by (by_items texts stock_row)
+reader_of texts t.Receipts = rows_that receipts_that_count (by_dates texts receipt_row)
+reader_of texts t.Bills = rows_by (by_items texts (λ items. by_itself (bill_row items)))
+reader_of texts t.Routings = rows_by (Ok (untaken {X = Operation}))
+reader_of texts t.Master = rows_that that_count (by_dates texts (λ calendar items. by_itself (master_row calendar items)))
+reader_of texts t.Script = rows_by (by_dates texts (λ calendar items. by_itself (script_row calendar items)))
+reader_of texts t.Bundle = record { Row = ⊥; Whole = Unit {0}; reads = Err (header_fault t.Bundle); made = λ read. Ok tt }
+
+-- what a table's own text reads as
+abbrev pub table_in : (texts : List (List ℕ)) (own : Table) → Result (reader_of texts own).Whole Fault
+table_in texts own = read_by (reader_of texts own) own (text_in texts own)
+
+-- memory was refused while a table was read: for its header, or for a record behind those that are read
+abbrev pub IsRefusedAt : List (List ℕ) → Fault → Table → Type 0
+IsRefusedAt texts f own =
+    (read : Reads (reader_of texts own).Row) × ((reader_of texts own).reads ≡ Ok read) × IsRefusedIn read own (text_in texts own) f
+
+-- what a call returned, seen by view, is what the table's text reads as, unless memory was refused
+abbrev pub GivesTable : (texts : List (List ℕ)) (own : Table) {X : Type 0} → Result X Fault → (X → (reader_of texts own).Whole) → Type 0
+GivesTable texts own result view = Gives (λ f. IsRefusedAt texts f own) view result (table_in texts own)
