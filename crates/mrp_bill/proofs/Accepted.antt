@@ -1,22 +1,25 @@
 -- From the lists of a bill back to its lines.
 use Rattle.std.proofs.Common.{◌≡◌, ◌⊎◌, inl, inr, All, ℕ, zero, suc, ◌<◌, ◌≤◌, Bool, true, false, cond, List, [], ◌∷◌, length, map, filter, get_or, slice_index, refl, sym, ap, subst, ◌∙◌, arith}
-use Rattle.std.specs.Prelude.{◌==◌}
+use Rattle.std.specs.Prelude.{◌==◌, ◌↔◌}
 use Rattle.std.specs.List.{Contains, range_with_len}
 use Rattle.std.proofs.lemmas.List.{get_or_default}
-use Rattle.std.proofs.lemmas.List.FromFn.{fill_by_all}
+use Rattle.std.proofs.Math.ListN.{get_or-eq_default}
+use Rattle.std.proofs.lemmas.Bool.{cases_lt}
+use Rattle.std.proofs.lemmas.List.FromFn.{fill_by_all, get_or-map-range_with_len, length-map-range_with_len}
 use Rattle.mrp_tables.specs.Tables.{Tables}
 use Rattle.mrp_bill.specs.Shop.{Shop, IsShop}
 use Rattle.mrp_tables.specs.declared.rows.BillLine.{BillLine}
 use Rattle.mrp_bill.specs.declared.lists.Lists.{Lists}
 use Rattle.mrp_tables.specs.declared.item.Item.{Item}
 use Rattle.mrp_tables.specs.Facts.{IsBillLine}
-use Rattle.mrp_bill.specs.Bill.{AreWithin, IsParent, NeedsItself, IsLoopPath, AreCodes, IsCode, IsDepth, HoldsEachOnce, IsOrder, Chain, line_at, lines_of}
+use Rattle.mrp_bill.specs.Bill.{AreWithin, is_parent, IsParent, NeedsItself, IsFirstLoop, IsLoopPath, IsPath, AreCodes, IsCode, IsDepth, HoldsEachOnce, IsOrder, Chain, line_at, lines_of}
 use Rattle.mrp_bill.specs.BillLists.{AreLists}
 use Rattle.mrp_bill.specs.Climb.{IsSettled}
 use Rattle.mrp_bill.specs.Links.{IsFirstRound, IsRound, AreRising}
 use Rattle.mrp_bill.specs.Lists.{IsListed}
 use Rattle.mrp_bill.proofs.BillListed.{listed-parent, parent-listed, listed-child, parent-within}
-use Rattle.mrp_bill.proofs.Linked.{links-along, links-rise, round-along}
+use Rattle.mrp_bill.proofs.Decided.{AreCodesBelow, code_in, decided}
+use Rattle.mrp_bill.proofs.Linked.{leads-round, links-along, links-rise, links-trail, round-along, trail-links}
 
 -- the lines of accepted tables name items that are there
 pub are-within : (items : List Item) (lines : List BillLine) → All (IsBillLine items) lines → AreWithin (length items) lines
@@ -141,3 +144,52 @@ depth-is s n ok all from = record {
     by : (n ≡ 0) ⊎ Contains s.codes n → (n ≡ 0) ⊎ ((i : ℕ) × (i < length s.tables.items) × IsCode s.tables.bills i n)
     by (inl none) = inl none
     by (inr (i, h, is)) = inr (i, rw (← ok.size) h, subst (λ (x : ℕ). IsCode s.tables.bills i x) (get_or_default s.codes i 0 n h ∙ is) (code-is s i ok))
+
+-- a chain of lines is a path with an item for each line
+pub chain-path : (lines : List BillLine) (n a b : ℕ) → Chain lines n a b ↔ ((rest : List ℕ) × (length rest ≡ n) × IsPath lines a rest b)
+chain-path lines n a b = (links-trail (IsParent lines) n a b, λ (rest, size, path). subst (λ (m : ℕ). Chain lines m a b) size (trail-links (IsParent lines) a rest b path))
+
+decided-bill : (count : ℕ) (lines : List BillLine) → AreWithin count lines → ((i : ℕ) × IsFirstLoop lines i) ⊎ AreCodesBelow count (is_parent lines) (code_in count (is_parent lines))
+decided-bill count lines within = decided count (is_parent lines) (λ p i link. parent-within lines count p i within link)
+
+-- a first item needs itself, or none does and each has a code
+pub loop-or-codes : (count : ℕ) (lines : List BillLine) → AreWithin count lines → ((i : ℕ) × IsFirstLoop lines i) ⊎ (((i : ℕ) → NeedsItself lines i → ⊥) × ((i : ℕ) → (n : ℕ) × IsCode lines i n))
+loop-or-codes count lines within = by (decided-bill count lines within)
+  where
+    by : ((i : ℕ) × IsFirstLoop lines i) ⊎ AreCodesBelow count (is_parent lines) (code_in count (is_parent lines))
+        → ((i : ℕ) × IsFirstLoop lines i) ⊎ (((i : ℕ) → NeedsItself lines i → ⊥) × ((i : ℕ) → (n : ℕ) × IsCode lines i n))
+    by (inl first) = inl first
+    by (inr c) = inr (no-loop lines (code_in count (is_parent lines)) c.rising, λ i. (code_in count (is_parent lines) i, codes-are lines (code_in count (is_parent lines)) c.rising i))
+
+-- tables with codes of their items make a shop
+with-codes : (tables : Tables) (code : ℕ → ℕ) → AreCodesBelow (length tables.items) (is_parent tables.bills) code
+    → IsShop (record { tables = tables; codes = map code (range_with_len 0 (length tables.items)) })
+with-codes tables code c = record {
+  size = size;
+  codes = record {
+    rises = λ p i link. omega (arith, same p, same i, c.rising.rises p i link);
+    from_parent = λ i n e. let (p, link, at) = c.rising.from_parent i n (sym (same i) ∙ e) in (p, link, same p ∙ at);
+  };
+  low = λ k d h.
+      let inside : k < length tables.items = omega (arith, size) in
+      omega (arith, get_or-map-range_with_len code 0 (length tables.items) k k d inside (omega arith), c.low k inside);
+}
+  where
+    size : length (map code (range_with_len 0 (length tables.items))) ≡ length tables.items
+    size = length-map-range_with_len code 0 (length tables.items)
+
+    by : (i : ℕ) → (i < length tables.items) ⊎ (length tables.items ≤ i) → get_or (map code (range_with_len 0 (length tables.items))) i 0 ≡ code i
+    by i (inl lt) = get_or-map-range_with_len code 0 (length tables.items) i i 0 lt (omega arith)
+    by i (inr ge) = get_or-eq_default (map code (range_with_len 0 (length tables.items))) 0 {n = i} (omega (arith, size)) ∙ sym (c.past i ge)
+
+    same : (i : ℕ) → get_or (map code (range_with_len 0 (length tables.items))) i 0 ≡ code i
+    same i = by i (cases_lt i (length tables.items))
+
+-- tables have the path of a loop, or make a shop
+pub loop-or-shop : (tables : Tables) → AreWithin (length tables.items) tables.bills → ((path : List ℕ) × IsLoopPath tables.bills path) ⊎ ((shop : Shop) × IsShop shop × (shop.tables ≡ tables))
+loop-or-shop tables within = by (decided-bill (length tables.items) tables.bills within)
+  where
+    by : ((i : ℕ) × IsFirstLoop tables.bills i) ⊎ AreCodesBelow (length tables.items) (is_parent tables.bills) (code_in (length tables.items) (is_parent tables.bills))
+        → ((path : List ℕ) × IsLoopPath tables.bills path) ⊎ ((shop : Shop) × IsShop shop × (shop.tables ≡ tables))
+    by (inl (i, first)) = let (path, round) = leads-round (IsParent tables.bills) i first.loop in inl (path, (i, first, round))
+    by (inr c) = inr (record { tables = tables; codes = map (code_in (length tables.items) (is_parent tables.bills)) (range_with_len 0 (length tables.items)) }, with-codes tables (code_in (length tables.items) (is_parent tables.bills)) c, refl)

@@ -2,6 +2,7 @@ pub mod Accepted
 pub mod BillListed
 pub mod Climbs
 pub mod Coded
+pub mod Decided
 pub mod Linked
 pub mod Listed
 pub mod Ordered

@@ -1,6 +1,7 @@
 -- Chains of links.
 use Rattle.std.proofs.Common.{◌≡◌, ◌≢◌, ◌⊎◌, inl, inr, ℕ, zero, suc, ◌+◌, ◌<◌, ◌≤◌, List, [], ◌∷◌, ◌++◌, length, get_or, refl, sym, ap, subst, arith}
 use Rattle.std.proofs.lemmas.Bool.{cases_lt}
+use Rattle.std.proofs.lemmas.List.{length-append}
 use Rattle.mrp_bill.specs.Climb.{IsLinked}
 use Rattle.mrp_bill.specs.Links.{Links, Leads, IsTrail, IsRound}
 
@@ -41,17 +42,27 @@ pub trail-push : (R : ℕ → ℕ → Type 0) (a : ℕ) (xs : List ℕ) (b c : �
 trail-push R a [] b c e link = (subst (λ (x : ℕ). R x c) (sym e) link, refl)
 trail-push R a (x ∷ xs) b c (first, rest) link = (first, trail-push R x xs b c rest link)
 
--- a trail is a chain
-pub trail-links : (R : ℕ → ℕ → Type 0) (a : ℕ) (xs : List ℕ) (b : ℕ) → IsTrail R a xs b → (n : ℕ) × Links R n a b
-trail-links R a [] b e = (0, e)
-trail-links R a (c ∷ more) b (link, rest) = let (n, chain) = trail-links R c more b rest in (suc n, links-before R n a c b link chain)
+-- a trail is a chain of as many links
+pub trail-links : (R : ℕ → ℕ → Type 0) (a : ℕ) (xs : List ℕ) (b : ℕ) → IsTrail R a xs b → Links R (length xs) a b
+trail-links R a [] b e = e
+trail-links R a (c ∷ more) b (link, rest) = links-before R (length more) a c b link (trail-links R c more b rest)
+
+pub links-trail : (R : ℕ → ℕ → Type 0) (n a b : ℕ) → Links R n a b → (xs : List ℕ) × (length xs ≡ n) × IsTrail R a xs b
+links-trail R zero a b e = ([], refl, e)
+links-trail R (suc n) a b (p, chain, link) =
+    let (xs, size, trail) = links-trail R n a p chain in
+    (xs ++ b ∷ [], omega (arith, length-append xs (b ∷ []), size), trail-push R a xs p b trail link)
 
 pub round-leads : (R : ℕ → ℕ → Type 0) (i : ℕ) (path : List ℕ) → IsRound R i path → Leads R i i
 round-leads R i [] round = absurd round
 round-leads R i (a ∷ []) round = absurd round
-round-leads R i (a ∷ b ∷ more) (same, link, rest) =
-    let (n, chain) = trail-links R b more i rest in
-    (n, links-before R n i b i (subst (λ (x : ℕ). R x b) same link) chain)
+round-leads R i (a ∷ b ∷ more) (same, link, rest) = (length more, links-before R (length more) i b i (subst (λ (x : ℕ). R x b) same link) (trail-links R b more i rest))
+
+pub leads-round : (R : ℕ → ℕ → Type 0) (i : ℕ) → Leads R i i → (path : List ℕ) × IsRound R i path
+leads-round R i (n, chain) =
+    let (b, first, rest) = links-first R n i i chain in
+    let (xs, size, trail) = links-trail R n b i rest in
+    (i ∷ b ∷ xs, (refl, first, trail))
 
 pub round-along : (R S : ℕ → ℕ → Type 0) → ((p i : ℕ) → R p i → S p i) → (i : ℕ) (path : List ℕ) → IsRound R i path → IsRound S i path
 round-along R S f i [] round = round

@@ -1,8 +1,9 @@
 //! Laws of the definitions, each the contract of a function that does nothing.
 
-ghost use Rattle.std.specs.Prelude.{◌≡◌, ◌<◌, ◌==◌, ℕ, List, length, map, filter, slice_index};
-ghost use Rattle.mrp_bill.specs.Bill.{AreCodes, AreWithin, IsCode, IsLoopPath, IsOrder, IsParent, NeedsItself, line_at, lines_of};
-ghost use Rattle.mrp_bill.specs.Shop.{IsShop};
+ghost use Rattle.std.specs.Prelude.{◌≡◌, ◌<◌, ◌==◌, ◌⊎◌, ◌↔◌, ℕ, List, length, map, filter, slice_index};
+ghost use Rattle.mrp_bill.specs.Bill.{AreCodes, AreWithin, Chain, IsCode, IsFirstLoop, IsLoopPath, IsOrder, IsParent, IsPath, NeedsItself, line_at, lines_of};
+ghost use Rattle.mrp_bill.specs.Shop.{IsShop, Shop};
+ghost use Rattle.mrp_tables.specs.Tables.{Tables};
 
 /// Codes that rise along each line, each above 0 one above a parent's, are the low-level codes, of
 /// which an item has one alone; and then no item needs itself.
@@ -17,9 +18,18 @@ pub fn shops()
     ensures { (a b : _) → IsShop a → IsShop b → a.tables ≡ b.tables → a ≡ b }
 {}
 
-/// A loop's path is a chain that leads from its item to itself.
+/// A chain of lines is a path that passes an item with each line, and a loop's path is a chain that
+/// leads from its item to itself.
 pub fn paths()
-    ensures { (lines : List _) (path : List ℕ) → IsLoopPath lines path → NeedsItself lines (slice_index path 0) }
+    ensures chains { (lines : List _) (n a b : ℕ) → Chain lines n a b ↔ ((rest : List ℕ) × (length rest ≡ n) × IsPath lines a rest b) }
+    ensures loops { (lines : List _) (path : List ℕ) → IsLoopPath lines path → NeedsItself lines (slice_index path 0) }
+{}
+
+/// A bill has a first item that needs itself, or no item needs itself and each has a low-level code;
+/// and its tables have the path of a loop, or make a shop.
+pub fn loops()
+    ensures first { (count : ℕ) (lines : List _) → AreWithin count lines → ((i : ℕ) × IsFirstLoop lines i) ⊎ (((i : ℕ) → NeedsItself lines i → ⊥) × ((i : ℕ) → (n : ℕ) × IsCode lines i n)) }
+    ensures shop { (tables : Tables) → AreWithin (length tables.items) tables.bills → ((path : List ℕ) × IsLoopPath tables.bills path) ⊎ ((shop : Shop) × IsShop shop × (shop.tables ≡ tables)) }
 {}
 
 /// The lines at the places to an item are the lines in which it is the component, in table order.

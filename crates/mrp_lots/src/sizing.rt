@@ -1,6 +1,6 @@
 //! Planned receipts.
 
-ghost use Rattle.std.specs.Prelude.{◌≡◌, ◌≤◌, ◌<◌, length, IfOk, OnOk, IsErrOf};
+ghost use Rattle.std.specs.Prelude.{◌≡◌, ◌≤◌, ◌<◌, length, ok_or, IfOk, OnOk, IsErrOf};
 ghost use Rattle.mrp_qty.specs.Quantity.{greatest_quantity};
 ghost use Rattle.mrp_phase.specs.Weeks.{in_week, row};
 ghost use Rattle.mrp_lots.specs.Lots.{receipts};
@@ -10,6 +10,13 @@ use mrp_net::{NeedRow, NetFault};
 use mrp_phase::Weeks;
 use mrp_qty::Qty;
 use std::alloc::Global;
+
+// A lot rule's receipts; `TooLarge` where they pass the greatest quantity.
+fn within(receipts: Option<Qty>) -> Result<Qty, NetFault>
+    ensures { result ≡ ok_or receipts NetFault.TooLarge }
+{
+    receipts.ok_or(NetFault::TooLarge)
+}
 
 /// The planned receipts up to each week that a lot rule makes of the needs up to each.
 ///
@@ -24,10 +31,7 @@ pub fn receipts<L: Lot>(alloc: Global, needs: &NeedRow, lot: &L) -> Result<Weeks
     let mut received = Vec::with_capacity(alloc, needs.len())?;
     let mut before = Qty::new(0).unwrap();
     for i in 0..needs.len() {
-        let Some(quantity) = lot.receive(needs, i, before) else {
-            return Err(NetFault::TooLarge);
-        };
-        before = quantity;
+        before = within(lot.receive(needs, i, before))?;
         received.push(before)?;
     }
     Ok(Weeks::from_vec(received))

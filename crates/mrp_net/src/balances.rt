@@ -13,12 +13,11 @@ use mrp_qty::Qty;
 use std::alloc::Global;
 
 /// What is left at the end of each week, by the gross requirements of each and the planned receipts
-/// up to each (APICS Dictionary: projected available balance). Where requirements are above all
-/// supplies nothing is left.
+/// up to each, which do not fall (APICS Dictionary: projected available balance). Where requirements
+/// are above all supplies nothing is left.
 ///
 /// Errors: `TooLarge` where gross requirements and safety stock, or what is on hand, scheduled and
-/// planned up to some week, add up to more than the greatest quantity, `NoMemory` where the row's
-/// memory is refused.
+/// planned, add up to more than the greatest quantity, `NoMemory` where the row's memory is refused.
 #[tactic(auto, using(mrp_phase::proofs::WeekRows::row_none, mrp_phase::proofs::WeekRows::row_more, mrp_phase::proofs::WeekRows::sum_to_whole, mrp_phase::proofs::WeekRows::sum_to_next, mrp_phase::proofs::WeekRows::in_week_next))]
 pub fn balance_row(
     alloc: Global,
@@ -28,10 +27,11 @@ pub fn balance_row(
 ) -> Result<Weeks<Qty>, NetFault>
     requires scheduled { length stock.now.scheduled ≡ length gross.now }
     requires receipts { length receipts.now ≡ length gross.now }
+    requires rises { (s t : ℕ) → s ≤ t → t ≤ length gross.now → in_week receipts.now s ≤ in_week receipts.now t }
     ensures value { IfOk result (λ w. w ≡ row (length gross.now) (λ week. balance stock.now gross.now (in_week receipts.now week) week)) }
     ensures requirements { OnOk result (sum gross.now + stock.now.safety ≤ greatest_quantity) }
-    ensures supplies { OnOk result ((week : ℕ) → 0 < week → week ≤ length gross.now → supply stock.now (in_week receipts.now week) week ≤ greatest_quantity) }
-    ensures too_large { IsErrOf result NetFault.TooLarge → (greatest_quantity < sum gross.now + stock.now.safety) ⊎ ((week : ℕ) × (0 < week) × (week ≤ length gross.now) × (greatest_quantity < supply stock.now (in_week receipts.now week) week)) }
+    ensures supplies { OnOk result (supply stock.now (in_week receipts.now (length gross.now)) (length gross.now) ≤ greatest_quantity) }
+    ensures too_large { IsErrOf result NetFault.TooLarge → (greatest_quantity < sum gross.now + stock.now.safety) ⊎ (greatest_quantity < supply stock.now (in_week receipts.now (length gross.now)) (length gross.now)) }
 {
     let gross = gross.as_slice();
     let scheduled = stock.scheduled.as_slice();
@@ -39,14 +39,8 @@ pub fn balance_row(
     let mut balances = Vec::with_capacity(alloc, gross.len())?;
     let mut so_far = SoFar::start(stock.safety, stock.on_hand);
     for i in 0..gross.len() {
-        let Some(next) = so_far.with(gross[i], scheduled[i]) else {
-            return Err(NetFault::TooLarge);
-        };
-        let Some(balance) = next.balance(stock.safety, received[i]) else {
-            return Err(NetFault::TooLarge);
-        };
-        so_far = next;
-        balances.push(balance)?;
+        so_far = so_far.with(gross[i], scheduled[i])?;
+        balances.push(so_far.balance(stock.safety, received[i])?)?;
     }
     Ok(Weeks::from_vec(balances))
 }

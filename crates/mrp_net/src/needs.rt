@@ -57,7 +57,7 @@ fn excess(required: Qty, supplied: Qty) -> Qty
 }
 
 impl SoFar {
-    ghost use Rattle.std.specs.Prelude.{◌≡◌, ◌≤◌, ◌<◌, ◌+◌, ◌-◌, ◌⊎◌, MatchOption, OnSome};
+    ghost use Rattle.std.specs.Prelude.{◌≡◌, ◌<◌, ◌≤◌, ◌+◌, ◌-◌, ◌⊎◌, MatchResult};
     ghost use Rattle.mrp_qty.specs.Quantity.{greatest_quantity};
     ghost use Rattle.mrp_net.specs.SoFar.{AddsWeek, IsStart};
 
@@ -74,27 +74,26 @@ impl SoFar {
         }
     }
 
-    // One more week; None where requirements or supplies pass the greatest quantity.
-    pub(crate) fn with(self, gross: Qty, scheduled: Qty) -> Option<SoFar>
-        ensures { MatchOption result ((greatest_quantity < self.required + gross) ⊎ (greatest_quantity < self.supplied + scheduled)) (AddsWeek self gross scheduled) }
+    // One more week; `TooLarge` where requirements or supplies pass the greatest quantity.
+    pub(crate) fn with(self, gross: Qty, scheduled: Qty) -> Result<SoFar, NetFault>
+        ensures { MatchResult result (AddsWeek self gross scheduled) (λ fault. (fault ≡ NetFault.TooLarge) × ((greatest_quantity < self.required + gross) ⊎ (greatest_quantity < self.supplied + scheduled))) }
     {
-        let required = self.required.add(gross)?;
-        let supplied = self.supplied.add(scheduled)?;
-        Some(SoFar {
+        let required = self.required.add(gross).ok_or(NetFault::TooLarge)?;
+        let supplied = self.supplied.add(scheduled).ok_or(NetFault::TooLarge)?;
+        Ok(SoFar {
             required,
             supplied,
             shortage: self.shortage.max(excess(required, supplied)),
         })
     }
 
-    // What is left once the planned receipts are in, the safety stock counted as left; None where
-    // supplies pass the greatest quantity.
-    pub(crate) fn balance(&self, safety: Qty, received: Qty) -> Option<Qty>
-        ensures balance { MatchOption result (greatest_quantity < self.now.supplied + received) (λ balance. balance ≡ (self.now.supplied + received) - (self.now.required - safety)) }
-        ensures within { OnSome result (self.now.supplied + received ≤ greatest_quantity) }
+    // What is left once the planned receipts are in, the safety stock counted as left; `TooLarge`
+    // where supplies pass the greatest quantity.
+    pub(crate) fn balance(&self, safety: Qty, received: Qty) -> Result<Qty, NetFault>
+        ensures { MatchResult result (λ balance. (self.now.supplied + received ≤ greatest_quantity) × (balance ≡ (self.now.supplied + received) - (self.now.required - safety))) (λ fault. (fault ≡ NetFault.TooLarge) × (greatest_quantity < self.now.supplied + received)) }
     {
-        let supplied = self.supplied.add(received)?;
-        Some(excess(supplied, excess(self.required, safety)))
+        let supplied = self.supplied.add(received).ok_or(NetFault::TooLarge)?;
+        Ok(excess(supplied, excess(self.required, safety)))
     }
 }
 
@@ -115,10 +114,7 @@ pub fn need(alloc: Global, gross: &Weeks<Qty>, stock: &Stock) -> Result<NeedRow,
     let mut needs = Vec::with_capacity(alloc, gross.len())?;
     let mut so_far = SoFar::start(stock.safety, stock.on_hand);
     for i in 0..gross.len() {
-        let Some(next) = so_far.with(gross[i], scheduled[i]) else {
-            return Err(NetFault::TooLarge);
-        };
-        so_far = next;
+        so_far = so_far.with(gross[i], scheduled[i])?;
         needs.push(so_far.shortage)?;
     }
     Ok(NeedRow { needs })

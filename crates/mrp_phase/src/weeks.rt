@@ -1,7 +1,7 @@
 //! Rows over weeks.
 
-ghost use Rattle.std.specs.Prelude.{◌≡◌, ◌≤◌, ◌<◌, ◌+◌, ◌↔◌, length, sum, replicate, IfOk, OnOk, OnSome, IfNone, IsSome, IsErrOf, IsOkUnless};
-ghost use Rattle.mrp_qty.specs.Quantity.{greatest_quantity};
+ghost use Rattle.std.specs.Prelude.{◌≡◌, ◌≤◌, ◌<◌, ◌+◌, ◌↔◌, length, sum, replicate, ok_or, IfOk, OnOk, OnSome, IfNone, IsSome, IsErrOf, IsOkUnless};
+ghost use Rattle.mrp_qty.specs.Quantity.{greatest_quantity, quantity_of};
 ghost use Rattle.mrp_phase.specs.Weeks.{greatest_to, in_week, row, sum_to, with_week};
 
 use crate::fault::PhaseFault;
@@ -60,6 +60,13 @@ fn nothing() -> Qty
     Qty::new(0).unwrap()
 }
 
+// One more quantity in a sum; `TooLarge` where it passes the greatest quantity.
+fn plus(so_far: Qty, more: Qty) -> Result<Qty, PhaseFault>
+    ensures { result ≡ ok_or (quantity_of (so_far + more)) PhaseFault.TooLarge }
+{
+    so_far.add(more).ok_or(PhaseFault::TooLarge)
+}
+
 impl Weeks<Qty> {
     /// Nothing in each of so many weeks.
     ///
@@ -86,7 +93,7 @@ impl Weeks<Qty> {
         let mut sums = Vec::with_capacity(alloc, quantities.len())?;
         let mut so_far = nothing();
         for quantity in quantities {
-            so_far = so_far.add(*quantity).ok_or(PhaseFault::TooLarge)?;
+            so_far = plus(so_far, *quantity)?;
             sums.push(so_far)?;
         }
         Ok(Weeks::from_vec(sums))

@@ -1,5 +1,8 @@
 //! Needs, and balances at the end of each week.
 
+ghost use Rattle.std.specs.Prelude.{◌≡◌, ◌≤◌, ℕ, IsTrue, length};
+ghost use Rattle.mrp_phase.specs.Weeks.{in_week};
+
 use super::weeks::{has_row, row_of};
 use super::{MOST, pieces, same};
 use mrp_net::{NetFault, Stock, balance_row, need};
@@ -61,6 +64,36 @@ fn stock_of(rt: &impl Abort, alloc: Global, on_hand: u64, safety: u64, scheduled
     }
 }
 
+// Whether no quantity of a row is below one before it.
+#[tactic(auto, using(mrp_phase::proofs::WeekRows::in_week_next))]
+fn never_falls(row: &[Qty]) -> bool
+    ensures { IsTrue result → (s t : ℕ) → s ≤ t → t ≤ length row.now → in_week row.now s ≤ in_week row.now t }
+{
+    let mut before = 0;
+    for quantity in row {
+        if quantity.value() < before {
+            return false;
+        }
+        before = quantity.value();
+    }
+    true
+}
+
+// The balances that receipts leave, which must not fall; fails where the rows don't fit.
+fn balances_of(
+    rt: &impl Abort,
+    alloc: Global,
+    gross: &Weeks<Qty>,
+    stock: &Stock,
+    receipts: &Weeks<Qty>,
+) -> Result<Weeks<Qty>, NetFault> {
+    assert_eq!(rt; stock.scheduled.weeks(), gross.weeks());
+    assert_eq!(rt; receipts.weeks(), gross.weeks());
+    let rises = never_falls(receipts.as_slice());
+    assert!(rt; rises);
+    balance_row(alloc, gross, stock, receipts)
+}
+
 // Fails unless the needs and balances are those of the item.
 fn is_netted(
     rt: &impl Abort,
@@ -71,14 +104,13 @@ fn is_netted(
     item: &Worked,
 ) {
     assert_eq!(rt; stock.scheduled.weeks(), gross.weeks());
-    assert_eq!(rt; receipts.weeks(), gross.weeks());
     let needs = need(alloc, gross, stock).expect(rt, "needs");
     same(
         rt,
         needs.as_slice(),
         row_of(rt, alloc, &item.needs).as_slice(),
     );
-    let balances = balance_row(alloc, gross, stock, receipts).expect(rt, "balances");
+    let balances = balances_of(rt, alloc, gross, stock, receipts).expect(rt, "balances");
     has_row(rt, alloc, &balances, &item.balances);
 }
 
@@ -114,9 +146,8 @@ fn is_refused(
     item: &Refused,
 ) {
     assert_eq!(rt; stock.scheduled.weeks(), gross.weeks());
-    assert_eq!(rt; receipts.weeks(), gross.weeks());
     same(rt, need(alloc, gross, stock).err(), item.needs);
-    let balances = balance_row(alloc, gross, stock, receipts);
+    let balances = balances_of(rt, alloc, gross, stock, receipts);
     same(rt, balances.err(), item.balances);
 }
 
@@ -160,7 +191,7 @@ const LIMITS: &[Refused] = &[
     Refused {
         on_hand: 7,
         scheduled: [MOST - 8, 0],
-        receipts: [1, 0],
+        receipts: [1, 1],
         ..NOTHING
     },
     Refused {
