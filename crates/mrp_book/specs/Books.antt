@@ -1,5 +1,6 @@
 -- Order books, as contracts see them.
 use Rattle.std.specs.Prelude.{◌≡◌, ◌≤◌, length}
+use Rattle.mrp_tables.specs.declared.limits.TheConstants.{MOST_ENTRIES}
 use Rattle.mrp_master.specs.Supply.{Supply}
 use Rattle.mrp_book.specs.BookState.{BookState}
 use Rattle.mrp_book.specs.Standing.{History}
@@ -13,7 +14,7 @@ pub record OrderBook : Type 0 where
 -- the entries of a history are legal, and no more than a book takes
 pub record IsHistory (s : Supply) (h : History) : Type 0 where
   pub legal : IsLegal s h
-  pub few : length h ≤ 1000000
+  pub few : length h ≤ MOST_ENTRIES
 
 -- a book's entries are a history, and leave its state
 pub record KeepsHistory (state : BookState) (h : History) : Type 0 where

@@ -6,6 +6,7 @@ use Rattle.mrp_book.specs.declared.call.Call.{Call}
 use Rattle.mrp_book.specs.declared.call.Call.TheVariants as call
 use Rattle.mrp_book.specs.declared.reply.Reply.{Reply}
 use Rattle.mrp_book.specs.declared.reply.Reply.TheVariants as reply
+use Rattle.mrp_tables.specs.declared.limits.TheConstants.{MOST_ENTRIES}
 use Rattle.mrp_master.specs.declared.line.Line.{Line}
 use Rattle.mrp_master.specs.Lines.{IsLine, IsSpot, IsWish}
 use Rattle.mrp_master.specs.Supply.{Supply, CanPromise, IsAvailable, IsEarliest}
@@ -69,7 +70,7 @@ IsLegal s h = EachFollows (MayFollow s) h
 
 -- so many entries that a book takes no more
 abbrev pub IsLimit : ℕ → Type 0
-IsLimit entries = 1000000 ≤ entries
+IsLimit entries = MOST_ENTRIES ≤ entries
 
 -- a book that takes no more entries
 abbrev pub IsFull : History → Type 0

@@ -3,6 +3,7 @@ use Rattle.std.specs.Prelude.{ℕ, ◌≡◌, ◌≤◌, ◌<◌, List, All, map
 use Rattle.std.specs.List.{slice_index_or}
 use Rattle.mrp_book.specs.declared.booking.Booking.{Booking}
 use Rattle.mrp_book.specs.declared.made.Made.{Made}
+use Rattle.mrp_tables.specs.declared.limits.TheConstants.{MOST_ENTRIES}
 use Rattle.mrp_master.specs.Supply.{Supply, IsMaster, IsSupply}
 use Rattle.mrp_master.specs.AtpRow.{AtpRow, atp_row}
 use Rattle.mrp_book.specs.Booked.{AreBooked}
@@ -27,4 +28,4 @@ pub record KeepsState (s : Supply) (entries : ℕ) (rows : List (Option AtpRow))
   pub booked : AreBooked s (standing_of made)
   pub rising : IsRising made
   pub by_entries : All (λ m. m.booking.number ≤ entries) made
-  pub few : entries ≤ 1000000
+  pub few : entries ≤ MOST_ENTRIES

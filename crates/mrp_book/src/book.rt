@@ -7,6 +7,7 @@ use crate::reply::Reply;
 use crate::state::BookState;
 use mrp_bill::Shop;
 use mrp_qty::NoMemory;
+use mrp_tables::limits::{MOST_DESKS, MOST_ENTRIES};
 use mrp_turn::Entry;
 use std::alloc::Global;
 use std::marker::Model;
@@ -53,7 +54,7 @@ impl Book {
     /// Errors: `Full` exactly where the book has 1,000,000 entries, before all else, and `NoMemory`
     /// where memory is refused. Nothing has changed then.
     pub fn call(&mut self, alloc: Global, desk: u64, call: Call) -> Result<(u64, Reply), Refused>
-        requires desk { IsInRange 1 64 desk }
+        requires desk { IsInRange 1 MOST_DESKS desk }
         requires fits { Fits self.old.supply call }
         ensures number { IfOk result (λ answer. answer.0 ≡ next_number self.old.entries) }
         ensures reply { IfOk result (λ answer. IsReply self.old.supply self.old.entries desk call answer.1) }
@@ -88,7 +89,7 @@ impl Book {
     pub fn entries(&self) -> &[Entry<Call, Reply>]
         ensures entries { result.now ≡ self.now.entries }
         ensures legal { IsLegal self.now.supply result.now }
-        ensures few { length result.now ≤ 1000000 }
+        ensures few { length result.now ≤ MOST_ENTRIES }
     {
         &self.entries
     }

@@ -2,8 +2,8 @@
 
 use crate::call::Call;
 use crate::reply::Reply;
-use crate::state::MOST_ENTRIES;
 use mrp_master::Supply;
+use mrp_tables::limits::MOST_ENTRIES;
 use mrp_turn::Entry;
 use std::marker::Model;
 
@@ -36,7 +36,7 @@ impl History {
     pub fn new(supply: Supply, entries: Vec<Entry<Call, Reply>>) -> Option<History>
         requires { IsLegal supply entries.items }
         ensures value { IfSome result (λ h. h ≡ record { supply = supply; entries = entries.items }) }
-        ensures many { IsNone result ↔ (1000000 < length entries.items) }
+        ensures many { IsNone result ↔ (MOST_ENTRIES < length entries.items) }
     {
         if entries.len() as u64 > MOST_ENTRIES {
             return None;
@@ -48,7 +48,7 @@ impl History {
     pub fn entries(&self) -> &[Entry<Call, Reply>]
         ensures entries { result.now ≡ self.now.entries }
         ensures legal { IsLegal self.now.supply result.now }
-        ensures few { length result.now ≤ 1000000 }
+        ensures few { length result.now ≤ MOST_ENTRIES }
     {
         &self.entries
     }

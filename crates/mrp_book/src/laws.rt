@@ -3,6 +3,7 @@
 ghost use Rattle.std.specs.Prelude.{◌≡◌, ◌<◌, ◌++◌, ◌∷◌, [], ℕ, List, All, length, sum_by, take};
 ghost use Rattle.std.specs.List.{range_with_len};
 ghost use Rattle.mrp_turn.specs.Log.{AreFrom, IsSeatNumber, entries_by, entry};
+ghost use Rattle.mrp_tables.specs.declared.limits.TheConstants.{MOST_DESKS};
 ghost use Rattle.mrp_master.specs.Lines.{IsLine};
 ghost use Rattle.mrp_master.specs.Supply.{CanPromise, IsCovered, Supply};
 ghost use Rattle.mrp_book.specs.Booked.{AreBooked};
@@ -29,9 +30,9 @@ pub fn histories()
     // What stands is of master items, in weeks of the horizon, of pieces that can be booked.
     ensures lines { (s : Supply) (h : History) → IsLegal s h → All (λ b. IsLine s b.line) (standing h) }
     // Each desk's number is from 1 to 64.
-    ensures desks { (s : Supply) (h : History) → IsLegal s h → AreFrom 64 h }
+    ensures desks { (s : Supply) (h : History) → IsLegal s h → AreFrom MOST_DESKS h }
     // Counted by desk, its entries are all of them.
-    ensures counts { (s : Supply) (h : History) → IsLegal s h → sum_by (λ desk. length (entries_by desk h)) (range_with_len 1 64) ≡ length h }
+    ensures counts { (s : Supply) (h : History) → IsLegal s h → sum_by (λ desk. length (entries_by desk h)) (range_with_len 1 MOST_DESKS) ≡ length h }
 {}
 
 /// Bookings of a legal history.

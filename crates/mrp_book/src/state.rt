@@ -10,11 +10,9 @@ use crate::snapshot::Snapshot;
 use mrp_bill::Shop;
 use mrp_master::{AtpRow, Line, Spot, Supply, Wish};
 use mrp_qty::{NoMemory, Qty};
+use mrp_tables::limits::MOST_ENTRIES;
 use std::alloc::Global;
 use std::marker::Model;
-
-// The most entries of a book.
-pub(crate) const MOST_ENTRIES: u64 = 1_000_000;
 
 /// An order book without its history: what it promises of, how many entries were made, and the
 /// bookings that stand.
@@ -231,7 +229,7 @@ impl BookState {
 
     // Makes an entry of a call that was answered so.
     fn enter(&mut self, desk: u64, call: &Call, reply: &Reply) -> Result<(), NoMemory>
-        requires few { self.old.entries < 1000000 }
+        requires few { self.old.entries < MOST_ENTRIES }
         requires fits { Fits self.old.supply call.now }
         requires reply { IsReplyIn self.old desk call.now reply.now }
         ensures after { OnOk result (self.new ≡ state_after self.old desk call.now reply.now) }
@@ -248,7 +246,7 @@ impl BookState {
 
     // Books a line that is available.
     fn enter_booking(&mut self, desk: u64, line: Line) -> Result<(), NoMemory>
-        requires few { self.old.entries < 1000000 }
+        requires few { self.old.entries < MOST_ENTRIES }
         requires fits { Fits self.old.supply (call.Book line) }
         requires available { CanPromise self.old.supply (lines_of self.old.standing) line.item line.quantity line.week }
         ensures after { OnOk result (self.new ≡ state_after self.old desk (call.Book line) (reply.Booked (self.old.entries + 1))) }
@@ -270,7 +268,7 @@ impl BookState {
 
     // Cancels the standing booking with a number.
     fn enter_cancel(&mut self, number: u64)
-        requires few { self.old.entries < 1000000 }
+        requires few { self.old.entries < MOST_ENTRIES }
         requires stands { IsSome (find (λ b. b.number == number) self.old.standing) }
         ensures { (desk : ℕ) → self.new ≡ state_after self.old desk (call.Cancel number) reply.Cancelled }
     {

@@ -5,6 +5,7 @@ use Rattle.mrp_turn.specs.Log.{entry, entries_by}
 use Rattle.mrp_turn.specs.Calls.{GrowsBy}
 use Rattle.mrp_turn.specs.declared.turn.CallFault.{CallFault}
 use Rattle.mrp_turn.specs.declared.turn.CallFault.TheVariants as fault
+use Rattle.mrp_tables.specs.declared.limits.TheConstants.{MOST_ENTRIES}
 use Rattle.mrp_master.specs.Supply.{Supply}
 use Rattle.mrp_book.specs.declared.call.Call.{Call}
 use Rattle.mrp_book.specs.declared.call.Call.TheVariants as call
@@ -28,7 +29,7 @@ pub record Tells (s : Supply) (c : Call) (old : Desk) (result : Result (ℕ × R
   pub desk : new.number ≡ old.number
   -- what it has seen is a legal history within the limit of a book, and begins with what it had seen before
   pub legal : IsLegal s new.seen
-  pub few : length new.seen ≤ 1000000
+  pub few : length new.seen ≤ MOST_ENTRIES
   pub goes_on : StartsWith new.seen old.seen
   -- its own entries are all those of what it has seen under its number
   pub exact : new.mine ≡ entries_by old.number new.seen

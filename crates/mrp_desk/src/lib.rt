@@ -6,5 +6,5 @@ mod office;
 mod shop_book;
 
 pub use fault::OfficeFault;
-pub use office::{Desk, MOST_DESKS, Office};
+pub use office::{Desk, Office};
 pub use shop_book::ShopBook;

@@ -8,16 +8,14 @@ use crate::fault::OfficeFault;
 use crate::shop_book::ShopBook;
 use mrp_bill::Shop;
 use mrp_book::{Call, History, Line, Refused, Reply, Spot, Wish};
-use mrp_turn::{CallFault, MOST_SEATS, Seat, Turn};
+use mrp_tables::limits::{MOST_DESKS, MOST_ENTRIES};
+use mrp_turn::{CallFault, Seat, Turn};
 use std::alloc::Global;
 use std::marker::Model;
 use std::sync::{Arc, Wait};
 
-/// The most desks of an office.
-pub const MOST_DESKS: u64 = MOST_SEATS;
-
 // One place more than an order book has entries, so that the log never grows.
-const ROOM: usize = 1_000_001;
+const ROOM: usize = MOST_ENTRIES as usize + 1;
 
 /// An order desk, which one thread at a time makes calls with. Contracts see its office, its number, what it has seen of
 /// the order book's history, and its own entries; the last two have no bytes.
@@ -57,10 +55,10 @@ impl Office {
     /// An office with a shop's order book without an entry, and its desks, numbered from 1. Its
     /// history has places for all entries that the book can have.
     ///
-    /// Errors, in this order: `Desks` where the number of desks is 0 or over 64; `NoMemory` where
+    /// Errors, in this order: `Desks` where the number of desks is 0 or over `MOST_DESKS`; `NoMemory` where
     /// memory is refused.
     pub fn open(alloc: Global, shop: Shop, desks: u64) -> Result<(Office, Vec<Desk>), OfficeFault>
-        ensures accepted { OnOk result ((1 ≤ desks) × (desks ≤ 64)) }
+        ensures accepted { OnOk result ((1 ≤ desks) × (desks ≤ MOST_DESKS)) }
         ensures shop { IfOk result (λ r. r.0.about.object ≡ shop) }
         // As many desks as were asked for; the k-th has the number k, and has seen and called nothing.
         ensures asked { IfOk result (λ r. r.0.about.seats ≡ desks) }
@@ -197,7 +195,7 @@ impl Office {
         requires all { (n : ℕ) → 1 ≤ n → n ≤ self.about.seats → HasNumber desks.items n }
         ensures supply { result.supply ≡ supply_at self }
         ensures legal { IsLegal result.supply result.entries }
-        ensures few { length result.entries ≤ 1000000 }
+        ensures few { length result.entries ≤ MOST_ENTRIES }
         // What each desk has seen is the front of the history, and its own entries are all those under its number.
         ensures seen { All (λ d. StartsWith result.entries d.seen) desks.items }
         ensures mine { All (λ d. d.mine ≡ entries_by d.number result.entries) desks.items }

@@ -2,6 +2,7 @@
 use Rattle.std.specs.Prelude.{ℕ, ◌≡◌, ◌≢◌, ◌<◌, List, Result, Ok, Err, ⊤, length, slice_index}
 use Rattle.mrp_rows.specs.declared.fault.Fault.{Fault}
 use Rattle.mrp_rows.specs.declared.faults.TheConstants as faults
+use Rattle.mrp_tables.specs.declared.limits.TheConstants.{MOST_ITEMS}
 use Rattle.mrp_tables.specs.Tables.{Tables}
 use Rattle.mrp_bill.specs.Bill.{IsFirstLoop, NeedsItself}
 use Rattle.mrp_bill.specs.Shop.{Shop}
@@ -21,7 +22,7 @@ Closes f Write = ⊥
 
 -- the path of a loop begins at an item of a table
 abbrev pub BeginsWithin : BillFault → Type 0
-BeginsWithin (bill.Loop path) = (0 < length path.items) × (slice_index path.items 0 < 20000)
+BeginsWithin (bill.Loop path) = (0 < length path.items) × (slice_index path.items 0 < MOST_ITEMS)
 BeginsWithin bill.NoMemory = ⊤
 
 -- the shop of tables in which no item needs itself, or the loop; or memory was refused

@@ -13,4 +13,4 @@ mod script;
 mod writing;
 
 pub use fault::DayFault;
-pub use run::run_day;
+pub use run::{MOST_WORKERS, run_day};

@@ -10,6 +10,7 @@ use mrp_bill::{Bill, BillFault, Shop};
 use mrp_rows::faults::{LOOP, NO_MEMORY};
 use mrp_rows::{Fault, Table, split_bundle};
 use mrp_tables::Tables;
+use mrp_tables::limits::MOST_ITEMS;
 use std::alloc::Global;
 
 // Why a day is refused: the bundle's fault, or want of memory.
@@ -26,7 +27,7 @@ fn refusal(fault: Fault) -> DayFault
 // The fault of a loop, by its path.
 fn loop_at(path: &[usize]) -> Fault
     requires some { 0 < length path.now }
-    requires within { slice_index path.now 0 < 20000 }
+    requires within { slice_index path.now 0 < MOST_ITEMS }
     ensures { result ≡ loop_fault (slice_index path.now 0) }
 {
     Fault {

@@ -21,11 +21,14 @@ use crate::writing::write_day;
 use mrp_bill::Shop;
 use mrp_item::ShopRows;
 use mrp_qty::NoMemory;
-use mrp_rows::Told;
+use mrp_rows::{Told, WRITE_TRIES};
 use std::alloc::Global;
 use std::io::{Read, Write};
 use std::sync::Arc;
 use std::thread::Threads;
+
+/// The most workers of a day.
+pub const MOST_WORKERS: u64 = 64;
 
 // The rows of a shop.
 fn rows_of(alloc: Global, shop: &Arc<Shop>) -> Result<Arc<ShopRows>, NoMemory>
@@ -68,7 +71,7 @@ pub fn run_day<R: Read, W: Write>(
     writer: &mut Told<W>,
     workers: usize,
 ) -> Result<(), DayFault>
-    requires workers { IsInRange 1 64 workers }
+    requires workers { IsInRange 1 MOST_WORKERS workers }
 
     // The text of the day of the bundle that was read was written.
     ensures day { OnOk result ((text : List ℕ) × TellsDay (R.remaining (inner_of reader.old)) text × HasTakenAll W.contents writer.old writer.new text) }
@@ -77,7 +80,7 @@ pub fn run_day<R: Read, W: Write>(
 
     ensures read { result ≡ Err DayFault.Read → HasPassedLimits reader.old reader.new }
     ensures write { result ≡ Err DayFault.Write → WritesDayFront W.contents (R.remaining (inner_of reader.old)) writer.old writer.new }
-    ensures gave_up { result ≡ Err DayFault.Write → HasGivenUp writer.old writer.new 1000000 }
+    ensures gave_up { result ≡ Err DayFault.Write → HasGivenUp writer.old writer.new WRITE_TRIES }
     ensures memory { result ≡ Err DayFault.NoMemory → (writer.new ≡ writer.old)
         ⊎ (IsAtEnd (R.remaining (inner_of reader.new)) × WritesDayFront W.contents (R.remaining (inner_of reader.old)) writer.old writer.new) }
 

@@ -11,6 +11,7 @@ ghost use Rattle.mrp_engine.specs.Script.{call_of, is_run};
 use mrp_bill::Shop;
 use mrp_book::{Book, Call, History, Line, Refused, Spot, Wish};
 use mrp_qty::NoMemory;
+use mrp_tables::limits::{MOST_DESKS, MOST_ENTRIES};
 use mrp_tables::{ScriptCall, ScriptRow};
 use std::alloc::Global;
 
@@ -47,9 +48,9 @@ fn has_run(script: &[ScriptRow]) -> bool
 
 // Makes one more entry of a book that is not full.
 fn answer(alloc: Global, book: &mut Book, desk: u64, call: Call) -> Result<(), NoMemory>
-    requires desk { IsInRange 1 64 desk }
+    requires desk { IsInRange 1 MOST_DESKS desk }
     requires fits { Fits book.old.supply call }
-    requires room { length book.old.entries < 1000000 }
+    requires room { length book.old.entries < MOST_ENTRIES }
     ensures supply { OnOk result (book.new.supply ≡ book.old.supply) }
     ensures asked { OnOk result (asked book.new.entries ≡ asked book.old.entries ++ (desk, call) ∷ []) }
 {

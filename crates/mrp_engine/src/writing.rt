@@ -10,7 +10,7 @@ use crate::day::Day;
 use crate::fault::DayFault;
 use mrp_item::Plan;
 use mrp_report::{write_history, write_report};
-use mrp_rows::Told;
+use mrp_rows::{Told, WRITE_TRIES};
 use std::alloc::Global;
 use std::io::Write;
 
@@ -23,7 +23,7 @@ fn write_reports<W: Write>(
 ) -> Result<(), DayFault>
     ensures whole { OnOk result (HasTakenAll W.contents writer.old writer.new (flat_map report_text (inputs_of_plans plans.now))) }
     ensures front { OnErr result (HasTakenFront W.contents writer.old writer.new (flat_map report_text (inputs_of_plans plans.now))) }
-    ensures gave_up { result ≡ Err DayFault.Write → HasGivenUp writer.old writer.new 1000000 }
+    ensures gave_up { result ≡ Err DayFault.Write → HasGivenUp writer.old writer.new WRITE_TRIES }
     ensures writing { IfErr result IsWhileWriting }
 {
     for plan in plans {
@@ -42,7 +42,7 @@ fn write_texts<W: Write>(
     requires { IsPlanned day.now }
     ensures whole { OnOk result (HasTakenAll W.contents writer.old writer.new (text_of day.now)) }
     ensures front { OnErr result (HasTakenFront W.contents writer.old writer.new (text_of day.now)) }
-    ensures gave_up { result ≡ Err DayFault.Write → HasGivenUp writer.old writer.new 1000000 }
+    ensures gave_up { result ≡ Err DayFault.Write → HasGivenUp writer.old writer.new WRITE_TRIES }
     ensures writing { IfErr result IsWhileWriting }
 {
     write_history(alloc, &day.history, &day.shop, writer)?;
@@ -63,7 +63,7 @@ pub fn write_day<W: Write>(
     requires { IsPlanned day }
     ensures whole { OnOk result (HasTakenAll W.contents writer.old writer.new (text_of day)) }
     ensures front { OnErr result (HasTakenFront W.contents writer.old writer.new (text_of day)) }
-    ensures gave_up { result ≡ Err DayFault.Write → HasGivenUp writer.old writer.new 1000000 }
+    ensures gave_up { result ≡ Err DayFault.Write → HasGivenUp writer.old writer.new WRITE_TRIES }
     ensures writing { IfErr result IsWhileWriting }
 {
     write_texts(rt, alloc, &day, writer)

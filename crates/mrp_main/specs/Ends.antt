@@ -3,6 +3,7 @@ use Rattle.std.specs.Prelude.{ℕ, ◌≡◌, ◌⊎◌, List, [], ◌∷◌, �
 use Rattle.mrp_rows.specs.FaultText.{text_of_fault}
 use Rattle.mrp_rows.specs.declared.fault.Fault.{Fault}
 use Rattle.mrp_rows.specs.declared.told.Told.{Told}
+use Rattle.mrp_rows.specs.declared.streams.TheConstants.{WRITE_TRIES}
 use Rattle.mrp_rows.specs.Told.{inner_of}
 use Rattle.mrp_report.specs.Written.{HasGivenUp, HasTakenFront, HasTakenWhole}
 use Rattle.mrp_engine.specs.Day.{IsRefused, IsTooLarge}
@@ -35,12 +36,12 @@ PlanEnds remaining contents input read output written (Usage text) = ⊥
 PlanEnds remaining contents input read output written NoMemory = (written ≡ output) ⊎ WritesDayFront contents (remaining (inner_of input)) output written
 PlanEnds remaining contents input read output written Read = HasPassedLimits input read × (written ≡ output)
 PlanEnds remaining contents input read output written Write =
-    HasGivenUp output written 1000000 × WritesDayFront contents (remaining (inner_of input)) output written
+    HasGivenUp output written WRITE_TRIES × WritesDayFront contents (remaining (inner_of input)) output written
 
 -- how help ends: it was written, or a front of it
 abbrev pub HelpEnds : {W : Type 0} → (W → Option (List ℕ)) → Told W → Told W → List ℕ → Ending → Type 0
 HelpEnds contents output written help Done = HasTakenWhole contents output written help
-HelpEnds contents output written help Write = HasGivenUp output written 1000000 × HasTakenFront contents output written help
+HelpEnds contents output written help Write = HasGivenUp output written WRITE_TRIES × HasTakenFront contents output written help
 HelpEnds contents output written help _ = ⊥
 
 -- how a command ends, by what its words ask for: what asks for no plan leaves the input as it was
@@ -76,7 +77,7 @@ words_of Write = codes "write failed" ++ 10 ∷ []
 
 -- a stream was told a text: it took it whole, or gave up with a front of it
 abbrev pub WasTold : {E : Type 0} → (E → Option (List ℕ)) → Told E → Told E → List ℕ → Type 0
-WasTold contents old new text = HasTakenAll contents old new text ⊎ (HasGivenUp old new 1000000 × HasTakenFront contents old new text)
+WasTold contents old new text = HasTakenAll contents old new text ⊎ (HasGivenUp old new WRITE_TRIES × HasTakenFront contents old new text)
 
 -- a command was done: what its words ask for, how it ended, with what status, and what was told of it
 pub record IsDone {R W E : Type 0} (remaining : R → Option (List ℕ)) (contents : W → Option (List ℕ)) (heard : E → Option (List ℕ)) (words : List (List ℕ))

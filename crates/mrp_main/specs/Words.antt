@@ -9,19 +9,20 @@ use Rattle.clap.specs.declared.builder.action.ArgAction.TheVariants.{Set}
 use Rattle.clap.specs.declared.builder.value_parser.ValueParser.TheVariants.{Unsigned}
 use Rattle.clap.specs.declared.error.kind.ErrorKind.{ErrorKind}
 use Rattle.clap.specs.declared.error.kind.ErrorKind.TheVariants.{DisplayHelp, DisplayVersion, OutOfMemory}
+use Rattle.mrp_engine.specs.declared.run.TheConstants.{MOST_WORKERS}
 use Rattle.mrp_main.specs.declared.command.Request.{Request}
 use Rattle.mrp_main.specs.declared.command.Request.TheVariants.{Plan}
 use Rattle.mrp_main.specs.declared.command.NoRequest.{NoRequest}
 use Rattle.mrp_main.specs.declared.command.NoRequest.TheVariants.{Help, Usage, NoMemory}
 
--- `--workers N`, a number from 1 to 64, or 1 where it is left out
+-- `--workers N`, a number from 1 to `MOST_WORKERS`, or 1 where it is left out
 abbrev pub workers_rule : Rule
 workers_rule = record (new_rule (codes "workers")) {
   long = Some (codes "workers");
   action = Some Set;
   value_names = 1;
   defaults = codes "1" ∷ [];
-  parser = Some (Unsigned 1 64);
+  parser = Some (Unsigned 1 MOST_WORKERS);
 }
 
 -- `plan`
@@ -49,9 +50,9 @@ AskForHelp words = (kind : ErrorKind) × IsAmong kind (refusals words) × IsAnsw
 abbrev pub AreWrong : List Text → Type 0
 AreWrong words = (kind : ErrorKind) × IsAmong kind (refusals words) × (IsAnswer kind → ⊥)
 
--- 1 to 64 workers
+-- 1 to `MOST_WORKERS` workers
 abbrev pub HasWorkers : Request → Type 0
-HasWorkers (Plan workers) = IsInRange 1 64 workers
+HasWorkers (Plan workers) = IsInRange 1 MOST_WORKERS workers
 
 -- what an error of clap's asks for, by its kind
 abbrev pub IsOfKind : ErrorKind → NoRequest → Type 0

@@ -9,6 +9,7 @@ ghost use Rattle.mrp_main.specs.Words.{Asks, HasWorkers, IsOfKind, mrp_command, 
 use clap::builder::ValueParser;
 use clap::error::ErrorKind;
 use clap::{Arg, ArgAction, ArgMatches, Command, Error};
+use mrp_engine::MOST_WORKERS;
 use std::alloc::{AllocError, Global};
 use std::convert::AsStr;
 
@@ -76,7 +77,7 @@ fn workers<'a>(alloc: Global) -> Arg<'a>
         .action(ArgAction::Set)
         .default_value("1")
         .help(ABOUT_WORKERS)
-        .value_parser(ValueParser::Unsigned(1, 64))
+        .value_parser(ValueParser::Unsigned(1, MOST_WORKERS))
 }
 
 fn command<'a>(alloc: Global) -> Result<Command<'a>, AllocError>
@@ -119,7 +120,7 @@ fn request_of(matches: &ArgMatches<'_>) -> Request
         None => None,
     };
     match asked {
-        Some(workers) if (1..=64).contains(&workers) => Request::Plan {
+        Some(workers) if (1..=MOST_WORKERS).contains(&workers) => Request::Plan {
             workers: workers as usize,
         },
         _ => Request::Plan { workers: 1 },

@@ -7,7 +7,7 @@ ghost use Rattle.mrp_engine.specs.Run.{HasTakenAll};
 use crate::status::Status;
 use mrp_engine::DayFault;
 use mrp_qty::NoMemory;
-use mrp_rows::{Name, Told, Tries, WriteFault, fault_text, write_text};
+use mrp_rows::{Name, Told, Tries, WRITE_TRIES, WriteFault, fault_text, write_text};
 use std::alloc::Global;
 use std::io::Write;
 
@@ -34,7 +34,7 @@ pub enum Ending {
 fn write_whole<E: Write>(errors: &mut Told<E>, text: &[u8]) -> Result<(), WriteFault>
     ensures whole { OnOk result (HasTakenAll E.contents errors.old errors.new text.now) }
     ensures front { OnErr result (HasTakenFront E.contents errors.old errors.new text.now) }
-    ensures gave_up { OnErr result (HasGivenUp errors.old errors.new 1000000) }
+    ensures gave_up { OnErr result (HasGivenUp errors.old errors.new WRITE_TRIES) }
 {
     write_text(errors, text, &mut Tries::new())
 }
@@ -43,7 +43,7 @@ fn write_whole<E: Write>(errors: &mut Told<E>, text: &[u8]) -> Result<(), WriteF
 fn write_line<E: Write>(errors: &mut Told<E>, head: &[u8], rest: &[u8]) -> Result<(), WriteFault>
     ensures whole { OnOk result (HasTakenAll E.contents errors.old errors.new (head.now ++ rest.now ++ 10 ∷ [])) }
     ensures front { OnErr result (HasTakenFront E.contents errors.old errors.new (head.now ++ rest.now ++ 10 ∷ [])) }
-    ensures gave_up { OnErr result (HasGivenUp errors.old errors.new 1000000) }
+    ensures gave_up { OnErr result (HasGivenUp errors.old errors.new WRITE_TRIES) }
 {
     write_whole(errors, head)?;
     write_whole(errors, rest)?;
@@ -109,7 +109,7 @@ impl Ending {
     pub fn tell<E: Write>(&self, errors: &mut Told<E>) -> Result<(), WriteFault>
         ensures whole { OnOk result (HasTakenAll E.contents errors.old errors.new (words_of self.now)) }
         ensures front { OnErr result (HasTakenFront E.contents errors.old errors.new (words_of self.now)) }
-        ensures gave_up { OnErr result (HasGivenUp errors.old errors.new 1000000) }
+        ensures gave_up { OnErr result (HasGivenUp errors.old errors.new WRITE_TRIES) }
     {
         match self {
             Ending::Done => Ok(()),

@@ -1,6 +1,7 @@
 -- An item's supply and bookings, week by week, and its buckets (APICS Dictionary: available-to-promise; profile: its exact rules).
 use Rattle.std.specs.Prelude.{ℕ, zero, suc, ◌≡◌, ◌≤◌, ◌+◌, ◌-◌, ◌==◌, ◌&&◌, if◌then◌else◌, List, [], Option, All, length, sum_by}
 use Rattle.std.specs.List.{slice_index_or}
+use Rattle.mrp_cal.specs.declared.calendar.TheConstants.{MOST_WEEKS}
 use Rattle.mrp_phase.specs.Weeks.{in_week, row, sum_to, with_week}
 use Rattle.mrp_master.specs.declared.line.Line.{Line}
 use Rattle.mrp_master.specs.Promising.{Covers, IsGreatest, IsLeastWeek}
@@ -71,6 +72,6 @@ atp_row s item lines = record { supply = row s.weeks (opening s item); booked = 
 
 -- what every row keeps
 pub record IsAtpRow (r : AtpRow) : Type 0 where
-  pub weeks : length r.supply ≤ 104
+  pub weeks : length r.supply ≤ MOST_WEEKS
   pub same : length r.booked ≡ length r.supply
   pub covered : IsCoveredRow r

@@ -3,6 +3,7 @@ use Rattle.std.specs.Prelude.{ℕ, ◌==◌, ◌&&◌, not, if◌then◌else◌,
 use Rattle.std.specs.Int.{IsInRange}
 use Rattle.mrp_tables.specs.Items.{is_master_at}
 use Rattle.mrp_tables.specs.Tables.{Tables}
+use Rattle.mrp_tables.specs.declared.limits.TheConstants.{MOST_PIECES}
 use Rattle.mrp_master.specs.declared.line.Line.{Line}
 use Rattle.mrp_master.specs.declared.line.Spot.{Spot}
 use Rattle.mrp_master.specs.declared.line.Wish.{Wish}
@@ -12,7 +13,7 @@ use Rattle.mrp_master.specs.Supply.{Supply, IsMaster, IsWeek}
 
 -- a number of pieces that can be booked or wished for at once
 abbrev pub IsBookable : ℕ → Type 0
-IsBookable quantity = IsInRange 1 1000000000 quantity
+IsBookable quantity = IsInRange 1 MOST_PIECES quantity
 
 -- what holds of every line, spot and wish of a shop: a master item, a week of the horizon, pieces that can be booked
 pub record IsLine (s : Supply) (l : Line) : Type 0 where
@@ -43,7 +44,7 @@ in_horizon t week answer = if nat_le 1 week && nat_le week t.calendar.weeks then
 abbrev pub of_pieces : {X : Type 0} → ℕ → Result X LineFault → Result X LineFault
 of_pieces quantity answer =
     if quantity == 0 then Err ZeroQuantity
-    else if not (nat_le quantity 1000000000) then Err TooLarge
+    else if not (nat_le quantity MOST_PIECES) then Err TooLarge
     else answer
 
 -- the line, or the first fault that it has

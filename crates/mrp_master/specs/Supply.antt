@@ -1,6 +1,7 @@
 -- Supply, cover, and what is available to promise (APICS Dictionary: available-to-promise; profile: its exact rules).
 use Rattle.std.specs.Prelude.{ℕ, zero, suc, ◌≡◌, ◌≤◌, ◌+◌, ◌-◌, ◌==◌, ◌&&◌, Bool, true, false, IsTrue, if◌then◌else◌, min, nat_le, Option, List, [], ◌∷◌, ◌++◌, All, map, filter, sum_by, length}
 use Rattle.std.specs.List.{slice_index_or, range_with_len}
+use Rattle.mrp_cal.specs.declared.calendar.TheConstants.{MOST_WEEKS}
 use Rattle.mrp_qty.specs.Quantity.{greatest_quantity}
 use Rattle.mrp_tables.specs.declared.rows.MasterRow.{MasterRow}
 use Rattle.mrp_tables.specs.declared.rows.StockRow.{StockRow}
@@ -90,6 +91,6 @@ supply_of t = record {
 -- what the supply of a shop keeps: weeks of a horizon, firm rows in them, and no sum past the greatest quantity
 pub record IsSupply (s : Supply) : Type 0 where
   pub first : 1 ≤ s.weeks
-  pub last : s.weeks ≤ 104
+  pub last : s.weeks ≤ MOST_WEEKS
   pub inside : (item : ℕ) → All (λ l. IsWeek s l.week) (slice_index_or s.firm item [])
   pub little : (item week : ℕ) → supply s item week ≤ greatest_quantity

@@ -6,6 +6,7 @@ ghost use Rattle.mrp_phase.specs.Weeks.{row, sum_to};
 ghost use Rattle.mrp_master.specs.Buckets.{AreCarried, AreInOrder, AreWithin, IsFirstReaching, left_in, left_to, opened, row_of};
 
 use crate::supply::quantity;
+use mrp_cal::MOST_WEEKS;
 use mrp_qty::{NoMemory, Qty};
 use std::alloc::Global;
 
@@ -20,7 +21,7 @@ pub struct Bucket {
 // A bucket for week 1 and for each week in which something comes in, nothing taken yet.
 pub fn open_buckets(alloc: Global, openings: &[Qty]) -> Result<Vec<Bucket>, NoMemory>
     requires some { 0 < length openings.now }
-    requires weeks { length openings.now ≤ 104 }
+    requires weeks { length openings.now ≤ MOST_WEEKS }
     ensures order { IfOk result (λ bs. AreInOrder bs.items) }
     ensures within { IfOk result (λ bs. AreWithin (length openings.now) bs.items) }
     ensures opened { IfOk result (λ bs. row (length openings.now) (opened bs.items) ≡ openings.now) }

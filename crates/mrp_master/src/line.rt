@@ -7,10 +7,8 @@ ghost use Rattle.mrp_master.specs.Supply.{supply_of};
 use mrp_bill::Shop;
 use mrp_qty::Qty;
 use mrp_tables::Tables;
+use mrp_tables::limits::MOST_PIECES;
 use thiserror::Error;
-
-// The most pieces of a line.
-const MOST_PIECES: u64 = 1_000_000_000;
 
 /// A quantity of an item that is due in a week.
 #[derive(Clone, Copy, Debug, PartialEq, Eq)]

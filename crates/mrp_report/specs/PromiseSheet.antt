@@ -1,5 +1,6 @@
 -- A master item's weeks, as its rows of promises are made of them.
 use Rattle.std.specs.Prelude.{ℕ, ◌≡◌, ◌≤◌, ◌-◌, ◌*◌, length}
+use Rattle.mrp_cal.specs.declared.calendar.TheConstants.{MOST_WEEKS}
 use Rattle.mrp_qty.specs.Quantity.{greatest_quantity}
 use Rattle.mrp_phase.specs.Weeks.{in_week, sum_to}
 use Rattle.mrp_master.specs.AtpRow.{AtpRow, bucket, buckets_to}
@@ -9,7 +10,7 @@ use Rattle.mrp_master.specs.Supply.{least_from}
 
 -- a sheet of at most two years, with a firm quantity, a supply and bookings for each week
 pub record IsPromiseSheet (s : PromiseSheet) : Type 0 where
-  pub few : s.weeks ≤ 104
+  pub few : s.weeks ≤ MOST_WEEKS
   pub firm : length s.firm.now ≡ s.weeks
   pub supply : length s.row.now.supply ≡ s.weeks
   pub booked : length s.row.now.booked ≡ s.weeks

@@ -1,5 +1,7 @@
 -- An item's weeks, as its rows are made of them.
 use Rattle.std.specs.Prelude.{ℕ, ◌≡◌, ◌≤◌, ◌+◌, ◌-◌, ◌*◌, if◌then◌else◌, length}
+use Rattle.mrp_cal.specs.declared.calendar.TheConstants.{MOST_WEEKS}
+use Rattle.mrp_qty.specs.Quantity.{greatest_quantity}
 use Rattle.mrp_phase.specs.Weeks.{in_week, sum_to}
 use Rattle.mrp_report.specs.declared.plan.PlanRow.{PlanRow}
 use Rattle.mrp_report.specs.declared.sheet.Sheet.{Sheet}
@@ -7,7 +9,7 @@ use Rattle.mrp_report.specs.declared.sheet.Sums.{Sums}
 
 -- a sheet of at most two years, with a quantity of each kind for each week
 pub record IsSheet (s : Sheet) : Type 0 where
-  pub few : s.weeks ≤ 104
+  pub few : s.weeks ≤ MOST_WEEKS
   pub gross : length s.gross.now ≡ s.weeks
   pub scheduled : length s.scheduled.now ≡ s.weeks
   pub received : length s.received.now ≡ s.weeks
@@ -30,6 +32,6 @@ pub record AreSums (s : Sheet) (week : ℕ) (sums : Sums) : Type 0 where
   pub supplied : sums.supplied ≡ s.on_hand + sum_to s.scheduled.now week
   pub required : sums.required ≡ sum_to s.gross.now week
   pub received : sums.received ≡ in_week s.received.now week
-  pub little : sums.supplied ≤ (week + 1) * 1000000000000000
-  pub few : sums.required ≤ week * 1000000000000000
-  pub small : sums.received ≤ 1000000000000000
+  pub little : sums.supplied ≤ (week + 1) * greatest_quantity
+  pub few : sums.required ≤ week * greatest_quantity
+  pub small : sums.received ≤ greatest_quantity

@@ -3,6 +3,7 @@ use Rattle.std.specs.Prelude.{ℕ, ◌≡◌, ◌≤◌, ◌+◌, ◌++◌, ◌�
 use Rattle.std.specs.Io.KnownBytes.{Appends}
 use Rattle.mrp_rows.specs.declared.told.Told.{Told}
 use Rattle.mrp_rows.specs.Told.{inner_of, failures_of, interrupted_of, HasRisenBy}
+use Rattle.mrp_rows.specs.declared.streams.TheConstants.{WRITE_TRIES}
 use Rattle.mrp_rows.specs.Streams.{RisesBy, WritesFront}
 
 -- a writer took a text whole: it didn't fail, and that many interrupted writes were tried again
@@ -28,4 +29,4 @@ pub record PassesOn {W : Type 0} (contents : W → Option (List ℕ)) (old new :
 
 -- a writer took a text whole, within the tries of one call
 abbrev pub HasTakenWhole : {W : Type 0} → (W → Option (List ℕ)) → Told W → Told W → List ℕ → Type 0
-HasTakenWhole contents old new text = (retried : ℕ) × (retried ≤ 1000000) × HasTaken contents old new text retried
+HasTakenWhole contents old new text = (retried : ℕ) × (retried ≤ WRITE_TRIES) × HasTaken contents old new text retried

@@ -4,6 +4,7 @@ ghost use Rattle.mrp_turn.specs.Rule.{seen_of, mine_of, account, alone, live};
 
 use crate::log::Held;
 use crate::object::Object;
+use crate::turn::MOST_SEATS;
 use crate::views::{About, View};
 use std::marker::Model;
 use std::snapshot::Snapshot;
@@ -28,6 +29,7 @@ impl<O: Object> Model for Seat<O> {
     ghost use Rattle.std.specs.Prelude.{◌≡◌, ℕ, ◌≤◌, List, []};
     ghost use Rattle.mrp_turn.specs.Seen.{TurnId, Seated};
     ghost use Rattle.mrp_turn.specs.Rule.{seen_of, mine_of, account, alone, live};
+    ghost use Rattle.mrp_turn.specs.declared.turn.TheConstants.{MOST_SEATS};
 
     ghost Value = { Seated O O.Call O.Reply };
 
@@ -38,14 +40,14 @@ impl<O: Object> Model for Seat<O> {
       mine = mine_of s.place.me.0;
     } };
 
-    ghost invariant = { λ s. (1 ≤ s.number) × (s.number ≤ 64)
+    ghost invariant = { λ s. (1 ≤ s.number) × (s.number ≤ MOST_SEATS)
         × (s.place.me ≡ (live (alone s.about.value (account s.number (seen_of s.place.me.0) (mine_of s.place.me.0))), [])) };
 }
 
 impl<O: Object> Seat<O> {
     // The seat with this number over the place.
     pub(crate) fn at(number: u64, about: &About<O>, place: Place<O>) -> Seat<O>
-        requires number { (1 ≤ number) × (number ≤ 64) }
+        requires number { (1 ≤ number) × (number ≤ MOST_SEATS) }
         requires view { place.me
             ≡ (live (alone about.now (account number (seen_of place.me.0) (mine_of place.me.0))), []) }
         ensures turn { (result.turn.table ≡ place.table_id)

@@ -66,13 +66,14 @@ pub struct Turn<O: Object> {
 impl<O: Object> Model for Turn<O> {
     ghost use Rattle.std.specs.Prelude.{◌≡◌, ℕ, ◌≤◌};
     ghost use Rattle.mrp_turn.specs.Seen.{TurnId};
+    ghost use Rattle.mrp_turn.specs.declared.turn.TheConstants.{MOST_SEATS};
 
     ghost Value = { TurnId O };
 
     ghost view = { λ t. record { table = t.table.shared.table_id; about = t.about } };
 
     ghost invariant = { λ t. (t.table.shared.table_id.words ≡ 1) × (t.table.shared.table_id.slots ≡ 1)
-        × (t.table.shared.key ≡ t.about) × (1 ≤ t.about.seats) × (t.about.seats ≤ 64) };
+        × (t.table.shared.key ≡ t.about) × (1 ≤ t.about.seats) × (t.about.seats ≤ MOST_SEATS) };
 }
 
 impl<O: Object> Turn<O> {
@@ -87,7 +88,7 @@ impl<O: Object> Turn<O> {
     /// A turn over the object, and its seats, numbered from 1. The log has places for `room` entries, and takes no memory
     /// until it has more. The caller owes a state that the object opens with.
     ///
-    /// Errors, in this order: `Seats` where the number of seats is 0 or over 64; `NoMemory` where memory is refused.
+    /// Errors, in this order: `Seats` where the number of seats is 0 or over `MOST_SEATS`; `NoMemory` where memory is refused.
     pub fn new(
         alloc: Global,
         object: O,
@@ -96,7 +97,7 @@ impl<O: Object> Turn<O> {
         seats: u64,
     ) -> Result<(Turn<O>, Vec<Seat<O>>), TurnFault>
         requires { O.opens object state }
-        ensures accepted { OnOk result ((1 ≤ seats) × (seats ≤ 64)) }
+        ensures accepted { OnOk result ((1 ≤ seats) × (seats ≤ MOST_SEATS)) }
         ensures about { IfOk result
             (λ r. r.0.about ≡ record { object = object; seats = seats; room = room }) }
         // As many seats as were asked for; the k-th has the number k, and has seen and called nothing.
@@ -136,7 +137,7 @@ impl<O: Object> Turn<O> {
         state: O::State,
     ) -> Result<(Turn<O>, Place<O>), AllocError>
         requires opened { O.opens about.object state }
-        requires seats { (1 ≤ about.seats) × (about.seats ≤ 64) }
+        requires seats { (1 ≤ about.seats) × (about.seats ≤ MOST_SEATS) }
         ensures { IfOk result (λ r. (r.0.about ≡ about)
             × (r.1.table_id ≡ r.0.table) × (r.1.me ≡ (starting about, []))) }
     {
@@ -249,7 +250,7 @@ impl<O: Object> Turn<O> {
         call: O::Call,
     ) -> Result<(u64, O::Reply), CallFault<O::Refused>>
         requires turn { place.old.table_id ≡ self.now.table }
-        requires seat { IsAt self.now.about number place.old.me × (1 ≤ number) × (number ≤ 64) }
+        requires seat { IsAt self.now.about number place.old.me × (1 ≤ number) × (number ≤ MOST_SEATS) }
         requires call { O.fits self.now.about.object call }
         ensures same { place.new.table_id ≡ place.old.table_id }
         ensures told { RunTells
@@ -362,7 +363,7 @@ fn answer<O: Object>(
     call: O::Call,
 ) -> Result<(u64, O::Reply), CallFault<O::Refused>>
     requires call { O.fits object.now call }
-    requires who { (1 ≤ who) × (who ≤ 64) }
+    requires who { (1 ≤ who) × (who ≤ MOST_SEATS) }
     requires state { IsReached (O.answers object.now) (O.opens object.now) held.old.state }
     ensures room { vec_capacity held.old.log ≤ vec_capacity held.new.log }
     ensures answer { MatchResult result
