@@ -6,9 +6,6 @@ mod fault;
 pub mod laws;
 mod needs;
 mod stock;
-#[cfg(test)]
-mod tests;
-
 pub use balances::balance_row;
 pub use fault::NetFault;
 pub use needs::{NeedRow, need};
