@@ -1,6 +1,6 @@
 //! Needs, and balances at the end of each week.
 
-use super::weeks::{has_row, row_of};
+use super::weeks::{has_row, of_one_length, row_of};
 use super::{MOST, pieces, same};
 use mrp_net::{NetFault, Stock, balance_row, need};
 use mrp_phase::Weeks;
@@ -70,8 +70,8 @@ fn is_netted(
     receipts: &Weeks<Qty>,
     item: &Worked,
 ) {
-    assert_eq!(rt; stock.scheduled.weeks(), gross.weeks());
-    assert_eq!(rt; receipts.weeks(), gross.weeks());
+    of_one_length(rt, &stock.scheduled, gross);
+    of_one_length(rt, receipts, gross);
     let needs = need(alloc, gross, stock).expect(rt, "needs");
     same(
         rt,
@@ -113,8 +113,8 @@ fn is_refused(
     receipts: &Weeks<Qty>,
     item: &Refused,
 ) {
-    assert_eq!(rt; stock.scheduled.weeks(), gross.weeks());
-    assert_eq!(rt; receipts.weeks(), gross.weeks());
+    of_one_length(rt, &stock.scheduled, gross);
+    of_one_length(rt, receipts, gross);
     same(rt, need(alloc, gross, stock).err(), item.needs);
     let balances = balance_row(alloc, gross, stock, receipts);
     same(rt, balances.err(), item.balances);
