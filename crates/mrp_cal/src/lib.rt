@@ -10,6 +10,3 @@ pub mod laws;
 pub use calendar::{Calendar, MOST_WEEKS};
 pub use date_text::read_date;
 pub use fault::CalFault;
-
-#[cfg(test)]
-mod tests;

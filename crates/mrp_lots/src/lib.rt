@@ -4,8 +4,5 @@
 pub mod laws;
 mod lot;
 mod sizing;
-#[cfg(test)]
-mod tests;
-
 pub use lot::{Fixed, Lot, LotForLot, Period};
 pub use sizing::receipts;

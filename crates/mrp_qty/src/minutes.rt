@@ -68,37 +68,3 @@ pub fn minutes_text(alloc: Global, time: Milli) -> Result<String, NoMemory>
     text.push(digit(thousandths % 10))?;
     Ok(text)
 }
-
-#[cfg(test)]
-mod tests {
-    use super::*;
-    use std::test::Fail;
-
-    #[test]
-    fn a_time_is_written_in_minutes_with_three_decimals(rt: HostRuntime) -> Result<(), Fail> {
-        let texts = [
-            (0, "0.000"),
-            (5, "0.005"),
-            (87_500, "87.500"),
-            (175_000, "175.000"),
-            (1_234_567, "1234.567"),
-            (18_446_744_073_709_551_616, "18446744073709551.616"),
-            (
-                100_000_000_000_000_000_000_123_456,
-                "100000000000000000000123.456",
-            ),
-            (u128::MAX, "340282366920938463463374607431768211.455"),
-        ];
-        for (thousandths, want) in texts {
-            let text = minutes_text(rt.alloc(), Milli::new(thousandths))?;
-            assert_eq!(rt; text.as_str(), want);
-        }
-        Ok(())
-    }
-
-    #[test]
-    fn a_time_is_its_thousandths(rt: HostRuntime) {
-        assert_eq!(rt; Milli::new(u128::MAX).value(), u128::MAX);
-        assert!(rt; Milli::new(999) < Milli::new(1000));
-    }
-}

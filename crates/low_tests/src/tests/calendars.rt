@@ -1,5 +1,6 @@
 //! Dates, and calendars with their weeks and shop days.
 
+ghost use Rattle.std.specs.Prelude.{◌≡◌};
 ghost use Rattle.mrp_cal.specs.DateText.{IsPlanningYear};
 
 use super::same;
@@ -154,9 +155,16 @@ fn with_holidays(rt: &impl Abort, alloc: Global, workdays: [bool; 7]) -> Calenda
     Calendar::new(date(rt, b"2025-01-06"), 6, workdays, &holidays).expect(rt, "a calendar")
 }
 
+// Fails unless a calendar has six weeks.
+fn has_six_weeks(rt: &impl Abort, calendar: &Calendar)
+    ensures { calendar.now.weeks ≡ 6 }
+{
+    assert!(rt; calendar.weeks() == 6);
+}
+
 // Fails unless the weeks of a calendar have so many shop days.
 fn has_shop_days(rt: &impl Abort, calendar: &Calendar, want: &[u8; 6]) {
-    assert_eq!(rt; calendar.weeks(), 6);
+    has_six_weeks(rt, calendar);
     for week in 1..7 {
         same(rt, calendar.shop_days(week), want[usize::from(week) - 1]);
     }
@@ -189,7 +197,7 @@ const MONDAYS: [&[u8]; 6] = [
 #[test]
 fn weeks_begin_on_mondays(rt: HostRuntime) {
     let calendar = calendar(&rt, b"2025-01-06", 6);
-    assert_eq!(rt; calendar.weeks(), 6);
+    has_six_weeks(&rt, &calendar);
     for week in 1..7 {
         let want = date(&rt, MONDAYS[usize::from(week) - 1]);
         same(&rt, calendar.first_day(week), want);

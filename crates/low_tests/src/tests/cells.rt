@@ -2,7 +2,7 @@
 
 ghost use Rattle.std.specs.Prelude.{◌≡◌, length};
 
-use super::cursors::stock_of;
+use super::cursors::{next_row, stock_of};
 use super::same;
 use mrp_rows::{Cursor, Fault, Name, Row, Table, split_bundle};
 use std::alloc::Global;
@@ -12,11 +12,19 @@ use std::process::Abort;
 fn names_are_compared_and_shown_by_their_text(rt: HostRuntime) {
     let bike = Name::new(b"BIKE").expect(&rt, "a name");
     same(&rt, Name::new(b"BIKE"), Some(bike));
-    assert!(rt; Name::new(b"FRAME") != Some(bike));
-    assert!(rt; Name::new(b"bike") != Some(bike));
+    same(&rt, Name::new(b"FRAME") == Some(bike), false);
+    same(&rt, Name::new(b"bike") == Some(bike), false);
     same(&rt, bike.as_bytes(), b"BIKE".as_slice());
     let shown = format!(in rt.alloc(); "{bike:?}").expect(&rt, "memory");
     same(&rt, shown.as_str(), "Name(BIKE)");
+}
+
+// The second record of a bundle's stock.
+fn second_of(rt: &impl Abort, alloc: Global, bundle: &[u8]) -> Row {
+    let sections = split_bundle(bundle).expect(rt, "sections");
+    let mut cursor = Cursor::new(alloc, &sections, Table::Stock).expect(rt, "a header");
+    let _first = next_row(rt, &mut cursor);
+    next_row(rt, &mut cursor)
 }
 
 // The second record of a stock, whose last cell has this text.
@@ -24,12 +32,8 @@ fn row_of(rt: &impl Abort, alloc: Global, cell: &[u8]) -> Row
     ensures { length result.cells ≡ 2 }
 {
     let bundle = stock_of(rt, alloc, b"item,onhand\nFIRST,1\n2,", cell);
-    let sections = split_bundle(&bundle).expect(rt, "sections");
-    let mut cursor = Cursor::new(alloc, &sections, Table::Stock).expect(rt, "a header");
-    let _ = cursor.next();
-    let next = cursor.next().expect(rt, "no fault");
-    let row = next.expect(rt, "a second record");
-    assert_eq!(rt; row.cell_count(), 2);
+    let row = second_of(rt, alloc, &bundle);
+    assert!(rt; row.cell_count() == 2);
     row
 }
 
@@ -59,6 +63,17 @@ const OUT_OF_RANGE: Fault = Fault {
     code: 11,
     ..NOT_A_NAME
 };
+
+// What is read of a cell as a number within these limits.
+fn number_in(
+    rt: &impl Abort,
+    alloc: Global,
+    cell: &[u8],
+    least: u64,
+    most: u64,
+) -> Result<u64, Fault> {
+    row_of(rt, alloc, cell).number(1, least, most)
+}
 
 // A cell, the least and the greatest number, and what is read.
 const NUMBERS: &[(&[u8], u64, u64, Result<u64, Fault>)] = &[
@@ -100,16 +115,16 @@ const NUMBERS: &[(&[u8], u64, u64, Result<u64, Fault>)] = &[
 #[test]
 fn digits_within_limits_are_numbers(rt: HostRuntime) {
     for (cell, least, most, want) in NUMBERS {
-        let row = row_of(&rt, rt.alloc(), cell);
-        same(&rt, (*cell, row.number(1, *least, *most)), (*cell, *want));
+        let read = number_in(&rt, rt.alloc(), cell, *least, *most);
+        same(&rt, (*cell, read), (*cell, *want));
     }
 }
 
 #[test]
 fn a_number_of_five_thousand_digits_is_out_of_range(rt: HostRuntime) {
     let digits = vec![in rt.alloc(); b'9'; 5000].expect(&rt, "memory");
-    let row = row_of(&rt, rt.alloc(), digits.as_slice());
-    same(&rt, row.number(1, 0, u64::MAX), Err(OUT_OF_RANGE));
+    let read = number_in(&rt, rt.alloc(), digits.as_slice(), 0, u64::MAX);
+    same(&rt, read, Err(OUT_OF_RANGE));
 }
 
 // A cell, and the name in it.
@@ -150,9 +165,17 @@ fn is_name(rt: &impl Abort, got: Result<Name, Fault>, want: Option<&[u8]>) {
 #[test]
 fn names_are_short_printable_texts(rt: HostRuntime) {
     for (cell, want) in NAMES {
-        let row = row_of(&rt, rt.alloc(), cell);
-        is_name(&rt, row.name(1), *want);
+        is_name(&rt, row_of(&rt, rt.alloc(), cell).name(1), *want);
     }
+}
+
+// Fails unless a cell is read as this word of the lot rules, and as none of no words.
+fn is_word(rt: &impl Abort, row: &Row, cell: &[u8], want: Result<usize, Fault>)
+    requires { length row.now.cells ≡ 2 }
+{
+    let place = row.word(1, &["lfl", "fixed", "period"]);
+    same(rt, (cell, place), (cell, want));
+    same(rt, row.word(1, &[]), Err(NOT_A_WORD));
 }
 
 #[test]
@@ -170,10 +193,15 @@ fn words_are_told_by_their_places(rt: HostRuntime) {
         (b"\xFF", Err(NOT_A_WORD)),
     ];
     for (cell, want) in CELLS {
-        let row = row_of(&rt, rt.alloc(), cell);
-        let place = row.word(1, &["lfl", "fixed", "period"]);
-        same(&rt, (*cell, place), (*cell, *want));
-        same(&rt, row.word(1, &[]), Err(NOT_A_WORD));
+        is_word(&rt, &row_of(&rt, rt.alloc(), cell), cell, *want);
+    }
+}
+
+// The year, month and day that are read of a cell.
+fn date_in(rt: &impl Abort, alloc: Global, cell: &[u8]) -> Result<(i16, i8, i8), Fault> {
+    match row_of(rt, alloc, cell).date(1) {
+        Ok(date) => Ok((date.year(), date.month(), date.day())),
+        Err(fault) => Err(fault),
     }
 }
 
@@ -188,12 +216,11 @@ fn dates_are_days_of_the_calendar(rt: HostRuntime) {
         b"2025-01-06 ",
         b"2025-01-0\xFF",
     ];
-    let row = row_of(&rt, rt.alloc(), b"2024-02-29");
-    let date = row.date(1).expect(&rt, "a date");
-    same(&rt, (date.year(), date.month(), date.day()), (2024, 2, 29));
+    let read = date_in(&rt, rt.alloc(), b"2024-02-29");
+    same(&rt, read, Ok((2024, 2, 29)));
     for cell in WRONG {
-        let row = row_of(&rt, rt.alloc(), cell);
-        same(&rt, (*cell, row.date(1).err()), (*cell, Some(NOT_A_DATE)));
+        let read = date_in(&rt, rt.alloc(), cell);
+        same(&rt, (*cell, read), (*cell, Err(NOT_A_DATE)));
     }
 }
 

@@ -1,7 +1,7 @@
 //! Records of a table, one after the other.
 
 use super::{one_of_nine, same};
-use mrp_rows::{Cursor, Fault, Table, split_bundle};
+use mrp_rows::{Cursor, Fault, Row, Table, split_bundle};
 use std::alloc::Global;
 use std::process::Abort;
 
@@ -15,12 +15,16 @@ pub fn stock_of(rt: &impl Abort, alloc: Global, header: &[u8], records: &[u8]) -
         .expect(rt, "memory")
 }
 
-// Fails unless the next record has this number and these cells.
-fn is_next(rt: &impl Abort, cursor: &mut Cursor<'_>, number: usize, cells: &[&[u8]]) {
+// The next record, which has to be there.
+pub fn next_row(rt: &impl Abort, cursor: &mut Cursor<'_>) -> Row {
     let next = cursor.next().expect(rt, "no fault");
-    let row = next.expect(rt, "a record");
+    next.expect(rt, "a record")
+}
+
+// Fails unless a record has this number and these cells.
+fn is_row(rt: &impl Abort, row: &Row, number: usize, cells: &[&[u8]]) {
     same(rt, row.fault(0).row as usize, number);
-    assert_eq!(rt; row.cell_count(), cells.len());
+    assert!(rt; row.cell_count() == cells.len());
     for column in 0..cells.len() {
         same(rt, row.cell(column), cells[column]);
     }
@@ -35,6 +39,16 @@ fn end_of(rt: &impl Abort, cursor: &mut Cursor<'_>) -> Result<(), Fault> {
     }
 }
 
+// Fails unless these records come, and then end so for good.
+fn come(rt: &impl Abort, cursor: &mut Cursor<'_>, records: &[&[&[u8]]], end: Result<(), Fault>) {
+    for place in 0..records.len() {
+        is_row(rt, &next_row(rt, cursor), place + 1, records[place]);
+    }
+    same(rt, end_of(rt, cursor), end);
+    same(rt, end_of(rt, cursor), Ok(()));
+    same(rt, end_of(rt, cursor), Ok(()));
+}
+
 // Fails unless a table of a bundle has these records, and then ends so for good.
 fn has_records(
     rt: &impl Abort,
@@ -47,12 +61,7 @@ fn has_records(
     let sections = split_bundle(bundle).expect(rt, "sections");
     let table = one_of_nine(rt, table);
     let mut cursor = Cursor::new(alloc, &sections, table).expect(rt, "a header");
-    for place in 0..records.len() {
-        is_next(rt, &mut cursor, place + 1, records[place]);
-    }
-    same(rt, end_of(rt, &mut cursor), end);
-    same(rt, end_of(rt, &mut cursor), Ok(()));
-    same(rt, end_of(rt, &mut cursor), Ok(()));
+    come(rt, &mut cursor, records, end);
 }
 
 #[test]

@@ -69,6 +69,12 @@ fn told(rt: &impl Abort, alloc: Global, bundle: &[u8]) -> String {
     }
 }
 
+// Fails unless the bundle that these parts are joined to is told so.
+fn is_told(rt: &impl Abort, alloc: Global, parts: &[(Table, &[u8])], want: &str) {
+    let bundle = join_bundle(alloc, parts).expect(rt, "memory");
+    same(rt, told(rt, alloc, &bundle).as_str(), want);
+}
+
 #[test]
 fn joined_tables_have_the_faults_of_their_bundle(rt: HostRuntime) {
     // What stands in the place of the stock, and what the bundle is told.
@@ -85,10 +91,7 @@ fn joined_tables_have_the_faults_of_their_bundle(rt: HostRuntime) {
     for (table, bytes, want) in PARTS {
         let mut parts = SHOP;
         parts[3] = (*table, *bytes);
-        let bundle = join_bundle(rt.alloc(), &parts).expect(&rt, "memory");
-        same(&rt, told(&rt, rt.alloc(), &bundle).as_str(), *want);
+        is_told(&rt, rt.alloc(), &parts, want);
     }
-    let bundle = join_bundle(rt.alloc(), &SHOP[1..]).expect(&rt, "memory");
-    let text = told(&rt, rt.alloc(), &bundle);
-    same(&rt, text.as_str(), "4 missing-section calendar 0");
+    is_told(&rt, rt.alloc(), &SHOP[1..], "4 missing-section calendar 0");
 }

@@ -1,7 +1,8 @@
 //! Tables of as many records as their limits, and of one more.
 
 use super::same;
-use mrp_rows::{Fault, Name, fault_text, split_bundle};
+use super::tables::{are_found, read};
+use mrp_rows::{Fault, fault_text, split_bundle};
 use mrp_tables::Tables;
 use std::alloc::Global;
 use std::process::Abort;
@@ -39,17 +40,30 @@ BIKE,forecast,2025-01-27,6\n\
 desk,call,item,date,quantity,number\n\
 1,run,,,,\n";
 
-// How many rows the tables of a bundle have, or their first fault.
-fn counts(alloc: Global, bundle: &str) -> Result<[usize; 5], Fault> {
-    let sections = split_bundle(bundle.as_bytes())?;
-    let tables = Tables::read(alloc, &sections)?;
-    Ok([
+// How many items, receipts, bill lines, rows of the master schedule and calls there are.
+fn counts_of(tables: &Tables) -> [usize; 5] {
+    [
         tables.items().len(),
         tables.receipts().len(),
         tables.bills().len(),
         tables.master().len(),
         tables.script().len(),
-    ])
+    ]
+}
+
+// How many rows the tables of a bundle have, or their first fault.
+fn counts(alloc: Global, bundle: &str) -> Result<[usize; 5], Fault> {
+    let sections = split_bundle(bundle.as_bytes())?;
+    match Tables::read(alloc, &sections) {
+        Ok(tables) => Ok(counts_of(&tables)),
+        Err(fault) => Err(fault),
+    }
+}
+
+// The shop, where these records stand in the place of one of its own.
+fn shop_with(rt: &impl Abort, alloc: Global, record: &str, records: &str) -> String {
+    let (front, back) = SHOP.split_once(record).expect(rt, "the record");
+    [front, records, back].concat(alloc).expect(rt, "memory")
 }
 
 // Fails unless the shop, where these records stand in the place of one of its own, has so many
@@ -61,8 +75,7 @@ fn has_rows(
     records: &str,
     want: Result<[usize; 5], &str>,
 ) {
-    let (front, back) = SHOP.split_once(record).expect(rt, "the record");
-    let bundle = [front, records, back].concat(alloc).expect(rt, "memory");
+    let bundle = shop_with(rt, alloc, record, records);
     match counts(alloc, &bundle) {
         Ok(counts) => same(rt, Ok(counts), want),
         Err(fault) => {
@@ -164,14 +177,10 @@ fn an_item_or_receipt_past_the_limit_is_refused(rt: HostRuntime) {
 #[test]
 fn the_last_of_as_many_items_as_the_limit_is_found(rt: HostRuntime) {
     let items = numbered(&rt, rt.alloc(), "P", ",part,1,0,lfl,0,0\n", 19_997);
-    let (front, back) = SHOP
-        .split_once("P,part,1,0,lfl,0,0\n")
-        .expect(&rt, "the record");
-    let bundle = [front, items.as_str(), back]
-        .concat(rt.alloc())
-        .expect(&rt, "memory");
-    let sections = split_bundle(bundle.as_bytes()).expect(&rt, "sections");
-    let tables = Tables::read(rt.alloc(), &sections).expect(&rt, "tables");
-    let last = Name::new(b"P19997").expect(&rt, "a name");
-    same(&rt, tables.find(&last), Some(19_999));
+    let bundle = shop_with(&rt, rt.alloc(), "P,part,1,0,lfl,0,0\n", &items);
+    are_found(
+        &rt,
+        &read(&rt, rt.alloc(), &bundle),
+        &[("P19997", Some(19_999))],
+    );
 }

@@ -3,7 +3,7 @@
 ghost use Rattle.std.specs.Prelude.{◌≡◌, ◌<◌, ◌≤◌, ◌+◌, ℕ, length, IfOk};
 ghost use Rattle.mrp_phase.specs.Weeks.{in_week};
 
-use super::weeks::{has_row, row_of};
+use super::weeks::{has_row, of_one_length, row_of};
 use super::{MOST, pieces, same};
 use mrp_lots::{Fixed, Lot, LotForLot, Period, receipts};
 use mrp_net::{NeedRow, NetFault, Stock, need};
@@ -20,7 +20,7 @@ fn needs_of(rt: &impl Abort, alloc: Global, gross: &[u64; 6]) -> NeedRow {
         safety: pieces(rt, 0),
         scheduled: row_of(rt, alloc, &[0; 6]),
     };
-    assert_eq!(rt; gross.weeks(), stock.scheduled.weeks());
+    of_one_length(rt, &gross, &stock.scheduled);
     need(alloc, &gross, &stock).expect(rt, "needs")
 }
 

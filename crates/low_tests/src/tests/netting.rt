@@ -3,7 +3,7 @@
 ghost use Rattle.std.specs.Prelude.{◌≡◌, ◌≤◌, ℕ, IsTrue, length};
 ghost use Rattle.mrp_phase.specs.Weeks.{in_week};
 
-use super::weeks::{has_row, row_of};
+use super::weeks::{has_row, of_one_length, row_of};
 use super::{MOST, pieces, same};
 use mrp_net::{NetFault, Stock, balance_row, need};
 use mrp_phase::Weeks;
@@ -87,8 +87,8 @@ fn balances_of(
     stock: &Stock,
     receipts: &Weeks<Qty>,
 ) -> Result<Weeks<Qty>, NetFault> {
-    assert_eq!(rt; stock.scheduled.weeks(), gross.weeks());
-    assert_eq!(rt; receipts.weeks(), gross.weeks());
+    of_one_length(rt, &stock.scheduled, gross);
+    of_one_length(rt, receipts, gross);
     let rises = never_falls(receipts.as_slice());
     assert!(rt; rises);
     balance_row(alloc, gross, stock, receipts)
@@ -103,7 +103,7 @@ fn is_netted(
     receipts: &Weeks<Qty>,
     item: &Worked,
 ) {
-    assert_eq!(rt; stock.scheduled.weeks(), gross.weeks());
+    of_one_length(rt, &stock.scheduled, gross);
     let needs = need(alloc, gross, stock).expect(rt, "needs");
     same(
         rt,
@@ -145,7 +145,7 @@ fn is_refused(
     receipts: &Weeks<Qty>,
     item: &Refused,
 ) {
-    assert_eq!(rt; stock.scheduled.weeks(), gross.weeks());
+    of_one_length(rt, &stock.scheduled, gross);
     same(rt, need(alloc, gross, stock).err(), item.needs);
     let balances = balances_of(rt, alloc, gross, stock, receipts);
     same(rt, balances.err(), item.balances);

@@ -1,7 +1,7 @@
 //! Bundles read whole and texts written whole, over readers and writers that fail.
 
 use super::same;
-use super::told::{Turn, fake_reader, fake_writer};
+use super::told::{Turn, counts, fake_reader, fake_writer, has_taken};
 use mrp_rows::{ReadFault, Told, Tries, WriteFault, read_bundle, read_within, write_text};
 use std::alloc::Global;
 use std::io;
@@ -42,11 +42,8 @@ fn a_text_is_written_whole_over_short_and_interrupted_writes(rt: HostRuntime) {
     for text in TEXTS {
         same(&rt, write_text(&mut writer, text, &mut tries), Ok(()));
     }
-    same(&rt, writer.calls(), 6);
-    same(&rt, writer.interrupted(), 1);
-    same(&rt, writer.failures(), 0);
-    let taken = writer.into_inner().taken;
-    same(&rt, taken.as_slice(), b"abcdefgh".as_slice());
+    same(&rt, counts(&writer), (6, 1, 0));
+    has_taken(&rt, writer, b"abcdefgh");
 }
 
 #[test]
@@ -70,8 +67,7 @@ fn a_failing_writer_has_a_front_of_the_text(rt: HostRuntime) {
         let written = write_text(&mut writer, b"abcdef", &mut Tries::new());
         same(&rt, written, Err(WriteFault));
         same(&rt, writer.failures(), 1);
-        let taken = writer.into_inner().taken;
-        same(&rt, taken.as_slice(), b"abc".as_slice());
+        has_taken(&rt, writer, b"abc");
     }
 }
 
@@ -87,10 +83,8 @@ fn interrupted_writes_are_tried_again_a_million_times(rt: HostRuntime) {
     let mut tries = Tries::new();
     for (text, want, interrupted) in WRITES {
         same(&rt, write_text(&mut writer, text, &mut tries), *want);
-        same(&rt, writer.interrupted(), *interrupted);
-        same(&rt, writer.calls(), *interrupted);
+        same(&rt, counts(&writer), (*interrupted, *interrupted, 0));
     }
-    same(&rt, writer.failures(), 0);
 }
 
 // What a reader gives as a bundle.
@@ -124,9 +118,7 @@ fn a_bundle_is_read_over_short_and_interrupted_reads(rt: HostRuntime) {
     let mut reader = fake_reader(TURNS, b"abcdef");
     let bytes = bundle_from(&rt, rt.alloc(), &mut reader);
     same(&rt, bytes.as_slice(), b"abcdef".as_slice());
-    same(&rt, reader.calls(), 7);
-    same(&rt, reader.interrupted(), 3);
-    same(&rt, reader.failures(), 0);
+    same(&rt, counts(&reader), (7, 3, 0));
 }
 
 #[test]
@@ -135,8 +127,7 @@ fn a_failing_reader_is_told(rt: HostRuntime) {
     let mut reader = fake_reader(TURNS, b"abcdef");
     let fault = read_bundle(rt.alloc(), &mut reader).err();
     same(&rt, fault, Some(ReadFault::Read));
-    same(&rt, reader.failures(), 1);
-    same(&rt, reader.calls(), 3);
+    same(&rt, counts(&reader), (3, 1, 1));
 }
 
 #[test]
@@ -158,9 +149,7 @@ fn reads_past_the_limit_of_calls_are_refused(rt: HostRuntime) {
     let mut reader = Told::new(Interrupted);
     let fault = read_within(rt.alloc(), &mut reader, 10, 1_000).err();
     same(&rt, fault, Some(ReadFault::Read));
-    same(&rt, reader.calls(), 1_000);
-    same(&rt, reader.interrupted(), 1_000);
-    same(&rt, reader.failures(), 0);
+    same(&rt, counts(&reader), (1_000, 1_000, 0));
 }
 
 #[test]

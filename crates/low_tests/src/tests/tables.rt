@@ -2,8 +2,12 @@
 
 use super::same;
 use jiff::civil::date;
+use mrp_cal::Calendar;
 use mrp_rows::{Name, split_bundle};
-use mrp_tables::{BillLine, Class, Item, LotRule, MasterKind, ScriptCall, Tables};
+use mrp_tables::{
+    BillLine, Class, Item, LotRule, MasterKind, MasterRow, Receipt, ScriptCall, ScriptRow,
+    StockRow, Tables,
+};
 use std::alloc::Global;
 use std::process::Abort;
 
@@ -56,7 +60,7 @@ desk,call,item,date,quantity,number\n\
 1,cancel,,,,02\n\
 1,run,,,,\n";
 
-fn read(rt: &impl Abort, alloc: Global, bundle: &str) -> Tables {
+pub fn read(rt: &impl Abort, alloc: Global, bundle: &str) -> Tables {
     let sections = split_bundle(bundle.as_bytes()).expect(rt, "sections");
     Tables::read(alloc, &sections).expect(rt, "tables")
 }
@@ -65,28 +69,32 @@ fn name(rt: &impl Abort, text: &str) -> Name {
     Name::new(text.as_bytes()).expect(rt, "a name")
 }
 
+// Fails unless the calendar has six weeks from 2025-01-06 on.
+fn has_six_weeks(rt: &impl Abort, calendar: &Calendar) {
+    same(rt, calendar.weeks(), 6);
+    same(rt, calendar.week_of(date(2025, 2, 16)), Some(6));
+    same(rt, calendar.week_of(date(2025, 2, 17)), None);
+}
+
 #[test]
 fn dates_are_read_as_weeks_of_the_calendar(rt: HostRuntime) {
     let shop = read(&rt, rt.alloc(), SHOP);
-    let calendar = shop.calendar();
-    same(&rt, calendar.weeks(), 6);
-    same(&rt, calendar.week_of(date(2025, 2, 16)), Some(6));
-    same(&rt, calendar.week_of(date(2025, 2, 17)), None);
+    has_six_weeks(&rt, shop.calendar());
 }
 
 // An item: name, class, lead, scrap, lot rule and safety stock.
 type ItemCells = (&'static str, Class, u64, u64, LotRule, u64);
 
-// Fails unless an item is so.
-fn is_item(rt: &impl Abort, item: &Item, want: &ItemCells) {
-    let (word, class, lead, scrap, lot, safety) = *want;
-    same(rt, item.name, name(rt, word));
-    same(rt, (item.class, item.lot), (class, lot));
-    same(
-        rt,
-        (item.lead, item.scrap, item.safety.value()),
-        (lead, scrap, safety),
-    );
+// Fails unless these are the items.
+fn are_items(rt: &impl Abort, items: &[Item], want: &[ItemCells]) {
+    same(rt, items.len(), want.len());
+    for (item, cells) in items.iter().zip(want) {
+        let (word, class, lead, scrap, lot, safety) = *cells;
+        let got = (item.lead, item.scrap, item.safety.value());
+        same(rt, item.name, name(rt, word));
+        same(rt, (item.class, item.lot), (class, lot));
+        same(rt, got, (lead, scrap, safety));
+    }
 }
 
 #[test]
@@ -105,9 +113,13 @@ fn items_are_read_with_scrap_lots_and_safety_stock(rt: HostRuntime) {
         ),
     ];
     let shop = read(&rt, rt.alloc(), SHOP);
-    same(&rt, shop.items().len(), ITEMS.len());
-    for (item, want) in shop.items().iter().zip(ITEMS) {
-        is_item(&rt, item, want);
+    are_items(&rt, shop.items(), ITEMS);
+}
+
+// Fails unless the items of these names have these places.
+pub fn are_found(rt: &impl Abort, shop: &Tables, names: &[(&str, Option<usize>)]) {
+    for (text, want) in names {
+        same(rt, (*text, shop.find(&name(rt, text))), (*text, *want));
     }
 }
 
@@ -123,9 +135,14 @@ fn items_are_found_by_their_whole_names(rt: HostRuntime) {
         ("BIKES", None),
     ];
     let shop = read(&rt, rt.alloc(), SHOP);
-    for (text, want) in NAMES {
-        let place = shop.find(&name(&rt, text));
-        same(&rt, (*text, place), (*text, *want));
+    are_found(&rt, &shop, NAMES);
+}
+
+// Fails unless so much is on hand of these items.
+fn are_on_hand(rt: &impl Abort, stock: &[StockRow], want: &[(usize, u64)]) {
+    same(rt, stock.len(), want.len());
+    for (row, cells) in stock.iter().zip(want) {
+        same(rt, (row.item, row.on_hand.value()), *cells);
     }
 }
 
@@ -145,52 +162,61 @@ fn stock_and_bill_lines_are_read_with_their_places(rt: HostRuntime) {
         },
     ];
     let shop = read(&rt, rt.alloc(), SHOP);
-    same(&rt, shop.stock().len(), ON_HAND.len());
-    for (row, want) in shop.stock().iter().zip(ON_HAND) {
-        same(&rt, (row.item, row.on_hand.value()), *want);
-    }
+    are_on_hand(&rt, shop.stock(), ON_HAND);
     same(&rt, shop.bills(), LINES);
+}
+
+// An open receipt: record, item, order, week and pieces.
+type ReceiptCells = (u32, usize, &'static str, u16, u64);
+
+// Fails unless these are the open receipts.
+fn are_receipts(rt: &impl Abort, receipts: &[Receipt], want: &[ReceiptCells]) {
+    same(rt, receipts.len(), want.len());
+    for (row, cells) in receipts.iter().zip(want) {
+        let (number, item, order, week, count) = *cells;
+        let got = (row.number, row.item, row.week, row.quantity.value());
+        same(rt, got, (number, item, week, count));
+        same(rt, row.order, name(rt, order));
+    }
 }
 
 #[test]
 fn receipts_of_some_pieces_stand_in_table_order(rt: HostRuntime) {
-    // Record, item, order, week and pieces.
-    const RECEIPTS: &[(u32, usize, &str, u16, u64)] = &[
+    const RECEIPTS: &[ReceiptCells] = &[
         (1, 2, "X2", 6, 1_000_000_000),
         (2, 1, "X2", 1, 1),
         (4, 1, "R,1", 3, 15),
     ];
     let shop = read(&rt, rt.alloc(), SHOP);
-    same(&rt, shop.receipts().len(), RECEIPTS.len());
-    for (row, want) in shop.receipts().iter().zip(RECEIPTS) {
-        let (number, item, order, week, count) = *want;
-        same(&rt, (row.number, row.item), (number, item));
-        same(&rt, row.order, name(&rt, order));
-        same(&rt, (row.week, row.quantity.value()), (week, count));
+    are_receipts(&rt, shop.receipts(), RECEIPTS);
+}
+
+// A row of the master schedule: record, item, kind, week and pieces.
+type MasterCells = (u32, usize, MasterKind, u16, u64);
+
+// Fails unless these are the rows of the master schedule.
+fn are_master_rows(rt: &impl Abort, rows: &[MasterRow], want: &[MasterCells]) {
+    same(rt, rows.len(), want.len());
+    for (row, cells) in rows.iter().zip(want) {
+        let pieces = row.quantity.value();
+        same(
+            rt,
+            (row.number, row.item, row.kind, row.week, pieces),
+            *cells,
+        );
     }
 }
 
 #[test]
 fn firm_rows_and_forecasts_of_some_pieces_stand_in_table_order(rt: HostRuntime) {
-    // Record, item, kind, week and pieces.
-    const ROWS: &[(u32, usize, MasterKind, u16, u64)] = &[
+    const ROWS: &[MasterCells] = &[
         (1, 0, MasterKind::Firm, 3, 20),
         (3, 0, MasterKind::Firm, 5, 20),
         (4, 0, MasterKind::Forecast, 2, 8),
         (5, 0, MasterKind::Forecast, 4, 6),
     ];
     let shop = read(&rt, rt.alloc(), SHOP);
-    same(&rt, shop.master().len(), ROWS.len());
-    for (row, want) in shop.master().iter().zip(ROWS) {
-        let got = (
-            row.number,
-            row.item,
-            row.kind,
-            row.week,
-            row.quantity.value(),
-        );
-        same(&rt, got, *want);
-    }
+    are_master_rows(&rt, shop.master(), ROWS);
 }
 
 // A call: its word, item and week, and its quantity or number.
@@ -210,6 +236,14 @@ fn cells_of(call: ScriptCall) -> CallCells {
     }
 }
 
+// Fails unless these are the desks and their calls.
+fn are_calls(rt: &impl Abort, script: &[ScriptRow], want: &[(u64, CallCells)]) {
+    same(rt, script.len(), want.len());
+    for (row, cells) in script.iter().zip(want) {
+        same(rt, (row.desk, cells_of(row.call)), *cells);
+    }
+}
+
 #[test]
 fn calls_are_read_with_places_and_weeks(rt: HostRuntime) {
     const CALLS: &[(u64, CallCells)] = &[
@@ -222,10 +256,7 @@ fn calls_are_read_with_places_and_weeks(rt: HostRuntime) {
         (1, ("run", 0, 0, 0)),
     ];
     let shop = read(&rt, rt.alloc(), SHOP);
-    same(&rt, shop.script().len(), CALLS.len());
-    for (row, want) in shop.script().iter().zip(CALLS) {
-        same(&rt, (row.desk, cells_of(row.call)), *want);
-    }
+    are_calls(&rt, shop.script(), CALLS);
 }
 
 // A calendar, and no record in any other table.
@@ -252,11 +283,9 @@ item,row,date,quantity\n\
 [script]\n\
 desk,call,item,date,quantity,number\n";
 
-#[test]
-fn tables_of_headers_alone_have_no_rows(rt: HostRuntime) {
-    let shop = read(&rt, rt.alloc(), NO_RECORDS);
-    same(&rt, shop.calendar().weeks(), 6);
-    let counts = [
+// How many rows the eight tables with rows have.
+fn counts(shop: &Tables) -> [usize; 8] {
+    [
         shop.items().len(),
         shop.centres().len(),
         shop.stock().len(),
@@ -265,7 +294,13 @@ fn tables_of_headers_alone_have_no_rows(rt: HostRuntime) {
         shop.routings().len(),
         shop.master().len(),
         shop.script().len(),
-    ];
-    same(&rt, counts, [0; 8]);
-    same(&rt, shop.find(&name(&rt, "BIKE")), None);
+    ]
+}
+
+#[test]
+fn tables_of_headers_alone_have_no_rows(rt: HostRuntime) {
+    let shop = read(&rt, rt.alloc(), NO_RECORDS);
+    same(&rt, shop.calendar().weeks(), 6);
+    same(&rt, counts(&shop), [0; 8]);
+    are_found(&rt, &shop, &[("BIKE", None)]);
 }

@@ -5,6 +5,7 @@ use mrp_rows::Told;
 use std::alloc::Global;
 use std::io;
 use std::io::{ErrorKind, Read, Write};
+use std::process::Abort;
 
 // What a reader or a writer does at one call.
 #[derive(Clone, Copy)]
@@ -75,6 +76,11 @@ pub fn fake_writer(alloc: Global, turns: &[Turn]) -> Told<FakeWriter<'_>> {
     })
 }
 
+// How many calls a reader or a writer has had, and how many were interrupted and failed.
+pub fn counts<T>(told: &Told<T>) -> (u64, u64, u64) {
+    (told.calls(), told.interrupted(), told.failures())
+}
+
 #[test]
 fn reads_are_told_by_what_came_of_them(rt: HostRuntime) {
     const TURNS: &[Turn] = &[
@@ -94,14 +100,17 @@ fn reads_are_told_by_what_came_of_them(rt: HostRuntime) {
     ];
     let mut reader = fake_reader(TURNS, b"abcde");
     let mut buf = [0; 4];
-    same(&rt, reader.calls(), 0);
+    same(&rt, counts(&reader), (0, 0, 0));
     for want in READS {
         same(&rt, (reader.read(&mut buf).ok(), buf), *want);
     }
-    same(&rt, reader.calls(), 6);
-    same(&rt, reader.interrupted(), 2);
-    same(&rt, reader.failures(), 1);
+    same(&rt, counts(&reader), (6, 2, 1));
     same(&rt, reader.into_inner().bytes.len(), 0);
+}
+
+// Fails unless a writer has taken these bytes.
+pub fn has_taken(rt: &impl Abort, writer: Told<FakeWriter<'_>>, want: &[u8]) {
+    same(rt, writer.into_inner().taken.as_slice(), want);
 }
 
 #[test]
@@ -125,25 +134,20 @@ fn writes_of_no_byte_of_some_are_failures(rt: HostRuntime) {
     ];
     let mut writer = fake_writer(rt.alloc(), TURNS);
     for (bytes, taken, failures) in WRITES {
-        same(&rt, writer.write(bytes).ok(), *taken);
-        same(&rt, writer.failures(), *failures);
+        let written = writer.write(bytes).ok();
+        same(&rt, (written, writer.failures()), (*taken, *failures));
     }
     same(&rt, writer.flush().is_ok(), true);
-    same(&rt, writer.failures(), 2);
-    same(&rt, writer.interrupted(), 2);
-    same(&rt, writer.calls(), 8);
-    let taken = writer.into_inner().taken;
-    same(&rt, taken.as_slice(), b"aij".as_slice());
+    same(&rt, counts(&writer), (8, 2, 2));
+    has_taken(&rt, writer, b"aij");
 }
 
 #[test]
 fn a_flush_is_a_call_too(rt: HostRuntime) {
     const TURNS: &[Turn] = &[Turn::Interrupts, Turn::Fails];
     let mut writer = fake_writer(rt.alloc(), TURNS);
-    for failures in [0, 1] {
+    for want in [(1, 1, 0), (2, 1, 1)] {
         same(&rt, writer.flush().is_ok(), false);
-        same(&rt, writer.failures(), failures);
+        same(&rt, counts(&writer), want);
     }
-    same(&rt, writer.interrupted(), 1);
-    same(&rt, writer.calls(), 2);
 }

@@ -9,7 +9,6 @@ use mrp_turn::{CallFault, Entry, Log, Seat, Turn, TurnFault};
 use std::alloc::{AllocError, Global};
 use std::process::Abort;
 use std::sync::Wait;
-use std::test::Fail;
 use std::thread;
 use std::thread::Threads;
 
@@ -32,15 +31,18 @@ fn makes_1_to_64_seats(rt: HostRuntime) {
     has_seats(&rt, rt.alloc(), 64);
 }
 
+// The state and the log of a new lock with so many seats, which are joined again at once.
+fn joined(alloc: Global, count: u64) -> Result<(u64, Log<Call, Reply>), TurnFault> {
+    let (turn, seats) = Turn::new(alloc, Tally, 0, 0, count)?;
+    Ok(turn.close(seats))
+}
+
 #[test]
-fn seats_split_and_joined_leave_an_empty_log(rt: HostRuntime) -> Result<(), Fail> {
+fn seats_split_and_joined_leave_an_empty_log(rt: HostRuntime) {
     for count in 1..=64 {
-        let (turn, seats) = Turn::new(rt.alloc(), Tally, 0, 0, count)?;
-        let (state, log) = turn.close(seats);
-        assert_eq!(rt; state, 0);
-        assert!(rt; log.is_empty());
+        let (state, log) = joined(rt.alloc(), count).expect(&rt, "a lock");
+        same(&rt, (state, log.is_empty()), (0, true));
     }
-    Ok(())
 }
 
 // What a call is answered, its entry's number and the sum; None where the sum would be too high.
@@ -61,54 +63,58 @@ fn answer<R: Wait + Abort>(
 }
 
 // The first two seats of a lock with so much room.
-fn two_seats(alloc: Global, room: usize) -> Result<(Turn<Tally>, Seat<Tally>, Seat<Tally>), Fail>
-    ensures { IfOk result (λ r. (r.1.turn ≡ r.0) × (r.2.turn ≡ r.0)) }
+fn two_seats(rt: &impl Abort, alloc: Global, room: usize) -> (Turn<Tally>, Seat<Tally>, Seat<Tally>)
+    ensures { (result.1.turn ≡ result.0) × (result.2.turn ≡ result.0) }
 {
-    let (turn, mut seats) = Turn::new(alloc, Tally, 0, room, 2)?;
-    let second = seats.pop().ok_or("two seats")?;
-    let first = seats.pop().ok_or("two seats")?;
-    Ok((turn, first, second))
+    let (turn, mut seats) = Turn::new(alloc, Tally, 0, room, 2).expect(rt, "a lock");
+    let second = seats.pop().expect(rt, "two seats");
+    let first = seats.pop().expect(rt, "two seats");
+    (turn, first, second)
+}
+
+// Fails unless the calls of a seat are answered so.
+fn are_answered<R: Wait + Abort>(
+    rt: &R,
+    turn: &Turn<Tally>,
+    mut seat: Seat<Tally>,
+    calls: &[(Call, Option<(u64, u64)>)],
+)
+    requires { seat.turn ≡ turn.now }
+{
+    for (call, want) in calls {
+        same(rt, answer(rt, turn, &mut seat, *call), *want);
+    }
 }
 
 #[test]
-fn a_sum_that_is_too_high_leaves_state_and_log(rt: HostRuntime) -> Result<(), Fail> {
-    let (turn, mut seat, _) = two_seats(rt.alloc(), 0)?;
-    same(
-        &rt,
-        answer(&rt, &turn, &mut seat, Call::Add(1)),
-        Some((1, 1)),
-    );
-    same(&rt, answer(&rt, &turn, &mut seat, Call::Add(MOST)), None);
-    same(&rt, answer(&rt, &turn, &mut seat, Call::Read), Some((2, 1)));
-    Ok(())
+fn a_sum_that_is_too_high_leaves_state_and_log(rt: HostRuntime) {
+    const CALLS: &[(Call, Option<(u64, u64)>)] = &[
+        (Call::Add(1), Some((1, 1))),
+        (Call::Add(MOST), None),
+        (Call::Read, Some((2, 1))),
+    ];
+    let (turn, seat, _) = two_seats(&rt, rt.alloc(), 0);
+    are_answered(&rt, &turn, seat, CALLS);
 }
 
 #[test]
-fn a_sum_may_reach_the_greatest(rt: HostRuntime) -> Result<(), Fail> {
-    let (turn, mut seat, _) = two_seats(rt.alloc(), 3)?;
-    let highest = answer(&rt, &turn, &mut seat, Call::Add(MOST));
-    same(&rt, highest, Some((1, MOST)));
-    same(
-        &rt,
-        answer(&rt, &turn, &mut seat, Call::Add(u64::MAX)),
-        None,
-    );
-    let read = answer(&rt, &turn, &mut seat, Call::Read);
-    same(&rt, read, Some((2, MOST)));
-    Ok(())
+fn a_sum_may_reach_the_greatest(rt: HostRuntime) {
+    const CALLS: &[(Call, Option<(u64, u64)>)] = &[
+        (Call::Add(MOST), Some((1, MOST))),
+        (Call::Add(u64::MAX), None),
+        (Call::Read, Some((2, MOST))),
+    ];
+    let (turn, seat, _) = two_seats(&rt, rt.alloc(), 3);
+    are_answered(&rt, &turn, seat, CALLS);
 }
 
 #[test]
-fn a_seat_that_meets_another_goes_on_from_its_calls(rt: HostRuntime) -> Result<(), Fail> {
-    let (turn, mut first, mut second) = two_seats(rt.alloc(), 2)?;
-    same(
-        &rt,
-        answer(&rt, &turn, &mut first, Call::Add(5)),
-        Some((1, 5)),
-    );
+fn a_seat_that_meets_another_goes_on_from_its_calls(rt: HostRuntime) {
+    let (turn, mut first, mut second) = two_seats(&rt, rt.alloc(), 2);
+    let answered = answer(&rt, &turn, &mut first, Call::Add(5));
+    same(&rt, answered, Some((1, 5)));
     let met = turn.meet(&rt, &mut second, &mut first, Call::Read);
-    assert!(rt; matches!(met, Ok((2, Reply::Sum(5)))));
-    Ok(())
+    same(&rt, met.ok(), Some((2, Reply::Sum(5))));
 }
 
 // Calls Add(1) that often.
@@ -148,26 +154,26 @@ fn counted<R: Threads + Wait + Sync>(
     alloc: Global,
     count: u64,
     times: u64,
-) -> Result<(u64, Log<Call, Reply>), Fail> {
-    let (turn, seats) = Turn::new(alloc, Tally, 0, 2000, count)?;
+) -> Result<(u64, Log<Call, Reply>), AllocError> {
+    let Ok((turn, seats)) = Turn::new(alloc, Tally, 0, 2000, count) else {
+        return Err(AllocError);
+    };
     let seats = add_all(rt, &turn, seats, times)?;
     Ok(turn.close(seats))
 }
 
 #[test]
-fn one_seat_leaves_its_calls_in_order(rt: HostRuntime) -> Result<(), Fail> {
+fn one_seat_leaves_its_calls_in_order(rt: HostRuntime) {
     const ENTRIES: &[(u64, Call, Reply)] = &[
         (1, Call::Add(1), Reply::Sum(1)),
         (1, Call::Add(1), Reply::Sum(2)),
         (1, Call::Add(1), Reply::Sum(3)),
     ];
-    let (state, log) = counted(&rt, rt.alloc(), 1, 3)?;
-    same(&rt, state, 3);
-    same(&rt, log.len(), ENTRIES.len());
+    let (state, log) = counted(&rt, rt.alloc(), 1, 3).expect(&rt, "a lock");
+    same(&rt, (state, log.len()), (3, ENTRIES.len()));
     for (entry, want) in log.entries().iter().zip(ENTRIES) {
         same(&rt, (entry.who, entry.call, entry.reply), *want);
     }
-    Ok(())
 }
 
 // Fails unless so many seats, which call so often in threads of their own, have that many entries
@@ -182,12 +188,11 @@ fn all_stand(rt: &impl Abort, state: u64, log: &Log<Call, Reply>, count: u64, ti
 }
 
 #[test]
-fn calls_from_threads_all_stand_in_one_log(rt: HostRuntime) -> Result<(), Fail> {
+fn calls_from_threads_all_stand_in_one_log(rt: HostRuntime) {
     for (count, times) in [(2, 1000), (64, 10)] {
-        let (state, log) = counted(&rt, rt.alloc(), count, times)?;
+        let (state, log) = counted(&rt, rt.alloc(), count, times).expect(&rt, "a lock");
         all_stand(&rt, state, &log, count, times);
     }
-    Ok(())
 }
 
 #[test]

@@ -1,5 +1,7 @@
 //! Rows over weeks.
 
+ghost use Rattle.std.specs.Prelude.{◌≡◌, length};
+
 use super::{MOST, pieces, same};
 use mrp_phase::{PhaseFault, Weeks};
 use mrp_qty::Qty;
@@ -20,6 +22,25 @@ pub fn has_row(rt: &impl Abort, alloc: Global, row: &Weeks<Qty>, counts: &[u64])
     same(rt, row.as_slice(), row_of(rt, alloc, counts).as_slice());
 }
 
+// Fails unless two rows have the same weeks.
+pub fn of_one_length(rt: &impl Abort, left: &Weeks<Qty>, right: &Weeks<Qty>)
+    ensures { length left.now ≡ length right.now }
+{
+    assert!(rt; left.weeks() == right.weeks());
+}
+
+// What comes of adding so many pieces in the second of three weeks.
+fn added(rt: &impl Abort, row: &mut Weeks<Qty>, count: u64) -> Option<()> {
+    assert!(rt; row.weeks() == 3);
+    row.add_at(2, pieces(rt, count))
+}
+
+// How many pieces the second of three weeks has.
+fn second(rt: &impl Abort, row: &Weeks<Qty>) -> u64 {
+    assert!(rt; row.weeks() == 3);
+    row.at(2).value()
+}
+
 #[test]
 fn sums_grow_week_by_week(rt: HostRuntime) {
     let row = row_of(&rt, rt.alloc(), &[10, 8, 12, 6, 25, 0]);
@@ -37,24 +58,19 @@ fn greatest_quantities_grow_week_by_week(rt: HostRuntime) {
 #[test]
 fn a_sum_past_the_greatest_quantity_is_not_added(rt: HostRuntime) {
     let mut row = row_of(&rt, rt.alloc(), &[7, 1, 7]);
-    assert_eq!(rt; row.weeks(), 3);
-    same(&rt, row.add_at(2, pieces(&rt, MOST)), None);
+    same(&rt, added(&rt, &mut row, MOST), None);
     has_row(&rt, rt.alloc(), &row, &[7, 1, 7]);
 }
 
 #[test]
 fn a_quantity_is_added_in_one_week(rt: HostRuntime) {
     let mut row = Weeks::zero(rt.alloc(), 3).expect(&rt, "memory");
-    let five = pieces(&rt, 5);
     for sum in [5, 10] {
-        assert_eq!(rt; row.weeks(), 3);
-        same(&rt, row.add_at(2, five), Some(()));
-        assert_eq!(rt; row.weeks(), 3);
-        same(&rt, row.at(2).value(), sum);
+        same(&rt, added(&rt, &mut row, 5), Some(()));
+        same(&rt, second(&rt, &row), sum);
     }
-    let values = row.into_vec();
-    let want = row_of(&rt, rt.alloc(), &[0, 10, 0]);
-    same(&rt, values.as_slice(), want.as_slice());
+    let row = Weeks::from_vec(row.into_vec());
+    has_row(&rt, rt.alloc(), &row, &[0, 10, 0]);
 }
 
 #[test]

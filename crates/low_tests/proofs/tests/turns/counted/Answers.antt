@@ -4,14 +4,14 @@ use Rattle.mrp_turn.proofs.Callers.{in_order, read_at, new_turns}
 use Rattle.low_tests.proofs.tests.turns.counted.Goals as goal
 
 pub add_all-requires-after_bounds : goal.add_all-requires-after_bounds
-add_all-requires-after_bounds g c κs within = let made = c.in_ok-turn.ensures in new_turns c.in_ok-turn.turn c.in_ok-turn.seats.items c.args.count made.count made.seats
+add_all-requires-after_bounds g c κs within = let made = c.in-Ok.ensures in new_turns c.in-Ok.turn c.in-Ok.seats.items c.args.count made.count made.seats
 
 pub close-requires-clause-all : goal.close-requires-clause-all
 close-requires-clause-all g c =
-    let turn = c.in_ok-turn.turn in
-    let made = c.in_ok-turn.ensures in
+    let turn = c.in-Ok.turn in
+    let made = c.in-Ok.ensures in
     let about = ap (λ a. a.seats) made.about in
     let came = c.in_ok-seats.ensures in
-    let long : length c.in_ok-seats.seats.items ≡ turn.about.seats = omega (arith, c.in_ok-seats.seats.ok.0, came.0, c.in_ok-turn.seats.ok.0, made.count, about) in
+    let long : length c.in_ok-seats.seats.items ≡ turn.about.seats = omega (arith, c.in_ok-seats.seats.ok.0, came.0, c.in-Ok.seats.ok.0, made.count, about) in
     in_order c.in_ok-seats.seats.items turn.about.seats long (λ k d h.
-    (came.1 k d (omega (arith, h, c.in_ok-turn.seats.ok.0, made.count, about))).1 ∙ ap (λ s. s.number) (read_at c.in_ok-turn.seats.items k (newcomer turn (k + 1)) d (made.seats k (omega (arith, h, about)))))
+    (came.1 k d (omega (arith, h, c.in-Ok.seats.ok.0, made.count, about))).1 ∙ ap (λ s. s.number) (read_at c.in-Ok.seats.items k (newcomer turn (k + 1)) d (made.seats k (omega (arith, h, about)))))
