@@ -1,13 +1,15 @@
 -- A list and a set of keys that grow by something new.
 use Rattle.std.proofs.Common.{◌≡◌, ◌≢◌, ◌-◌, ◌++◌, ℕ, Bool, true, false, List, [], ◌∷◌, Result, Ok, Err, get_or, length, length-append, take, refl, ap, ◌∙◌, arith}
 use Rattle.std.specs.Prelude.{IfOk, OnErr, if◌then◌else◌, is_err, map}
-use Rattle.std.specs.Cmp.{IsEquivalence}
+use Rattle.std.specs.Cmp.{IsEquivalence, and_equiv, nat_eq_equiv, on_equiv}
+use Rattle.std.specs.Cmp.Lexicographic.{nat_list_eq_equiv}
 use Rattle.std.specs.List.{list_any}
 use Rattle.std.proofs.lemmas.List.{map-append}
 use Rattle.std.proofs.Math.Seq.{take-append_seam}
 use Rattle.std.proofs.lemmas.List.Folds.{list_any_at}
 use Rattle.std.proofs.lemmas.List.Quantifiers.{all_pairs_push}
 use Rattle.mrp_tables.specs.Facts.{AllDiffer}
+use Rattle.mrp_tables.specs.Receipts.{same_order}
 
 grown : {X : Type 0} {same : X → X → Bool} → IsEquivalence same → (xs : List X) (x : X)
     → AllDiffer xs → list_any (same x) xs ≡ false → AllDiffer (xs ++ x ∷ [])
@@ -16,6 +18,9 @@ grown {X} {same} laws xs x differ new =
     let own : same x (get_or xs k d) ≡ true = ap (same x) equal ∙ laws.refl x in
     let found : list_any (same x) xs ≡ true = list_any_at (same x) xs k d within own in
     absurd cc)
+
+pub same_order_equiv : IsEquivalence same_order
+same_order_equiv = and_equiv (on_equiv (λ (o : ℕ × List ℕ). o.0) nat_eq_equiv) (on_equiv (λ (o : ℕ × List ℕ). o.1) nat_list_eq_equiv)
 
 -- a field of each row, where a row is added whose field is new
 pub grown_field : {X Y : Type 0} {same : X → X → Bool} → IsEquivalence same → (field : Y → X) (old new : List Y) (y : Y)

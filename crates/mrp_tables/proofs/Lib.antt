@@ -2,6 +2,7 @@ mod AcceptedTables
 mod AdmittedFirst
 mod Admitting
 mod Blaming
+mod CellsRead
 mod Counting
 mod Distinct
 mod Entries
@@ -10,9 +11,11 @@ mod Kept
 mod Opening
 mod Ordered
 mod OwnTable
+mod RecordsRead
 mod RowLaws
 mod Refused
 mod SevenFlags
 mod Stocked
 mod TableLaws
+mod TablesKept
 mod TellingTables

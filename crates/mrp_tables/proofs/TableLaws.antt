@@ -45,7 +45,7 @@ in_order : AreInOrder 0 table_order
 in_order = (refl, (refl, (refl, (refl, (refl, (refl, (refl, (refl, (refl, tt)))))))))
 
 -- the first table that is not read whole, behind tables that are
-pub record IsFirstFault (read : Table → Result (Unit {0}) Fault) (place : ℕ) (tables : List Table) (f : Fault) : Type 0 where
+pub record IsFirstRefused (read : Table → Result (Unit {0}) Fault) (place : ℕ) (tables : List Table) (f : Fault) : Type 0 where
   pub own : Table
   pub behind : ℕ
   pub at : table_index own ≡ place + behind
@@ -53,12 +53,12 @@ pub record IsFirstFault (read : Table → Result (Unit {0}) Fault) (place : ℕ)
   pub earlier : all_whole (map read (take behind tables)) ≡ Ok tt
 
 first_of_all : (read : Table → Result (Unit {0}) Fault) (place : ℕ) (tables : List Table) (f : Fault)
-    → AreInOrder place tables → all_whole (map read tables) ≡ Err f → IsFirstFault read place tables f
+    → AreInOrder place tables → all_whole (map read tables) ≡ Err f → IsFirstRefused read place tables f
 first_of_all read place [] f order given = absurd cc
 first_of_all read place (own ∷ more) f order given = by (read own) refl given (first_of_all read (suc place) more f order.1)
   where
     by : (r : Result (Unit {0}) Fault) → read own ≡ r → (r >>= λ w. all_whole (map read more)) ≡ Err f
-        → (all_whole (map read more) ≡ Err f → IsFirstFault read (suc place) more f) → IsFirstFault read place (own ∷ more) f
+        → (all_whole (map read more) ≡ Err f → IsFirstRefused read (suc place) more f) → IsFirstRefused read place (own ∷ more) f
     by (Err g) is refused later = record { own = own; behind = 0; at = omega (arith, order.0); refused = is ∙ refused; earlier = refl }
     by (Ok w) is refused later =
         let rest = later refused in

@@ -1,5 +1,5 @@
 -- What holds of every table's rows, and of the tables of every bundle.
-use Rattle.std.specs.Prelude.{ℕ, ◌≡◌, ◌≢◌, ◌<◌, true, false, ◌+◌, min, List, [], ◌∷◌, length, map, take, slice_index_or, IfErr, Result, Ok, Err}
+use Rattle.std.specs.Prelude.{ℕ, ◌≡◌, ◌≢◌, ◌⊎◌, ◌<◌, true, false, ◌+◌, min, List, [], ◌∷◌, length, map, take, slice_index_or, IfErr, Result, Ok, Err}
 use Rattle.mrp_qty.specs.Reading.{◌>>=◌}
 use Rattle.mrp_cal.specs.Calendar.{ShopCalendar}
 use Rattle.mrp_rows.specs.declared.fault.Fault.{Fault}
@@ -22,7 +22,7 @@ use Rattle.mrp_tables.specs.Receipts.{receipt_row}
 use Rattle.mrp_tables.specs.Script.{script_row}
 use Rattle.mrp_tables.specs.Limits.{record_limit}
 use Rattle.mrp_tables.specs.Stock.{stock_row}
-use Rattle.mrp_tables.specs.Tables.{Tables, tables_in}
+use Rattle.mrp_tables.specs.Tables.{AreTables, Tables, tables_in}
 
 -- the number of the record at a place, counted from 0
 abbrev pub number_at : ℕ → ℕ
@@ -129,3 +129,10 @@ pub record IsMemoryRefusal (texts : List (List ℕ)) (f : Fault) : Type 0 where
 -- a bundle's fault is that of its first table, in their order, that is not read whole
 abbrev pub IsFirstTablesFault : List (List ℕ) → Type 0
 IsFirstTablesFault texts = whole (tables_in texts) ≡ all_whole (map (reading_of texts) table_order)
+
+-- texts have tables, which keep what is said of accepted tables, or a fault, which is told at its table; no two of either, and not both
+pub record HasOneReading (texts : List (List ℕ)) : Type 0 where
+  pub either : ((tables : Tables) × (tables_in texts ≡ Ok tables) × AreTables tables) ⊎ ((f : Fault) × (tables_in texts ≡ Err f) × IsToldAtItsTable texts f)
+  pub tables : (a b : Tables) → tables_in texts ≡ Ok a → tables_in texts ≡ Ok b → a ≡ b
+  pub faults : (f g : Fault) → tables_in texts ≡ Err f → tables_in texts ≡ Err g → f ≡ g
+  pub apart : (tables : Tables) (f : Fault) → tables_in texts ≡ Ok tables → tables_in texts ≡ Err f → ⊥

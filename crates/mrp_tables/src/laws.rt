@@ -4,9 +4,9 @@ ghost use Rattle.std.specs.Prelude.{◌≡◌, ℕ, List, Ok, Err};
 ghost use Rattle.mrp_rows.specs.declared.fault.Fault.{Fault};
 ghost use Rattle.mrp_rows.specs.declared.fault.Table.{Table};
 ghost use Rattle.mrp_rows.specs.Left.{Cells};
-ghost use Rattle.mrp_tables.specs.Laws.{AreOfTheirTexts, FaultsAtTheirRecords, IsAdmittedFirst, IsFirstTablesFault, IsReadInTurn, IsToldAtItsTable};
+ghost use Rattle.mrp_tables.specs.Laws.{AreOfTheirTexts, FaultsAtTheirRecords, HasOneReading, IsAdmittedFirst, IsFirstTablesFault, IsReadInTurn, IsToldAtItsTable};
 ghost use Rattle.mrp_tables.specs.Reading.{Reads};
-ghost use Rattle.mrp_tables.specs.Tables.{Tables, tables_in};
+ghost use Rattle.mrp_tables.specs.Tables.{AreTables, Tables, tables_in};
 
 /// A table's rows are its records read one by one, each after the rows before it; a fault is the
 /// header's, or that of the first record that cannot be read after those before it.
@@ -39,4 +39,16 @@ pub fn tables_are_read_in_turn()
 pub fn accepted_tables_are_of_their_texts()
     ensures { (texts : List (List ℕ)) (tables : Tables) → tables_in texts ≡ Ok tables
         → AreOfTheirTexts texts tables }
+{}
+
+/// What accepted tables keep follows from their texts alone: rows within their limits, of items that
+/// are there and weeks of the horizon.
+pub fn accepted_tables_keep_their_limits()
+    ensures { (texts : List (List ℕ)) (tables : Tables) → tables_in texts ≡ Ok tables → AreTables tables }
+{}
+
+/// Texts have tables, which keep their limits, or a fault, which is told at its table: one of these,
+/// and no two.
+pub fn texts_have_one_reading()
+    ensures { (texts : List (List ℕ)) → HasOneReading texts }
 {}

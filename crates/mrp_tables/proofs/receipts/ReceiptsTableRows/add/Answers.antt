@@ -2,17 +2,12 @@ use Rattle.std.proofs.Common.{rules, ◌≡◌, ◌++◌, ◌∷◌, [], ◌∙�
 use Rattle.std.specs.Prelude.{is_err}
 use Rattle.std.proofs.lemmas.List.{map-append}
 use Rattle.std.proofs.lemmas.List.Elements.{All-append, All-cons, All-nil}
-use Rattle.std.specs.Cmp.{IsEquivalence, and_equiv, nat_eq_equiv, on_equiv}
-use Rattle.std.specs.Cmp.Lexicographic.{nat_list_eq_equiv}
 use Rattle.mrp_tables.specs.declared.rows.Receipt.{Receipt}
 use Rattle.std.specs.List.{list_any}
 use Rattle.mrp_tables.specs.Receipts.{orders_of, same_order}
 use Rattle.mrp_tables.specs.Facts.{IsReceiptIfAny}
-use Rattle.mrp_tables.proofs.Distinct.{added_key, grown_field, popped, where_refused}
+use Rattle.mrp_tables.proofs.Distinct.{added_key, grown_field, popped, same_order_equiv, where_refused}
 use Rattle.mrp_tables.proofs.receipts.ReceiptsTableRows.add.Goals as goal
-
-same_order_equiv : IsEquivalence same_order
-same_order_equiv = and_equiv (on_equiv (λ (o : ℕ × List ℕ). o.0) nat_eq_equiv) (on_equiv (λ (o : ℕ × List ℕ). o.1) nat_list_eq_equiv)
 
 pub invariant_of-self-else-is_err-2 : goal.invariant_of-self-else-is_err-2
 invariant_of-self-else-is_err-2 c =

@@ -1,0 +1,231 @@
+-- What accepted tables keep, by the definitions alone.
+use Rattle.std.proofs.Common.{◌≡◌, ◌⊎◌, ◌≤◌, ℕ, Bool, true, false, List, [], ◌∷◌, ◌++◌, Result, Ok, Err, inl, inr, refl, sym, subst, ◌∙◌, arith, length}
+use Rattle.std.specs.Prelude.{All, if◌then◌else◌, nat_eq, nat_lt, ◌&&◌}
+use Rattle.std.specs.Cmp.{nat_eq_equiv}
+use Rattle.std.specs.Cmp.Lexicographic.{nat_list_eq_equiv, pointwise}
+use Rattle.std.specs.List.{list_any}
+use Rattle.std.proofs.lemmas.List.Elements.{All-append, All-cons, All-nil}
+use Rattle.mrp_qty.specs.Reading.{◌>>=◌}
+use Rattle.mrp_cal.specs.Calendar.{ShopCalendar}
+use Rattle.mrp_rows.specs.Bundle.{text_in}
+use Rattle.mrp_rows.specs.Cell.{fault_at}
+use Rattle.mrp_rows.specs.declared.fault.Fault.{Fault}
+use Rattle.mrp_rows.specs.declared.faults.TheConstants as faults
+use Rattle.mrp_rows.specs.declared.fault.Table.{Table}
+use Rattle.mrp_rows.specs.declared.fault.Table.TheVariants as t
+use Rattle.mrp_rows.specs.Left.{Cells}
+use Rattle.mrp_rows.specs.Next.{next_number, opened}
+use Rattle.mrp_tables.specs.declared.limits.TheConstants as limits
+use Rattle.mrp_tables.specs.declared.item.Item.{Item}
+use Rattle.mrp_tables.specs.declared.rows.Centre.{Centre}
+use Rattle.mrp_tables.specs.declared.rows.MasterRow.{MasterRow}
+use Rattle.mrp_tables.specs.declared.rows.Operation.{Operation}
+use Rattle.mrp_tables.specs.declared.rows.Receipt.{Receipt}
+use Rattle.mrp_tables.specs.declared.rows.StockRow.{StockRow}
+use Rattle.mrp_tables.specs.Bills.{bill_row}
+use Rattle.mrp_tables.specs.Facts.{AllDiffer, IsBillLine, IsItem, IsMasterRow, IsMasterRowIfAny, IsReceipt, IsReceiptIfAny, IsScriptRow, IsStockRow}
+use Rattle.mrp_tables.specs.Items.{is_master, item_cells, item_row, names_of}
+use Rattle.mrp_tables.specs.Laws.{HasOneReading, IsToldAtItsTable}
+use Rattle.mrp_tables.specs.Master.{master_row, that_count}
+use Rattle.mrp_tables.specs.Readers.{by_dates, by_items, calendar_in, items_in, untaken}
+use Rattle.mrp_tables.specs.Reading.{Reads, admitted, by_itself, rows_from, rows_of}
+use Rattle.mrp_tables.specs.Receipts.{orders_of, receipt_row, receipts_that_count}
+use Rattle.mrp_tables.specs.Script.{script_row}
+use Rattle.mrp_tables.specs.Stock.{items_in_stock, stock_cells, stock_row}
+use Rattle.mrp_tables.specs.Tables.{AreTables, Tables, tables_in}
+use Rattle.mrp_tables.proofs.AcceptedTables.{of_their_texts}
+use Rattle.mrp_tables.proofs.CellsRead.{same_value, unless}
+use Rattle.mrp_tables.proofs.Counting.{counted, no_rows}
+use Rattle.mrp_tables.proofs.Distinct.{grown_field, same_order_equiv}
+use Rattle.mrp_tables.proofs.Kept.{kept, kept-count, kept_orders, kept_receipts, kept_receipts-count}
+use Rattle.mrp_tables.proofs.RecordsRead.{is_bill_line, is_item, is_master_row, is_placed, is_script_row, is_stock_row}
+use Rattle.mrp_tables.proofs.RowLaws.{whole_step}
+use Rattle.mrp_tables.proofs.Stocked.{more_items}
+use Rattle.mrp_tables.proofs.TellingTables.{told_at_its_table}
+
+-- what holds of no row, and of one row more that is read, holds of all
+kept_from : {X : Type 0} (Are : List X → Type 0) (read : Reads X) → ((before : List X) (r : Cells) (x : X) → Are before → read before r ≡ Ok x → Are (before ++ x ∷ []))
+    → (table : Table) (before : List X) (number : ℕ) (left : List (List (List ℕ))) (rows : List X) → Are before → rows_from read table before number left ≡ Ok rows → Are rows
+unfolding rows_from
+kept_from Are read more table before number [] rows are e = subst Are (same_value before rows (Ok before) refl e) are
+kept_from Are read more table before number (cells ∷ rest) rows are e =
+    let r = whole_step (admitted (record { table = table; number = number; cells = cells })) _ rows e in
+    let x = whole_step (read before r.0) _ rows r.2 in
+    kept_from Are read more table (before ++ x.0 ∷ []) (next_number number) rest rows (more before r.0 x.0 are x.1) x.2
+
+kept_of : {X : Type 0} (Are : List X → Type 0) (read : Reads X) → ((before : List X) (r : Cells) (x : X) → Are before → read before r ≡ Ok x → Are (before ++ x ∷ []))
+    → (table : Table) (text : List ℕ) (rows : List X) → Are [] → rows_of read table text ≡ Ok rows → Are rows
+kept_of Are read more table text rows none e =
+    let all = whole_step (opened table text) _ rows e in
+    kept_from Are read more table [] all.0.number all.0.left rows none all.2
+
+with_one : {X : Type 0} (Is : X → Type 0) (xs : List X) (x : X) → All Is xs → Is x → All Is (xs ++ x ∷ [])
+with_one Is xs x all is = All-append Is xs (x ∷ []) all (All-cons Is x [] is (All-nil Is))
+
+each_kept : {X : Type 0} (Is : X → Type 0) (read : Reads X) → ((before : List X) (r : Cells) (x : X) → read before r ≡ Ok x → Is x)
+    → (table : Table) (text : List ℕ) (rows : List X) → rows_of read table text ≡ Ok rows → All Is rows
+each_kept Is read one table text rows e = kept_of (All Is) read (λ before r x all given. with_one Is before x all (one before r x given)) table text rows (All-nil Is) e
+
+none_differ : {X : Type 0} → AllDiffer {X = X} []
+none_differ = λ i j d less within same. absurd (omega (arith, within))
+
+-- a check that let a reading go on
+past_check : {X : Type 0} (b : Bool) (f : Fault) (rest : Result X Fault) (x : X) → (if b then Err f else rest) ≡ Ok x → (b ≡ false) × (rest ≡ Ok x)
+past_check true f rest x given = absurd cc
+past_check false f rest x given = (refl, given)
+
+-- the items, with names that differ
+record AreItems (items : List Item) : Type 0 where
+  within : All IsItem items
+  names : AllDiffer (names_of items)
+
+one_item : (before : List Item) (r : Cells) (item : Item) → AreItems before → item_row before r ≡ Ok item → AreItems (before ++ item ∷ [])
+one_item before r item are e =
+    let read = whole_step (item_cells r) _ item e in
+    let new = past_check (list_any (pointwise nat_eq read.0.name) (names_of before)) (fault_at r faults.REPEATED) _ item read.2 in
+    let last = unless (is_master read.0.class && nat_lt 0 read.0.safety) (fault_at r faults.MASTER_SAFETY) read.0 item new.1 in
+    subst (λ (x : Item). AreItems (before ++ x ∷ [])) last.1 (record {
+      within = more_items before read.0 are.within (is_item r read.0 read.1) last.0;
+      names = grown_field nat_list_eq_equiv (λ (i : Item). i.name) before (before ++ read.0 ∷ []) read.0 refl are.names new.0;
+    })
+
+are_items : (text : List ℕ) (items : List Item) → rows_of item_row t.Items text ≡ Ok items → AreItems items
+are_items text items e = kept_of AreItems item_row one_item t.Items text items (record { within = All-nil IsItem; names = none_differ }) e
+
+-- the stock, with items that differ
+record AreStock (items : List Item) (rows : List StockRow) : Type 0 where
+  within : All (IsStockRow items) rows
+  stocked : AllDiffer (items_in_stock rows)
+
+one_stocked : (items : List Item) (before : List StockRow) (r : Cells) (row : StockRow) → AreStock items before → stock_row items before r ≡ Ok row → AreStock items (before ++ row ∷ [])
+one_stocked items before r row are e =
+    let read = whole_step (stock_cells items r) _ row e in
+    let last = unless (list_any (nat_eq read.0.item) (items_in_stock before)) (fault_at r faults.REPEATED) read.0 row read.2 in
+    subst (λ (x : StockRow). AreStock items (before ++ x ∷ [])) last.1 (record {
+      within = with_one (IsStockRow items) before read.0 are.within (is_stock_row items r read.0 read.1);
+      stocked = grown_field nat_eq_equiv (λ (s : StockRow). s.item) before (before ++ read.0 ∷ []) read.0 refl are.stocked last.0;
+    })
+
+are_stock : (items : List Item) (text : List ℕ) (rows : List StockRow) → rows_of (stock_row items) t.Stock text ≡ Ok rows → AreStock items rows
+are_stock items text rows e = kept_of (AreStock items) (stock_row items) (one_stocked items) t.Stock text rows (record { within = All-nil (IsStockRow items); stocked = none_differ }) e
+
+-- the open receipts, with orders that differ
+record AreReceipts (calendar : ShopCalendar) (items : List Item) (rows : List Receipt) : Type 0 where
+  within : All (IsReceiptIfAny calendar.weeks items) rows
+  ordered : AllDiffer (orders_of rows)
+
+one_receipt : (calendar : ShopCalendar) (items : List Item) (before : List Receipt) (r : Cells) (row : Receipt)
+    → AreReceipts calendar items before → receipt_row calendar items before r ≡ Ok row → AreReceipts calendar items (before ++ row ∷ [])
+one_receipt calendar items before r row are e =
+    let is = is_placed calendar items (orders_of before) r row e in
+    record {
+      within = with_one (IsReceiptIfAny calendar.weeks items) before row are.within is.within;
+      ordered = grown_field same_order_equiv (λ (x : Receipt). (x.item, x.order)) before (before ++ row ∷ []) row refl are.ordered is.fresh;
+    }
+
+are_receipts : (calendar : ShopCalendar) (items : List Item) (text : List ℕ) (rows : List Receipt) → rows_of (receipt_row calendar items) t.Receipts text ≡ Ok rows → AreReceipts calendar items rows
+are_receipts calendar items text rows e =
+    kept_of (AreReceipts calendar items) (receipt_row calendar items) (one_receipt calendar items) t.Receipts text rows
+    (record { within = All-nil (IsReceiptIfAny calendar.weeks items); ordered = none_differ }) e
+
+-- a table that is read beside these
+beside_items : {X : Type 0} (texts : List (List ℕ)) (own : Table) (reads : List Item → Reads X) (items : List Item) (rows : List X) → items_in texts ≡ Ok items
+    → (by_items texts reads >>= λ read. rows_of read own (text_in texts own)) ≡ Ok rows → rows_of (reads items) own (text_in texts own) ≡ Ok rows
+beside_items texts own reads items rows is e = sym (rw is refl) ∙ e
+
+beside_dates : {X : Type 0} (texts : List (List ℕ)) (own : Table) (reads : ShopCalendar → List Item → Reads X) (calendar : ShopCalendar) (items : List Item) (rows : List X)
+    → calendar_in texts ≡ Ok calendar → items_in texts ≡ Ok items
+    → (by_dates texts reads >>= λ read. rows_of read own (text_in texts own)) ≡ Ok rows → rows_of (reads calendar items) own (text_in texts own) ≡ Ok rows
+beside_dates {X} texts own reads calendar items rows is_calendar is_items e =
+    let same : (by_dates texts reads >>= λ read. rows_of read own (text_in texts own)) ≡ rows_of (reads calendar items) own (text_in texts own) = rw (is_calendar, is_items) refl in
+    sym same ∙ e
+
+-- the open receipts that count
+record AreReceiptsKept (calendar : ShopCalendar) (items : List Item) (rows : List Receipt) : Type 0 where
+  within : All (IsReceipt calendar.weeks items) rows
+  ordered : AllDiffer (orders_of rows)
+  count : length rows ≤ limits.MOST_ROWS
+
+receipts_kept : (texts : List (List ℕ)) (calendar : ShopCalendar) (items : List Item) (rows : List Receipt) → calendar_in texts ≡ Ok calendar → items_in texts ≡ Ok items
+    → ((by_dates texts receipt_row >>= λ read. rows_of read t.Receipts (text_in texts t.Receipts)) >>= λ rows. Ok (receipts_that_count rows)) ≡ Ok rows → AreReceiptsKept calendar items rows
+receipts_kept texts calendar items rows is_calendar is_items e =
+    let text = text_in texts t.Receipts in
+    let all = whole_step (by_dates texts receipt_row >>= λ read. rows_of read t.Receipts (text_in texts t.Receipts)) _ rows e in
+    let read = beside_dates texts t.Receipts receipt_row calendar items all.0 is_calendar is_items all.1 in
+    let are = are_receipts calendar items text all.0 read in
+    let few = counted (receipt_row calendar items) t.Receipts text all.0 limits.MOST_ROWS refl read in
+    let fewer = kept_receipts-count all.0 in
+    subst (AreReceiptsKept calendar items) (same_value (receipts_that_count all.0) rows (Ok (receipts_that_count all.0)) refl all.2) (record {
+      within = kept_receipts calendar.weeks items all.0 are.within;
+      ordered = kept_orders all.0 are.ordered;
+      count = omega (arith, few, fewer);
+    })
+
+-- the rows of the master schedule that count
+record AreMasterKept (calendar : ShopCalendar) (items : List Item) (rows : List MasterRow) : Type 0 where
+  within : All (IsMasterRow calendar.weeks items) rows
+  count : length rows ≤ limits.MOST_ROWS
+
+master_kept : (texts : List (List ℕ)) (calendar : ShopCalendar) (items : List Item) (rows : List MasterRow) → calendar_in texts ≡ Ok calendar → items_in texts ≡ Ok items
+    → ((by_dates texts (λ calendar items. by_itself (master_row calendar items)) >>= λ read. rows_of read t.Master (text_in texts t.Master)) >>= λ rows. Ok (that_count rows)) ≡ Ok rows → AreMasterKept calendar items rows
+master_kept texts calendar items rows is_calendar is_items e =
+    let text = text_in texts t.Master in
+    let all = whole_step (by_dates texts (λ calendar items. by_itself (master_row calendar items)) >>= λ read. rows_of read t.Master (text_in texts t.Master)) _ rows e in
+    let read = beside_dates texts t.Master (λ calendar items. by_itself (master_row calendar items)) calendar items all.0 is_calendar is_items all.1 in
+    let are = each_kept (IsMasterRowIfAny calendar.weeks items) (by_itself (master_row calendar items)) (λ before. is_master_row calendar items) t.Master text all.0 read in
+    let few = counted (by_itself (master_row calendar items)) t.Master text all.0 limits.MOST_ROWS refl read in
+    let fewer = kept-count all.0 in
+    subst (AreMasterKept calendar items) (same_value (that_count all.0) rows (Ok (that_count all.0)) refl all.2) (record {
+      within = kept calendar.weeks items all.0 are;
+      count = omega (arith, few, fewer);
+    })
+
+pub are_tables : (texts : List (List ℕ)) (tables : Tables) → tables_in texts ≡ Ok tables → AreTables tables
+are_tables texts tables e =
+    let own = of_their_texts texts tables e in
+    let calendar = tables.calendar in
+    let items = tables.items in
+    let item_facts = are_items (text_in texts t.Items) items own.items in
+    let stock = are_stock items (text_in texts t.Stock) tables.stock (beside_items texts t.Stock stock_row items tables.stock own.items own.stock) in
+    let receipts = receipts_kept texts calendar items tables.receipts own.calendar own.items own.receipts in
+    let lines = beside_items texts t.Bills (λ items. by_itself (bill_row items)) items tables.bills own.items own.bills in
+    let master = master_kept texts calendar items tables.master own.calendar own.items own.master in
+    let calls = beside_dates texts t.Script (λ calendar items. by_itself (script_row calendar items)) calendar items tables.script own.calendar own.items own.script in
+    record {
+      items = item_facts.within;
+      names = item_facts.names;
+      item_count = counted item_row t.Items (text_in texts t.Items) items limits.MOST_ITEMS refl own.items;
+      centres = no_rows tables.centres (counted (untaken {X = Centre}) t.Centres (text_in texts t.Centres) tables.centres 0 refl own.centres);
+      stock = stock.within;
+      stocked = stock.stocked;
+      receipts = receipts.within;
+      ordered = receipts.ordered;
+      receipt_count = receipts.count;
+      bills = each_kept (IsBillLine items) (by_itself (bill_row items)) (λ before. is_bill_line items) t.Bills (text_in texts t.Bills) tables.bills lines;
+      line_count = counted (by_itself (bill_row items)) t.Bills (text_in texts t.Bills) tables.bills limits.MOST_ROWS refl lines;
+      routings = no_rows tables.routings (counted (untaken {X = Operation}) t.Routings (text_in texts t.Routings) tables.routings 0 refl own.routings);
+      master = master.within;
+      master_count = master.count;
+      script = each_kept (IsScriptRow calendar.weeks items) (by_itself (script_row calendar items)) (λ before. is_script_row calendar items) t.Script (text_in texts t.Script) tables.script calls;
+      script_count = counted (by_itself (script_row calendar items)) t.Script (text_in texts t.Script) tables.script limits.MOST_ROWS refl calls;
+    }
+
+-- texts have tables or a fault
+same_fault : (f g : Fault) (r : Result Tables Fault) → r ≡ Err f → r ≡ Err g → f ≡ g
+same_fault f g r is e = cc
+
+not_both : (tables : Tables) (f : Fault) (r : Result Tables Fault) → r ≡ Ok tables → r ≡ Err f → ⊥
+not_both tables f r is e = absurd cc
+
+pub one_reading : (texts : List (List ℕ)) → HasOneReading texts
+one_reading texts = record {
+  either = by (tables_in texts) refl;
+  tables = λ a b. same_value a b (tables_in texts);
+  faults = λ f g. same_fault f g (tables_in texts);
+  apart = λ tables f. not_both tables f (tables_in texts);
+}
+  where
+    by : (r : Result Tables Fault) → tables_in texts ≡ r
+        → ((tables : Tables) × (tables_in texts ≡ Ok tables) × AreTables tables) ⊎ ((f : Fault) × (tables_in texts ≡ Err f) × IsToldAtItsTable texts f)
+    by (Ok tables) e = inl (tables, e, are_tables texts tables e)
+    by (Err f) e = inr (f, e, told_at_its_table texts f e)
