@@ -1,6 +1,6 @@
 //! The plan of an item, from its parents' outcomes.
 
-ghost use Rattle.std.specs.Prelude.{◌≡◌, ◌≤◌, ◌<◌, ◌+◌, ◌↔◌, ℕ, true, IsTrue, length, sum, sum_by, IfOk, OnOk, IfErr};
+ghost use Rattle.std.specs.Prelude.{◌≡◌, ◌≤◌, ◌<◌, ◌+◌, ◌↔◌, ℕ, true, IsTrue, length, sum, sum_by, IfOk, OnOk, IfErr, MatchResult};
 ghost use Rattle.std.specs.List.{list_all};
 ghost use Rattle.mrp_qty.specs.Quantity.{greatest_quantity, quantity_of};
 ghost use Rattle.mrp_phase.specs.Weeks.{in_week, row};
@@ -147,6 +147,17 @@ fn own_rows(
     })
 }
 
+// What planning makes of an item whose rows can't be finished.
+fn unfinished(source: Arc<Inputs>, item: usize, stop: Stop) -> Result<Outcome, NoMemory>
+    requires { stop ≡ Stop.Over → outcome_of source.value item ≡ plan.Over }
+    ensures { MatchResult result (λ o. (stop ≡ Stop.Over) × (o ≡ item_from source.value item)) (λ _. stop ≡ Stop.NoMemory) }
+{
+    match stop {
+        Stop::Over => Ok(Outcome::over(source, item)),
+        Stop::NoMemory => Err(NoMemory),
+    }
+}
+
 /// What planning makes of an item: its plan, or that it is over, or that one above it is (profile).
 /// It plans by netting, the item's lot rule, scrap and lead (Orlicky).
 ///
@@ -173,7 +184,6 @@ pub fn plan_item(
             let planned = Planned::new(source, item, Arc::new(alloc, rows)?);
             Ok(Outcome::planned(planned))
         }
-        Err(Stop::Over) => Ok(Outcome::over(source, item)),
-        Err(Stop::NoMemory) => Err(NoMemory),
+        Err(stop) => unfinished(source, item, stop),
     }
 }
