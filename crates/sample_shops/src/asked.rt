@@ -10,7 +10,7 @@ use mrp_qty::Qty;
 use std::test::Fail;
 
 /// What a desk asks of the first item of a shop: weeks, pieces and the numbers of bookings.
-#[derive(Clone, Copy, Debug, PartialEq, Eq)]
+#[derive(Clone, Copy)]
 pub enum Asked {
     /// Book these pieces for this week.
     Book(u16, u64),

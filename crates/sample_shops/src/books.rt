@@ -15,14 +15,34 @@ pub fn book_of(alloc: Global, shop: &Shop, calls: &[(u64, Asked)]) -> Result<Boo
     ensures { IfOk result (λ b. b.supply ≡ supply_of shop.now.tables) }
 {
     let mut book = Book::open(alloc, shop)?;
+    match make_calls(alloc, shop, &mut book, calls) {
+        Ok(()) => Ok(book),
+        Err(fail) => {
+            drop(book);
+            Err(fail)
+        }
+    }
+}
+
+// Makes these calls of a shop's desks on its order book.
+fn make_calls(
+    alloc: Global,
+    shop: &Shop,
+    book: &mut Book,
+    calls: &[(u64, Asked)],
+) -> Result<(), Fail>
+    requires { book.old.supply ≡ supply_of shop.now.tables }
+    ensures { IfOk result (λ _. book.new.supply ≡ supply_of shop.now.tables) }
+{
     for (desk, asked) in calls {
         if *desk < 1 || 64 < *desk {
             return Err(Fail::from("a desk from 1 to 64"));
         }
         let call = asked.call(shop)?;
-        book.call(alloc, *desk, call)?;
+        let answered = book.call(alloc, *desk, call)?;
+        drop(answered);
     }
-    Ok(book)
+    Ok(())
 }
 
 /// What stands after these calls of a shop's desks: desk 1 asks for it.

@@ -17,14 +17,17 @@ fn names_are_compared_and_shown_by_their_text(rt: HostRuntime) {
     same(&rt, bike.as_bytes(), b"BIKE".as_slice());
     let shown = format!(in rt.alloc(); "{bike:?}").expect(&rt, "memory");
     same(&rt, shown.as_str(), "Name(BIKE)");
+    drop(shown);
 }
 
 // The second record of a bundle's stock.
 fn second_of(rt: &impl Abort, alloc: Global, bundle: &[u8]) -> Row {
     let sections = split_bundle(bundle).expect(rt, "sections");
     let mut cursor = Cursor::new(alloc, &sections, Table::Stock).expect(rt, "a header");
-    let _first = next_row(rt, &mut cursor);
-    next_row(rt, &mut cursor)
+    let first = next_row(rt, &mut cursor);
+    let second = next_row(rt, &mut cursor);
+    drop((first, cursor));
+    second
 }
 
 // The second record of a stock, whose last cell has this text.
@@ -33,6 +36,7 @@ fn row_of(rt: &impl Abort, alloc: Global, cell: &[u8]) -> Row
 {
     let bundle = stock_of(rt, alloc, b"item,onhand\nFIRST,1\n2,", cell);
     let row = second_of(rt, alloc, &bundle);
+    drop(bundle);
     assert!(rt; row.cell_count() == 2);
     row
 }
@@ -72,7 +76,10 @@ fn number_in(
     least: u64,
     most: u64,
 ) -> Result<u64, Fault> {
-    row_of(rt, alloc, cell).number(1, least, most)
+    let row = row_of(rt, alloc, cell);
+    let number = row.number(1, least, most);
+    drop(row);
+    number
 }
 
 // A cell, the least and the greatest number, and what is read.
@@ -165,7 +172,9 @@ fn is_name(rt: &impl Abort, got: Result<Name, Fault>, want: Option<&[u8]>) {
 #[test]
 fn names_are_short_printable_texts(rt: HostRuntime) {
     for (cell, want) in NAMES {
-        is_name(&rt, row_of(&rt, rt.alloc(), cell).name(1), *want);
+        let row = row_of(&rt, rt.alloc(), cell);
+        is_name(&rt, row.name(1), *want);
+        drop(row);
     }
 }
 
@@ -193,13 +202,18 @@ fn words_are_told_by_their_places(rt: HostRuntime) {
         (b"\xFF", Err(NOT_A_WORD)),
     ];
     for (cell, want) in CELLS {
-        is_word(&rt, &row_of(&rt, rt.alloc(), cell), cell, *want);
+        let row = row_of(&rt, rt.alloc(), cell);
+        is_word(&rt, &row, cell, *want);
+        drop(row);
     }
 }
 
 // The year, month and day that are read of a cell.
 fn date_in(rt: &impl Abort, alloc: Global, cell: &[u8]) -> Result<(i16, i8, i8), Fault> {
-    match row_of(rt, alloc, cell).date(1) {
+    let row = row_of(rt, alloc, cell);
+    let read = row.date(1);
+    drop(row);
+    match read {
         Ok(date) => Ok((date.year(), date.month(), date.day())),
         Err(fault) => Err(fault),
     }
@@ -235,4 +249,5 @@ fn a_refusal_names_the_record(rt: HostRuntime) {
     same(&rt, row.number(0, 0, 9), Ok(2));
     same(&rt, row.number(1, 0, 9), Err(NOT_A_NUMBER));
     same(&rt, row.fault(13), UNKNOWN);
+    drop(row);
 }

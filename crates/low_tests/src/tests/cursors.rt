@@ -42,7 +42,9 @@ fn end_of(rt: &impl Abort, cursor: &mut Cursor<'_>) -> Result<(), Fault> {
 // Fails unless these records come, and then end so for good.
 fn come(rt: &impl Abort, cursor: &mut Cursor<'_>, records: &[&[&[u8]]], end: Result<(), Fault>) {
     for place in 0..records.len() {
-        is_row(rt, &next_row(rt, cursor), place + 1, records[place]);
+        let row = next_row(rt, cursor);
+        is_row(rt, &row, place + 1, records[place]);
+        drop(row);
     }
     same(rt, end_of(rt, cursor), end);
     same(rt, end_of(rt, cursor), Ok(()));
@@ -62,6 +64,7 @@ fn has_records(
     let table = one_of_nine(rt, table);
     let mut cursor = Cursor::new(alloc, &sections, table).expect(rt, "a header");
     come(rt, &mut cursor, records, end);
+    drop(cursor);
 }
 
 #[test]
@@ -103,7 +106,13 @@ fn a_header_is_exactly_the_names_of_the_columns(rt: HostRuntime) {
 // The fault of a bundle's stock before its first record.
 fn header_fault(rt: &impl Abort, alloc: Global, bundle: &[u8]) -> Option<Fault> {
     let sections = split_bundle(bundle).expect(rt, "sections");
-    Cursor::new(alloc, &sections, Table::Stock).err()
+    match Cursor::new(alloc, &sections, Table::Stock) {
+        Ok(cursor) => {
+            drop(cursor);
+            None
+        }
+        Err(fault) => Some(fault),
+    }
 }
 
 #[test]

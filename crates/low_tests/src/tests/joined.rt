@@ -17,6 +17,7 @@ fn a_part_is_its_section_line_its_bytes_and_a_line_feed(rt: HostRuntime) {
     same(&rt, bundle.as_slice(), BUNDLE);
     let nothing = join_bundle(rt.alloc(), &[]).expect(&rt, "memory");
     same(&rt, nothing.len(), 0);
+    drop((bundle, nothing));
 }
 
 // The tables of a shop, in their order, as they are kept apart.
@@ -59,6 +60,7 @@ fn the_joined_tables_of_a_shop_are_split_again(rt: HostRuntime) {
         let text = sections.text_of(one_of_nine(&rt, *table));
         same(&rt, (*table, text), (*table, *want));
     }
+    drop(bundle);
 }
 
 // The fault of a bundle as text, or that there is none.
@@ -72,7 +74,9 @@ fn told(rt: &impl Abort, alloc: Global, bundle: &[u8]) -> String {
 // Fails unless the bundle that these parts are joined to is told so.
 fn is_told(rt: &impl Abort, alloc: Global, parts: &[(Table, &[u8])], want: &str) {
     let bundle = join_bundle(alloc, parts).expect(rt, "memory");
-    same(rt, told(rt, alloc, &bundle).as_str(), want);
+    let text = told(rt, alloc, &bundle);
+    same(rt, text.as_str(), want);
+    drop((bundle, text));
 }
 
 #[test]

@@ -55,7 +55,11 @@ fn counts_of(tables: &Tables) -> [usize; 5] {
 fn counts(alloc: Global, bundle: &str) -> Result<[usize; 5], Fault> {
     let sections = split_bundle(bundle.as_bytes())?;
     match Tables::read(alloc, &sections) {
-        Ok(tables) => Ok(counts_of(&tables)),
+        Ok(tables) => {
+            let counts = counts_of(&tables);
+            drop(tables);
+            Ok(counts)
+        }
         Err(fault) => Err(fault),
     }
 }
@@ -76,7 +80,9 @@ fn has_rows(
     want: Result<[usize; 5], &str>,
 ) {
     let bundle = shop_with(rt, alloc, record, records);
-    match counts(alloc, &bundle) {
+    let read = counts(alloc, &bundle);
+    drop(bundle);
+    match read {
         Ok(counts) => same(rt, Ok(counts), want),
         Err(fault) => {
             let text = fault_text(alloc, &fault).expect(rt, "memory");
@@ -178,9 +184,7 @@ fn an_item_or_receipt_past_the_limit_is_refused(rt: HostRuntime) {
 fn the_last_of_as_many_items_as_the_limit_is_found(rt: HostRuntime) {
     let items = numbered(&rt, rt.alloc(), "P", ",part,1,0,lfl,0,0\n", 19_997);
     let bundle = shop_with(&rt, rt.alloc(), "P,part,1,0,lfl,0,0\n", &items);
-    are_found(
-        &rt,
-        &read(&rt, rt.alloc(), &bundle),
-        &[("P19997", Some(19_999))],
-    );
+    let tables = read(&rt, rt.alloc(), &bundle);
+    are_found(&rt, &tables, &[("P19997", Some(19_999))]);
+    drop((items, bundle, tables));
 }

@@ -39,6 +39,7 @@ fn comes<L: Lot>(rt: &impl Abort, alloc: Global, gross: &[u64; 6], lot: &L, want
     let needs = needs_of(rt, alloc, gross);
     let received = lawful(alloc, &needs, lot).expect(rt, "receipts");
     has_row(rt, alloc, &received, want);
+    drop((needs, received));
 }
 
 #[test]

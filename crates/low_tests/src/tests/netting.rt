@@ -105,13 +105,12 @@ fn is_netted(
 ) {
     of_one_length(rt, &stock.scheduled, gross);
     let needs = need(alloc, gross, stock).expect(rt, "needs");
-    same(
-        rt,
-        needs.as_slice(),
-        row_of(rt, alloc, &item.needs).as_slice(),
-    );
+    let want = row_of(rt, alloc, &item.needs);
+    same(rt, needs.as_slice(), want.as_slice());
+    drop((needs, want));
     let balances = balances_of(rt, alloc, gross, stock, receipts).expect(rt, "balances");
     has_row(rt, alloc, &balances, &item.balances);
+    drop(balances);
 }
 
 #[test]
@@ -121,6 +120,7 @@ fn bikes_frames_and_wheels_are_netted(rt: HostRuntime) {
         let stock = stock_of(&rt, rt.alloc(), item.on_hand, item.safety, &item.scheduled);
         let receipts = row_of(&rt, rt.alloc(), &item.receipts);
         is_netted(&rt, rt.alloc(), &gross, &stock, &receipts, item);
+        drop((gross, stock, receipts));
     }
 }
 
@@ -210,5 +210,6 @@ fn sums_reach_the_greatest_quantity_and_no_more(rt: HostRuntime) {
         let stock = stock_of(&rt, rt.alloc(), item.on_hand, item.safety, &item.scheduled);
         let receipts = row_of(&rt, rt.alloc(), &item.receipts);
         is_refused(&rt, rt.alloc(), &gross, &stock, &receipts, item);
+        drop((gross, stock, receipts));
     }
 }

@@ -104,6 +104,7 @@ fn a_bundle_is_read_to_its_end(rt: HostRuntime) {
     same(&rt, reader.into_inner().len(), 0);
     let mut empty = Told::new(b"".as_slice());
     same(&rt, bundle_from(&rt, rt.alloc(), &mut empty).len(), 0);
+    drop((given, bytes));
 }
 
 #[test]

@@ -80,6 +80,7 @@ fn has_six_weeks(rt: &impl Abort, calendar: &Calendar) {
 fn dates_are_read_as_weeks_of_the_calendar(rt: HostRuntime) {
     let shop = read(&rt, rt.alloc(), SHOP);
     has_six_weeks(&rt, shop.calendar());
+    drop(shop);
 }
 
 // An item: name, class, lead, scrap, lot rule and safety stock.
@@ -114,6 +115,7 @@ fn items_are_read_with_scrap_lots_and_safety_stock(rt: HostRuntime) {
     ];
     let shop = read(&rt, rt.alloc(), SHOP);
     are_items(&rt, shop.items(), ITEMS);
+    drop(shop);
 }
 
 // Fails unless the items of these names have these places.
@@ -136,6 +138,7 @@ fn items_are_found_by_their_whole_names(rt: HostRuntime) {
     ];
     let shop = read(&rt, rt.alloc(), SHOP);
     are_found(&rt, &shop, NAMES);
+    drop(shop);
 }
 
 // Fails unless so much is on hand of these items.
@@ -164,6 +167,7 @@ fn stock_and_bill_lines_are_read_with_their_places(rt: HostRuntime) {
     let shop = read(&rt, rt.alloc(), SHOP);
     are_on_hand(&rt, shop.stock(), ON_HAND);
     same(&rt, shop.bills(), LINES);
+    drop(shop);
 }
 
 // An open receipt: record, item, order, week and pieces.
@@ -189,6 +193,7 @@ fn receipts_of_some_pieces_stand_in_table_order(rt: HostRuntime) {
     ];
     let shop = read(&rt, rt.alloc(), SHOP);
     are_receipts(&rt, shop.receipts(), RECEIPTS);
+    drop(shop);
 }
 
 // A row of the master schedule: record, item, kind, week and pieces.
@@ -217,6 +222,7 @@ fn firm_rows_and_forecasts_of_some_pieces_stand_in_table_order(rt: HostRuntime) 
     ];
     let shop = read(&rt, rt.alloc(), SHOP);
     are_master_rows(&rt, shop.master(), ROWS);
+    drop(shop);
 }
 
 // A call: its word, item and week, and its quantity or number.
@@ -257,6 +263,7 @@ fn calls_are_read_with_places_and_weeks(rt: HostRuntime) {
     ];
     let shop = read(&rt, rt.alloc(), SHOP);
     are_calls(&rt, shop.script(), CALLS);
+    drop(shop);
 }
 
 // A calendar, and no record in any other table.
@@ -303,4 +310,5 @@ fn tables_of_headers_alone_have_no_rows(rt: HostRuntime) {
     same(&rt, shop.calendar().weeks(), 6);
     same(&rt, counts(&shop), [0; 8]);
     are_found(&rt, &shop, &[("BIKE", None)]);
+    drop(shop);
 }

@@ -110,7 +110,9 @@ fn reads_are_told_by_what_came_of_them(rt: HostRuntime) {
 
 // Fails unless a writer has taken these bytes.
 pub fn has_taken(rt: &impl Abort, writer: Told<FakeWriter<'_>>, want: &[u8]) {
-    same(rt, writer.into_inner().taken.as_slice(), want);
+    let FakeWriter { turns: _, taken } = writer.into_inner();
+    same(rt, taken.as_slice(), want);
+    drop(taken);
 }
 
 #[test]

@@ -14,11 +14,12 @@ use std::thread::Threads;
 
 // Fails unless a new lock has so many seats, with the numbers from 1 on.
 fn has_seats(rt: &impl Abort, alloc: Global, count: u64) {
-    let (_turn, seats) = Turn::new(alloc, Tally, 0, 4, count).expect(rt, "a lock");
+    let (turn, seats) = Turn::new(alloc, Tally, 0, 4, count).expect(rt, "a lock");
     same(rt, seats.len() as u64, count);
     for place in 0..seats.len() {
         same(rt, seats[place].number(), place as u64 + 1);
     }
+    drop((turn, seats));
 }
 
 #[test]
@@ -42,6 +43,7 @@ fn seats_split_and_joined_leave_an_empty_log(rt: HostRuntime) {
     for count in 1..=64 {
         let (state, log) = joined(rt.alloc(), count).expect(&rt, "a lock");
         same(&rt, (state, log.is_empty()), (0, true));
+        drop(log);
     }
 }
 
@@ -93,8 +95,10 @@ fn a_sum_that_is_too_high_leaves_state_and_log(rt: HostRuntime) {
         (Call::Add(MOST), None),
         (Call::Read, Some((2, 1))),
     ];
-    let (turn, seat, _) = two_seats(&rt, rt.alloc(), 0);
+    let (turn, seat, other) = two_seats(&rt, rt.alloc(), 0);
+    drop(other);
     are_answered(&rt, &turn, seat, CALLS);
+    drop(turn);
 }
 
 #[test]
@@ -104,8 +108,10 @@ fn a_sum_may_reach_the_greatest(rt: HostRuntime) {
         (Call::Add(u64::MAX), None),
         (Call::Read, Some((2, MOST))),
     ];
-    let (turn, seat, _) = two_seats(&rt, rt.alloc(), 3);
+    let (turn, seat, other) = two_seats(&rt, rt.alloc(), 3);
+    drop(other);
     are_answered(&rt, &turn, seat, CALLS);
+    drop(turn);
 }
 
 #[test]
@@ -115,6 +121,7 @@ fn a_seat_that_meets_another_goes_on_from_its_calls(rt: HostRuntime) {
     same(&rt, answered, Some((1, 5)));
     let met = turn.meet(&rt, &mut second, &mut first, Call::Read);
     same(&rt, met.ok(), Some((2, Reply::Sum(5))));
+    drop((turn, first, second));
 }
 
 // Calls Add(1) that often.
@@ -174,6 +181,7 @@ fn one_seat_leaves_its_calls_in_order(rt: HostRuntime) {
     for (entry, want) in log.entries().iter().zip(ENTRIES) {
         same(&rt, (entry.who, entry.call, entry.reply), *want);
     }
+    drop(log);
 }
 
 // Fails unless so many seats, which call so often in threads of their own, have that many entries
@@ -192,6 +200,7 @@ fn calls_from_threads_all_stand_in_one_log(rt: HostRuntime) {
     for (count, times) in [(2, 1000), (64, 10)] {
         let (state, log) = counted(&rt, rt.alloc(), count, times).expect(&rt, "a lock");
         all_stand(&rt, state, &log, count, times);
+        drop(log);
     }
 }
 
