@@ -1,8 +1,8 @@
 -- Whether anything leads to itself, decided; and codes where nothing does.
-use Rattle.std.proofs.Common.{◌≡◌, ◌≢◌, ◌⊎◌, inl, inr, ℕ, zero, suc, ◌+◌, ◌<◌, ◌≤◌, Bool, true, false, cond, List, [], ◌∷◌, ◌++◌, length, map, refl, sym, ap, subst, ◌∙◌, arith}
+use Rattle.std.proofs.Common.{◌≡◌, ◌⊎◌, inl, inr, ℕ, zero, suc, ◌+◌, ◌<◌, ◌≤◌, Bool, true, false, cond, refl, sym, ap, subst, ◌∙◌, arith}
 use Rattle.std.specs.Prelude.{◌||◌, ◌&&◌, max}
 use Rattle.std.proofs.lemmas.Bool.{cases_lt}
-use Rattle.mrp_bill.specs.Links.{Links, Leads, IsTrail, IsRound, IsFirstRound, AreRising}
+use Rattle.mrp_bill.specs.Links.{Links, Leads, IsFirstRound, AreRising}
 use Rattle.mrp_bill.proofs.Linked.{below_one_more}
 
 -- what a test says of each two
@@ -32,10 +32,6 @@ and_both false y h k = absurd (cc)
 and_parts : (x y : Bool) → (x && y) ≡ true → (x ≡ true) × (y ≡ true)
 and_parts true y h = (refl, h)
 and_parts false y h = absurd (cc)
-
-is_false : (x : Bool) → (x ≡ true → ⊥) → x ≡ false
-is_false true h = absurd (h refl)
-is_false false h = refl
 
 -- chains one behind the other
 leads-on : (R : ℕ → ℕ → Type 0) (m a b c : ℕ) → Leads R a b → Links R m b c → Leads R a c

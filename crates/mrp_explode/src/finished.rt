@@ -19,6 +19,13 @@ pub struct Finished {
     outcomes: Vec<Option<Outcome>>,
 }
 
+// Why a run has no plan, by the first item that is over.
+fn too_large(item: usize) -> RunFault
+    ensures { result ≡ RunFault.TooLarge item }
+{
+    RunFault::TooLarge { item }
+}
+
 impl Finished {
     // No item is planned yet.
     pub fn new(alloc: Global, inputs: &Arc<Inputs>) -> Result<Finished, NoMemory>
@@ -131,9 +138,6 @@ impl Finished {
             inputs,
             outcomes: _,
         } = self;
-        match Plan::of(inputs, outcomes) {
-            Ok(plan) => Ok(plan),
-            Err(item) => Err(RunFault::TooLarge { item }),
-        }
+        Plan::of(inputs, outcomes).map_err(too_large)
     }
 }

@@ -1,5 +1,5 @@
 use Rattle.std.proofs.Common.{◌≡◌, ◌∙◌, length, refl, sym}
-use Rattle.std.specs.Prelude.{Option, Some, None, Result, Ok, Err, ok_or}
+use Rattle.std.specs.Prelude.{Option, Some, None, Err, ok_or}
 use Rattle.mrp_phase.specs.Weeks.{in_week}
 use Rattle.mrp_lots.specs.LotLaws.{receipts-past}
 use Rattle.mrp_lots.proofs.sizing.receipts.Goals as goal
