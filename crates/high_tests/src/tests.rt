@@ -1,4 +1,5 @@
-//! What no worked day shows: calls of the libraries, readers and writers that fail, and words.
+//! What no worked day shows: calls of the libraries, readers and writers that fail, and words. Tests
+//! give what is large to `drop`, which is proved once and not at the end of each scope.
 
 ghost use Rattle.std.specs.Prelude.{◌≡◌, Ok};
 

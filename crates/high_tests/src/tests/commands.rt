@@ -90,8 +90,11 @@ fn bundles_are_planned_by_1_to_64_workers(rt: HostRuntime) {
     ];
     let bundle = made(&rt, bicycles().bundle(rt.alloc()));
     for words in WORDS {
-        is_planned(&rt, &left_by(&rt, rt.alloc(), words, Streams::of(&bundle)));
+        let left = left_by(&rt, rt.alloc(), words, Streams::of(&bundle));
+        is_planned(&rt, &left);
+        drop(left);
     }
+    drop(bundle);
 }
 
 #[test]
@@ -110,6 +113,7 @@ fn short_and_interrupted_reads_and_writes_are_gone_on_with(rt: HostRuntime) {
     let left = left_by(&rt, rt.alloc(), PLAN, streams);
     is_planned(&rt, &left);
     same(&rt, left.interrupted, (1, 2));
+    drop((left, bundle));
 }
 
 #[test]
@@ -121,6 +125,7 @@ fn a_reader_that_fails_is_told(rt: HostRuntime) {
     };
     let left = left_by(&rt, rt.alloc(), PLAN, streams);
     has_ended(&rt, &left, 4, "", "read failed\n");
+    drop((left, bundle));
 }
 
 #[test]
@@ -138,7 +143,9 @@ fn a_writer_that_fails_has_a_front_of_the_day(rt: HostRuntime) {
         };
         let left = left_by(&rt, rt.alloc(), PLAN, streams);
         has_ended(&rt, &left, 4, "[history]\nen", "write failed\n");
+        drop(left);
     }
+    drop(bundle);
 }
 
 // The status of a run whose error stream fails.
@@ -152,7 +159,10 @@ fn unheard_status<R: Alloc + Abort + Threads + Sync>(
         tells: &[Turn::Fails],
         ..Streams::of(input)
     };
-    left_by(rt, alloc, words, streams).status
+    let left = left_by(rt, alloc, words, streams);
+    let status = left.status;
+    drop(left);
+    status
 }
 
 #[test]
@@ -164,6 +174,14 @@ fn a_failing_error_stream_changes_no_status(rt: HostRuntime) {
     same(&rt, unheard_status(&rt, alloc, PLAN, ""), 1);
     same(&rt, unheard_status(&rt, alloc, &wrong, &bundle), 2);
     same(&rt, unheard_status(&rt, alloc, &["--help"], &bundle), 0);
+    drop(bundle);
+}
+
+// Fails unless words were wrong, and this is the first line on the error stream.
+fn is_usage(rt: &impl Abort, left: &Left, line: &str) {
+    same(rt, left.status, 2);
+    same(rt, left.output.as_str(), "");
+    same(rt, left.errors.as_str().lines().next(), Some(line));
 }
 
 #[test]
@@ -203,10 +221,18 @@ fn wrong_words_are_usage(rt: HostRuntime) {
     let bundle = made(&rt, bicycles().bundle(rt.alloc()));
     for (words, line) in WRONG {
         let left = left_by(&rt, rt.alloc(), words, Streams::of(&bundle));
-        same(&rt, left.status, 2);
-        same(&rt, left.output.as_str(), "");
-        same(&rt, left.errors.as_str().lines().next(), Some(line));
+        is_usage(&rt, &left, line);
+        drop(left);
     }
+    drop(bundle);
+}
+
+// Fails unless a help was written.
+fn is_help(rt: &impl Abort, left: &Left) {
+    let output = left.output.as_str();
+    same(rt, output.contains("mrp plan < shop.bundle"), true);
+    same(rt, left.status, 0);
+    same(rt, left.errors.as_str(), "");
 }
 
 #[test]
@@ -219,8 +245,7 @@ fn help_is_written_to_the_output(rt: HostRuntime) {
     ];
     for words in ASKED {
         let left = left_by(&rt, rt.alloc(), words, Streams::of(""));
-        same(&rt, left.status, 0);
-        assert!(rt; left.output.as_str().contains("mrp plan < shop.bundle"));
-        same(&rt, left.errors.as_str(), "");
+        is_help(&rt, &left);
+        drop(left);
     }
 }

@@ -35,12 +35,11 @@ fn a_day_has_its_history_and_its_report(rt: HostRuntime) {
 1,run,,,,\n",
         ..bicycles_in_lots()
     };
-    let text = day_of(&rt, rt.alloc(), &made(&rt, shop.bundle(rt.alloc())), Ok(()));
-    same(
-        &rt,
-        text.as_str().strip_prefix(LOTS_HISTORY),
-        Some(LOTS_REPORT),
-    );
+    let bundle = made(&rt, shop.bundle(rt.alloc()));
+    let text = day_of(&rt, rt.alloc(), &bundle, Ok(()));
+    let report = text.as_str().strip_prefix(LOTS_HISTORY);
+    same(&rt, report, Some(LOTS_REPORT));
+    drop((bundle, text));
 }
 
 #[test]
@@ -51,6 +50,8 @@ fn nothing_is_written_where_a_later_run_gets_too_large(rt: HostRuntime) {
     };
     let name = Name::new(b"B").expect(&rt, "a name");
     let end = Err(DayFault::TooLarge(name));
-    let text = day_of(&rt, rt.alloc(), &made(&rt, shop.bundle(rt.alloc())), end);
+    let bundle = made(&rt, shop.bundle(rt.alloc()));
+    let text = day_of(&rt, rt.alloc(), &bundle, end);
     same(&rt, text.as_str(), "");
+    drop((bundle, text));
 }

@@ -22,6 +22,7 @@ fn explodes<R: Alloc + Abort + Threads + Sync>(
     let levels = explode_levels(rt, alloc, inputs).expect(rt, "a plan");
     has_report(rt, alloc, &serial, want);
     has_report(rt, alloc, &levels, want);
+    drop((serial, levels));
 }
 
 // Fails unless both calls refuse the plan by an item.
@@ -35,18 +36,21 @@ fn is_refused<R: Abort + Threads + Sync>(rt: &R, alloc: Global, inputs: &Arc<Inp
 fn bicycles_explode(rt: HostRuntime) {
     let inputs = made(&rt, bicycles().inputs(rt.alloc(), &[]));
     explodes(&rt, rt.alloc(), &inputs, BICYCLE_REPORT);
+    drop(inputs);
 }
 
 #[test]
 fn bicycles_in_lots_explode(rt: HostRuntime) {
     let inputs = made(&rt, bicycles_in_lots().inputs(rt.alloc(), morning()));
     explodes(&rt, rt.alloc(), &inputs, LOTS_REPORT);
+    drop(inputs);
 }
 
 #[test]
 fn a_part_at_three_levels_is_planned_once(rt: HostRuntime) {
     let inputs = made(&rt, screws().inputs(rt.alloc(), &[]));
     explodes(&rt, rt.alloc(), &inputs, SCREW_REPORT);
+    drop(inputs);
 }
 
 #[test]
@@ -58,6 +62,7 @@ fn the_first_item_that_gets_too_large_is_told(rt: HostRuntime) {
     for (shop, item) in [(chain(), 3), (more, 2), (fork(), 2)] {
         let inputs = made(&rt, shop.inputs(rt.alloc(), &[]));
         is_refused(&rt, rt.alloc(), &inputs, item);
+        drop(inputs);
     }
 }
 
@@ -137,5 +142,8 @@ fn many_parts_of_a_level_explode(rt: HostRuntime) {
         ..no_records()
     };
     let inputs = made(&rt, shop.inputs(alloc, &[]));
-    explodes(&rt, alloc, &inputs, &rows_of_parts(&rt, alloc, &MANY));
+    let want = rows_of_parts(&rt, alloc, &MANY);
+    explodes(&rt, alloc, &inputs, &want);
+    drop((items, bills));
+    drop((inputs, want));
 }

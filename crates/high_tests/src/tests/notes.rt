@@ -17,8 +17,10 @@ fn has_messages(rt: &impl Abort, alloc: Global, plan: &Plan, want: &[Message]) {
         by_item
             .extend_from_slice(own.as_slice())
             .expect(rt, "memory");
+        drop(own);
     }
     same(rt, by_item.as_slice(), want);
+    drop((told, by_item));
 }
 
 const LOT_MESSAGES: &[Message] = &[
@@ -63,6 +65,7 @@ const LOT_MESSAGES: &[Message] = &[
 fn late_orders_and_open_receipts_are_told(rt: HostRuntime) {
     let plan = made(&rt, bicycles_in_lots().plan(rt.alloc(), morning()));
     has_messages(&rt, rt.alloc(), &plan, LOT_MESSAGES);
+    drop(plan);
 }
 
 const PRODUCT_MESSAGES: &[Message] = &[
@@ -112,4 +115,5 @@ const PRODUCT_MESSAGES: &[Message] = &[
 fn a_late_firm_row_is_told_so_before_it_is_moved(rt: HostRuntime) {
     let plan = made(&rt, products().plan(rt.alloc(), product_bookings()));
     has_messages(&rt, rt.alloc(), &plan, PRODUCT_MESSAGES);
+    drop(plan);
 }

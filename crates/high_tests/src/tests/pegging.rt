@@ -37,8 +37,10 @@ fn has_pegs(rt: &impl Abort, alloc: Global, plan: &Plan, want: &[Cells]) {
         by_item
             .extend_from_slice(own.as_slice())
             .expect(rt, "memory");
+        drop(own);
     }
     same(rt, by_item.as_slice(), all.as_slice());
+    drop((all, by_item));
 }
 
 // The pegs of bicycles in lots, where two wheels go into one by two lines.
@@ -152,6 +154,7 @@ fn two_lines_of_a_pair_are_two_requirements(rt: HostRuntime) {
     };
     let plan = made(&rt, shop.plan(rt.alloc(), morning()));
     has_pegs(&rt, rt.alloc(), &plan, BICYCLE_PEGS);
+    drop(plan);
 }
 
 // The pegs of a product that is partly scrapped, and of its parts.
@@ -226,4 +229,5 @@ const PRODUCT_PEGS: &[Cells] = &[
 fn what_starts_is_required_and_what_is_left_is_surplus(rt: HostRuntime) {
     let plan = made(&rt, products().plan(rt.alloc(), product_bookings()));
     has_pegs(&rt, rt.alloc(), &plan, PRODUCT_PEGS);
+    drop(plan);
 }

@@ -15,6 +15,7 @@ use std::process::Abort;
 fn has_text(rt: &impl Abort, writer: Told<Vec<u8>>, want: &str) {
     let text = String::from_utf8(writer.into_inner()).expect(rt, "text");
     same(rt, text.as_str(), want);
+    drop(text);
 }
 
 // Fails unless a plan has this report.
@@ -42,8 +43,13 @@ fn has_front(
 ) {
     same(rt, written, Err(ReportFault::Write));
     same(rt, writer.failures(), 1);
-    let taken = writer.into_inner().taken;
-    same(rt, Some(taken.as_slice()), text.as_bytes().get(..count));
+    let writer = writer.into_inner();
+    same(
+        rt,
+        Some(writer.taken.as_slice()),
+        text.as_bytes().get(..count),
+    );
+    drop(writer);
 }
 
 #[test]
@@ -54,6 +60,7 @@ fn a_failing_writer_has_a_front_of_the_report(rt: HostRuntime) {
         let written = write_report(&rt, rt.alloc(), &plan, &mut writer);
         has_front(&rt, written, writer, BICYCLE_REPORT, count);
     }
+    drop(plan);
 }
 
 // Writes the history of these calls of the bicycles' desks.
@@ -65,7 +72,9 @@ fn write_calls<R: Abort + Eprint, W: Write>(
 ) -> Result<(), ReportFault> {
     let shop = made(rt, bicycles().shop(alloc));
     let history = made(rt, book_of(alloc, &shop, calls)).into_history();
-    write_history(alloc, &history, &shop, writer)
+    let written = write_history(alloc, &history, &shop, writer);
+    drop((shop, history));
+    written
 }
 
 // Every call of two desks, and the front that a third asks for.
@@ -138,5 +147,7 @@ fn a_long_history_is_written_page_by_page(rt: HostRuntime) {
         Ok(()),
     );
     assert!(rt; 10 < writer.calls() && writer.calls() < 100);
-    has_text(&rt, writer, &fronts_text(&rt, rt.alloc(), 100_000));
+    let want = fronts_text(&rt, rt.alloc(), 100_000);
+    has_text(&rt, writer, &want);
+    drop((calls, want));
 }
