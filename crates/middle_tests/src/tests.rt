@@ -1,5 +1,6 @@
 //! Worked values, calls with ample memory, and threads. Tests stop where a call fails, so that no
-//! proof has to follow what is let go on the way out.
+//! proof has to follow what is let go on the way out, and give what is large to `drop`, which is
+//! proved once and not at the end of each scope.
 
 ghost use Rattle.std.specs.Prelude.{◌≡◌, Ok};
 

@@ -41,7 +41,9 @@ fn tables_of(rt: &impl Abort, alloc: Global, count: usize, lines: &[Line]) -> Ta
         bills: &bills,
         ..no_records()
     };
-    made(rt, shop.tables(alloc))
+    let tables = shop.tables(alloc);
+    drop((items, bills));
+    made(rt, tables)
 }
 
 // The shop of so many items, where these lines are accepted.
@@ -130,16 +132,22 @@ fn is_item(rt: &impl Abort, shop: &Shop, item: usize, want: &ItemCells) {
     same(rt, shop.lines_to(item), lines);
 }
 
+// Fails unless a shop has these lines, order and codes.
+fn is_worked(rt: &impl Abort, shop: &Shop, want: &Worked) {
+    same(rt, shop.tables().bills().len(), want.lines.len());
+    same(rt, shop.order(), want.order);
+    same(rt, shop.depth(), want.depth);
+    for item in 0..want.items.len() {
+        is_item(rt, shop, item, &want.items[item]);
+    }
+}
+
 #[test]
 fn items_have_their_parents_components_and_codes(rt: HostRuntime) {
     for want in ACCEPTED {
         let shop = accepted(&rt, rt.alloc(), want.items.len(), want.lines);
-        same(&rt, shop.tables().bills().len(), want.lines.len());
-        same(&rt, shop.order(), want.order);
-        same(&rt, shop.depth(), want.depth);
-        for item in 0..want.items.len() {
-            is_item(&rt, &shop, item, &want.items[item]);
-        }
+        is_worked(&rt, &shop, want);
+        drop(shop);
     }
 }
 
@@ -182,17 +190,37 @@ fn push(rt: &impl Abort, lines: &mut Vec<Line>, parent: usize, component: usize)
     lines.push((parent, component)).expect(rt, "memory");
 }
 
+// A hundred thousand lines from the item 0 to the item 1.
+fn one_pair(rt: &impl Abort, alloc: Global) -> Vec<Line> {
+    let mut lines = Vec::new(alloc);
+    for _ in 0..100_000 {
+        push(rt, &mut lines, 0, 1);
+    }
+    lines
+}
+
+// Fails unless the item 0 is the one parent of the item 1, by so many lines.
+fn is_one_parent(rt: &impl Abort, shop: &Shop, lines: usize) {
+    assert!(rt; shop.tables().items().len() == 2);
+    same(rt, shop.parents(1), [0].as_slice());
+    same(rt, shop.children(0), [1].as_slice());
+    same(rt, shop.lines_to(1).len(), lines);
+}
+
 #[test]
 fn a_hundred_thousand_lines_of_one_pair_are_one_parent(rt: HostRuntime) {
-    let mut lines = Vec::new(rt.alloc());
-    for _ in 0..100_000 {
-        push(&rt, &mut lines, 0, 1);
-    }
+    let lines = one_pair(&rt, rt.alloc());
     let shop = accepted(&rt, rt.alloc(), 2, &lines);
-    assert_eq!(rt; shop.tables().items().len(), 2);
-    same(&rt, shop.parents(1), [0].as_slice());
-    same(&rt, shop.children(0), [1].as_slice());
-    same(&rt, shop.lines_to(1).len(), 100_000);
+    is_one_parent(&rt, &shop, 100_000);
+    drop((shop, lines));
+}
+
+// The greatest code of so many items, where these lines are accepted, and how many are in order.
+fn depth_and_count(rt: &impl Abort, alloc: Global, count: usize, lines: &[Line]) -> (usize, usize) {
+    let shop = accepted(rt, alloc, count, lines);
+    let sizes = (shop.depth(), shop.order().len());
+    drop(shop);
+    sizes
 }
 
 // The items 0 to 19999, each the parent of the next.
@@ -207,8 +235,8 @@ fn long_chain(rt: &impl Abort, alloc: Global) -> Vec<Line> {
 #[test]
 fn a_chain_of_twenty_thousand_items_is_accepted(rt: HostRuntime) {
     let lines = long_chain(&rt, rt.alloc());
-    let shop = accepted(&rt, rt.alloc(), 20_000, &lines);
-    same(&rt, shop.depth(), 19_999);
+    let sizes = depth_and_count(&rt, rt.alloc(), 20_000, &lines);
+    same(&rt, sizes, (19_999, 20_000));
 }
 
 #[test]
@@ -252,8 +280,8 @@ fn random_lines(rt: &impl Abort, alloc: Global, count: usize, many: usize) -> Ve
 #[test]
 fn a_hundred_thousand_random_lines_are_accepted(rt: HostRuntime) {
     let lines = random_lines(&rt, rt.alloc(), 20_000, 100_000);
-    let shop = accepted(&rt, rt.alloc(), 20_000, &lines);
-    same(&rt, shop.order().len(), 20_000);
+    let (_, ordered) = depth_and_count(&rt, rt.alloc(), 20_000, &lines);
+    same(&rt, ordered, 20_000);
 }
 
 #[test]

@@ -5,7 +5,7 @@ ghost use Rattle.mrp_master.specs.Supply.{supply_of};
 
 use super::{made, pieces, same};
 use mrp_bill::Shop;
-use mrp_book::{Book, BookState, Booking, Line, Reply, Snapshot};
+use mrp_book::{Book, BookState, Booking, History, Line, Reply, Snapshot};
 use mrp_phase::PhaseFault;
 use sample_shops::{Asked, Said, bicycles, said};
 use std::alloc::Global;
@@ -42,6 +42,7 @@ fn are_answered(rt: &impl Abort, alloc: Global, day: &mut Day, first: u64, scrip
     for (number, (desk, asked, want)) in (first..).zip(script) {
         let (got, reply) = day.call(rt, alloc, *desk, *asked);
         same(rt, (got, said(&reply)), (number, *want));
+        drop(reply);
     }
 }
 
@@ -91,18 +92,23 @@ fn stand(rt: &impl Abort, snapshot: &Snapshot, want: &[Booked]) {
     }
 }
 
-#[test]
-fn desks_book_until_nothing_is_available(rt: HostRuntime) {
-    let mut day = morning(&rt, rt.alloc());
-    let (number, reply) = day.call(&rt, rt.alloc(), 1, Asked::Snapshot);
-    same(&rt, number, 7);
-    let snapshot = taken(&rt, reply);
-    same(&rt, snapshot.front(), 7);
-    stand(
-        &rt,
-        &snapshot,
-        &[(1, 1, 3, 12), (2, 1, 5, 25), (5, 2, 1, 10)],
-    );
+// The snapshot that desk 1 asks for by the entry with this number.
+fn snapshot_at(rt: &impl Abort, alloc: Global, day: &mut Day, number: u64) -> Snapshot {
+    let (got, reply) = day.call(rt, alloc, 1, Asked::Snapshot);
+    let snapshot = taken(rt, reply);
+    same(rt, (got, snapshot.front()), (number, number));
+    snapshot
+}
+
+// Fails unless a history has so many entries, and ends with a snapshot in which these bookings stand.
+fn ends_with(rt: &impl Abort, history: &History, count: usize, want: &[Booked]) {
+    let entries = history.entries();
+    same(rt, entries.len(), count);
+    let last = entries.last().expect(rt, "an entry");
+    let Reply::Taken(snapshot) = &last.reply else {
+        panic!(rt; "a snapshot");
+    };
+    stand(rt, snapshot, want);
 }
 
 #[test]
@@ -118,13 +124,11 @@ fn a_desk_cancels_its_own_bookings(rt: HostRuntime) {
     ];
     let mut day = morning(&rt, rt.alloc());
     are_answered(&rt, rt.alloc(), &mut day, 7, AFTERNOON);
-    let history = day.book.into_history();
-    same(&rt, history.entries().len(), 13);
-    let last = history.entries().last().expect(&rt, "an entry");
-    let Reply::Taken(snapshot) = &last.reply else {
-        panic!(rt; "a snapshot");
-    };
-    stand(&rt, snapshot, &[(1, 1, 3, 12), (5, 2, 1, 10)]);
+    let Day { shop, book } = day;
+    drop(shop);
+    let history = book.into_history();
+    ends_with(&rt, &history, 13, &[(1, 1, 3, 12), (5, 2, 1, 10)]);
+    drop(history);
 }
 
 #[test]
@@ -139,6 +143,7 @@ fn what_is_available_grows_with_the_firm_rows(rt: HostRuntime) {
     ];
     let mut day = Day::open(&rt, rt.alloc());
     are_answered(&rt, rt.alloc(), &mut day, 1, QUESTIONS);
+    drop(day);
 }
 
 // What stands at an entry, from these bookings.
@@ -166,6 +171,7 @@ fn a_copy_of_a_reply_is_equal(rt: HostRuntime) {
     let copy = taken(&rt, reply);
     same(&rt, copy.front(), 7);
     stand(&rt, &copy, STANDING);
+    drop((snapshot, copy));
 }
 
 #[test]
@@ -173,6 +179,7 @@ fn copies_of_replies_say_the_same(rt: HostRuntime) {
     for reply in [Reply::Booked(3), Reply::Week(104), Reply::NoWeek] {
         let copy = reply.copy().expect(&rt, "memory");
         same(&rt, said(&copy), said(&reply));
+        drop((reply, copy));
     }
 }
 
@@ -183,22 +190,35 @@ fn is_demanded(rt: &impl Abort, alloc: Global, snapshot: &Snapshot, item: usize,
     for (quantity, count) in demand.as_slice().iter().zip(want) {
         same(rt, quantity.value(), *count);
     }
+    drop(demand);
+}
+
+// Fails unless what the desks booked in the morning stands, and is demanded in its week.
+fn morning_stands(rt: &impl Abort, alloc: Global, snapshot: &Snapshot) {
+    same(rt, snapshot.weeks(), 6);
+    stand(rt, snapshot, &[(1, 1, 3, 12), (2, 1, 5, 25), (5, 2, 1, 10)]);
+    is_demanded(rt, alloc, snapshot, 0, &[10, 0, 12, 0, 25, 0]);
+    is_demanded(rt, alloc, snapshot, 1, &[0; 6]);
+}
+
+// Fails unless a booking that is cancelled after the morning is demanded no more, but still in the
+// snapshot before.
+fn falls_by_a_cancellation(rt: &impl Abort, alloc: Global, day: &mut Day) {
+    let before = snapshot_at(rt, alloc, day, 7);
+    morning_stands(rt, alloc, &before);
+    let cancelled: Answered = (1, Asked::Cancel(2), ("cancelled", 0));
+    are_answered(rt, alloc, day, 8, &[cancelled]);
+    let after = snapshot_at(rt, alloc, day, 9);
+    is_demanded(rt, alloc, &after, 0, &[10, 0, 12, 0, 0, 0]);
+    morning_stands(rt, alloc, &before);
+    drop((before, after));
 }
 
 #[test]
-fn what_stands_is_demanded_in_its_week(rt: HostRuntime) {
+fn desks_book_until_nothing_is_available_and_what_stands_is_demanded(rt: HostRuntime) {
     let mut day = morning(&rt, rt.alloc());
-    let (_, reply) = day.call(&rt, rt.alloc(), 1, Asked::Snapshot);
-    let before = taken(&rt, reply);
-    same(&rt, before.weeks(), 6);
-    is_demanded(&rt, rt.alloc(), &before, 0, &[10, 0, 12, 0, 25, 0]);
-    is_demanded(&rt, rt.alloc(), &before, 1, &[0; 6]);
-    let (_, cancelled) = day.call(&rt, rt.alloc(), 1, Asked::Cancel(2));
-    same(&rt, said(&cancelled), ("cancelled", 0));
-    let (_, reply) = day.call(&rt, rt.alloc(), 1, Asked::Snapshot);
-    let after = taken(&rt, reply);
-    is_demanded(&rt, rt.alloc(), &after, 0, &[10, 0, 12, 0, 0, 0]);
-    is_demanded(&rt, rt.alloc(), &before, 0, &[10, 0, 12, 0, 25, 0]);
+    falls_by_a_cancellation(&rt, rt.alloc(), &mut day);
+    drop(day);
 }
 
 #[test]
@@ -236,8 +256,25 @@ impl Between {
     fn apply(&mut self, rt: &impl Abort, alloc: Global, desk: u64, asked: Asked) -> (Said, Said) {
         let call = made(rt, asked.call(&self.shop));
         let (reply, copy) = self.state.apply(alloc, desk, &call).expect(rt, "a reply");
-        (said(&reply), said(&copy))
+        let answer = (said(&reply), said(&copy));
+        drop((reply, copy));
+        answer
     }
+
+    // Fails unless these calls are answered so, by the reply and by its copy.
+    fn applies(&mut self, rt: &impl Abort, alloc: Global, calls: &[Answered]) {
+        for (desk, asked, want) in calls {
+            same(rt, self.apply(rt, alloc, *desk, *asked), (*want, *want));
+        }
+    }
+}
+
+// Fails unless this is the state after eleven calls.
+fn is_left(rt: &impl Abort, state: BookState) {
+    same(rt, (state.next_number(), state.is_full()), (12, false));
+    let supply = state.into_supply();
+    same(rt, supply.weeks(), 6);
+    drop(supply);
 }
 
 #[test]
@@ -257,11 +294,8 @@ fn a_state_answers_with_an_equal_copy(rt: HostRuntime) {
     ];
     let mut between = Between::open(&rt, rt.alloc());
     same(&rt, between.state.next_number(), 1);
-    for (desk, asked, want) in CALLS {
-        let answer = between.apply(&rt, rt.alloc(), *desk, *asked);
-        same(&rt, answer, (*want, *want));
-    }
-    same(&rt, between.state.next_number(), 12);
-    same(&rt, between.state.is_full(), false);
-    same(&rt, between.state.into_supply().weeks(), 6);
+    between.applies(&rt, rt.alloc(), CALLS);
+    let Between { shop, state } = between;
+    drop(shop);
+    is_left(&rt, state);
 }

@@ -10,20 +10,31 @@ use sample_shops::{Asked, Said, bicycles, said};
 use std::alloc::{AllocError, Global};
 use std::process::Abort;
 use std::sync::Wait;
-use std::test::Fail;
 use std::thread;
 use std::thread::Threads;
 
+// How many desks an office of so many has, or why there is none.
+fn desk_count(rt: &impl Abort, alloc: Global, desks: u64) -> Result<usize, OfficeFault> {
+    match Office::open(alloc, made(rt, bicycles().shop(alloc)), desks) {
+        Ok((office, desks)) => {
+            let count = desks.len();
+            drop((office, desks));
+            Ok(count)
+        }
+        Err(fault) => Err(fault),
+    }
+}
+
 #[test]
 fn an_office_has_1_to_64_desks(rt: HostRuntime) {
-    for desks in [0, 65] {
-        let shop = made(&rt, bicycles().shop(rt.alloc()));
-        let refused = Office::open(rt.alloc(), shop, desks).err();
-        same(&rt, refused, Some(OfficeFault::Desks));
+    const COUNTS: &[(u64, Result<usize, OfficeFault>)] = &[
+        (0, Err(OfficeFault::Desks)),
+        (65, Err(OfficeFault::Desks)),
+        (64, Ok(64)),
+    ];
+    for (desks, want) in COUNTS {
+        same(&rt, desk_count(&rt, rt.alloc(), *desks), *want);
     }
-    let shop = made(&rt, bicycles().shop(rt.alloc()));
-    let (_office, desks) = Office::open(rt.alloc(), shop, 64).expect(&rt, "an office");
-    same(&rt, desks.len(), 64);
 }
 
 // What a desk is answered: the entry's number and the reply, or why there is none.
@@ -62,7 +73,9 @@ fn answer<R: Wait + Abort>(rt: &R, office: &Office, desk: &mut Desk, asked: Aske
     ensures { (desk.new.turn ≡ desk.old.turn) × (desk.new.number ≡ desk.old.number) }
 {
     let (number, reply) = called(rt, office, desk, asked).expect(rt, "a reply");
-    (number, said(&reply))
+    let said = said(&reply);
+    drop(reply);
+    (number, said)
 }
 
 // The last of an office's desks, and the desks before it.
@@ -72,6 +85,17 @@ fn last_desk(office: &Office, mut desks: Vec<Desk>) -> Option<(Desk, Vec<Desk>)>
 {
     let last = desks.pop()?;
     Some((last, desks))
+}
+
+// The two desks of an office.
+fn two_desks(office: &Office, desks: Vec<Desk>) -> Option<(Desk, Desk)>
+    requires { All (λ d. d.turn ≡ office.now) desks.items }
+    ensures { IfSome result (λ r. (r.0.turn ≡ office.now) × (r.1.turn ≡ office.now)) }
+{
+    let (second, desks) = last_desk(office, desks)?;
+    let (first, none) = last_desk(office, desks)?;
+    drop(none);
+    Some((first, second))
 }
 
 // An office of two desks.
@@ -88,19 +112,20 @@ struct Pair {
 }
 
 impl Pair {
-    fn open(alloc: Global) -> Result<Pair, Fail> {
-        let shop = bicycles().shop(alloc)?;
-        let (office, desks) = Office::open(alloc, shop, 2)?;
-        let (second, desks) = last_desk(&office, desks).ok_or("two desks")?;
-        let (first, _) = last_desk(&office, desks).ok_or("two desks")?;
-        if first.number() != 1 || second.number() != 2 {
-            return Err("the desks 1 and 2".into());
-        }
-        Ok(Pair {
+    fn open(rt: &impl Abort, alloc: Global) -> Pair {
+        let shop = made(rt, bicycles().shop(alloc));
+        let Ok((office, desks)) = Office::open(alloc, shop, 2) else {
+            panic!(rt; "an office");
+        };
+        let Some((first, second)) = two_desks(&office, desks) else {
+            panic!(rt; "two desks");
+        };
+        assert!(rt; first.number() == 1 && second.number() == 2);
+        Pair {
             office,
             first,
             second,
-        })
+        }
     }
 
     // What the first desk is answered, or the second.
@@ -110,6 +135,23 @@ impl Pair {
         } else {
             answer(rt, &self.office, &mut self.second, asked)
         }
+    }
+
+    // Fails unless the first calls are answered so: whether by the first desk, what it asks, and the
+    // reply.
+    fn answers<R: Wait + Abort>(&mut self, rt: &R, calls: &[(bool, Asked, Said)]) {
+        for (number, (is_first, asked, want)) in (1..).zip(calls) {
+            same(rt, self.answer(rt, *is_first, *asked), (number, *want));
+        }
+    }
+
+    // What the first desk says once the second has met it: the entry's number, and the reply.
+    fn meet<R: Wait + Abort>(&mut self, rt: &R) -> (u64, Said) {
+        let met = self.office.meet(rt, &mut self.second, &mut self.first);
+        let (number, reply) = met.expect(rt, "a reply");
+        let said = said(&reply);
+        drop(reply);
+        (number, said)
     }
 
     // A snapshot by the first desk: the number of its entry, its front, and how many bookings stand.
@@ -124,16 +166,18 @@ impl Pair {
         (number, snapshot.front(), snapshot.standing().len())
     }
 
-    fn close(self, alloc: Global) -> Result<History, Fail> {
+    fn close(self, rt: &impl Abort, alloc: Global) -> History {
         let Pair {
             office,
             first,
             second,
         } = self;
-        let mut desks = Vec::with_capacity(alloc, 2)?;
+        let Ok(mut desks) = Vec::with_capacity(alloc, 2) else {
+            panic!(rt; "memory");
+        };
         desks.push_reserved(first);
         desks.push_reserved(second);
-        Ok(office.close(desks))
+        office.close(desks)
     }
 }
 
@@ -155,12 +199,10 @@ fn two_desks_call_on_one_book(rt: HostRuntime) {
         (false, Asked::Snapshot, ("taken", 13)),
         (false, Asked::Front, ("front", 14)),
     ];
-    let mut pair = made(&rt, Pair::open(rt.alloc()));
-    for (number, (is_first, asked, want)) in (1..).zip(CALLS) {
-        let answer = pair.answer(&rt, *is_first, *asked);
-        same(&rt, answer, (number, *want));
-    }
+    let mut pair = Pair::open(&rt, rt.alloc());
+    pair.answers(&rt, CALLS);
     same(&rt, pair.snapshot(&rt), (15, 15, 2));
+    drop(pair);
 }
 
 // The desk, after it asked for the front so many times.
@@ -183,24 +225,34 @@ fn is_refused<R: Wait + Abort>(rt: &R, office: &Office, desk: &mut Desk, asked: 
     same(rt, refused, Some(Refused::Full));
 }
 
+// Fails unless each call of a desk is refused because the book is full.
+fn are_refused<R: Wait + Abort>(rt: &R, office: &Office, desk: &mut Desk)
+    requires { desk.old.turn ≡ office.now }
+    ensures { desk.new.turn ≡ desk.old.turn }
+{
+    is_refused(rt, office, desk, Asked::Front);
+    is_refused(rt, office, desk, Asked::Book(3, 1));
+    is_refused(rt, office, desk, Asked::Cancel(1));
+    is_refused(rt, office, desk, Asked::Ask(3));
+    is_refused(rt, office, desk, Asked::When(1));
+    is_refused(rt, office, desk, Asked::Snapshot);
+}
+
 #[test]
 fn a_full_book_refuses_every_call(rt: HostRuntime) {
     let Pair {
         office,
         first,
         mut second,
-    } = made(&rt, Pair::open(rt.alloc()));
+    } = Pair::open(&rt, rt.alloc());
     let mut first = after_fronts(&rt, &office, first, 999_999);
     let last = answer(&rt, &office, &mut first, Asked::Front);
     same(&rt, last, (1_000_000, ("front", 1_000_000)));
-    is_refused(&rt, &office, &mut first, Asked::Front);
-    is_refused(&rt, &office, &mut first, Asked::Book(3, 1));
-    is_refused(&rt, &office, &mut first, Asked::Cancel(1));
-    is_refused(&rt, &office, &mut second, Asked::Ask(3));
-    is_refused(&rt, &office, &mut second, Asked::When(1));
-    is_refused(&rt, &office, &mut second, Asked::Snapshot);
+    are_refused(&rt, &office, &mut first);
+    are_refused(&rt, &office, &mut second);
     let met = office.meet(&rt, &mut second, &mut first).err();
     same(&rt, met, Some(Refused::Full));
+    drop((office, first, second));
 }
 
 // The desk, after it booked 25 pieces in the third call on its book.
@@ -232,40 +284,51 @@ fn book_in_threads<R: Threads + Wait + Sync + Abort>(
     )
 }
 
+// The desk, which has the number 2, after it booked 25 pieces in a thread of its own.
+fn book_in_a_thread<R: Threads + Wait + Sync + Abort>(
+    rt: &R,
+    alloc: Global,
+    office: &Office,
+    desk: Desk,
+) -> Desk
+    requires { desk.turn ≡ office.now }
+    ensures { (result.turn ≡ office.now) × (result.number ≡ 2) }
+{
+    let mut desks = Vec::with_capacity(alloc, 1).expect(rt, "memory");
+    desks.push_reserved(desk);
+    let desks = book_in_threads(rt, office, desks).expect(rt, "memory");
+    let Some((desk, none)) = last_desk(office, desks) else {
+        panic!(rt; "one desk");
+    };
+    drop(none);
+    assert!(rt; desk.number() == 2);
+    desk
+}
+
 impl Pair {
     // The pair, after the second desk booked in a thread of its own.
-    fn book_in_a_thread<R: Threads + Wait + Sync + Abort>(
-        self,
-        rt: &R,
-        alloc: Global,
-    ) -> Result<Pair, Fail> {
+    fn book_in_a_thread<R: Threads + Wait + Sync + Abort>(self, rt: &R, alloc: Global) -> Pair {
         let Pair {
             office,
             first,
             second,
         } = self;
-        let mut seconds = Vec::with_capacity(alloc, 1)?;
-        seconds.push_reserved(second);
-        let seconds = book_in_threads(rt, &office, seconds)?;
-        let (second, _) = last_desk(&office, seconds).ok_or("one desk")?;
-        if second.number() != 2 {
-            return Err("the desk 2".into());
-        }
-        Ok(Pair {
+        let second = book_in_a_thread(rt, alloc, &office, second);
+        Pair {
             office,
             first,
             second,
-        })
+        }
     }
 }
 
 // A pair whose desks have made four calls, the third in a thread of its own.
 fn after_four_calls<R: Threads + Wait + Sync + Abort>(rt: &R, alloc: Global) -> Pair {
-    let mut pair = made(rt, Pair::open(alloc));
+    let mut pair = Pair::open(rt, alloc);
     let booked = pair.answer(rt, true, Asked::Book(3, 12));
     same(rt, booked, (1, ("booked", 1)));
     same(rt, pair.snapshot(rt), (2, 2, 1));
-    let mut pair = made(rt, pair.book_in_a_thread(rt, alloc));
+    let mut pair = pair.book_in_a_thread(rt, alloc);
     same(rt, pair.snapshot(rt), (4, 4, 2));
     pair
 }
@@ -273,18 +336,14 @@ fn after_four_calls<R: Threads + Wait + Sync + Abort>(rt: &R, alloc: Global) -> 
 #[test]
 fn a_closed_office_has_every_call_once(rt: HostRuntime) {
     let pair = after_four_calls(&rt, rt.alloc());
-    let history = made(&rt, pair.close(rt.alloc()));
+    let history = pair.close(&rt, rt.alloc());
     same(&rt, history.entries().len(), 4);
+    drop(history);
 }
 
 #[test]
 fn a_desk_that_meets_another_makes_an_entry(rt: HostRuntime) {
-    let Pair {
-        office,
-        mut first,
-        mut second,
-    } = after_four_calls(&rt, rt.alloc());
-    let met = office.meet(&rt, &mut second, &mut first);
-    let (number, reply) = met.expect(&rt, "a reply");
-    same(&rt, (number, said(&reply)), (5, ("front", 5)));
+    let mut pair = after_four_calls(&rt, rt.alloc());
+    same(&rt, pair.meet(&rt), (5, ("front", 5)));
+    drop(pair);
 }

@@ -1,12 +1,14 @@
 //! Plans of shops, item by item.
 
+ghost use Rattle.std.specs.Prelude.{◌≡◌, length};
+
 use super::making::outcomes_of;
 use super::worked::{
-    BICYCLE_PLANS, BOOKED_PLANS, OrderCells, PLANS_IN_LOTS, TUBES_OF_FRAMES, WHEELS_OF_FRAMES,
-    Worked,
+    BICYCLE_PLANS, BOOKED_PLANS, OrderCells, PLANS_IN_LOTS, PLANS_WITH_TUBES,
+    PLANS_WITH_WHEELS_OF_FRAMES, Worked,
 };
 use super::{made, same};
-use mrp_item::{Due, Inputs, Order, Outcome, Plan, Planned};
+use mrp_item::{Due, Inputs, Order, Outcome, Plan, Planned, ShopRows};
 use mrp_net::balance_row;
 use mrp_phase::Weeks;
 use mrp_qty::Qty;
@@ -39,6 +41,13 @@ fn are_orders(rt: &impl Abort, orders: &[Order], want: &[OrderCells]) {
     }
 }
 
+// Fails unless two rows have the same weeks.
+fn of_one_length(rt: &impl Abort, left: &Weeks<Qty>, right: &Weeks<Qty>)
+    ensures { length left.now ≡ length right.now }
+{
+    assert!(rt; left.weeks() == right.weeks());
+}
+
 // Fails unless an item is planned so.
 fn is_planned(rt: &impl Abort, alloc: Global, planned: &Planned, want: &Worked) {
     let gross = planned.gross();
@@ -48,16 +57,17 @@ fn is_planned(rt: &impl Abort, alloc: Global, planned: &Planned, want: &Worked) 
     has_row(rt, receipts, &want.receipts);
     has_row(rt, planned.started(), &want.started);
     are_orders(rt, planned.orders(), want.orders);
-    assert_eq!(rt; stock.scheduled.weeks(), gross.weeks());
-    assert_eq!(rt; receipts.weeks(), gross.weeks());
+    of_one_length(rt, &stock.scheduled, gross);
+    of_one_length(rt, receipts, gross);
     let balances = balance_row(alloc, gross, &stock, receipts).expect(rt, "balances");
     has_row(rt, &balances, &want.balances);
+    drop((stock, balances));
 }
 
 // Fails unless the items of a plan are planned so.
 fn are_planned(rt: &impl Abort, alloc: Global, plan: &Plan, want: &[Worked]) {
     let items = plan.inputs().shop().tables().items().len();
-    assert_eq!(rt; items, want.len());
+    assert!(rt; items == want.len());
     for item in 0..items {
         let planned = plan.item(item);
         same(rt, planned.item(), item);
@@ -77,6 +87,7 @@ fn bicycles_are_planned(rt: HostRuntime) {
     let inputs = made(&rt, bicycles().inputs(rt.alloc(), &[]));
     let plan = plan_of(&rt, rt.alloc(), inputs);
     are_planned(&rt, rt.alloc(), &plan, BICYCLE_PLANS);
+    drop(plan);
 }
 
 #[test]
@@ -84,6 +95,7 @@ fn bookings_above_the_forecast_are_planned(rt: HostRuntime) {
     let inputs = made(&rt, bicycles().inputs(rt.alloc(), morning()));
     let plan = plan_of(&rt, rt.alloc(), inputs);
     are_planned(&rt, rt.alloc(), &plan, BOOKED_PLANS);
+    drop(plan);
 }
 
 // The records of two lines of the bikes' wheels.
@@ -98,6 +110,7 @@ fn two_lines_of_a_pair_both_count(rt: HostRuntime) {
     let inputs = made(&rt, records.inputs(rt.alloc(), &[]));
     let plan = plan_of(&rt, rt.alloc(), inputs);
     are_planned(&rt, rt.alloc(), &plan, BICYCLE_PLANS);
+    drop(plan);
 }
 
 #[test]
@@ -110,6 +123,7 @@ fn parts_are_planned_in_lots_beside_open_receipts(rt: HostRuntime) {
         let inputs = made(&rt, records.inputs(rt.alloc(), morning()));
         let plan = plan_of(&rt, rt.alloc(), inputs);
         are_planned(&rt, rt.alloc(), &plan, PLANS_IN_LOTS);
+        drop(plan);
     }
 }
 
@@ -126,12 +140,8 @@ fn starts_ask_for_components_and_open_receipts_do_not(rt: HostRuntime) {
     };
     let inputs = made(&rt, records.inputs(rt.alloc(), morning()));
     let plan = plan_of(&rt, rt.alloc(), inputs);
-    assert_eq!(rt; plan.inputs().shop().tables().items().len(), 4);
-    is_planned(&rt, rt.alloc(), plan.item(3), TUBES_OF_FRAMES);
-    same(&rt, plan.item(3).item(), 3);
-    for item in 0..3 {
-        is_planned(&rt, rt.alloc(), plan.item(item), &PLANS_IN_LOTS[item]);
-    }
+    are_planned(&rt, rt.alloc(), &plan, PLANS_WITH_TUBES);
+    drop((plan, items));
 }
 
 #[test]
@@ -142,11 +152,8 @@ fn all_parents_ask(rt: HostRuntime) {
     };
     let inputs = made(&rt, records.inputs(rt.alloc(), &[]));
     let plan = plan_of(&rt, rt.alloc(), inputs);
-    assert_eq!(rt; plan.inputs().shop().tables().items().len(), 3);
-    is_planned(&rt, rt.alloc(), plan.item(2), WHEELS_OF_FRAMES);
-    for item in 0..2 {
-        is_planned(&rt, rt.alloc(), plan.item(item), &BICYCLE_PLANS[item]);
-    }
+    are_planned(&rt, rt.alloc(), &plan, PLANS_WITH_WHEELS_OF_FRAMES);
+    drop(plan);
 }
 
 // Fails unless these are due: number, week and pieces.
@@ -157,28 +164,39 @@ fn are_due(rt: &impl Abort, dues: &[Due], want: &[(u64, u16, u64)]) {
     }
 }
 
-#[test]
-fn inputs_tell_receipts_and_bookings_by_their_numbers(rt: HostRuntime) {
-    let inputs = made(&rt, bicycles_in_lots().inputs(rt.alloc(), morning()));
-    assert_eq!(rt; inputs.shop().tables().items().len(), 3);
-    same(&rt, inputs.weeks(), 6);
-    same(&rt, Some(inputs.on_hand(1)), Qty::new(12));
-    are_due(&rt, inputs.receipts(1), &[(1, 3, 15)]);
-    same(&rt, inputs.snapshot().front(), 7);
+// Fails unless inputs tell the receipts of the bicycles in lots, and the bookings of the morning.
+fn tell_morning(rt: &impl Abort, inputs: &Inputs) {
+    assert!(rt; inputs.shop().tables().items().len() == 3);
+    same(rt, inputs.weeks(), 6);
+    same(rt, Some(inputs.on_hand(1)), Qty::new(12));
+    are_due(rt, inputs.receipts(1), &[(1, 3, 15)]);
+    same(rt, inputs.snapshot().front(), 7);
     are_due(
-        &rt,
+        rt,
         inputs.bookings(0),
         &[(1, 3, 12), (2, 5, 25), (5, 1, 10)],
     );
 }
 
 #[test]
+fn inputs_tell_receipts_and_bookings_by_their_numbers(rt: HostRuntime) {
+    let inputs = made(&rt, bicycles_in_lots().inputs(rt.alloc(), morning()));
+    tell_morning(&rt, &inputs);
+    drop(inputs);
+}
+
+// Fails unless rows tell what is on hand of the bicycles in lots, and what is supplied.
+fn tell_supply(rt: &impl Abort, rows: &ShopRows) {
+    assert!(rt; rows.shop().tables().items().len() == 3);
+    same(rt, Some(rows.supply().on_hand(1)), Qty::new(12));
+    same(rt, Some(rows.supply().up_to(0, 3)), Qty::new(30));
+}
+
+#[test]
 fn inputs_tell_the_rows_of_their_shop(rt: HostRuntime) {
     let inputs = made(&rt, bicycles_in_lots().inputs(rt.alloc(), morning()));
-    let rows = inputs.rows();
-    assert_eq!(rt; rows.shop().tables().items().len(), 3);
-    same(&rt, Some(rows.supply().on_hand(1)), Qty::new(12));
-    same(&rt, Some(rows.supply().up_to(0, 3)), Qty::new(30));
+    tell_supply(&rt, inputs.rows());
+    drop(inputs);
 }
 
 // What planning makes of an item.
@@ -212,12 +230,13 @@ fn is_made(rt: &impl Abort, outcome: &Outcome, item: usize, want: Made) {
     same(rt, outcome.inputs().snapshot().front(), 7);
     same(rt, outcome.is_planned(), want == Made::Planned);
     same(rt, outcome.is_over(), want == Made::Over);
+    drop(copy);
 }
 
 // Fails unless this is made of each item of a shop at the entry 7, whose plan is then refused by an item.
 fn is_refused(rt: &impl Abort, alloc: Global, inputs: Arc<Inputs>, want: &[Made], over: usize) {
     let outcomes = made(rt, outcomes_of(alloc, &inputs));
-    assert_eq!(rt; outcomes.len(), want.len());
+    assert!(rt; outcomes.len() == want.len());
     for item in 0..want.len() {
         is_made(rt, &outcomes[item], item, want[item]);
     }

@@ -1,7 +1,9 @@
 //! Supplies, and what of them can be promised.
 
 use super::{made, pieces, same};
+use jiff::civil::Date;
 use mrp_bill::Shop;
+use mrp_cal::Calendar;
 use mrp_master::{AtpRow, Line, LineFault, Spot, Supply, Wish};
 use sample_shops::{Records, bicycles, no_records};
 use std::alloc::Global;
@@ -10,13 +12,12 @@ use std::process::Abort;
 // What is on hand of bicycles, frames and wheels; the table's order is not that of the items.
 const ALL_ITEMS: &str = "WHEEL,30\nBIKE,10\nFRAME,12\n";
 
-// The shop of bicycles with this stock.
-fn shop_with(rt: &impl Abort, alloc: Global, stock: &str) -> Shop {
-    let shop = Records {
+// The records of the bicycles with this stock.
+fn with_stock(stock: &str) -> Records<'_> {
+    Records {
         stock,
         ..bicycles()
-    };
-    made(rt, shop.shop(alloc))
+    }
 }
 
 // An item, a week and a quantity, and why they are no line.
@@ -40,100 +41,135 @@ const LINES: &[(usize, u16, u64, Option<LineFault>)] = &[
     (0, 7, 1_000_000_001, Some(LineFault::BadWeek)),
 ];
 
-#[test]
-fn a_line_is_what_it_was_made_of_or_its_first_fault(rt: HostRuntime) {
-    let shop = made(&rt, bicycles().shop(rt.alloc()));
+// Fails unless each line is what it was made of, or its first fault.
+fn are_lines(rt: &impl Abort, shop: &Shop) {
     for (item, week, count, fault) in LINES {
-        let quantity = pieces(&rt, *count);
-        let got = Line::new(&shop, *item, *week, quantity);
-        let Some(fault) = *fault else {
-            let line = Line {
+        let quantity = pieces(rt, *count);
+        let want = match fault {
+            Some(fault) => Err(*fault),
+            None => Ok(Line {
                 item: *item,
                 week: *week,
                 quantity,
-            };
-            same(&rt, got, Ok(line));
-            continue;
+            }),
         };
-        same(&rt, got, Err(fault));
+        same(rt, Line::new(shop, *item, *week, quantity), want);
     }
 }
 
-#[test]
-fn a_spot_has_an_item_and_a_week(rt: HostRuntime) {
-    const SPOTS: &[(usize, u16, Result<Spot, LineFault>)] = &[
-        (0, 1, Ok(Spot { item: 0, week: 1 })),
-        (0, 6, Ok(Spot { item: 0, week: 6 })),
-        (3, 7, Err(LineFault::UnknownItem)),
-        (2, 7, Err(LineFault::NotMaster)),
-        (0, 7, Err(LineFault::BadWeek)),
-        (0, 0, Err(LineFault::BadWeek)),
-    ];
-    let shop = made(&rt, bicycles().shop(rt.alloc()));
+// Spots, or their first faults.
+const SPOTS: &[(usize, u16, Result<Spot, LineFault>)] = &[
+    (0, 1, Ok(Spot { item: 0, week: 1 })),
+    (0, 6, Ok(Spot { item: 0, week: 6 })),
+    (3, 7, Err(LineFault::UnknownItem)),
+    (2, 7, Err(LineFault::NotMaster)),
+    (0, 7, Err(LineFault::BadWeek)),
+    (0, 0, Err(LineFault::BadWeek)),
+];
+
+// Fails unless each spot is what it was made of, or its first fault.
+fn are_spots(rt: &impl Abort, shop: &Shop) {
     for (item, week, want) in SPOTS {
-        same(&rt, Spot::new(&shop, *item, *week), *want);
+        same(rt, Spot::new(shop, *item, *week), *want);
+    }
+}
+
+// An item, a quantity, and why they are no wish.
+const WISHES: &[(usize, u64, Option<LineFault>)] = &[
+    (0, 1_000_000_000, None),
+    (3, 0, Some(LineFault::UnknownItem)),
+    (1, 1_000_000_001, Some(LineFault::NotMaster)),
+    (0, 0, Some(LineFault::ZeroQuantity)),
+    (0, 1_000_000_001, Some(LineFault::TooLarge)),
+];
+
+// Fails unless each wish is what it was made of, or its first fault.
+fn are_wishes(rt: &impl Abort, shop: &Shop) {
+    for (item, count, fault) in WISHES {
+        let quantity = pieces(rt, *count);
+        let want = match fault {
+            Some(fault) => Err(*fault),
+            None => Ok(Wish {
+                item: *item,
+                quantity,
+            }),
+        };
+        same(rt, Wish::new(shop, *item, quantity), want);
     }
 }
 
 #[test]
-fn a_wish_has_an_item_and_a_quantity(rt: HostRuntime) {
-    const WISHES: &[(usize, u64, LineFault)] = &[
-        (3, 0, LineFault::UnknownItem),
-        (1, 1_000_000_001, LineFault::NotMaster),
-        (0, 0, LineFault::ZeroQuantity),
-        (0, 1_000_000_001, LineFault::TooLarge),
-    ];
+fn lines_spots_and_wishes_are_what_they_were_made_of_or_their_first_fault(rt: HostRuntime) {
     let shop = made(&rt, bicycles().shop(rt.alloc()));
-    let quantity = pieces(&rt, 1_000_000_000);
-    let wish = Wish { item: 0, quantity };
-    same(&rt, Wish::new(&shop, 0, quantity), Ok(wish));
-    for (item, count, fault) in WISHES {
-        let quantity = pieces(&rt, *count);
-        same(&rt, Wish::new(&shop, *item, quantity), Err(*fault));
-    }
+    are_lines(&rt, &shop);
+    are_spots(&rt, &shop);
+    are_wishes(&rt, &shop);
+    drop(shop);
+}
+
+// What a shop of these records is supplied with.
+fn supply_of(rt: &impl Abort, alloc: Global, records: Records<'_>) -> Supply {
+    let shop = made(rt, records.shop(alloc));
+    let supply = Supply::of(alloc, &shop);
+    drop(shop);
+    supply.expect(rt, "memory")
+}
+
+// How many pieces of an item are supplied up to a week.
+fn up_to(rt: &impl Abort, supply: &Supply, item: usize, week: u16) -> u64 {
+    assert!(rt; 1 <= week && week <= supply.weeks());
+    supply.up_to(item, week).value()
 }
 
 // Fails unless so many pieces of an item are supplied up to each week.
 fn is_supplied(rt: &impl Abort, supply: &Supply, item: usize, by_week: &[u64; 6]) {
-    assert_eq!(rt; supply.weeks(), 6);
+    same(rt, supply.weeks(), 6);
     for week in 1..7 {
-        same(
-            rt,
-            supply.up_to(item, week).value(),
-            by_week[usize::from(week) - 1],
-        );
+        let want = by_week[usize::from(week) - 1];
+        same(rt, up_to(rt, supply, item, week), want);
     }
+}
+
+// Which of four items are master items.
+fn masters(supply: &Supply) -> [bool; 4] {
+    [
+        supply.is_master(0),
+        supply.is_master(1),
+        supply.is_master(2),
+        supply.is_master(3),
+    ]
 }
 
 #[test]
 fn firm_rows_are_supply_from_their_weeks_on(rt: HostRuntime) {
-    let shop = made(&rt, bicycles().shop(rt.alloc()));
-    let supply = Supply::of(rt.alloc(), &shop).expect(&rt, "memory");
+    let supply = supply_of(&rt, rt.alloc(), bicycles());
     is_supplied(&rt, &supply, 0, &[10, 10, 30, 30, 50, 50]);
     is_supplied(&rt, &supply, 1, &[0; 6]);
     is_supplied(&rt, &supply, 3, &[0; 6]);
-    let masters = [0, 1, 2, 3].map(|item| supply.is_master(item));
-    same(&rt, masters, [true, false, false, false]);
+    same(&rt, masters(&supply), [true, false, false, false]);
+    drop(supply);
 }
 
 #[test]
 fn what_is_on_hand_is_supply_of_its_item(rt: HostRuntime) {
-    let shop = shop_with(&rt, rt.alloc(), ALL_ITEMS);
-    let supply = Supply::of(rt.alloc(), &shop).expect(&rt, "memory");
+    let supply = supply_of(&rt, rt.alloc(), with_stock(ALL_ITEMS));
     is_supplied(&rt, &supply, 0, &[10, 10, 30, 30, 50, 50]);
     is_supplied(&rt, &supply, 1, &[12; 6]);
     is_supplied(&rt, &supply, 2, &[30; 6]);
+    drop(supply);
 }
 
-// The row of an item of a shop.
-fn row_of(rt: &impl Abort, alloc: Global, shop: &Shop, item: usize) -> AtpRow {
-    let supply = Supply::of(alloc, shop).expect(rt, "memory");
-    AtpRow::of(alloc, &supply, item).expect(rt, "memory")
+// The row of an item of a shop of these records.
+fn row_of(rt: &impl Abort, alloc: Global, records: Records<'_>, item: usize) -> AtpRow {
+    let supply = supply_of(rt, alloc, records);
+    let row = AtpRow::of(alloc, &supply, item);
+    drop(supply);
+    row.expect(rt, "memory")
 }
 
 // The row of bicycles.
 fn bike_row(rt: &impl Abort, alloc: Global) -> AtpRow {
-    row_of(rt, alloc, &made(rt, bicycles().shop(alloc)), 0)
+    row_of(rt, alloc, bicycles(), 0)
 }
 
 // What a week of a row has in its bucket, available and booked.
@@ -255,14 +291,29 @@ fn a_bucket_may_be_overdrawn_into_all_before_it(rt: HostRuntime) {
 
 #[test]
 fn a_part_has_its_stock_in_week_one(rt: HostRuntime) {
-    let shop = shop_with(&rt, rt.alloc(), ALL_ITEMS);
-    let wheels = row_of(&rt, rt.alloc(), &shop, 2);
+    let wheels = row_of(&rt, rt.alloc(), with_stock(ALL_ITEMS), 2);
     is_row(&rt, &wheels, &[30, 0, 0, 0, 0, 0], &[30; 6], &[0; 6]);
-    let none = row_of(&rt, rt.alloc(), &shop, 3);
+    let none = row_of(&rt, rt.alloc(), with_stock(ALL_ITEMS), 3);
     is_row(&rt, &none, &[0; 6], &[0; 6], &[0; 6]);
+    drop((wheels, none));
 }
 
 const LONGEST: &str = "start,2025-01-06\nweeks,104\nworkdays,1111100\n";
+
+// Adds a firm row of one BIKE on this day.
+fn add_row(rt: &impl Abort, alloc: Global, rows: &mut String, monday: Date) {
+    let row = format!(in alloc; "BIKE,firm,{monday},1\n").expect(rt, "memory");
+    rows.push_str(&row).expect(rt, "memory");
+}
+
+// A firm row of one BIKE in each week of a calendar.
+fn rows_of(rt: &impl Abort, alloc: Global, calendar: &Calendar) -> String {
+    let mut rows = String::new(alloc);
+    for week in 1..=calendar.weeks() {
+        add_row(rt, alloc, &mut rows, calendar.first_day(week));
+    }
+    rows
+}
 
 // A firm row of one BIKE in each week of the longest horizon.
 fn a_bike_a_week(rt: &impl Abort, alloc: Global) -> String {
@@ -271,12 +322,8 @@ fn a_bike_a_week(rt: &impl Abort, alloc: Global) -> String {
         ..no_records()
     };
     let tables = made(rt, shop.tables(alloc));
-    let mut rows = String::new(alloc);
-    for week in 1..=tables.calendar().weeks() {
-        let monday = tables.calendar().first_day(week);
-        let row = format!(in alloc; "BIKE,firm,{monday},1\n").expect(rt, "memory");
-        rows.push_str(&row).expect(rt, "memory");
-    }
+    let rows = rows_of(rt, alloc, tables.calendar());
+    drop(tables);
     rows
 }
 
@@ -289,7 +336,7 @@ fn long_row(rt: &impl Abort, alloc: Global) -> AtpRow {
         master: &rows,
         ..no_records()
     };
-    row_of(rt, alloc, &made(rt, shop.shop(alloc)), 0)
+    row_of(rt, alloc, shop, 0)
 }
 
 // Fails unless one piece is in each week's bucket, and nothing booked.

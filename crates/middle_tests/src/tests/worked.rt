@@ -16,41 +16,45 @@ pub struct Worked {
 }
 
 // Bicycles, frames and wheels, without bookings.
-pub const BICYCLE_PLANS: &[Worked; 3] = &[
-    Worked {
-        gross: [0, 8, 0, 6, 0, 0],
-        receipts: [0; 6],
-        started: [0, 20, 0, 20, 0, 0],
-        balances: [10, 2, 22, 16, 36, 36],
-        orders: &[
-            (OrderKind::Firm, 3, 20, 20, 2, 0),
-            (OrderKind::Firm, 5, 20, 20, 4, 0),
-        ],
-    },
-    Worked {
-        gross: [0, 20, 0, 20, 0, 0],
-        receipts: [0, 20, 20, 40, 40, 40],
-        started: [20, 0, 20, 0, 0, 0],
-        balances: [0; 6],
-        orders: &[
-            (OrderKind::Planned, 2, 20, 20, 1, 0),
-            (OrderKind::Planned, 4, 20, 20, 3, 0),
-        ],
-    },
-    Worked {
-        gross: [0, 40, 0, 40, 0, 0],
-        receipts: [0, 40, 40, 80, 80, 80],
-        started: [40, 0, 40, 0, 0, 0],
-        balances: [0; 6],
-        orders: &[
-            (OrderKind::Planned, 2, 40, 40, 1, 0),
-            (OrderKind::Planned, 4, 40, 40, 3, 0),
-        ],
-    },
-];
+pub const BICYCLE_PLANS: &[Worked; 3] = &[BIKES, FRAMES, WHEELS];
 
-// Wheels, where each frame takes one too.
-pub const WHEELS_OF_FRAMES: &Worked = &Worked {
+const BIKES: Worked = Worked {
+    gross: [0, 8, 0, 6, 0, 0],
+    receipts: [0; 6],
+    started: [0, 20, 0, 20, 0, 0],
+    balances: [10, 2, 22, 16, 36, 36],
+    orders: &[
+        (OrderKind::Firm, 3, 20, 20, 2, 0),
+        (OrderKind::Firm, 5, 20, 20, 4, 0),
+    ],
+};
+
+const FRAMES: Worked = Worked {
+    gross: [0, 20, 0, 20, 0, 0],
+    receipts: [0, 20, 20, 40, 40, 40],
+    started: [20, 0, 20, 0, 0, 0],
+    balances: [0; 6],
+    orders: &[
+        (OrderKind::Planned, 2, 20, 20, 1, 0),
+        (OrderKind::Planned, 4, 20, 20, 3, 0),
+    ],
+};
+
+const WHEELS: Worked = Worked {
+    gross: [0, 40, 0, 40, 0, 0],
+    receipts: [0, 40, 40, 80, 80, 80],
+    started: [40, 0, 40, 0, 0, 0],
+    balances: [0; 6],
+    orders: &[
+        (OrderKind::Planned, 2, 40, 40, 1, 0),
+        (OrderKind::Planned, 4, 40, 40, 3, 0),
+    ],
+};
+
+// Bicycles and frames as without bookings, and wheels, where each frame takes one too.
+pub const PLANS_WITH_WHEELS_OF_FRAMES: &[Worked; 3] = &[BIKES, FRAMES, WHEELS_OF_FRAMES];
+
+const WHEELS_OF_FRAMES: Worked = Worked {
     gross: [20, 40, 20, 40, 0, 0],
     receipts: [20, 60, 80, 120, 120, 120],
     started: [60, 20, 40, 0, 0, 0],
@@ -102,43 +106,53 @@ pub const BOOKED_PLANS: &[Worked; 3] = &[
 ];
 
 // Bicycles, frames and wheels in lots, with the bookings.
-pub const PLANS_IN_LOTS: &[Worked; 3] = &[
-    Worked {
-        gross: [10, 8, 12, 6, 25, 0],
-        receipts: [0, 8, 8, 8, 11, 11],
-        started: [8, 20, 0, 23, 0, 0],
-        balances: [0, 0, 8, 2, 0, 0],
-        orders: &[
-            (OrderKind::Planned, 2, 8, 8, 1, 0),
-            (OrderKind::Firm, 3, 20, 20, 2, 0),
-            (OrderKind::Firm, 5, 20, 20, 4, 0),
-            (OrderKind::Planned, 5, 3, 3, 4, 0),
-        ],
-    },
-    Worked {
-        gross: [8, 20, 0, 23, 0, 0],
-        receipts: [20, 40, 40, 40, 40, 40],
-        started: [46, 0, 0, 0, 0, 0],
-        balances: [24, 24, 39, 16, 16, 16],
-        orders: &[
-            (OrderKind::Planned, 1, 20, 23, 1, 1),
-            (OrderKind::Planned, 2, 20, 23, 1, 0),
-        ],
-    },
-    Worked {
-        gross: [16, 40, 0, 46, 0, 0],
-        receipts: [0, 26, 26, 72, 72, 72],
-        started: [26, 46, 0, 0, 0, 0],
-        balances: [14, 0, 0, 0, 0, 0],
-        orders: &[
-            (OrderKind::Planned, 2, 26, 26, 1, 1),
-            (OrderKind::Planned, 4, 46, 46, 2, 0),
-        ],
-    },
+pub const PLANS_IN_LOTS: &[Worked; 3] = &[BOOKED_BIKES, FRAMES_IN_LOTS, WHEELS_IN_LOTS];
+
+const BOOKED_BIKES: Worked = Worked {
+    gross: [10, 8, 12, 6, 25, 0],
+    receipts: [0, 8, 8, 8, 11, 11],
+    started: [8, 20, 0, 23, 0, 0],
+    balances: [0, 0, 8, 2, 0, 0],
+    orders: &[
+        (OrderKind::Planned, 2, 8, 8, 1, 0),
+        (OrderKind::Firm, 3, 20, 20, 2, 0),
+        (OrderKind::Firm, 5, 20, 20, 4, 0),
+        (OrderKind::Planned, 5, 3, 3, 4, 0),
+    ],
+};
+
+const FRAMES_IN_LOTS: Worked = Worked {
+    gross: [8, 20, 0, 23, 0, 0],
+    receipts: [20, 40, 40, 40, 40, 40],
+    started: [46, 0, 0, 0, 0, 0],
+    balances: [24, 24, 39, 16, 16, 16],
+    orders: &[
+        (OrderKind::Planned, 1, 20, 23, 1, 1),
+        (OrderKind::Planned, 2, 20, 23, 1, 0),
+    ],
+};
+
+const WHEELS_IN_LOTS: Worked = Worked {
+    gross: [16, 40, 0, 46, 0, 0],
+    receipts: [0, 26, 26, 72, 72, 72],
+    started: [26, 46, 0, 0, 0, 0],
+    balances: [14, 0, 0, 0, 0, 0],
+    orders: &[
+        (OrderKind::Planned, 2, 26, 26, 1, 1),
+        (OrderKind::Planned, 4, 46, 46, 2, 0),
+    ],
+};
+
+// The same, and tubes, three in a frame, where half of what starts is scrap: the frames' starts ask
+// for them.
+pub const PLANS_WITH_TUBES: &[Worked; 4] = &[
+    BOOKED_BIKES,
+    FRAMES_IN_LOTS,
+    WHEELS_IN_LOTS,
+    TUBES_OF_FRAMES,
 ];
 
-// Tubes, three in a frame, where half of what starts is scrap: the frames' starts ask for them.
-pub const TUBES_OF_FRAMES: &Worked = &Worked {
+const TUBES_OF_FRAMES: Worked = Worked {
     gross: [138, 0, 0, 0, 0, 0],
     receipts: [138; 6],
     started: [276, 0, 0, 0, 0, 0],
