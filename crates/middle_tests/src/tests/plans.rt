@@ -1,6 +1,7 @@
 //! Plans of shops, item by item.
 
-ghost use Rattle.std.specs.Prelude.{◌≡◌, length};
+ghost use Rattle.std.specs.Prelude.{◌≡◌, ◌≤◌, ℕ, IsTrue, length};
+ghost use Rattle.mrp_phase.specs.Weeks.{in_week};
 
 use super::making::outcomes_of;
 use super::worked::{
@@ -48,6 +49,21 @@ fn of_one_length(rt: &impl Abort, left: &Weeks<Qty>, right: &Weeks<Qty>)
     assert!(rt; left.weeks() == right.weeks());
 }
 
+// Whether planned receipts up to each week never fall.
+#[tactic(auto, using(mrp_phase::proofs::WeekRows::in_week_next))]
+fn never_fall(receipts: &[Qty]) -> bool
+    ensures { IsTrue result → (s t : ℕ) → s ≤ t → t ≤ length receipts.now → in_week receipts.now s ≤ in_week receipts.now t }
+{
+    let mut before = 0;
+    for quantity in receipts {
+        if quantity.value() < before {
+            return false;
+        }
+        before = quantity.value();
+    }
+    true
+}
+
 // Fails unless an item is planned so.
 fn is_planned(rt: &impl Abort, alloc: Global, planned: &Planned, want: &Worked) {
     let gross = planned.gross();
@@ -59,6 +75,7 @@ fn is_planned(rt: &impl Abort, alloc: Global, planned: &Planned, want: &Worked) 
     are_orders(rt, planned.orders(), want.orders);
     of_one_length(rt, &stock.scheduled, gross);
     of_one_length(rt, receipts, gross);
+    assert!(rt; never_fall(receipts.as_slice()));
     let balances = balance_row(alloc, gross, &stock, receipts).expect(rt, "balances");
     has_row(rt, &balances, &want.balances);
     drop((stock, balances));
