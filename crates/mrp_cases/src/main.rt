@@ -78,12 +78,16 @@ fn count_wrong<R: Files + AllocGlobal + Print + Threads + Sync>(
     Ok(wrong)
 }
 
-// Whether each case of the folder ends as it must, and each day and refusal belongs to one.
+// Whether there are cases in the folder, each ends as it must, and each day and refusal belongs to one.
 fn are_right<R: Files + AllocGlobal + Print + Threads + Sync + Clone + Drop>(
     rt: &R,
 ) -> io::Result<bool> {
     let Folder { cases, answers } = Folder::read(rt)?;
     let count = cases.len();
+    if count == 0 {
+        println!(rt; "no case is in this folder")?;
+        return Ok(false);
+    }
     let wrong = count_wrong(rt, &cases)?;
     if wrong > 0 {
         println!(rt; "{wrong} of {count} cases are not as they must be")?;
