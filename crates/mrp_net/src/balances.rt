@@ -1,9 +1,9 @@
 //! What is left of an item at the end of each week.
 
-ghost use Rattle.std.specs.Prelude.{◌≡◌, ◌≤◌, ◌<◌, ◌+◌, ◌⊎◌, ℕ, length, sum, IfOk, OnOk, IsErrOf};
+ghost use Rattle.std.specs.Prelude.{◌≡◌, ◌≤◌, ◌<◌, ◌+◌, ◌⊎◌, ℕ, length, sum, IfOk, OnOk, IsErrOf, IsTrue};
 ghost use Rattle.mrp_qty.specs.Quantity.{greatest_quantity};
 ghost use Rattle.mrp_phase.specs.Weeks.{in_week, row, sum_to};
-ghost use Rattle.mrp_net.specs.Need.{balance, supply};
+ghost use Rattle.mrp_net.specs.Need.{balance, supply, IsNeed};
 
 use crate::fault::NetFault;
 use crate::needs::SoFar;
@@ -43,4 +43,20 @@ pub fn balance_row(
         balances.push(so_far.balance(stock.safety, received[i])?)?;
     }
     Ok(Weeks::from_vec(balances))
+}
+
+/// Whether planned receipts up to each week never fall, as `balance_row` is owed.
+#[tactic(auto, using(mrp_phase::proofs::WeekRows::in_week_next))]
+pub fn never_fall(receipts: &[Qty]) -> bool
+    ensures fall { IsNeed (length receipts.now) (in_week receipts.now) → IsTrue result }
+    ensures rise { IsTrue result → IsNeed (length receipts.now) (in_week receipts.now) }
+{
+    let mut before = 0;
+    for quantity in receipts {
+        if quantity.value() < before {
+            return false;
+        }
+        before = quantity.value();
+    }
+    true
 }
