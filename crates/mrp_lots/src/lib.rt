@@ -4,5 +4,6 @@
 pub mod laws;
 mod lot;
 mod sizing;
+
 pub use lot::{Fixed, Lot, LotForLot, Period};
 pub use sizing::receipts;
