@@ -11,11 +11,13 @@ use std::test::Fail;
 mod commands;
 mod days;
 mod explosions;
+mod loads;
 mod notes;
 mod pegging;
 mod reports;
 mod streams;
 mod texts;
+mod traces;
 
 // Fails unless the two are equal. One proof of the comparison serves all calls.
 fn same<T: PartialEq + Debug + Drop>(rt: &impl Abort, got: T, want: T) {

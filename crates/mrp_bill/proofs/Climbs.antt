@@ -1,6 +1,7 @@
 -- How a walk goes on.
 use Rattle.std.proofs.Common.{◌≡◌, ◌≢◌, ◌⊎◌, inl, inr, ℕ, suc, ◌-◌, ◌<◌, ◌≤◌, true, false, List, [], ◌∷◌, ◌++◌, length, get_or, take, refl, sym, ap, subst, ◌∙◌, arith, sum, sum_by, Vec, Result, Ok, Err, OnOk}
 use Rattle.std.specs.declared.alloc.Global.{Global}
+use Rattle.std.proofs.Math.Bool.{or-false, or-true}
 use Rattle.std.proofs.Math.ListN.{set}
 use Rattle.std.proofs.lemmas.Bool.{cases_eq, cases_lt}
 use Rattle.std.proofs.lemmas.List.{get_or-set_same, get_or-set_other, length-set, length-append, get_or_push, get_or-take, get_or_default, length-take-le}
@@ -11,7 +12,7 @@ use Rattle.mrp_bill.specs.declared.climb.Climb.{Climb}
 use Rattle.mrp_bill.specs.Climb.{stage_at, moves, work, ArePassed, IsSettled, IsLinked, IsClimb, Opens, Places, Passes}
 use Rattle.mrp_bill.specs.Links.{Links, Leads}
 use Rattle.mrp_bill.specs.Lists.{listed, IsListed}
-use Rattle.mrp_bill.proofs.Listed.{listed-is, listed-contains, or-false, or-true}
+use Rattle.mrp_bill.proofs.Listed.{listed-is, listed-contains}
 use Rattle.mrp_bill.proofs.Linked.{links-before, links-down}
 use Rattle.mrp_bill.proofs.Stages.{at-push, stage-other, stages-open, stages-place}
 

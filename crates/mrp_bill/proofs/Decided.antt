@@ -1,7 +1,7 @@
 -- Whether anything leads to itself, decided; and codes where nothing does.
 use Rattle.std.proofs.Common.{◌≡◌, ◌⊎◌, inl, inr, ℕ, zero, suc, ◌+◌, ◌<◌, ◌≤◌, Bool, true, false, cond, refl, sym, ap, subst, ◌∙◌, arith}
 use Rattle.std.specs.Prelude.{◌||◌, ◌&&◌, max}
-use Rattle.std.proofs.lemmas.Bool.{cases_lt}
+use Rattle.std.proofs.lemmas.Bool.{and_from, and_parts, cases_lt, or_cases, or_left, or_right}
 use Rattle.mrp_bill.specs.Links.{Links, Leads, IsFirstRound, AreRising}
 use Rattle.mrp_bill.proofs.Linked.{below_one_more}
 
@@ -12,26 +12,6 @@ Holds t p i = t p i ≡ true
 -- numbers that are linked are below one
 abbrev pub AreBelow : ℕ → (ℕ → ℕ → Bool) → Type 0
 AreBelow count t = (p i : ℕ) → t p i ≡ true → (p < count) × (i < count)
-
-or_cases : (x y : Bool) → (x || y) ≡ true → (x ≡ true) ⊎ (y ≡ true)
-or_cases true y h = inl refl
-or_cases false y h = inr h
-
-or_left : (x y : Bool) → x ≡ true → (x || y) ≡ true
-or_left true y h = refl
-or_left false y h = absurd (cc)
-
-or_right : (x y : Bool) → y ≡ true → (x || y) ≡ true
-or_right true y h = refl
-or_right false y h = h
-
-and_both : (x y : Bool) → x ≡ true → y ≡ true → (x && y) ≡ true
-and_both true y h k = k
-and_both false y h k = absurd (cc)
-
-and_parts : (x y : Bool) → (x && y) ≡ true → (x ≡ true) × (y ≡ true)
-and_parts true y h = (refl, h)
-and_parts false y h = absurd (cc)
 
 -- chains one behind the other
 leads-on : (R : ℕ → ℕ → Type 0) (m a b c : ℕ) → Leads R a b → Links R m b c → Leads R a c
@@ -82,7 +62,7 @@ reaches-through t zero p a b h x y = absurd (omega arith)
 reaches-through t (suc k) p a b h x y = by (cases_lt p k) (λ lt c d u v. reaches-through t k p c d lt u v)
   where
     past : reaches t k a k ≡ true → reaches t k k b ≡ true → reaches t (suc k) a b ≡ true
-    past u v = or_right (reaches t k a b) (reaches t k a k && reaches t k k b) (and_both (reaches t k a k) (reaches t k k b) u v)
+    past u v = or_right (reaches t k a b) (reaches t k a k && reaches t k k b) (and_from (reaches t k a k) (reaches t k k b) u v)
 
     below : ((c d : ℕ) → reaches t k c p ≡ true → reaches t k p d ≡ true → reaches t k c d ≡ true)
         → (reaches t k a p ≡ true) ⊎ ((reaches t k a k && reaches t k k p) ≡ true) → (reaches t k p b ≡ true) ⊎ ((reaches t k p k && reaches t k k b) ≡ true)

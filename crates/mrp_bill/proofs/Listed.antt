@@ -125,14 +125,6 @@ listed-is lists i v xs h read is = is ∙ ap (λ (w : Vec ℕ Global). w.items) 
 pub listed-contains : (lists : List (Vec ℕ Global)) (i : ℕ) (xs : List ℕ) (k d : ℕ) → xs ≡ listed lists i → k < length xs → IsListed lists (get_or xs k d) i
 listed-contains lists i xs k d same h = subst (λ (ys : List ℕ). Contains ys (get_or xs k d)) same (Contains-get_or xs k d h)
 
-pub or-true : (b : Bool) → (b || true) ≡ true
-or-true true = refl
-or-true false = refl
-
-pub or-false : (b : Bool) → (b || false) ≡ b
-or-false true = refl
-or-false false = refl
-
 -- what holds of each element holds of the last
 pub last-within : (xs ys : List ℕ) (x n : ℕ) → xs ≡ ys ++ x ∷ [] → All (λ i. i < n) xs → x < n
 last-within xs ys x n same all =

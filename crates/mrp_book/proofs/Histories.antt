@@ -1,5 +1,6 @@
 -- Legal histories: each prefix is covered, and the calls decide the replies.
-use Rattle.std.proofs.Common.{ℕ, ◌≡◌, ◌≤◌, ◌<◌, ◌⊎◌, inl, inr, true, false, if◌then◌else◌, nat_le, List, [], ◌∷◌, ◌++◌, arith, refl, sym, ◌∙◌, ap, subst}
+use Rattle.std.proofs.Common.{ℕ, ◌≡◌, inl, inr, true, false, if◌then◌else◌, nat_le, List, [], ◌∷◌, ◌++◌, arith, refl, sym, ◌∙◌, ap, subst}
+use Rattle.std.proofs.lemmas.Bool.{cases_lt}
 use Rattle.std.proofs.lemmas.Bool.Decides.{nat_tests}
 use Rattle.std.specs.Prelude.{All, ◌==◌, filter, find}
 use Rattle.std.proofs.lemmas.List.{append-nil, map-append}
@@ -18,11 +19,8 @@ use Rattle.mrp_book.specs.Standing.{History, standing, kept, booking_of, booked}
 use Rattle.mrp_book.specs.History.{next_number, Fits, cancel_reply, week_reply, IsReply, MayFollow, IsLegal, asked}
 use Rattle.mrp_master.proofs.Available.{available_unique, covered-less}
 use Rattle.mrp_master.proofs.Promises.{available_is, earliest_is, earliest_unique}
-use Rattle.mrp_book.proofs.Logs.{InTurn, walk, each-none, each-more, each-front, one-more}
+use Rattle.mrp_turn.proofs.Logs.{EachFollows-front, EachFollows-more, EachFollows-nil, InTurn, InTurn-from_Each, one_more}
 use Rattle.mrp_book.proofs.Standings.{standing-more, not_cancelled, covered-fewer}
-
-pub le_or_lt : (a b : ℕ) → (a ≤ b) ⊎ (b < a)
-le_or_lt a b = grind (arith, nat_tests)
 
 abbrev pub E : Type 0
 E = Entry Call Reply
@@ -34,26 +32,26 @@ IsLegalFrom s before h = InTurn (MayFollow s) before h
 module _ (s : Supply) where
   -- a history with no entry is legal, and one more entry that may follow keeps it so
   pub legal-none : IsLegal s []
-  legal-none = each-none (MayFollow s)
+  legal-none = EachFollows-nil (MayFollow s)
 
   pub legal-more : (h : History) (e : E) → IsLegal s h → MayFollow s h e → IsLegal s (h ++ e ∷ [])
-  legal-more h e legal m = each-more (MayFollow s) h e legal m
+  legal-more h e legal m = EachFollows-more (MayFollow s) h e legal m
 
   -- the front of a legal history is legal
   pub legal-front : (h more : History) → IsLegal s (h ++ more) → IsLegal s h
-  legal-front h more legal = each-front (MayFollow s) h more legal
+  legal-front h more legal = EachFollows-front (MayFollow s) h more legal
 
   -- Each prefix is covered.
 
   made : (h : History) (desk : ℕ) (c : Call) (r : Reply) → IsReply s h desk c r → IsCovered s (booked h) → IsCovered s (lines_of (standing h ++ kept [] (booking_of desk c r)))
   made h desk (call.Book l) r (a, available, e) covered =
       let P : Reply → Type 0 = λ r. IsCovered s (lines_of (standing h ++ kept [] (booking_of desk (call.Book l) r))) in
-      subst P (sym e) (elim (le_or_lt l.quantity a) [
-        | inl enough ↦
+      subst P (sym e) (elim (cases_lt a l.quantity) [
+        | inr enough ↦
             let t : nat_le l.quantity a ≡ true = grind (arith, nat_tests) in
             let yes : P (reply.Booked (next_number h)) = subst (IsCovered s) (sym (map-append (λ b. b.line) (standing h) (record { number = next_number h; desk = desk; line = l } ∷ []))) (covered-less s (booked h) l.item l.week l.quantity a enough available.fits) in
             subst (λ v. P (if v then reply.Booked (next_number h) else reply.Short a)) (sym t) yes
-        | inr short ↦
+        | inl short ↦
             let t : nat_le l.quantity a ≡ false = grind (arith, nat_tests) in
             let no : P (reply.Short a) = subst (λ x. IsCovered s (lines_of x)) (sym (append-nil (standing h))) covered in
             subst (λ v. P (if v then reply.Booked (next_number h) else reply.Short a)) (sym t) no
@@ -71,7 +69,7 @@ module _ (s : Supply) where
 
   covered-from : (before h : History) → IsLegalFrom s before h → IsCovered s (booked before) → IsCovered s (booked (before ++ h))
   covered-from before [] w covered = subst (λ x. IsCovered s (booked x)) (sym (append-nil before)) covered
-  covered-from before (e ∷ h) w covered = subst (λ x. IsCovered s (booked x)) (sym (one-more before e h)) (covered-from (before ++ e ∷ []) h w.1 (covered-more before e w.0 covered))
+  covered-from before (e ∷ h) w covered = subst (λ x. IsCovered s (booked x)) (sym (one_more before e h)) (covered-from (before ++ e ∷ []) h w.1 (covered-more before e w.0 covered))
 
   nothing-covered : IsCovered s (booked [])
   unfolding standing
@@ -79,7 +77,7 @@ module _ (s : Supply) where
 
   -- a legal history is covered, and so is each front of it
   pub legal-covered : (h : History) → IsLegal s h → IsCovered s (booked h)
-  legal-covered h legal = covered-from [] h (walk (MayFollow s) [] h legal) nothing-covered
+  legal-covered h legal = covered-from [] h (InTurn-from_Each (MayFollow s) [] h legal) nothing-covered
 
   pub prefix-covered : (h more : History) → IsLegal s (h ++ more) → IsCovered s (booked h)
   prefix-covered h more legal = legal-covered h (legal-front h more legal)
@@ -101,14 +99,14 @@ module _ (s : Supply) where
 
   lines-from : (before h : History) → IsLegalFrom s before h → All IsOfShop (standing before) → All IsOfShop (standing (before ++ h))
   lines-from before [] w all = subst (λ x. All IsOfShop (standing x)) (sym (append-nil before)) all
-  lines-from before (e ∷ h) w all = subst (λ x. All IsOfShop (standing x)) (sym (one-more before e h)) (lines-from (before ++ e ∷ []) h w.1 (lines-more before e w.0 all))
+  lines-from before (e ∷ h) w all = subst (λ x. All IsOfShop (standing x)) (sym (one_more before e h)) (lines-from (before ++ e ∷ []) h w.1 (lines-more before e w.0 all))
 
   nothing-of-shop : All IsOfShop (standing [])
   unfolding standing
   nothing-of-shop = All-nil IsOfShop
 
   pub legal-lines : (h : History) → IsLegal s h → All IsOfShop (standing h)
-  legal-lines h legal = lines-from [] h (walk (MayFollow s) [] h legal) nothing-of-shop
+  legal-lines h legal = lines-from [] h (InTurn-from_Each (MayFollow s) [] h legal) nothing-of-shop
 
   -- The calls decide the replies.
 
@@ -147,7 +145,7 @@ module _ (s : Supply) where
       let r = reply-some before a.0 a.1 legal may.1 in
       let e : E = entry a.0 a.1 r.0 in
       let rest = some-from (before ++ e ∷ []) calls (legal-more before e legal (may.0, r.1, may.1)) (All-tail MayCall a calls all) in
-      (rest.0, rest.1, rest.2 ∙ ap (λ (x : List (ℕ × Call)). x ++ calls) (map-append (λ (x : E). (x.who, x.call)) before (e ∷ [])) ∙ sym (one-more (asked before) a calls))
+      (rest.0, rest.1, rest.2 ∙ ap (λ (x : List (ℕ × Call)). x ++ calls) (map-append (λ (x : E). (x.who, x.call)) before (e ∷ [])) ∙ sym (one_more (asked before) a calls))
 
   -- calls that fit have a legal history
   pub history-some : (calls : List (ℕ × Call)) → All MayCall calls → (h : History) × IsLegal s h × (asked h ≡ calls)
@@ -171,4 +169,4 @@ module _ (s : Supply) where
 
   -- legal histories with the same calls are the same
   pub history-unique : (g h : History) → IsLegal s g → IsLegal s h → asked g ≡ asked h → g ≡ h
-  history-unique g h v w same = unique-from [] g h (walk (MayFollow s) [] g v) (walk (MayFollow s) [] h w) same
+  history-unique g h v w same = unique-from [] g h (InTurn-from_Each (MayFollow s) [] g v) (InTurn-from_Each (MayFollow s) [] h w) same

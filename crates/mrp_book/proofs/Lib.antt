@@ -1,4 +1,3 @@
-pub mod Logs
 pub mod Standings
 pub mod Histories
 pub mod Promised

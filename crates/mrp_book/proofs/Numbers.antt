@@ -5,7 +5,7 @@ use Rattle.std.specs.List.Sorted.{IsSearchInRange, IsBinarySearchResult, IsNonDe
 use Rattle.std.specs.Ordering.{nat_cmp, ordering_index}
 use Rattle.std.specs.Result.{result_ok}
 use Rattle.std.proofs.Common.{◌≡◌, ◌≢◌, ℕ, zero, suc, ◌<◌, ◌≤◌, ◌==◌, inl, inr, Bool, true, false, if◌then◌else◌, List, [], ◌∷◌, ◌++◌, length, get_or, set, map, Option, Some, None, Result, Ok, Err, refl, sym, ap, subst, ◌∙◌, arith}
-use Rattle.std.proofs.lemmas.Bool.{cases_lt}
+use Rattle.std.proofs.lemmas.Bool.{cases_lt, eq-eqb, ne_eqb}
 use Rattle.std.proofs.lemmas.Bool.Decides.{nat_tests}
 use Rattle.std.proofs.lemmas.Cmp.{ranked}
 use Rattle.std.proofs.lemmas.List.{map-append}
@@ -77,16 +77,10 @@ has_number n b = b.number == n
 abbrev pub is_other : ℕ → Booking → Bool
 is_other n b = not (n == b.number)
 
-test_false : (a n : ℕ) → a ≢ n → (a == n) ≡ false
-test_false a n ne = grind (arith, nat_tests)
-
-test_other : (a n : ℕ) → a ≢ n → not (n == a) ≡ true
+pub test_other : (a n : ℕ) → a ≢ n → not (n == a) ≡ true
 test_other a n ne = grind (arith, nat_tests)
 
-test_true : (a n : ℕ) → a ≡ n → (a == n) ≡ true
-test_true a n e = grind (arith, nat_tests)
-
-test_same : (a n : ℕ) → a ≡ n → not (n == a) ≡ false
+pub test_same : (a n : ℕ) → a ≡ n → not (n == a) ≡ false
 test_same a n e = grind (arith, nat_tests)
 
 find-cons : (b : Booking) (bs : List Booking) (n : ℕ) (v : Bool) → has_number n b ≡ v → find (has_number n) (b ∷ bs) ≡ (if v then Some b else find (has_number n) bs)
@@ -105,7 +99,7 @@ find-none (m ∷ ms) n none = by (find-none ms n (All-tail (λ (m : Made). m.boo
     by : find (has_number n) (standing_of ms) ≡ None → (v : Bool) → m.stands ≡ v → find (has_number n) (standing_of (m ∷ ms)) ≡ None
     by rest true e =
         ap (find (has_number n)) (standing_of-cons m ms true e)
-        ∙ find-cons m.booking (standing_of ms) n false (test_false m.booking.number n (All-head (λ (m : Made). m.booking.number ≢ n) m ms none)) ∙ rest
+        ∙ find-cons m.booking (standing_of ms) n false (ne_eqb m.booking.number n (All-head (λ (m : Made). m.booking.number ≢ n) m ms none)) ∙ rest
     by rest false e = ap (find (has_number n)) (standing_of-cons m ms false e) ∙ rest
 
 others-none : (made : List Made) (n : ℕ) → NoneHas n made → filter (is_other n) (standing_of made) ≡ standing_of made
@@ -136,7 +130,7 @@ find-at (m ∷ ms) n zero inside here others = by m.stands refl
   where
     by : (v : Bool) → m.stands ≡ v → find (has_number n) (standing_of (m ∷ ms)) ≡ (if m.stands then Some m.booking else None)
     by true e =
-        ap (find (has_number n)) (standing_of-cons m ms true e) ∙ find-cons m.booking (standing_of ms) n true (test_true m.booking.number n here)
+        ap (find (has_number n)) (standing_of-cons m ms true e) ∙ find-cons m.booking (standing_of ms) n true (eq-eqb m.booking.number n here)
         ∙ sym (ap (λ (x : Bool). if x then Some m.booking else None) e)
     by false e =
         ap (find (has_number n)) (standing_of-cons m ms false e) ∙ find-none ms n (tail-none m ms n others)
@@ -145,7 +139,7 @@ find-at (m ∷ ms) n (suc i) inside here others = by (find-at ms n i (omega arit
   where
     by : find (has_number n) (standing_of ms) ≡ standing_at ms i → (v : Bool) → m.stands ≡ v → find (has_number n) (standing_of (m ∷ ms)) ≡ standing_at ms i
     by rest true e =
-        ap (find (has_number n)) (standing_of-cons m ms true e) ∙ find-cons m.booking (standing_of ms) n false (test_false m.booking.number n (others 0 (omega arith) (omega arith))) ∙ rest
+        ap (find (has_number n)) (standing_of-cons m ms true e) ∙ find-cons m.booking (standing_of ms) n false (ne_eqb m.booking.number n (others 0 (omega arith) (omega arith))) ∙ rest
     by rest false e = ap (find (has_number n)) (standing_of-cons m ms false e) ∙ rest
 
 -- a booking that stands no more

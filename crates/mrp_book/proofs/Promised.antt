@@ -1,6 +1,7 @@
 -- What legal histories keep: what was promised, under which numbers, what was snapped, and who called.
 use Rattle.std.specs.Prelude.{All, AllPairs, filter}
 use Rattle.std.proofs.Common.{ℕ, ◌≡◌, ◌<◌, ◌+◌, ◌==◌, inl, inr, true, false, if◌then◌else◌, nat_le, List, [], ◌∷◌, ◌++◌, find, take, length, get_or, Option, Some, None, arith, refl, sym, ◌∙◌, ap, subst}
+use Rattle.std.proofs.lemmas.Bool.{cases_lt}
 use Rattle.std.proofs.lemmas.Bool.Decides.{nat_tests}
 use Rattle.std.proofs.lemmas.List.{append-nil, length_push, take_at}
 use Rattle.std.proofs.lemmas.List.Elements.{All-filter, All-get_or, All-nil, All-push, All-weaker}
@@ -18,18 +19,18 @@ use Rattle.mrp_book.specs.declared.reply.Reply.TheVariants as reply
 use Rattle.mrp_book.specs.Snapshot.{Snapshot}
 use Rattle.mrp_book.specs.Standing.{History, standing, kept, booking_of, booked}
 use Rattle.mrp_book.specs.History.{next_number, cancel_reply, week_reply, IsReply, IsLegal, MayFollow}
-use Rattle.mrp_book.proofs.Logs.{walk, one-more}
+use Rattle.mrp_turn.proofs.Logs.{InTurn-from_Each, one_more}
 use Rattle.mrp_book.proofs.Standings.{standing_after, standing-more, not_cancelled}
-use Rattle.mrp_book.proofs.Histories.{IsLegalFrom, le_or_lt}
+use Rattle.mrp_book.proofs.Histories.{IsLegalFrom}
 
 module _ (s : Supply) where
   accepted : (h : History) (desk number : ℕ) (l : Line) → IsReply s h desk (call.Book l) (reply.Booked number) → CanPromise s (booked h) l.item l.quantity l.week × (number ≡ next_number h)
-  accepted h desk number l (a, available, e) = elim (le_or_lt l.quantity a) [
-    | inl enough ↦
+  accepted h desk number l (a, available, e) = elim (cases_lt a l.quantity) [
+    | inr enough ↦
         let t : nat_le l.quantity a ≡ true = grind (arith, nat_tests) in
         let same : reply.Booked number ≡ reply.Booked (next_number h) = e ∙ ap (λ v. if v then reply.Booked (next_number h) else reply.Short a) t in
         ((a, available, enough), cc)
-    | inr short ↦
+    | inl short ↦
         let t : nat_le l.quantity a ≡ false = grind (arith, nat_tests) in
         let same : reply.Booked number ≡ reply.Short a = e ∙ ap (λ v. if v then reply.Booked (next_number h) else reply.Short a) t in
         absurd cc
@@ -60,7 +61,7 @@ module _ (s : Supply) where
   front_stands before after desk c r is =
       let e = entry desk c r in
       let long : length (before ++ e ∷ []) ≡ length before + 1 = length_push before e in
-      ap (λ x. standing (take (next_number before) x)) (one-more before e after)
+      ap (λ x. standing (take (next_number before) x)) (one_more before e after)
       ∙ ap standing (take_at (before ++ e ∷ []) after (next_number before) long)
       ∙ ap (λ x. standing (before ++ entry desk x r ∷ [])) is
       ∙ standing_after before desk call.Snapshot r
@@ -79,7 +80,7 @@ module _ (s : Supply) where
   desks_from before (e ∷ h) w = (w.0.0, desks_from (before ++ e ∷ []) h w.1)
 
   pub desks : (h : History) → IsLegal s h → AreFrom 64 h
-  desks h legal = desks_from [] h (walk (MayFollow s) [] h legal)
+  desks h legal = desks_from [] h (InTurn-from_Each (MayFollow s) [] h legal)
 
   -- The numbers of what stands rise, none past the last entry.
 
@@ -120,11 +121,11 @@ module _ (s : Supply) where
   rises-from : (before h : History) → IsLegalFrom s before h → Rises (next_number before) (standing before) → Rises (next_number (before ++ h)) (standing (before ++ h))
   rises-from before [] w rises = subst (λ x. Rises (next_number x) (standing x)) (sym (append-nil before)) rises
   rises-from before (e ∷ h) w rises =
-      subst (λ x. Rises (next_number x) (standing x)) (sym (one-more before e h)) (rises-from (before ++ e ∷ []) h w.1 (rises-more before e w.0 rises))
+      subst (λ x. Rises (next_number x) (standing x)) (sym (one_more before e h)) (rises-from (before ++ e ∷ []) h w.1 (rises-more before e w.0 rises))
 
   nothing-rises : Rises 1 (standing [])
   unfolding standing
   nothing-rises = (λ i j d before within. absurd (omega arith), All-nil (λ b. b.number < 1))
 
   pub rising : (h : History) → IsLegal s h → Rises (next_number h) (standing h)
-  rising h legal = rises-from [] h (walk (MayFollow s) [] h legal) nothing-rises
+  rising h legal = rises-from [] h (InTurn-from_Each (MayFollow s) [] h legal) nothing-rises

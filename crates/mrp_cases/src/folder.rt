@@ -1,10 +1,16 @@
-//! The folder of cases that the program is run in: of each case the file NAME.bundle, and beside it either
-//! NAME.day, the day that planning it writes, or NAME.said, the words with which it is refused.
+//! The folder of cases that the program is run in: of each case the file NAME.bundle, or the folder NAME.files
+//! with its tables, and beside it either NAME.day, the day that planning it writes, or NAME.said, the words with
+//! which it is refused.
 
 use crate::ending::Ending;
 use std::io::ErrorKind;
 use std::rt::Files;
 use std::{fs, io};
+
+/// The end of the name of a case's folder of tables.
+pub const FILES: &str = ".files";
+
+const BUNDLE: &str = ".bundle";
 
 /// What stands in the folder.
 #[derive(Drop)]
@@ -23,8 +29,10 @@ impl Folder {
         for entry in fs::read_dir(rt, ".")? {
             let entry = entry?;
             let file = entry.file_name();
-            if let Some(name) = file.strip_suffix(".bundle") {
-                cases.push(String::from_str(rt.alloc(), name)?)?;
+            for end in [BUNDLE, FILES] {
+                if let Some(name) = file.strip_suffix(end) {
+                    cases.push(String::from_str(rt.alloc(), name)?)?;
+                }
             }
             if file.ends_with(".day") || file.ends_with(".said") {
                 answers = answers.saturating_add(1);
@@ -35,13 +43,17 @@ impl Folder {
     }
 }
 
-/// The bundle of a case.
-pub fn bundle_of<R: Files + AllocGlobal>(rt: &R, name: &str) -> io::Result<Vec<u8>> {
-    let file = format!(in rt.alloc(); "{name}.bundle")?;
-    fs::read(rt, &file)
+/// The bundle of a case, if it has one.
+pub fn bundle_of<R: Files + AllocGlobal>(rt: &R, name: &str) -> io::Result<Option<Vec<u8>>> {
+    let file = format!(in rt.alloc(); "{name}{BUNDLE}")?;
+    match fs::read(rt, &file) {
+        Ok(bundle) => Ok(Some(bundle)),
+        Err(error) if error.kind() == ErrorKind::NotFound => Ok(None),
+        Err(error) => Err(error),
+    }
 }
 
-// What stands beside a bundle in the file of this kind, if there is one.
+// What stands beside a case in the file of this kind, if there is one.
 fn answer_of<R: Files + AllocGlobal>(rt: &R, name: &str, kind: &str) -> io::Result<Option<String>> {
     let file = format!(in rt.alloc(); "{name}.{kind}")?;
     match fs::read_to_string(rt, &file) {

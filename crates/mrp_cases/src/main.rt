@@ -1,12 +1,12 @@
-//! Plans each bundle of the folder that it is run in, as `mrp plan` does, and tells of each that does not
-//! end as the file beside it says: with its day written, or refused with its words.
+//! Plans each bundle and each folder of tables of the folder that it is run in, as `mrp plan` does, and tells
+//! of each that does not end as the file beside it says: with its day written, or refused with its words.
 #![tactic(auto)]
 
 mod ending;
 mod folder;
 
 use self::ending::Ending;
-use self::folder::{Folder, bundle_of, wanted_of};
+use self::folder::{FILES, Folder, bundle_of, wanted_of};
 use mrp_main::run_words;
 use mrp_rows::Told;
 use std::alloc::Global;
@@ -16,8 +16,6 @@ use std::process::ExitCode;
 use std::rt::Files;
 use std::thread::Threads;
 
-const PLAN: [&str; 1] = ["plan"];
-
 fn text_of(bytes: Vec<u8>) -> io::Result<String> {
     match String::from_utf8(bytes) {
         Ok(text) => Ok(text),
@@ -25,17 +23,31 @@ fn text_of(bytes: Vec<u8>) -> io::Result<String> {
     }
 }
 
-// How planning a bundle ends.
-fn planned(rt: &(impl Alloc + Threads + Sync), alloc: Global, bundle: &[u8]) -> io::Result<Ending> {
-    let mut input = Told::new(bundle);
+// How these words end, over this input.
+fn ended(
+    rt: &(impl Alloc + Files + Threads + Sync),
+    alloc: Global,
+    words: &[&str],
+    input: &[u8],
+) -> io::Result<Ending> {
+    let mut input = Told::new(input);
     let mut output = Told::new(Vec::new(alloc));
     let mut errors = Told::new(Vec::new(alloc));
-    let status = run_words(rt, alloc, &PLAN, &mut input, &mut output, &mut errors);
+    let status = run_words(rt, alloc, words, &mut input, &mut output, &mut errors);
     Ok(Ending {
         status,
         day: text_of(output.into_inner())?,
         words: text_of(errors.into_inner())?,
     })
+}
+
+// How planning a case ends: its bundle, or its folder of tables where it has no bundle.
+fn planned<R: Files + AllocGlobal + Threads + Sync>(rt: &R, name: &str) -> io::Result<Ending> {
+    if let Some(bundle) = bundle_of(rt, name)? {
+        return ended(rt, rt.alloc(), &["plan"], &bundle);
+    }
+    let folder = format!(in rt.alloc(); "{name}{FILES}")?;
+    ended(rt, rt.alloc(), &["plan", "--dir", folder.as_str()], b"")
 }
 
 // Whether a case ends as it must. Where it does not, a line tells how it ended.
@@ -47,8 +59,7 @@ fn is_right<R: Files + AllocGlobal + Print + Threads + Sync>(
         println!(rt; "{name} is not as it must be; no day and no words stand beside it")?;
         return Ok(false);
     };
-    let bundle = bundle_of(rt, name)?;
-    let ended = planned(rt, rt.alloc(), &bundle)?;
+    let ended = planned(rt, name)?;
     if ended.is(&wanted) {
         return Ok(true);
     }

@@ -1,9 +1,9 @@
 -- Bookings in a list: by rising numbers, and one taken out by its number.
-use Rattle.std.specs.Prelude.{filter, find, not}
+use Rattle.std.specs.Prelude.{filter, find}
 use Rattle.std.proofs.Common.{◌≡◌, ◌≢◌, ℕ, ◌==◌, ◌<◌, ◌≤◌, inl, inr, Bool, true, false, if◌then◌else◌, List, [], ◌∷◌, ◌++◌, Some, refl, sym, ap, subst, ◌∙◌, arith}
-use Rattle.std.proofs.lemmas.Bool.{cases_eq}
-use Rattle.std.proofs.lemmas.Bool.Decides.{nat_tests}
+use Rattle.std.proofs.lemmas.Bool.{cases_eq, eq-eqb, ne_eqb}
 use Rattle.mrp_book.specs.declared.booking.Booking.{Booking}
+use Rattle.mrp_book.proofs.Numbers.{has_number, is_other, test_other, test_same}
 
 -- what a test keeps of a list that begins with an element
 pub kept_head : {A : Type 0} (p : A → Bool) (x : A) (xs : List A) (v : Bool) → p x ≡ v → filter p (x ∷ xs) ≡ (if v then x ∷ filter p xs else filter p xs)
@@ -55,29 +55,11 @@ rise_kept p low high (b ∷ bs) r = by (rise_kept p b.number high bs r.1) (p b) 
 abbrev pub is_of : ℕ → Booking → Bool
 is_of desk b = b.desk == desk
 
-abbrev pub has_number : ℕ → Booking → Bool
-has_number number b = b.number == number
-
-abbrev pub is_other : ℕ → Booking → Bool
-is_other number b = not (number == b.number)
-
-pub same_test : (a b : ℕ) → a ≡ b → (a == b) ≡ true
-same_test a b e = grind (arith, nat_tests)
-
-pub other_test : (a b : ℕ) → a ≢ b → (a == b) ≡ false
-other_test a b ne = grind (arith, nat_tests)
-
-same_taken : (a b : ℕ) → a ≡ b → not (b == a) ≡ false
-same_taken a b e = grind (arith, nat_tests)
-
-other_stays : (a b : ℕ) → a ≢ b → not (b == a) ≡ true
-other_stays a b ne = grind (arith, nat_tests)
-
 -- above a number, no booking has it
 above_stay : (number low high : ℕ) (bs : List Booking) → number ≤ low → Rise low high bs → filter (is_other number) bs ≡ bs
 above_stay number low high [] le r = refl
 above_stay number low high (b ∷ bs) le r =
-    kept_head (is_other number) b bs true (other_stays b.number number (λ (e : b.number ≡ number). omega (arith, e, le, r.0)))
+    kept_head (is_other number) b bs true (test_other b.number number (λ (e : b.number ≡ number). omega (arith, e, le, r.0)))
     ∙ ap (λ (xs : List Booking). b ∷ xs) (above_stay number b.number high bs (omega (arith, le, r.0)) r.1)
 
 -- a desk's bookings stay where another desk's is taken out
@@ -86,14 +68,14 @@ pub others_stay : (desk number low high : ℕ) (bs : List Booking) (taken : Book
 others_stay desk number low high [] taken r found ne = refl
 others_stay desk number low high (b ∷ bs) taken r found ne = elim (cases_eq b.number number) [
   | inl here ↦
-      let same : Some b ≡ Some taken = sym (ap (λ (v : Bool). if v then Some b else find (has_number number) bs) (same_test b.number number here)) ∙ found in
+      let same : Some b ≡ Some taken = sym (ap (λ (v : Bool). if v then Some b else find (has_number number) bs) (eq-eqb b.number number here)) ∙ found in
       let own : b ≡ taken = cc in
-      let theirs : is_of desk b ≡ false = other_test b.desk desk (λ (e : b.desk ≡ desk). ne (ap (λ (x : Booking). x.desk) (sym own) ∙ e)) in
-      ap (filter (is_of desk)) (kept_head (is_other number) b bs false (same_taken b.number number here) ∙ above_stay number b.number high bs (omega (arith, here)) r.1)
+      let theirs : is_of desk b ≡ false = ne_eqb b.desk desk (λ (e : b.desk ≡ desk). ne (ap (λ (x : Booking). x.desk) (sym own) ∙ e)) in
+      ap (filter (is_of desk)) (kept_head (is_other number) b bs false (test_same b.number number here) ∙ above_stay number b.number high bs (omega (arith, here)) r.1)
       ∙ sym (kept_head (is_of desk) b bs false theirs)
   | inr other ↦
-      let later : find (has_number number) bs ≡ Some taken = sym (ap (λ (v : Bool). if v then Some b else find (has_number number) bs) (other_test b.number number other)) ∙ found in
-      ap (filter (is_of desk)) (kept_head (is_other number) b bs true (other_stays b.number number other))
+      let later : find (has_number number) bs ≡ Some taken = sym (ap (λ (v : Bool). if v then Some b else find (has_number number) bs) (ne_eqb b.number number other)) ∙ found in
+      ap (filter (is_of desk)) (kept_head (is_other number) b bs true (test_other b.number number other))
       ∙ both (others_stay desk number b.number high bs taken r.1 later ne) (is_of desk b) refl
 ]
   where

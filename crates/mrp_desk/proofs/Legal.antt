@@ -11,7 +11,7 @@ use Rattle.mrp_book.specs.declared.reply.Reply.{Reply}
 use Rattle.mrp_book.specs.BookState.{BookState}
 use Rattle.mrp_book.specs.Standing.{History}
 use Rattle.mrp_book.specs.History.{IsLegal, IsLimit, state_of}
-use Rattle.mrp_book.proofs.Logs.{one-more}
+use Rattle.mrp_turn.proofs.Logs.{one_more}
 use Rattle.mrp_book.proofs.Histories.{legal-more, legal-none}
 use Rattle.mrp_book.proofs.States.{state_more, state_none}
 use Rattle.mrp_desk.specs.ShopBook.{Answers, Opens}
@@ -45,7 +45,7 @@ module _ (shop : Shop) where
   goes_on : (before log : History) (b t : BookState) → IsHistory s before b → Leads (Answers shop) b log t → IsHistory s (before ++ log) t
   goes_on before [] b t h same = subst (λ (x : History). IsHistory s x t) (sym (append-nil before)) (subst (IsHistory s before) same h)
   goes_on before (e ∷ log) b t h (u, a, rest) =
-      subst (λ (x : History). IsHistory s x t) (sym (one-more before e log)) (goes_on (before ++ e ∷ []) log u t (one_entry before e b u h a) rest)
+      subst (λ (x : History). IsHistory s x t) (sym (one_more before e log)) (goes_on (before ++ e ∷ []) log u t (one_entry before e b u h a) rest)
 
   pub is_history : (log : History) (t : BookState) → LeadsTo (Answers shop) (Opens shop) log t → IsHistory s log t
   is_history log t (b, opens, leads) = goes_on [] log b t (record { legal = legal-none s; few = omega arith; left = opens ∙ sym (state_none s) }) leads

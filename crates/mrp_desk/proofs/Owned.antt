@@ -1,7 +1,7 @@
 -- A desk's own standing bookings are those that its own entries leave, since no other desk can cancel them.
 use Rattle.std.specs.Prelude.{filter, find}
 use Rattle.std.proofs.Common.{◌≡◌, ◌≢◌, ℕ, ◌+◌, ◌==◌, ◌≤◌, inl, inr, Bool, true, false, if◌then◌else◌, List, [], ◌∷◌, ◌++◌, length, Option, Some, None, refl, sym, ap, subst, ◌∙◌, arith}
-use Rattle.std.proofs.lemmas.Bool.{cases_eq}
+use Rattle.std.proofs.lemmas.Bool.{cases_eq, eq-eqb, ne_eqb}
 use Rattle.std.proofs.lemmas.List.{append-nil, length_push}
 use Rattle.std.proofs.lemmas.List.Elements.{filter-append}
 use Rattle.mrp_turn.specs.declared.log.Entry.{Entry}
@@ -14,10 +14,11 @@ use Rattle.mrp_book.specs.declared.reply.Reply.{Reply}
 use Rattle.mrp_book.specs.declared.reply.Reply.TheVariants as reply
 use Rattle.mrp_book.specs.Standing.{History, booking_of, kept, standing}
 use Rattle.mrp_book.specs.History.{IsLegal, IsReply, MayFollow, cancel_reply, state_of}
-use Rattle.mrp_book.proofs.Logs.{InTurn, one-more, walk}
+use Rattle.mrp_turn.proofs.Logs.{InTurn, InTurn-from_Each, one_more}
+use Rattle.mrp_book.proofs.Numbers.{has_number}
 use Rattle.mrp_book.proofs.Replies.{accepted}
 use Rattle.mrp_book.proofs.Standings.{not_cancelled, standing-more}
-use Rattle.mrp_desk.proofs.Bookings.{Rise, has_number, is_of, keeps_all, kept_head, other_test, others_stay, rise_kept, rise_push, rise_wider, same_test, tests_commute}
+use Rattle.mrp_desk.proofs.Bookings.{Rise, is_of, keeps_all, kept_head, others_stay, rise_kept, rise_push, rise_wider, tests_commute}
 
 -- the booking that an entry makes
 abbrev made : ℕ → Call → Reply → List Booking
@@ -25,11 +26,11 @@ made desk c r = kept [] (booking_of desk c r)
 
 -- is of the desk that called
 made_own : (desk : ℕ) (c : Call) (r : Reply) → filter (is_of desk) (made desk c r) ≡ made desk c r
-made_own desk (call.Book l) (reply.Booked n) = kept_head (is_of desk) (record { number = n; desk = desk; line = l }) [] true (same_test desk desk refl)
+made_own desk (call.Book l) (reply.Booked n) = kept_head (is_of desk) (record { number = n; desk = desk; line = l }) [] true (eq-eqb desk desk refl)
 made_own desk c r = refl
 
 made_other : (desk other : ℕ) (c : Call) (r : Reply) → other ≢ desk → filter (is_of desk) (made other c r) ≡ []
-made_other desk other (call.Book l) (reply.Booked n) ne = kept_head (is_of desk) (record { number = n; desk = other; line = l }) [] false (other_test other desk ne)
+made_other desk other (call.Book l) (reply.Booked n) ne = kept_head (is_of desk) (record { number = n; desk = other; line = l }) [] false (ne_eqb other desk ne)
 made_other desk other c r ne = refl
 
 -- a booking is cancelled by its desk
@@ -38,7 +39,7 @@ cancelled_by desk None e = absurd cc
 cancelled_by desk (Some b) e = elim (cases_eq b.desk desk) [
   | inl own ↦ (b, refl, own)
   | inr other ↦
-      let no : reply.Cancelled ≡ reply.NotYours = e ∙ ap (λ (v : Bool). if v then reply.Cancelled else reply.NotYours) (other_test b.desk desk other) in
+      let no : reply.Cancelled ≡ reply.NotYours = e ∙ ap (λ (v : Bool). if v then reply.Cancelled else reply.NotYours) (ne_eqb b.desk desk other) in
       absurd cc
 ]
 
@@ -92,17 +93,17 @@ module _ (s : Supply) where
               let of_desk : filter (is_of desk) new ≡ new = subst (λ (d : ℕ). filter (is_of d) new ≡ new) own (made_own e.who e.call e.reply) in
               let old : filter (is_of desk) (filter left (standing h)) ≡ filter left (standing (entries_by desk h)) = tests_commute (is_of desk) left (standing h) ∙ ap (filter left) owned in
               parted h e ∙ ap (λ (xs : List Booking). xs ++ filter (is_of desk) new) old ∙ ap (λ (xs : List Booking). filter left (standing (entries_by desk h)) ++ xs) of_desk
-              ∙ sym (standing-more (entries_by desk h) e) ∙ ap standing (sym (by_desk h e true (same_test e.who desk own)))
+              ∙ sym (standing-more (entries_by desk h) e) ∙ ap standing (sym (by_desk h e true (eq-eqb e.who desk own)))
           | inr other ↦
               let of_desk : filter (is_of desk) new ≡ [] = made_other desk e.who e.call e.reply other in
               parted h e ∙ ap (λ (xs : List Booking). xs ++ filter (is_of desk) new) (unmoved h e.who e.call e.reply other follows.1 rise) ∙ ap (λ (xs : List Booking). filter (is_of desk) (standing h) ++ xs) of_desk
-              ∙ append-nil (filter (is_of desk) (standing h)) ∙ owned ∙ ap standing (sym (by_desk h e false (other_test e.who desk other) ∙ append-nil (entries_by desk h)))
+              ∙ append-nil (filter (is_of desk) (standing h)) ∙ owned ∙ ap standing (sym (by_desk h e false (ne_eqb e.who desk other) ∙ append-nil (entries_by desk h)))
         ]
 
     owned_from : (before h : History) → InTurn (MayFollow s) before h → IsRising before → IsOwned before → IsOwned (before ++ h)
     owned_from before [] w rise owned = subst IsOwned (sym (append-nil before)) owned
     owned_from before (e ∷ h) w rise owned =
-        subst IsOwned (sym (one-more before e h)) (owned_from (before ++ e ∷ []) h w.1 (rising_more before e w.0 rise) (owned_more before e w.0 rise owned))
+        subst IsOwned (sym (one_more before e h)) (owned_from (before ++ e ∷ []) h w.1 (rising_more before e w.0 rise) (owned_more before e w.0 rise owned))
 
     nothing_rises : IsRising []
     unfolding standing
@@ -114,4 +115,4 @@ module _ (s : Supply) where
 
     -- in a legal history, a desk's bookings that stand are those that its own entries leave
     pub own_stand : (h : History) → IsLegal s h → IsOwned h
-    own_stand h legal = owned_from [] h (walk (MayFollow s) [] h legal) nothing_rises nothing_owned
+    own_stand h legal = owned_from [] h (InTurn-from_Each (MayFollow s) [] h legal) nothing_rises nothing_owned

@@ -1,5 +1,6 @@
 -- What the lock tells of a call, as a desk is told it.
 use Rattle.std.proofs.Common.{◌≡◌, ◌≢◌, ℕ, ◌+◌, ◌==◌, ◌≤◌, ◌⊎◌, inl, inr, true, [], ◌∷◌, ◌++◌, length, Result, Ok, Err, IfOk, IfErr, refl, sym, ap, subst, ◌∙◌, arith}
+use Rattle.std.proofs.lemmas.Bool.{eq-eqb}
 use Rattle.std.proofs.lemmas.List.{append_cancel_right, length_push}
 use Rattle.std.proofs.lemmas.List.Elements.{filter-append}
 use Rattle.mrp_bill.specs.Shop.{Shop}
@@ -22,7 +23,7 @@ use Rattle.mrp_book.proofs.Histories.{legal-front}
 use Rattle.mrp_desk.specs.Calls.{HasCause, IsAnswerOf, IsSnapshot, Tells}
 use Rattle.mrp_desk.specs.Offices.{Desk, supply_at}
 use Rattle.mrp_desk.specs.ShopBook.{Answers, Opens, Refuses, WantsMemory}
-use Rattle.mrp_desk.proofs.Bookings.{kept_head, same_test}
+use Rattle.mrp_desk.proofs.Bookings.{kept_head}
 use Rattle.mrp_desk.proofs.Legal.{is_history}
 use Rattle.mrp_desk.proofs.Owned.{own_stand}
 
@@ -97,7 +98,7 @@ snapped s old new (Ok answer) told =
     let legal : IsLegal s (before ++ e ∷ []) = subst (IsLegal s) saw told.legal in
     let number : answer.0 ≡ length before + 1 = told.number ∙ ap length saw ∙ length_push before e in
     let mine : entries_by old.number new.seen ≡ entries_by old.number before ++ e ∷ [] =
-    ap (entries_by old.number) saw ∙ filter-append (λ x. x.who == old.number) before (e ∷ []) ∙ ap (λ (xs : History). entries_by old.number before ++ xs) (kept_head (λ x. x.who == old.number) e [] true (same_test old.number old.number refl)) in
+    ap (entries_by old.number) saw ∙ filter-append (λ x. x.who == old.number) before (e ∷ []) ∙ ap (λ (xs : History). entries_by old.number before ++ xs) (kept_head (λ x. x.who == old.number) e [] true (eq-eqb old.number old.number refl)) in
     record {
       before = before;
       reply = (legal before e [] refl).1 ∙ ap (λ (n : ℕ). reply.Taken (record { front = n; weeks = s.weeks; standing = standing before })) (sym number);

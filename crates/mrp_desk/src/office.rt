@@ -29,7 +29,8 @@ pub struct Office {
 }
 
 impl Model for Office {
-    ghost use Rattle.std.specs.Prelude.{◌≡◌};
+    ghost use Rattle.std.specs.Prelude.{◌≡◌, ◌+◌};
+    ghost use Rattle.mrp_tables.specs.declared.limits.TheConstants.{MOST_ENTRIES};
     ghost use Rattle.mrp_turn.specs.Seen.{TurnId};
     ghost use Rattle.mrp_bill.specs.Shop.{Shop};
 
@@ -37,7 +38,7 @@ impl Model for Office {
 
     ghost view = { λ o. o.turn };
 
-    ghost invariant = { λ o. o.turn.about.room ≡ 1000001 };
+    ghost invariant = { λ o. o.turn.about.room ≡ MOST_ENTRIES + 1 };
 }
 
 impl Office {

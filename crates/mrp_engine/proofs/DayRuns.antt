@@ -44,6 +44,10 @@ pub writing-failed : (f : ReportFault) → writing_fault f ≡ Write → f ≡ r
 writing-failed report.Write is = refl
 writing-failed report.NoMemory is = cc
 
+pub writing-refused : (f : ReportFault) → writing_fault f ≡ NoMemory → f ≡ report.NoMemory
+writing-refused report.Write is = cc
+writing-refused report.NoMemory is = refl
+
 -- a report that is refused is refused while the text is written
 pub while-writing : (f : ReportFault) → IsWhileWriting (writing_fault f)
 while-writing report.Write = tt

@@ -1,9 +1,8 @@
 -- The texts of a day are written one after the other.
-use Rattle.std.proofs.Common.{◌≡◌, ◌∙◌, ℕ, ◌+◌, ◌<◌, List, [], ◌∷◌, ◌++◌, length, take, drop, get_or, Option, Some, None, sym, ap, subst, inl, inr, refl, arith, append_assoc}
+use Rattle.std.proofs.Common.{◌≡◌, ◌∙◌, ℕ, ◌+◌, ◌<◌, List, [], ◌∷◌, ◌++◌, length, take, drop, get_or, Option, sym, ap, subst, inl, inr, arith}
 use Rattle.std.proofs.lemmas.List.{append-nil, drop_more, map-append, take-append-drop, take_more}
 use Rattle.std.proofs.lemmas.List.Concat.{flat_map-append}
 use Rattle.std.specs.List.{flat_map}
-use Rattle.std.specs.Io.KnownBytes.{Appends}
 use Rattle.mrp_rows.specs.declared.told.Told.{Told}
 use Rattle.mrp_rows.specs.Told.{inner_of, failures_of, interrupted_of, HasRisenBy}
 use Rattle.mrp_rows.specs.Streams.{RisesBy}
@@ -11,49 +10,20 @@ use Rattle.mrp_rows.proofs.StreamFronts.{front-longer, front-after}
 use Rattle.mrp_item.specs.Places.{WholePlan}
 use Rattle.mrp_report.specs.ReportText.{report_text}
 use Rattle.mrp_report.specs.Written.{HasGivenUp, HasTakenFront, HasTakenWhole}
+use Rattle.mrp_report.proofs.Progress.{taken-both, taken-none}
 use Rattle.mrp_engine.specs.Planned.{inputs_of_plans}
-use Rattle.mrp_engine.specs.Run.{HasTakenAll}
-
-appends-none : (a : Option (List ℕ)) → Appends a a []
-appends-none None = tt
-appends-none (Some x) = sym (append-nil x)
-
-appends-both : (a b c : Option (List ℕ)) (s t : List ℕ) → Appends a b s → Appends b c t → Appends a c (s ++ t)
-appends-both None b c s t p q = tt
-appends-both (Some x) None c s t p q = absurd p
-appends-both (Some x) (Some y) None s t p q = absurd q
-appends-both (Some x) (Some y) (Some z) s t p q = q ∙ ap (λ (l : List ℕ). l ++ t) p ∙ append_assoc x s t
-
-rises-none : (n : ℕ) → RisesBy 0 n n
-rises-none n = (omega arith, omega arith)
-
-rises-both : (m n a b c : ℕ) → RisesBy m a b → RisesBy n b c → RisesBy (m + n) a c
-rises-both m n a b c p q = (omega (arith, p.0, p.1, q.0), omega (arith, p.1, q.1))
+use Rattle.mrp_engine.specs.Run.{HasNotFailed, HasTakenAll}
 
 risen-after : (m n a b c : ℕ) → RisesBy m a b → HasRisenBy n b c → HasRisenBy n a c
 risen-after m n a b c p q = omega (arith, p.0, p.1, q)
 
 -- nothing is taken yet
 pub all-none : {W : Type 0} (contents : W → Option (List ℕ)) (w : Told W) → HasTakenAll contents w w []
-all-none contents w = (
-  0,
-  record {
-    bytes = appends-none (contents (inner_of w));
-    failures = refl;
-    interrupted = rises-none (interrupted_of w);
-  },
-)
+all-none contents w = (0, taken-none contents w)
 
 -- a text is taken, and then one more
 pub all-both : {W : Type 0} (contents : W → Option (List ℕ)) (a b c : Told W) (s t : List ℕ) → HasTakenAll contents a b s → HasTakenAll contents b c t → HasTakenAll contents a c (s ++ t)
-all-both contents a b c s t (m, p) (n, q) = (
-  m + n,
-  record {
-    bytes = appends-both (contents (inner_of a)) (contents (inner_of b)) (contents (inner_of c)) s t p.bytes q.bytes;
-    failures = q.failures ∙ p.failures;
-    interrupted = rises-both m n (interrupted_of a) (interrupted_of b) (interrupted_of c) p.interrupted q.interrupted;
-  },
-)
+all-both contents a b c s t (m, p) (n, q) = (m + n, taken-both contents a b c s t m n p q)
 
 pub all-of-one : {W : Type 0} (contents : W → Option (List ℕ)) (a b : Told W) (s : List ℕ) → HasTakenWhole contents a b s → HasTakenAll contents a b s
 all-of-one contents a b s (m, few, taken) = (m, taken)
@@ -72,6 +42,10 @@ pub given-up-later : {W : Type 0} (contents : W → Option (List ℕ)) (a b c : 
 given-up-later contents a b c s tries (m, taken) (inl failed) = inl (subst (λ (n : ℕ). HasRisenBy 1 n (failures_of c)) taken.failures failed)
 given-up-later contents a b c s tries (m, taken) (inr more) =
     inr (risen-after m (tries + 1) (interrupted_of a) (interrupted_of b) (interrupted_of c) taken.interrupted more)
+
+-- a writer that did not fail in a later part did not fail in the whole
+pub not-failed-later : {W : Type 0} (contents : W → Option (List ℕ)) (a b c : Told W) (s : List ℕ) → HasTakenAll contents a b s → HasNotFailed b c → HasNotFailed a c
+not-failed-later contents a b c s (m, taken) later = later ∙ taken.failures
 
 -- The reports of plans.
 

@@ -6,3 +6,4 @@ pub mod RunsPlanned
 pub mod DayWritten
 pub mod DayRuns
 pub mod RefusedItem
+pub mod SomeDay

@@ -32,7 +32,7 @@ master-item : (t : Tables) (item : ℕ) → IsMasterItem t.items item → IsMast
 master-item t item m = mapped-at (λ (i : Item). is_master i.class) t.items item _ false m.there ∙ m.master
 
 -- a call of the script fits the order book
-call-fits : (t : Tables) (c : ScriptCall) → IsScriptCall t.calendar.weeks t.items c → Fits (supply_of t) (call_of c)
+pub call-fits : (t : Tables) (c : ScriptCall) → IsScriptCall t.calendar.weeks t.items c → Fits (supply_of t) (call_of c)
 call-fits t (s.Book item week quantity) is =
     let (there, weeks, pieces) = is.book item week quantity refl in
     record { item = master-item t item there; week = weeks; quantity = pieces }

@@ -15,7 +15,7 @@ use Rattle.mrp_book.specs.declared.reply.Reply.TheVariants as reply
 use Rattle.mrp_book.specs.Snapshot.{Snapshot}
 use Rattle.mrp_book.specs.Standing.{History, booked, standing}
 use Rattle.mrp_book.specs.History.{IsLegal, IsReply, cancel_reply, next_number, week_reply}
-use Rattle.mrp_book.proofs.Logs.{one-more}
+use Rattle.mrp_turn.proofs.Logs.{one_more}
 use Rattle.mrp_book.proofs.Histories.{prefix-covered}
 use Rattle.mrp_item.specs.Inputs.{inputs_of}
 use Rattle.mrp_engine.specs.Day.{AnswersScript, planned_from, runs_of}
@@ -77,7 +77,7 @@ run-at t h before e later cut is (reply.Front n) same rest = rest
 runs-from : (t : Tables) (h before later : History) → IsLegal (supply_of t) h → h ≡ before ++ later → All (IsRunOf t h) (runs_of t later)
 runs-from t h before [] legal cut = All-nil (IsRunOf t h)
 runs-from t h before (e ∷ later) legal cut =
-    run-at t h before e later cut (legal before e later cut).1 e.reply refl (runs-from t h (before ++ e ∷ []) later legal (cut ∙ one-more before e later))
+    run-at t h before e later cut (legal before e later cut).1 e.reply refl (runs-from t h (before ++ e ∷ []) later legal (cut ∙ one_more before e later))
 
 pub plans-what-stood : (t : Tables) (h : History) → AnswersScript t h → PlansWhatStood t h
 plans-what-stood t h a = runs-from t h [] h a.legal refl

@@ -8,11 +8,12 @@ use Rattle.mrp_tables.specs.declared.item.Item.{Item}
 use Rattle.mrp_tables.specs.declared.rows.BillLine.{BillLine}
 use Rattle.mrp_tables.specs.Facts.{IsBillLine}
 use Rattle.mrp_tables.specs.Tables.{Tables, tables_in, tables_of}
-use Rattle.mrp_bill.specs.Bill.{AreWithin, IsLoopPath, IsFirstLoop, NeedsItself}
+use Rattle.mrp_bill.specs.Bill.{IsLoopPath, IsFirstLoop, NeedsItself}
 use Rattle.mrp_bill.specs.Fault.{IsRefusal}
 use Rattle.mrp_bill.specs.Shop.{Shop}
 use Rattle.mrp_bill.specs.declared.fault.BillFault.{BillFault}
 use Rattle.mrp_bill.specs.declared.fault.BillFault.TheVariants as bill
+use Rattle.mrp_bill.proofs.Accepted.{are-within}
 use Rattle.mrp_bill.proofs.BillListed.{parent-within}
 use Rattle.mrp_engine.specs.declared.fault.DayFault.{DayFault}
 use Rattle.mrp_engine.specs.declared.fault.DayFault.TheVariants.{Refused, TooLarge, Read, Write, NoMemory}
@@ -20,12 +21,9 @@ use Rattle.mrp_engine.specs.Day.{loop_fault}
 use Rattle.mrp_engine.specs.Fault.{bill_fault}
 use Rattle.mrp_engine.specs.Opened.{BeginsWithin, Closes, Opens, OpensTables}
 
-lines-within : (items : List Item) (lines : List BillLine) → All (IsBillLine items) lines → AreWithin (length items) lines
-lines-within items lines all k d h = ((all k d h).parent, (all k d h).component)
-
 -- an item that needs itself is an item of the table
 needs-within : (items : List Item) (lines : List BillLine) (i : ℕ) → All (IsBillLine items) lines → NeedsItself lines i → i < length items
-needs-within items lines i all (n, (p, chain, link)) = (parent-within lines (length items) p i (lines-within items lines all) link).1
+needs-within items lines i all (n, (p, chain, link)) = (parent-within lines (length items) p i (are-within items lines all) link).1
 
 -- a loop's path is not empty, and begins at an item of the table
 pub path-begins : (items : List Item) (lines : List BillLine) (path : List ℕ) → All (IsBillLine items) lines → length items ≤ 20000 → IsLoopPath lines path

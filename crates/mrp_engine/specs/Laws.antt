@@ -1,6 +1,9 @@
--- What the bookings of an answered script are.
-use Rattle.std.specs.Prelude.{ℕ, ◌≡◌, ◌≤◌, ◌+◌, ◌∷◌, ◌++◌, length, All}
-use Rattle.mrp_tables.specs.Tables.{Tables}
+-- That a bundle has a day, and what the bookings of an answered script are.
+use Rattle.std.specs.Prelude.{ℕ, ◌≡◌, ◌≤◌, ◌+◌, ◌⊎◌, List, ◌∷◌, ◌++◌, length, All, Ok, Err}
+use Rattle.mrp_rows.specs.declared.fault.Fault.{Fault}
+use Rattle.mrp_tables.specs.declared.rows.BillLine.{BillLine}
+use Rattle.mrp_tables.specs.Tables.{AreTables, Tables, tables_of}
+use Rattle.mrp_bill.specs.Bill.{IsFirstLoop, NeedsItself}
 use Rattle.mrp_turn.specs.declared.log.Entry.{Entry}
 use Rattle.mrp_master.specs.declared.line.Line.{Line}
 use Rattle.mrp_master.specs.Supply.{IsAvailable, IsCovered, supply_of}
@@ -10,7 +13,23 @@ use Rattle.mrp_book.specs.declared.reply.Reply.{Reply}
 use Rattle.mrp_book.specs.declared.reply.Reply.TheVariants as reply
 use Rattle.mrp_book.specs.Standing.{History, booked, standing}
 use Rattle.mrp_item.specs.Inputs.{Inputs}
-use Rattle.mrp_engine.specs.Day.{runs_of}
+use Rattle.mrp_engine.specs.Day.{IsDay, IsFirstRefusal, IsPlannable, IsRefused, IsTooLarge, runs_of}
+
+-- a bundle has tables, which keep their limits, or a first fault
+abbrev pub HasReading : List ℕ → Type 0
+HasReading bundle = ((tables : Tables) × (tables_of bundle ≡ Ok tables) × AreTables tables) ⊎ ((f : Fault) × (tables_of bundle ≡ Err f))
+
+-- a first item needs itself, or none does
+abbrev pub HasLoopOrNone : List BillLine → Type 0
+HasLoopOrNone lines = ((item : ℕ) × IsFirstLoop lines item) ⊎ ((i : ℕ) → NeedsItself lines i → ⊥)
+
+-- no item of any run gets too large, or a run is the first that is refused, by the item of a name
+abbrev pub ArePlannedOrRefused : List Inputs → Type 0
+ArePlannedOrRefused runs = All IsPlannable runs ⊎ ((name : List ℕ) × IsFirstRefusal runs name)
+
+-- a bundle has the text of a day, or a first fault, the loop last, or the name of the item that refuses its first run that is refused
+abbrev pub HasDay : List ℕ → Type 0
+HasDay bundle = ((text : List ℕ) × IsDay bundle text) ⊎ ((f : Fault) × IsRefused bundle f) ⊎ ((name : List ℕ) × IsTooLarge bundle name)
 
 -- a run of a history: an entry of it called for a snapshot, and what is planned from are the bookings that stood then
 pub record IsRunOf (tables : Tables) (h : History) (s : Inputs) : Type 0 where

@@ -1,6 +1,7 @@
 -- What a day's run leaves of its reader and its writer.
 use Rattle.std.specs.Prelude.{ℕ, ◌≡◌, ◌≢◌, ◌≤◌, ◌+◌, ◌⊎◌, List, Option, IfSome, Result, Ok, Err, length, ⊤}
 use Rattle.mrp_rows.specs.declared.told.Told.{Told}
+use Rattle.mrp_rows.specs.declared.streams.TheConstants.{GREATEST_BUNDLE, READ_CALLS}
 use Rattle.mrp_rows.specs.Told.{calls_of, failures_of, moved_of, HasRisenBy}
 use Rattle.mrp_bill.specs.Shop.{Shop}
 use Rattle.mrp_report.specs.Written.{HasTaken, HasTakenFront}
@@ -11,16 +12,20 @@ use Rattle.mrp_rows.specs.declared.faults.TheConstants as faults
 
 -- a bundle is what a reader had left, where the reader tells it, and no longer than a bundle may be
 abbrev pub IsRead : Option (List ℕ) → List ℕ → Type 0
-IsRead given bundle = IfSome given (λ bytes. bundle ≡ bytes) × (length bundle ≤ 67108864)
+IsRead given bundle = IfSome given (λ bytes. bundle ≡ bytes) × (length bundle ≤ GREATEST_BUNDLE)
 
 -- a reader has not failed, nor was it called more often than it may be
 abbrev pub IsReadWithin : {R : Type 0} → Told R → Told R → Type 0
-IsReadWithin old new = (failures_of new ≡ failures_of old) × (calls_of new ≤ calls_of old + 100000000)
+IsReadWithin old new = (failures_of new ≡ failures_of old) × (calls_of new ≤ calls_of old + READ_CALLS)
+
+-- a writer has not failed
+abbrev pub HasNotFailed : {W : Type 0} → Told W → Told W → Type 0
+HasNotFailed old new = failures_of new ≡ failures_of old
 
 -- a reader failed, passed its limit of calls, or gave more bytes than a bundle may have
 abbrev pub HasPassedLimits : {R : Type 0} → Told R → Told R → Type 0
 HasPassedLimits old new =
-    HasRisenBy 1 (failures_of old) (failures_of new) ⊎ HasRisenBy 100000000 (calls_of old) (calls_of new) ⊎ HasRisenBy 67108865 (moved_of old) (moved_of new)
+    HasRisenBy 1 (failures_of old) (failures_of new) ⊎ HasRisenBy READ_CALLS (calls_of old) (calls_of new) ⊎ HasRisenBy (GREATEST_BUNDLE + 1) (moved_of old) (moved_of new)
 
 -- the shop of the bundle that was read, or why the bundle is refused; or the reader or memory failed
 abbrev pub ReadsShop : Option (List ℕ) → Result Shop DayFault → Type 0

@@ -2,10 +2,34 @@
 
 ghost use Rattle.std.specs.Prelude.{◌≡◌, List, ℕ};
 ghost use Rattle.mrp_rows.specs.declared.fault.Fault.{Fault};
-ghost use Rattle.mrp_tables.specs.Tables.{Tables};
+ghost use Rattle.mrp_tables.specs.Tables.{AreTables, Tables};
 ghost use Rattle.mrp_book.specs.Standing.{History};
+ghost use Rattle.mrp_item.specs.Inputs.{Inputs};
 ghost use Rattle.mrp_engine.specs.Day.{AnswersScript, IsDay, IsRefused, IsTooLarge};
-ghost use Rattle.mrp_engine.specs.Laws.{BooksWithin, PlansWhatStood, StaysCovered};
+ghost use Rattle.mrp_engine.specs.Laws.{ArePlannedOrRefused, BooksWithin, HasDay, HasLoopOrNone, HasReading, PlansWhatStood, StaysCovered};
+
+use mrp_bill::laws::loops;
+use mrp_book::laws::histories;
+use mrp_tables::laws::accepted_tables_keep_their_limits;
+
+/// Each bundle has a day: a text, or a fault, or an item that is too large. The law stands on those
+/// that it calls, of tables, bills and order books.
+pub fn some_day()
+    // A bundle has tables, which keep their limits, or a first fault.
+    ensures reading { (bundle : List ℕ) → HasReading bundle }
+    // Of such tables a first item needs itself, or none does.
+    ensures bill { (tables : Tables) → AreTables tables → HasLoopOrNone tables.bills }
+    // Their script has a history that answers it.
+    ensures history { (tables : Tables) → AreTables tables → (h : History) × AnswersScript tables h }
+    // All runs can be planned, or there is a first that is refused.
+    ensures runs { (all : List Inputs) → ArePlannedOrRefused all }
+    // So a bundle has a text, a fault or the name of an item that is too large.
+    ensures day { (bundle : List ℕ) → HasDay bundle }
+{
+    accepted_tables_keep_their_limits();
+    loops();
+    histories();
+}
 
 /// A bundle has one day: one text, or one fault, or one item that is too large.
 pub fn one_day()

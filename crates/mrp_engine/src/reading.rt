@@ -16,13 +16,15 @@ use std::io::Read;
 
 /// Reads a bundle to its end, and gives its shop.
 ///
-/// Errors: `Read`, `Refused` with the bundle's first fault, the loop last, and `NoMemory`.
+/// Errors: `Read`, `Refused` with the bundle's first fault, the loop last, and `NoMemory` after no failed
+/// read.
 pub fn read_shop<R: Read>(alloc: Global, reader: &mut Told<R>) -> Result<Shop, DayFault>
     ensures shop { ReadsShop (R.remaining (inner_of reader.old)) result }
     ensures end { OnOk result (IsAtEnd (R.remaining (inner_of reader.new))) }
     ensures refused_at_end { (f : Fault) → result ≡ Err (DayFault.Refused f) → IsAtEnd (R.remaining (inner_of reader.new)) }
     ensures within { IsAfterReading result → IsReadWithin reader.old reader.new }
     ensures failed { result ≡ Err DayFault.Read → HasPassedLimits reader.old reader.new }
+    ensures memory { result ≡ Err DayFault.NoMemory → IsReadWithin reader.old reader.new }
     ensures front { TakesFront (R.remaining (inner_of reader.old)) (R.remaining (inner_of reader.new)) (moved_of reader.old) (moved_of reader.new) }
 {
     let bundle = read_bundle(alloc, reader)?;

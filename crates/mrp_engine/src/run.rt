@@ -10,7 +10,7 @@ ghost use Rattle.mrp_rows.specs.declared.faults.TheConstants as faults;
 ghost use Rattle.mrp_report.specs.Written.{HasGivenUp};
 ghost use Rattle.mrp_engine.specs.Day.{IsRefused, IsTooLarge};
 ghost use Rattle.mrp_engine.specs.Planned.{PlansDay};
-ghost use Rattle.mrp_engine.specs.Run.{HasPassedLimits, HasTakenAll, IsAfterReading, IsBeforeWriting, IsRead, IsReadWithin, TellsDay, WritesDayFront};
+ghost use Rattle.mrp_engine.specs.Run.{HasNotFailed, HasPassedLimits, HasTakenAll, IsAfterReading, IsBeforeWriting, IsRead, IsReadWithin, TellsDay, WritesDayFront};
 
 use crate::day::Day;
 use crate::fault::DayFault;
@@ -55,15 +55,15 @@ fn plan_day(rt: &(impl Alloc + Threads + Sync), alloc: Global, shop: Shop) -> Re
 /// Reads a bundle to its end, answers its script, plans its runs, and writes the history and the
 /// report of each run. Nothing is written before every run is planned.
 ///
-/// The items of a low-level code are planned side by side, by so many threads as there are
-/// processors. An interrupted read or write is tried again. It owes 1 to 64 workers, of which it
-/// makes no use.
+/// The items of a low-level code are planned side by side, and the work centres' loads are summed side
+/// by side, where there are enough of them. An interrupted read or write is tried again.
+/// It owes 1 to 64 workers, of which it makes no use.
 ///
 /// Errors: `Read` where the reader failed in this call, needed more than 100,000,000 calls or gave
 /// more than 67,108,864 bytes; `Refused` with the bundle's first fault, the loop last; `TooLarge`
 /// with the first item in table order that gets too large in the first run with such an item; `Write`
 /// where the writer failed in this call or was interrupted more than 1,000,000 times; `NoMemory`
-/// where memory was refused.
+/// where memory was refused, and no read or write failed.
 pub fn run_day<R: Read, W: Write>(
     rt: &(impl Alloc + Threads + Sync),
     alloc: Global,
@@ -83,6 +83,7 @@ pub fn run_day<R: Read, W: Write>(
     ensures gave_up { result ≡ Err DayFault.Write → HasGivenUp writer.old writer.new WRITE_TRIES }
     ensures memory { result ≡ Err DayFault.NoMemory → (writer.new ≡ writer.old)
         ⊎ (IsAtEnd (R.remaining (inner_of reader.new)) × WritesDayFront W.contents (R.remaining (inner_of reader.old)) writer.old writer.new) }
+    ensures unfailed { result ≡ Err DayFault.NoMemory → IsReadWithin reader.old reader.new × HasNotFailed writer.old writer.new }
 
     // Nothing is written before every run is planned.
     ensures unwritten { IfErr result (λ fault. IsBeforeWriting fault → writer.new ≡ writer.old) }
@@ -90,7 +91,6 @@ pub fn run_day<R: Read, W: Write>(
     ensures within { IsAfterReading result → IsReadWithin reader.old reader.new }
     ensures taken { TakesFront (R.remaining (inner_of reader.old)) (R.remaining (inner_of reader.new)) (moved_of reader.old) (moved_of reader.new) }
 {
-    let _later = workers;
     let shop = read_shop(alloc, reader)?;
     let day = plan_day(rt, alloc, shop)?;
     write_day(rt, alloc, day, writer)?;

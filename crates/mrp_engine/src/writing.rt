@@ -4,7 +4,7 @@ ghost use Rattle.std.specs.Prelude.{◌≡◌, Err, IfErr, OnOk, OnErr, flat_map
 ghost use Rattle.mrp_report.specs.ReportText.{report_text};
 ghost use Rattle.mrp_report.specs.Written.{HasGivenUp, HasTakenFront};
 ghost use Rattle.mrp_engine.specs.Planned.{IsPlanned, inputs_of_plans, text_of};
-ghost use Rattle.mrp_engine.specs.Run.{HasTakenAll, IsWhileWriting};
+ghost use Rattle.mrp_engine.specs.Run.{HasNotFailed, HasTakenAll, IsWhileWriting};
 
 use crate::day::Day;
 use crate::fault::DayFault;
@@ -13,10 +13,11 @@ use mrp_report::{write_history, write_report};
 use mrp_rows::{Told, WRITE_TRIES};
 use std::alloc::Global;
 use std::io::Write;
+use std::thread::Threads;
 
 // Writes the reports of plans, one after the other.
 fn write_reports<W: Write>(
-    rt: &impl Alloc,
+    rt: &(impl Alloc + Threads + Sync),
     alloc: Global,
     plans: &[Plan],
     writer: &mut Told<W>,
@@ -24,6 +25,7 @@ fn write_reports<W: Write>(
     ensures whole { OnOk result (HasTakenAll W.contents writer.old writer.new (flat_map report_text (inputs_of_plans plans.now))) }
     ensures front { OnErr result (HasTakenFront W.contents writer.old writer.new (flat_map report_text (inputs_of_plans plans.now))) }
     ensures gave_up { result ≡ Err DayFault.Write → HasGivenUp writer.old writer.new WRITE_TRIES }
+    ensures unfailed { result ≡ Err DayFault.NoMemory → HasNotFailed writer.old writer.new }
     ensures writing { IfErr result IsWhileWriting }
 {
     for plan in plans {
@@ -34,7 +36,7 @@ fn write_reports<W: Write>(
 
 // Writes the history of a planned day, and then the report of each of its runs.
 fn write_texts<W: Write>(
-    rt: &impl Alloc,
+    rt: &(impl Alloc + Threads + Sync),
     alloc: Global,
     day: &Day,
     writer: &mut Told<W>,
@@ -43,6 +45,7 @@ fn write_texts<W: Write>(
     ensures whole { OnOk result (HasTakenAll W.contents writer.old writer.new (text_of day.now)) }
     ensures front { OnErr result (HasTakenFront W.contents writer.old writer.new (text_of day.now)) }
     ensures gave_up { result ≡ Err DayFault.Write → HasGivenUp writer.old writer.new WRITE_TRIES }
+    ensures unfailed { result ≡ Err DayFault.NoMemory → HasNotFailed writer.old writer.new }
     ensures writing { IfErr result IsWhileWriting }
 {
     write_history(alloc, &day.history, &day.shop, writer)?;
@@ -52,10 +55,10 @@ fn write_texts<W: Write>(
 /// Writes a planned day, which is given up: the history, and then the report of each of its runs.
 ///
 /// Errors: `Write` where a write failed in this call, or more than 1,000,000 were interrupted in the
-/// history or in a report, and `NoMemory` where a growth of memory was refused. A front of the text
-/// was written then.
+/// history or in a report, and `NoMemory` where a growth of memory was refused, and no write failed. A
+/// front of the text was written then.
 pub fn write_day<W: Write>(
-    rt: &impl Alloc,
+    rt: &(impl Alloc + Threads + Sync),
     alloc: Global,
     day: Day,
     writer: &mut Told<W>,
@@ -64,6 +67,7 @@ pub fn write_day<W: Write>(
     ensures whole { OnOk result (HasTakenAll W.contents writer.old writer.new (text_of day)) }
     ensures front { OnErr result (HasTakenFront W.contents writer.old writer.new (text_of day)) }
     ensures gave_up { result ≡ Err DayFault.Write → HasGivenUp writer.old writer.new WRITE_TRIES }
+    ensures unfailed { result ≡ Err DayFault.NoMemory → HasNotFailed writer.old writer.new }
     ensures writing { IfErr result IsWhileWriting }
 {
     write_texts(rt, alloc, &day, writer)

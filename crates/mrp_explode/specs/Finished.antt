@@ -5,34 +5,32 @@ use Rattle.mrp_bill.specs.Bill.{parents_of}
 use Rattle.mrp_item.specs.Inputs.{Inputs, count}
 use Rattle.mrp_item.specs.Made.{item_from}
 use Rattle.mrp_item.specs.Places.{ItemOf}
-use Rattle.mrp_explode.specs.declared.finished.Finished.{Finished}
 
-abbrev pub outcome_at : Finished → ℕ → Option ItemOf
-outcome_at f i = slice_index_or f.outcomes.items i None
+-- the outcomes so far, by their items' places, and what they are planned from
+pub record Progress : Type 0 where
+  pub inputs : Inputs
+  pub outcomes : List (Option ItemOf)
 
-abbrev pub source_of : Finished → Inputs
-source_of f = f.inputs.value
+-- a place for each item, and each outcome is its item's
+pub record AreOwn (s : Inputs) (outcomes : List (Option ItemOf)) : Type 0 where
+  pub size : length outcomes ≡ count s
+  pub own : (i : ℕ) (o : ItemOf) → slice_index_or outcomes i None ≡ Some o → o ≡ item_from s i
 
--- each outcome is its item's
-pub record AreOwn (f : Finished) : Type 0 where
-  pub size : length f.outcomes.items ≡ count (source_of f)
-  pub own : (i : ℕ) (o : ItemOf) → outcome_at f i ≡ Some o → o ≡ item_from (source_of f) i
-
-abbrev pub IsFinished : Finished → ℕ → Type 0
-IsFinished f i = IsSome (outcome_at f i)
+abbrev pub IsFinished : Progress → ℕ → Type 0
+IsFinished p i = IsSome (slice_index_or p.outcomes i None)
 
 -- all parents of an item are finished
-abbrev pub IsReady : Finished → ℕ → Type 0
-IsReady f i = All (IsFinished f) (parents_of (source_of f).tables.bills (count (source_of f)) i)
+abbrev pub IsReady : Progress → ℕ → Type 0
+IsReady p i = All (IsFinished p) (parents_of p.inputs.tables.bills (count p.inputs) i)
 
 -- one more item is finished
-pub record Finishes (old new : Finished) (item : ℕ) : Type 0 where
-  pub source : source_of new ≡ source_of old
+pub record Finishes (old new : Progress) (item : ℕ) : Type 0 where
+  pub inputs : new.inputs ≡ old.inputs
   pub here : IsFinished new item
   pub others : (i : ℕ) → IsFinished old i → IsFinished new i
 
 -- these items are finished too
-pub record FinishesAll (old new : Finished) (items : List ℕ) : Type 0 where
-  pub source : source_of new ≡ source_of old
+pub record FinishesAll (old new : Progress) (items : List ℕ) : Type 0 where
+  pub inputs : new.inputs ≡ old.inputs
   pub here : All (IsFinished new) items
   pub others : (i : ℕ) → IsFinished old i → IsFinished new i

@@ -3,20 +3,31 @@
 ghost use Rattle.std.specs.Prelude.{◌≡◌, ◌<◌, ℕ, IfOk, OnOk};
 ghost use Rattle.mrp_item.specs.Inputs.{count};
 ghost use Rattle.mrp_item.specs.Made.{all_from, item_from, parents_from};
-ghost use Rattle.mrp_explode.specs.Finished.{AreOwn, Finishes, IsFinished, IsReady, source_of};
+ghost use Rattle.mrp_explode.specs.Finished.{Finishes, IsFinished, IsReady};
 ghost use Rattle.mrp_explode.specs.Explosion.{Explodes};
 
 use crate::fault::RunFault;
 use mrp_item::{Inputs, Outcome, Plan, plan_item};
 use mrp_qty::NoMemory;
 use std::alloc::Global;
+use std::marker::Model;
 use std::sync::Arc;
 
-// The outcomes of the items that are planned so far, by their places.
+// The outcomes of the items that are planned so far, by their places; each is its item's.
 #[derive(Drop)]
 pub struct Finished {
     inputs: Arc<Inputs>,
     outcomes: Vec<Option<Outcome>>,
+}
+
+impl Model for Finished {
+    ghost use Rattle.mrp_explode.specs.Finished.{AreOwn, Progress};
+
+    ghost Value = { Progress };
+
+    ghost view = { λ f. record { inputs = f.inputs.value; outcomes = f.outcomes.items } };
+
+    ghost invariant = { λ f. AreOwn f.inputs.value f.outcomes.items };
 }
 
 // Why a run has no plan, by the first item that is over.
@@ -29,8 +40,7 @@ fn too_large(item: usize) -> RunFault
 impl Finished {
     // No item is planned yet.
     pub fn new(alloc: Global, inputs: &Arc<Inputs>) -> Result<Finished, NoMemory>
-        ensures own { IfOk result AreOwn }
-        ensures source { IfOk result (λ f. source_of f ≡ inputs.now.value) }
+        ensures { IfOk result (λ f. f.inputs ≡ inputs.now.value) }
     {
         let inputs = inputs.clone()?;
         let count = inputs.shop().tables().items().len();
@@ -43,9 +53,8 @@ impl Finished {
 
     // The outcome of a finished item.
     fn outcome(&self, item: usize) -> &Outcome
-        requires own { AreOwn self.now }
-        requires finished { IsFinished self.now item }
-        ensures { result.now ≡ item_from (source_of self.now) item }
+        requires { IsFinished self.now item }
+        ensures { result.now ≡ item_from self.now.inputs item }
     {
         match self.outcomes.get(item) {
             Some(Some(outcome)) => outcome,
@@ -55,19 +64,17 @@ impl Finished {
 
     // A copy of the outcome of a finished item.
     fn copy_of(&self, item: usize) -> Result<Outcome, NoMemory>
-        requires own { AreOwn self.now }
-        requires finished { IsFinished self.now item }
-        ensures { IfOk result (λ o. o ≡ item_from (source_of self.now) item) }
+        requires { IsFinished self.now item }
+        ensures { IfOk result (λ o. o ≡ item_from self.now.inputs item) }
     {
         self.outcome(item).copy()
     }
 
     // Copies of the outcomes of an item's parents.
     fn parents_of(&self, alloc: Global, item: usize) -> Result<Vec<Outcome>, NoMemory>
-        requires own { AreOwn self.now }
-        requires item { item < count (source_of self.now) }
+        requires item { item < count self.now.inputs }
         requires ready { IsReady self.now item }
-        ensures { IfOk result (λ parents. parents.items ≡ parents_from (source_of self.now) item) }
+        ensures { IfOk result (λ parents. parents.items ≡ parents_from self.now.inputs item) }
     {
         let parents = self.inputs.shop().parents(item);
         let mut copies = Vec::with_capacity(alloc, parents.len())?;
@@ -79,10 +86,9 @@ impl Finished {
 
     // What planning makes of an item whose parents are finished.
     pub fn outcome_for(&self, alloc: Global, item: usize) -> Result<Outcome, NoMemory>
-        requires own { AreOwn self.now }
-        requires item { item < count (source_of self.now) }
+        requires item { item < count self.now.inputs }
         requires ready { IsReady self.now item }
-        ensures { IfOk result (λ o. o ≡ item_from (source_of self.now) item) }
+        ensures { IfOk result (λ o. o ≡ item_from self.now.inputs item) }
     {
         let parents = self.parents_of(alloc, item)?;
         plan_item(alloc, &self.inputs, item, &parents)
@@ -90,11 +96,9 @@ impl Finished {
 
     // Puts an outcome in its item's place.
     pub fn put(&mut self, outcome: Outcome)
-        requires own { AreOwn self.old }
-        requires inputs { outcome.inputs ≡ source_of self.old }
-        requires item { outcome.item < count (source_of self.old) }
-        ensures own { AreOwn self.new }
-        ensures finishes { Finishes self.old self.new outcome.item }
+        requires inputs { outcome.inputs ≡ self.old.inputs }
+        requires item { outcome.item < count self.old.inputs }
+        ensures { Finishes self.old self.new outcome.item }
     {
         let item = outcome.item();
         self.outcomes[item] = Some(outcome);
@@ -102,11 +106,9 @@ impl Finished {
 
     // Plans an item whose parents are finished.
     pub fn plan(&mut self, alloc: Global, item: usize) -> Result<(), NoMemory>
-        requires own { AreOwn self.old }
-        requires item { item < count (source_of self.old) }
+        requires item { item < count self.old.inputs }
         requires ready { IsReady self.old item }
-        ensures own { OnOk result (AreOwn self.new) }
-        ensures finishes { OnOk result (Finishes self.old self.new item) }
+        ensures { OnOk result (Finishes self.old self.new item) }
     {
         let outcome = self.outcome_for(alloc, item)?;
         self.put(outcome);
@@ -115,9 +117,8 @@ impl Finished {
 
     // Copies of all items' outcomes, in table order.
     fn all(&self, alloc: Global) -> Result<Vec<Outcome>, NoMemory>
-        requires own { AreOwn self.now }
-        requires all { (i : ℕ) → i < count (source_of self.now) → IsFinished self.now i }
-        ensures { IfOk result (λ all. all.items ≡ all_from (source_of self.now)) }
+        requires { (i : ℕ) → i < count self.now.inputs → IsFinished self.now i }
+        ensures { IfOk result (λ all. all.items ≡ all_from self.now.inputs) }
     {
         let count = self.outcomes.len();
         let mut all = Vec::with_capacity(alloc, count)?;
@@ -129,9 +130,8 @@ impl Finished {
 
     // The plan of all items, or the first that is over.
     pub fn whole(self, alloc: Global) -> Result<Plan, RunFault>
-        requires own { AreOwn self }
-        requires all { (i : ℕ) → i < count (source_of self) → IsFinished self i }
-        ensures { Explodes (source_of self) result }
+        requires { (i : ℕ) → i < count self.inputs → IsFinished self i }
+        ensures { Explodes self.inputs result }
     {
         let outcomes = self.all(alloc)?;
         let Finished {

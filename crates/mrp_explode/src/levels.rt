@@ -4,7 +4,7 @@ ghost use Rattle.std.specs.Prelude.{◌≡◌, ◌<◌, All, IfOk, OnOk};
 ghost use Rattle.mrp_item.specs.Inputs.{count};
 ghost use Rattle.mrp_item.specs.Made.{item_from, items_from};
 ghost use Rattle.mrp_explode.specs.Explosion.{Explodes};
-ghost use Rattle.mrp_explode.specs.Finished.{AreOwn, FinishesAll, IsReady, source_of};
+ghost use Rattle.mrp_explode.specs.Finished.{FinishesAll, IsReady};
 
 use crate::fault::RunFault;
 use crate::finished::Finished;
@@ -26,20 +26,18 @@ fn outcomes_for(
     finished: &Finished,
     items: &[usize],
 ) -> Result<Vec<Outcome>, NoMemory>
-    requires own { AreOwn finished.now }
-    requires items { All (λ i. i < count (source_of finished.now)) items.now }
+    requires items { All (λ i. i < count finished.now.inputs) items.now }
     requires ready { All (IsReady finished.now) items.now }
-    ensures { IfOk result (λ outcomes. outcomes.items ≡ items_from (source_of finished.now) items.now) }
+    ensures { IfOk result (λ outcomes. outcomes.items ≡ items_from finished.now.inputs items.now) }
 {
     items
         .par_iter()
         .with_min_len(LEAST_ITEMS)
         .map(
             |item: &usize| -> Result<Outcome, NoMemory>
-                requires own { AreOwn finished.now }
-                requires item { item.now < count (source_of finished.now) }
+                requires item { item.now < count finished.now.inputs }
                 requires ready { IsReady finished.now item.now }
-                ensures { IfOk result (λ o. o ≡ item_from (source_of finished.entry.now) item.now) }
+                ensures { IfOk result (λ o. o ≡ item_from finished.entry.now.inputs item.now) }
             { finished.outcome_for(alloc, *item) },
         )
         .collect::<Result<Vec<Outcome>, NoMemory>>(rt, alloc)?
@@ -52,11 +50,9 @@ fn plan_level(
     finished: &mut Finished,
     items: &[usize],
 ) -> Result<(), NoMemory>
-    requires own { AreOwn finished.old }
-    requires items { All (λ i. i < count (source_of finished.old)) items.now }
+    requires items { All (λ i. i < count finished.old.inputs) items.now }
     requires ready { All (IsReady finished.old) items.now }
-    ensures own { OnOk result (AreOwn finished.new) }
-    ensures finishes { OnOk result (FinishesAll finished.old finished.new items.now) }
+    ensures { OnOk result (FinishesAll finished.old finished.new items.now) }
 {
     for outcome in outcomes_for(rt, alloc, finished, items)? {
         finished.put(outcome);
@@ -65,8 +61,8 @@ fn plan_level(
 }
 
 /// The plan of these inputs: every item is planned, low-level code by low-level code from 0
-/// (Orlicky: level-by-level explosion), and the items of a code side by side, by so many threads as
-/// there are processors. It is the plan that `explode_serial` gives.
+/// (Orlicky: level-by-level explosion), and the items of a code side by side, where there are
+/// enough of them. It is the plan that `explode_serial` gives.
 ///
 /// Errors: `NoMemory` where memory is refused, and else `TooLarge` with the first item in table
 /// order that gets too large where none above it does (profile).

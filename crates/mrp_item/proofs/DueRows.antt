@@ -9,10 +9,11 @@ use Rattle.mrp_phase.specs.Weeks.{row}
 use Rattle.mrp_phase.proofs.WeekRows.{row_same, sum-row_above}
 use Rattle.mrp_tables.specs.declared.rows.MasterRow.{MasterRow}
 use Rattle.mrp_tables.specs.declared.rows.Receipt.{Receipt}
+use Rattle.mrp_tables.specs.Tables.{Tables}
 use Rattle.mrp_tables.specs.Facts.{IsReceipt}
 use Rattle.mrp_book.specs.declared.booking.Booking.{Booking}
 use Rattle.mrp_item.specs.declared.due.Due.{Due}
-use Rattle.mrp_item.specs.Inputs.{Inputs, horizon}
+use Rattle.mrp_item.specs.Inputs.{Inputs}
 use Rattle.mrp_tables.specs.Master.{is_firm}
 use Rattle.mrp_item.specs.Rows.{firm_rows, forecast_rows, open_receipts, bookings_due, forecast, booked, is_forecast}
 use Rattle.mrp_item.specs.Dues.{due_in, due_sum, dues_of, master_due, receipt_due, booking_due, firm_dues, forecast_dues, receipt_dues, booking_dues}
@@ -85,8 +86,8 @@ quantity-is q n h = by (nat_le n greatest_quantity) h
     by false k = absurd (cc)
 
 -- each open receipt of an item is due in a week of the horizon
-pub receipts-within : (s : Inputs) (i : ℕ) → All (IsReceipt (horizon s) s.tables.items) s.tables.receipts → All (λ (d : Due). IsInRange 1 (horizon s) d.week) (receipt_dues s.tables.receipts i)
-receipts-within s i all =
-    All-map (λ (d : Due). IsInRange 1 (horizon s) d.week) receipt_due (filter (λ (r : Receipt). eqb r.item i) s.tables.receipts)
-    (All-filter (λ (r : Receipt). eqb r.item i) (λ (r : Receipt). IsInRange 1 (horizon s) r.week) s.tables.receipts
-    (All-weaker (IsReceipt (horizon s) s.tables.items) (λ (r : Receipt). IsInRange 1 (horizon s) r.week) (λ r is. is.week) s.tables.receipts all))
+pub receipts-within : (t : Tables) (i : ℕ) → All (IsReceipt t.calendar.weeks t.items) t.receipts → All (λ (d : Due). IsInRange 1 t.calendar.weeks d.week) (receipt_dues t.receipts i)
+receipts-within t i all =
+    All-map (λ (d : Due). IsInRange 1 t.calendar.weeks d.week) receipt_due (filter (λ (r : Receipt). eqb r.item i) t.receipts)
+    (All-filter (λ (r : Receipt). eqb r.item i) (λ (r : Receipt). IsInRange 1 t.calendar.weeks r.week) t.receipts
+    (All-weaker (IsReceipt t.calendar.weeks t.items) (λ (r : Receipt). IsInRange 1 t.calendar.weeks r.week) (λ r is. is.week) t.receipts all))

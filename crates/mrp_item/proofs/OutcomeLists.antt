@@ -1,8 +1,9 @@
 -- Lists of outcomes, one outcome after the other.
-use Rattle.std.proofs.Common.{◌≡◌, ◌∙◌, ◌<◌, ◌+◌, ℕ, zero, suc, List, [], ◌∷◌, ◌++◌, length, get_or, take, ap, sym, arith}
+use Rattle.std.proofs.Common.{◌≡◌, ◌∙◌, ◌<◌, ◌+◌, ℕ, suc, List, [], ◌∷◌, ◌++◌, length, get_or, take, ap, sym, arith}
 use Rattle.std.specs.List.{range_with_len}
 use Rattle.std.proofs.lemmas.List.{map-append, take_more}
 use Rattle.std.proofs.lemmas.List.FromFn.{get_or-map-range_with_len, length-map-range_with_len}
+use Rattle.mrp_phase.proofs.WeekRows.{range_more}
 use Rattle.mrp_item.specs.Inputs.{Inputs}
 use Rattle.mrp_item.specs.Places.{ItemOf}
 use Rattle.mrp_item.specs.Made.{item_from, items_from}
@@ -17,12 +18,6 @@ pub items-next : (s : Inputs) (old new : List ItemOf) (o : ItemOf) (items : List
     → o ≡ item_from s (get_or items k 0) → new ≡ items_from s (take (k + 1) items)
 items-next s old new o items k h same adds is =
     items-more s old new o (take k items) (get_or items k 0) same adds is ∙ ap (items_from s) (sym (take_more items k 0 h))
-
-range_more : (a n : ℕ) → range_with_len a (suc n) ≡ range_with_len a n ++ (a + n) ∷ []
-range_more a zero = ap (λ (x : ℕ). x ∷ []) (omega arith)
-range_more a (suc n) =
-    let last : a + 1 + n ≡ a + suc n = omega arith in
-    ap (λ (xs : List ℕ). a ∷ xs) (range_more (a + 1) n ∙ ap (λ (x : ℕ). range_with_len (a + 1) n ++ x ∷ []) last)
 
 -- one more place
 pub places-more : (n : ℕ) → range_with_len 0 n ++ n ∷ [] ≡ range_with_len 0 (n + 1)

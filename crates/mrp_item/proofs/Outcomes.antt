@@ -2,7 +2,7 @@
 use Rattle.std.proofs.Common.{◌≡◌, ◌≢◌, ◌∙◌, ◌+◌, ◌<◌, ◌≤◌, ℕ, zero, suc, sym, ap, refl, arith, Bool, true, false, cond, List, [], ◌∷◌, ◌⊎◌, inl, inr, eqb}
 use Rattle.std.specs.Prelude.{filter, find, map, IsTrue, ◌&&◌, ◌↔◌, Option, Some, None, Err}
 use Rattle.std.specs.List.{list_all, range_with_len}
-use Rattle.std.proofs.lemmas.Bool.{eqb-true, eqb-false}
+use Rattle.std.proofs.lemmas.Bool.{and_parts, eqb-true, eqb-false}
 use Rattle.mrp_phase.specs.Weeks.{row}
 use Rattle.mrp_bill.specs.Bill.{IsParent, IsAbove, Chain, is_parent, parents_of}
 use Rattle.mrp_item.specs.Inputs.{Inputs, count, horizon, places}
@@ -32,10 +32,6 @@ some-fails q r (x ∷ xs) h = by (r x) refl (some-fails q r xs) h
     by true e more k = one (q x) refl e more k
     by false e more k = more k
 
-both : (b d : Bool) → (b && d) ≡ true → (b ≡ true) × (d ≡ true)
-both true d h = (refl, h)
-both false d h = absurd (cc)
-
 -- where all pass, each does
 each-passes : (q r : ℕ → Bool) (a n p : ℕ) → a ≤ p → p < a + n → r p ≡ true → list_all q (filter r (range_with_len a n)) ≡ true → q p ≡ true
 each-passes q r a zero p low high e h = absurd (omega arith)
@@ -46,11 +42,11 @@ each-passes q r a (suc n) p low high e h = by (eqb a p) refl (r a) refl (each-pa
 
     by : (same : Bool) → eqb a p ≡ same → (b : Bool) → r a ≡ b → (a + 1 ≤ p → p < a + 1 + n → r p ≡ true → list_all q rest ≡ true → q p ≡ true)
         → list_all q (cond b (a ∷ rest) rest) ≡ true → q p ≡ true
-    by true i true f more k = ap q (sym (eqb-true a p i)) ∙ (both (q a) (list_all q rest) k).0
+    by true i true f more k = ap q (sym (eqb-true a p i)) ∙ (and_parts (q a) (list_all q rest) k).0
     by true i false f more k = absurd (let z : r a ≡ true = ap r (eqb-true a p i) ∙ e in cc)
     by false i true f more k =
         let other : a ≢ p = eqb-false a p i in
-        more (omega arith) (omega arith) e (both (q a) (list_all q rest) k).1
+        more (omega arith) (omega arith) e (and_parts (q a) (list_all q rest) k).1
     by false i false f more k =
         let other : a ≢ p = eqb-false a p i in
         more (omega arith) (omega arith) e k
@@ -192,7 +188,8 @@ first s i h = by (first_over s) refl h
         let found = find-first (λ i. is_over (outcome_of s i)) 0 (count s) i (e ∙ ap Some same) in
         (is_over-true (outcome_of s i) found.0, λ j low over. absurd (let no = found.1 j (omega arith) low in let yes : is_over (outcome_of s j) ≡ true = ap is_over over in cc))
 
-find-none : (q : ℕ → Bool) (a n : ℕ) → find q (range_with_len a n) ≡ None → (j : ℕ) → a ≤ j → j < a + n → q j ≡ false
+-- where nothing is found, nothing passes
+pub find-none : (q : ℕ → Bool) (a n : ℕ) → find q (range_with_len a n) ≡ None → (j : ℕ) → a ≤ j → j < a + n → q j ≡ false
 find-none q a zero h j low high = absurd (omega arith)
 find-none q a (suc n) h j low high = by (q a) refl (eqb a j) refl h (λ k above. find-none q (a + 1) n k j above (omega arith))
   where

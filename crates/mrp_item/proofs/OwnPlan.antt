@@ -1,8 +1,8 @@
 -- What an item's rows make of it.
-use Rattle.std.proofs.Common.{◌≡◌, ◌∙◌, ℕ, ◌+◌, ◌<◌, ◌≤◌, inl, inr, Bool, true, false, List, length, refl, sym, ap, arith}
-use Rattle.std.specs.Prelude.{◌||◌, sum, sum_by, nat_lt}
+use Rattle.std.proofs.Common.{◌≡◌, ◌∙◌, ℕ, ◌+◌, ◌<◌, ◌≤◌, inl, inr, true, false, List, length, refl, sym, ap, arith}
+use Rattle.std.specs.Prelude.{sum, sum_by, nat_lt}
 use Rattle.std.specs.List.{list_all}
-use Rattle.std.proofs.lemmas.Bool.{lt-ltb, le-ltb}
+use Rattle.std.proofs.lemmas.Bool.{lt-ltb, le-ltb, or_right}
 use Rattle.std.proofs.lemmas.List.Folds.{list_all-map}
 use Rattle.mrp_qty.specs.Quantity.{greatest_quantity}
 use Rattle.mrp_bill.specs.Bill.{parents_of}
@@ -26,10 +26,6 @@ gross_whole s i = whole (own_gross s i) (horizon s) (length-row (gross_in s i (o
 
 scheduled_whole : (s : Inputs) (i : ℕ) → sum_to (stock_of s i).scheduled (horizon s) ≡ sum (stock_of s i).scheduled
 scheduled_whole s i = whole (stock_of s i).scheduled (horizon s) (length-row (scheduled_in s i) (horizon s))
-
-or_right : (a b : Bool) → b ≡ true → (a || b) ≡ true
-or_right true b e = refl
-or_right false b e = e
 
 -- an item's own plan, from its parents' outcomes
 abbrev pub own : Inputs → ℕ → ItemPlan

@@ -1,5 +1,5 @@
 -- The parents of an item and the lines to it, by their places.
-use Rattle.std.proofs.Common.{◌≡◌, ◌≢◌, ◌∙◌, ℕ, zero, suc, ◌+◌, ◌<◌, ◌≤◌, Bool, true, false, cond, eqb, List, [], ◌∷◌, ◌++◌, length, take, map, get_or, refl, sym, ap, arith, take_all}
+use Rattle.std.proofs.Common.{◌≡◌, ◌≢◌, ◌∙◌, ℕ, zero, suc, ◌+◌, ◌<◌, ◌≤◌, Bool, true, false, cond, eqb, List, [], ◌∷◌, ◌++◌, length, take, map, get_or, refl, sym, ap, arith, take_all, add-one}
 use Rattle.std.specs.Prelude.{filter, ◌||◌, ◌&&◌}
 use Rattle.std.specs.List.{range_with_len}
 use Rattle.std.proofs.lemmas.Bool.{eqb-true, eqb-false, eq-eqb}
@@ -7,6 +7,7 @@ use Rattle.std.proofs.lemmas.List.{get_or-map, length-map, map-append}
 use Rattle.std.proofs.lemmas.List.Elements.{filter_more}
 use Rattle.mrp_tables.specs.declared.rows.BillLine.{BillLine}
 use Rattle.mrp_bill.specs.Bill.{is_parent, IsParent, parents_of, line_at, lines_of}
+use Rattle.mrp_bill.proofs.Listed.{filter-range_more}
 use Rattle.mrp_item.specs.Inputs.{Inputs, count}
 use Rattle.mrp_item.specs.Places.{ItemOf}
 use Rattle.mrp_item.specs.Made.{item_from, parents_from}
@@ -75,20 +76,13 @@ line-parent (line ∷ lines) (suc k) i d h e = by (eqb line.parent (get_or lines
     by true more = refl
     by false more = more
 
-range_from : (a n m : ℕ) → a + n ≡ m → range_with_len a (suc n) ≡ range_with_len a n ++ m ∷ []
-range_from a zero m e = ap (λ (x : ℕ). x ∷ []) (let same : a ≡ m = omega arith in same)
-range_from a (suc n) m e = ap (λ (xs : List ℕ). a ∷ xs) (range_from (a + 1) n m (omega arith))
-
-range_more : (n : ℕ) → range_with_len 0 (suc n) ≡ range_with_len 0 n ++ n ∷ []
-range_more n = range_from 0 n n (omega arith)
-
-split : (p : ℕ → Bool) (xs : List ℕ) (x : ℕ) → filter p (xs ++ x ∷ []) ≡ filter p xs ++ cond (p x) (x ∷ []) []
-split p [] x = refl
-split p (y ∷ xs) x = case (p y) (split p xs x)
-  where
-    case : (b : Bool) → filter p (xs ++ x ∷ []) ≡ filter p xs ++ cond (p x) (x ∷ []) [] → cond b (y ∷ filter p (xs ++ x ∷ [])) (filter p (xs ++ x ∷ [])) ≡ cond b (y ∷ filter p xs) (filter p xs) ++ cond (p x) (x ∷ []) []
-    case true more = ap (λ (zs : List ℕ). y ∷ zs) more
-    case false more = more
+-- the place of a line to an item is a line's place, and the line's component is the item
+pub to_item : (bills : List BillLine) (i k : ℕ) (places : List ℕ) → places ≡ lines_of bills i → k < length places
+    → (get_or places k 0 < length bills) × ((line_at bills (get_or places k 0)).component ≡ i)
+to_item bills i k places are h =
+    let p = λ (place : ℕ). eqb (line_at bills place).component i in
+    let at = kept_at p 0 (length bills) k (rw (← are) h) in
+    rw are (omega (arith, at.1), eqb-true (line_at bills (get_or (lines_of bills i) k 0)).component i at.2)
 
 -- the lines at the places of the lines to an item are the lines to it
 lines_to_front : (lines : List BillLine) (i n : ℕ) (d : BillLine) → n ≤ length lines
@@ -99,7 +93,7 @@ lines_to_front lines i zero d h = by lines
     by [] = refl
     by (x ∷ xs) = refl
 lines_to_front lines i (suc n) d h =
-    ap (map (line_at lines)) (ap (filter p) (range_more n) ∙ split p (range_with_len 0 n) n)
+    ap (map (line_at lines)) (ap (λ k. filter p (range_with_len 0 k)) (sym (add-one n)) ∙ filter-range_more p n)
     ∙ map-append (line_at lines) (filter p (range_with_len 0 n)) (cond (p n) (n ∷ []) [])
     ∙ ap (λ (xs : List BillLine). xs ++ map (line_at lines) (cond (p n) (n ∷ []) [])) (lines_to_front lines i n d (omega arith))
     ∙ ap (λ (xs : List BillLine). filter q (take n lines) ++ xs) (one (p n))

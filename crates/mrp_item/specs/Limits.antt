@@ -1,5 +1,6 @@
 -- The limits of an item that planning rests on.
 use Rattle.std.specs.Prelude.{◌<◌, ◌≤◌, ⊤}
+use Rattle.mrp_tables.specs.declared.limits.TheConstants.{MOST_LEAD, MOST_SCRAP}
 use Rattle.mrp_tables.specs.declared.item.LotRule.{LotRule}
 use Rattle.mrp_tables.specs.declared.item.LotRule.TheVariants.{LotForLot, Fixed, Period}
 use Rattle.mrp_tables.specs.declared.item.Item.{Item}
@@ -12,6 +13,6 @@ IsSized (Period n) = 0 < n
 
 -- scrap, lead and lot size
 pub record IsPlannable (item : Item) : Type 0 where
-  pub scrap : item.scrap ≤ 900
-  pub lead : item.lead ≤ 104
+  pub scrap : item.scrap ≤ MOST_SCRAP
+  pub lead : item.lead ≤ MOST_LEAD
   pub sized : IsSized item.lot

@@ -1,5 +1,6 @@
 -- What a shop's rows keep, grouped by their items.
-use Rattle.std.specs.Prelude.{ℕ, ◌≡◌, ◌<◌, length}
+use Rattle.std.specs.Prelude.{ℕ, ◌≡◌, ◌<◌, All, length}
+use Rattle.mrp_tables.specs.Facts.{IsReceipt}
 use Rattle.mrp_master.specs.Supply.{supply_of}
 use Rattle.mrp_item.specs.Dues.{listed, firm_dues, forecast_dues, receipt_dues}
 use Rattle.mrp_item.specs.declared.shop_rows.ShopRows.TheInside.{Inside}
@@ -8,7 +9,7 @@ use Rattle.mrp_item.specs.declared.shop_rows.ShopRows.TheInside.{Inside}
 abbrev pub items_of : Inside → ℕ
 items_of a = length a.shop.value.tables.items
 
--- what promising reads of the shop, and what is due of each item
+-- what promising reads of the shop, what is due of each item, and that open receipts come in weeks of the horizon
 pub record KeepsShopRows (a : Inside) : Type 0 where
   pub supply : a.supply ≡ supply_of a.shop.value.tables
   pub firm_size : length a.firm ≡ items_of a
@@ -17,3 +18,4 @@ pub record KeepsShopRows (a : Inside) : Type 0 where
   pub forecast : (i : ℕ) → i < items_of a → listed a.forecasts i ≡ forecast_dues a.shop.value.tables.master i
   pub receipts_size : length a.receipts ≡ items_of a
   pub receipts : (i : ℕ) → i < items_of a → listed a.receipts i ≡ receipt_dues a.shop.value.tables.receipts i
+  pub within : All (IsReceipt a.shop.value.tables.calendar.weeks a.shop.value.tables.items) a.shop.value.tables.receipts

@@ -14,7 +14,7 @@ ghost use Rattle.mrp_item.specs.Own.{IsReady};
 use crate::due::nothing;
 use crate::inputs::Inputs;
 use crate::outcome::Outcome;
-use crate::stop::Stop;
+use crate::stop::{Stop, or_over};
 use mrp_phase::Weeks;
 use mrp_qty::Qty;
 use mrp_tables::BillLine;
@@ -104,9 +104,7 @@ pub fn asked_row(
     for place in inputs.shop().lines_to(item) {
         let line = line_of(bills, *place);
         let started = started_of(inputs, item, parents, line.parent);
-        let Some(()) = add_line(&mut asked, started, line.per) else {
-            return Err(Stop::Over);
-        };
+        or_over(add_line(&mut asked, started, line.per))?;
     }
     Ok(Weeks::from_vec(asked))
 }

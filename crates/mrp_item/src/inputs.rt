@@ -35,6 +35,7 @@ impl Model for Inputs {
 impl Inputs {
     ghost use Rattle.std.specs.Prelude.{◌≡◌, ◌≤◌, ◌<◌, All, IfOk, slice_index};
     ghost use Rattle.std.specs.Int.{IsInRange};
+    ghost use Rattle.mrp_cal.specs.declared.calendar.TheConstants.{MOST_WEEKS};
     ghost use Rattle.mrp_master.specs.Supply.{supply_of};
     ghost use Rattle.mrp_book.specs.Booked.{AreBooked};
     ghost use Rattle.mrp_item.specs.Inputs.{count, horizon, inputs_of, item_at};
@@ -68,6 +69,7 @@ impl Inputs {
         ensures { IfOk result (λ inputs. inputs.value ≡ inputs_of rows.value.tables snapshot) }
     {
         let tables = rows.shop().tables();
+        // Bill lines name items of the table.
         let _within = tables.bills();
         let count = tables.items().len();
         let bookings = bookings_by_item(alloc, count, snapshot.standing())?;
@@ -108,7 +110,7 @@ impl Inputs {
     pub fn weeks(&self) -> u16
         ensures value { result ≡ horizon self.now }
         ensures first { 0 < result }
-        ensures within { result ≤ 104 }
+        ensures within { result ≤ MOST_WEEKS }
     {
         self.shop().tables().calendar().weeks()
     }
@@ -145,7 +147,6 @@ impl Inputs {
         ensures dues { result.now ≡ receipt_dues self.now.tables.receipts item }
         ensures within { All (λ due. IsInRange 1 (horizon self.now) due.week) result.now }
     {
-        let _within = self.shop().tables().receipts();
         self.rows.receipts(item)
     }
 

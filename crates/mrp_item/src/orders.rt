@@ -11,7 +11,7 @@ ghost use Rattle.mrp_item.specs.declared.order.OrderKind.TheVariants.{Firm};
 use crate::due::Due;
 use crate::inputs::Inputs;
 use crate::order::{Order, OrderKind};
-use crate::stop::Stop;
+use crate::stop::{Stop, or_over};
 use mrp_phase::Weeks;
 use mrp_qty::{NoMemory, Qty};
 use mrp_tables::Item;
@@ -26,14 +26,15 @@ pub struct OrderList {
 }
 
 impl Model for OrderList {
-    ghost use Rattle.std.specs.Prelude.{◌≡◌, List, sum_by};
+    ghost use Rattle.std.specs.Prelude.{◌≡◌, ◌≤◌, List, sum_by};
+    ghost use Rattle.mrp_qty.specs.Quantity.{greatest_quantity};
     ghost use Rattle.mrp_item.specs.declared.order.Order.{Order};
 
     ghost Value = { List Order };
 
     ghost view = { λ o. o.orders.items };
 
-    ghost invariant = { λ o. o.started ≡ sum_by (λ x. x.start) o.orders.items };
+    ghost invariant = { λ o. (o.started ≡ sum_by (λ x. x.start) o.orders.items) × (o.started ≤ greatest_quantity) };
 }
 
 // An order for a quantity that is due in a week; None where its start passes the greatest quantity.
@@ -69,9 +70,7 @@ impl OrderList {
         ensures orders { result.items ≡ self }
         ensures within { sum_by (λ order. order.start) self ≤ greatest_quantity }
     {
-        let OrderList { orders, started } = self;
-        let _within = started.value();
-        orders
+        self.orders
     }
 
     // Puts an order at the end.
@@ -79,9 +78,7 @@ impl OrderList {
         ensures added { OnOk result (self.new ≡ self.old ++ order ∷ []) }
         ensures over { IfErr result (λ stop. stop ≡ Stop.Over → greatest_quantity < sum_by (λ x. x.start) self.old + order.start) }
     {
-        let Some(started) = self.started.add(order.start) else {
-            return Err(Stop::Over);
-        };
+        let started = or_over(self.started.add(order.start))?;
         self.orders.push(order)?;
         self.started = started;
         Ok(())
@@ -93,10 +90,7 @@ impl OrderList {
         ensures added { OnOk result (self.new ≡ self.old ++ order_of item.now kind due quantity ∷ []) }
         ensures over { IfErr result (λ stop. stop ≡ Stop.Over → greatest_quantity < sum_by (λ x. x.start) self.old + start_of item.now.scrap quantity) }
     {
-        match order(item, kind, due, quantity) {
-            Some(order) => self.push(order),
-            None => Err(Stop::Over),
-        }
+        self.push(or_over(order(item, kind, due, quantity))?)
     }
 
     // Puts the firm orders of a week at the end.

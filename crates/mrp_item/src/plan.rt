@@ -40,6 +40,7 @@ impl Plan {
         ensures inputs { IfOk result (λ plan. plan.inputs ≡ inputs.value) }
         ensures over { IfErr result (λ item. plan_of inputs.value ≡ Err item) }
     {
+        // Its codes rank the items, parents above their components.
         let _ranked = inputs.shop();
         let all = outcomes.as_slice();
         for outcome in all {

@@ -22,7 +22,7 @@ use crate::order::Order;
 use crate::orders::orders_for;
 use crate::outcome::Outcome;
 use crate::planned::{PlanRows, Planned};
-use crate::stop::Stop;
+use crate::stop::{Stop, or_over};
 use crate::supply::{demand_row, stock_for};
 use mrp_lots::{Fixed, LotForLot, Period, receipts};
 use mrp_net::{NeedRow, NetFault, Stock, need};
@@ -83,9 +83,7 @@ fn started_row(alloc: Global, weeks: u16, orders: &[Order]) -> Result<Weeks<Qty>
 {
     let mut started = nothing(alloc, weeks)?;
     for order in orders {
-        let Some(()) = add_in(&mut started, weeks, order.release, order.start) else {
-            return Err(Stop::Over);
-        };
+        or_over(add_in(&mut started, weeks, order.release, order.start))?;
     }
     Ok(started)
 }
@@ -107,10 +105,8 @@ fn receipts_row(
     let stock = stock_for(alloc, inputs, item)?;
     let needs = need(alloc, gross, &stock)?;
     let received = lot_receipts(alloc, &needs, inputs.entry(item).lot)?;
-    match supplies(&stock, received.at(weeks)) {
-        Some(_) => Ok(received),
-        None => Err(Stop::Over),
-    }
+    or_over(supplies(&stock, received.at(weeks)))?;
+    Ok(received)
 }
 
 // Whether all parents are planned.
@@ -134,6 +130,7 @@ fn own_rows(
     ensures started { IfOk result (λ rows. rows.started ≡ row (horizon inputs.now) (started_in rows.orders.items)) }
     ensures over { IfErr result (λ stop. stop ≡ Stop.Over → outcome_of inputs.now item ≡ plan.Over) }
 {
+    // Its codes rank the items, parents above their components.
     let _ranked = inputs.shop();
     let gross = gross_row(alloc, inputs, item, parents)?;
     let receipts = receipts_row(alloc, inputs, item, &gross)?;
@@ -175,6 +172,7 @@ pub fn plan_item(
     ensures { IfOk result (λ o. o ≡ item_from inputs.now.value item) }
 {
     let source = inputs.clone()?;
+    // Its codes rank the items, parents above their components.
     let _ranked = source.shop();
     if !are_planned(parents) {
         return Ok(Outcome::blocked(source, item));

@@ -34,7 +34,8 @@ impl Model for ShopRows {
 }
 
 impl ShopRows {
-    ghost use Rattle.std.specs.Prelude.{◌≡◌, ◌<◌, IfOk, length};
+    ghost use Rattle.std.specs.Prelude.{◌≡◌, ◌<◌, All, IfOk, length};
+    ghost use Rattle.std.specs.Int.{IsInRange};
     ghost use Rattle.mrp_master.specs.Supply.{on_hand_of, supply_of};
     ghost use Rattle.mrp_item.specs.Dues.{firm_dues, forecast_dues, receipt_dues};
 
@@ -101,7 +102,8 @@ impl ShopRows {
     // The open receipts of an item.
     pub(crate) fn receipts(&self, item: usize) -> &[Due]
         requires { item < length self.now.tables.items }
-        ensures { result.now ≡ receipt_dues self.now.tables.receipts item }
+        ensures dues { result.now ≡ receipt_dues self.now.tables.receipts item }
+        ensures within { All (λ due. IsInRange 1 self.now.tables.calendar.weeks due.week) result.now }
     {
         self.receipts.of(item)
     }

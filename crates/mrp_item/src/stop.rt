@@ -1,6 +1,7 @@
 //! Why an item's plan can't be finished.
 
-ghost use Rattle.std.specs.Prelude.{◌≡◌};
+ghost use Rattle.std.specs.Prelude.{◌≡◌, ok_or};
+ghost use Rattle.std.specs.Result.{result_ok};
 ghost use Rattle.mrp_item.specs.declared.stop.Stop.TheVariants.{NoMemory as NoRoom};
 ghost use Rattle.mrp_item.specs.Stops.{stop_of};
 
@@ -13,6 +14,14 @@ use std::alloc::{AllocError, AllocFailed};
 pub enum Stop {
     Over,
     NoMemory,
+}
+
+// What is found; that the item is over, where nothing is.
+pub fn or_over<T>(found: Option<T>) -> Result<T, Stop>
+    ensures value { result ≡ ok_or found Stop.Over }
+    ensures found { found ≡ result_ok result }
+{
+    found.ok_or(Stop::Over)
 }
 
 impl From<NoMemory> for Stop {

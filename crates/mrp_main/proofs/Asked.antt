@@ -1,21 +1,46 @@
 -- What words ask for, from what clap answers them.
-use Rattle.std.proofs.Common.{◌≡◌, ◌⊎◌, inl, inr, List, Result, Ok, Err, true, refl, subst}
-use Rattle.std.specs.Prelude.{IfOk, OnOk, OnErr}
+use Rattle.std.proofs.Common.{◌∙◌, ◌≡◌, ◌⊎◌, inl, inr, ap, codes, [], List, Option, Some, None, option_and_then, option_map, Result, Ok, Err, true, refl, subst, sym}
+use Rattle.std.specs.Prelude.{IfErr, IfOk, OnOk, OnErr}
 use Rattle.std.specs.Result.{ForOk}
-use Rattle.clap.specs.Walk.{Text}
+use Rattle.clap.specs.Walk.{Row, Text, first_of}
 use Rattle.clap.specs.Kinds.{HasKind}
 use Rattle.clap.specs.Faults.{is_simple_and_free}
+use Rattle.clap.specs.Simple.{is_simple, subcommand_of}
 use Rattle.clap.specs.Values.{kind_of}
 use Rattle.clap.specs.declared.error.Error.{Error}
 use Rattle.clap.specs.declared.error.kind.ErrorKind.{ErrorKind}
 use Rattle.clap.specs.declared.error.kind.ErrorKind.TheVariants.{OutOfMemory}
+use Rattle.mrp_main.specs.declared.command.Request.{Request}
 use Rattle.mrp_main.specs.declared.command.NoRequest.{NoRequest}
 use Rattle.mrp_main.specs.declared.command.NoRequest.TheVariants.{Help, Usage, NoMemory}
-use Rattle.mrp_main.specs.Words.{Asks, IsAnswer, IsOfKind, mrp_command, refusals}
+use Rattle.mrp_main.specs.Words.{Asks, IsAnswer, IsAsAsked, IsOfKind, dir_among, folder_in, folder_of, mrp_command, refusals}
 
 -- the command is one whose refusals clap's definition gives
 pub is-plain : is_simple_and_free mrp_command ≡ true
 is-plain = refl
+
+-- and whose matches it gives
+pub is-simple-command : is_simple mrp_command ≡ true
+is-simple-command = refl
+
+-- what `--dir` is given, by the rows of the subcommand alone
+among-rows : (found : Option (Text × List Row)) → option_and_then (first_of (codes "dir")) (option_map (λ p. p.1) found) ≡ dir_among found
+among-rows None = refl
+among-rows (Some p) = refl
+
+-- where the matches have a subcommand
+pub dir-in : {X : Type 0} (rows : X → List Row) (o : Option X) (x : X) (found : Option (Text × List Row)) → o ≡ Some x → option_map rows o ≡ option_map (λ p. p.1) found → first_of (codes "dir") (rows x) ≡ dir_among found
+dir-in rows o x found is e = ap (option_and_then (first_of (codes "dir"))) (ap (option_map rows) (sym is) ∙ e) ∙ among-rows found
+
+-- where they have none
+pub dir-out : {X : Type 0} (rows : X → List Row) (o : Option X) (found : Option (Text × List Row)) → o ≡ None → option_map rows o ≡ option_map (λ p. p.1) found → None ≡ dir_among found
+dir-out rows o found is e = ap (option_and_then (first_of (codes "dir"))) (ap (option_map rows) (sym is) ∙ e) ∙ among-rows found
+
+-- words that are taken ask for what clap finds in them
+pub asked-for : (words : List Text) (r : Result Request NoRequest) → refusals words ≡ [] → IfOk r (λ request. IsAsAsked (subcommand_of mrp_command words) request)
+    → IfOk r (λ request. folder_of request ≡ folder_in words) → IfErr r (λ none. none ≡ NoMemory) → Asks words r
+asked-for words (Ok request) taken asked folder none = (taken, asked, folder)
+asked-for words (Err e) taken asked folder none = subst (λ (e : NoRequest). Asks words (Err e)) (sym none) tt
 
 -- help is not want of memory
 answer-takes-memory : (kind : ErrorKind) → IsAnswer kind → kind ≡ OutOfMemory → ⊥

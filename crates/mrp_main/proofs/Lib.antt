@@ -1,2 +1,4 @@
 pub mod DayEnds
 pub mod Asked
+pub mod Workers
+pub mod Folders

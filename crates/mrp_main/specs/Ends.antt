@@ -1,42 +1,80 @@
 -- How a command ends: what it leaves of its input and its output, and what its error stream is told (profile).
-use Rattle.std.specs.Prelude.{ℕ, ◌≡◌, ◌⊎◌, List, [], ◌∷◌, ◌++◌, Option, Result, Ok, Err, ⊤, codes, string_bytes}
+use Rattle.std.specs.Prelude.{ℕ, ◌≡◌, ◌≢◌, ◌⊎◌, List, [], ◌∷◌, ◌++◌, Option, Some, None, Result, Ok, Err, ⊤, codes, map, string_bytes}
+use Rattle.std.specs.Io.KnownBytes.{IsAtEnd}
 use Rattle.mrp_rows.specs.FaultText.{text_of_fault}
 use Rattle.mrp_rows.specs.declared.fault.Fault.{Fault}
+use Rattle.mrp_rows.specs.declared.faults.TheConstants as faults
 use Rattle.mrp_rows.specs.declared.told.Told.{Told}
 use Rattle.mrp_rows.specs.declared.streams.TheConstants.{WRITE_TRIES}
-use Rattle.mrp_rows.specs.Told.{inner_of}
+use Rattle.mrp_rows.specs.Streams.{TakesFront}
+use Rattle.mrp_rows.specs.Told.{inner_of, moved_of}
 use Rattle.mrp_report.specs.Written.{HasGivenUp, HasTakenFront, HasTakenWhole}
 use Rattle.mrp_engine.specs.Day.{IsRefused, IsTooLarge}
-use Rattle.mrp_engine.specs.Run.{HasPassedLimits, HasTakenAll, IsRead, TellsDay, WritesDayFront}
+use Rattle.mrp_engine.specs.Run.{HasNotFailed, HasPassedLimits, HasTakenAll, IsRead, IsReadWithin, TellsDay, WritesDayFront}
 use Rattle.mrp_engine.specs.declared.fault.DayFault.{DayFault}
 use Rattle.mrp_engine.specs.declared.fault.DayFault.TheVariants as fault
 use Rattle.mrp_main.specs.declared.command.Request.{Request}
+use Rattle.mrp_main.specs.declared.command.Request.TheVariants.{Plan}
 use Rattle.mrp_main.specs.declared.command.NoRequest.{NoRequest}
 use Rattle.mrp_main.specs.declared.command.NoRequest.TheVariants as none
 use Rattle.mrp_main.specs.declared.ending.Ending.{Ending}
 use Rattle.mrp_main.specs.declared.ending.Ending.TheVariants.{Done, Refused, TooLarge, Usage, NoMemory, Read, Write}
 use Rattle.mrp_main.specs.Status.{code_of, status_of}
+use Rattle.mrp_main.specs.Folder.{Kept, all_tables, bundle_of}
 use Rattle.mrp_main.specs.Words.{Asks}
 
--- what a reader had left is a bundle with a fault of this text
+-- what a reader had left is a bundle with a fault of this text, which is no want of memory
 abbrev pub IsRefusedAs : Option (List ℕ) → List ℕ → Type 0
-IsRefusedAs given text = (bundle : List ℕ) × IsRead given bundle × (f : Fault) × IsRefused bundle f × (text ≡ text_of_fault f)
+IsRefusedAs given text = (bundle : List ℕ) × IsRead given bundle × (f : Fault) × IsRefused bundle f × (f.code ≢ faults.NO_MEMORY) × (text ≡ text_of_fault f)
 
 -- what a reader had left is a bundle with a plan that gets too large, at the item of this name
 abbrev pub IsTooLargeAt : Option (List ℕ) → List ℕ → Type 0
 IsTooLargeAt given name = (bundle : List ℕ) × IsRead given bundle × IsTooLarge bundle name
 
--- how planning ends: the day of what the input had left was written, or a front of it, or nothing
-abbrev pub PlanEnds : {R W : Type 0} → (R → Option (List ℕ)) → (W → Option (List ℕ)) → Told R → Told R → Told W → Told W → Ending → Type 0
-PlanEnds remaining contents input read output written Done =
-    (text : List ℕ) × TellsDay (remaining (inner_of input)) text × HasTakenAll contents output written text
-PlanEnds remaining contents input read output written (Refused text) = IsRefusedAs (remaining (inner_of input)) (string_bytes text) × (written ≡ output)
-PlanEnds remaining contents input read output written (TooLarge name) = IsTooLargeAt (remaining (inner_of input)) name × (written ≡ output)
-PlanEnds remaining contents input read output written (Usage text) = ⊥
-PlanEnds remaining contents input read output written NoMemory = (written ≡ output) ⊎ WritesDayFront contents (remaining (inner_of input)) output written
-PlanEnds remaining contents input read output written Read = HasPassedLimits input read × (written ≡ output)
-PlanEnds remaining contents input read output written Write =
-    HasGivenUp output written WRITE_TRIES × WritesDayFront contents (remaining (inner_of input)) output written
+-- what planning of what was given has written at its end: its day, or a front of it, or nothing; a front where memory is wanted only after all was read, and nothing where reading failed
+abbrev pub DayWrites : {W : Type 0} → (W → Option (List ℕ)) → Option (List ℕ) → Type 0 → Type 0 → Told W → Told W → Ending → Type 0
+DayWrites contents given ended failed output written Done = (text : List ℕ) × TellsDay given text × HasTakenAll contents output written text
+DayWrites contents given ended failed output written (Refused text) = IsRefusedAs given (string_bytes text) × (written ≡ output)
+DayWrites contents given ended failed output written (TooLarge name) = IsTooLargeAt given name × (written ≡ output)
+DayWrites contents given ended failed output written (Usage text) = ⊥
+DayWrites contents given ended failed output written NoMemory = (written ≡ output) ⊎ (ended × WritesDayFront contents given output written)
+DayWrites contents given ended failed output written Read = failed × (written ≡ output)
+DayWrites contents given ended failed output written Write = HasGivenUp output written WRITE_TRIES × WritesDayFront contents given output written
+
+-- what planning of what the input had left has written at its end
+abbrev pub PlanWrites : {R W : Type 0} → (R → Option (List ℕ)) → (W → Option (List ℕ)) → Told R → Told R → Told W → Told W → Ending → Type 0
+PlanWrites remaining contents input read output written end =
+    DayWrites contents (remaining (inner_of input)) (IsAtEnd (remaining (inner_of read))) (HasPassedLimits input read) output written end
+
+-- an end after the input was read to its end
+abbrev pub HasReadAll : Ending → Type 0
+HasReadAll Done = ⊤
+HasReadAll (Refused text) = ⊤
+HasReadAll (TooLarge name) = ⊤
+HasReadAll (Usage text) = ⊥
+HasReadAll NoMemory = ⊥
+HasReadAll Read = ⊥
+HasReadAll Write = ⊤
+
+-- how planning ends: what was written; whether the input was read to its end, within the limits; a front of what the input had left was taken; and want of memory is told where neither failed
+pub record PlanEnds {R W : Type 0} (remaining : R → Option (List ℕ)) (contents : W → Option (List ℕ)) (input read : Told R) (output written : Told W) (end : Ending) : Type 0 where
+  pub writes : PlanWrites remaining contents input read output written end
+  pub at_end : HasReadAll end → IsAtEnd (remaining (inner_of read))
+  pub within : HasReadAll end → IsReadWithin input read
+  pub unfailed : end ≡ NoMemory → IsReadWithin input read × HasNotFailed output written
+  pub taken : TakesFront (remaining (inner_of input)) (remaining (inner_of read)) (moved_of input) (moved_of read)
+
+-- how planning of a folder's files ends: each table has one or none, whose bytes are the operating system's; and want of memory is told where the output did not fail
+pub record FolderEnds {W : Type 0} (contents : W → Option (List ℕ)) (output written : Told W) (end : Ending) : Type 0 where
+  pub files : List Kept
+  pub tables : map (λ (file : Kept). file.0) files ≡ all_tables
+  pub writes : DayWrites contents (Some (bundle_of files)) ⊤ ⊤ output written end
+  pub unfailed : end ≡ NoMemory → HasNotFailed output written
+
+-- how what is asked for ends: a folder's files leave the input as it was
+abbrev pub RequestEnds : {R W : Type 0} → (R → Option (List ℕ)) → (W → Option (List ℕ)) → Told R → Told R → Told W → Told W → Request → Ending → Type 0
+RequestEnds remaining contents input read output written (Plan workers None) end = PlanEnds remaining contents input read output written end
+RequestEnds remaining contents input read output written (Plan workers (Some folder)) end = (read ≡ input) × FolderEnds contents output written end
 
 -- how help ends: it was written, or a front of it
 abbrev pub HelpEnds : {W : Type 0} → (W → Option (List ℕ)) → Told W → Told W → List ℕ → Ending → Type 0
@@ -46,7 +84,7 @@ HelpEnds contents output written help _ = ⊥
 
 -- how a command ends, by what its words ask for: what asks for no plan leaves the input as it was
 abbrev pub Ends : {R W : Type 0} → (R → Option (List ℕ)) → (W → Option (List ℕ)) → Told R → Told R → Told W → Told W → Result Request NoRequest → Ending → Type 0
-Ends remaining contents input read output written (Ok request) end = PlanEnds remaining contents input read output written end
+Ends remaining contents input read output written (Ok request) end = RequestEnds remaining contents input read output written request end
 Ends remaining contents input read output written (Err (none.Help text)) end = (read ≡ input) × HelpEnds contents output written (string_bytes text) end
 Ends remaining contents input read output written (Err (none.Usage text)) end = (read ≡ input) × (written ≡ output) × (end ≡ Usage text)
 Ends remaining contents input read output written (Err none.NoMemory) end = (read ≡ input) × (written ≡ output) × (end ≡ NoMemory)

@@ -1,3 +1,4 @@
 pub mod Words
+pub mod Folder
 pub mod Status
 pub mod Ends

@@ -1,10 +1,12 @@
 -- What the words of the command line ask for, as `clap` reads them (profile).
-use Rattle.std.specs.Prelude.{◌≡◌, ◌≢◌, ◌⊎◌, List, [], ◌∷◌, Some, true, codes, Result, Ok, Err, ⊤}
+use Rattle.std.specs.Prelude.{ℕ, ◌≡◌, ◌≢◌, ◌⊎◌, List, [], ◌∷◌, Option, Some, option_and_then, option_map, string_bytes, true, codes, Result, Ok, Err, ⊤}
 use Rattle.std.specs.Int.{IsInRange}
-use Rattle.clap.specs.Walk.{Rule, Text}
-use Rattle.clap.specs.Simple.{App, new_app, new_rule, on_top, with_rule, with_subcommand}
+use Rattle.std.specs.Str.Parse.{digits_value, without_leading_plus}
+use Rattle.clap.specs.Walk.{Row, Rule, Text, first_of, one_of}
+use Rattle.clap.specs.Simple.{App, new_app, new_rule, on_top, subcommand_of, with_rule, with_subcommand}
 use Rattle.clap.specs.Kinds.{IsAmong, Kinds}
 use Rattle.clap.specs.Faults.{fault_of}
+use Rattle.clap.specs.Values.{IsUnsignedIn}
 use Rattle.clap.specs.declared.builder.action.ArgAction.TheVariants.{Set}
 use Rattle.clap.specs.declared.builder.value_parser.ValueParser.TheVariants.{Unsigned}
 use Rattle.clap.specs.declared.error.kind.ErrorKind.{ErrorKind}
@@ -25,9 +27,17 @@ workers_rule = record (new_rule (codes "workers")) {
   parser = Some (Unsigned 1 MOST_WORKERS);
 }
 
+-- `--dir D`, a text
+abbrev pub dir_rule : Rule
+dir_rule = record (new_rule (codes "dir")) {
+  long = Some (codes "dir");
+  action = Some Set;
+  value_names = 1;
+}
+
 -- `plan`
 abbrev pub plan_command : App
-plan_command = with_rule (new_app (codes "plan")) workers_rule
+plan_command = with_rule (with_rule (new_app (codes "plan")) workers_rule) dir_rule
 
 -- `mrp`, without its name: one of its subcommands has to be there
 abbrev pub mrp_command : App
@@ -37,6 +47,14 @@ mrp_command =
 -- why clap may refuse the words; help is a refusal too, and words that are taken have none
 abbrev pub refusals : List Text → Kinds
 refusals words = fault_of mrp_command words
+
+-- what `--dir` is given, in the matches of a subcommand
+abbrev pub dir_among : Option (Text × List Row) → Option Text
+dir_among found = option_and_then (λ rows. first_of (codes "dir") rows.1) found
+
+-- the folder that words name
+abbrev pub folder_in : List Text → Option Text
+folder_in words = dir_among (subcommand_of mrp_command words)
 
 -- a refusal that is an answer: help, or a version
 abbrev pub IsAnswer : ErrorKind → Type 0
@@ -52,7 +70,28 @@ AreWrong words = (kind : ErrorKind) × IsAmong kind (refusals words) × (IsAnswe
 
 -- 1 to `MOST_WORKERS` workers
 abbrev pub HasWorkers : Request → Type 0
-HasWorkers (Plan workers) = IsInRange 1 MOST_WORKERS workers
+HasWorkers (Plan workers folder) = IsInRange 1 MOST_WORKERS workers
+
+-- the folder whose files are to be planned
+abbrev pub folder_of : Request → Option Text
+folder_of (Plan workers folder) = option_map string_bytes folder
+
+-- the subcommand that words enter is a plan by so many workers: by the number of `--workers`, or by the one that stands for it
+pub record IsPlanBy (entered : Option (Text × List Row)) (workers : ℕ) : Type 0 where
+  pub rows : List Row
+  pub plan : entered ≡ Some (codes "plan", rows)
+  pub text : Text
+  pub given : one_of (codes "workers") rows ≡ Some text
+  pub number : IsUnsignedIn 1 MOST_WORKERS text
+  pub value : workers ≡ digits_value 10 (without_leading_plus text)
+
+-- words ask for a plan by so many workers
+abbrev pub AskForPlanBy : List Text → ℕ → Type 0
+AskForPlanBy words workers = IsPlanBy (subcommand_of mrp_command words) workers
+
+-- a request has the workers of the plan that is asked for
+abbrev pub IsAsAsked : Option (Text × List Row) → Request → Type 0
+IsAsAsked entered (Plan workers folder) = (asked : ℕ) → IsPlanBy entered asked → workers ≡ asked
 
 -- what an error of clap's asks for, by its kind
 abbrev pub IsOfKind : ErrorKind → NoRequest → Type 0
@@ -62,7 +101,7 @@ IsOfKind kind NoMemory = kind ≡ OutOfMemory
 
 -- what the words ask for, or memory was refused
 abbrev pub Asks : List Text → Result Request NoRequest → Type 0
-Asks words (Ok request) = refusals words ≡ []
+Asks words (Ok request) = (refusals words ≡ []) × IsAsAsked (subcommand_of mrp_command words) request × (folder_of request ≡ folder_in words)
 Asks words (Err (Help text)) = AskForHelp words
 Asks words (Err (Usage text)) = AreWrong words
 Asks words (Err NoMemory) = ⊤

@@ -1,9 +1,9 @@
 //! What the definition of the words says of some, each law the contract of a function that does
 //! nothing.
 
-ghost use Rattle.std.specs.Prelude.{◌≡◌, [], ◌∷◌, codes};
+ghost use Rattle.std.specs.Prelude.{◌≡◌, [], ◌∷◌, Some, None, codes};
 ghost use Rattle.clap.specs.declared.error.kind.ErrorKind.TheVariants as kind;
-ghost use Rattle.mrp_main.specs.Words.{refusals};
+ghost use Rattle.mrp_main.specs.Words.{AskForPlanBy, folder_in, refusals};
 
 /// Words that are taken, and why others are refused.
 pub fn words()
@@ -11,6 +11,15 @@ pub fn words()
     ensures plan { refusals (codes "plan" ∷ []) ≡ [] }
     ensures workers { refusals (codes "plan" ∷ codes "--workers" ∷ codes "64" ∷ []) ≡ [] }
     ensures joined { refusals (codes "plan" ∷ codes "--workers=1" ∷ []) ≡ [] }
+    ensures folder { refusals (codes "plan" ∷ codes "--dir" ∷ codes "shop" ∷ []) ≡ [] }
+    // They name a folder, or none.
+    ensures named { folder_in (codes "plan" ∷ codes "--dir" ∷ codes "shop" ∷ []) ≡ Some (codes "shop") }
+    ensures behind { folder_in (codes "plan" ∷ codes "--workers=2" ∷ codes "--dir=shop" ∷ []) ≡ Some (codes "shop") }
+    ensures input { folder_in (codes "plan" ∷ codes "--workers=2" ∷ []) ≡ None }
+    // By these workers.
+    ensures one_worker { AskForPlanBy (codes "plan" ∷ []) 1 }
+    ensures all_workers { AskForPlanBy (codes "plan" ∷ codes "--workers" ∷ codes "64" ∷ []) 64 }
+    ensures two_workers { AskForPlanBy (codes "plan" ∷ codes "--workers=2" ∷ []) 2 }
     // These ask for help.
     ensures help { refusals (codes "--help" ∷ []) ≡ kind.DisplayHelp ∷ [] }
     ensures short { refusals (codes "-h" ∷ []) ≡ kind.DisplayHelp ∷ [] }
@@ -20,5 +29,6 @@ pub fn words()
     ensures unknown { refusals (codes "explode" ∷ []) ≡ kind.UnknownArgument ∷ kind.InvalidSubcommand ∷ [] }
     ensures no_worker { refusals (codes "plan" ∷ codes "--workers=0" ∷ []) ≡ kind.ValueValidation ∷ [] }
     ensures too_many { refusals (codes "plan" ∷ codes "--workers=65" ∷ []) ≡ kind.ValueValidation ∷ [] }
+    ensures two_folders { refusals (codes "plan" ∷ codes "--dir=a" ∷ codes "--dir=b" ∷ []) ≡ kind.ArgumentConflict ∷ [] }
     ensures no_number { refusals (codes "plan" ∷ codes "--workers=many" ∷ []) ≡ kind.ValueValidation ∷ [] }
 {}

@@ -3,6 +3,7 @@
 
 mod command;
 mod ending;
+mod files;
 pub mod laws;
 mod run;
 mod status;

@@ -1,17 +1,20 @@
 //! What the words ask for, done over an input, an output and an error stream.
 
 ghost use Rattle.std.specs.Prelude.{◌≡◌, ◌<◌, map, string_bytes};
+ghost use Rattle.std.specs.Int.{IsInRange};
 ghost use Rattle.std.specs.Result.{ForOk};
-ghost use Rattle.mrp_main.specs.Ends.{Ends, HelpEnds, IsDone, PlanEnds};
+ghost use Rattle.mrp_main.specs.Ends.{Ends, FolderEnds, HelpEnds, IsDone, PlanEnds, RequestEnds};
 ghost use Rattle.mrp_main.specs.Words.{HasWorkers};
 
 use crate::command::{NoRequest, Request, read_words};
 use crate::ending::Ending;
-use mrp_engine::run_day;
-use mrp_rows::{Told, Tries, write_text};
+use crate::files::read_folder;
+use mrp_engine::{MOST_WORKERS, run_day};
+use mrp_rows::{ReadFault, Told, Tries, write_text};
 use std::alloc::Global;
 use std::convert::AsStr;
 use std::io::{Read, Write};
+use std::rt::Files;
 use std::thread::Threads;
 
 // Writes the help that was asked for.
@@ -28,23 +31,59 @@ fn write_help<W: Write>(text: &str, output: &mut Told<W>) -> Ending
 fn plan<R: Read, W: Write>(
     rt: &(impl Alloc + Threads + Sync),
     alloc: Global,
+    workers: usize,
+    input: &mut Told<R>,
+    output: &mut Told<W>,
+) -> Ending
+    requires workers { IsInRange 1 MOST_WORKERS workers }
+    ensures { PlanEnds R.remaining W.contents input.old input.new output.old output.new result }
+{
+    Ending::of_day(alloc, run_day(rt, alloc, input, output, workers))
+}
+
+// Plans the bundle of a folder's files.
+fn plan_folder<W: Write>(
+    rt: &(impl Alloc + Files + Threads + Sync),
+    alloc: Global,
+    workers: usize,
+    folder: &str,
+    output: &mut Told<W>,
+) -> Ending
+    requires workers { IsInRange 1 MOST_WORKERS workers }
+    ensures { FolderEnds W.contents output.old output.new result }
+{
+    match read_folder(rt, alloc, folder) {
+        Ok(bundle) => {
+            let mut input = Told::new(bundle.as_slice());
+            plan(rt, alloc, workers, &mut input, output)
+        }
+        Err(ReadFault::Read) => Ending::Read,
+        Err(ReadFault::NoMemory) => Ending::NoMemory,
+    }
+}
+
+// Plans what was asked for.
+fn plan_request<R: Read, W: Write>(
+    rt: &(impl Alloc + Files + Threads + Sync),
+    alloc: Global,
     request: Request,
     input: &mut Told<R>,
     output: &mut Told<W>,
 ) -> Ending
     requires workers { HasWorkers request }
-    ensures { PlanEnds R.remaining W.contents input.old input.new output.old output.new result }
+    ensures { RequestEnds R.remaining W.contents input.old input.new output.old output.new request result }
 {
     match request {
-        Request::Plan { workers } => {
-            Ending::of_day(alloc, run_day(rt, alloc, input, output, workers))
-        }
+        Request::Plan { workers, folder } => match folder {
+            None => plan(rt, alloc, workers, input, output),
+            Some(folder) => plan_folder(rt, alloc, workers, &folder, output),
+        },
     }
 }
 
 // Does what was asked for. The error stream has no part in it, so it decides nothing.
 fn carry_out<R: Read, W: Write>(
-    rt: &(impl Alloc + Threads + Sync),
+    rt: &(impl Alloc + Files + Threads + Sync),
     alloc: Global,
     asked: Result<Request, NoRequest>,
     input: &mut Told<R>,
@@ -54,7 +93,7 @@ fn carry_out<R: Read, W: Write>(
     ensures { Ends R.remaining W.contents input.old input.new output.old output.new asked result }
 {
     match asked {
-        Ok(request) => plan(rt, alloc, request, input, output),
+        Ok(request) => plan_request(rt, alloc, request, input, output),
         Err(NoRequest::Help(text)) => write_help(&text, output),
         Err(NoRequest::Usage(text)) => Ending::Usage(text),
         Err(NoRequest::NoMemory) => Ending::NoMemory,
@@ -62,7 +101,8 @@ fn carry_out<R: Read, W: Write>(
 }
 
 /// Does what the words behind the program's name ask for, as `plan --workers 2`, over an input, an
-/// output and an error stream, and gives the exit status.
+/// output and an error stream, and gives the exit status. With `--dir D` the files of the folder D
+/// are planned in place of the input.
 ///
 /// The status is 0 where it was done, 1 where the bundle was refused or its plan gets too large, 2
 /// for wrong words, 3 where memory was refused, and 4 where reading or writing failed. A line on the
@@ -70,9 +110,11 @@ fn carry_out<R: Read, W: Write>(
 ///
 /// Words that ask for a plan plan: at 0 the day of what the input had left was written; at 1, and
 /// where reading failed, nothing was; at 3 and where writing failed, at most a front of the day.
-/// Words that ask for help have it written, and wrong words nothing; both leave the input as it is.
+/// Of a folder the same is said of the bundle that its files make: for each table one section with
+/// its file's bytes, or none. Which bytes files have no contract says. Words that ask for help have
+/// it written, and wrong words nothing. All but a plan of the input leave it as it is.
 pub fn run_words<S: AsStr, R: Read, W: Write, E: Write>(
-    rt: &(impl Alloc + Threads + Sync),
+    rt: &(impl Alloc + Files + Threads + Sync),
     alloc: Global,
     words: &[S],
     input: &mut Told<R>,

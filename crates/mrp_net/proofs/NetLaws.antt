@@ -1,5 +1,6 @@
 -- Laws of the need.
-use Rattle.std.proofs.Common.{◌≡◌, ℕ, zero, suc, ◌+◌, List, length, sym, arith}
+use Rattle.std.proofs.Common.{◌≡◌, ◌⊎◌, inl, inr, ℕ, zero, suc, ◌+◌, ◌<◌, ◌≤◌, List, length, sym, ap, arith}
+use Rattle.std.proofs.lemmas.Bool.{cases_lt}
 use Rattle.mrp_phase.specs.Weeks.{row, in_week, sum_to}
 use Rattle.mrp_phase.proofs.WeekRows.{in_week_row, length-row, greatest_none, greatest_suc, greatest_rises, sum_to_suc}
 use Rattle.mrp_net.specs.declared.stock.Stock.{Stock}
@@ -43,3 +44,16 @@ row_rises f horizon rises (suc s) t h within =
 
 pub is_row-rises : (xs : List ℕ) (f : ℕ → ℕ) (n : ℕ) → xs ≡ row n f → IsNeed n f → IsNeed (length xs) (in_week xs)
 is_row-rises xs f n e rises = rw (e, length-row f n) (row_rises f n rises)
+
+-- a row that does not fall, with one more week
+pub rises_more : (xs : List ℕ) (n : ℕ) → IsNeed n (in_week xs) → in_week xs n ≤ in_week xs (n + 1) → IsNeed (n + 1) (in_week xs)
+rises_more xs n before next s t h within = by (cases_lt t (n + 1)) (cases_lt s (n + 1))
+  where
+    by : (t < n + 1) ⊎ (n + 1 ≤ t) → (s < n + 1) ⊎ (n + 1 ≤ s) → in_week xs s ≤ in_week xs t
+    by (inl lt) side = before s t h (omega arith)
+    by (inr ge) (inl lt) =
+        let last : t ≡ n + 1 = omega arith in
+        omega (arith, ap (in_week xs) last, before s n (omega arith) (omega arith))
+    by (inr ge) (inr last) =
+        let same : s ≡ t = omega arith in
+        omega (arith, ap (in_week xs) same)

@@ -1,9 +1,9 @@
 //! What is left of an item at the end of each week.
 
-ghost use Rattle.std.specs.Prelude.{◌≡◌, ◌≤◌, ◌<◌, ◌+◌, ◌⊎◌, ℕ, length, sum, IfOk, OnOk, IsErrOf};
+ghost use Rattle.std.specs.Prelude.{◌≡◌, ◌≤◌, ◌<◌, ◌+◌, ◌⊎◌, ◌↔◌, length, sum, IfOk, OnOk, IsErrOf, IsTrue};
 ghost use Rattle.mrp_qty.specs.Quantity.{greatest_quantity};
 ghost use Rattle.mrp_phase.specs.Weeks.{in_week, row, sum_to};
-ghost use Rattle.mrp_net.specs.Need.{balance, supply};
+ghost use Rattle.mrp_net.specs.Need.{balance, supply, IsNeed};
 
 use crate::fault::NetFault;
 use crate::needs::SoFar;
@@ -27,7 +27,7 @@ pub fn balance_row(
 ) -> Result<Weeks<Qty>, NetFault>
     requires scheduled { length stock.now.scheduled ≡ length gross.now }
     requires receipts { length receipts.now ≡ length gross.now }
-    requires rises { (s t : ℕ) → s ≤ t → t ≤ length gross.now → in_week receipts.now s ≤ in_week receipts.now t }
+    requires rises { IsNeed (length gross.now) (in_week receipts.now) }
     ensures value { IfOk result (λ w. w ≡ row (length gross.now) (λ week. balance stock.now gross.now (in_week receipts.now week) week)) }
     ensures requirements { OnOk result (sum gross.now + stock.now.safety ≤ greatest_quantity) }
     ensures supplies { OnOk result (supply stock.now (in_week receipts.now (length gross.now)) (length gross.now) ≤ greatest_quantity) }
@@ -43,4 +43,19 @@ pub fn balance_row(
         balances.push(so_far.balance(stock.safety, received[i])?)?;
     }
     Ok(Weeks::from_vec(balances))
+}
+
+/// Whether planned receipts up to each week, from week 1 on, never fall, as `balance_row` is owed.
+#[tactic(auto, using(mrp_phase::proofs::WeekRows::in_week_next))]
+pub fn never_fall(receipts: &[Qty]) -> bool
+    ensures { IsTrue result ↔ IsNeed (length receipts.now) (in_week receipts.now) }
+{
+    let mut before = 0;
+    for quantity in receipts {
+        if quantity.value() < before {
+            return false;
+        }
+        before = quantity.value();
+    }
+    true
 }

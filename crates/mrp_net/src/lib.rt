@@ -7,7 +7,7 @@ pub mod laws;
 mod needs;
 mod stock;
 
-pub use balances::balance_row;
+pub use balances::{balance_row, never_fall};
 pub use fault::NetFault;
 pub use needs::{NeedRow, need};
 pub use stock::Stock;

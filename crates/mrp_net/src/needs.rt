@@ -66,6 +66,7 @@ impl SoFar {
         ensures { IsStart safety on_hand result }
     {
         let shortage = excess(safety, safety);
+        // No quantity passes the greatest.
         let _limits = (safety.value(), on_hand.value());
         SoFar {
             required: safety,

@@ -4,6 +4,7 @@ use Rattle.std.specs.Prelude.{nat_lt, find, Option, Some, None}
 use Rattle.std.specs.List.{range_with_len}
 use Rattle.std.proofs.lemmas.Bool.{lt-ltb, le-ltb, ltb-true, ltb-false, eqb-true, eqb-false}
 use Rattle.mrp_phase.specs.Weeks.{sum_to}
+use Rattle.mrp_item.proofs.Outcomes.{find-none}
 use Rattle.mrp_notes.specs.Needs.{need_week}
 
 found_from : (p : ℕ → Bool) (a n k : ℕ) → k < n → ((j : ℕ) → j < k → p (a + j) ≡ false) → p (a + k) ≡ true → find p (range_with_len a n) ≡ Some (a + k)
@@ -83,18 +84,6 @@ is_first p a (suc n) k e = by (p a) refl e (λ f. is_first p (a + 1) n k f)
             let other : j ≢ a = eqb-false j a f in
             rest.before j (omega arith) y
 
-none_all : (p : ℕ → Bool) (a n : ℕ) → find p (range_with_len a n) ≡ None → (j : ℕ) → a ≤ j → j < a + n → p j ≡ false
-none_all p a zero e j x y = absurd (omega arith)
-none_all p a (suc n) e j x y = by (p a) refl e (λ f u. none_all p (a + 1) n f j u (omega arith)) (eqb j a) refl
-  where
-    by : (b : Bool) → p a ≡ b → cond b (Some a) (find p (range_with_len (a + 1) n)) ≡ None
-        → (find p (range_with_len (a + 1) n) ≡ None → a + 1 ≤ j → p j ≡ false) → (c : Bool) → eqb j a ≡ c → p j ≡ false
-    by true h e later c f = absurd (cc)
-    by false h e later true f = ap p (eqb-true j a f) ∙ h
-    by false h e later false f =
-        let other : j ≢ a = eqb-false j a f in
-        later e (omega arith)
-
 -- what the need week is
 pub need_week_first : (gross : List ℕ) (safety supplied week : ℕ) → need_week gross safety supplied ≡ Some week
     → IsFirst (λ week. nat_lt supplied (sum_to gross week + safety)) 1 (length gross) week
@@ -102,7 +91,7 @@ need_week_first gross safety supplied week e = is_first (λ week. nat_lt supplie
 
 pub need_week_all : (gross : List ℕ) (safety supplied : ℕ) → need_week gross safety supplied ≡ None → (week : ℕ) → 0 < week → week ≤ length gross → sum_to gross week + safety ≤ supplied
 need_week_all gross safety supplied e week low high =
-    ltb-false supplied (sum_to gross week + safety) (none_all (λ week. nat_lt supplied (sum_to gross week + safety)) 1 (length gross) e week (omega arith) (omega arith))
+    ltb-false supplied (sum_to gross week + safety) (find-none (λ week. nat_lt supplied (sum_to gross week + safety)) 1 (length gross) e week (omega arith) (omega arith))
 
 pub need_week_short : (gross : List ℕ) (safety supplied week : ℕ) → need_week gross safety supplied ≡ Some week → supplied < sum_to gross week + safety
 need_week_short gross safety supplied week e = ltb-true supplied (sum_to gross week + safety) (need_week_first gross safety supplied week e).here

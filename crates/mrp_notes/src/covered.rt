@@ -1,6 +1,6 @@
 //! What the fixed supplies cover, and what is said of the next one.
 
-ghost use Rattle.std.specs.Prelude.{◌≡◌, ◌≤◌, ◌<◌, ◌^◌, ◌+◌, length, sum};
+ghost use Rattle.std.specs.Prelude.{◌≡◌, ◌≤◌, ◌+◌, length, sum};
 ghost use Rattle.mrp_qty.specs.Quantity.{greatest_quantity};
 ghost use Rattle.mrp_notes.specs.Needs.{need_week, rescheduled, rescheduling};
 ghost use Rattle.mrp_notes.specs.Walk.{IsCovered, with_supply};
@@ -45,15 +45,15 @@ impl Covered {
 
     // The first week whose requirements and safety stock exceed what is supplied.
     #[tactic(auto, using(mrp_phase::proofs::WeekRows::sum_to_within, mrp_phase::proofs::WeekRows::sum_to_next, mrp_phase::proofs::WeekRows::in_week_next))]
-    fn need_week(&mut self, gross: &[Qty], safety: Qty) -> Option<u16>
-        requires weeks { length gross.now < 2 ^ 16 }
+    fn need_week(&mut self, horizon: u16, gross: &[Qty], safety: Qty) -> Option<u16>
+        requires weeks { length gross.now ≡ horizon }
         requires within { sum gross.now + safety ≤ greatest_quantity }
         requires covered { IsCovered gross.now safety self.old }
         ensures week { result ≡ need_week gross.now safety self.old.supplied }
         ensures supplied { self.new.supplied ≡ self.old.supplied }
         ensures covered { IsCovered gross.now safety self.new }
     {
-        for place in self.weeks..gross.len() as u16 {
+        for place in self.weeks..horizon {
             let required = self.required + gross[usize::from(place)].value();
             if required + safety.value() > self.supplied {
                 return Some(place + 1);
@@ -66,8 +66,14 @@ impl Covered {
 
     // Whether the next supply is to come in earlier or later, or to be cancelled. A fixed one then
     // supplies the ones behind it.
-    pub fn advice(&mut self, gross: &[Qty], safety: Qty, supply: &Supply) -> Option<Advice>
-        requires weeks { length gross.now < 2 ^ 16 }
+    pub fn advice(
+        &mut self,
+        horizon: u16,
+        gross: &[Qty],
+        safety: Qty,
+        supply: &Supply,
+    ) -> Option<Advice>
+        requires weeks { length gross.now ≡ horizon }
         requires within { sum gross.now + safety ≤ greatest_quantity }
         requires covered { IsCovered gross.now safety self.old }
         ensures advice { result ≡ rescheduling gross.now safety self.old.supplied supply.now }
@@ -77,7 +83,7 @@ impl Covered {
         if !is_fixed(supply) {
             return None;
         }
-        let needed = self.need_week(gross, safety);
+        let needed = self.need_week(horizon, gross, safety);
         self.supplied = self.supplied.saturating_add(supply.quantity.value());
         rescheduled(supply.week, needed)
     }

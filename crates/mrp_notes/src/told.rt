@@ -1,6 +1,6 @@
 //! What is told of the supplies of an item.
 
-ghost use Rattle.std.specs.Prelude.{◌≡◌, ◌≤◌, ◌<◌, ◌^◌, ◌+◌, ◌++◌, [], length, map, sum, IfOk, OnOk};
+ghost use Rattle.std.specs.Prelude.{◌≡◌, ◌≤◌, ◌+◌, ◌++◌, [], length, map, sum, IfOk, OnOk};
 ghost use Rattle.std.specs.List.{cons_option};
 ghost use Rattle.mrp_qty.specs.Quantity.{greatest_quantity};
 ghost use Rattle.mrp_notes.specs.Told.{message, told};
@@ -32,15 +32,16 @@ fn tell(
     Ok(())
 }
 
-// The messages about the supplies of an item, by its gross requirements.
+// The messages about the supplies of an item, by its gross requirements in each week of the horizon.
 pub fn told(
     alloc: Global,
     item: usize,
+    horizon: u16,
     gross: &[Qty],
     stock: &Stock,
     supplies: &[Supply],
 ) -> Result<Vec<Message>, NoMemory>
-    requires weeks { length gross.now < 2 ^ 16 }
+    requires weeks { length gross.now ≡ horizon }
     requires within { sum gross.now + stock.now.safety ≤ greatest_quantity }
     ensures { IfOk result (λ messages. messages.items ≡ told item gross.now stock.now supplies.now) }
 {
@@ -48,7 +49,7 @@ pub fn told(
     let mut covered = Covered::start(stock.on_hand);
     for supply in supplies {
         tell(&mut messages, item, supply.source, action_on(supply))?;
-        let advice = covered.advice(gross, stock.safety, supply);
+        let advice = covered.advice(horizon, gross, stock.safety, supply);
         tell(&mut messages, item, supply.source, advice)?;
     }
     Ok(messages)

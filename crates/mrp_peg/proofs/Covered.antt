@@ -1,7 +1,8 @@
 -- The supplies of a planned item cover its requirements.
-use Rattle.std.proofs.Common.{◌≡◌, ◌∙◌, ℕ, suc, ◌+◌, ◌<◌, ◌≤◌, Bool, true, false, cond, List, ◌∷◌, ◌++◌, length, sym, ap, arith}
+use Rattle.std.proofs.Common.{◌≡◌, ◌∙◌, ℕ, suc, ◌+◌, ◌<◌, ◌≤◌, ◌⊎◌, inl, inr, Bool, true, false, cond, List, ◌∷◌, ◌++◌, length, sym, ap, arith}
 use Rattle.std.specs.Prelude.{◌==◌, filter, flat_map, map, sum, sum_by}
 use Rattle.std.specs.List.{enumerate_from}
+use Rattle.std.proofs.lemmas.Bool.{cases_lt}
 use Rattle.std.proofs.lemmas.List.Sums.{sum_by-cons, sum_by-append, sum_by-le-sum_by}
 use Rattle.mrp_tables.specs.declared.rows.MasterRow.{MasterRow}
 use Rattle.mrp_tables.specs.declared.rows.Receipt.{Receipt}
@@ -118,18 +119,28 @@ scheduled_sum s i =
       sum_by-add (received_in s i) (firm_in s i) (weeks (horizon s)),
     )
 
--- what is required of a planned item is supplied
-pub covered_item : (s : Inputs) (i : ℕ) → IsOwn s i → IsSized (item_at s i).lot → 0 < horizon s → total (requirements s i) ≤ total (supplies s i)
-covered_item s i is sized some =
-    let gross = own_gross s i in
-    let up = rising s i gross sized in
-    let whole : sum_to gross (horizon s) ≡ sum gross = ap (sum_to gross) (sym (length-row (gross_in s i (outcome_of s)) (horizon s))) ∙ sum_to_whole gross in
-    omega (
-      arith,
-      requirements_total s i,
-      whole,
-      served s i gross sized some,
-      scheduled_sum s i,
-      supplies_total s i is,
-      orders_add s i (receipts_of s i gross) (horizon s) (λ t h. up t (suc t) (omega arith) h),
-    )
+-- what is required of a planned item is supplied; without weeks nothing is required
+pub covered_item : (s : Inputs) (i : ℕ) → IsOwn s i → IsSized (item_at s i).lot → total (requirements s i) ≤ total (supplies s i)
+covered_item s i is sized = by (cases_lt 0 (horizon s))
+  where
+    gross : List ℕ
+    gross = own_gross s i
+
+    whole : sum_to gross (horizon s) ≡ sum gross
+    whole = ap (sum_to gross) (sym (length-row (gross_in s i (outcome_of s)) (horizon s))) ∙ sum_to_whole gross
+
+    by : (0 < horizon s) ⊎ (horizon s ≤ 0) → total (requirements s i) ≤ total (supplies s i)
+    by (inl some) =
+        let up = rising s i gross sized in
+        omega (
+          arith,
+          requirements_total s i,
+          whole,
+          served s i gross sized some,
+          scheduled_sum s i,
+          supplies_total s i is,
+          orders_add s i (receipts_of s i gross) (horizon s) (λ t h. up t (suc t) (omega arith) h),
+        )
+    by (inr none) =
+        let no_weeks : horizon s ≡ 0 = omega arith in
+        omega (arith, requirements_total s i, whole, ap (sum_to gross) no_weeks)

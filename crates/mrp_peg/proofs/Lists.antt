@@ -1,31 +1,13 @@
 -- Filters over mapped and joined lists.
 use Rattle.std.proofs.Common.{◌≡◌, ◌∙◌, ℕ, zero, suc, ◌+◌, ◌-◌, ◌<◌, ◌≤◌, ◌≢◌, Bool, true, false, cond, List, [], ◌∷◌, ◌++◌, length, refl, sym, ap, arith, append_assoc, Contains}
-use Rattle.std.specs.Prelude.{◌==◌, ◌&&◌, filter, flat_map, map, All, sum_by, nat_lt, max}
+use Rattle.std.specs.Prelude.{◌==◌, filter, flat_map, map, All, sum_by, nat_lt, max}
 use Rattle.std.specs.List.{range_with_len}
 use Rattle.std.proofs.lemmas.Bool.{eqb-true, eqb-false, eq-eqb, ne_eqb, ltb-true, ltb-false, lt-ltb, le-ltb}
 use Rattle.std.proofs.lemmas.List.{map-append, append-nil}
-use Rattle.std.proofs.lemmas.List.Elements.{filter-append}
+use Rattle.std.proofs.lemmas.List.Elements.{All-append, filter-append}
 use Rattle.std.proofs.lemmas.List.Sums.{sum_by-cons, sum_by-append}
 use Rattle.mrp_peg.proofs.Weekly.{other_weeks}
 use Rattle.mrp_peg.specs.Weekly.{by_weeks, AreWithin}
-
-pub filter-map : {X Y : Type 0} (p : Y → Bool) (f : X → Y) (xs : List X) → filter p (map f xs) ≡ map f (filter (λ x. p (f x)) xs)
-filter-map p f [] = refl
-filter-map {X} {Y} p f (x ∷ xs) = by (p (f x)) (filter-map p f xs)
-  where
-    by : (b : Bool) → filter p (map f xs) ≡ map f (filter (λ y. p (f y)) xs) → cond b (f x ∷ filter p (map f xs)) (filter p (map f xs)) ≡ map f (cond b (x ∷ filter (λ y. p (f y)) xs) (filter (λ y. p (f y)) xs))
-    by true e = ap (λ l. f x ∷ l) e
-    by false e = e
-
-pub filter-filter : {X : Type 0} (p q : X → Bool) (xs : List X) → filter q (filter p xs) ≡ filter (λ x. p x && q x) xs
-filter-filter p q [] = refl
-filter-filter {X} p q (x ∷ xs) = by (p x) (q x) refl (filter-filter p q xs)
-  where
-    by : (a b : Bool) → q x ≡ b → filter q (filter p xs) ≡ filter (λ y. p y && q y) xs
-        → filter q (cond a (x ∷ filter p xs) (filter p xs)) ≡ cond (a && b) (x ∷ filter (λ y. p y && q y) xs) (filter (λ y. p y && q y) xs)
-    by true true e more = ap (λ t. cond t (x ∷ filter q (filter p xs)) (filter q (filter p xs))) e ∙ ap (λ l. x ∷ l) more
-    by true false e more = ap (λ t. cond t (x ∷ filter q (filter p xs)) (filter q (filter p xs))) e ∙ more
-    by false b e more = more
 
 pub filter-flat_map : {X Y : Type 0} (p : Y → Bool) (f : X → List Y) (xs : List X) → filter p (flat_map f xs) ≡ flat_map (λ x. filter p (f x)) xs
 filter-flat_map p f [] = refl
@@ -42,12 +24,6 @@ same_flat_map f g same (x ∷ xs) = ap (λ l. l ++ flat_map f xs) (same x) ∙ a
 pub same_map : {X Y : Type 0} (f g : X → Y) → ((x : X) → f x ≡ g x) → (xs : List X) → map f xs ≡ map g xs
 same_map f g same [] = refl
 same_map f g same (x ∷ xs) = ap (λ y. y ∷ map f xs) (same x) ∙ ap (λ l. g x ∷ l) (same_map f g same xs)
-
-pub same_weeks : {Y : Type 0} (f g : ℕ → List Y) (first count : ℕ) → ((w : ℕ) → first ≤ w → w < first + count → f w ≡ g w) → flat_map f (range_with_len first count) ≡ flat_map g (range_with_len first count)
-same_weeks f g first zero same = refl
-same_weeks f g first (suc count) same =
-    ap (λ l. l ++ flat_map f (range_with_len (first + 1) count)) (same first (omega arith) (omega arith))
-    ∙ ap (λ l. g first ++ l) (same_weeks f g (first + 1) count (λ w low high. same w (omega (arith, low)) (omega (arith, high))))
 
 -- every row is of the week
 abbrev pub AreOf : {Y : Type 0} → (Y → ℕ) → ℕ → List Y → Type 0
@@ -100,25 +76,15 @@ sum_by-flat_map g f [] = refl
 sum_by-flat_map g f (x ∷ xs) =
     sum_by-append g (f x) (flat_map f xs) ∙ ap (λ n. sum_by g (f x) + n) (sum_by-flat_map g f xs) ∙ sym (sum_by-cons (λ y. sum_by g (f y)) x xs)
 
-pub All-map_from : {X Y : Type 0} (P : Y → Type 0) (f : X → Y) (xs : List X) → All (λ x. P (f x)) xs → All P (map f xs)
-All-map_from P f [] all k d h = absurd (omega (arith, h))
-All-map_from P f (x ∷ xs) all zero d h = all 0 x (omega arith)
-All-map_from P f (x ∷ xs) all (suc k) d h = All-map_from P f xs (λ j e g. all (suc j) e (omega (arith, g))) k d (omega (arith, h))
-
-pub All-join : {X : Type 0} (P : X → Type 0) (xs ys : List X) → All P xs → All P ys → All P (xs ++ ys)
-All-join P [] ys one two k d h = two k d h
-All-join P (x ∷ xs) ys one two zero d h = one 0 x (omega arith)
-All-join P (x ∷ xs) ys one two (suc k) d h = All-join P xs ys (λ j e g. one (suc j) e (omega (arith, g))) two k d (omega (arith, h))
-
 pub All-flat : {X Y : Type 0} (P : Y → Type 0) (f : X → List Y) (xs : List X) → ((x : X) → All P (f x)) → All P (flat_map f xs)
 All-flat P f [] all k d h = absurd (omega (arith, h))
-All-flat P f (x ∷ xs) all k d h = All-join P (f x) (flat_map f xs) (all x) (All-flat P f xs all) k d h
+All-flat P f (x ∷ xs) all k d h = All-append P (f x) (flat_map f xs) (all x) (All-flat P f xs all) k d h
 
 -- every week's rows are of weeks of the range
 pub All-weeks : {Y : Type 0} (P : Y → Type 0) (f : ℕ → List Y) (first count : ℕ) → ((w : ℕ) → first ≤ w → w < first + count → All P (f w)) → All P (flat_map f (range_with_len first count))
 All-weeks P f first zero all k d h = absurd (omega (arith, h))
 All-weeks P f first (suc count) all k d h =
-    All-join P (f first) (flat_map f (range_with_len (first + 1) count)) (all first (omega arith) (omega arith))
+    All-append P (f first) (flat_map f (range_with_len (first + 1) count)) (all first (omega arith) (omega arith))
     (All-weeks P f (first + 1) count (λ w low high. all w (omega (arith, low)) (omega (arith, high)))) k d h
 
 -- a row more in one of the weeks

@@ -1,7 +1,7 @@
 -- What is left to match, from two places on.
-use Rattle.std.proofs.Common.{◌≡◌, ◌∙◌, ℕ, zero, suc, ◌+◌, ◌≤◌, List, [], ◌∷◌, ◌++◌, refl, sym, ap, arith, length, drop, take, append_assoc, subst, slice_index_or, Some, None, Bool, true, false, cond, min, max, ◌-◌, ◌<◌, drop-cons, add-one}
+use Rattle.std.proofs.Common.{◌≡◌, ◌∙◌, ℕ, ◌+◌, ◌≤◌, List, [], ◌∷◌, ◌++◌, refl, sym, ap, arith, length, drop, take, append_assoc, subst, slice_index_or, Some, None, Bool, true, false, cond, min, max, ◌-◌, ◌<◌, drop-cons, add-one}
 use Rattle.std.specs.Prelude.{map, filter, nat_lt, sum_by}
-use Rattle.std.proofs.lemmas.List.{map-append, append-nil}
+use Rattle.std.proofs.lemmas.List.{map-append, append-nil, drop_all, take_all}
 use Rattle.std.proofs.lemmas.List.Sums.{sum_by-cons, sum_by_more, sum_by-take-drop, sum_by-drop_more}
 use Rattle.std.proofs.lemmas.List.Elements.{filter-append}
 use Rattle.mrp_peg.specs.Units.{Amount, Span, Match, spans_from, spans, total, is_positive, match_of, surplus_of, pairs, matches}
@@ -41,18 +41,6 @@ surplus_left a b s supplies required = filter-append is_positive (surplus_of req
 pub none_left : {A B : Type 0} (a : ℕ) (needs : List (Amount A)) (b required : ℕ) → rest_of {B = B} a needs b [] required ≡ []
 unfolding rest_of walked spans_from
 none_left {A} {B} a needs b required = ap (λ l. filter is_positive l ++ []) (no_pairs {B = B} (spans_from a needs))
-
-pub drop_end : {X : Type 0} (xs : List X) (i : ℕ) → length xs ≤ i → drop i xs ≡ []
-drop_end [] zero past = refl
-drop_end [] (suc i) past = refl
-drop_end (x ∷ xs) zero past = absurd (omega arith)
-drop_end (x ∷ xs) (suc i) past = drop_end xs i (omega arith)
-
-pub take_end : {X : Type 0} (xs : List X) (i : ℕ) → length xs ≤ i → take i xs ≡ xs
-take_end [] zero past = refl
-take_end [] (suc i) past = refl
-take_end (x ∷ xs) zero past = absurd (omega arith)
-take_end (x ∷ xs) (suc i) past = ap (λ l. x ∷ l) (take_end xs i (omega arith))
 
 pub drop_one : {X : Type 0} (xs : List X) (i : ℕ) (d : X) → i < length xs → drop i xs ≡ slice_index_or xs i d ∷ drop (i + 1) xs
 drop_one xs i d within = rw add-one (drop-cons xs i d within)
@@ -201,8 +189,8 @@ module _ {A B C : Type 0} (f : Match A B → C) (needs : List (Amount A)) (suppl
       let s = slice_index_or supplies j e in
       let a = before needs i in
       let b = before supplies j in
-      let none : drop i needs ≡ [] = drop_end needs i past in
-      let whole : a ≡ total needs = ap total (take_end needs i past) in
+      let none : drop i needs ≡ [] = drop_all i needs past in
+      let whole : a ≡ total needs = ap total (take_all i needs past) in
       let second : first_quantity (drop j supplies) ≡ s.quantity = first_at supplies j e there in
       let after : before supplies (j + 1) ≡ b + s.quantity = before_next supplies j e there in
       let supply : a ≤ b + s.quantity = omega (arith, here.supply_ends there, second) in
@@ -229,5 +217,5 @@ pub at_end : {A B C : Type 0} (f : Match A B → C) (needs : List (Amount A)) (s
 at_end {B = B} f needs supplies seen i j wanted offered here past =
     sym (append-nil seen)
     ∙ ap (λ l. seen ++ map f l) (sym (none_left {B = B} (before needs i) (drop i needs) (before supplies j) (total needs)))
-    ∙ ap (λ l. seen ++ map f (rest_of (before needs i) (drop i needs) (before supplies j) l (total needs))) (sym (drop_end supplies j past))
+    ∙ ap (λ l. seen ++ map f (rest_of (before needs i) (drop i needs) (before supplies j) l (total needs))) (sym (drop_all j supplies past))
     ∙ here.told

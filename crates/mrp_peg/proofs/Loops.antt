@@ -3,7 +3,7 @@ use Rattle.std.proofs.Common.{◌≡◌, ◌≢◌, ◌∙◌, ℕ, zero, suc, �
 use Rattle.std.specs.Prelude.{flat_map, nat_le, All, ◌==◌}
 use Rattle.mrp_qty.specs.Quantity.{greatest_quantity, quantity_of}
 use Rattle.std.specs.Int.{IsInRange}
-use Rattle.std.specs.List.{enumerate_from, range_with_len}
+use Rattle.std.specs.List.{enumerate_from}
 use Rattle.std.specs.Option.{IsSome}
 use Rattle.std.proofs.lemmas.Bool.{eqb-true, eqb-false, eq-eqb, ne_eqb, le-leb}
 use Rattle.std.proofs.lemmas.List.{map-append, append-nil}
@@ -79,18 +79,3 @@ less_booked demand left bookings k b at here less h is within on so_far there to
     ∙ with_week-row (beyond demand (take k bookings)) (beyond demand (take (k + 1) bookings)) (length demand) b.week less (omega (arith, within.0)) within.1
     (omega (arith, told, own, was, more b.week, whole))
     (λ other no. let none : one_due other b ≡ 0 = ap (λ t. cond t b.quantity 0) (ne_eqb b.week other (λ e. no (sym e))) in omega (arith, more other, none))
-
-more_from : (a n : ℕ) → range_with_len a (n + 1) ≡ range_with_len a n ++ (a + n) ∷ []
-more_from a zero =
-    let plain : a ≡ a + 0 = omega arith in
-    ap (λ k. k ∷ []) plain
-more_from a (suc n) =
-    let next : suc n + 1 ≡ suc (n + 1) = omega arith in
-    let last : a + 1 + n ≡ a + suc n = omega arith in
-    ap (range_with_len a) next ∙ ap (λ l. a ∷ l) (more_from (a + 1) n) ∙ ap (λ k. a ∷ (range_with_len (a + 1) n ++ k ∷ [])) last
-
--- one more number
-pub range_more : (n : ℕ) → range_with_len 0 (n + 1) ≡ range_with_len 0 n ++ n ∷ []
-range_more n =
-    let plain : 0 + n ≡ n = omega arith in
-    more_from 0 n ∙ ap (λ k. range_with_len 0 n ++ k ∷ []) plain

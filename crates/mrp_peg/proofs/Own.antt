@@ -1,23 +1,24 @@
 -- What a planned item's plan is, and that its sums are within the greatest quantity.
-use Rattle.std.proofs.Common.{◌≡◌, ◌∙◌, ℕ, zero, suc, max, [], ◌∷◌, ◌+◌, ◌-◌, ◌*◌, ◌<◌, ◌≤◌, Bool, true, false, cond, List, length, refl, sym, ap, subst, arith}
+use Rattle.std.proofs.Common.{◌≡◌, ◌∙◌, ℕ, zero, suc, max, [], ◌∷◌, ◌+◌, ◌-◌, ◌*◌, ◌<◌, ◌≤◌, Bool, true, false, cond, Option, Some, None, Ok, List, map, length, refl, sym, ap, subst, arith}
 use Rattle.std.specs.Prelude.{◌||◌, if◌then◌else◌, nat_lt, sum, sum_by, All}
 use Rattle.std.specs.List.{list_all}
 use Rattle.std.specs.Int.{IsInRange}
 use Rattle.std.proofs.lemmas.Bool.{ltb-false}
+use Rattle.std.proofs.lemmas.List.Elements.{All-append, All-map}
 use Rattle.mrp_qty.specs.Quantity.{greatest_quantity}
 use Rattle.mrp_bill.specs.Bill.{parents_of}
 use Rattle.mrp_phase.specs.Weeks.{in_week, row, sum_to}
 use Rattle.mrp_phase.proofs.WeekRows.{length-row, sum_to_whole}
 use Rattle.mrp_item.specs.declared.order.Order.{Order}
-use Rattle.mrp_item.specs.Inputs.{Inputs, count, horizon, item_at}
+use Rattle.mrp_item.specs.Inputs.{Inputs, count, horizon, item_at, places}
 use Rattle.mrp_item.specs.Rows.{firm_rows, stock_of}
 use Rattle.mrp_item.specs.declared.order.OrderKind.TheVariants.{Firm, Planned as Made}
 use Rattle.mrp_tables.specs.declared.rows.MasterRow.{MasterRow}
 use Rattle.mrp_item.specs.Orders.{firm_orders, order_of, orders_due, orders_of, planned_order}
 use Rattle.mrp_peg.specs.Own.{IsOwn, own_gross}
-use Rattle.mrp_peg.proofs.Lists.{All-join, All-map_from, All-weeks}
-use Rattle.mrp_item.specs.Plan.{IsRanked, ItemPlan, Outcome, Planned, Over, Blocked, gross_in, is_planned, is_too_large, item_plan, outcome_of, plan_in, receipts_of}
-use Rattle.mrp_item.proofs.Outcomes.{outcome_of-unfolds}
+use Rattle.mrp_peg.proofs.Lists.{All-weeks}
+use Rattle.mrp_item.specs.Plan.{HasParents, IsRanked, ItemPlan, Outcome, Planned, Over, Blocked, first_over, gross_in, is_planned, is_too_large, item_plan, outcome_of, plan_in, plan_of, plan_unless, receipts_of}
+use Rattle.mrp_item.proofs.Outcomes.{all-planned, outcome_of-unfolds}
 use Rattle.mrp_item.proofs.OrderWeeks.{due-within}
 
 stepped : (b t : Bool) (p plan : ItemPlan) → (if b then (if t then Over else Planned p) else Blocked) ≡ Planned plan → (t ≡ false) × (p ≡ plan)
@@ -30,6 +31,15 @@ own s i code plan ranked e =
     let p : ItemPlan = item_plan s i (own_gross s i) in
     let is = stepped (list_all (λ q. is_planned (outcome_of s q)) (parents_of s.tables.bills (count s) i)) (is_too_large s i p) p plan (sym (outcome_of-unfolds s code ranked i) ∙ e) in
     record { plan = ap plan_in e ∙ sym is.1; small = is.0 }
+
+none-over : (first : Option ℕ) (plans all : List ItemPlan) → plan_unless first all ≡ Ok plans → first ≡ None
+none-over None plans all e = refl
+none-over (Some i) plans all e = absurd (cc)
+
+-- each item of a plan of all is planned
+pub own-of_all : (s : Inputs) (i : ℕ) (code : ℕ → ℕ) (plans : List ItemPlan) → IsRanked s code → HasParents s → plan_of s ≡ Ok plans → i < count s → IsOwn s i
+own-of_all s i code plans ranked has e within =
+    own s i code (plan_in (outcome_of s i)) ranked (all-planned s code ranked has (none-over (first_over s) plans (map (λ j. plan_in (outcome_of s j)) (places s)) e) i within)
 
 one_of : (a b c : Bool) → (a || (b || c)) ≡ false → a ≡ false
 one_of true b c e = e
@@ -53,8 +63,8 @@ gross-own s i is = ap (λ (p : ItemPlan). p.gross) is.plan
 
 release_at : (s : Inputs) (i : ℕ) (receipts : List ℕ) (w n : ℕ) → 1 ≤ w → w ≤ n → All (λ (o : Order). IsInRange 1 n o.release) (orders_due s i receipts w)
 release_at s i receipts w n low high =
-    All-join IsReleased (firm_orders s i w) (planned_order (item_at s i) w (in_week receipts (w - 1)) (in_week receipts w))
-    (All-map_from IsReleased (λ (r : MasterRow). order_of (item_at s i) Firm w r.quantity) (firm_rows s i w) (λ k d h. within (item_at s i).lead))
+    All-append IsReleased (firm_orders s i w) (planned_order (item_at s i) w (in_week receipts (w - 1)) (in_week receipts w))
+    (All-map IsReleased (λ (r : MasterRow). order_of (item_at s i) Firm w r.quantity) (firm_rows s i w) (λ k d h. within (item_at s i).lead))
     (by (nat_lt (in_week receipts (w - 1)) (in_week receipts w)))
   where
     IsReleased : Order → Type 0

@@ -4,4 +4,7 @@ pub mod Weekly
 pub mod Pegging
 pub mod Rows
 pub mod Own
+pub mod Causes
+pub mod Walk
+pub mod Ends
 pub mod Laws

@@ -1,6 +1,6 @@
 //! What the bookings and the forecasts of a master item need.
 
-ghost use Rattle.std.specs.Prelude.{◌≡◌, ◌≤◌, ◌++◌, ◌∷◌, [], length, map, nat_lt, flat_map, if◌then◌else◌, All, IfOk, OnOk};
+ghost use Rattle.std.specs.Prelude.{◌≡◌, ◌++◌, ◌∷◌, [], length, map, nat_lt, flat_map, if◌then◌else◌, All, IfOk, OnOk};
 ghost use Rattle.std.specs.Int.{IsInRange};
 ghost use Rattle.mrp_phase.specs.Weeks.{row, weeks};
 ghost use Rattle.mrp_peg.specs.Rows.{beyond, booking_wanted, forecast_wanted};
@@ -71,31 +71,37 @@ fn add_forecast(
 }
 
 // Adds what the forecast of each week needs, from what it has beyond the bookings.
-fn add_forecasts(needs: &mut Vec<Wanted>, item: usize, left: &[Qty]) -> Result<(), NoMemory>
-    requires { length left.now ≤ 104 }
-    ensures { OnOk result (needs.new.items ≡ needs.old.items ++ flat_map (forecast_wanted item left.now) (weeks (length left.now))) }
+fn add_forecasts(
+    needs: &mut Vec<Wanted>,
+    item: usize,
+    horizon: u16,
+    left: &[Qty],
+) -> Result<(), NoMemory>
+    requires { length left.now ≡ horizon }
+    ensures { OnOk result (needs.new.items ≡ needs.old.items ++ flat_map (forecast_wanted item left.now) (weeks horizon)) }
 {
-    for place in 0..left.len() as u16 {
+    for place in 0..horizon {
         add_forecast(needs, item, place + 1, left[usize::from(place)])?;
     }
     Ok(())
 }
 
-// What bookings and forecasts need of a master item, given its demand by week: the bookings by
-// number, then the forecasts by week.
+// What bookings and forecasts need of a master item, given the weeks of the horizon and its demand
+// in each: the bookings by number, then the forecasts by week.
 pub fn demand_of(
     alloc: Global,
     item: usize,
+    horizon: u16,
     demand: &[Qty],
     bookings: &[Due],
 ) -> Result<Vec<Wanted>, NoMemory>
-    requires weeks { length demand.now ≤ 104 }
+    requires weeks { length demand.now ≡ horizon }
     requires within { All (λ due. IsInRange 1 (length demand.now) due.week) bookings.now }
-    ensures { IfOk result (λ needs. needs.items ≡ map (booking_wanted item) bookings.now ++ flat_map (forecast_wanted item (row (length demand.now) (beyond demand.now bookings.now))) (weeks (length demand.now))) }
+    ensures { IfOk result (λ needs. needs.items ≡ map (booking_wanted item) bookings.now ++ flat_map (forecast_wanted item (row (length demand.now) (beyond demand.now bookings.now))) (weeks horizon)) }
 {
     let mut needs = Vec::new(alloc);
     add_bookings(&mut needs, item, bookings)?;
     let left = left_over(alloc, demand, bookings)?;
-    add_forecasts(&mut needs, item, left.as_slice())?;
+    add_forecasts(&mut needs, item, horizon, left.as_slice())?;
     Ok(needs)
 }

@@ -1,4 +1,4 @@
-//! Pegging: what each requirement of an item is served by.
+//! Pegging: what each requirement of an item is served by, and what a requirement goes back to.
 #![tactic(auto)]
 
 mod demand;
@@ -8,7 +8,12 @@ mod ordering;
 mod parents;
 mod peg;
 mod pegging;
+mod sourcing;
+mod tracing;
+mod walking;
 
 pub use mrp_item::Supplied;
-pub use peg::{Need, NeedKind, Peg};
+pub use peg::{Cause, Need, NeedKind, Peg};
 pub use pegging::{item_pegs, pegs};
+pub use sourcing::sources;
+pub use tracing::trace;

@@ -44,7 +44,7 @@ fn add_line(
 }
 
 // The line at a place of the bill table.
-fn line_of(bills: &[BillLine], place: usize) -> BillLine
+pub fn line_of(bills: &[BillLine], place: usize) -> BillLine
     requires { place < length bills.now }
     ensures { result ≡ line_at bills.now place }
 {

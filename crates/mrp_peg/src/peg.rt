@@ -42,3 +42,29 @@ pub struct Peg {
     /// The pieces, at least 1.
     pub quantity: Qty,
 }
+
+/// What the sources of a requirement end in (profile).
+#[derive(Clone, Copy, Debug, PartialEq, Eq, Hash)]
+pub enum Cause {
+    /// A booking.
+    Booking {
+        /// The item, by its place.
+        item: usize,
+        /// The booking's number.
+        number: u64,
+    },
+    /// The forecast of a week, as far as it is above the bookings.
+    Forecast {
+        /// The item, by its place.
+        item: usize,
+        /// The week.
+        week: u16,
+    },
+    /// Pieces of an order that no requirement takes.
+    Surplus {
+        /// The item, by its place.
+        item: usize,
+        /// The order, by its number from 1.
+        order: usize,
+    },
+}

@@ -38,24 +38,28 @@ fn listed_needs(alloc: Global, plan: &Plan, item: usize) -> Result<Vec<Wanted>, 
     ensures sized { IsSized (item_at plan.now.inputs item).lot }
 {
     let inputs: &Inputs = plan.inputs();
-    let _weeks = inputs.weeks();
     if is_master_item(inputs, item) {
         let demand = plan.item(item).gross();
-        demand_of(alloc, item, demand.as_slice(), inputs.bookings(item))
+        demand_of(
+            alloc,
+            item,
+            inputs.weeks(),
+            demand.as_slice(),
+            inputs.bookings(item),
+        )
     } else {
         parents_of(alloc, plan, item)
     }
 }
 
 // The requirements of an item, in order. The item's supplies cover them.
-fn needs_of(alloc: Global, plan: &Plan, item: usize) -> Result<Vec<Wanted>, NoMemory>
+pub fn needs_of(alloc: Global, plan: &Plan, item: usize) -> Result<Vec<Wanted>, NoMemory>
     requires { item < count plan.now.inputs }
     ensures needs { IfOk result (λ needs. amounts_wanted needs.items ≡ requirements plan.now.inputs item) }
     ensures covered { OnOk result (total (requirements plan.now.inputs item) ≤ total (supplies plan.now.inputs item)) }
 {
     let inputs: &Inputs = plan.inputs();
-    let _weeks = inputs.weeks();
-    let _planned = plan.item(item).inputs();
+    // Codes rank the items, and what is booked is due in weeks of the horizon.
     let _ranked = inputs.shop();
     let _booked = inputs.snapshot();
     let mut needs = listed_needs(alloc, plan, item)?;

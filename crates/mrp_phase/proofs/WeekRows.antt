@@ -1,5 +1,5 @@
 -- Rows that grow by a week.
-use Rattle.std.proofs.Common.{◌≡◌, ◌∙◌, ℕ, zero, suc, ◌+◌, ◌<◌, ◌≤◌, max, List, [], ◌∷◌, ◌++◌, refl, ap, sym, arith, take, length, get_or, set, take_all, ◌-◌, ◌≢◌, get_or-set_same, get_or-set_other, length-set, ext_get_or, Bool, true, false, eqb}
+use Rattle.std.proofs.Common.{◌≡◌, ◌∙◌, ℕ, zero, suc, ◌+◌, ◌<◌, ◌≤◌, max, List, [], ◌∷◌, ◌++◌, refl, ap, sym, arith, take, length, get_or, set, take_all, ◌-◌, ◌≢◌, get_or-set_same, get_or-set_other, length-set, ext_get_or, Bool, true, false, eqb, add-one}
 use Rattle.std.specs.Prelude.{sum, map, fold, replicate}
 use Rattle.std.specs.List.{range_with_len}
 use Rattle.std.proofs.lemmas.List.FromFn.{map-range_with_len_more, get_or-map-range_with_len, length-map-range_with_len}
@@ -51,7 +51,8 @@ sum_to_next xs t =
     let one_more : t + 1 ≡ suc t = omega arith in
     ap (λ n. sum (take n xs)) one_more ∙ take_past xs t ∙ ap (λ n. sum (take t xs) + n) (sym (in_week_next xs t))
 
-range_more : (a n : ℕ) → range_with_len a (suc n) ≡ range_with_len a n ++ (a + n) ∷ []
+-- one more number
+pub range_more : (a n : ℕ) → range_with_len a (suc n) ≡ range_with_len a n ++ (a + n) ∷ []
 range_more a zero = ap (λ (x : ℕ). x ∷ []) (omega arith)
 range_more a (suc n) =
     let last : a + 1 + n ≡ a + suc n = omega arith in
@@ -75,16 +76,13 @@ with_week_at xs (suc t) quantity a =
     rw back (unfold with_week in refl)
 
 -- one more week, by its number's constructor
-suc_is : (t : ℕ) → suc t ≡ t + 1
-suc_is t = omega arith
-
 pub weeks_more : (horizon : ℕ) → weeks (suc horizon) ≡ weeks horizon ++ suc horizon ∷ []
 weeks_more horizon =
     let next : 1 + horizon ≡ suc horizon = omega arith in
     range_more 1 horizon ∙ ap (λ (week : ℕ). weeks horizon ++ week ∷ []) next
 
 pub sum_to_suc : (xs : List ℕ) (t : ℕ) → sum_to xs (suc t) ≡ sum_to xs t + in_week xs (suc t)
-sum_to_suc xs t = ap (sum_to xs) (suc_is t) ∙ sum_to_next xs t ∙ ap (λ n. sum_to xs t + in_week xs n) (sym (suc_is t))
+sum_to_suc xs t = ap (sum_to xs) (sym (add-one t)) ∙ sum_to_next xs t ∙ ap (λ n. sum_to xs t + in_week xs n) (add-one t)
 
 -- sums do not fall
 pub sum_to_rises : (xs : List ℕ) (s t : ℕ) → s ≤ t → sum_to xs s ≤ sum_to xs t
@@ -101,7 +99,7 @@ sum_to_rises xs s t h =
         rw e (omega (arith, sum_to_suc xs (k + s), by k))
 
 pub greatest_suc : (f : ℕ → ℕ) (t : ℕ) → greatest_to f (suc t) ≡ max (greatest_to f t) (f (suc t))
-greatest_suc f t = rw (suc_is t) (greatest_more f t)
+greatest_suc f t = rw (← add-one t) (greatest_more f t)
 
 -- the greatest does not fall
 rises_by : (f : ℕ → ℕ) (s k : ℕ) → greatest_to f s ≤ greatest_to f (k + s)

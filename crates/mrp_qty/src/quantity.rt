@@ -5,6 +5,9 @@ ghost use Rattle.mrp_qty.specs.Quantity.{greatest_quantity, multiple_of, quantit
 
 use std::marker::Model;
 
+/// The most scrap in a thousand.
+pub const MOST_SCRAP: u64 = 900;
+
 const GREATEST: u64 = 1_000_000_000_000_000;
 
 /// A quantity in whole pieces, from 0 to 10^15 (profile).
@@ -62,9 +65,9 @@ impl Qty {
     }
 
     /// What has to start so that this quantity is left after a scrap of so many per thousand, at
-    /// most 900 (Orlicky: scrap allowance; profile: rounded up); None past 10^15.
+    /// most `MOST_SCRAP` (Orlicky: scrap allowance; profile: rounded up); None past 10^15.
     pub fn start_for(self, scrap: u64) -> Option<Qty>
-        requires { scrap ≤ 900 }
+        requires { scrap ≤ MOST_SCRAP }
         ensures { result ≡ quantity_of (start_of scrap self) }
     {
         Qty::new((self.value() * 1000).div_ceil(1000 - scrap))

@@ -7,7 +7,7 @@ use Rattle.std.specs.Io.KnownBytes.{Appends}
 use Rattle.mrp_rows.specs.declared.told.Told.{Told}
 use Rattle.mrp_rows.specs.Told.{inner_of, failures_of, interrupted_of, HasRisenBy}
 use Rattle.mrp_rows.specs.Streams.{RisesBy}
-use Rattle.mrp_report.specs.Written.{HasTaken, HasTakenFront, HasTakenWhole, HasGivenUp, PassesOn}
+use Rattle.mrp_report.specs.Written.{HasTaken, HasTakenFront, HasTakenWhole, HasGivenUp, HasGoneOn, PassesOn}
 
 appends-none : (a : Option (List ℕ)) → Appends a a []
 appends-none None = tt
@@ -35,14 +35,16 @@ pub record IsWritten {W : Type 0} (contents : W → Option (List ℕ)) (start no
   pub taken : HasTaken contents start now passed (first - tries)
   pub within : tries ≤ first
 
-taken-none : {W : Type 0} (contents : W → Option (List ℕ)) (w : Told W) → HasTaken contents w w [] 0
+-- nothing is taken yet
+pub taken-none : {W : Type 0} (contents : W → Option (List ℕ)) (w : Told W) → HasTaken contents w w [] 0
 taken-none contents w = record {
   bytes = appends-none (contents (inner_of w));
   failures = refl;
   interrupted = rises-none (interrupted_of w);
 }
 
-taken-both : {W : Type 0} (contents : W → Option (List ℕ)) (a b c : Told W) (s t : List ℕ) (m n : ℕ) → HasTaken contents a b s m → HasTaken contents b c t n → HasTaken contents a c (s ++ t) (m + n)
+-- a text is taken, and then one more
+pub taken-both : {W : Type 0} (contents : W → Option (List ℕ)) (a b c : Told W) (s t : List ℕ) (m n : ℕ) → HasTaken contents a b s m → HasTaken contents b c t n → HasTaken contents a c (s ++ t) (m + n)
 taken-both contents a b c s t m n p q = record {
   bytes = appends-both (contents (inner_of a)) (contents (inner_of b)) (contents (inner_of c)) s t p.bytes q.bytes;
   failures = q.failures ∙ p.failures;
@@ -117,6 +119,15 @@ given-up contents start now then first tries page text w (inr more) =
     let tried : first - tries + (tries + 1) ≡ first + 1 = omega (arith, w.within) in
     inr (subst (λ (n : ℕ). HasRisenBy n (interrupted_of start) (interrupted_of then)) tried
     (risen-after (first - tries) (tries + 1) (interrupted_of start) (interrupted_of now) (interrupted_of then) w.taken.interrupted more))
+
+-- a writer that took what was passed on has gone on
+pub gone-on : {W : Type 0} (contents : W → Option (List ℕ)) (start now : Told W) (first tries : ℕ) (page text : List ℕ) → IsWritten contents start now first tries page text → HasGoneOn start now first
+gone-on contents start now first tries page text w = (w.taken.failures, omega (arith, w.taken.interrupted.1, w.within))
+
+-- a writer that went on in the last part went on in the whole
+pub gone-on-then : {W : Type 0} (contents : W → Option (List ℕ)) (start now then : Told W) (first tries : ℕ) (page text : List ℕ) → IsWritten contents start now first tries page text
+    → HasGoneOn now then tries → HasGoneOn start then first
+gone-on-then contents start now then first tries page text w last = (last.0 ∙ w.taken.failures, omega (arith, w.taken.interrupted.1, w.within, last.1))
 
 -- so far a section's text is passed on, and the rest of it left on the page
 pub passes-on : {W : Type 0} (contents : W → Option (List ℕ)) (start now : Told W) (first tries : ℕ) (page text : List ℕ) → IsWritten contents start now first tries page text → PassesOn contents start now text page (first - tries)

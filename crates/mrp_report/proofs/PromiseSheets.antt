@@ -5,8 +5,8 @@ use Rattle.std.specs.List.{flat_map}
 use Rattle.mrp_phase.specs.Weeks.{in_week, row, sum_to}
 use Rattle.mrp_phase.proofs.WeekRows.{in_week_row, length-row}
 use Rattle.mrp_master.specs.Supply.{IsMaster, IsSupply, IsWeek, least_from, supply_of, uncommitted}
-use Rattle.mrp_master.specs.AtpRow.{AtpRow, atp_row, bucket, due_in, opening}
-use Rattle.mrp_master.proofs.ItemRows.{booked_to, firm_from_first, supplied_to}
+use Rattle.mrp_master.specs.AtpRow.{AtpRow, IsAtpRow, atp_row, bucket, buckets_to, due_in, opening}
+use Rattle.mrp_master.proofs.ItemRows.{booked_to, firm_from_first, is_row, supplied_to}
 use Rattle.mrp_book.proofs.Entries.{from_first}
 use Rattle.mrp_book.specs.Booked.{AreBooked}
 use Rattle.mrp_book.specs.Bookings.{lines_of}
@@ -15,18 +15,19 @@ use Rattle.mrp_item.specs.Rows.{booked, firm_rows, open_receipts, scheduled_in}
 use Rattle.mrp_report.specs.declared.promises.PromiseRow.{PromiseRow}
 use Rattle.mrp_report.specs.declared.promise_sheet.PromiseSheet.{PromiseSheet}
 use Rattle.mrp_report.specs.PromiseRows.{available, promise_row, promises_of}
-use Rattle.mrp_report.specs.PromiseSheet.{IsPromiseSheet, available_in, sheet_promise, uncommitted_in}
+use Rattle.mrp_report.specs.PromiseSheet.{IsPromiseSheet, sheet_promise}
 use Rattle.mrp_report.specs.PromiseText.{promise_text}
 use Rattle.mrp_report.specs.ReportText.{promised_text}
 use Rattle.mrp_report.proofs.PlanSheets.{row_same}
-use Rattle.mrp_report.proofs.PromiseSums.{least-from-same}
-use Rattle.mrp_report.proofs.PromiseBookings.{booked-is}
+use Rattle.mrp_report.proofs.PromiseSums.{available-left, least-from-same, least_in, uncommitted_in}
+use Rattle.mrp_report.proofs.PromiseBookings.{booked-is, is-master}
 
 -- a sheet that has what stands of a master item
 pub record IsPromiseSheetOf (sheet : PromiseSheet) (s : Inputs) (i : ℕ) : Type 0 where
   pub weeks_are : sheet.weeks ≡ horizon s
   pub firm_is : sheet.firm.now ≡ row (horizon s) (scheduled_in s i)
   pub row_is : sheet.row.now ≡ promises_of s i
+  pub within : i < count s
   pub master : IsTrue (is_master s i)
   pub supplied : IsSupply (supply_of s.tables)
   pub stands : AreBooked (supply_of s.tables) s.standing
@@ -47,12 +48,15 @@ firm-is s i week = by (is_master s i)
     by true h = λ j. sum_by (λ r. r.quantity) (firm_rows s i week)
     by false h = absurd (cc)
 
--- what is available in the row is what is available of the item
-pub available-of : (s : Inputs) (i week : ℕ) → IsSupply (supply_of s.tables) → AreBooked (supply_of s.tables) s.standing → 1 ≤ week → week ≤ horizon s
-    → available_in (promises_of s i) week ≡ available s i week
-available-of s i week supplied stands first last =
+-- what is left in the row's buckets up to a week is what is available of the item
+pub available-of : (s : Inputs) (i week : ℕ) → i < count s → IsTrue (is_master s i) → IsSupply (supply_of s.tables) → AreBooked (supply_of s.tables) s.standing → 1 ≤ week → week ≤ horizon s
+    → buckets_to (promises_of s i) week ≡ available s i week
+available-of s i week within master supplied stands first last =
     let size : length (promises_of s i).supply ≡ horizon s = length-row (opening (supply_of s.tables) i) (horizon s) in
-    ap (λ n. least_from (uncommitted_in (promises_of s i)) week (n - week)) size
+    let kept : IsAtpRow (promises_of s i) =
+    is_row (supply_of s.tables) supplied i (is-master s i within master) (lines_of s.standing) (from_first (supply_of s.tables) s.standing stands) stands.covered in
+    available-left (promises_of s i) kept week (first, omega (arith, last, size))
+    ∙ ap (λ n. least_from (uncommitted_in (promises_of s i)) week (n - week)) size
     ∙ least-from-same (uncommitted_in (promises_of s i)) (uncommitted (supply_of s.tables) (lines_of s.standing) i) (horizon s - week) week
     (λ t a b. omega (
       arith,
@@ -70,8 +74,8 @@ sheet-week sheet s i same t a b =
     ap (λ (xs : List ℕ). in_week xs t) same.firm_is ∙ in_week_row (scheduled_in s i) (horizon s) t a b ∙ firm-is s i t same.master in
     let booking : in_week sheet.row.now.booked t ≡ booked s i t =
     ap (λ (r : AtpRow). in_week r.booked t) same.row_is ∙ in_week_row (λ week. due_in i week (lines_of s.standing)) (horizon s) t a b ∙ booked-is s i t in
-    let promise : available_in sheet.row.now t ≡ available s i t =
-    ap (λ (r : AtpRow). available_in r t) same.row_is ∙ available-of s i t same.supplied same.stands (omega (arith, a)) b in
+    let promise : buckets_to sheet.row.now t ≡ available s i t =
+    ap (λ (r : AtpRow). buckets_to r t) same.row_is ∙ available-of s i t same.within same.master same.supplied same.stands (omega (arith, a)) b in
     λ j. record {
       week = t;
       firm = firm j;

@@ -1,15 +1,21 @@
 -- What is available in a row of promising is the least of what is uncommitted.
-use Rattle.std.proofs.Common.{◌≡◌, ◌≢◌, ◌∙◌, ℕ, zero, suc, ◌+◌, ◌-◌, ◌≤◌, ◌<◌, min, List, length, inl, inr, refl, sym, ap, subst, arith}
+use Rattle.std.proofs.Common.{◌≡◌, ◌∙◌, ℕ, zero, suc, ◌+◌, ◌-◌, ◌≤◌, ◌<◌, min, List, length, inl, inr, ap, subst, arith}
 use Rattle.std.proofs.lemmas.Bool.{cases_lt}
 use Rattle.mrp_phase.specs.Weeks.{in_week, row, sum_to, with_week}
-use Rattle.mrp_phase.proofs.WeekRows.{in_week_changed, in_week_kept, in_week_row, sum_to_suc}
+use Rattle.mrp_phase.proofs.WeekRows.{in_week_row, sum_to_suc}
 use Rattle.mrp_master.specs.Supply.{IsLeastFrom, least_from}
 use Rattle.mrp_master.specs.AtpRow.{AtpRow, IsAtpRow, IsAvailableIn, IsCoveredRow, IsWeekOf, bucket, buckets_to, with_booking}
 use Rattle.mrp_master.proofs.Available.{least_is}
-use Rattle.mrp_master.proofs.Carried.{buckets_available}
-use Rattle.mrp_report.specs.PromiseSheet.{available_in, uncommitted_in}
+use Rattle.mrp_master.proofs.Carried.{buckets_available, sum_before, sum_since}
 
 -- Least values.
+
+-- what is supplied up to a week in a row, less what is booked up to it
+abbrev pub uncommitted_in : AtpRow → ℕ → ℕ
+uncommitted_in r week = sum_to r.supply week - sum_to r.booked week
+
+abbrev pub least_in : AtpRow → ℕ → ℕ
+least_in r week = least_from (uncommitted_in r) week (length r.supply - week)
 
 pub is-least-from : (f : ℕ → ℕ) (week last : ℕ) → week ≤ last → IsLeastFrom f week last (least_from f week (last - week))
 is-least-from f week last within =
@@ -24,37 +30,21 @@ least-from-same f g (suc more) week same =
 
 -- Sums of a row with one more booking.
 
-sum-before : (xs : List ℕ) (week quantity t : ℕ) → t < week → sum_to (with_week xs week quantity) t ≡ sum_to xs t
-sum-before xs week quantity zero before = refl
-sum-before xs week quantity (suc t) before =
-    let other : suc t ≢ week = omega (arith, before) in
-    omega (arith, sum_to_suc (with_week xs week quantity) t, sum_to_suc xs t, in_week_kept xs week (suc t) quantity other, sum-before xs week quantity t (omega (arith, before)))
-
 sum-from : (xs : List ℕ) (week more t : ℕ) → 0 < week → week ≤ length xs → week ≤ t → sum_to (with_week xs week (in_week xs week + more)) t ≡ sum_to xs t + more
-sum-from xs week more zero first last from = absurd (omega (arith, first, from))
-sum-from xs week more (suc t) first last from = elim (cases_lt t week) [
-  | inl here ↦
-      let same : week ≡ suc t = omega (arith, here, from) in
-      let now : in_week (with_week xs week (in_week xs week + more)) (suc t) ≡ in_week xs (suc t) + more =
-      ap (in_week (with_week xs week (in_week xs week + more))) (sym same) ∙ in_week_changed xs week (in_week xs week + more) first last ∙ ap (λ n. in_week xs n + more) same in
-      omega (arith, sum_to_suc (with_week xs week (in_week xs week + more)) t, sum_to_suc xs t, now, sum-before xs week (in_week xs week + more) t here)
-  | inr later ↦
-      let other : suc t ≢ week = omega (arith, later) in
-      omega (arith, sum_to_suc (with_week xs week (in_week xs week + more)) t, sum_to_suc xs t, in_week_kept xs week (suc t) (in_week xs week + more) other, sum-from xs week more t first last later)
-]
+sum-from xs week more t first last from = omega (arith, sum_since xs week (in_week xs week + more) t first last from)
 
 module _ (r : AtpRow) (same : length r.booked ≡ length r.supply) (week : ℕ) (inside : IsWeekOf r week) where
   abbrev last : ℕ
   last = length r.supply
 
   abbrev lowest : ℕ
-  lowest = available_in r week
+  lowest = least_in r week
 
   least-of : IsLeastFrom (uncommitted_in r) week last lowest
   least-of = is-least-from (uncommitted_in r) week last inside.1
 
   -- what is available in a row is the least of what is uncommitted
-  pub available-is : (quantity : ℕ) → IsAvailableIn r week quantity → quantity ≡ available_in r week
+  pub available-is : (quantity : ℕ) → IsAvailableIn r week quantity → quantity ≡ least_in r week
   available-is quantity a =
       let from : (more t : ℕ) → week ≤ t → sum_to (with_booking r week more).booked t ≡ sum_to r.booked t + more =
       λ more t h. sum-from r.booked week more t inside.0 (omega (arith, inside.1, same)) h in
@@ -65,7 +55,7 @@ module _ (r : AtpRow) (same : length r.booked ≡ length r.supply) (week : ℕ) 
       let covered : IsCoveredRow (with_booking r week lowest) = λ t w. elim (cases_lt t week) [
         | inl before ↦
             let without : sum_to (with_booking r week quantity).booked t ≤ sum_to r.supply t = a.fits t w in
-            omega (arith, without, sum-before r.booked week (in_week r.booked week + quantity) t before, sum-before r.booked week (in_week r.booked week + lowest) t before)
+            omega (arith, without, sum_before r.booked week (in_week r.booked week + quantity) t before, sum_before r.booked week (in_week r.booked week + lowest) t before)
         | inr later ↦
             let with_it : sum_to (with_booking r week quantity).booked t ≤ sum_to r.supply t = a.fits t w in
             let low : lowest ≤ uncommitted_in r t = least-of.below t later w.1 in
@@ -75,7 +65,7 @@ module _ (r : AtpRow) (same : length r.booked ≡ length r.supply) (week : ℕ) 
       omega (arith, not_more, not_less)
 
 -- what is left in the buckets up to a week is what is available in it
-pub available-left : (r : AtpRow) → IsAtpRow r → (week : ℕ) → IsWeekOf r week → buckets_to r week ≡ available_in r week
+pub available-left : (r : AtpRow) → IsAtpRow r → (week : ℕ) → IsWeekOf r week → buckets_to r week ≡ least_in r week
 available-left r kept week inside = available-is r kept.same week inside (buckets_to r week) (buckets_available r kept.same kept.covered week inside)
 
 -- and in those up to the next week what its own holds more

@@ -12,6 +12,8 @@ pub mod OrderText
 pub mod PegText
 pub mod PegCells
 pub mod MessageText
+pub mod LoadText
+pub mod LoadRows
 pub mod HistoryText
 pub mod EntryCells
 pub mod PageWriter

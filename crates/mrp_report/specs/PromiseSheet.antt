@@ -1,12 +1,11 @@
 -- A master item's weeks, as its rows of promises are made of them.
-use Rattle.std.specs.Prelude.{ℕ, ◌≡◌, ◌≤◌, ◌-◌, ◌*◌, length}
+use Rattle.std.specs.Prelude.{ℕ, ◌≡◌, ◌≤◌, ◌*◌, length}
 use Rattle.mrp_cal.specs.declared.calendar.TheConstants.{MOST_WEEKS}
 use Rattle.mrp_qty.specs.Quantity.{greatest_quantity}
-use Rattle.mrp_phase.specs.Weeks.{in_week, sum_to}
-use Rattle.mrp_master.specs.AtpRow.{AtpRow, bucket, buckets_to}
+use Rattle.mrp_phase.specs.Weeks.{in_week}
+use Rattle.mrp_master.specs.AtpRow.{bucket, buckets_to}
 use Rattle.mrp_report.specs.declared.promises.PromiseRow.{PromiseRow}
 use Rattle.mrp_report.specs.declared.promise_sheet.PromiseSheet.{PromiseSheet}
-use Rattle.mrp_master.specs.Supply.{least_from}
 
 -- a sheet of at most two years, with a firm quantity, a supply and bookings for each week
 pub record IsPromiseSheet (s : PromiseSheet) : Type 0 where
@@ -20,19 +19,12 @@ pub record IsLeftTo (s : PromiseSheet) (week left : ℕ) : Type 0 where
   pub left_is : left ≡ buckets_to s.row.now week
   pub little : left ≤ week * greatest_quantity
 
--- what is supplied up to a week, less what is booked up to it
-abbrev pub uncommitted_in : AtpRow → ℕ → ℕ
-uncommitted_in r week = sum_to r.supply week - sum_to r.booked week
-
-abbrev pub available_in : AtpRow → ℕ → ℕ
-available_in r week = least_from (uncommitted_in r) week (length r.supply - week)
-
--- the row of a week
+-- the row of a week: what is available is what is left in the buckets up to it
 abbrev pub sheet_promise : PromiseSheet → ℕ → PromiseRow
 sheet_promise s week = record {
   week = week;
   firm = in_week s.firm.now week;
   booked = in_week s.row.now.booked week;
   bucket = bucket s.row.now week;
-  available = available_in s.row.now week;
+  available = buckets_to s.row.now week;
 }

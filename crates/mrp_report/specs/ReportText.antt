@@ -3,6 +3,7 @@ use Rattle.std.specs.Prelude.{ℕ, List, [], ◌++◌, if◌then◌else◌, leng
 use Rattle.std.specs.List.{enumerate_from}
 use Rattle.mrp_item.specs.Inputs.{Inputs, is_master, item_at, places}
 use Rattle.mrp_item.specs.Plan.{ItemPlan, outcome_of, plan_in}
+use Rattle.mrp_load.specs.Loads.{centre_at, centres}
 use Rattle.mrp_notes.specs.Messages.{messages_of}
 use Rattle.mrp_peg.specs.Pegging.{pegs_of}
 use Rattle.mrp_report.specs.RunText.{run_text}
@@ -13,6 +14,8 @@ use Rattle.mrp_report.specs.PlanRows.{plan_rows}
 use Rattle.mrp_report.specs.OrderText.{orders_head, order_text}
 use Rattle.mrp_report.specs.PegText.{peg_text, pegs_head}
 use Rattle.mrp_report.specs.MessageText.{messages_head, message_text}
+use Rattle.mrp_report.specs.LoadText.{load_text, loads_head}
+use Rattle.mrp_report.specs.LoadRows.{load_rows}
 
 -- the rows of an item in the section `promises`: a part has none
 abbrev pub promised_text : Inputs → ℕ → List ℕ
@@ -54,6 +57,14 @@ told_text s i plan = flat_map (message_text s.tables (item_at s i).name plan.ord
 unfoldable pub messages_text : Inputs → List ℕ
 messages_text s = messages_head ++ flat_map (λ i. told_text s i (plan_in (outcome_of s i))) (places s)
 
+-- the rows of a work centre in the section `loads`
+abbrev pub loaded_text : Inputs → ℕ → List ℕ
+loaded_text s centre = flat_map (load_text (centre_at s centre).name) (load_rows s centre)
+
+-- the section `loads`, with each work centre's rows in table order
+unfoldable pub loads_text : Inputs → List ℕ
+loads_text s = loads_head ++ flat_map (loaded_text s) (centres s)
+
 -- the report of a run, section by section
 unfoldable pub report_text : Inputs → List ℕ
-report_text s = run_text s.front (length s.standing) ++ promises_text s ++ plan_text s ++ orders_text s ++ pegs_text s ++ messages_text s
+report_text s = run_text s.front (length s.standing) ++ promises_text s ++ plan_text s ++ orders_text s ++ pegs_text s ++ messages_text s ++ loads_text s

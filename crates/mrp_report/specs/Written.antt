@@ -21,6 +21,10 @@ abbrev pub HasGivenUp : {W : Type 0} → Told W → Told W → ℕ → Type 0
 HasGivenUp old new tries =
     HasRisenBy 1 (failures_of old) (failures_of new) ⊎ HasRisenBy (tries + 1) (interrupted_of old) (interrupted_of new)
 
+-- a writer did not fail, and was interrupted no more often than writes may be tried again
+abbrev pub HasGoneOn : {W : Type 0} → Told W → Told W → ℕ → Type 0
+HasGoneOn old new tries = (failures_of new ≡ failures_of old) × (interrupted_of new ≤ interrupted_of old + tries)
+
 -- a page's text is passed on to a writer, or a front of it, and the rest is left on the page
 pub record PassesOn {W : Type 0} (contents : W → Option (List ℕ)) (old new : Told W) (page left : List ℕ) (retried : ℕ) : Type 0 where
   pub passed : List ℕ

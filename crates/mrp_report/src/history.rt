@@ -4,7 +4,7 @@ ghost use Rattle.std.specs.Prelude.{◌≡◌, ◌++◌, [], Err, None, OnOk, On
 ghost use Rattle.mrp_master.specs.Supply.{supply_of};
 ghost use Rattle.mrp_report.specs.HistoryText.{call_cells, entry_text, history_head, history_text, reply_cells};
 ghost use Rattle.mrp_report.specs.EntryCells.{called_cells, replied_cells};
-ghost use Rattle.mrp_report.specs.Written.{HasGivenUp, HasTakenFront, HasTakenWhole};
+ghost use Rattle.mrp_report.specs.Written.{HasGivenUp, HasGoneOn, HasTakenFront, HasTakenWhole};
 
 use crate::cell::{item_name, number_cell};
 use crate::fault::ReportFault;
@@ -13,7 +13,7 @@ use itoa::Buffer;
 use mrp_bill::Shop;
 use mrp_book::{Call, Entry, History, Reply};
 use mrp_qty::NoMemory;
-use mrp_rows::{Told, Tries};
+use mrp_rows::{Told, Tries, WRITE_TRIES};
 use mrp_tables::Tables;
 use std::alloc::Global;
 use std::io::Write;
@@ -153,8 +153,8 @@ fn entry_row(
 /// Writes the section `history`: a row for each entry of the order book of an equal shop.
 ///
 /// An interrupted write is tried again, at most 1,000,000 times. Errors: `Write` where a write failed
-/// in this call or was interrupted more often, and `NoMemory` where a growth of memory was refused.
-/// A front of the text was written then.
+/// in this call or was interrupted more often, and `NoMemory` where a growth of memory was refused
+/// and neither was so. A front of the text was written then.
 pub fn write_history<W: Write>(
     alloc: Global,
     history: &History,
@@ -164,7 +164,8 @@ pub fn write_history<W: Write>(
     requires { history.now.supply ≡ supply_of shop.now.tables }
     ensures whole { OnOk result (HasTakenWhole W.contents writer.old writer.new (history_text shop.now.tables history.now.entries)) }
     ensures front { OnErr result (HasTakenFront W.contents writer.old writer.new (history_text shop.now.tables history.now.entries)) }
-    ensures refused { result ≡ Err ReportFault.Write → HasGivenUp writer.old writer.new 1000000 }
+    ensures refused { result ≡ Err ReportFault.Write → HasGivenUp writer.old writer.new WRITE_TRIES }
+    ensures memory { result ≡ Err ReportFault.NoMemory → HasGoneOn writer.old writer.new WRITE_TRIES }
 {
     let tables = shop.tables();
     let mut tries = Tries::new();

@@ -2,11 +2,14 @@
 #![tactic(auto)]
 
 mod cell;
+mod centre;
 mod fault;
 mod history;
 mod item;
 pub mod laws;
+mod loads;
 mod messages;
+mod minutes;
 mod orders;
 mod page;
 mod pegs;

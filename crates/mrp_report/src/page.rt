@@ -3,7 +3,7 @@
 ghost use Rattle.std.specs.Prelude.{◌≡◌, ◌≤◌, ◌-◌, [], ◌∷◌, ◌++◌, codes, Err, OnOk, OnErr, IfOk, map};
 ghost use Rattle.mrp_report.specs.Section.{row, section_head};
 ghost use Rattle.mrp_report.specs.PageWriter.{IsFresh};
-ghost use Rattle.mrp_report.specs.Written.{HasTaken, HasTakenFront, HasGivenUp, PassesOn};
+ghost use Rattle.mrp_report.specs.Written.{HasTaken, HasTakenFront, HasGivenUp, HasGoneOn, PassesOn};
 
 use crate::fault::ReportFault;
 use csv::{Writer, WriterBuilder};
@@ -116,8 +116,8 @@ impl Page {
     /// Writes the text, and goes on with an empty page in its memory.
     ///
     /// Errors: `Write` where a write failed in this call, or was interrupted with no try left, and
-    /// `NoMemory` where a growth of memory was refused, here or before. A front of the text was
-    /// written then.
+    /// `NoMemory` where a growth of memory was refused, here or before, and no write failed. A front
+    /// of the text was written then.
     pub(crate) fn hand_over<W: Write>(
         &mut self,
         writer: &mut Told<W>,
@@ -128,6 +128,7 @@ impl Page {
         ensures empty { OnOk result (self.new ≡ []) }
         ensures front { OnErr result (HasTakenFront W.contents writer.old writer.new self.old) }
         ensures refused { result ≡ Err ReportFault.Write → HasGivenUp writer.old writer.new tries.old }
+        ensures memory { result ≡ Err ReportFault.NoMemory → HasGoneOn writer.old writer.new tries.old }
     {
         write_text(writer, self.text()?, tries)?;
         self.clear();
@@ -144,6 +145,7 @@ impl Page {
         ensures tries { tries.new ≤ tries.old }
         ensures front { OnErr result (HasTakenFront W.contents writer.old writer.new self.old) }
         ensures refused { result ≡ Err ReportFault.Write → HasGivenUp writer.old writer.new tries.old }
+        ensures memory { result ≡ Err ReportFault.NoMemory → HasGoneOn writer.old writer.new tries.old }
     {
         if self.is_full() {
             self.hand_over(writer, tries)

@@ -1,11 +1,15 @@
-//! The sections of a report that go over the items.
+//! The sections of a report that go over the items or the work centres.
 
 ghost use Rattle.std.specs.Prelude.{◌≡◌, ◌<◌, ◌++◌, IfOk, OnOk};
 ghost use Rattle.mrp_master.specs.Supply.{supply_of};
 ghost use Rattle.mrp_item.specs.Inputs.{count};
-ghost use Rattle.mrp_report.specs.Sections.{head_of, rows_of};
+ghost use Rattle.mrp_report.specs.ReportText.{ordered_text, pegged_text, told_text};
+ghost use Rattle.mrp_item.specs.Plan.{outcome_of, plan_in};
+ghost use Rattle.mrp_report.specs.Sections.{count_in, head_of, rows_of};
 
+use crate::centre::centre_rows;
 use crate::item::{entry_of, item_rows};
+use crate::loads::loads_section;
 use crate::messages::{message_rows, messages_section};
 use crate::orders::{order_rows, orders_section};
 use crate::page::Page;
@@ -14,14 +18,16 @@ use crate::plan::plan_section;
 use crate::promise_item::item_promises;
 use crate::promises::promises_section;
 use crate::shop_names::ShopNames;
-use mrp_item::{Inputs, Plan};
+use mrp_item::{Plan, Planned};
+use mrp_load::{LoadTable, loads};
 use mrp_master::Supply;
 use mrp_notes::item_messages;
 use mrp_peg::item_pegs;
 use mrp_qty::NoMemory;
 use std::alloc::Global;
+use std::thread::Threads;
 
-// A section with rows for each item.
+// A section with rows for each item, or for each work centre.
 #[derive(Clone, Copy)]
 pub(crate) enum Section {
     Promises,
@@ -29,35 +35,98 @@ pub(crate) enum Section {
     Orders,
     Pegs,
     Messages,
+    Loads,
 }
 
 // These sections, in the order in which a report has them.
-pub(crate) const SECTIONS: [Section; 5] = [
+pub(crate) const SECTIONS: [Section; 6] = [
     Section::Promises,
     Section::Plan,
     Section::Orders,
     Section::Pegs,
     Section::Messages,
+    Section::Loads,
 ];
 
-// What sections read of a shop beside its plan: what promising reads, and what its tables call
-// things.
+// What sections read beside a plan: what promising reads of its shop, what the shop's tables call
+// things, and the loads of its work centres.
 #[derive(Drop)]
 pub(crate) struct Readings<'a> {
     supply: &'a Supply,
     names: ShopNames<'a>,
+    loads: LoadTable,
 }
 
 impl<'a> Readings<'a> {
-    pub(crate) fn of(alloc: Global, inputs: &'a Inputs) -> Result<Readings<'a>, NoMemory>
-        ensures supply { IfOk result (λ readings. readings.supply.now ≡ supply_of inputs.now.tables) }
-        ensures names { IfOk result (λ readings. readings.names.tables.now ≡ inputs.now.tables) }
+    pub(crate) fn of(
+        rt: &(impl Threads + Sync),
+        alloc: Global,
+        plan: &'a Plan,
+    ) -> Result<Readings<'a>, NoMemory>
+        ensures supply { IfOk result (λ readings. readings.supply.now ≡ supply_of plan.now.inputs.tables) }
+        ensures names { IfOk result (λ readings. readings.names.tables.now ≡ plan.now.inputs.tables) }
+        ensures loads { IfOk result (λ readings. readings.loads ≡ plan.now.inputs) }
     {
+        let inputs = plan.inputs();
         Ok(Readings {
             supply: inputs.rows().supply(),
             names: ShopNames::of(alloc, inputs.shop().tables())?,
+            loads: loads(rt, alloc, plan)?,
         })
     }
+}
+
+// Adds an item's rows of the section `orders`.
+fn ordered_rows(page: &mut Page, planned: &Planned) -> Result<(), NoMemory>
+    ensures { OnOk result (page.new ≡ page.old ++ ordered_text planned.now.inputs planned.now.item planned.now.plan) }
+{
+    let entry = entry_of(planned);
+    order_rows(page, entry.name.as_bytes(), planned.orders())
+}
+
+// Adds an item's rows of the section `pegs`.
+fn pegged_rows(
+    alloc: Global,
+    page: &mut Page,
+    plan: &Plan,
+    names: &ShopNames<'_>,
+    item: usize,
+) -> Result<(), NoMemory>
+    requires names { names.now.tables.now ≡ plan.now.inputs.tables }
+    requires within { item < count plan.now.inputs }
+    ensures { OnOk result (page.new ≡ page.old ++ pegged_text plan.now.inputs item (plan_in (outcome_of plan.now.inputs item))) }
+{
+    let planned = plan.item(item);
+    let entry = entry_of(planned);
+    let pegs = item_pegs(alloc, plan, item)?;
+    peg_rows(
+        page,
+        names,
+        entry.name.as_bytes(),
+        planned.orders(),
+        pegs.as_slice(),
+    )
+}
+
+// Adds an item's rows of the section `messages`.
+fn told_rows(
+    alloc: Global,
+    page: &mut Page,
+    names: &ShopNames<'_>,
+    planned: &Planned,
+) -> Result<(), NoMemory>
+    requires { names.now.tables.now ≡ planned.now.inputs.tables }
+    ensures { OnOk result (page.new ≡ page.old ++ told_text planned.now.inputs planned.now.item planned.now.plan) }
+{
+    let entry = entry_of(planned);
+    let messages = item_messages(alloc, planned)?;
+    message_rows(
+        page,
+        names,
+        entry.name.as_bytes(),
+        planned.orders(),
+        messages.as_slice(),
+    )
 }
 
 impl Section {
@@ -71,50 +140,43 @@ impl Section {
             Section::Orders => orders_section(page),
             Section::Pegs => pegs_section(page),
             Section::Messages => messages_section(page),
+            Section::Loads => loads_section(page),
         }
     }
 
-    // Adds an item's rows. The readings are those of the plan's shop.
-    pub(crate) fn add_item(
+    // How many items or work centres it goes over.
+    pub(crate) fn count(self, plan: &Plan) -> usize
+        ensures { result ≡ count_in plan.now.inputs self }
+    {
+        let tables = plan.inputs().shop().tables();
+        match self {
+            Section::Loads => tables.centres().len(),
+            _ => tables.items().len(),
+        }
+    }
+
+    // Adds the rows of the item or work centre at a place. The readings are those of the plan.
+    pub(crate) fn add(
         self,
         alloc: Global,
         page: &mut Page,
         plan: &Plan,
         readings: &Readings<'_>,
-        item: usize,
+        place: usize,
     ) -> Result<(), NoMemory>
         requires supply { readings.now.supply.now ≡ supply_of plan.now.inputs.tables }
         requires names { readings.now.names.tables.now ≡ plan.now.inputs.tables }
-        requires within { item < count plan.now.inputs }
-        ensures { OnOk result (page.new ≡ page.old ++ rows_of plan.now.inputs self item) }
+        requires loads { readings.now.loads ≡ plan.now.inputs }
+        requires within { place < count_in plan.now.inputs self }
+        ensures { OnOk result (page.new ≡ page.old ++ rows_of plan.now.inputs self place) }
     {
-        let planned = plan.item(item);
-        let entry = entry_of(planned);
-        let name = entry.name.as_bytes();
         match self {
-            Section::Promises => item_promises(alloc, page, readings.supply, planned),
-            Section::Plan => item_rows(alloc, page, planned),
-            Section::Orders => order_rows(page, name, planned.orders()),
-            Section::Pegs => {
-                let pegs = item_pegs(alloc, plan, item)?;
-                peg_rows(
-                    page,
-                    &readings.names,
-                    name,
-                    planned.orders(),
-                    pegs.as_slice(),
-                )
-            }
-            Section::Messages => {
-                let messages = item_messages(alloc, planned)?;
-                message_rows(
-                    page,
-                    &readings.names,
-                    name,
-                    planned.orders(),
-                    messages.as_slice(),
-                )
-            }
+            Section::Promises => item_promises(alloc, page, readings.supply, plan.item(place)),
+            Section::Plan => item_rows(alloc, page, plan.item(place)),
+            Section::Orders => ordered_rows(page, plan.item(place)),
+            Section::Pegs => pegged_rows(alloc, page, plan, &readings.names, place),
+            Section::Messages => told_rows(alloc, page, &readings.names, plan.item(place)),
+            Section::Loads => centre_rows(page, plan, &readings.loads, place),
         }
     }
 }

@@ -27,6 +27,10 @@ after_header table (header ∷ records) =
 abbrev pub opened : Table → List ℕ → Result Left Fault
 opened table text = after_header table (records_of text)
 
+-- a table's record of this number has another count of cells than the table has columns
+abbrev pub columns_fault : Table → ℕ → Fault
+columns_fault table number = record { code = faults.COLUMNS; table = table; row = number }
+
 -- what a call returned is what reading gives, or memory was refused
 abbrev pub GivesUnless : {X : Type 0} → Fault → Result X Fault → Result X Fault → Type 0
 GivesUnless refused (Ok x) read = read ≡ Ok x
@@ -37,23 +41,61 @@ abbrev pub next_number : ℕ → ℕ
 next_number n = min (n + 1) 4294967295
 
 -- no record is left, for good
-abbrev pub IsOver : Left → Type 0
-IsOver l = (l.left ≡ []) × (l.is_over ≡ true)
+pub record IsOver (l : Left) : Type 0 where
+  pub none : l.left ≡ []
+  pub over : l.is_over ≡ true
+
+-- the end: no record was left, and the number stays
+pub record HasEnded (old new : Left) : Type 0 where
+  pub none : old.left ≡ []
+  pub over : IsOver new
+  pub same : new.table ≡ old.table
+  pub number : new.number ≡ old.number
+
+-- the first of the records that were left is taken, with its table and number; the number goes on to those behind it
+pub record IsTaken (old : Left) (r : Cells) (new : Left) : Type 0 where
+  pub taken : old.left ≡ r.cells ∷ new.left
+  pub table : r.table ≡ old.table
+  pub number : r.number ≡ old.number
+  pub after : new.number ≡ next_number old.number
+  pub same : new.table ≡ old.table
+  pub was_open : old.is_over ≡ false
+  pub is_open : new.is_over ≡ false
+
+-- memory was refused for the next record: none is taken, and the number stays
+pub record LacksMemory (old : Left) (f : Fault) (new : Left) : Type 0 where
+  pub fault : f ≡ memory_fault old.table old.number
+  pub number : new.number ≡ old.number
+
+-- a refusal, for this: none is left for good
+pub record IsRefused (Why : Type 0) (old new : Left) : Type 0 where
+  pub why : Why
+  pub same : new.table ≡ old.table
+  pub was_open : old.is_over ≡ false
+  pub over : IsOver new
 
 -- the next record with its number, whatever its cells; None at the end and from then on; or memory was refused
 abbrev pub TakesNext : Left → Result (Option Cells) Fault → Left → Type 0
-TakesNext old (Ok None) new = (old.left ≡ []) × IsOver new × (new.table ≡ old.table)
-TakesNext old (Ok (Some r)) new =
-    (old.left ≡ r.cells ∷ new.left) × (r.table ≡ old.table) × (r.number ≡ old.number) × (new.number ≡ next_number old.number) × (new.table ≡ old.table)
-    × (old.is_over ≡ false) × (new.is_over ≡ false)
-TakesNext old (Err f) new = (f ≡ memory_fault old.table old.number) × (old.is_over ≡ false) × IsOver new × (new.table ≡ old.table)
+TakesNext old (Ok None) new = HasEnded old new
+TakesNext old (Ok (Some r)) new = IsTaken old r new
+TakesNext old (Err f) new = IsRefused (LacksMemory old f new) old new
+
+-- the record that is taken has a cell for each of its table's columns
+pub record IsNext (old : Left) (r : Cells) (new : Left) : Type 0 where
+  pub first : IsTaken old r new
+  pub wide : length r.cells ≡ width_of old.table
+
+-- the record that is taken has another count of cells, and the number goes on
+pub record IsMisshapen (old : Left) (f : Fault) (new : Left) : Type 0 where
+  pub cells : List (List ℕ)
+  pub rest : List (List (List ℕ))
+  pub taken : old.left ≡ cells ∷ rest
+  pub wide : length cells ≢ width_of old.table
+  pub fault : f ≡ columns_fault old.table old.number
+  pub number : new.number ≡ next_number old.number
 
 -- the same, of records that have as many cells as their table has columns: the first that has not is refused, and a refusal is the last answer but None
 abbrev pub NextIs : Left → Result (Option Cells) Fault → Left → Type 0
-NextIs old (Ok None) new = (old.left ≡ []) × IsOver new × (new.table ≡ old.table)
-NextIs old (Ok (Some r)) new =
-    (old.left ≡ r.cells ∷ new.left) × (length r.cells ≡ width_of old.table) × (r.table ≡ old.table) × (r.number ≡ old.number)
-    × (new.number ≡ next_number old.number) × (new.table ≡ old.table) × (old.is_over ≡ false) × (new.is_over ≡ false)
-NextIs old (Err f) new =
-    (old.is_over ≡ false) × IsOver new × (new.table ≡ old.table) × (f.table ≡ old.table) × (f.row ≡ old.number)
-    × ((f.code ≡ faults.NO_MEMORY) ⊎ ((f.code ≡ faults.COLUMNS) × (r : List (List ℕ)) × (rest : List (List (List ℕ))) × (old.left ≡ r ∷ rest) × (length r ≢ width_of old.table)))
+NextIs old (Ok None) new = HasEnded old new
+NextIs old (Ok (Some r)) new = IsNext old r new
+NextIs old (Err f) new = IsRefused (LacksMemory old f new ⊎ IsMisshapen old f new) old new

@@ -102,7 +102,9 @@ impl<'a> Cursor<'a> {
         self.number
     }
 
-    /// The next record, or None at the end. After a refusal there is none for good.
+    /// The next record, or None at the end. After a refusal there is none for good. The number goes
+    /// on with each record that was taken, also one that is refused for its cells, and stays
+    /// otherwise.
     ///
     /// Errors, at the record's number: `COLUMNS`, where it has another count of cells than its table
     /// has columns; `NO_MEMORY`.

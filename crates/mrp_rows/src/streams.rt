@@ -85,8 +85,8 @@ impl Tries {
 
 /// Writes a text, or a front of it.
 ///
-/// An interrupted write is tried again as long as tries are left. Errors: where a write failed in
-/// this call, or was interrupted with no try left.
+/// An interrupted write is tried again as long as tries are left, a failed one never. Errors: where
+/// a write failed in this call, or was interrupted with no try left.
 pub fn write_text<W: Write>(
     writer: &mut Told<W>,
     text: &[u8],
@@ -103,6 +103,7 @@ pub fn write_text<W: Write>(
         (W.contents (inner_of writer.old)) (W.contents (inner_of writer.new)) text.now) }
     ensures refused { OnErr result (HasRisenBy 1 (failures_of writer.old) (failures_of writer.new)
         ⊎ HasRisenBy (tries.old + 1) (interrupted_of writer.old) (interrupted_of writer.new)) }
+    ensures once { OnErr result (failures_of writer.new ≤ failures_of writer.old + 1) }
 {
     let mut at = 0;
     while at < text.len() {
@@ -137,6 +138,8 @@ fn read_piece<R: Read>(
     ensures nothing { result ≡ Ok false → vec_len bytes.new ≡ vec_len bytes.old }
     ensures failed { result ≡ Err ReadFault.Read
         → HasRisenBy 1 (failures_of reader.old) (failures_of reader.new) }
+    ensures memory { result ≡ Err ReadFault.NoMemory
+        → failures_of reader.new ≡ failures_of reader.old }
     ensures front { TakesFront (R.remaining (inner_of reader.old)) (R.remaining (inner_of reader.new))
         (moved_of reader.old) (moved_of reader.new) }
 {
@@ -160,8 +163,8 @@ fn read_piece<R: Read>(
 /// All bytes that a reader has left: at most so many, within so many calls of `read`.
 ///
 /// An interrupted read is tried again and counts as a call. Errors: `Read` where the reader failed
-/// in this call, gave more bytes or needed more calls; `NoMemory` where a growth was refused.
-/// After an error the reader has been read up to some place.
+/// in this call, gave more bytes or needed more calls; `NoMemory` where a growth was refused, and
+/// no read failed. After an error the reader has been read up to some place.
 pub fn read_within<R: Read>(
     alloc: Global,
     reader: &mut Told<R>,
@@ -172,13 +175,15 @@ pub fn read_within<R: Read>(
         IfSome (R.remaining (inner_of reader.old)) (λ xs. bytes.items ≡ xs)) }
     ensures end { OnOk result (IsAtEnd (R.remaining (inner_of reader.new))) }
     ensures within { IfOk result (λ bytes. vec_len bytes ≤ most_bytes) }
-    ensures calls { OnOk result (calls_of reader.new ≤ calls_of reader.old + most_calls) }
+    ensures calls { calls_of reader.new ≤ calls_of reader.old + most_calls }
     ensures failures { OnOk result (failures_of reader.new ≡ failures_of reader.old) }
 
     ensures refused { result ≡ Err ReadFault.Read
         → HasRisenBy 1 (failures_of reader.old) (failures_of reader.new)
         ⊎ HasRisenBy most_calls (calls_of reader.old) (calls_of reader.new)
         ⊎ HasRisenBy (most_bytes + 1) (moved_of reader.old) (moved_of reader.new) }
+    ensures memory { result ≡ Err ReadFault.NoMemory
+        → failures_of reader.new ≡ failures_of reader.old }
     ensures front { TakesFront (R.remaining (inner_of reader.old)) (R.remaining (inner_of reader.new))
         (moved_of reader.old) (moved_of reader.new) }
 {
@@ -204,13 +209,15 @@ pub fn read_bundle<R: Read>(alloc: Global, reader: &mut Told<R>) -> Result<Vec<u
         IfSome (R.remaining (inner_of reader.old)) (λ xs. bytes.items ≡ xs)) }
     ensures end { OnOk result (IsAtEnd (R.remaining (inner_of reader.new))) }
     ensures within { IfOk result (λ bytes. vec_len bytes ≤ GREATEST_BUNDLE) }
-    ensures calls { OnOk result (calls_of reader.new ≤ calls_of reader.old + READ_CALLS) }
+    ensures calls { calls_of reader.new ≤ calls_of reader.old + READ_CALLS }
     ensures failures { OnOk result (failures_of reader.new ≡ failures_of reader.old) }
 
     ensures refused { result ≡ Err ReadFault.Read
         → HasRisenBy 1 (failures_of reader.old) (failures_of reader.new)
         ⊎ HasRisenBy READ_CALLS (calls_of reader.old) (calls_of reader.new)
         ⊎ HasRisenBy (GREATEST_BUNDLE + 1) (moved_of reader.old) (moved_of reader.new) }
+    ensures memory { result ≡ Err ReadFault.NoMemory
+        → failures_of reader.new ≡ failures_of reader.old }
     ensures front { TakesFront (R.remaining (inner_of reader.old)) (R.remaining (inner_of reader.new))
         (moved_of reader.old) (moved_of reader.new) }
 {

@@ -1,11 +1,11 @@
 -- A cursor's next record, within the table's limit.
-use Rattle.std.proofs.Common.{◌≡◌, ◌≢◌, ◌==◌, ◌&&◌, eqb, Bool, true, false, length, Err, inl, inr, refl, sym, ap, ◌∙◌}
+use Rattle.std.proofs.Common.{◌≡◌, ◌≢◌, ◌⊎◌, ◌==◌, ◌&&◌, eqb, Bool, true, false, length, Err, inl, inr, refl, sym, ap}
 use Rattle.std.specs.Prelude.{if◌then◌else◌}
 use Rattle.std.proofs.lemmas.Bool.{ne_eqb}
 use Rattle.mrp_rows.specs.declared.fault.Fault.{Fault}
 use Rattle.mrp_rows.specs.declared.faults.TheConstants as faults
 use Rattle.mrp_rows.specs.Left.{Cells, Left}
-use Rattle.mrp_rows.specs.Next.{NextIs, memory_fault}
+use Rattle.mrp_rows.specs.Next.{IsMisshapen, LacksMemory, NextIs}
 use Rattle.mrp_rows.specs.Columns.{width_of}
 use Rattle.mrp_tables.specs.Reading.{NextAdmitted, admitted, is_past}
 use Rattle.mrp_tables.specs.Limits.{record_limit}
@@ -16,9 +16,6 @@ past_first f = if (f.code == faults.COLUMNS) && is_past (record_limit f.table) f
 
 same_fault : (a b : Fault) → a.code ≡ b.code → a.table ≡ b.table → a.row ≡ b.row → a ≡ b
 same_fault a b e f g = λ i. record { code = e i; table = f i; row = g i }
-
-stays : (f : Fault) → f.code ≡ faults.NO_MEMORY → past_first f ≡ f
-stays f memory = rw memory refl
 
 -- a record past its limit
 past : (f : Fault) (r : Cells) → f.code ≡ faults.COLUMNS → f.table ≡ r.table → f.row ≡ r.number → is_past (record_limit r.table) r.number ≡ true → admitted r ≡ Err (past_first f)
@@ -40,11 +37,19 @@ either f r code table row wide true h = past f r code table row h
 either f r code table row wide false h = within f r code table row h wide
 
 -- a refusal of memory stays, at the record
-memory : (f : Fault) (old : Left) → f.code ≡ faults.NO_MEMORY → f.table ≡ old.table → f.row ≡ old.number → past_first f ≡ memory_fault old.table old.number
-memory f old code at row = stays f code ∙ same_fault f (memory_fault old.table old.number) code at row
+by_why : (old new : Left) (f : Fault) → LacksMemory old f new ⊎ IsMisshapen old f new → NextAdmitted old (Err (past_first f)) new
+by_why old new f (inl memory) = inl (ap past_first memory.fault)
+by_why old new f (inr other) =
+    let r : Cells = record { table = old.table; number = old.number; cells = other.cells } in
+    let code : f.code ≡ faults.COLUMNS = ap (λ (x : Fault). x.code) other.fault in
+    let table : f.table ≡ r.table = ap (λ (x : Fault). x.table) other.fault in
+    let row : f.row ≡ r.number = ap (λ (x : Fault). x.row) other.fault in
+    inr (record {
+      cells = other.cells;
+      rest = other.rest;
+      left = other.taken;
+      refused = either f r code table row other.wide (is_past (record_limit old.table) old.number) refl;
+    })
 
 pub refuses : (old new : Left) (f : Fault) → NextIs old (Err f) new → NextAdmitted old (Err (past_first f)) new
-refuses old new f (before, over, table, at, row, inl code) = inl (memory f old code at row)
-refuses old new f (before, over, table, at, row, inr (code, cells, rest, left, wide)) =
-    let r : Cells = record { table = old.table; number = old.number; cells = cells } in
-    inr (cells, rest, left, either f r code at row wide (is_past (record_limit old.table) old.number) refl)
+refuses old new f refused = by_why old new f refused.why

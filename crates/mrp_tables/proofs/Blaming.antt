@@ -14,11 +14,14 @@ use Rattle.mrp_rows.specs.Left.{Cells}
 use Rattle.mrp_rows.specs.Cell.{blame, cell_at, date_cell, fault_at, name_of, number_cell, or_code, word_of}
 use Rattle.mrp_tables.specs.declared.limits.TheConstants as limits
 use Rattle.mrp_tables.specs.declared.item.Item.{Item}
+use Rattle.mrp_tables.specs.declared.rows.Centre.{Centre}
+use Rattle.mrp_tables.specs.declared.rows.Operation.{Operation}
 use Rattle.mrp_tables.specs.declared.rows.StockRow.{StockRow}
 use Rattle.mrp_tables.specs.declared.calendar.Entry.{Entry}
 use Rattle.mrp_tables.specs.declared.calendar.Entry.TheVariants.{Start, Weeks, Workdays, Holiday}
 use Rattle.mrp_tables.specs.Bills.{bill_row}
 use Rattle.mrp_tables.specs.Calendar.{entry_row, holiday_cells, start_cells, weeks_cells, workdays_cell, workdays_cells}
+use Rattle.mrp_tables.specs.Centres.{centre_cells, centre_checked, centre_names, centre_row, known_centre}
 use Rattle.mrp_tables.specs.Items.{class_words, greatest_size, is_master, is_master_at, item_cells, item_checked, item_row, known, least_size, names_of}
 use Rattle.mrp_tables.specs.Laws.{FaultsAtItsRecord, FaultsAtTheirRecords, IsAt}
 use Rattle.mrp_tables.specs.Master.{kind_words, master_row}
@@ -26,11 +29,12 @@ use Rattle.mrp_tables.specs.declared.receipts.OpenOrder.{OpenOrder}
 use Rattle.mrp_tables.specs.declared.rows.Receipt.{Receipt}
 use Rattle.mrp_tables.specs.Reading.{Reads, admitted, by_itself, is_past}
 use Rattle.mrp_tables.specs.Receipts.{order_cells, order_checked, orders_of, receipt_placed, receipt_row, same_order}
+use Rattle.mrp_tables.specs.declared.routings.RoutingLine.{RoutingLine}
+use Rattle.mrp_tables.specs.Routings.{operation_row, operations_of, routing_cells, routing_checked, routing_placed, same_operation}
 use Rattle.mrp_tables.specs.declared.rows.ScriptCall.{ScriptCall}
 use Rattle.mrp_tables.specs.declared.rows.ScriptCall.TheVariants as call
 use Rattle.mrp_tables.specs.Script.{ask_cells, book_cells, call_at, cancel_cells, mastered, script_row, spot_of, when_cells}
 use Rattle.mrp_tables.specs.Limits.{call_words, lot_words, record_limit}
-use Rattle.mrp_tables.specs.Readers.{untaken}
 use Rattle.mrp_tables.specs.Stock.{items_in_stock, stock_cells, stock_checked, stock_row}
 
 own : (r : Cells) (code : ℕ) → IsAt r (fault_at r code)
@@ -83,9 +87,6 @@ reads read h before r = by (admitted r) refl (admitted_at r)
     by : (a : Result Cells Fault) → admitted r ≡ a → IfErr a (IsAt r) → IfErr (a >>= read before) (IsAt r)
     by (Ok c) e at = rw (← admitted_same r c e) (h before r)
     by (Err f) e at = at
-
-pub untaken_at : {X : Type 0} → FaultsAtItsRecord (untaken {X = X})
-untaken_at {X} = reads (untaken {X = X}) (λ before r. own r faults.TOO_MANY)
 
 start_at : (r : Cells) → IfErr (start_cells r) (IsAt r)
 unfolding start_cells
@@ -158,6 +159,31 @@ receipt_at calendar items before r = step r (order_cells items r) (λ o. order_c
     (λ o. step r (order_checked (orders_of before) r o) (receipt_placed calendar items r)
     (last r faults.REPEATED (list_any (same_order (o.item, o.order)) (orders_of before)) o)
     (λ checked. placed_at calendar items r checked))
+
+centre_at : (before : List Centre) (r : Cells) → IfErr (centre_row before r) (IsAt r)
+unfolding centre_cells
+centre_at before r = step r (centre_cells r) (centre_checked before r)
+    (cell r (name_of (cell_at r 0)) _ (λ name.
+    cell r (number_cell 0 limits.MOST_MINUTES (cell_at r 1)) _ (λ minutes. tt)))
+    (λ centre. last r faults.REPEATED (list_any (pointwise nat_eq centre.name) (centre_names before)) centre)
+
+line_placed_at : (centres : List Centre) (r : Cells) (line : RoutingLine) → IfErr (routing_placed centres r line) (IsAt r)
+unfolding routing_placed
+line_placed_at centres r line = cell r (known_centre centres line.centre) _ (λ centre. tt)
+
+operation_at : (items : List Item) (centres : List Centre) (before : List Operation) (r : Cells) → IfErr (operation_row items centres before r) (IsAt r)
+unfolding routing_cells
+operation_at items centres before r = step r (routing_cells items r) (λ line. routing_checked (operations_of before) r line >>= routing_placed centres r)
+    (cell r (name_of (cell_at r 0)) _ (λ name.
+    cell r (number_cell 1 limits.GREATEST_OPERATION (cell_at r 1)) _ (λ operation.
+    cell r (name_of (cell_at r 2)) _ (λ centre.
+    cell r (number_cell 0 limits.MOST_SETUP (cell_at r 3)) _ (λ setup.
+    cell r (number_cell 0 limits.MOST_RUN (cell_at r 4)) _ (λ run.
+    cell r (number_cell 0 limits.MOST_OFFSET (cell_at r 5)) _ (λ offset.
+    cell r (known items name) _ (λ item. tt))))))))
+    (λ line. step r (routing_checked (operations_of before) r line) (routing_placed centres r)
+    (last r faults.REPEATED (list_any (same_operation (line.item, line.operation)) (operations_of before)) line)
+    (λ checked. line_placed_at centres r checked))
 
 checked_at : (before : List Item) (r : Cells) (item : Item) (repeated : Bool) → list_any (pointwise nat_eq item.name) (names_of before) ≡ repeated → IfErr (item_checked before r item) (IsAt r)
 checked_at before r item true e = rw e (own r faults.REPEATED)
@@ -232,9 +258,11 @@ pub at_their_records : FaultsAtTheirRecords
 at_their_records = record {
   calendar = reads entry_row entry_at;
   items = reads item_row item_at_record;
+  centres = reads centre_row centre_at;
   stock = λ items. reads (stock_row items) (stock_at items);
   receipts = λ calendar items. reads (receipt_row calendar items) (receipt_at calendar items);
   bills = λ items. reads (by_itself (bill_row items)) (λ before r. bill_at items r);
+  routings = λ items centres. reads (operation_row items centres) (operation_at items centres);
   master = λ calendar items. reads (by_itself (master_row calendar items)) (λ before r. master_at calendar items r);
   script = λ calendar items. reads (by_itself (script_row calendar items)) (λ before r. script_at calendar items r);
 }

@@ -18,6 +18,8 @@ use Rattle.mrp_rows.specs.Cell.{at_least, blame, name_of, number_cell, or_code}
 use Rattle.mrp_rows.specs.Left.{Cells}
 use Rattle.mrp_rows.specs.Name.{is_name}
 use Rattle.mrp_tables.specs.declared.item.Item.{Item}
+use Rattle.mrp_tables.specs.declared.rows.Centre.{Centre}
+use Rattle.mrp_tables.specs.Centres.{centre_names, centre_place, known_centre}
 use Rattle.mrp_tables.specs.Facts.{IsMasterItem}
 use Rattle.mrp_tables.specs.Items.{is_master_at, known, names_of, place_of}
 use Rattle.mrp_tables.specs.Script.{mastered}
@@ -35,6 +37,11 @@ uncoded code None a e = absurd cc
 pub unless : {X E : Type 0} (b : Bool) (e : E) (y x : X) → (if b then Err e else Ok y) ≡ Ok x → (b ≡ false) × (y ≡ x)
 unless true e y x given = absurd cc
 unless false e y x given = let same : y ≡ x = cc in (refl, same)
+
+-- a check that let a reading go on
+pub past_check : {X E : Type 0} (b : Bool) (e : E) (rest : Result X E) (x : X) → (if b then Err e else rest) ≡ Ok x → (b ≡ false) × (rest ≡ Ok x)
+past_check true e rest x given = absurd cc
+past_check false e rest x given = (refl, given)
 
 pub where_so : {X E : Type 0} (b : Bool) (e : E) (y x : X) → (if b then Ok y else Err e) ≡ Ok x → (b ≡ true) × (y ≡ x)
 where_so true e y x given = let same : y ≡ x = cc in (refl, same)
@@ -86,6 +93,13 @@ pub there : (items : List Item) (r : Cells) (name : List ℕ) (place : ℕ) → 
 there items r name place e =
     let found : place_of name items ≡ Some place = uncoded faults.UNKNOWN_ITEM (place_of name items) place (unblamed r (known items name) place e) in
     let within : place < length (names_of items) = (position-Some (pointwise nat_eq name) (names_of items) place [] found).0 in
+    rw length-map at within
+
+-- the centre of a name is there
+pub centre-there : (centres : List Centre) (r : Cells) (name : List ℕ) (place : ℕ) → blame r (known_centre centres name) ≡ Ok place → place < length centres
+centre-there centres r name place e =
+    let found : centre_place name centres ≡ Some place = uncoded faults.UNKNOWN_CENTRE (centre_place name centres) place (unblamed r (known_centre centres name) place e) in
+    let within : place < length (centre_names centres) = (position-Some (pointwise nat_eq name) (centre_names centres) place [] found).0 in
     rw length-map at within
 
 -- a master item that is there

@@ -18,14 +18,14 @@ use Rattle.mrp_tables.specs.Reading.{Gives, Reads, admitted, is_past, rows_from,
 use Rattle.mrp_tables.specs.Limits.{record_limit}
 
 -- every limit is a number of a record
-limit_number : (table : Table) (limit : ℕ) → record_limit table ≡ Some limit → limit < 4294967294
+pub limit_number : (table : Table) (limit : ℕ) → record_limit table ≡ Some limit → limit < 4294967294
 limit_number t.Calendar limit e = let same : limits.MOST_CALENDAR_RECORDS ≡ limit = cc in omega arith
 limit_number t.Items limit e = let same : limits.MOST_ITEMS ≡ limit = cc in omega arith
-limit_number t.Centres limit e = let same : 0 ≡ limit = cc in omega arith
+limit_number t.Centres limit e = let same : limits.MOST_CENTRES ≡ limit = cc in omega arith
 limit_number t.Stock limit e = absurd cc
 limit_number t.Receipts limit e = let same : limits.MOST_ROWS ≡ limit = cc in omega arith
 limit_number t.Bills limit e = let same : limits.MOST_ROWS ≡ limit = cc in omega arith
-limit_number t.Routings limit e = let same : 0 ≡ limit = cc in omega arith
+limit_number t.Routings limit e = let same : limits.MOST_OPERATIONS ≡ limit = cc in omega arith
 limit_number t.Master limit e = let same : limits.MOST_ROWS ≡ limit = cc in omega arith
 limit_number t.Script limit e = let same : limits.MOST_ROWS ≡ limit = cc in omega arith
 limit_number t.Bundle limit e = absurd cc
@@ -103,8 +103,3 @@ pub counted_result : {X Y : Type 0} (IsRefusal : Fault → Type 0) (view : Y →
     → record_limit table ≡ Some limit → (result : Result Y Fault) → Gives IsRefusal view result (rows_of read table text) → IfOk result (λ y. length (view y) ≤ limit)
 counted_result IsRefusal view read table text limit e (Ok y) given = counted read table text (view y) limit e given
 counted_result IsRefusal view read table text limit e (Err f) given = tt
-
--- a table that takes no record has no row
-pub no_rows : {X : Type 0} (rows : List X) → length rows ≤ 0 → rows ≡ []
-no_rows [] few = refl
-no_rows (x ∷ rows) few = absurd (omega (arith, few))

@@ -10,6 +10,7 @@ use Rattle.std.proofs.lemmas.List.Folds.{list_any_at}
 use Rattle.std.proofs.lemmas.List.Quantifiers.{all_pairs_push}
 use Rattle.mrp_tables.specs.Facts.{AllDiffer}
 use Rattle.mrp_tables.specs.Receipts.{same_order}
+use Rattle.mrp_tables.specs.Routings.{same_operation}
 
 grown : {X : Type 0} {same : X → X → Bool} → IsEquivalence same → (xs : List X) (x : X)
     → AllDiffer xs → list_any (same x) xs ≡ false → AllDiffer (xs ++ x ∷ [])
@@ -21,6 +22,9 @@ grown {X} {same} laws xs x differ new =
 
 pub same_order_equiv : IsEquivalence same_order
 same_order_equiv = and_equiv (on_equiv (λ (o : ℕ × List ℕ). o.0) nat_eq_equiv) (on_equiv (λ (o : ℕ × List ℕ). o.1) nat_list_eq_equiv)
+
+pub same_operation_equiv : IsEquivalence same_operation
+same_operation_equiv = and_equiv (on_equiv (λ (o : ℕ × ℕ). o.0) nat_eq_equiv) (on_equiv (λ (o : ℕ × ℕ). o.1) nat_eq_equiv)
 
 -- a field of each row, where a row is added whose field is new
 pub grown_field : {X Y : Type 0} {same : X → X → Bool} → IsEquivalence same → (field : Y → X) (old new : List Y) (y : Y)

@@ -22,20 +22,20 @@ begins : {X : Type 0} (read : Reads X) (t : Table) (before : List X) (old new : 
     → IsLeft read t before old total → NextAdmitted old (Ok (Some r)) new
     → (read before r >>= λ x. rows_from read t (before ++ (x ∷ [])) new.number new.left) ≡ total
 unfolding rows_from
-begins {X} read t before old new r total h (left, table, number, within, next, same_table, usable) =
+begins {X} read t before old new r total h given =
     let made : Cells = record { table = t; number = old.number; cells = r.cells } in
-    let same : made ≡ r = same_cells made r (sym (table ∙ h.table)) (sym number) refl in
-    let ok : admitted made ≡ Ok r = ap admitted same ∙ within in
+    let same : made ≡ r = same_cells made r (sym (given.first.table ∙ h.table)) (sym given.first.number) refl in
+    let ok : admitted made ≡ Ok r = ap admitted same ∙ given.within in
     let after : Cells → Result (List X) Fault = λ a. read before a >>= λ x. rows_from read t (before ++ (x ∷ [])) (next_number old.number) new.left in
-    let opened : rows_from read t before old.number old.left ≡ (admitted made >>= after) = rw left refl in
-    rw next (sym (ap (λ a. a >>= after) ok) ∙ sym opened ∙ h.left)
+    let opened : rows_from read t before old.number old.left ≡ (admitted made >>= after) = rw given.first.taken refl in
+    rw given.first.after (sym (ap (λ a. a >>= after) ok) ∙ sym opened ∙ h.left)
 
 -- a row is added
 pub adds : {X : Type 0} (read : Reads X) (t : Table) (before after : List X) (old new : Left) (r : Cells) (total : Result (List X) Fault) (u : Unit {0})
     → IsLeft read t before old total → NextAdmitted old (Ok (Some r)) new → Adds read before r (Ok u) after → IsLeft read t after new total
 adds read t before after old new r total u h given (x, reads, grown) = record {
   left = rw grown (rw reads at (begins read t before old new r total h given));
-  table = given.5 ∙ h.table;
+  table = given.first.same ∙ h.table;
 }
 
 -- the records before a cursor's place are read
@@ -77,15 +77,15 @@ one_more {X} read t (d ∷ done) start first before cells x are reads =
 pub adds_done : {X : Type 0} (read : Reads X) (t : Table) (start : List X) (first : ℕ) (all : Records) (before after : List X) (old new : Left) (r : Cells) (u : Unit {0})
     → old.table ≡ t → IsDone read t start first all before old → NextAdmitted old (Ok (Some r)) new → Adds read before r (Ok u) after
     → IsDone read t start first all after new
-adds_done read t start first all before after old new r u own h (left, table, number, within, next, same_table, usable) (x, reads, grown) =
+adds_done read t start first all before after old new r u own h given (x, reads, grown) =
     let made : Cells = record { table = t; number = number_behind first h.done; cells = r.cells } in
-    let same : made ≡ r = same_cells made r (sym (table ∙ own)) (sym (number ∙ h.at)) refl in
-    let one : read_one read before made ≡ Ok x = ap (read_one read before) same ∙ rw within reads in
+    let same : made ≡ r = same_cells made r (sym (given.first.table ∙ own)) (sym (given.first.number ∙ h.at)) refl in
+    let one : read_one read before made ≡ Ok x = ap (read_one read before) same ∙ rw given.within reads in
     record {
       done = h.done ++ r.cells ∷ [];
-      parts = h.parts ∙ ap (λ (rest : Records). h.done ++ rest) left ∙ sym (append_assoc h.done (r.cells ∷ []) new.left);
+      parts = h.parts ∙ ap (λ (rest : Records). h.done ++ rest) given.first.taken ∙ sym (append_assoc h.done (r.cells ∷ []) new.left);
       are_read = rw grown (one_more read t h.done start first before r.cells x h.are_read one);
-      at = next ∙ ap next_number h.at ∙ sym (number_behind-more h.done first r.cells);
+      at = given.first.after ∙ ap next_number h.at ∙ sym (number_behind-more h.done first r.cells);
     }
 
 -- memory is refused at a cursor's place
@@ -105,7 +105,7 @@ pub refuses : {X : Type 0} (read : Reads X) (t : Table) (start : List X) (first 
     → IsLeft read t before old total → IsDone read t start first all before old → NextAdmitted old (Ok (Some r)) new → Adds read before r (Err f) after
     → IsRefusedBehind read t start first all f ⊎ (total ≡ Err f)
 refuses read t start first all before after old new r total f h d given (same, inl memory) =
-    inl (behind read t start first all before old f d h.table (memory ∙ (λ i. memory_fault (given.1 i) (given.2 i))))
+    inl (behind read t start first all before old f d h.table (memory ∙ (λ i. memory_fault (given.first.table i) (given.first.number i))))
 refuses read t start first all before after old new r total f h d given (same, inr why) = inr (sym (rw why at (begins read t before old new r total h given)))
 
 -- the next record is refused
@@ -114,8 +114,8 @@ pub stops : {X : Type 0} (read : Reads X) (t : Table) (start : List X) (first : 
     → IsRefusedBehind read t start first all f ⊎ (total ≡ Err f)
 unfolding rows_from
 stops read t start first all before old new total f h d (inl memory) = inl (behind read t start first all before old f d h.table memory)
-stops read t start first all before old new total f h d (inr (cells, rest, left, why)) =
-    let opened : rows_from read t before old.number old.left ≡ Err f = rw (left, ← h.table, why) refl in
+stops read t start first all before old new total f h d (inr none) =
+    let opened : rows_from read t before old.number old.left ≡ Err f = rw (none.left, ← h.table, none.refused) refl in
     inr (sym h.left ∙ opened)
 
 -- no record is left

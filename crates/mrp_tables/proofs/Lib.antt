@@ -6,14 +6,15 @@ mod CellsRead
 mod Counting
 mod Distinct
 mod Entries
+mod Fresh
 mod Gathering
 mod Kept
 mod Opening
-mod Ordered
 mod OwnTable
 mod RecordsRead
 mod RowLaws
 mod Refused
+mod Rising
 mod SevenFlags
 mod Stocked
 mod TableLaws

@@ -16,21 +16,26 @@ use Rattle.mrp_tables.specs.declared.item.Item.{Item}
 use Rattle.mrp_tables.specs.declared.item.LotRule.TheVariants.{Fixed, LotForLot, Period}
 use Rattle.mrp_tables.specs.declared.receipts.OpenOrder.{OpenOrder}
 use Rattle.mrp_tables.specs.declared.rows.BillLine.{BillLine}
+use Rattle.mrp_tables.specs.declared.rows.Centre.{Centre}
 use Rattle.mrp_tables.specs.declared.rows.MasterRow.{MasterRow}
+use Rattle.mrp_tables.specs.declared.rows.Operation.{Operation}
 use Rattle.mrp_tables.specs.declared.rows.Receipt.{Receipt}
+use Rattle.mrp_tables.specs.declared.routings.RoutingLine.{RoutingLine}
 use Rattle.mrp_tables.specs.declared.rows.ScriptCall.{ScriptCall}
 use Rattle.mrp_tables.specs.declared.rows.ScriptCall.TheVariants as call
 use Rattle.mrp_tables.specs.declared.rows.ScriptRow.{ScriptRow}
 use Rattle.mrp_tables.specs.declared.rows.StockRow.{StockRow}
 use Rattle.mrp_tables.specs.Bills.{bill_row}
-use Rattle.mrp_tables.specs.Facts.{IsBillLine, IsItemUnlessStocked, IsMasterItem, IsMasterRowIfAny, IsOpenOrder, IsReceiptIfAny, IsScriptCall, IsScriptRow, IsStockRow}
+use Rattle.mrp_tables.specs.Centres.{centre_cells, known_centre}
+use Rattle.mrp_tables.specs.Facts.{IsBillLine, IsCentre, IsItemUnlessStocked, IsMasterItem, IsMasterRowIfAny, IsOpenOrder, IsOperation, IsReceiptIfAny, IsRoutingLine, IsScriptCall, IsScriptRow, IsStockRow}
 use Rattle.mrp_tables.specs.Items.{class_at, class_words, greatest_size, is_master_at, item_cells, known, least_size, lot_at}
 use Rattle.mrp_tables.specs.Limits.{call_words, lot_words}
 use Rattle.mrp_tables.specs.Master.{kind_at, kind_words, master_row}
 use Rattle.mrp_tables.specs.Receipts.{order_cells, order_checked, receipt_beside, receipt_placed, same_order}
+use Rattle.mrp_tables.specs.Routings.{operation_beside, routing_cells, routing_checked, routing_placed, same_operation}
 use Rattle.mrp_tables.specs.Script.{ask_cells, book_cells, call_at, cancel_cells, mastered, script_row, spot_of, when_cells}
 use Rattle.mrp_tables.specs.Stock.{stock_cells}
-use Rattle.mrp_tables.proofs.CellsRead.{in_range, in_week, master-there, named, same_value, there, unless}
+use Rattle.mrp_tables.proofs.CellsRead.{centre-there, in_range, in_week, master-there, named, same_value, there, unless}
 use Rattle.mrp_tables.proofs.RowLaws.{whole_step}
 
 pub is_bill_line : (items : List Item) (r : Cells) (line : BillLine) → bill_row items r ≡ Ok line → IsBillLine items line
@@ -77,30 +82,86 @@ is_open_order items r order e =
       quantity = (in_range 0 limits.MOST_PIECES r (cell_at r 3) quantity.0 quantity.1).1;
     })
 
--- an open receipt is placed as its order, which no earlier one is
-pub record IsPlaced (calendar : ShopCalendar) (items : List Item) (seen : List (ℕ × List ℕ)) (row : Receipt) : Type 0 where
+-- an open receipt is placed as its order, which no earlier one is, with its record's number
+pub record IsPlaced (calendar : ShopCalendar) (items : List Item) (seen : List (ℕ × List ℕ)) (r : Cells) (row : Receipt) : Type 0 where
   pub within : IsReceiptIfAny calendar.weeks items row
   pub fresh : list_any (same_order (row.item, row.order)) seen ≡ false
+  pub number : row.number ≡ r.number
 
 placed : (calendar : ShopCalendar) (items : List Item) (seen : List (ℕ × List ℕ)) (r : Cells) (order : OpenOrder) (row : Receipt) → IsOpenOrder items order
-    → list_any (same_order (order.item, order.order)) seen ≡ false → receipt_placed calendar items r order ≡ Ok row → IsPlaced calendar items seen row
+    → list_any (same_order (order.item, order.order)) seen ≡ false → receipt_placed calendar items r order ≡ Ok row → IsPlaced calendar items seen r row
 unfolding receipt_placed
 placed calendar items seen r order row is fresh e =
     let week = whole_step (blame r (or_code faults.DATE_OUTSIDE (week_of calendar order.date))) _ row e in
     let made : Receipt = record { number = r.number; item = order.item; order = order.order; week = week.0; quantity = order.quantity } in
     let last = unless (is_master_at items order.item) (fault_at r faults.MASTER_RECEIPT) made row week.2 in
-    subst (IsPlaced calendar items seen) last.1 (record {
+    subst (IsPlaced calendar items seen r) last.1 (record {
       within = λ any. record { item = is.item; order = is.name; part = last.0; week = in_week calendar r order.date week.0 week.1; quantity = (any, is.quantity) };
       fresh = fresh;
+      number = refl;
     })
 
-pub is_placed : (calendar : ShopCalendar) (items : List Item) (seen : List (ℕ × List ℕ)) (r : Cells) (row : Receipt) → receipt_beside calendar items seen r ≡ Ok row → IsPlaced calendar items seen row
+pub is_placed : (calendar : ShopCalendar) (items : List Item) (seen : List (ℕ × List ℕ)) (r : Cells) (row : Receipt) → receipt_beside calendar items seen r ≡ Ok row → IsPlaced calendar items seen r row
 is_placed calendar items seen r row e =
     let read = whole_step (order_cells items r) _ row e in
     let checked = whole_step (order_checked seen r read.0) _ row read.2 in
     let last = unless (list_any (same_order (read.0.item, read.0.order)) seen) (fault_at r faults.REPEATED) read.0 checked.0 checked.1 in
     let is = is_open_order items r read.0 read.1 in
     placed calendar items seen r read.0 row is last.0 (rw last.1 checked.2)
+
+pub is_centre : (r : Cells) (centre : Centre) → centre_cells r ≡ Ok centre → IsCentre centre
+unfolding centre_cells
+is_centre r centre e =
+    let name = whole_step (blame r (name_of (cell_at r 0))) _ centre e in
+    let minutes = whole_step (blame r (number_cell 0 limits.MOST_MINUTES (cell_at r 1))) _ centre name.2 in
+    let made : Centre = record { name = name.0; minutes = minutes.0 } in
+    subst IsCentre (same_value made centre (Ok made) refl minutes.2) (record {
+      name = named r (cell_at r 0) name.0 name.1;
+      minutes = (in_range 0 limits.MOST_MINUTES r (cell_at r 1) minutes.0 minutes.1).1;
+    })
+
+is_routing_line : (items : List Item) (r : Cells) (line : RoutingLine) → routing_cells items r ≡ Ok line → IsRoutingLine items line
+unfolding routing_cells
+is_routing_line items r line e =
+    let name = whole_step (blame r (name_of (cell_at r 0))) _ line e in
+    let operation = whole_step (blame r (number_cell 1 limits.GREATEST_OPERATION (cell_at r 1))) _ line name.2 in
+    let centre = whole_step (blame r (name_of (cell_at r 2))) _ line operation.2 in
+    let setup = whole_step (blame r (number_cell 0 limits.MOST_SETUP (cell_at r 3))) _ line centre.2 in
+    let run = whole_step (blame r (number_cell 0 limits.MOST_RUN (cell_at r 4))) _ line setup.2 in
+    let offset = whole_step (blame r (number_cell 0 limits.MOST_OFFSET (cell_at r 5))) _ line run.2 in
+    let item = whole_step (blame r (known items name.0)) _ line offset.2 in
+    let made : RoutingLine = record { item = item.0; operation = operation.0; centre = centre.0; setup = setup.0; run = run.0; offset = offset.0 } in
+    subst (IsRoutingLine items) (same_value made line (Ok made) refl item.2) (record {
+      item = there items r name.0 item.0 item.1;
+      operation = in_range 1 limits.GREATEST_OPERATION r (cell_at r 1) operation.0 operation.1;
+      setup = (in_range 0 limits.MOST_SETUP r (cell_at r 3) setup.0 setup.1).1;
+      run = (in_range 0 limits.MOST_RUN r (cell_at r 4) run.0 run.1).1;
+      offset = (in_range 0 limits.MOST_OFFSET r (cell_at r 5) offset.0 offset.1).1;
+    })
+
+-- an operation is its line's, which no earlier one is
+pub record IsRouted (items : List Item) (centres : List Centre) (seen : List (ℕ × ℕ)) (row : Operation) : Type 0 where
+  pub within : IsOperation items centres row
+  pub fresh : list_any (same_operation (row.item, row.operation)) seen ≡ false
+
+routed : (items : List Item) (centres : List Centre) (seen : List (ℕ × ℕ)) (r : Cells) (line : RoutingLine) (row : Operation) → IsRoutingLine items line
+    → list_any (same_operation (line.item, line.operation)) seen ≡ false → routing_placed centres r line ≡ Ok row → IsRouted items centres seen row
+unfolding routing_placed
+routed items centres seen r line row is fresh e =
+    let centre = whole_step (blame r (known_centre centres line.centre)) _ row e in
+    let made : Operation = record { item = line.item; operation = line.operation; centre = centre.0; setup = line.setup; run = line.run; offset = line.offset } in
+    subst (IsRouted items centres seen) (same_value made row (Ok made) refl centre.2) (record {
+      within = record { item = is.item; operation = is.operation; centre = centre-there centres r line.centre centre.0 centre.1; setup = is.setup; run = is.run; offset = is.offset };
+      fresh = fresh;
+    })
+
+pub is_routed : (items : List Item) (centres : List Centre) (seen : List (ℕ × ℕ)) (r : Cells) (row : Operation) → operation_beside items centres seen r ≡ Ok row → IsRouted items centres seen row
+is_routed items centres seen r row e =
+    let read = whole_step (routing_cells items r) _ row e in
+    let checked = whole_step (routing_checked seen r read.0) _ row read.2 in
+    let last = unless (list_any (same_operation (read.0.item, read.0.operation)) seen) (fault_at r faults.REPEATED) read.0 checked.0 checked.1 in
+    let is = is_routing_line items r read.0 read.1 in
+    routed items centres seen r read.0 row is last.0 (rw last.1 checked.2)
 
 pub is_master_row : (calendar : ShopCalendar) (items : List Item) (r : Cells) (row : MasterRow) → master_row calendar items r ≡ Ok row → IsMasterRowIfAny calendar.weeks items row
 unfolding master_row

@@ -1,13 +1,12 @@
 -- A fault of a table that is read behind others: that of its reading, or a refusal of memory.
-use Rattle.std.proofs.Common.{◌≡◌, ◌⊎◌, ℕ, List, [], Result, Ok, Err, inl, inr, sym, ap, subst, ◌∙◌}
-use Rattle.mrp_qty.specs.Reading.{◌>>=◌}
+use Rattle.std.proofs.Common.{◌≡◌, ◌⊎◌, ℕ, List, [], Err, inl, inr, sym, ap, subst}
 use Rattle.mrp_rows.specs.Bundle.{text_in}
 use Rattle.mrp_rows.specs.declared.fault.Fault.{Fault}
 use Rattle.mrp_rows.specs.declared.faults.TheConstants as faults
 use Rattle.mrp_rows.specs.declared.fault.Table.{Table}
 use Rattle.mrp_tables.specs.Laws.{IsMemoryRefusal}
-use Rattle.mrp_tables.specs.Readers.{IsRefusedAt, reader_of, table_in}
-use Rattle.mrp_tables.specs.Reading.{IsRefusedBehind, IsRefusedIn, Reads, rows_of}
+use Rattle.mrp_tables.specs.Readers.{IsRefusedAt, table_in}
+use Rattle.mrp_tables.specs.Reading.{IsRefusedBehind, IsRefusedIn, Reads}
 use Rattle.mrp_tables.specs.Tables.{tables_in}
 use Rattle.mrp_tables.proofs.TableLaws.{AreWholeBefore, refused_behind}
 
@@ -34,14 +33,3 @@ refused texts own f earlier (inl (read, is, memory)) =
       at = subst (IsRefusedAt texts f) (sym at.table) (read, is, memory);
       earlier = subst (AreWholeBefore texts) (sym at.table) earlier;
     })
-
--- what is refused by a table's reader is refused of the table
-pub refused_by : (texts : List (List ℕ)) (own : Table) (read : Reads (reader_of texts own).Row) (f : Fault) → (reader_of texts own).reads ≡ Ok read
-    → (reader_of texts own).made (Err f) ≡ Err f → IsRefusedIn read own (text_in texts own) f ⊎ (rows_of read own (text_in texts own) ≡ Err f)
-    → IsRefusedAt texts f own ⊎ (table_in texts own ≡ Err f)
-refused_by texts own read f is stays (inl memory) = inl (read, is, memory)
-refused_by texts own read f is stays (inr e) =
-    let reader = reader_of texts own in
-    let made : table_in texts own ≡ reader.made (rows_of read own (text_in texts own)) =
-    ap (λ (r : Result (Reads reader.Row) Fault). reader.made (r >>= λ given. rows_of given own (text_in texts own))) is in
-    inr (made ∙ ap reader.made e ∙ stays)

@@ -1,6 +1,6 @@
 -- What accepted tables keep, by the definitions alone.
-use Rattle.std.proofs.Common.{◌≡◌, ◌⊎◌, ◌≤◌, ℕ, Bool, true, false, List, [], ◌∷◌, ◌++◌, Result, Ok, Err, inl, inr, refl, sym, subst, ◌∙◌, arith, length}
-use Rattle.std.specs.Prelude.{All, if◌then◌else◌, nat_eq, nat_lt, ◌&&◌}
+use Rattle.std.proofs.Common.{◌≡◌, ◌⊎◌, ◌≤◌, ℕ, List, [], ◌∷◌, ◌++◌, Result, Ok, Err, inl, inr, refl, sym, subst, ◌∙◌, arith, length}
+use Rattle.std.specs.Prelude.{All, nat_eq, nat_lt, ◌&&◌}
 use Rattle.std.specs.Cmp.{nat_eq_equiv}
 use Rattle.std.specs.Cmp.Lexicographic.{nat_list_eq_equiv, pointwise}
 use Rattle.std.specs.List.{list_any}
@@ -23,22 +23,25 @@ use Rattle.mrp_tables.specs.declared.rows.Operation.{Operation}
 use Rattle.mrp_tables.specs.declared.rows.Receipt.{Receipt}
 use Rattle.mrp_tables.specs.declared.rows.StockRow.{StockRow}
 use Rattle.mrp_tables.specs.Bills.{bill_row}
-use Rattle.mrp_tables.specs.Facts.{AllDiffer, IsBillLine, IsItem, IsMasterRow, IsMasterRowIfAny, IsReceipt, IsReceiptIfAny, IsScriptRow, IsStockRow}
+use Rattle.mrp_tables.specs.Centres.{centre_cells, centre_names, centre_row}
+use Rattle.mrp_tables.specs.Facts.{AllDiffer, IsBillLine, IsCentre, IsItem, IsMasterRow, IsMasterRowIfAny, IsOperation, IsReceipt, IsReceiptIfAny, IsScriptRow, IsStockRow, NumbersRise}
 use Rattle.mrp_tables.specs.Items.{is_master, item_cells, item_row, names_of}
 use Rattle.mrp_tables.specs.Laws.{HasOneReading, IsToldAtItsTable}
 use Rattle.mrp_tables.specs.Master.{master_row, that_count}
-use Rattle.mrp_tables.specs.Readers.{by_dates, by_items, calendar_in, items_in, untaken}
+use Rattle.mrp_tables.specs.Readers.{by_centres, by_dates, by_items, calendar_in, centres_in, items_in}
 use Rattle.mrp_tables.specs.Reading.{Reads, admitted, by_itself, rows_from, rows_of}
 use Rattle.mrp_tables.specs.Receipts.{orders_of, receipt_row, receipts_that_count}
+use Rattle.mrp_tables.specs.Routings.{operation_row, operations_of}
 use Rattle.mrp_tables.specs.Script.{script_row}
 use Rattle.mrp_tables.specs.Stock.{items_in_stock, stock_cells, stock_row}
 use Rattle.mrp_tables.specs.Tables.{AreTables, Tables, tables_in}
 use Rattle.mrp_tables.proofs.AcceptedTables.{of_their_texts}
-use Rattle.mrp_tables.proofs.CellsRead.{same_value, unless}
-use Rattle.mrp_tables.proofs.Counting.{counted, no_rows}
-use Rattle.mrp_tables.proofs.Distinct.{grown_field, same_order_equiv}
+use Rattle.mrp_tables.proofs.CellsRead.{past_check, same_value, unless}
+use Rattle.mrp_tables.proofs.Counting.{counted}
+use Rattle.mrp_tables.proofs.Distinct.{grown_field, same_operation_equiv, same_order_equiv}
 use Rattle.mrp_tables.proofs.Kept.{kept, kept-count, kept_orders, kept_receipts, kept_receipts-count}
-use Rattle.mrp_tables.proofs.RecordsRead.{is_bill_line, is_item, is_master_row, is_placed, is_script_row, is_stock_row}
+use Rattle.mrp_tables.proofs.RecordsRead.{is_bill_line, is_centre, is_item, is_master_row, is_placed, is_routed, is_script_row, is_stock_row}
+use Rattle.mrp_tables.proofs.Rising.{receipts_rise}
 use Rattle.mrp_tables.proofs.RowLaws.{whole_step}
 use Rattle.mrp_tables.proofs.Stocked.{more_items}
 use Rattle.mrp_tables.proofs.TellingTables.{told_at_its_table}
@@ -69,11 +72,6 @@ each_kept Is read one table text rows e = kept_of (All Is) read (λ before r x a
 none_differ : {X : Type 0} → AllDiffer {X = X} []
 none_differ = λ i j d less within same. absurd (omega (arith, within))
 
--- a check that let a reading go on
-past_check : {X : Type 0} (b : Bool) (f : Fault) (rest : Result X Fault) (x : X) → (if b then Err f else rest) ≡ Ok x → (b ≡ false) × (rest ≡ Ok x)
-past_check true f rest x given = absurd cc
-past_check false f rest x given = (refl, given)
-
 -- the items, with names that differ
 record AreItems (items : List Item) : Type 0 where
   within : All IsItem items
@@ -91,6 +89,42 @@ one_item before r item are e =
 
 are_items : (text : List ℕ) (items : List Item) → rows_of item_row t.Items text ≡ Ok items → AreItems items
 are_items text items e = kept_of AreItems item_row one_item t.Items text items (record { within = All-nil IsItem; names = none_differ }) e
+
+-- the centres, with names that differ
+record AreCentres (centres : List Centre) : Type 0 where
+  within : All IsCentre centres
+  differ : AllDiffer (centre_names centres)
+
+one_centre : (before : List Centre) (r : Cells) (centre : Centre) → AreCentres before → centre_row before r ≡ Ok centre → AreCentres (before ++ centre ∷ [])
+one_centre before r centre are e =
+    let read = whole_step (centre_cells r) _ centre e in
+    let last = unless (list_any (pointwise nat_eq read.0.name) (centre_names before)) (fault_at r faults.REPEATED) read.0 centre read.2 in
+    subst (λ (x : Centre). AreCentres (before ++ x ∷ [])) last.1 (record {
+      within = with_one IsCentre before read.0 are.within (is_centre r read.0 read.1);
+      differ = grown_field nat_list_eq_equiv (λ (k : Centre). k.name) before (before ++ read.0 ∷ []) read.0 refl are.differ last.0;
+    })
+
+are_centres : (text : List ℕ) (centres : List Centre) → rows_of centre_row t.Centres text ≡ Ok centres → AreCentres centres
+are_centres text centres e = kept_of AreCentres centre_row one_centre t.Centres text centres (record { within = All-nil IsCentre; differ = none_differ }) e
+
+-- the operations, with numbers that differ by item
+record AreOperations (items : List Item) (centres : List Centre) (rows : List Operation) : Type 0 where
+  within : All (IsOperation items centres) rows
+  differ : AllDiffer (operations_of rows)
+
+one_operation : (items : List Item) (centres : List Centre) (before : List Operation) (r : Cells) (row : Operation)
+    → AreOperations items centres before → operation_row items centres before r ≡ Ok row → AreOperations items centres (before ++ row ∷ [])
+one_operation items centres before r row are e =
+    let is = is_routed items centres (operations_of before) r row e in
+    record {
+      within = with_one (IsOperation items centres) before row are.within is.within;
+      differ = grown_field same_operation_equiv (λ (o : Operation). (o.item, o.operation)) before (before ++ row ∷ []) row refl are.differ is.fresh;
+    }
+
+are_operations : (items : List Item) (centres : List Centre) (text : List ℕ) (rows : List Operation) → rows_of (operation_row items centres) t.Routings text ≡ Ok rows → AreOperations items centres rows
+are_operations items centres text rows e =
+    kept_of (AreOperations items centres) (operation_row items centres) (one_operation items centres) t.Routings text rows
+    (record { within = All-nil (IsOperation items centres); differ = none_differ }) e
 
 -- the stock, with items that differ
 record AreStock (items : List Item) (rows : List StockRow) : Type 0 where
@@ -140,9 +174,17 @@ beside_dates {X} texts own reads calendar items rows is_calendar is_items e =
     let same : (by_dates texts reads >>= λ read. rows_of read own (text_in texts own)) ≡ rows_of (reads calendar items) own (text_in texts own) = rw (is_calendar, is_items) refl in
     sym same ∙ e
 
+beside_centres : {X : Type 0} (texts : List (List ℕ)) (own : Table) (reads : List Item → List Centre → Reads X) (items : List Item) (centres : List Centre) (rows : List X)
+    → items_in texts ≡ Ok items → centres_in texts ≡ Ok centres
+    → (by_centres texts reads >>= λ read. rows_of read own (text_in texts own)) ≡ Ok rows → rows_of (reads items centres) own (text_in texts own) ≡ Ok rows
+beside_centres {X} texts own reads items centres rows is_items is_centres e =
+    let same : (by_centres texts reads >>= λ read. rows_of read own (text_in texts own)) ≡ rows_of (reads items centres) own (text_in texts own) = rw (is_items, is_centres) refl in
+    sym same ∙ e
+
 -- the open receipts that count
 record AreReceiptsKept (calendar : ShopCalendar) (items : List Item) (rows : List Receipt) : Type 0 where
   within : All (IsReceipt calendar.weeks items) rows
+  numbered : NumbersRise rows
   ordered : AllDiffer (orders_of rows)
   count : length rows ≤ limits.MOST_ROWS
 
@@ -157,6 +199,7 @@ receipts_kept texts calendar items rows is_calendar is_items e =
     let fewer = kept_receipts-count all.0 in
     subst (AreReceiptsKept calendar items) (same_value (receipts_that_count all.0) rows (Ok (receipts_that_count all.0)) refl all.2) (record {
       within = kept_receipts calendar.weeks items all.0 are.within;
+      numbered = receipts_rise calendar items text all.0 read;
       ordered = kept_orders all.0 are.ordered;
       count = omega (arith, few, fewer);
     })
@@ -186,6 +229,9 @@ are_tables texts tables e =
     let calendar = tables.calendar in
     let items = tables.items in
     let item_facts = are_items (text_in texts t.Items) items own.items in
+    let centres = are_centres (text_in texts t.Centres) tables.centres own.centres in
+    let routed = beside_centres texts t.Routings operation_row items tables.centres tables.routings own.items own.centres own.routings in
+    let operations = are_operations items tables.centres (text_in texts t.Routings) tables.routings routed in
     let stock = are_stock items (text_in texts t.Stock) tables.stock (beside_items texts t.Stock stock_row items tables.stock own.items own.stock) in
     let receipts = receipts_kept texts calendar items tables.receipts own.calendar own.items own.receipts in
     let lines = beside_items texts t.Bills (λ items. by_itself (bill_row items)) items tables.bills own.items own.bills in
@@ -195,15 +241,20 @@ are_tables texts tables e =
       items = item_facts.within;
       names = item_facts.names;
       item_count = counted item_row t.Items (text_in texts t.Items) items limits.MOST_ITEMS refl own.items;
-      centres = no_rows tables.centres (counted (untaken {X = Centre}) t.Centres (text_in texts t.Centres) tables.centres 0 refl own.centres);
+      centres = centres.within;
+      centres_differ = centres.differ;
+      centre_count = counted centre_row t.Centres (text_in texts t.Centres) tables.centres limits.MOST_CENTRES refl own.centres;
       stock = stock.within;
       stocked = stock.stocked;
       receipts = receipts.within;
+      numbered = receipts.numbered;
       ordered = receipts.ordered;
       receipt_count = receipts.count;
       bills = each_kept (IsBillLine items) (by_itself (bill_row items)) (λ before. is_bill_line items) t.Bills (text_in texts t.Bills) tables.bills lines;
       line_count = counted (by_itself (bill_row items)) t.Bills (text_in texts t.Bills) tables.bills limits.MOST_ROWS refl lines;
-      routings = no_rows tables.routings (counted (untaken {X = Operation}) t.Routings (text_in texts t.Routings) tables.routings 0 refl own.routings);
+      routings = operations.within;
+      routed = operations.differ;
+      operation_count = counted (operation_row items tables.centres) t.Routings (text_in texts t.Routings) tables.routings limits.MOST_OPERATIONS refl routed;
       master = master.within;
       master_count = master.count;
       script = each_kept (IsScriptRow calendar.weeks items) (by_itself (script_row calendar items)) (λ before. is_script_row calendar items) t.Script (text_in texts t.Script) tables.script calls;

@@ -8,18 +8,19 @@ use Rattle.mrp_rows.specs.declared.fault.Table.{Table}
 use Rattle.mrp_rows.specs.declared.fault.Table.TheVariants as t
 use Rattle.mrp_tables.specs.declared.item.Item.{Item}
 use Rattle.mrp_tables.specs.declared.rows.Centre.{Centre}
-use Rattle.mrp_tables.specs.declared.rows.Operation.{Operation}
 use Rattle.mrp_tables.specs.Bills.{bill_row}
+use Rattle.mrp_tables.specs.Centres.{centre_row}
 use Rattle.mrp_tables.specs.Items.{item_row}
 use Rattle.mrp_tables.specs.Laws.{FaultsAtItsRecord, IsToldAtItsTable, reading_of, whole}
 use Rattle.mrp_tables.specs.Master.{master_row, that_count}
-use Rattle.mrp_tables.specs.Readers.{by_dates, by_items, calendar_in, items_in, table_in, untaken}
+use Rattle.mrp_tables.specs.Readers.{by_centres, by_dates, by_items, calendar_in, centres_in, items_in, table_in}
 use Rattle.mrp_tables.specs.Reading.{Reads, by_itself, rows_of}
 use Rattle.mrp_tables.specs.Receipts.{receipt_row, receipts_that_count}
+use Rattle.mrp_tables.specs.Routings.{operation_row}
 use Rattle.mrp_tables.specs.Script.{script_row}
 use Rattle.mrp_tables.specs.Stock.{stock_row}
 use Rattle.mrp_tables.specs.Tables.{tables_in}
-use Rattle.mrp_tables.proofs.Blaming.{at_their_records, untaken_at}
+use Rattle.mrp_tables.proofs.Blaming.{at_their_records}
 use Rattle.mrp_tables.proofs.OwnTable.{IsOf, calendar_own, follows, rows_own}
 use Rattle.mrp_tables.proofs.TableLaws.{AreWholeBefore, refused_by_table}
 
@@ -29,6 +30,14 @@ looked_at : {X Y : Type 0} (x : Result X Fault) (y : Result Y Fault) (rest : Res
 looked_at (Ok a) (Ok b) rest given = (a, refl, b, refl)
 looked_at (Ok a) (Err f) rest given = absurd cc
 looked_at (Err f) y rest given = absurd cc
+
+-- and so are the centres
+looked_at_centres : {X Y Z : Type 0} (x : Result X Fault) (y : Result Y Fault) (z : Result Z Fault) (rest : Result (Unit {0}) Fault)
+    → (whole x >>= λ v. whole y >>= λ w. whole z >>= λ u. rest) ≡ Ok tt → (b : Y) × (y ≡ Ok b) × (c : Z) × (z ≡ Ok c)
+looked_at_centres (Ok a) (Ok b) (Ok c) rest given = (b, refl, c, refl)
+looked_at_centres (Ok a) (Ok b) (Err f) rest given = absurd cc
+looked_at_centres (Ok a) (Err f) z rest given = absurd cc
+looked_at_centres (Err f) y z rest given = absurd cc
 
 -- the faults of a table that is read beside these are its own
 items_own : {X : Type 0} (texts : List (List ℕ)) (own : Table) (reads : List Item → Reads X) (items : List Item) → items_in texts ≡ Ok items
@@ -40,6 +49,11 @@ dates_own : {X : Type 0} (texts : List (List ℕ)) (own : Table) (reads : ShopCa
     → FaultsAtItsRecord (reads calendar items) → IsOf own (by_dates texts reads >>= λ read. rows_of read own (text_in texts own))
 dates_own texts own reads calendar items is_calendar is_items at = rw (is_calendar, is_items) (rows_own (reads calendar items) at own (text_in texts own))
 
+centres_own : {X : Type 0} (texts : List (List ℕ)) (own : Table) (reads : List Item → List Centre → Reads X) (items : List Item) (centres : List Centre)
+    → items_in texts ≡ Ok items → centres_in texts ≡ Ok centres
+    → FaultsAtItsRecord (reads items centres) → IsOf own (by_centres texts reads >>= λ read. rows_of read own (text_in texts own))
+centres_own texts own reads items centres is_items is_centres at = rw (is_items, is_centres) (rows_own (reads items centres) at own (text_in texts own))
+
 counted_own : {X : Type 0} (own : Table) (count : List X → List X) (read : Result (List X) Fault) → IsOf own read → IsOf own (read >>= λ rows. Ok (count rows))
 counted_own own count read at = follows own read (λ rows. Ok (count rows)) at (λ rows e. tt)
 
@@ -47,7 +61,7 @@ counted_own own count read at = follows own read (λ rows. Ok (count rows)) at (
 own_fault : (texts : List (List ℕ)) (own : Table) → AreWholeBefore texts own → IsOf own (table_in texts own)
 own_fault texts t.Calendar earlier = calendar_own (text_in texts t.Calendar)
 own_fault texts t.Items earlier = rows_own item_row at_their_records.items t.Items (text_in texts t.Items)
-own_fault texts t.Centres earlier = rows_own (untaken {X = Centre}) (untaken_at {X = Centre}) t.Centres (text_in texts t.Centres)
+own_fault texts t.Centres earlier = rows_own centre_row at_their_records.centres t.Centres (text_in texts t.Centres)
 own_fault texts t.Stock earlier =
     let (calendar, is_calendar, items, is_items) = looked_at (calendar_in texts) (items_in texts) _ earlier in
     items_own texts t.Stock stock_row items is_items (at_their_records.stock items)
@@ -57,7 +71,9 @@ own_fault texts t.Receipts earlier =
 own_fault texts t.Bills earlier =
     let (calendar, is_calendar, items, is_items) = looked_at (calendar_in texts) (items_in texts) _ earlier in
     items_own texts t.Bills (λ items. by_itself (bill_row items)) items is_items (at_their_records.bills items)
-own_fault texts t.Routings earlier = rows_own (untaken {X = Operation}) (untaken_at {X = Operation}) t.Routings (text_in texts t.Routings)
+own_fault texts t.Routings earlier =
+    let (items, is_items, centres, is_centres) = looked_at_centres (calendar_in texts) (items_in texts) (centres_in texts) _ earlier in
+    centres_own texts t.Routings operation_row items centres is_items is_centres (at_their_records.routings items centres)
 own_fault texts t.Master earlier =
     let (calendar, is_calendar, items, is_items) = looked_at (calendar_in texts) (items_in texts) _ earlier in
     counted_own t.Master that_count _ (dates_own texts t.Master (λ calendar items. by_itself (master_row calendar items)) calendar items is_calendar is_items (at_their_records.master calendar items))

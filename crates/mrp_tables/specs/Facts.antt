@@ -1,14 +1,17 @@
--- What the rows of accepted tables keep: cells within their limits, places of items that are there, weeks of the horizon.
+-- What the rows of accepted tables keep: cells within their limits, places of items and centres that are there, weeks of the horizon.
 use Rattle.std.specs.Prelude.{ℕ, ◌≡◌, ◌≢◌, ◌<◌, ◌≤◌, true, false, List, length, AllPairs}
 use Rattle.std.specs.Int.{IsInRange}
 use Rattle.mrp_rows.specs.Name.{is_name}
 use Rattle.mrp_tables.specs.declared.limits.TheConstants as limits
 use Rattle.mrp_tables.specs.declared.item.Item.{Item}
 use Rattle.mrp_tables.specs.declared.item.LotRule.TheVariants.{Fixed, Period}
+use Rattle.mrp_tables.specs.declared.rows.Centre.{Centre}
 use Rattle.mrp_tables.specs.declared.rows.StockRow.{StockRow}
 use Rattle.mrp_tables.specs.declared.receipts.OpenOrder.{OpenOrder}
 use Rattle.mrp_tables.specs.declared.rows.Receipt.{Receipt}
 use Rattle.mrp_tables.specs.declared.rows.BillLine.{BillLine}
+use Rattle.mrp_tables.specs.declared.routings.RoutingLine.{RoutingLine}
+use Rattle.mrp_tables.specs.declared.rows.Operation.{Operation}
 use Rattle.mrp_tables.specs.declared.rows.MasterRow.{MasterRow}
 use Rattle.mrp_tables.specs.declared.rows.ScriptCall.{ScriptCall}
 use Rattle.mrp_tables.specs.declared.rows.ScriptCall.TheVariants as call
@@ -33,6 +36,11 @@ pub record IsItem (item : Item) : Type 0 where
 abbrev pub IsItemUnlessStocked : Item → Type 0
 IsItemUnlessStocked item = (is_master item.class ≡ true → item.safety ≡ 0) → IsItem item
 
+-- a work centre: a name, its minutes of a shop day
+pub record IsCentre (centre : Centre) : Type 0 where
+  pub name : is_name centre.name ≡ true
+  pub minutes : centre.minutes ≤ limits.MOST_MINUTES
+
 -- what is on hand of an item, in pieces
 pub record IsStockRow (items : List Item) (row : StockRow) : Type 0 where
   pub item : row.item < length items
@@ -43,6 +51,10 @@ pub record IsOpenOrder (items : List Item) (order : OpenOrder) : Type 0 where
   pub item : order.item < length items
   pub name : is_name order.order ≡ true
   pub quantity : order.quantity ≤ limits.MOST_PIECES
+
+-- the numbers of open receipts' records rise from row to row
+abbrev pub NumbersRise : List Receipt → Type 0
+NumbersRise rows = AllPairs (λ a b. a.number < b.number) rows
 
 -- an open receipt of a part, with its order's name, due in a week of the horizon, of at least one piece
 pub record IsReceipt (weeks : ℕ) (items : List Item) (row : Receipt) : Type 0 where
@@ -62,6 +74,23 @@ pub record IsBillLine (items : List Item) (line : BillLine) : Type 0 where
   pub component : line.component < length items
   pub part : is_master_at items line.component ≡ false
   pub per : IsInRange 1 limits.MOST_PER line.per
+
+-- a line of a routing, of an item that is there
+pub record IsRoutingLine (items : List Item) (line : RoutingLine) : Type 0 where
+  pub item : line.item < length items
+  pub operation : IsInRange 1 limits.GREATEST_OPERATION line.operation
+  pub setup : line.setup ≤ limits.MOST_SETUP
+  pub run : line.run ≤ limits.MOST_RUN
+  pub offset : line.offset ≤ limits.MOST_OFFSET
+
+-- an operation of an item in a centre, both there: its number, minutes to set up, thousandths of a minute for a piece, weeks from the release
+pub record IsOperation (items : List Item) (centres : List Centre) (row : Operation) : Type 0 where
+  pub item : row.item < length items
+  pub operation : IsInRange 1 limits.GREATEST_OPERATION row.operation
+  pub centre : row.centre < length centres
+  pub setup : row.setup ≤ limits.MOST_SETUP
+  pub run : row.run ≤ limits.MOST_RUN
+  pub offset : row.offset ≤ limits.MOST_OFFSET
 
 -- a row of a master item in a week of the horizon, of at least one piece
 pub record IsMasterRow (weeks : ℕ) (items : List Item) (row : MasterRow) : Type 0 where

@@ -2,6 +2,7 @@
 use Rattle.std.specs.Prelude.{ℕ, List, []}
 use Rattle.mrp_cal.specs.Calendar.{ShopCalendar}
 use Rattle.mrp_tables.specs.declared.item.Item.{Item}
+use Rattle.mrp_tables.specs.declared.rows.Centre.{Centre}
 
 pub record Gathered (X : Type 0) : Type 0 where
   pub items : List Item
@@ -13,10 +14,17 @@ pub record GatheredByDate (X : Type 0) : Type 0 where
   pub items : List Item
   pub rows : List X
 
--- what a table is read beside: the items, and the weeks of the horizon
+-- operations so far, beside the items and the centres
+pub record GatheredByCentre (X : Type 0) : Type 0 where
+  pub items : List Item
+  pub centres : List Centre
+  pub rows : List X
+
+-- what a table is read beside: the items, the centres, and the weeks of the horizon
 pub record Beside : Type 0 where
   pub items : List Item
+  pub centres : List Centre
   pub weeks : ℕ
 
 abbrev pub nothing : Beside
-nothing = record { items = []; weeks = 0 }
+nothing = record { items = []; centres = []; weeks = 0 }

@@ -12,13 +12,16 @@ use Rattle.mrp_rows.specs.Cell.{fault_at}
 use Rattle.mrp_rows.specs.Next.{opened}
 use Rattle.mrp_rows.specs.Tables.{table_index}
 use Rattle.mrp_tables.specs.declared.item.Item.{Item}
+use Rattle.mrp_tables.specs.declared.rows.Centre.{Centre}
 use Rattle.mrp_tables.specs.Bills.{bill_row}
 use Rattle.mrp_tables.specs.Calendar.{entry_row}
+use Rattle.mrp_tables.specs.Centres.{centre_row}
 use Rattle.mrp_tables.specs.Items.{item_row}
 use Rattle.mrp_tables.specs.Master.{master_row}
 use Rattle.mrp_tables.specs.Readers.{IsRefusedAt, table_in}
 use Rattle.mrp_tables.specs.Reading.{Reads, admitted, by_itself, is_past, rows_of}
 use Rattle.mrp_tables.specs.Receipts.{receipt_row}
+use Rattle.mrp_tables.specs.Routings.{operation_row}
 use Rattle.mrp_tables.specs.Script.{script_row}
 use Rattle.mrp_tables.specs.Limits.{record_limit}
 use Rattle.mrp_tables.specs.Stock.{stock_row}
@@ -78,9 +81,11 @@ FaultsAtItsRecord {X} read = (before : List X) (r : Cells) → IfErr (read_one r
 pub record FaultsAtTheirRecords : Type 0 where
   pub calendar : FaultsAtItsRecord entry_row
   pub items : FaultsAtItsRecord item_row
+  pub centres : FaultsAtItsRecord centre_row
   pub stock : (items : List Item) → FaultsAtItsRecord (stock_row items)
   pub receipts : (calendar : ShopCalendar) (items : List Item) → FaultsAtItsRecord (receipt_row calendar items)
   pub bills : (items : List Item) → FaultsAtItsRecord (by_itself (bill_row items))
+  pub routings : (items : List Item) (centres : List Centre) → FaultsAtItsRecord (operation_row items centres)
   pub master : (calendar : ShopCalendar) (items : List Item) → FaultsAtItsRecord (by_itself (master_row calendar items))
   pub script : (calendar : ShopCalendar) (items : List Item) → FaultsAtItsRecord (by_itself (script_row calendar items))
 

@@ -1,5 +1,6 @@
 pub mod Bills
 pub mod Calendar
+pub mod Centres
 pub mod Facts
 pub mod Gathered
 pub mod Items
@@ -9,6 +10,7 @@ pub mod Master
 pub mod Readers
 pub mod Reading
 pub mod Receipts
+pub mod Routings
 pub mod Script
 pub mod Stock
 pub mod Tables

@@ -4,15 +4,15 @@ use Rattle.mrp_rows.specs.declared.fault.Table.{Table}
 use Rattle.mrp_rows.specs.declared.fault.Table.TheVariants as t
 use Rattle.mrp_tables.specs.declared.limits.TheConstants as limits
 
--- the most records that a table has, where it has a limit: centres and routings take none
+-- the most records that a table has, where it has a limit
 abbrev pub record_limit : Table → Option ℕ
 record_limit t.Calendar = Some limits.MOST_CALENDAR_RECORDS
 record_limit t.Items = Some limits.MOST_ITEMS
-record_limit t.Centres = Some 0
+record_limit t.Centres = Some limits.MOST_CENTRES
 record_limit t.Stock = None
 record_limit t.Receipts = Some limits.MOST_ROWS
 record_limit t.Bills = Some limits.MOST_ROWS
-record_limit t.Routings = Some 0
+record_limit t.Routings = Some limits.MOST_OPERATIONS
 record_limit t.Master = Some limits.MOST_ROWS
 record_limit t.Script = Some limits.MOST_ROWS
 record_limit t.Bundle = None

@@ -6,19 +6,18 @@ use Rattle.mrp_rows.specs.Bundle.{text_in}
 use Rattle.mrp_rows.specs.declared.fault.Fault.{Fault}
 use Rattle.mrp_rows.specs.declared.fault.Table.{Table}
 use Rattle.mrp_rows.specs.declared.fault.Table.TheVariants as t
-use Rattle.mrp_rows.specs.declared.faults.TheConstants as faults
-use Rattle.mrp_rows.specs.Cell.{fault_at}
 use Rattle.mrp_rows.specs.Next.{header_fault}
 use Rattle.mrp_tables.specs.declared.calendar.Entry.{Entry}
 use Rattle.mrp_tables.specs.declared.item.Item.{Item}
 use Rattle.mrp_tables.specs.declared.rows.Centre.{Centre}
-use Rattle.mrp_tables.specs.declared.rows.Operation.{Operation}
 use Rattle.mrp_tables.specs.Bills.{bill_row}
 use Rattle.mrp_tables.specs.Calendar.{calendar_from, entry_row}
+use Rattle.mrp_tables.specs.Centres.{centre_row}
 use Rattle.mrp_tables.specs.Items.{item_row}
 use Rattle.mrp_tables.specs.Master.{master_row, that_count}
 use Rattle.mrp_tables.specs.Reading.{Gives, IsRefusedIn, Reads, by_itself, rows_of}
 use Rattle.mrp_tables.specs.Receipts.{receipt_row, receipts_that_count}
+use Rattle.mrp_tables.specs.Routings.{operation_row}
 use Rattle.mrp_tables.specs.Script.{script_row}
 use Rattle.mrp_tables.specs.Stock.{stock_row}
 
@@ -41,12 +40,15 @@ rows_by {X} reads = record { Row = X; Whole = List X; reads = reads; made = λ r
 abbrev pub rows_that : {X : Type 0} → (List X → List X) → Result (Reads X) Fault → Reader
 rows_that {X} count reads = record { Row = X; Whole = List X; reads = reads; made = λ read. read >>= λ rows. Ok (count rows) }
 
--- the calendar and the items look at no table
+-- the calendar, the items and the centres look at no table
 abbrev pub calendar_reader : Reader
 calendar_reader = record { Row = Entry; Whole = ShopCalendar; reads = Ok entry_row; made = λ read. read >>= calendar_from }
 
 abbrev pub items_reader : Reader
 items_reader = rows_by (Ok item_row)
+
+abbrev pub centres_reader : Reader
+centres_reader = rows_by (Ok centre_row)
 
 abbrev pub calendar_in : List (List ℕ) → Result ShopCalendar Fault
 calendar_in texts = read_by calendar_reader t.Calendar (text_in texts t.Calendar)
@@ -54,26 +56,28 @@ calendar_in texts = read_by calendar_reader t.Calendar (text_in texts t.Calendar
 abbrev pub items_in : List (List ℕ) → Result (List Item) Fault
 items_in texts = read_by items_reader t.Items (text_in texts t.Items)
 
--- others look at the items, and those with dates at the calendar too
+abbrev pub centres_in : List (List ℕ) → Result (List Centre) Fault
+centres_in texts = read_by centres_reader t.Centres (text_in texts t.Centres)
+
+-- others look at the items, those with dates at the calendar too, and the routings at the centres
 abbrev pub by_items : {X : Type 0} → List (List ℕ) → (List Item → Reads X) → Result (Reads X) Fault
 by_items texts reads = items_in texts >>= λ items. Ok (reads items)
 
 abbrev pub by_dates : {X : Type 0} → List (List ℕ) → (ShopCalendar → List Item → Reads X) → Result (Reads X) Fault
 by_dates texts reads = calendar_in texts >>= λ calendar. by_items texts (reads calendar)
 
--- a record of a table that takes none: its limit refuses it before it is read
-abbrev pub untaken : {X : Type 0} → Reads X
-untaken before r = Err (fault_at r faults.TOO_MANY)
+abbrev pub by_centres : {X : Type 0} → List (List ℕ) → (List Item → List Centre → Reads X) → Result (Reads X) Fault
+by_centres texts reads = items_in texts >>= λ items. centres_in texts >>= λ centres. Ok (reads items centres)
 
 -- each table's reader; the bundle itself has no records, and nothing in it is refused
 abbrev pub reader_of : List (List ℕ) → Table → Reader
 reader_of texts t.Calendar = calendar_reader
 reader_of texts t.Items = items_reader
-reader_of texts t.Centres = rows_by (Ok (untaken {X = Centre}))
+reader_of texts t.Centres = centres_reader
 reader_of texts t.Stock = rows_by (by_items texts stock_row)
 reader_of texts t.Receipts = rows_that receipts_that_count (by_dates texts receipt_row)
 reader_of texts t.Bills = rows_by (by_items texts (λ items. by_itself (bill_row items)))
-reader_of texts t.Routings = rows_by (Ok (untaken {X = Operation}))
+reader_of texts t.Routings = rows_by (by_centres texts operation_row)
 reader_of texts t.Master = rows_that that_count (by_dates texts (λ calendar items. by_itself (master_row calendar items)))
 reader_of texts t.Script = rows_by (by_dates texts (λ calendar items. by_itself (script_row calendar items)))
 reader_of texts t.Bundle = record { Row = ⊥; Whole = Unit {0}; reads = Err (header_fault t.Bundle); made = λ read. Ok tt }

@@ -6,7 +6,7 @@ use Rattle.mrp_rows.specs.declared.faults.TheConstants as faults
 use Rattle.mrp_rows.specs.declared.fault.Table.{Table}
 use Rattle.mrp_rows.specs.Columns.{width_of}
 use Rattle.mrp_rows.specs.Left.{Cells, Left}
-use Rattle.mrp_rows.specs.Next.{memory_fault, next_number, opened}
+use Rattle.mrp_rows.specs.Next.{IsTaken, memory_fault, next_number, opened}
 use Rattle.mrp_rows.specs.Cell.{fault_at}
 use Rattle.mrp_tables.specs.Limits.{record_limit}
 
@@ -69,13 +69,20 @@ abbrev pub Adds : {X : Type 0} → Reads X → List X → Cells → Result (Unit
 Adds {X} read old r (Ok u) new = (x : X) × (read old r ≡ Ok x) × (new ≡ old ++ (x ∷ []))
 Adds read old r (Err f) new = (new ≡ old) × ((f ≡ fault_at r faults.NO_MEMORY) ⊎ (read old r ≡ Err f))
 
+-- the first of the records that were left is taken, and admitted
+pub record IsAdmitted (old : Left) (r : Cells) (new : Left) : Type 0 where
+  pub first : IsTaken old r new
+  pub within : admitted r ≡ Ok r
+
+-- the first of the records that were left is not admitted
+pub record IsNotAdmitted (old : Left) (f : Fault) : Type 0 where
+  pub cells : List (List ℕ)
+  pub rest : List (List (List ℕ))
+  pub left : old.left ≡ cells ∷ rest
+  pub refused : admitted (record { table = old.table; number = old.number; cells = cells }) ≡ Err f
+
 -- the next record of a table, admitted; none where none is left; or why it is refused: for want of memory at its number
 abbrev pub NextAdmitted : Left → Result (Option Cells) Fault → Left → Type 0
 NextAdmitted old (Ok None) new = old.left ≡ []
-NextAdmitted old (Ok (Some r)) new =
-    (old.left ≡ r.cells ∷ new.left) × (r.table ≡ old.table) × (r.number ≡ old.number) × (admitted r ≡ Ok r)
-    × (new.number ≡ next_number old.number) × (new.table ≡ old.table) × (new.is_over ≡ false)
-NextAdmitted old (Err f) new =
-    (f ≡ memory_fault old.table old.number)
-    ⊎ ((cells : List (List ℕ)) × (rest : List (List (List ℕ))) × (old.left ≡ cells ∷ rest)
-    × (admitted (record { table = old.table; number = old.number; cells = cells }) ≡ Err f))
+NextAdmitted old (Ok (Some r)) new = IsAdmitted old r new
+NextAdmitted old (Err f) new = (f ≡ memory_fault old.table old.number) ⊎ IsNotAdmitted old f

@@ -1,5 +1,5 @@
 -- The typed tables of a bundle (profile).
-use Rattle.std.specs.Prelude.{ℕ, ◌≡◌, ◌≤◌, List, [], All, length, Result, Ok}
+use Rattle.std.specs.Prelude.{ℕ, ◌≤◌, List, All, length, Result, Ok}
 use Rattle.mrp_qty.specs.Reading.{◌>>=◌}
 use Rattle.mrp_cal.specs.Calendar.{ShopCalendar}
 use Rattle.mrp_rows.specs.Bundle.{bundle_of}
@@ -14,10 +14,12 @@ use Rattle.mrp_tables.specs.declared.rows.BillLine.{BillLine}
 use Rattle.mrp_tables.specs.declared.rows.Operation.{Operation}
 use Rattle.mrp_tables.specs.declared.rows.MasterRow.{MasterRow}
 use Rattle.mrp_tables.specs.declared.rows.ScriptRow.{ScriptRow}
-use Rattle.mrp_tables.specs.Facts.{AllDiffer, IsBillLine, IsItem, IsMasterRow, IsReceipt, IsScriptRow, IsStockRow}
+use Rattle.mrp_tables.specs.Centres.{centre_names}
+use Rattle.mrp_tables.specs.Facts.{AllDiffer, IsBillLine, IsCentre, IsItem, IsMasterRow, IsOperation, IsReceipt, IsScriptRow, IsStockRow, NumbersRise}
 use Rattle.mrp_tables.specs.Items.{names_of}
 use Rattle.mrp_tables.specs.Readers.{table_in}
 use Rattle.mrp_tables.specs.Receipts.{orders_of}
+use Rattle.mrp_tables.specs.Routings.{operations_of}
 use Rattle.mrp_tables.specs.Stock.{items_in_stock}
 
 -- the tables, each as its rows in table order
@@ -32,20 +34,25 @@ pub record Tables : Type 0 where
   pub master : List MasterRow
   pub script : List ScriptRow
 
--- what accepted tables keep: rows within their limits, of items that are there and weeks of the horizon; names that differ, items that stand in the stock at most once, and orders of an item that stand in the receipts at most once; no more rows than the limits, so none of a table that takes no record
+-- what accepted tables keep: rows within their limits, of items and centres that are there and weeks of the horizon; open receipts whose records' numbers rise; names that differ, items that stand in the stock at most once, and orders and operations of an item that stand in the receipts and in the routings at most once; no more rows than the limits
 pub record AreTables (t : Tables) : Type 0 where
   pub items : All IsItem t.items
   pub names : AllDiffer (names_of t.items)
   pub item_count : length t.items ≤ limits.MOST_ITEMS
-  pub centres : t.centres ≡ []
+  pub centres : All IsCentre t.centres
+  pub centres_differ : AllDiffer (centre_names t.centres)
+  pub centre_count : length t.centres ≤ limits.MOST_CENTRES
   pub stock : All (IsStockRow t.items) t.stock
   pub stocked : AllDiffer (items_in_stock t.stock)
   pub receipts : All (IsReceipt t.calendar.weeks t.items) t.receipts
+  pub numbered : NumbersRise t.receipts
   pub ordered : AllDiffer (orders_of t.receipts)
   pub receipt_count : length t.receipts ≤ limits.MOST_ROWS
   pub bills : All (IsBillLine t.items) t.bills
   pub line_count : length t.bills ≤ limits.MOST_ROWS
-  pub routings : t.routings ≡ []
+  pub routings : All (IsOperation t.items t.centres) t.routings
+  pub routed : AllDiffer (operations_of t.routings)
+  pub operation_count : length t.routings ≤ limits.MOST_OPERATIONS
   pub master : All (IsMasterRow t.calendar.weeks t.items) t.master
   pub master_count : length t.master ≤ limits.MOST_ROWS
   pub script : All (IsScriptRow t.calendar.weeks t.items) t.script

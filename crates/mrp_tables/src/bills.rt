@@ -37,7 +37,7 @@ impl<'a> Model for Bills<'a> {
 impl<'a> TableRows for Bills<'a> {
     type Line = BillLine;
 
-    ghost use Rattle.std.specs.Prelude.{◌≡◌};
+    ghost use Rattle.std.specs.Prelude.{◌≡◌, []};
     ghost use Rattle.mrp_tables.specs.Bills.{bill_row};
     ghost use Rattle.mrp_tables.specs.Reading.{by_itself};
 
@@ -47,7 +47,7 @@ impl<'a> TableRows for Bills<'a> {
 
     ghost reads = { λ t. by_itself (bill_row t.items) };
 
-    ghost beside = { λ t. record { items = t.items; weeks = 0 } };
+    ghost beside = { λ t. record { items = t.items; centres = []; weeks = 0 } };
 
     fn add(&mut self, row: &Row) -> Result<(), Fault> {
         let line = bill_line(row, self.items)?;

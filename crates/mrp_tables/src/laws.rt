@@ -34,8 +34,8 @@ pub fn tables_are_read_in_turn()
     ensures { (texts : List (List ℕ)) → IsFirstTablesFault texts }
 {}
 
-/// Each table of an accepted bundle is what its own text reads as: the calendar and the items by
-/// themselves, and the others beside them.
+/// Each table of an accepted bundle is what its own text reads as: the calendar, the items and the
+/// centres by themselves, and the others beside what they look at.
 pub fn accepted_tables_are_of_their_texts()
     ensures { (texts : List (List ℕ)) (tables : Tables) → tables_in texts ≡ Ok tables
         → AreOfTheirTexts texts tables }

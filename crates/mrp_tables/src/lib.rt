@@ -4,6 +4,7 @@
 mod bills;
 mod calendar;
 mod cells;
+mod centres;
 mod item;
 mod items;
 pub mod laws;
@@ -11,6 +12,7 @@ pub mod limits;
 mod master;
 mod reading;
 mod receipts;
+mod routings;
 mod rows;
 mod script;
 mod stock;

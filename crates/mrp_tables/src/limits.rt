@@ -17,6 +17,12 @@ pub const MOST_CALENDAR_RECORDS: u32 = 1_003;
 /// The most items.
 pub const MOST_ITEMS: u32 = 20_000;
 
+/// The most work centres.
+pub const MOST_CENTRES: u32 = 1_000;
+
+/// The most operations of all routings.
+pub const MOST_OPERATIONS: u32 = 50_000;
+
 /// The most records of the open receipts, of the bills, of the master schedule and of the script.
 pub const MOST_ROWS: u32 = 100_000;
 
@@ -27,7 +33,7 @@ pub const MOST_LEAD: u64 = 104;
 pub const MOST_PERIOD: u64 = 104;
 
 /// The most scrap in a thousand.
-pub const MOST_SCRAP: u64 = 900;
+pub const MOST_SCRAP: u64 = mrp_qty::MOST_SCRAP;
 
 /// The most pieces that a cell says.
 pub const MOST_PIECES: u64 = 1_000_000_000;
@@ -35,21 +41,37 @@ pub const MOST_PIECES: u64 = 1_000_000_000;
 /// The most pieces of a component in a piece of its parent.
 pub const MOST_PER: u64 = 1_000_000;
 
+/// The most minutes that a work centre works on a shop day.
+pub const MOST_MINUTES: u64 = 1_000_000_000;
+
+/// The greatest number of an operation.
+pub const GREATEST_OPERATION: u64 = 1_000_000_000;
+
+/// The most minutes that an operation takes to set up.
+pub const MOST_SETUP: u64 = 1_000_000;
+
+/// The most thousandths of a minute that a piece takes in an operation.
+pub const MOST_RUN: u64 = 1_000_000_000;
+
+/// The most weeks from an order's release to an operation.
+pub const MOST_OFFSET: u64 = 104;
+
 /// The most desks.
 pub const MOST_DESKS: u64 = 64;
 
 /// The most entries of the order book.
 pub const MOST_ENTRIES: u64 = 1_000_000;
 
-/// The most records that a table has, where it has a limit: centres and routings take none.
+/// The most records that a table has, where it has a limit.
 pub(crate) fn most_records(table: Table) -> Option<u32>
     ensures { result ≡ record_limit table }
 {
     match table {
         Table::Calendar => Some(MOST_CALENDAR_RECORDS),
         Table::Items => Some(MOST_ITEMS),
+        Table::Centres => Some(MOST_CENTRES),
         Table::Receipts | Table::Bills | Table::Master | Table::Script => Some(MOST_ROWS),
-        Table::Centres | Table::Routings => Some(0),
+        Table::Routings => Some(MOST_OPERATIONS),
         Table::Stock | Table::Bundle => None,
     }
 }

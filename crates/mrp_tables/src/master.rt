@@ -40,7 +40,7 @@ impl<'a> Model for Master<'a> {
 impl<'a> TableRows for Master<'a> {
     type Line = MasterRow;
 
-    ghost use Rattle.std.specs.Prelude.{◌≡◌};
+    ghost use Rattle.std.specs.Prelude.{◌≡◌, []};
     ghost use Rattle.mrp_tables.specs.Master.{master_row};
     ghost use Rattle.mrp_tables.specs.Reading.{by_itself};
 
@@ -50,7 +50,7 @@ impl<'a> TableRows for Master<'a> {
 
     ghost reads = { λ t. by_itself (master_row t.calendar t.items) };
 
-    ghost beside = { λ t. record { items = t.items; weeks = t.calendar.weeks } };
+    ghost beside = { λ t. record { items = t.items; centres = []; weeks = t.calendar.weeks } };
 
     fn add(&mut self, row: &Row) -> Result<(), Fault> {
         let master = master_row(row, self.calendar, self.items)?;

@@ -10,7 +10,6 @@ use crate::limits::most_records;
 use mrp_rows::faults::{COLUMNS, TOO_MANY};
 use mrp_rows::{Cursor, Fault, Row, Sections, Table};
 use std::alloc::Global;
-use std::marker::Model;
 
 fn is_past_limit(table: Table, number: u32) -> bool
     ensures { result ≡ is_past (record_limit table) number }
@@ -116,74 +115,4 @@ pub(crate) fn read_table<G: TableRows>(
 {
     let mut cursor = Cursor::new(alloc, sections, table)?;
     gather(&mut cursor, empty)
-}
-
-/// The rows of a table that takes no record.
-#[derive(Drop)]
-pub(crate) struct Untaken<T> {
-    rows: Vec<T>,
-}
-
-impl<T> Model for Untaken<T> {
-    ghost use Rattle.std.specs.Prelude.{List};
-
-    ghost Value = { List T };
-
-    ghost view = { λ t. t.rows.items };
-}
-
-impl<T: Drop> TableRows for Untaken<T> {
-    type Line = T;
-
-    ghost use Rattle.mrp_tables.specs.Gathered.{nothing};
-    ghost use Rattle.mrp_tables.specs.Readers.{untaken};
-
-    ghost takes = { λ count. Unit {0} };
-
-    ghost rows = { λ t. t };
-
-    ghost reads = { λ t. untaken };
-
-    ghost beside = { λ t. nothing };
-
-    fn add(&mut self, row: &Row) -> Result<(), Fault> {
-        Err(row.fault(TOO_MANY))
-    }
-}
-
-impl<T: Drop> Untaken<T> {
-    ghost use Rattle.std.specs.Prelude.{◌≡◌, [], IfOk, Some};
-    ghost use Rattle.mrp_rows.specs.Bundle.{text_in};
-    ghost use Rattle.mrp_tables.specs.Limits.{record_limit};
-    ghost use Rattle.mrp_tables.specs.Readers.{untaken};
-    ghost use Rattle.mrp_tables.specs.Reading.{Gives, IsRefusedIn, rows_of};
-
-    pub(crate) fn read(
-        alloc: Global,
-        sections: &Sections<'_>,
-        table: Table,
-    ) -> Result<Vec<T>, Fault>
-        requires { record_limit table ≡ Some 0 }
-        ensures rows { Gives (IsRefusedIn (untaken {X = T}) table (text_in sections.now table))
-            (λ rows. rows.items) result (rows_of untaken table (text_in sections.now table)) }
-        ensures none { IfOk result (λ rows. rows.items ≡ []) }
-    {
-        let rows = read_table(alloc, sections, table, Untaken::new(alloc))?;
-        Ok(rows.into_rows())
-    }
-
-    fn new(alloc: Global) -> Untaken<T>
-        ensures { result ≡ [] }
-    {
-        Untaken {
-            rows: Vec::new(alloc),
-        }
-    }
-
-    fn into_rows(self) -> Vec<T>
-        ensures { result.items ≡ self }
-    {
-        let Untaken { rows } = self;
-        rows
-    }
 }

@@ -59,7 +59,7 @@ impl<'a> Model for Receipts<'a> {
 impl<'a> TableRows for Receipts<'a> {
     type Line = Receipt;
 
-    ghost use Rattle.std.specs.Prelude.{◌≡◌};
+    ghost use Rattle.std.specs.Prelude.{◌≡◌, []};
     ghost use Rattle.mrp_tables.specs.Receipts.{receipt_row};
 
     ghost takes = { λ count. count ≡ 4 };
@@ -68,7 +68,7 @@ impl<'a> TableRows for Receipts<'a> {
 
     ghost reads = { λ t. receipt_row t.calendar t.items };
 
-    ghost beside = { λ t. record { items = t.items; weeks = t.calendar.weeks } };
+    ghost beside = { λ t. record { items = t.items; centres = []; weeks = t.calendar.weeks } };
 
     fn add(&mut self, row: &Row) -> Result<(), Fault> {
         let receipt = receipt_of(row, self.calendar, self.items, &self.seen)?;
@@ -156,7 +156,7 @@ fn receipt_placed(
 impl<'a> Receipts<'a> {
     ghost use Rattle.std.specs.Prelude.{◌≡◌, ◌≤◌, [], All, IfOk, Ok, length};
     ghost use Rattle.mrp_tables.specs.declared.limits.TheConstants.{MOST_ROWS};
-    ghost use Rattle.mrp_tables.specs.Facts.{AllDiffer, IsReceipt};
+    ghost use Rattle.mrp_tables.specs.Facts.{AllDiffer, IsReceipt, NumbersRise};
     ghost use Rattle.mrp_tables.specs.Readers.{GivesTable, calendar_in, items_in};
     ghost use Rattle.mrp_tables.specs.Receipts.{orders_of, receipts_that_count};
 
@@ -170,6 +170,7 @@ impl<'a> Receipts<'a> {
         requires items { items_in sections.now ≡ Ok items.now }
         ensures table { GivesTable sections.now Table.Receipts result (λ rows. rows.items) }
         ensures within { IfOk result (λ rows. All (IsReceipt calendar.now.weeks items.now) rows.items) }
+        ensures numbers { IfOk result (λ rows. NumbersRise rows.items) }
         ensures once { IfOk result (λ rows. AllDiffer (orders_of rows.items)) }
         ensures count { IfOk result (λ rows. length rows.items ≤ MOST_ROWS) }
     {

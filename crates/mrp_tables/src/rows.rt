@@ -9,7 +9,7 @@ use mrp_rows::Name;
 pub struct Centre {
     /// The centre's name, no other centre's.
     pub name: Name,
-    /// The minutes that it works on a shop day.
+    /// The minutes that it works on a shop day, up to `MOST_MINUTES`.
     pub minutes: u64,
 }
 
@@ -53,15 +53,15 @@ pub struct BillLine {
 pub struct Operation {
     /// The item that is made.
     pub item: usize,
-    /// The operation's number in the item's routing.
+    /// The operation's number, 1 to `GREATEST_OPERATION`, no other of the item's.
     pub operation: u64,
     /// The work centre, by its place.
     pub centre: usize,
-    /// The minutes that an order takes to set up.
+    /// The minutes that an order takes to set up, up to `MOST_SETUP`.
     pub setup: u64,
-    /// The thousandths of a minute that a piece takes.
+    /// The thousandths of a minute that a piece takes, up to `MOST_RUN`.
     pub run: u64,
-    /// The weeks from an order's release to the operation.
+    /// The weeks from an order's release to the operation, up to `MOST_OFFSET`.
     pub offset: u64,
 }
 

@@ -56,7 +56,7 @@ impl<'a> Model for Script<'a> {
 impl<'a> TableRows for Script<'a> {
     type Line = ScriptRow;
 
-    ghost use Rattle.std.specs.Prelude.{◌≡◌};
+    ghost use Rattle.std.specs.Prelude.{◌≡◌, []};
     ghost use Rattle.mrp_tables.specs.Reading.{by_itself};
     ghost use Rattle.mrp_tables.specs.Script.{script_row};
 
@@ -66,7 +66,7 @@ impl<'a> TableRows for Script<'a> {
 
     ghost reads = { λ t. by_itself (script_row t.calendar t.items) };
 
-    ghost beside = { λ t. record { items = t.items; weeks = t.calendar.weeks } };
+    ghost beside = { λ t. record { items = t.items; centres = []; weeks = t.calendar.weeks } };
 
     fn add(&mut self, row: &Row) -> Result<(), Fault> {
         // Taken apart, so that the proof knows the type of the call.

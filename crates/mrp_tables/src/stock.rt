@@ -44,7 +44,7 @@ impl<'a> Model for Stock<'a> {
 impl<'a> TableRows for Stock<'a> {
     type Line = StockRow;
 
-    ghost use Rattle.std.specs.Prelude.{◌≡◌};
+    ghost use Rattle.std.specs.Prelude.{◌≡◌, []};
     ghost use Rattle.mrp_tables.specs.Stock.{stock_row};
 
     ghost takes = { λ count. count ≡ 2 };
@@ -53,7 +53,7 @@ impl<'a> TableRows for Stock<'a> {
 
     ghost reads = { λ t. stock_row t.items };
 
-    ghost beside = { λ t. record { items = t.items; weeks = 0 } };
+    ghost beside = { λ t. record { items = t.items; centres = []; weeks = 0 } };
 
     fn add(&mut self, row: &Row) -> Result<(), Fault> {
         let stock = stock_cells(row, self.items)?;

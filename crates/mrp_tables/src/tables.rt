@@ -1,19 +1,20 @@
 //! The tables of a bundle.
 
-ghost use Rattle.mrp_tables.specs.declared.limits.TheConstants.{MOST_ITEMS, MOST_ROWS};
+ghost use Rattle.mrp_tables.specs.declared.limits.TheConstants.{MOST_CENTRES, MOST_ITEMS, MOST_OPERATIONS, MOST_ROWS};
 
 use crate::bills::Bills;
 use crate::calendar::Entries;
+use crate::centres::Centres;
 use crate::item::Item;
 use crate::items::Items;
 use crate::master::Master;
-use crate::reading::Untaken;
 use crate::receipts::Receipts;
+use crate::routings::Routings;
 use crate::rows::{BillLine, Centre, MasterRow, Operation, Receipt, ScriptRow, StockRow};
 use crate::script::Script;
 use crate::stock::Stock;
 use mrp_cal::Calendar;
-use mrp_rows::{Fault, Name, Sections, Table};
+use mrp_rows::{Fault, Name, Sections};
 use std::alloc::Global;
 use std::marker::Model;
 
@@ -62,10 +63,12 @@ impl Model for Tables {
 }
 
 impl Tables {
-    ghost use Rattle.std.specs.Prelude.{◌≡◌, ◌<◌, ◌≤◌, [], All, IfSome, length};
-    ghost use Rattle.mrp_tables.specs.Facts.{AllDiffer, IsBillLine, IsItem, IsMasterRow, IsReceipt, IsScriptRow, IsStockRow};
+    ghost use Rattle.std.specs.Prelude.{◌≡◌, ◌<◌, ◌≤◌, All, IfSome, length};
+    ghost use Rattle.mrp_tables.specs.Centres.{centre_names};
+    ghost use Rattle.mrp_tables.specs.Facts.{AllDiffer, IsBillLine, IsCentre, IsItem, IsMasterRow, IsOperation, IsReceipt, IsScriptRow, IsStockRow, NumbersRise};
     ghost use Rattle.mrp_tables.specs.Items.{names_of, place_of};
     ghost use Rattle.mrp_tables.specs.Receipts.{orders_of};
+    ghost use Rattle.mrp_tables.specs.Routings.{operations_of};
     ghost use Rattle.mrp_tables.specs.Stock.{items_in_stock};
     ghost use Rattle.mrp_tables.specs.Laws.{IsMemoryRefusal};
     ghost use Rattle.mrp_tables.specs.Reading.{Gives};
@@ -84,17 +87,17 @@ impl Tables {
     {
         let calendar = Entries::read(alloc, sections)?;
         let items = Items::read(alloc, sections)?;
-        let centres = Untaken::read(alloc, sections, Table::Centres)?;
+        let centres = Centres::read(alloc, sections)?;
         let stock = Stock::read(alloc, sections, &items)?;
         let receipts = Receipts::read(alloc, sections, &calendar, &items)?;
         let bills = Bills::read(alloc, sections, &items)?;
-        let routings = Untaken::read(alloc, sections, Table::Routings)?;
+        let routings = Routings::read(alloc, sections, &items, &centres)?;
         let master = Master::read(alloc, sections, &calendar, &items)?;
         let script = Script::read(alloc, sections, &calendar, &items)?;
         Ok(Tables {
             calendar,
             items,
-            centres,
+            centres: centres.into_rows(),
             stock,
             receipts,
             bills,
@@ -129,10 +132,12 @@ impl Tables {
         self.items.find(name)
     }
 
-    /// The work centres, in table order: none, since their table takes no record.
+    /// The work centres, in table order.
     pub fn centres(&self) -> &[Centre]
         ensures rows { result.now ≡ self.now.centres }
-        ensures none { result.now ≡ [] }
+        ensures within { All IsCentre result.now }
+        ensures names { AllDiffer (centre_names result.now) }
+        ensures count { length result.now ≤ MOST_CENTRES }
     {
         self.centres.as_slice()
     }
@@ -146,10 +151,12 @@ impl Tables {
         self.stock.as_slice()
     }
 
-    /// The open receipts of at least one piece, in table order: an item's order at most once.
+    /// The open receipts of at least one piece, in table order, so by their records' numbers: an
+    /// item's order at most once.
     pub fn receipts(&self) -> &[Receipt]
         ensures rows { result.now ≡ self.now.receipts }
         ensures within { All (IsReceipt self.now.calendar.weeks self.now.items) result.now }
+        ensures numbers { NumbersRise result.now }
         ensures once { AllDiffer (orders_of result.now) }
         ensures count { length result.now ≤ MOST_ROWS }
     {
@@ -165,10 +172,12 @@ impl Tables {
         self.bills.as_slice()
     }
 
-    /// The operations of the routings, in table order: none, since their table takes no record.
+    /// The operations of the routings, in table order: an item's operation at most once.
     pub fn routings(&self) -> &[Operation]
         ensures rows { result.now ≡ self.now.routings }
-        ensures none { result.now ≡ [] }
+        ensures within { All (IsOperation self.now.items self.now.centres) result.now }
+        ensures once { AllDiffer (operations_of result.now) }
+        ensures count { length result.now ≤ MOST_OPERATIONS }
     {
         self.routings.as_slice()
     }

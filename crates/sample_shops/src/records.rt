@@ -19,12 +19,16 @@ pub struct Records<'a> {
     pub calendar: &'a str,
     /// The items.
     pub items: &'a str,
+    /// The work centres.
+    pub centres: &'a str,
     /// What is on hand.
     pub stock: &'a str,
     /// The open receipts.
     pub receipts: &'a str,
     /// The bill lines.
     pub bills: &'a str,
+    /// The operations of the routings.
+    pub routings: &'a str,
     /// The firm rows and forecasts of the master schedule.
     pub master: &'a str,
     /// The calls of the desks.
@@ -39,13 +43,17 @@ impl Records<'_> {
             self.calendar,
             "[items]\nitem,class,lead,scrap,lot,size,safety\n",
             self.items,
-            "[centres]\ncentre,minutes\n[stock]\nitem,onhand\n",
+            "[centres]\ncentre,minutes\n",
+            self.centres,
+            "[stock]\nitem,onhand\n",
             self.stock,
             "[receipts]\nitem,order,date,quantity\n",
             self.receipts,
             "[bills]\nparent,component,per\n",
             self.bills,
-            "[routings]\nitem,op,centre,setup,run,offset\n[master]\nitem,row,date,quantity\n",
+            "[routings]\nitem,op,centre,setup,run,offset\n",
+            self.routings,
+            "[master]\nitem,row,date,quantity\n",
             self.master,
             "[script]\ndesk,call,item,date,quantity,number\n",
             self.script,

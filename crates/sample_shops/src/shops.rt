@@ -8,9 +8,11 @@ pub fn no_records() -> Records<'static> {
     Records {
         calendar: "start,2025-01-06\nweeks,6\nworkdays,1111100\nholiday,2025-01-20\n",
         items: "",
+        centres: "",
         stock: "",
         receipts: "",
         bills: "",
+        routings: "",
         master: "",
         script: "",
     }
@@ -91,7 +93,7 @@ TOP,firm,2025-01-20,8\n\
 TOP,forecast,2025-01-06,5\n\
 TOP,forecast,2025-01-20,8\n\
 TOP,forecast,2025-01-27,21\n",
-        script: "",
+        ..no_records()
     }
 }
 

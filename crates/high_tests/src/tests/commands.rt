@@ -4,9 +4,14 @@ use super::streams::{Turn, reader, writer};
 use super::texts::{BICYCLE_HISTORY, BICYCLE_REPORT};
 use super::{made, same};
 use mrp_main::run_words;
+use mrp_rows::GREATEST_BUNDLE;
 use sample_shops::bicycles;
 use std::alloc::Global;
+use std::fs;
+use std::fs::{File, OpenFile};
 use std::process::Abort;
+use std::rt::Files;
+use std::test::Fail;
 use std::thread::Threads;
 
 const PLAN: &[&str] = &["plan"];
@@ -43,7 +48,7 @@ struct Left {
 }
 
 // What these words leave.
-fn left_by<R: Alloc + Abort + Threads + Sync>(
+fn left_by<R: Alloc + Abort + Files + Threads + Sync>(
     rt: &R,
     alloc: Global,
     words: &[&str],
@@ -149,7 +154,7 @@ fn a_writer_that_fails_has_a_front_of_the_day(rt: HostRuntime) {
 }
 
 // The status of a run whose error stream fails.
-fn unheard_status<R: Alloc + Abort + Threads + Sync>(
+fn unheard_status<R: Alloc + Abort + Files + Threads + Sync>(
     rt: &R,
     alloc: Global,
     words: &[&str],
@@ -184,40 +189,50 @@ fn is_usage(rt: &impl Abort, left: &Left, line: &str) {
     same(rt, left.errors.as_str().lines().next(), Some(line));
 }
 
+// Wrong words, and the first line that is told of them.
+const WRONG: [(&[&str], &str); 11] = [
+    (
+        &[],
+        "error: 'mrp' requires a subcommand but one was not provided",
+    ),
+    (&["plans"], "error: unrecognized subcommand 'plans'"),
+    (
+        &["plan", "--workers", "0"],
+        "error: invalid value '0' for '--workers <N>': 0 is not in 1..=64",
+    ),
+    (
+        &["plan", "--workers", "65"],
+        "error: invalid value '65' for '--workers <N>': 65 is not in 1..=64",
+    ),
+    (
+        &["plan", "--workers", "x"],
+        "error: invalid value 'x' for '--workers <N>': invalid digit found in string",
+    ),
+    (
+        &["plan", "--workers"],
+        "error: a value is required for '--workers <N>' but none was supplied",
+    ),
+    (
+        &["plan", "--workers", "1", "--workers", "2"],
+        "error: the argument '--workers <N>' cannot be used multiple times",
+    ),
+    (
+        &["plan", "--dir"],
+        "error: a value is required for '--dir <D>' but none was supplied",
+    ),
+    (
+        &["plan", "--dir", "a", "--dir", "b"],
+        "error: the argument '--dir <D>' cannot be used multiple times",
+    ),
+    (&["plan", "more"], "error: unexpected argument 'more' found"),
+    (
+        &["--workers", "2"],
+        "error: unexpected argument '--workers' found",
+    ),
+];
+
 #[test]
 fn wrong_words_are_usage(rt: HostRuntime) {
-    const WRONG: [(&[&str], &str); 9] = [
-        (
-            &[],
-            "error: 'mrp' requires a subcommand but one was not provided",
-        ),
-        (&["plans"], "error: unrecognized subcommand 'plans'"),
-        (
-            &["plan", "--workers", "0"],
-            "error: invalid value '0' for '--workers <N>': 0 is not in 1..=64",
-        ),
-        (
-            &["plan", "--workers", "65"],
-            "error: invalid value '65' for '--workers <N>': 65 is not in 1..=64",
-        ),
-        (
-            &["plan", "--workers", "x"],
-            "error: invalid value 'x' for '--workers <N>': invalid digit found in string",
-        ),
-        (
-            &["plan", "--workers"],
-            "error: a value is required for '--workers <N>' but none was supplied",
-        ),
-        (
-            &["plan", "--workers", "1", "--workers", "2"],
-            "error: the argument '--workers <N>' cannot be used multiple times",
-        ),
-        (&["plan", "more"], "error: unexpected argument 'more' found"),
-        (
-            &["--workers", "2"],
-            "error: unexpected argument '--workers' found",
-        ),
-    ];
     let bundle = made(&rt, bicycles().bundle(rt.alloc()));
     for (words, line) in WRONG {
         let left = left_by(&rt, rt.alloc(), words, Streams::of(&bundle));
@@ -246,6 +261,34 @@ fn help_is_written_to_the_output(rt: HostRuntime) {
     for words in ASKED {
         let left = left_by(&rt, rt.alloc(), words, Streams::of(""));
         is_help(&rt, &left);
+        drop(left);
+    }
+}
+
+// Makes a folder whose calendar is a folder, and one that has an item table too long for a bundle. They
+// may be there from an earlier run.
+fn make_folders(files: &impl Files) -> Result<(), Fail> {
+    for folder in ["out", "out/shut", "out/shut/calendar.csv", "out/long"] {
+        let _ = fs::create_dir(files, folder);
+    }
+    let items = File::create(files, "out/long/items.csv")?;
+    items.set_len(GREATEST_BUNDLE as u64 + 1)?;
+    Ok(())
+}
+
+// The input is no bundle, and is not read.
+#[test]
+fn folders_that_can_not_be_read_are_told(rt: HostRuntime) {
+    const ENDS: [(&str, u8, &str); 3] = [
+        ("nowhere", 1, "refused: 4 missing-section calendar 0\n"),
+        ("out/shut", 4, "read failed\n"),
+        ("out/long", 4, "read failed\n"),
+    ];
+    made(&rt, make_folders(&rt));
+    for (folder, status, errors) in ENDS {
+        let words = ["plan", "--dir", folder];
+        let left = left_by(&rt, rt.alloc(), &words, Streams::of("no bundle"));
+        has_ended(&rt, &left, status, "", errors);
         drop(left);
     }
 }

@@ -118,6 +118,11 @@ TOP,firm,1,CANCEL,\n",
     ),
 ];
 
+// A report's end where there is no work centre.
+const NO_LOADS: &str = "\
+[loads]\n\
+centre,week,load,capacity,over\n";
+
 // The rows of all parts behind each front.
 fn rows_of_parts(rt: &impl Abort, alloc: Global, rows: &[(&str, &str)]) -> String {
     let mut text = String::new(alloc);
@@ -142,7 +147,8 @@ fn many_parts_of_a_level_explode(rt: HostRuntime) {
         ..no_records()
     };
     let inputs = made(&rt, shop.inputs(alloc, &[]));
-    let want = rows_of_parts(&rt, alloc, &MANY);
+    let mut want = rows_of_parts(&rt, alloc, &MANY);
+    want.push_str(NO_LOADS).expect(&rt, "memory");
     explodes(&rt, alloc, &inputs, &want);
     drop((items, bills));
     drop((inputs, want));

@@ -8,10 +8,10 @@ use std::alloc::Global;
 use std::process::Abort;
 
 // A peg: the item, the week and the kind of its requirement, the supply, the pieces.
-type Cells = (usize, Option<(u16, NeedKind)>, Supplied, u64);
+pub type Cells = (usize, Option<(u16, NeedKind)>, Supplied, u64);
 
 // Fails unless these are the pegs, and their requirements are of the same items.
-fn are_pegs(rt: &impl Abort, got: &[Peg], want: &[Cells]) {
+pub fn are_pegs(rt: &impl Abort, got: &[Peg], want: &[Cells]) {
     same(rt, got.len(), want.len());
     for (peg, (item, need, supply, pieces)) in got.iter().zip(want) {
         let need = match need {

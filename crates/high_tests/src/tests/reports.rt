@@ -10,6 +10,7 @@ use sample_shops::{Asked, bicycles, book_of};
 use std::alloc::Global;
 use std::io::{Eprint, Write};
 use std::process::Abort;
+use std::thread::Threads;
 
 // Fails unless the text was written.
 fn has_text(rt: &impl Abort, writer: Told<Vec<u8>>, want: &str) {
@@ -19,7 +20,12 @@ fn has_text(rt: &impl Abort, writer: Told<Vec<u8>>, want: &str) {
 }
 
 // Fails unless a plan has this report.
-pub fn has_report<R: Alloc + Abort>(rt: &R, alloc: Global, plan: &Plan, want: &str) {
+pub fn has_report<R: Alloc + Abort + Threads + Sync>(
+    rt: &R,
+    alloc: Global,
+    plan: &Plan,
+    want: &str,
+) {
     let mut writer = Told::new(Vec::new(alloc));
     same(rt, write_report(rt, alloc, plan, &mut writer), Ok(()));
     has_text(rt, writer, want);

@@ -63,7 +63,9 @@ item,supply,source,message,value\n\
 BIKE,firm,1,OUT,4\n\
 BIKE,firm,2,CANCEL,\n\
 FRAME,planned,1,RELEASE,\n\
-WHEEL,planned,1,RELEASE,\n";
+WHEEL,planned,1,RELEASE,\n\
+[loads]\n\
+centre,week,load,capacity,over\n";
 
 // What two desks booked and asked, and a run.
 pub const LOTS_HISTORY: &str = "\
@@ -150,7 +152,9 @@ BIKE,firm,3,IN,4\n\
 FRAME,planned,1,PAST-DUE,1\n\
 FRAME,planned,2,RELEASE,\n\
 FRAME,open,R1,IN,1\n\
-WHEEL,planned,1,PAST-DUE,1\n";
+WHEEL,planned,1,PAST-DUE,1\n\
+[loads]\n\
+centre,week,load,capacity,over\n";
 
 // The report of a run over the bicycles with screws at three levels.
 pub const SCREW_REPORT: &str = "\
@@ -206,7 +210,9 @@ TUBE,2,parent,1,FRAME,3,planned,1,3\n\
 FRAME,2,parent,1,BIKE,2,planned,1,3\n\
 [messages]\n\
 item,supply,source,message,value\n\
-BIKE,firm,1,CANCEL,\n";
+BIKE,firm,1,CANCEL,\n\
+[loads]\n\
+centre,week,load,capacity,over\n";
 
 // Every call of the desks, with every reply.
 pub const CALLED: &str = "\

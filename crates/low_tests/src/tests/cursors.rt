@@ -23,7 +23,7 @@ pub fn next_row(rt: &impl Abort, cursor: &mut Cursor<'_>) -> Row {
 
 // Fails unless a record has this number and these cells.
 fn is_row(rt: &impl Abort, row: &Row, number: usize, cells: &[&[u8]]) {
-    same(rt, row.fault(0).row as usize, number);
+    same(rt, row.record() as usize, number);
     assert!(rt; row.cell_count() == cells.len());
     for column in 0..cells.len() {
         same(rt, row.cell(column), cells[column]);

@@ -22,6 +22,8 @@ WHEEL,part,1,0,lfl,0,0\n\
 P,part,1,0,lfl,0,0\n\
 [centres]\n\
 centre,minutes\n\
+WELD,20\n\
+C,0\n\
 [stock]\n\
 item,onhand\n\
 [receipts]\n\
@@ -33,6 +35,7 @@ BIKE,FRAME,1\n\
 BIKE,WHEEL,2\n\
 [routings]\n\
 item,op,centre,setup,run,offset\n\
+FRAME,10,WELD,30,2500,0\n\
 [master]\n\
 item,row,date,quantity\n\
 BIKE,forecast,2025-01-27,6\n\
@@ -40,19 +43,22 @@ BIKE,forecast,2025-01-27,6\n\
 desk,call,item,date,quantity,number\n\
 1,run,,,,\n";
 
-// How many items, receipts, bill lines, rows of the master schedule and calls there are.
-fn counts_of(tables: &Tables) -> [usize; 5] {
+// How many items, centres, receipts, bill lines, operations, rows of the master schedule and calls
+// there are.
+fn counts_of(tables: &Tables) -> [usize; 7] {
     [
         tables.items().len(),
+        tables.centres().len(),
         tables.receipts().len(),
         tables.bills().len(),
+        tables.routings().len(),
         tables.master().len(),
         tables.script().len(),
     ]
 }
 
 // How many rows the tables of a bundle have, or their first fault.
-fn counts(alloc: Global, bundle: &str) -> Result<[usize; 5], Fault> {
+fn counts(alloc: Global, bundle: &str) -> Result<[usize; 7], Fault> {
     let sections = split_bundle(bundle.as_bytes())?;
     match Tables::read(alloc, &sections) {
         Ok(tables) => {
@@ -77,7 +83,7 @@ fn has_rows(
     alloc: Global,
     record: &str,
     records: &str,
-    want: Result<[usize; 5], &str>,
+    want: Result<[usize; 7], &str>,
 ) {
     let bundle = shop_with(rt, alloc, record, records);
     let read = counts(alloc, &bundle);
@@ -102,27 +108,28 @@ fn repeated(rt: &impl Abort, alloc: Global, record: &str, count: usize) -> Strin
 
 #[test]
 fn a_record_past_its_tables_limit_is_refused(rt: HostRuntime) {
-    // A record, how often it stands, and the rows of items, receipts, bills, master and script.
-    const REPEATED: &[(&str, usize, Result<[usize; 5], &str>)] = &[
-        ("holiday,2025-01-20\n", 1_000, Ok([4, 1, 2, 1, 1])),
+    // A record, how often it stands, and the rows of items, centres, receipts, bills, routings,
+    // master and script.
+    const REPEATED: &[(&str, usize, Result<[usize; 7], &str>)] = &[
+        ("holiday,2025-01-20\n", 1_000, Ok([4, 2, 1, 2, 1, 1, 1])),
         (
             "holiday,2025-01-20\n",
             1_001,
             Err("20 too-many calendar 1004"),
         ),
-        ("BIKE,WHEEL,2\n", 99_999, Ok([4, 1, 100_000, 1, 1])),
+        ("BIKE,WHEEL,2\n", 99_999, Ok([4, 2, 1, 100_000, 1, 1, 1])),
         ("BIKE,WHEEL,2\n", 100_000, Err("20 too-many bills 100001")),
         (
             "BIKE,forecast,2025-01-27,6\n",
             100_000,
-            Ok([4, 1, 2, 100_000, 1]),
+            Ok([4, 2, 1, 2, 1, 100_000, 1]),
         ),
         (
             "BIKE,forecast,2025-01-27,6\n",
             100_001,
             Err("20 too-many master 100001"),
         ),
-        ("1,run,,,,\n", 100_000, Ok([4, 1, 2, 1, 100_000])),
+        ("1,run,,,,\n", 100_000, Ok([4, 2, 1, 2, 1, 1, 100_000])),
         ("1,run,,,,\n", 100_001, Err("20 too-many script 100001")),
     ];
     for (record, count, want) in REPEATED {
@@ -141,16 +148,33 @@ fn numbered(rt: &impl Abort, alloc: Global, front: &str, back: &str, count: u32)
     records
 }
 
+// A record, the pieces of those that stand in its place, how many they are, and the rows of items,
+// centres, receipts, bills, routings, master and script.
+type Numbered = (
+    &'static str,
+    &'static str,
+    &'static str,
+    u32,
+    Result<[usize; 7], &'static str>,
+);
+
+// Fails unless the shop with each of these has its rows, or its fault.
+fn have_rows(rt: &impl Abort, alloc: Global, lists: &[Numbered]) {
+    for (record, front, back, count, want) in lists {
+        let records = numbered(rt, alloc, front, back, *count);
+        has_rows(rt, alloc, record, &records, *want);
+    }
+}
+
 #[test]
 fn an_item_or_receipt_past_the_limit_is_refused(rt: HostRuntime) {
-    // A record, the pieces of those that stand in its place, how many they are, and the rows.
-    const NUMBERED: &[(&str, &str, &str, u32, Result<[usize; 5], &str>)] = &[
+    const LISTS: &[Numbered] = &[
         (
             "P,part,1,0,lfl,0,0\n",
             "P",
             ",part,1,0,lfl,0,0\n",
             19_997,
-            Ok([20_000, 1, 2, 1, 1]),
+            Ok([20_000, 2, 1, 2, 1, 1, 1]),
         ),
         (
             "P,part,1,0,lfl,0,0\n",
@@ -164,7 +188,7 @@ fn an_item_or_receipt_past_the_limit_is_refused(rt: HostRuntime) {
             "FRAME,R",
             ",2025-01-22,15\n",
             100_000,
-            Ok([4, 100_000, 2, 1, 1]),
+            Ok([4, 2, 100_000, 2, 1, 1, 1]),
         ),
         (
             "FRAME,R,2025-01-22,15\n",
@@ -174,10 +198,30 @@ fn an_item_or_receipt_past_the_limit_is_refused(rt: HostRuntime) {
             Err("20 too-many receipts 100001"),
         ),
     ];
-    for (record, front, back, count, want) in NUMBERED {
-        let records = numbered(&rt, rt.alloc(), front, back, *count);
-        has_rows(&rt, rt.alloc(), record, &records, *want);
-    }
+    have_rows(&rt, rt.alloc(), LISTS);
+}
+
+#[test]
+fn a_centre_or_operation_past_the_limit_is_refused(rt: HostRuntime) {
+    const LISTS: &[Numbered] = &[
+        ("C,0\n", "C", ",0\n", 999, Ok([4, 1_000, 1, 2, 1, 1, 1])),
+        ("C,0\n", "C", ",0\n", 1_000, Err("20 too-many centres 1001")),
+        (
+            "FRAME,10,WELD,30,2500,0\n",
+            "FRAME,",
+            ",WELD,30,2500,0\n",
+            50_000,
+            Ok([4, 2, 1, 2, 50_000, 1, 1]),
+        ),
+        (
+            "FRAME,10,WELD,30,2500,0\n",
+            "FRAME,",
+            ",WELD,30,2500,0\n",
+            50_001,
+            Err("20 too-many routings 50001"),
+        ),
+    ];
+    have_rows(&rt, rt.alloc(), LISTS);
 }
 
 #[test]

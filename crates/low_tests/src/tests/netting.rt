@@ -1,11 +1,8 @@
 //! Needs, and balances at the end of each week.
 
-ghost use Rattle.std.specs.Prelude.{◌≡◌, ◌≤◌, ℕ, IsTrue, length};
-ghost use Rattle.mrp_phase.specs.Weeks.{in_week};
-
 use super::weeks::{has_row, of_one_length, row_of};
 use super::{MOST, pieces, same};
-use mrp_net::{NetFault, Stock, balance_row, need};
+use mrp_net::{NetFault, Stock, balance_row, need, never_fall};
 use mrp_phase::Weeks;
 use mrp_qty::Qty;
 use std::alloc::Global;
@@ -64,21 +61,6 @@ fn stock_of(rt: &impl Abort, alloc: Global, on_hand: u64, safety: u64, scheduled
     }
 }
 
-// Whether no quantity of a row is below one before it.
-#[tactic(auto, using(mrp_phase::proofs::WeekRows::in_week_next))]
-fn never_falls(row: &[Qty]) -> bool
-    ensures { IsTrue result → (s t : ℕ) → s ≤ t → t ≤ length row.now → in_week row.now s ≤ in_week row.now t }
-{
-    let mut before = 0;
-    for quantity in row {
-        if quantity.value() < before {
-            return false;
-        }
-        before = quantity.value();
-    }
-    true
-}
-
 // The balances that receipts leave, which must not fall; fails where the rows don't fit.
 fn balances_of(
     rt: &impl Abort,
@@ -89,8 +71,7 @@ fn balances_of(
 ) -> Result<Weeks<Qty>, NetFault> {
     of_one_length(rt, &stock.scheduled, gross);
     of_one_length(rt, receipts, gross);
-    let rises = never_falls(receipts.as_slice());
-    assert!(rt; rises);
+    assert!(rt; never_fall(receipts.as_slice()));
     balance_row(alloc, gross, stock, receipts)
 }
 

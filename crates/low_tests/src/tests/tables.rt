@@ -5,8 +5,8 @@ use jiff::civil::date;
 use mrp_cal::Calendar;
 use mrp_rows::{Name, split_bundle};
 use mrp_tables::{
-    BillLine, Class, Item, LotRule, MasterKind, MasterRow, Receipt, ScriptCall, ScriptRow,
-    StockRow, Tables,
+    BillLine, Centre, Class, Item, LotRule, MasterKind, MasterRow, Operation, Receipt, ScriptCall,
+    ScriptRow, StockRow, Tables,
 };
 use std::alloc::Global;
 use std::process::Abort;
@@ -27,6 +27,9 @@ WHEEL,part,2,0,period,2,0\n\
 \"A,B\",part,0,900,lfl,7,1000000000\n\
 [centres]\n\
 centre,minutes\n\
+WELD,0020\n\
+PAINT,0\n\
+\"A,B\",1000000000\n\
 [stock]\n\
 item,onhand\n\
 WHEEL,30\n\
@@ -43,6 +46,9 @@ BIKE,FRAME,1\n\
 BIKE,WHEEL,2\n\
 [routings]\n\
 item,op,centre,setup,run,offset\n\
+WHEEL,20,PAINT,0,0,104\n\
+FRAME,020,\"A,B\",1000000,1000000000,3\n\
+BIKE,1000000000,WELD,1,2,0\n\
 [master]\n\
 item,row,date,quantity\n\
 BIKE,firm,2025-01-20,20\n\
@@ -138,6 +144,50 @@ fn items_are_found_by_their_whole_names(rt: HostRuntime) {
     ];
     let shop = read(&rt, rt.alloc(), SHOP);
     are_found(&rt, &shop, NAMES);
+    drop(shop);
+}
+
+// Fails unless these are the work centres, with their minutes.
+fn are_centres(rt: &impl Abort, centres: &[Centre], want: &[(&str, u64)]) {
+    same(rt, centres.len(), want.len());
+    for (centre, cells) in centres.iter().zip(want) {
+        let (word, minutes) = *cells;
+        same(rt, (centre.name, centre.minutes), (name(rt, word), minutes));
+    }
+}
+
+#[test]
+fn centres_and_operations_are_read_with_their_places(rt: HostRuntime) {
+    const CENTRES: &[(&str, u64)] = &[("WELD", 20), ("PAINT", 0), ("A,B", 1_000_000_000)];
+    const OPERATIONS: &[Operation] = &[
+        Operation {
+            item: 2,
+            operation: 20,
+            centre: 1,
+            setup: 0,
+            run: 0,
+            offset: 104,
+        },
+        Operation {
+            item: 1,
+            operation: 20,
+            centre: 2,
+            setup: 1_000_000,
+            run: 1_000_000_000,
+            offset: 3,
+        },
+        Operation {
+            item: 0,
+            operation: 1_000_000_000,
+            centre: 0,
+            setup: 1,
+            run: 2,
+            offset: 0,
+        },
+    ];
+    let shop = read(&rt, rt.alloc(), SHOP);
+    are_centres(&rt, shop.centres(), CENTRES);
+    same(&rt, shop.routings(), OPERATIONS);
     drop(shop);
 }
 

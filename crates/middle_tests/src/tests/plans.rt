@@ -1,7 +1,6 @@
 //! Plans of shops, item by item.
 
-ghost use Rattle.std.specs.Prelude.{◌≡◌, ◌≤◌, ℕ, IsTrue, length};
-ghost use Rattle.mrp_phase.specs.Weeks.{in_week};
+ghost use Rattle.std.specs.Prelude.{◌≡◌, length};
 
 use super::making::outcomes_of;
 use super::worked::{
@@ -10,7 +9,7 @@ use super::worked::{
 };
 use super::{made, same};
 use mrp_item::{Due, Inputs, Order, Outcome, Plan, Planned, ShopRows};
-use mrp_net::balance_row;
+use mrp_net::{balance_row, never_fall};
 use mrp_phase::Weeks;
 use mrp_qty::Qty;
 use sample_shops::{Asked, Records, bicycles, bicycles_in_lots, chain, fork, morning};
@@ -47,21 +46,6 @@ fn of_one_length(rt: &impl Abort, left: &Weeks<Qty>, right: &Weeks<Qty>)
     ensures { length left.now ≡ length right.now }
 {
     assert!(rt; left.weeks() == right.weeks());
-}
-
-// Whether planned receipts up to each week never fall.
-#[tactic(auto, using(mrp_phase::proofs::WeekRows::in_week_next))]
-fn never_fall(receipts: &[Qty]) -> bool
-    ensures { IsTrue result → (s t : ℕ) → s ≤ t → t ≤ length receipts.now → in_week receipts.now s ≤ in_week receipts.now t }
-{
-    let mut before = 0;
-    for quantity in receipts {
-        if quantity.value() < before {
-            return false;
-        }
-        before = quantity.value();
-    }
-    true
 }
 
 // Fails unless an item is planned so.

@@ -35,3 +35,8 @@ pub returns-clause-day : goal.returns-clause-day
 returns-clause-day g c =
     let given = g.R.Read.remaining (inner_of c.args.reader.now) in
     (text_of c.in_ok-day.day, tells-planned given c.in_ok-shop.shop.tables c.in_ok-day.day c.in_ok-shop.ensures.shop c.in_ok-day.ensures, c.in_ok-write_day.ensures.whole)
+
+pub returns-in_err-write_day-clause-unfailed : goal.returns-in_err-write_day-clause-unfailed
+returns-in_err-write_day-clause-unfailed g c e =
+    let fails : c.from_residual-in_err-write_day.result ≡ Err c.in_err-write_day.field-0.0 = search rules in
+    (c.in_ok-shop.ensures.within tt, c.in_err-write_day.ensures.unfailed (sym fails ∙ e))

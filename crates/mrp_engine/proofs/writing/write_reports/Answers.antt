@@ -3,12 +3,12 @@ use Rattle.std.specs.Prelude.{IfErr}
 use Rattle.mrp_report.specs.declared.fault.ReportFault.{ReportFault}
 use Rattle.mrp_engine.specs.Fault.{writing_fault}
 use Rattle.mrp_engine.specs.declared.fault.DayFault.{DayFault}
-use Rattle.mrp_engine.proofs.DayRuns.{while-writing, writing-failed}
+use Rattle.mrp_engine.proofs.DayRuns.{while-writing, writing-failed, writing-refused}
 use Rattle.mrp_report.specs.ReportText.{report_text}
 use Rattle.mrp_report.specs.Written.{HasTakenFront}
 use Rattle.mrp_report.proofs.Progress.{on-err}
 use Rattle.mrp_engine.specs.Run.{HasTakenAll, IsWhileWriting}
-use Rattle.mrp_engine.proofs.DayWritten.{all-both, all-of-one, front-of-more, front-then, given-up-later, reports, reports-cut, reports-more}
+use Rattle.mrp_engine.proofs.DayWritten.{all-both, all-of-one, front-of-more, front-then, given-up-later, not-failed-later, reports, reports-cut, reports-more}
 use Rattle.mrp_engine.proofs.writing.write_reports.Goals as goal
 
 pub returns-in_err-write_report-clause-front : goal.returns-in_err-write_report-clause-front
@@ -50,3 +50,11 @@ returns-in_err-write_report-clause-writing g c =
     let f = c.in_err-write_report.field-0.0 in
     let fails : c.from_residual.result ≡ Err (writing_fault f) = search rules in
     subst (λ (r : Result (Unit {0}) DayFault). IfErr r IsWhileWriting) (sym fails) (while-writing f)
+
+pub returns-in_err-write_report-clause-unfailed : goal.returns-in_err-write_report-clause-unfailed
+returns-in_err-write_report-clause-unfailed g c e =
+    let contents = g.W.Write.contents in
+    let f = c.in_err-write_report.field-0.0 in
+    let fails : c.from_residual.result ≡ Err (writing_fault f) = search rules in
+    not-failed-later contents c.args.writer.now c.loop-plan.writer c.write_report.new.writer (reports (take c.loop-plan.plan-index c.args.plans.now)) c.loop-plan.invariant
+    (c.in_err-write_report.ensures.memory (ap (λ (x : ReportFault). Err x) (writing-refused f (cc (fails, e))))).0

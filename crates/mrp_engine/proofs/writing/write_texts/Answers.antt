@@ -1,4 +1,4 @@
-use Rattle.std.proofs.Common.{◌≡◌, ◌∙◌, List, ◌++◌, Result, Err, ap, rules, subst, sym}
+use Rattle.std.proofs.Common.{◌≡◌, ◌∙◌, ℕ, List, ◌++◌, Result, Err, ap, rules, subst, sym}
 use Rattle.std.specs.Prelude.{IfErr}
 use Rattle.std.specs.List.{flat_map}
 use Rattle.mrp_bill.specs.Shop.{Shop}
@@ -13,9 +13,11 @@ use Rattle.mrp_engine.specs.Fault.{writing_fault}
 use Rattle.mrp_engine.specs.Planned.{inputs_of_plans}
 use Rattle.mrp_engine.specs.Run.{HasTakenAll, IsWhileWriting}
 use Rattle.mrp_engine.specs.declared.fault.DayFault.{DayFault}
-use Rattle.mrp_engine.proofs.DayRuns.{while-writing, writing-failed}
-use Rattle.mrp_engine.proofs.DayWritten.{all-both, all-of-one, front-then}
+use Rattle.mrp_engine.proofs.DayRuns.{while-writing, writing-failed, writing-refused}
+use Rattle.mrp_engine.proofs.DayWritten.{all-both, all-of-one, front-then, not-failed-later}
+use Rattle.mrp_engine.proofs.writing.write_texts.Given as given
 use Rattle.mrp_engine.proofs.writing.write_texts.Goals as goal
+use Rattle.mrp_engine.proofs.writing.write_texts.Goals.{After-write_reports}
 
 pub returns-in_err-write_history-clause-gave_up : goal.returns-in_err-write_history-clause-gave_up
 returns-in_err-write_history-clause-gave_up g c e =
@@ -29,21 +31,32 @@ returns-in_err-write_history-clause-writing g c =
     let fails : c.from_residual.result ≡ Err (writing_fault f) = search rules in
     subst (λ (r : Result (Unit {0}) DayFault). IfErr r IsWhileWriting) (sym fails) (while-writing f)
 
+abbrev history : (g : given.Over) → After-write_reports g → List ℕ
+history g c = history_text c.args.day.now.shop.value.tables c.args.day.now.history.entries
+
+-- the history was taken
+first : (g : given.Over) (c : After-write_reports g) → HasTakenAll g.W.Write.contents c.args.writer.now c.write_history.new.writer (history g c)
+first g c =
+    let contents = g.W.Write.contents in
+    let old = c.args.writer.now in
+    let mid = c.write_history.new.writer in
+    subst (λ (s : Shop). HasTakenAll contents old mid (history_text s.tables c.args.day.now.history.entries)) c.deref.ensures (all-of-one contents old mid _ c.in_ok-write_history.ensures.whole)
+
+-- and the plans are those of its runs
+runs : (g : given.Over) (c : After-write_reports g) → inputs_of_plans c.deref-2.result.now ≡ runs_of c.args.day.now.shop.value.tables c.args.day.now.history.entries
+runs g c = ap inputs_of_plans c.deref-2.ensures.value ∙ c.requires.runs
+
 pub returns-clause-whole : goal.returns-clause-whole
 returns-clause-whole g c =
     let contents = g.W.Write.contents in
     let old = c.args.writer.now in
     let mid = c.write_history.new.writer in
     let new = c.write_reports.new.writer in
-    let day = c.args.day.now in
-    let text = history_text day.shop.value.tables day.history.entries in
-    let first : HasTakenAll contents old mid text =
-    subst (λ (s : Shop). HasTakenAll contents old mid (history_text s.tables day.history.entries)) c.deref.ensures (all-of-one contents old mid _ c.in_ok-write_history.ensures.whole) in
-    let runs : inputs_of_plans c.deref-2.result.now ≡ runs_of day.shop.value.tables day.history.entries = ap inputs_of_plans c.deref-2.ensures.value ∙ c.requires.runs in
+    let text = history g c in
     on-ok-then c.write_reports.result
     (λ (taken : HasTakenAll contents mid new (flat_map report_text (inputs_of_plans c.deref-2.result.now))).
-    subst (λ (from : List Inputs). HasTakenAll contents old new (text ++ flat_map report_text from)) runs
-    (all-both contents old mid new text (flat_map report_text (inputs_of_plans c.deref-2.result.now)) first taken))
+    subst (λ (from : List Inputs). HasTakenAll contents old new (text ++ flat_map report_text from)) (runs g c)
+    (all-both contents old mid new text (flat_map report_text (inputs_of_plans c.deref-2.result.now)) (first g c) taken))
     c.write_reports.ensures.whole
 
 pub returns-clause-front : goal.returns-clause-front
@@ -52,13 +65,22 @@ returns-clause-front g c =
     let old = c.args.writer.now in
     let mid = c.write_history.new.writer in
     let new = c.write_reports.new.writer in
-    let day = c.args.day.now in
-    let text = history_text day.shop.value.tables day.history.entries in
-    let first : HasTakenAll contents old mid text =
-    subst (λ (s : Shop). HasTakenAll contents old mid (history_text s.tables day.history.entries)) c.deref.ensures (all-of-one contents old mid _ c.in_ok-write_history.ensures.whole) in
-    let runs : inputs_of_plans c.deref-2.result.now ≡ runs_of day.shop.value.tables day.history.entries = ap inputs_of_plans c.deref-2.ensures.value ∙ c.requires.runs in
+    let text = history g c in
     on-err-then c.write_reports.result
     (λ (front : HasTakenFront contents mid new (flat_map report_text (inputs_of_plans c.deref-2.result.now))).
-    subst (λ (from : List Inputs). HasTakenFront contents old new (text ++ flat_map report_text from)) runs
-    (front-then contents old mid new text (flat_map report_text (inputs_of_plans c.deref-2.result.now)) first front))
+    subst (λ (from : List Inputs). HasTakenFront contents old new (text ++ flat_map report_text from)) (runs g c)
+    (front-then contents old mid new text (flat_map report_text (inputs_of_plans c.deref-2.result.now)) (first g c) front))
     c.write_reports.ensures.front
+
+pub returns-in_err-write_history-clause-unfailed : goal.returns-in_err-write_history-clause-unfailed
+returns-in_err-write_history-clause-unfailed g c e =
+    let f = c.in_err-write_history.field-0.0 in
+    let fails : c.from_residual.result ≡ Err (writing_fault f) = search rules in
+    (c.in_err-write_history.ensures.memory (ap (λ (x : ReportFault). Err x) (writing-refused f (cc (fails, e))))).0
+
+pub returns-clause-unfailed : goal.returns-clause-unfailed
+returns-clause-unfailed g c e =
+    let contents = g.W.Write.contents in
+    let old = c.args.writer.now in
+    let mid = c.write_history.new.writer in
+    not-failed-later contents old mid c.write_reports.new.writer (history g c) (first g c) (c.write_reports.ensures.unfailed e)

@@ -10,8 +10,7 @@ use Rattle.mrp_explode.proofs.levels.explode_levels.Goals as goal
 
 pub loop-level-init : goal.loop-level-init
 loop-level-init g c = record {
-  own = c.in_ok-finished.ensures.own;
-  source = c.in_ok-finished.ensures.source;
+  inputs = c.in_ok-finished.ensures;
   done = λ i code below is low. absurd (omega (arith, low));
 }
 
@@ -24,7 +23,7 @@ plan_level-requires-clause-items g c κs live =
     let all : AreLevels s.tables.bills (count s) c.as_slice-all.result.now =
     subst (AreLevels s.tables.bills (count s)) (sym c.as_slice-all.ensures.value) (subst (λ (t : Tables). AreLevels t.bills (length t.items) c.in_ok-levels.levels.items) tables c.in_ok-levels.ensures) in
     let level : IsLevel s.tables.bills (count s) k items = level-here s.tables.bills (count s) k c.as_slice-all.result.now c.level-item.result items all c.loop-level-test.true c.level-item.is c.as_slice.ensures.value in
-    subst (λ (x : Inputs). All (λ i. i < count x) items) (sym c.loop-level.invariant.source) (level-items s.tables.bills (count s) k items level)
+    subst (λ (x : Inputs). All (λ i. i < count x) items) (sym c.loop-level.invariant.inputs) (level-items s.tables.bills (count s) k items level)
 
 pub plan_level-requires-clause-ready : goal.plan_level-requires-clause-ready
 plan_level-requires-clause-ready g c κs live =
@@ -35,7 +34,7 @@ plan_level-requires-clause-ready g c κs live =
     let all : AreLevels s.tables.bills (count s) c.as_slice-all.result.now =
     subst (AreLevels s.tables.bills (count s)) (sym c.as_slice-all.ensures.value) (subst (λ (t : Tables). AreLevels t.bills (length t.items) c.in_ok-levels.levels.items) tables c.in_ok-levels.ensures) in
     let level : IsLevel s.tables.bills (count s) k items = level-here s.tables.bills (count s) k c.as_slice-all.result.now c.level-item.result items all c.loop-level-test.true c.level-item.is c.as_slice.ensures.value in
-    subst (λ (x : Inputs). All (λ i. All (IsFinished c.loop-level.finished) (parents_of x.tables.bills (count x) i)) items) (sym c.loop-level.invariant.source)
+    subst (λ (x : Inputs). All (λ i. All (IsFinished c.loop-level.finished) (parents_of x.tables.bills (count x) i)) items) (sym c.loop-level.invariant.inputs)
     (level-ready s.tables.bills (count s) k c.as_slice-all.result.now items (IsFinished c.loop-level.finished) all level c.loop-level.invariant.done)
 
 pub loop-level-preserved : goal.loop-level-preserved
@@ -48,17 +47,16 @@ loop-level-preserved g c =
     subst (AreLevels s.tables.bills (count s)) (sym c.as_slice-all.ensures.value) (subst (λ (t : Tables). AreLevels t.bills (length t.items) c.in_ok-levels.levels.items) tables c.in_ok-levels.ensures) in
     let level : IsLevel s.tables.bills (count s) k items = level-here s.tables.bills (count s) k c.as_slice-all.result.now c.level-item.result items all c.loop-level-test.true c.level-item.is c.as_slice.ensures.value in
     record {
-      own = c.in_ok-plan_level.ensures.own;
-      source = c.in_ok-plan_level.ensures.finishes.source ∙ c.loop-level.invariant.source;
+      inputs = c.in_ok-plan_level.ensures.inputs ∙ c.loop-level.invariant.inputs;
       done = level-done s.tables.bills (count s) k items (IsFinished c.loop-level.finished) (IsFinished c.plan_level.new.finished) level c.loop-level.invariant.done
-          c.in_ok-plan_level.ensures.finishes.others c.in_ok-plan_level.ensures.finishes.here;
+          c.in_ok-plan_level.ensures.others c.in_ok-plan_level.ensures.here;
     }
 
-pub whole-requires-clause-all : goal.whole-requires-clause-all
-whole-requires-clause-all g c =
+pub whole-requires : goal.whole-requires
+whole-requires g c =
     let s = c.args.inputs.now.value in
     let tables : c.shop.result.now.tables ≡ s.tables = c.shop.ensures.tables ∙ ap (λ (x : Inputs). x.tables) c.deref.ensures in
     let all : AreLevels s.tables.bills (count s) c.as_slice-all.result.now =
     subst (AreLevels s.tables.bills (count s)) (sym c.as_slice-all.ensures.value) (subst (λ (t : Tables). AreLevels t.bills (length t.items) c.in_ok-levels.levels.items) tables c.in_ok-levels.ensures) in
     λ i h. levels-done s.tables.bills (count s) c.loop-level.level-index c.as_slice-all.result.now (IsFinished c.loop-level.finished) all (λ n within. omega (arith, within, c.loop-level-test.false))
-    c.loop-level.invariant.done i (subst (λ (x : Inputs). i < count x) c.loop-level.invariant.source h)
+    c.loop-level.invariant.done i (subst (λ (x : Inputs). i < count x) c.loop-level.invariant.inputs h)

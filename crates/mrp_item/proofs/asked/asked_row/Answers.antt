@@ -1,5 +1,5 @@
-use Rattle.std.proofs.Common.{◌≡◌, ◌∙◌, ◌<◌, ◌≤◌, ℕ, List, length, take, get_or, take_all, sym, ap, arith, eqb}
-use Rattle.std.proofs.lemmas.Bool.{eqb-true}
+use Rattle.std.proofs.Common.{◌≡◌, ◌∙◌, ◌<◌, ◌≤◌, ℕ, List, length, take, get_or, take_all, sym, ap, arith}
+use Rattle.std.proofs.lemmas.Result.{err_from_is_err_and}
 use Rattle.mrp_tables.specs.Tables.{Tables}
 use Rattle.mrp_tables.specs.declared.rows.BillLine.{BillLine}
 use Rattle.mrp_bill.specs.Bill.{line_at, lines_of}
@@ -10,16 +10,8 @@ use Rattle.mrp_item.specs.Orders.{started_in}
 use Rattle.mrp_item.specs.Plan.{outcome_of, plan_in}
 use Rattle.mrp_item.specs.Asked.{asked_in}
 use Rattle.mrp_item.proofs.Asks.{asked_at, asked_over, asked_row_all, asked_row_more, asked_row_none}
-use Rattle.mrp_item.proofs.Parents.{kept_at, line-parent}
+use Rattle.mrp_item.proofs.Parents.{line-parent, to_item}
 use Rattle.mrp_item.proofs.asked.asked_row.Goals as goal
-
--- the place of a line to an item is a line's place, and the line's component is the item
-to_item : (bills : List BillLine) (i k : ℕ) (places : List ℕ) → places ≡ lines_of bills i → k < length places
-    → (get_or places k 0 < length bills) × ((line_at bills (get_or places k 0)).component ≡ i)
-to_item bills i k places are h =
-    let p = λ (place : ℕ). eqb (line_at bills place).component i in
-    let at = kept_at p 0 (length bills) k (rw (← are) h) in
-    rw are (omega (arith, at.1), eqb-true (line_at bills (get_or (lines_of bills i) k 0)).component i at.2)
 
 pub loop-place-init : goal.loop-place-init
 loop-place-init c = c.into_vec-asked.ensures ∙ c.in_ok-nothing.ensures ∙ asked_row_none (outcome_of c.args.inputs.now) c.bills-bills.result.now c.weeks-weeks.result
@@ -50,8 +42,9 @@ add_line-requires c =
     let asked : length c.loop-place.asked.items ≡ c.weeks-weeks.result = ap length c.loop-place.invariant ∙ length-row (asked_at (outcome_of s) c.bills-bills.result.now (take c.loop-place.place-index c.lines_to-place-items.result.now)) c.weeks-weeks.result in
     ap length c.started_of-started.ensures ∙ length-row (started_in (plan_in (outcome_of s line.parent)).orders) (horizon s) ∙ sym (asked ∙ c.weeks-weeks.ensures.value)
 
-pub returns-in_default-clause-over : goal.returns-in_default-clause-over
-returns-in_default-clause-over c = λ _.
+pub returns-in_err-or_over-clause-over : goal.returns-in_err-or_over-clause-over
+returns-in_err-or_over-clause-over c =
+    let p = err_from_is_err_and c.from_residual-in_err-or_over.result c.from_residual-in_err-or_over.ensures.1 in
     let s = c.args.inputs.now in
     let i = c.args.item in
     let k = c.loop-place.place-index in
@@ -64,15 +57,15 @@ returns-in_default-clause-over c = λ _.
     c.loop-place.invariant ∙ ap (λ (ls : List BillLine). row c.weeks-weeks.result (asked_at (outcome_of s) ls (take k all))) bills in
     let is : line ≡ line_at s.tables.bills (get_or all k 0) = c.line_of-line.ensures ∙ ap (λ (ls : List BillLine). line_at ls (get_or all k 0)) bills in
     let starts = c.started_of-started.ensures ∙ ap (λ n. row n (started_in (plan_in (outcome_of s line.parent)).orders)) (sym c.weeks-weeks.ensures.value) in
-    let (week, a, b, past) = c.in_default.ensures.none in
+    let (week, a, b, past) = rw c.in_err-or_over.ensures.found at c.add_line.ensures.none in
     let within : week ≤ c.weeks-weeks.result = omega (arith, b, size) in
-    asked_over s i all k week c.weeks-weeks.result line c.loop-place.asked.items c.started_of-started.result.now c.weeks-weeks.ensures.value places c.loop-place-test.true is so_far starts a within past
+    rw (p.1, p.2) (λ _. asked_over s i all k week c.weeks-weeks.result line c.loop-place.asked.items c.started_of-started.result.now c.weeks-weeks.ensures.value places c.loop-place-test.true is so_far starts a within past)
 
 pub loop-place-preserved : goal.loop-place-preserved
 loop-place-preserved c =
     let s = c.args.inputs.now in
     let line = c.line_of-line.result in
-    c.in-Some.ensures.added
+    (rw c.in_ok-or_over.ensures.found at c.add_line.ensures.added)
     ∙ asked_row_more (outcome_of s) c.bills-bills.result.now c.lines_to-place-items.result.now c.loop-place.place-index c.weeks-weeks.result
     line c.loop-place.asked.items c.started_of-started.result.now
     c.loop-place-test.true c.line_of-line.ensures c.loop-place.invariant (c.started_of-started.ensures ∙ ap (λ n. row n (started_in (plan_in (outcome_of s line.parent)).orders)) (sym c.weeks-weeks.ensures.value))

@@ -1,4 +1,5 @@
 use Rattle.std.proofs.Common.{◌∙◌, length, take, ap, arith}
+use Rattle.std.proofs.lemmas.Result.{err_from_is_err_and}
 use Rattle.mrp_phase.proofs.WeekRows.{length-row, in_week_row}
 use Rattle.mrp_phase.specs.Weeks.{in_week}
 use Rattle.mrp_item.specs.Dues.{due_sum}
@@ -13,14 +14,16 @@ add_in-requires c = ap length c.loop-next.invariant ∙ length-row (due_sum _) c
 
 pub loop-next-preserved : goal.loop-next-preserved
 loop-next-preserved c =
-    c.in-Some.ensures.added
+    (rw c.in_ok-or_over.ensures.found at c.add_in.ensures.added)
     ∙ dated_more c.args.dues.now c.loop-next.next-index c.next-item.result c.loop-next.due c.args.weeks c.loop-next-test.true c.next-item.is c.loop-next.invariant
 
-pub returns-in_default-clause-over : goal.returns-in_default-clause-over
-returns-in_default-clause-over c = λ _.
+pub returns-in_err-or_over-clause-over : goal.returns-in_err-or_over-clause-over
+returns-in_err-or_over-clause-over c =
+    let p = err_from_is_err_and c.from_residual-in_err-or_over.result c.from_residual-in_err-or_over.ensures.1 in
     let next = c.next-item.result in
-    let none = c.in_default.ensures.none in
-    let dues = c.args.dues.now in (
+    let none = rw c.in_err-or_over.ensures.found at c.add_in.ensures.none in
+    let dues = c.args.dues.now in
+    rw (p.1, p.2) (λ _. (
       next.week,
       none.0,
       none.1,
@@ -33,4 +36,4 @@ returns-in_default-clause-over c = λ _.
         ap (one_due next.week) c.next-item.is,
         one_due-here next,
       ),
-    )
+    ))

@@ -46,8 +46,8 @@ at-requires-clause-last c =
     let size : length c.in_ok-received.received ≡ length needs = ap length c.in_ok-received.ensures.value ∙ length-row (receipts (rule_of c.entry.result.lot) (length needs) (in_week needs)) (length needs) in
     omega (arith, size, length-needs s i gross needs are, c.weeks-weeks.ensures.value)
 
-pub returns-in-Some-clause-value : goal.returns-in-Some-clause-value
-returns-in-Some-clause-value c =
+pub returns-clause-value : goal.returns-clause-value
+returns-clause-value c =
     let s = c.args.inputs.now in
     let i = c.args.item in
     let gross = c.args.gross.now in
@@ -55,8 +55,8 @@ returns-in-Some-clause-value c =
     let are : needs ≡ needs_of s i gross = needs_are s i gross needs c.in_ok-stock.stock c.requires.weeks c.in_ok-stock.ensures.value c.in_ok-needs.ensures.value in
     receipts_are s i gross needs c.in_ok-received.received c.entry.result.lot are (ap (λ e. e.lot) c.entry.ensures.value) c.in_ok-received.ensures.value
 
-pub returns-in-Some-clause-within : goal.returns-in-Some-clause-within
-returns-in-Some-clause-within c =
+pub returns-clause-within : goal.returns-clause-within
+returns-clause-within c =
     let s = c.args.inputs.now in
     let i = c.args.item in
     let gross = c.args.gross.now in
@@ -69,11 +69,12 @@ returns-in-Some-clause-within c =
     let last : c.at.result ≡ in_week (receipts_of s i gross) (horizon s) = c.at.ensures ∙ ap (in_week received) c.weeks-weeks.ensures.value ∙ ap (λ xs. in_week xs (horizon s)) row_is in
     record {
       requirements = omega (arith, c.in_ok-needs.ensures.requirements, ap (λ (x : Stock). x.safety) is);
-      supplies = omega (arith, quantity_of-within c.in-Some.field-0 (stock.on_hand + sum stock.scheduled + c.at.result) c.in-Some.ensures, ap (λ (x : Stock). x.on_hand) is, ap (λ (x : Stock). sum x.scheduled) is, last);
+      supplies = omega (arith, quantity_of-within c.in_ok-or_over.field-0 (stock.on_hand + sum stock.scheduled + c.at.result) (sym c.in_ok-or_over.ensures.found ∙ c.supplies.ensures), ap (λ (x : Stock). x.on_hand) is, ap (λ (x : Stock). sum x.scheduled) is, last);
     }
 
-pub returns-clause-over : goal.returns-clause-over
-returns-clause-over c = λ _.
+pub returns-in_err-or_over-clause-over : goal.returns-in_err-or_over-clause-over
+returns-in_err-or_over-clause-over c =
+    let p = err_from_is_err_and c.from_residual-in_err-or_over.result c.from_residual-in_err-or_over.ensures.1 in
     let s = c.args.inputs.now in
     let i = c.args.item in
     let gross = c.args.gross.now in
@@ -84,4 +85,5 @@ returns-clause-over c = λ _.
     let are : needs ≡ needs_of s i gross = needs_are s i gross needs stock c.requires.weeks is c.in_ok-needs.ensures.value in
     let row_is : received ≡ receipts_of s i gross = receipts_are s i gross needs received c.entry.result.lot are (ap (λ e. e.lot) c.entry.ensures.value) c.in_ok-received.ensures.value in
     let last : c.at.result ≡ in_week (receipts_of s i gross) (horizon s) = c.at.ensures ∙ ap (in_week received) c.weeks-weeks.ensures.value ∙ ap (λ xs. in_week xs (horizon s)) row_is in
-    inr (omega (arith, quantity_of-none (stock.on_hand + sum stock.scheduled + c.at.result) (sym c.in-None.ensures), ap (λ (x : Stock). x.on_hand) is, ap (λ (x : Stock). sum x.scheduled) is, last))
+    let none = quantity_of-none (stock.on_hand + sum stock.scheduled + c.at.result) (sym c.supplies.ensures ∙ c.in_err-or_over.ensures.found) in
+    rw (p.1, p.2) (λ _. inr (omega (arith, none, ap (λ (x : Stock). x.on_hand) is, ap (λ (x : Stock). sum x.scheduled) is, last)))

@@ -1,7 +1,7 @@
-use Rattle.std.proofs.Common.{◌≡◌, [], ◌∷◌, codes, refl}
+use Rattle.std.proofs.Common.{◌≡◌, [], ◌∷◌, Some, None, codes, refl, arith}
 use Rattle.clap.specs.declared.error.kind.ErrorKind.TheVariants as kind
 use Rattle.clap.proofs.OnLiterals.{clap_on_literals}
-use Rattle.mrp_main.specs.Words.{refusals}
+use Rattle.mrp_main.specs.Words.{AskForPlanBy, folder_in, refusals}
 use Rattle.mrp_main.proofs.laws.words.Goals as goal
 
 plan-words : refusals (codes "plan" ∷ []) ≡ []
@@ -15,6 +15,41 @@ workers-words = refl
 joined-words : refusals (codes "plan" ∷ codes "--workers=1" ∷ []) ≡ []
 unfolding clap_on_literals
 joined-words = refl
+
+folder-words : refusals (codes "plan" ∷ codes "--dir" ∷ codes "shop" ∷ []) ≡ []
+unfolding clap_on_literals
+folder-words = refl
+
+named-words : folder_in (codes "plan" ∷ codes "--dir" ∷ codes "shop" ∷ []) ≡ Some (codes "shop")
+unfolding clap_on_literals
+named-words = refl
+
+behind-words : folder_in (codes "plan" ∷ codes "--workers=2" ∷ codes "--dir=shop" ∷ []) ≡ Some (codes "shop")
+unfolding clap_on_literals
+behind-words = refl
+
+input-words : folder_in (codes "plan" ∷ codes "--workers=2" ∷ []) ≡ None
+unfolding clap_on_literals
+input-words = refl
+
+one-worker : AskForPlanBy (codes "plan" ∷ []) 1
+unfolding clap_on_literals
+one-worker = record { rows = _; plan = refl; text = codes "1"; given = refl; number = ((omega arith, (omega arith, tt)), omega arith, omega arith, omega arith); value = refl }
+
+all-workers : AskForPlanBy (codes "plan" ∷ codes "--workers" ∷ codes "64" ∷ []) 64
+unfolding clap_on_literals
+all-workers = record {
+  rows = _;
+  plan = refl;
+  text = codes "64";
+  given = refl;
+  number = ((omega arith, (omega arith, (omega arith, tt))), omega arith, omega arith, omega arith);
+  value = refl;
+}
+
+two-workers : AskForPlanBy (codes "plan" ∷ codes "--workers=2" ∷ []) 2
+unfolding clap_on_literals
+two-workers = record { rows = _; plan = refl; text = codes "2"; given = refl; number = ((omega arith, (omega arith, tt)), omega arith, omega arith, omega arith); value = refl }
 
 help-words : refusals (codes "--help" ∷ []) ≡ kind.DisplayHelp ∷ []
 unfolding clap_on_literals
@@ -44,6 +79,10 @@ too-many-words : refusals (codes "plan" ∷ codes "--workers=65" ∷ []) ≡ kin
 unfolding clap_on_literals
 too-many-words = refl
 
+two-folders-words : refusals (codes "plan" ∷ codes "--dir=a" ∷ codes "--dir=b" ∷ []) ≡ kind.ArgumentConflict ∷ []
+unfolding clap_on_literals
+two-folders-words = refl
+
 no-number-words : refusals (codes "plan" ∷ codes "--workers=many" ∷ []) ≡ kind.ValueValidation ∷ []
 unfolding clap_on_literals
 no-number-words = refl
@@ -56,6 +95,27 @@ returns-clause-workers c = workers-words
 
 pub returns-clause-joined : goal.returns-clause-joined
 returns-clause-joined c = joined-words
+
+pub returns-clause-folder : goal.returns-clause-folder
+returns-clause-folder c = folder-words
+
+pub returns-clause-named : goal.returns-clause-named
+returns-clause-named c = named-words
+
+pub returns-clause-behind : goal.returns-clause-behind
+returns-clause-behind c = behind-words
+
+pub returns-clause-input : goal.returns-clause-input
+returns-clause-input c = input-words
+
+pub returns-clause-one_worker : goal.returns-clause-one_worker
+returns-clause-one_worker c = one-worker
+
+pub returns-clause-all_workers : goal.returns-clause-all_workers
+returns-clause-all_workers c = all-workers
+
+pub returns-clause-two_workers : goal.returns-clause-two_workers
+returns-clause-two_workers c = two-workers
 
 pub returns-clause-help : goal.returns-clause-help
 returns-clause-help c = help-words
@@ -77,6 +137,9 @@ returns-clause-no_worker c = no-worker-words
 
 pub returns-clause-too_many : goal.returns-clause-too_many
 returns-clause-too_many c = too-many-words
+
+pub returns-clause-two_folders : goal.returns-clause-two_folders
+returns-clause-two_folders c = two-folders-words
 
 pub returns-clause-no_number : goal.returns-clause-no_number
 returns-clause-no_number c = no-number-words

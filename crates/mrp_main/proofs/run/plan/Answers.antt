@@ -13,6 +13,10 @@ returns g c =
       front = day.write;
       gave_up = day.gave_up;
       memory = day.memory;
+      unfailed = day.unfailed;
       unwritten = day.unwritten;
+      at_end = day.end;
+      within = day.within;
+      taken = day.taken;
     })
     c.of_day.ensures

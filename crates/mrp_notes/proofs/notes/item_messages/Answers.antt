@@ -16,8 +16,8 @@ told-requires-clause-weeks c =
     let planned = c.args.planned.now in
     let rows = planned_rows planned.inputs planned.item planned.plan c.gross.ensures.outcome in
     let gross : c.as_slice-gross.result.now ≡ planned.plan.gross = c.as_slice-gross.ensures ∙ c.gross.ensures.gross in
-    let weeks = c.weeks-within.ensures.value ∙ ap horizon (c.deref.ensures ∙ c.inputs.ensures.inputs) in
-    omega (arith, ap length gross, rows.weeks, weeks, c.weeks-within.ensures.within)
+    let weeks = c.weeks-horizon.ensures.value ∙ ap horizon (c.deref.ensures ∙ c.inputs.ensures.inputs) in
+    omega (arith, ap length gross, rows.weeks, weeks)
 
 pub told-requires-clause-within : goal.told-requires-clause-within
 told-requires-clause-within c =

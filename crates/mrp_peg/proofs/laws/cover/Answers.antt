@@ -3,4 +3,4 @@ use Rattle.mrp_peg.proofs.Own.{own}
 use Rattle.mrp_peg.proofs.laws.cover.Goals as goal
 
 pub returns : goal.returns
-returns c = λ s i code plan ranked outcome sized some. covered_item s i (own s i code plan ranked outcome) sized some
+returns c = λ s i code plan ranked outcome sized. covered_item s i (own s i code plan ranked outcome) sized

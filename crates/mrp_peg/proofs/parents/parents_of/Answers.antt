@@ -1,7 +1,6 @@
-use Rattle.std.proofs.Common.{◌≡◌, ◌∙◌, ◌++◌, ◌*◌, ◌+◌, ◌<◌, ◌≤◌, ◌∷◌, [], ℕ, List, length, take, get_or, map, sym, ap, subst, arith, eqb}
+use Rattle.std.proofs.Common.{◌≡◌, ◌∙◌, ◌++◌, ◌*◌, ◌+◌, ◌<◌, ◌≤◌, ◌∷◌, [], ℕ, List, length, take, get_or, map, sym, ap, subst, arith}
 use Rattle.std.specs.Prelude.{flat_map}
-use Rattle.std.proofs.lemmas.Bool.{eqb-true}
-use Rattle.std.proofs.lemmas.List.{append-nil, take_more}
+use Rattle.std.proofs.lemmas.List.{append-nil, take_all, take_more}
 use Rattle.std.proofs.lemmas.List.Concat.{flat_map-append}
 use Rattle.mrp_qty.specs.Quantity.{greatest_quantity}
 use Rattle.mrp_tables.specs.Tables.{Tables}
@@ -10,20 +9,11 @@ use Rattle.mrp_bill.specs.Bill.{line_at, lines_of}
 use Rattle.mrp_item.specs.declared.order.Order.{Order}
 use Rattle.mrp_item.specs.Inputs.{Inputs}
 use Rattle.mrp_item.specs.Plan.{HasParents, outcome_of, plan_in}
-use Rattle.mrp_item.proofs.Parents.{kept_at, line-parent}
+use Rattle.mrp_item.proofs.Parents.{line-parent, to_item}
 use Rattle.std.specs.List.{enumerate_from}
 use Rattle.mrp_peg.specs.Rows.{line_wanted, order_wanted}
-use Rattle.mrp_peg.proofs.Loop.{take_end}
 use Rattle.mrp_peg.proofs.Totals.{asked_within}
 use Rattle.mrp_peg.proofs.parents.parents_of.Goals as goal
-
--- the place of a line to an item is a line's place, and the line's component is the item
-to_item : (bills : List BillLine) (i k : ℕ) (places : List ℕ) → places ≡ lines_of bills i → k < length places
-    → (get_or places k 0 < length bills) × ((line_at bills (get_or places k 0)).component ≡ i)
-to_item bills i k places are h =
-    let p = λ (place : ℕ). eqb (line_at bills place).component i in
-    let at = kept_at p 0 (length bills) k (rw (← are) h) in
-    rw are (omega (arith, at.1), eqb-true (line_at bills (get_or (lines_of bills i) k 0)).component i at.2)
 
 one_line : {Y : Type 0} (f : ℕ → List Y) (places : List ℕ) (k : ℕ) (so_far now : List Y) → k < length places → so_far ≡ flat_map f (take k places) → now ≡ so_far ++ f (get_or places k 0) → now ≡ flat_map f (take (k + 1) places)
 one_line f places k so_far now h is told =
@@ -99,4 +89,4 @@ returns c =
     let i = c.args.item in
     let e : c.deref-inputs.result.now ≡ s = c.deref-inputs.ensures ∙ c.inputs.ensures.inputs in
     let places : c.lines_to-place-items.result.now ≡ lines_of s.tables.bills i = c.lines_to-place-items.ensures ∙ ap (λ (t : Tables). lines_of t.bills i) (c.shop-shop.ensures.tables ∙ ap (λ (x : Inputs). x.tables) e) in
-    c.loop-place.invariant ∙ ap (flat_map (line_wanted s i)) (take_end c.lines_to-place-items.result.now c.loop-place.place-index c.loop-place-test.false ∙ places)
+    c.loop-place.invariant ∙ ap (flat_map (line_wanted s i)) (take_all c.loop-place.place-index c.lines_to-place-items.result.now c.loop-place-test.false ∙ places)

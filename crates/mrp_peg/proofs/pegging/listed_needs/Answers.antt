@@ -26,7 +26,7 @@ demand_of-requires c =
     let P : List Due → Type 0 = λ l. All (λ (d : Due). IsInRange 1 (horizon x) d.week) l in
     let all = subst P (sym c.bookings.ensures.dues) (bookings_within x i c.bookings.ensures.booked) in
     record {
-      weeks = omega (arith, size, same, c.weeks-weeks.ensures.value, c.weeks-weeks.ensures.within);
+      weeks = size ∙ sym same ∙ sym c.weeks.ensures.value;
       within = λ k d h. let r = all k d h in (r.0, omega (arith, r.1, size, same));
     }
 
@@ -49,10 +49,12 @@ returns-then-is_master_item-clause-needs c =
     let gross : c.as_slice.result.now ≡ (plan_in (outcome_of s i)).gross = c.as_slice.ensures ∙ c.gross-demand.ensures.gross ∙ ap (λ (p : PlannedItem). p.plan.gross) c.item.ensures in
     let size : length c.as_slice.result.now ≡ horizon s = ap length gross ∙ gross-length s i c.requires.own in
     let dues : c.bookings.result.now ≡ booking_dues s.standing i = c.bookings.ensures.dues ∙ ap (λ (y : Inputs). booking_dues y.standing i) e in
-    let F : List Due → List ℕ → ℕ → List Wanted = λ b g n. map (booking_wanted i) b ++ flat_map (forecast_wanted i (row n (beyond g b))) (weeks n) in
-    let whole = ap (λ b. F b c.as_slice.result.now (length c.as_slice.result.now)) dues
-    ∙ ap (λ g. F (booking_dues s.standing i) g (length c.as_slice.result.now)) gross
-    ∙ ap (λ n. F (booking_dues s.standing i) (plan_in (outcome_of s i)).gross n) size
+    let horizon_is : c.weeks.result ≡ horizon s = c.weeks.ensures.value ∙ ap (λ (y : Inputs). horizon y) e in
+    let F : List Due → List ℕ → ℕ → ℕ → List Wanted = λ b g n m. map (booking_wanted i) b ++ flat_map (forecast_wanted i (row n (beyond g b))) (weeks m) in
+    let whole = ap (λ b. F b c.as_slice.result.now (length c.as_slice.result.now) c.weeks.result) dues
+    ∙ ap (λ g. F (booking_dues s.standing i) g (length c.as_slice.result.now) c.weeks.result) gross
+    ∙ ap (λ n. F (booking_dues s.standing i) (plan_in (outcome_of s i)).gross n c.weeks.result) size
+    ∙ ap (λ m. F (booking_dues s.standing i) (plan_in (outcome_of s i)).gross (horizon s) m) horizon_is
     ∙ sym (ap (λ b. cond b (demand_wanted s i) (parents_wanted s i)) master) in
     let Q : List Wanted → Type 0 = λ l. IfOk c.demand_of.result (λ needs. needs.items ≡ l) in
     subst Q whole c.demand_of.ensures

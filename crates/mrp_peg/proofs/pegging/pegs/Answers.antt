@@ -7,10 +7,10 @@ use Rattle.std.proofs.lemmas.List.Concat.{flat_map-append}
 use Rattle.mrp_tables.specs.Tables.{Tables}
 use Rattle.mrp_tables.specs.declared.item.Item.{Item}
 use Rattle.mrp_item.specs.Inputs.{Inputs, count}
+use Rattle.mrp_item.proofs.OutcomeLists.{places-more}
 use Rattle.mrp_peg.specs.declared.peg.Peg.{Peg}
 use Rattle.mrp_peg.specs.Laws.{AddUpToRequirements, AddUpToSupplies}
 use Rattle.mrp_peg.specs.Pegging.{pegs_for, pegs_of, plan_pegs}
-use Rattle.mrp_peg.proofs.Loops.{range_more}
 use Rattle.mrp_peg.proofs.PlanSums.{plan-requirements, plan-supplies}
 use Rattle.mrp_peg.proofs.pegging.pegs.Goals as goal
 
@@ -23,7 +23,7 @@ loop-item-preserved c =
           ∙ ap (λ l. c.loop-item.all.items ++ l) (c.in_ok-pegs.ensures.pegs ∙ sym (append-nil (pegs_of s i)))
           ∙ ap (λ l. l ++ (pegs_of s i ++ [])) c.loop-item.invariant.whole
           ∙ sym (flat_map-append (pegs_of s) (range_with_len 0 i) (i ∷ []))
-          ∙ ap (flat_map (pegs_of s)) (sym (range_more i));
+          ∙ ap (flat_map (pegs_of s)) (places-more i);
       sums = λ j below. elim (cases_lt j i) [
         | inl before ↦ c.loop-item.invariant.sums j before
         | inr last ↦

@@ -5,11 +5,18 @@ use Rattle.mrp_report.specs.RunText.{run_text}
 use Rattle.mrp_report.specs.Sections.{section_text}
 use Rattle.mrp_report.specs.declared.section.Section.{Section}
 use Rattle.mrp_report.specs.declared.section.Section.TheVariants as section
-use Rattle.mrp_report.proofs.ListTexts.{so_far, to-come, whole}
+use Rattle.mrp_report.proofs.ListTexts.{so_far, so_far-none, to-come, whole}
 use Rattle.mrp_report.proofs.ListWritten.{next-passed, next-written}
-use Rattle.mrp_report.proofs.Progress.{IsWritten, front-now, front-then, on-err, on-err-then, given-up, on-ok-then, written-none, written-whole}
+use Rattle.mrp_report.proofs.Progress.{IsWritten, front-now, front-then, on-err, on-err-then, given-up, gone-on-then, on-ok-then, written-none, written-whole}
 use Rattle.mrp_report.proofs.SectionTexts.{in_order, report-is}
 use Rattle.mrp_report.proofs.report.write_report.Goals as goal
+
+pub loop-section-init : goal.loop-section-init
+loop-section-init g c =
+    let s = c.args.plan.now.inputs in
+    let run : List ℕ = run_text s.front (length s.standing) in
+    let head : c.write_run.new.page ≡ run = c.in_ok-write_run.ensures ∙ ap (λ (page : List ℕ). page ++ run) c.new-page.ensures in
+    written-none g.W.Write.contents c.args.writer.now 1000000 c.new-tries.result c.write_run.new.page (so_far run (section_text s) in_order 0) c.new-tries.ensures (head ∙ so_far-none run (section_text s) in_order)
 
 pub returns-in_err-readings-clause-front : goal.returns-in_err-readings-clause-front
 returns-in_err-readings-clause-front g c =
@@ -70,3 +77,27 @@ returns-in_err-write_section-clause-refused g c refused =
     let run : List ℕ = run_text s.front (length s.standing) in
     given-up g.W.Write.contents c.args.writer.now c.loop-section.writer c.write_section.new.writer 1000000 c.loop-section.tries c.loop-section.page
     (so_far run (section_text s) in_order c.loop-section.section-index) c.loop-section.invariant (c.in_err-write_section.ensures.refused (search rules))
+
+pub returns-in_err-readings-clause-memory : goal.returns-in_err-readings-clause-memory
+returns-in_err-readings-clause-memory g c refused = (refl, omega arith)
+
+pub returns-in_err-write_section-clause-memory : goal.returns-in_err-write_section-clause-memory
+returns-in_err-write_section-clause-memory g c refused =
+    let s = c.args.plan.now.inputs in
+    let run : List ℕ = run_text s.front (length s.standing) in
+    gone-on-then g.W.Write.contents c.args.writer.now c.loop-section.writer c.write_section.new.writer 1000000 c.loop-section.tries c.loop-section.page
+    (so_far run (section_text s) in_order c.loop-section.section-index) c.loop-section.invariant (c.in_err-write_section.ensures.memory (search rules))
+
+pub returns-clause-memory : goal.returns-clause-memory
+returns-clause-memory g c refused =
+    let s = c.args.plan.now.inputs in
+    let run : List ℕ = run_text s.front (length s.standing) in
+    gone-on-then g.W.Write.contents c.args.writer.now c.loop-section.writer c.hand_over.new.writer 1000000 c.loop-section.tries c.loop-section.page
+    (so_far run (section_text s) in_order c.loop-section.section-index) c.loop-section.invariant (c.hand_over.ensures.memory refused)
+
+pub returns-clause-refused : goal.returns-clause-refused
+returns-clause-refused g c refused =
+    let s = c.args.plan.now.inputs in
+    let run : List ℕ = run_text s.front (length s.standing) in
+    given-up g.W.Write.contents c.args.writer.now c.loop-section.writer c.hand_over.new.writer 1000000 c.loop-section.tries c.loop-section.page
+    (so_far run (section_text s) in_order c.loop-section.section-index) c.loop-section.invariant (c.hand_over.ensures.refused refused)

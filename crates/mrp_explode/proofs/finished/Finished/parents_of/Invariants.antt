@@ -3,4 +3,4 @@ use Rattle.mrp_item.specs.Made.{items_from}
 use Rattle.mrp_explode.proofs.finished.Finished.parents_of.Given as goal
 
 abbrev pub invariant-loop-parent : goal.invariant-loop-parent
-invariant-loop-parent l = l.copies.items ≡ items_from l.self.inputs.value (take l.parent-index l.parents)
+invariant-loop-parent l = l.copies.items ≡ items_from l.self.inputs (take l.parent-index l.parents)

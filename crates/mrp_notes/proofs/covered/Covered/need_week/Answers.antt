@@ -10,7 +10,7 @@ returns-then-required-value-clause-week c =
     let gross = c.args.gross.now in
     let k = c.loop-place.place in
     let known = c.loop-place.invariant in
-    let there : k < length gross = omega (arith, known.end) in
+    let there : k < length gross = omega (arith, c.loop-place-test.true, c.requires.weeks) in
     let pieces = c.index-gross-from.result in
     let here : pieces ≡ get_or gross k 0 = c.index-gross-from.is ∙ ap (λ n. get_or gross n pieces) c.from.ensures ∙ get_or_default_zero gross k pieces there in
     let required : c.loop-place.self.required ≡ sum_to gross k = known.covered.required ∙ ap (sum_to gross) known.place in
@@ -23,4 +23,4 @@ returns-clause-week c =
     let gross = c.args.gross.now in
     let known = c.loop-place.invariant in
     sym (need_week_none gross c.args.safety c.args.self.now.supplied
-    (λ week first last. omega (arith, known.supplied, known.covered.covered week first (omega (arith, known.place, known.end, c.loop-place-test.false)))))
+    (λ week first last. omega (arith, known.supplied, known.covered.covered week first (omega (arith, known.place, c.requires.weeks, c.loop-place-test.false)))))

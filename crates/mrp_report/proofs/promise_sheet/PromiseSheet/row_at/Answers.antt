@@ -2,8 +2,7 @@ use Rattle.std.proofs.Common.{◌≡◌, ◌∙◌, ◌+◌, ◌<◌, ℕ, lengt
 use Rattle.mrp_phase.specs.Weeks.{in_week}
 use Rattle.mrp_phase.proofs.WeekRows.{in_week_next}
 use Rattle.mrp_master.specs.AtpRow.{IsWeekOf, bucket, buckets_to}
-use Rattle.mrp_report.specs.PromiseSheet.{available_in}
-use Rattle.mrp_report.proofs.PromiseSums.{available-left, left-more}
+use Rattle.mrp_report.proofs.PromiseSums.{left-more}
 use Rattle.mrp_report.proofs.SheetRows.{read-at}
 use Rattle.mrp_report.proofs.promise_sheet.PromiseSheet.row_at.Goals as goal
 
@@ -31,5 +30,5 @@ returns-clause-value c =
     read-at s.firm.now c.value.result c.from.result c.args.place _ c.value.ensures.pieces c.from.ensures within ∙ sym (in_week_next s.firm.now c.args.place) in
     let booked : c.value-2.result ≡ in_week s.row.now.booked week = c.value-2.ensures.pieces ∙ c.booked.ensures.value in
     let left : c.value-bucket.result ≡ bucket s.row.now week = carried c in
-    let promise : c.args.before + c.value-bucket.result ≡ available_in s.row.now week = left-to c ∙ available-left s.row.now c.booked.ensures.kept week (inside c) in
+    let promise : c.args.before + c.value-bucket.result ≡ buckets_to s.row.now week = left-to c in
     λ j. record { week = week; firm = firm j; booked = booked j; bucket = left j; available = promise j }

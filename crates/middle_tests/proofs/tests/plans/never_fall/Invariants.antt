@@ -1,9 +1,0 @@
-use Rattle.std.proofs.Common.{◌≡◌, ◌≤◌, ℕ}
-use Rattle.mrp_phase.specs.Weeks.{in_week}
-use Rattle.middle_tests.proofs.tests.plans.never_fall.Given as goal
-
-abbrev pub invariant-loop-quantity : goal.invariant-loop-quantity
-invariant-loop-quantity l = record {
-  before : l.before ≡ in_week l.receipts l.quantity-index;
-  rises : (s t : ℕ) → s ≤ t → t ≤ l.quantity-index → in_week l.receipts s ≤ in_week l.receipts t;
-}

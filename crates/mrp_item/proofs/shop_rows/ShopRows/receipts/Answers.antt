@@ -1,0 +1,17 @@
+use Rattle.std.proofs.Common.{◌∙◌, ◌<◌, length, sym, subst}
+use Rattle.std.specs.Prelude.{All}
+use Rattle.std.specs.Int.{IsInRange}
+use Rattle.std.proofs.lemmas.List.Elements.{All-same}
+use Rattle.mrp_bill.specs.Shop.{Shop}
+use Rattle.mrp_item.specs.declared.due.Due.{Due}
+use Rattle.mrp_item.specs.Dues.{receipt_dues}
+use Rattle.mrp_item.proofs.DueRows.{receipts-within}
+use Rattle.mrp_item.proofs.shop_rows.ShopRows.receipts.Goals as goal
+
+pub returns-clause-within : goal.returns-clause-within
+returns-clause-within c =
+    let t = c.self.inside.shop.value.tables in
+    let i = c.args.item in
+    let there : i < length t.items = subst (λ (x : Shop). i < length x.tables.items) (sym c.self.view_is) c.requires in
+    let P : Shop → Type 0 = λ x. All (λ (d : Due). IsInRange 1 x.tables.calendar.weeks d.week) c.of.result.now in
+    subst P c.self.view_is (All-same (λ (d : Due). IsInRange 1 t.calendar.weeks d.week) c.of.result.now (receipt_dues t.receipts i) (c.of.ensures ∙ c.self.invariant.receipts i there) (receipts-within t i c.self.invariant.within))

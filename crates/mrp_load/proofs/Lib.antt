@@ -1,0 +1,5 @@
+pub mod PlannedOrders
+pub mod Summing
+pub mod Grouped
+pub mod Gathered
+pub mod Overloads

@@ -1,0 +1,4 @@
+pub mod Loads
+pub mod Groups
+pub mod Bounds
+pub mod Kept

@@ -1,0 +1,164 @@
+//! A bundle that is kept as the files of a folder.
+
+ghost use Rattle.std.specs.Prelude.{◌≡◌, ◌≤◌, ◌++◌, ◌∷◌, [], ℕ, List, Option, None, IfOk, IfSome, OnOk, map, option_map, vec_len};
+ghost use Rattle.std.specs.List.{filter_map};
+ghost use Rattle.std.specs.Path.{path_buf_bytes};
+ghost use Rattle.mrp_rows.specs.Joined.{joined};
+ghost use Rattle.mrp_main.specs.Folder.{AreFilesOf, IsAt, Kept, Known, all_tables, bundle_of, part_in, path_in};
+
+use mrp_qty::NoMemory;
+use mrp_rows::{GREATEST_BUNDLE, READ_CALLS, ReadFault, Table, Told, join_bundle, read_within};
+use std::alloc::{AllocError, Global};
+use std::fs::File;
+use std::io::ErrorKind;
+use std::path::{Path, PathBuf};
+use std::rt::Files;
+
+// The tables, in their order.
+const TABLES: [Table; 9] = [
+    Table::Calendar,
+    Table::Items,
+    Table::Centres,
+    Table::Stock,
+    Table::Receipts,
+    Table::Bills,
+    Table::Routings,
+    Table::Master,
+    Table::Script,
+];
+
+/// Files that are read whole.
+pub trait FileStore {
+    ghost known: { Self → Known };
+
+    /// The bytes of the file at a path, at most so many; none where there is no such file.
+    ///
+    /// Errors: `Read` where a file is there and can't be read, or has more bytes; `NoMemory` where
+    /// a growth was refused.
+    fn read_file(
+        &self,
+        alloc: Global,
+        path: &str,
+        most: usize,
+    ) -> Result<Option<Vec<u8>>, ReadFault>
+        ensures bytes { IfOk result (λ file. IsAt (known self.now) path.now (option_map (λ bytes. bytes.items) file)) }
+        ensures within { IfOk result (λ file. IfSome file (λ bytes. vec_len bytes ≤ most)) };
+}
+
+// Whether a file can't be opened because there is none: none of its name, or no folder above it.
+fn is_absent(kind: ErrorKind) -> bool {
+    matches!(kind, ErrorKind::NotFound | ErrorKind::NotADirectory)
+}
+
+// No contract can say which bytes the operating system's files have.
+impl<F: Files> FileStore for F {
+    ghost known = { λ _ _. None };
+
+    fn read_file(
+        &self,
+        alloc: Global,
+        path: &str,
+        most: usize,
+    ) -> Result<Option<Vec<u8>>, ReadFault> {
+        match File::open(self, path) {
+            Ok(file) => {
+                let mut file = Told::new(file);
+                Ok(Some(read_within(alloc, &mut file, most, READ_CALLS)?))
+            }
+            Err(error) if is_absent(error.kind()) => Ok(None),
+            Err(_) => Err(ReadFault::Read),
+        }
+    }
+}
+
+// Where a folder has a table: `items.csv` and so on.
+fn path_of(alloc: Global, folder: &str, table: Table) -> Result<PathBuf, AllocError>
+    ensures { IfOk result (λ path. path_buf_bytes path ≡ path_in folder.now table) }
+{
+    let name = table.name();
+    let file = format!(in alloc; "{name}.csv")?;
+    Path::new(folder).join(alloc, file)
+}
+
+// The bytes of a table's file, at most so many; none where there is no such file.
+fn read_table<F: FileStore>(
+    files: &F,
+    alloc: Global,
+    folder: &str,
+    table: Table,
+    most: usize,
+) -> Result<Option<Vec<u8>>, ReadFault>
+    ensures bytes { IfOk result (λ file. IsAt (F.known files.now) (path_in folder.now table) (option_map (λ bytes. bytes.items) file)) }
+    ensures within { IfOk result (λ file. IfSome file (λ bytes. vec_len bytes ≤ most)) }
+{
+    let path = path_of(alloc, folder, table)?;
+    files.read_file(alloc, path.as_str(), most)
+}
+
+// Puts a table with its bytes behind the others.
+fn push_table(
+    tables: &mut Vec<(Table, Vec<u8>)>,
+    table: Table,
+    bytes: Vec<u8>,
+) -> Result<(), ReadFault>
+    ensures { OnOk result (tables.new.items ≡ tables.old.items ++ (table, bytes) ∷ []) }
+{
+    match tables.push((table, bytes)) {
+        Ok(()) => Ok(()),
+        Err(_) => Err(ReadFault::NoMemory),
+    }
+}
+
+// The tables that have a file in a folder, with its bytes: all together at most as many as a bundle
+// may have.
+fn read_tables<F: FileStore>(
+    files: &F,
+    alloc: Global,
+    folder: &str,
+) -> Result<Vec<(Table, Vec<u8>)>, ReadFault>
+    ensures { IfOk result (λ tables. (found : List Kept) × AreFilesOf (F.known files.now) folder.now all_tables found
+        × (map (λ part. (part.0, part.1.items)) tables.items ≡ filter_map part_in found)) }
+{
+    let mut left = GREATEST_BUNDLE;
+    let mut tables = Vec::new(alloc);
+    for table in TABLES {
+        let file = read_table(files, alloc, folder, table, left)?;
+        if let Some(bytes) = file {
+            left -= bytes.len();
+            push_table(&mut tables, table, bytes)?;
+        }
+    }
+    Ok(tables)
+}
+
+// The bundle of tables that were read.
+fn join_tables(alloc: Global, tables: &[(Table, Vec<u8>)]) -> Result<Vec<u8>, NoMemory>
+    ensures { IfOk result (λ bundle. bundle.items ≡ joined (map (λ part. (part.0, part.1.items)) tables.now)) }
+{
+    let mut parts = Vec::with_capacity(alloc, tables.len())?;
+    for (table, bytes) in tables {
+        parts.push((*table, bytes.as_slice()))?;
+    }
+    join_bundle(alloc, &parts)
+}
+
+/// The bundle of a folder's files `calendar.csv`, `items.csv` and so on: a section for each that is
+/// there, in the order of the tables.
+///
+/// Errors, at the first file that has one: `Read` where a file is there and can't be read, or has
+/// more bytes than the files before it leave of a bundle's 67,108,864; `NoMemory` where a growth was
+/// refused.
+pub fn read_folder<F: FileStore>(
+    files: &F,
+    alloc: Global,
+    folder: &str,
+) -> Result<Vec<u8>, ReadFault>
+    ensures { IfOk result (λ bundle. (found : List Kept) × AreFilesOf (F.known files.now) folder.now all_tables found
+        × (bundle.items ≡ bundle_of found)) }
+{
+    let tables = read_tables(files, alloc, folder)?;
+    match join_tables(alloc, &tables) {
+        Ok(bundle) => Ok(bundle),
+        Err(NoMemory) => Err(ReadFault::NoMemory),
+    }
+}

@@ -1,0 +1,6 @@
+use Rattle.std.proofs.Common.{refl}
+use Rattle.mrp_tables.specs.declared.limits.TheConstants as limits
+use Rattle.mrp_tables.proofs.routings.Routings.read.Goals as goal
+
+pub returns-clause-count : goal.returns-clause-count
+returns-clause-count c = rw c.into_rows.ensures.rows (c.in_ok-routings.ensures.count limits.MOST_OPERATIONS refl)
