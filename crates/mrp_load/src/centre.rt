@@ -65,11 +65,7 @@ fn orders_of(plan: &Plan, item: usize) -> &[Order]
 }
 
 // What operations take in each week, in thousandths of a minute.
-pub fn load_row(
-    alloc: Global,
-    plan: &Plan,
-    operations: &[Operation],
-) -> Result<Vec<u128>, NoMemory>
+pub fn load_row(alloc: Global, plan: &Plan, operations: &[Operation]) -> Result<Vec<u128>, NoMemory>
     requires { AreOperations plan.now.inputs operations.now }
     ensures { IfOk result (λ loads. loads.items ≡ loads_by plan.now.inputs operations.now) }
 {

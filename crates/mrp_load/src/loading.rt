@@ -49,11 +49,7 @@ fn load_rows(
 /// eight.
 ///
 /// Errors: `NoMemory` where memory is refused, or a count of sharers can't rise.
-pub fn loads(
-    rt: &(impl Threads + Sync),
-    alloc: Global,
-    plan: &Plan,
-) -> Result<LoadTable, NoMemory>
+pub fn loads(rt: &(impl Threads + Sync), alloc: Global, plan: &Plan) -> Result<LoadTable, NoMemory>
     ensures { IfOk result (λ table. table ≡ plan.now.inputs) }
 {
     let tables = plan.inputs().shop().tables();

@@ -97,6 +97,7 @@ const LOT_PEGS: &[Cells] = &[
     ),
     (1, None, Supplied::Order(1), 5),
 ];
+
 const LOT_CAUSES: &[Cause] = &[
     Cause::Booking { item: 0, number: 1 },
     Cause::Forecast { item: 0, week: 3 },
@@ -108,6 +109,13 @@ const LOT_CAUSES: &[Cause] = &[
 #[test]
 fn a_part_of_a_part_goes_back_to_all_that_its_lot_is_for(rt: HostRuntime) {
     let plan = made(&rt, towers().plan(rt.alloc(), &[(1, Asked::Book(3, 5))]));
-    goes_back(&rt, rt.alloc(), &plan, &asked(2, 1, 2, 1), LOT_PEGS, LOT_CAUSES);
+    goes_back(
+        &rt,
+        rt.alloc(),
+        &plan,
+        &asked(2, 1, 2, 1),
+        LOT_PEGS,
+        LOT_CAUSES,
+    );
     drop(plan);
 }

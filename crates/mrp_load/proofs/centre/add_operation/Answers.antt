@@ -10,8 +10,8 @@ overflow_add-index_mut c =
     omega (
       arith,
       sum-fits c.args.loads.now.items c.args.orders.now c.loop-order.order-index c.order-item.result c.args.operation.now c.loop-order.loads.items c.from-place.result c.index_mut.result.now
-      c.standard_time.result c.requires.orders c.requires.setup c.requires.run c.requires.room c.loop-order-test.true c.order-item.is c.loop-order.invariant
-      (c.from-place.ensures ∙ c.operation_week.ensures) c.standard_time.ensures c.index_mut.ensures.value,
+          c.standard_time.result c.requires.orders c.requires.setup c.requires.run c.requires.room c.loop-order-test.true c.order-item.is c.loop-order.invariant
+          (c.from-place.ensures ∙ c.operation_week.ensures) c.standard_time.ensures c.index_mut.ensures.value,
     )
 
 pub loop-order-preserved : goal.loop-order-preserved
