@@ -1,19 +1,16 @@
 -- The files of a folder, table by table.
-use Rattle.std.proofs.Common.{◌≡◌, ◌∙◌, ◌++◌, ◌+◌, ◌<◌, [], ◌∷◌, ℕ, List, Option, Some, None, ap, get_or, length, map, refl, subst, sym, take}
+use Rattle.std.proofs.Common.{◌≡◌, ◌∙◌, ◌++◌, ◌+◌, ◌-◌, ◌<◌, [], ◌∷◌, ℕ, List, Option, Some, None, ap, arith, drop, get_or, length, map, refl, subst, sym, take}
 use Rattle.std.specs.List.{All, filter_map}
-use Rattle.std.proofs.lemmas.List.{append-nil, map-append, take_more}
+use Rattle.std.proofs.lemmas.List.{append-nil, drop_more, map-append, take-append-drop, take_more}
 use Rattle.std.proofs.lemmas.List.Elements.{All-append, All-cons, All-nil, filter_map-append}
 use Rattle.mrp_rows.specs.declared.fault.Table.{Table}
 use Rattle.mrp_rows.specs.Joined.{Part}
-use Rattle.mrp_main.specs.Folder.{AreFilesOf, IsAt, Kept, Known, all_tables, part_in, path_in}
+use Rattle.mrp_rows.specs.declared.streams.TheConstants.{GREATEST_BUNDLE}
+use Rattle.mrp_main.specs.Folder.{AreFilesOf, AreParts, HasTooMuch, IsAt, IsTooLongAt, Kept, Known, all_tables, bytes_in, part_in, path_in}
 
 -- these are the parts of the files that a folder has of some tables
 abbrev pub ArePartsOf : Known → List ℕ → List Table → List Part → Type 0
 ArePartsOf known folder tables parts = (found : List Kept) × AreFilesOf known folder tables found × (parts ≡ filter_map part_in found)
-
--- a folder without files
-abbrev pub no-files : List Kept
-no-files = map (λ (table : Table). (table, None)) all_tables
 
 -- what is no file is none
 pub none-there : {X : Type 0} (o : Option X) → ((x : X) → o ≡ Some x → ⊥) → o ≡ None
@@ -61,3 +58,28 @@ pub next-file : (known : Known) (folder : List ℕ) (tables : List Table) (k : �
 next-file known folder tables k table parts bytes less are at =
     subst (λ (ts : List Table). ArePartsOf known folder ts (parts ++ (get_or tables k table, bytes) ∷ [])) (sym (take_more tables k table less))
     (a-file known folder (take k tables) parts (get_or tables k table) bytes are at)
+
+-- a folder has too much where a table's file has more bytes than those before it leave
+pub too-much : (known : Known) (folder : List ℕ) (k : ℕ) (table : Table) (parts : List Part) (left : ℕ) → k < length all_tables
+    → ArePartsOf known folder (take k all_tables) parts → left + bytes_in parts ≡ GREATEST_BUNDLE → IsTooLongAt known (path_in folder (get_or all_tables k table)) left → HasTooMuch known folder
+too-much known folder k table parts left less (found, are, is) sum long =
+    let rest : left ≡ GREATEST_BUNDLE - bytes_in parts = omega (arith, sum) in
+    record {
+      before = take k all_tables;
+      table = get_or all_tables k table;
+      after = drop (k + 1) all_tables;
+      tables = ap (λ (ts : List Table). take k all_tables ++ ts) (sym (drop_more all_tables k table less)) ∙ take-append-drop k all_tables;
+      files = found;
+      are = are;
+      past = subst (λ (n : ℕ). IsTooLongAt known (path_in folder (get_or all_tables k table)) n) (rest ∙ ap (λ (ps : List Part). GREATEST_BUNDLE - bytes_in ps) is) long;
+    }
+
+-- the parts of all tables are the folder's
+pub all-parts : (known : Known) (folder : List ℕ) (tables : List Table) (parts : List Part) (left : ℕ) → tables ≡ all_tables
+    → ArePartsOf known folder tables parts → left + bytes_in parts ≡ GREATEST_BUNDLE → AreParts known folder parts
+all-parts known folder tables parts left whole (found, are, is) sum = record {
+  files = found;
+  are = subst (λ (ts : List Table). AreFilesOf known folder ts found) whole are;
+  is = is;
+  within = omega (arith, sum);
+}

@@ -5,6 +5,8 @@ use Rattle.mrp_rows.specs.FaultText.{text_of_fault}
 use Rattle.mrp_rows.specs.declared.fault.Fault.{Fault}
 use Rattle.mrp_rows.specs.declared.faults.TheConstants as faults
 use Rattle.mrp_rows.specs.declared.told.Told.{Told}
+use Rattle.mrp_rows.specs.declared.streams.ReadFault.{ReadFault}
+use Rattle.mrp_rows.specs.declared.streams.ReadFault.TheVariants as read
 use Rattle.mrp_rows.specs.declared.streams.TheConstants.{WRITE_TRIES}
 use Rattle.mrp_rows.specs.Streams.{TakesFront}
 use Rattle.mrp_rows.specs.Told.{inner_of, moved_of}
@@ -20,7 +22,7 @@ use Rattle.mrp_main.specs.declared.command.NoRequest.TheVariants as none
 use Rattle.mrp_main.specs.declared.ending.Ending.{Ending}
 use Rattle.mrp_main.specs.declared.ending.Ending.TheVariants.{Done, Refused, TooLarge, Usage, NoMemory, Read, Write}
 use Rattle.mrp_main.specs.Status.{code_of, status_of}
-use Rattle.mrp_main.specs.Folder.{Kept, all_tables, bundle_of}
+use Rattle.mrp_main.specs.Folder.{IsReadFrom, Known, nothing_known}
 use Rattle.mrp_main.specs.Words.{Asks}
 
 -- what a reader had left is a bundle with a fault of this text, which is no want of memory
@@ -64,17 +66,22 @@ pub record PlanEnds {R W : Type 0} (remaining : R → Option (List ℕ)) (conten
   pub unfailed : end ≡ NoMemory → IsReadWithin input read × HasNotFailed output written
   pub taken : TakesFront (remaining (inner_of input)) (remaining (inner_of read)) (moved_of input) (moved_of read)
 
--- how planning of a folder's files ends: each table has one or none, whose bytes are the operating system's; and want of memory is told where the output did not fail
-pub record FolderEnds {W : Type 0} (contents : W → Option (List ℕ)) (output written : Told W) (end : Ending) : Type 0 where
-  pub files : List Kept
-  pub tables : map (λ (file : Kept). file.0) files ≡ all_tables
-  pub writes : DayWrites contents (Some (bundle_of files)) ⊤ ⊤ output written end
-  pub unfailed : end ≡ NoMemory → HasNotFailed output written
+-- how planning of a bundle that was read ends: with its day, where memory is wanted only if the output did not fail; or with what kept it from being read, and nothing was written
+abbrev pub BundleEnds : {W : Type 0} → (W → Option (List ℕ)) → Told W → Told W → Result (List ℕ) ReadFault → Ending → Type 0
+BundleEnds contents output written (Ok bundle) end = DayWrites contents (Some bundle) ⊤ ⊤ output written end × (end ≡ NoMemory → HasNotFailed output written)
+BundleEnds contents output written (Err read.Read) end = (end ≡ Read) × (written ≡ output)
+BundleEnds contents output written (Err read.NoMemory) end = (end ≡ NoMemory) × (written ≡ output)
+
+-- how planning of a folder's files ends: as their bundle does
+pub record FolderEnds {W : Type 0} (known : Known) (folder : List ℕ) (contents : W → Option (List ℕ)) (output written : Told W) (end : Ending) : Type 0 where
+  pub read : Result (List ℕ) ReadFault
+  pub is_read : IsReadFrom known folder read
+  pub ends : BundleEnds contents output written read end
 
 -- how what is asked for ends: a folder's files leave the input as it was
-abbrev pub RequestEnds : {R W : Type 0} → (R → Option (List ℕ)) → (W → Option (List ℕ)) → Told R → Told R → Told W → Told W → Request → Ending → Type 0
-RequestEnds remaining contents input read output written (Plan workers None) end = PlanEnds remaining contents input read output written end
-RequestEnds remaining contents input read output written (Plan workers (Some folder)) end = (read ≡ input) × FolderEnds contents output written end
+abbrev pub RequestEnds : Known → {R W : Type 0} → (R → Option (List ℕ)) → (W → Option (List ℕ)) → Told R → Told R → Told W → Told W → Request → Ending → Type 0
+RequestEnds known remaining contents input read output written (Plan workers None) end = PlanEnds remaining contents input read output written end
+RequestEnds known remaining contents input read output written (Plan workers (Some folder)) end = (read ≡ input) × FolderEnds known (string_bytes folder) contents output written end
 
 -- how help ends: it was written, or a front of it
 abbrev pub HelpEnds : {W : Type 0} → (W → Option (List ℕ)) → Told W → Told W → List ℕ → Ending → Type 0
@@ -83,11 +90,11 @@ HelpEnds contents output written help Write = HasGivenUp output written WRITE_TR
 HelpEnds contents output written help _ = ⊥
 
 -- how a command ends, by what its words ask for: what asks for no plan leaves the input as it was
-abbrev pub Ends : {R W : Type 0} → (R → Option (List ℕ)) → (W → Option (List ℕ)) → Told R → Told R → Told W → Told W → Result Request NoRequest → Ending → Type 0
-Ends remaining contents input read output written (Ok request) end = RequestEnds remaining contents input read output written request end
-Ends remaining contents input read output written (Err (none.Help text)) end = (read ≡ input) × HelpEnds contents output written (string_bytes text) end
-Ends remaining contents input read output written (Err (none.Usage text)) end = (read ≡ input) × (written ≡ output) × (end ≡ Usage text)
-Ends remaining contents input read output written (Err none.NoMemory) end = (read ≡ input) × (written ≡ output) × (end ≡ NoMemory)
+abbrev pub Ends : Known → {R W : Type 0} → (R → Option (List ℕ)) → (W → Option (List ℕ)) → Told R → Told R → Told W → Told W → Result Request NoRequest → Ending → Type 0
+Ends known remaining contents input read output written (Ok request) end = RequestEnds known remaining contents input read output written request end
+Ends known remaining contents input read output written (Err (none.Help text)) end = (read ≡ input) × HelpEnds contents output written (string_bytes text) end
+Ends known remaining contents input read output written (Err (none.Usage text)) end = (read ≡ input) × (written ≡ output) × (end ≡ Usage text)
+Ends known remaining contents input read output written (Err none.NoMemory) end = (read ≡ input) × (written ≡ output) × (end ≡ NoMemory)
 
 -- the end of a refused bundle: the text of its fault takes memory
 abbrev pub TellsFault : Fault → Ending → Type 0
@@ -123,6 +130,6 @@ pub record IsDone {R W E : Type 0} (remaining : R → Option (List ℕ)) (conten
   pub asked : Result Request NoRequest
   pub asks : Asks words asked
   pub end : Ending
-  pub ends : Ends remaining contents input read output written asked end
+  pub ends : Ends nothing_known remaining contents input read output written asked end
   pub code : status ≡ code_of (status_of end)
   pub says : WasTold heard errors told (words_of end)

@@ -1,11 +1,14 @@
 -- A bundle that is kept as the files of a folder (profile).
-use Rattle.std.specs.Prelude.{ℕ, ◌≡◌, ◌++◌, List, [], ◌∷◌, Option, IfSome, codes, map, option_map}
+use Rattle.std.specs.Prelude.{ℕ, ◌≡◌, ◌≤◌, ◌<◌, ◌-◌, ◌++◌, List, [], ◌∷◌, Option, Some, None, IfSome, Result, Ok, Err, ⊤, codes, length, map, option_map, sum_by}
 use Rattle.std.specs.List.{All, filter_map}
 use Rattle.std.specs.Path.{path_join}
 use Rattle.mrp_rows.specs.declared.fault.Table.{Table}
 use Rattle.mrp_rows.specs.declared.fault.Table.TheVariants.{Calendar, Items, Centres, Stock, Receipts, Bills, Routings, Master, Script}
 use Rattle.mrp_rows.specs.FaultText.{table_name}
 use Rattle.mrp_rows.specs.Joined.{Part, joined}
+use Rattle.mrp_rows.specs.declared.streams.ReadFault.{ReadFault}
+use Rattle.mrp_rows.specs.declared.streams.ReadFault.TheVariants.{Read, NoMemory}
+use Rattle.mrp_rows.specs.declared.streams.TheConstants.{GREATEST_BUNDLE}
 
 -- the tables, in their order
 abbrev pub all_tables : List Table
@@ -23,10 +26,6 @@ Kept = Table × Option (List ℕ)
 abbrev pub part_in : Kept → Option Part
 part_in file = option_map (λ bytes. (file.0, bytes)) file.1
 
--- the bundle of files: a section for each that is there, with its bytes
-abbrev pub bundle_of : List Kept → List ℕ
-bundle_of files = joined (filter_map part_in files)
-
 -- what is known of the file at a path: nothing, that there is none, or its bytes
 abbrev pub Known : Type 0
 Known = List ℕ → Option (Option (List ℕ))
@@ -35,7 +34,42 @@ Known = List ℕ → Option (Option (List ℕ))
 abbrev pub IsAt : Known → List ℕ → Option (List ℕ) → Type 0
 IsAt known path file = IfSome (known path) (λ kept. file ≡ kept)
 
+-- a file has more than so many bytes, or nothing is known of it
+abbrev pub IsTooLongAt : Known → List ℕ → ℕ → Type 0
+IsTooLongAt known path most = IfSome (known path) (λ kept. (bytes : List ℕ) × (kept ≡ Some bytes) × (most < length bytes))
+
+-- how many bytes parts of a bundle have
+abbrev pub bytes_in : List Part → ℕ
+bytes_in parts = sum_by (λ part. length part.1) parts
+
 -- files are those that a folder has of some tables, one for each
 pub record AreFilesOf (known : Known) (folder : List ℕ) (tables : List Table) (files : List Kept) : Type 0 where
   pub tables_are : map (λ (file : Kept). file.0) files ≡ tables
   pub files_are : All (λ (file : Kept). IsAt known (path_in folder file.0) file.1) files
+
+-- a folder has more bytes than a bundle may have: a file has more than those of the tables before it leave
+pub record HasTooMuch (known : Known) (folder : List ℕ) : Type 0 where
+  pub before : List Table
+  pub table : Table
+  pub after : List Table
+  pub tables : before ++ table ∷ after ≡ all_tables
+  pub files : List Kept
+  pub are : AreFilesOf known folder before files
+  pub past : IsTooLongAt known (path_in folder table) (GREATEST_BUNDLE - bytes_in (filter_map part_in files))
+
+-- the parts of a bundle are the files that a folder has, which have no more bytes than a bundle may have
+pub record AreParts (known : Known) (folder : List ℕ) (parts : List Part) : Type 0 where
+  pub files : List Kept
+  pub are : AreFilesOf known folder all_tables files
+  pub is : parts ≡ filter_map part_in files
+  pub within : bytes_in parts ≤ GREATEST_BUNDLE
+
+-- what reading a folder gives: its files' bundle; or it has too much, or memory was refused
+abbrev pub IsReadFrom : Known → List ℕ → Result (List ℕ) ReadFault → Type 0
+IsReadFrom known folder (Ok bundle) = (parts : List Part) × AreParts known folder parts × (bundle ≡ joined parts)
+IsReadFrom known folder (Err Read) = HasTooMuch known folder
+IsReadFrom known folder (Err NoMemory) = ⊤
+
+-- of no path anything is known: which bytes the operating system's files have no contract can say
+abbrev pub nothing_known : Known
+nothing_known path = None

@@ -39,7 +39,7 @@ script, with its reply. Then, for each run:
   [loads]     each work centre and week: load, capacity, and what is over, in minutes";
 
 const ABOUT_WORKERS: &str =
-    "A number from 1 to 64, of which no use is made: items are planned, and work centres loaded, side by side by as many threads as there are processors";
+    "A number from 1 to 64, of which no use is made: the threads that plan items and load work centres are as many as the machine has processors for, whatever N is";
 
 const ABOUT_DIR: &str =
     "A folder, whose files calendar.csv, items.csv and so on are planned in place of standard input";

@@ -1,10 +1,11 @@
 //! A bundle that is kept as the files of a folder.
 
-ghost use Rattle.std.specs.Prelude.{◌≡◌, ◌≤◌, ◌++◌, ◌∷◌, [], ℕ, List, Option, None, IfOk, IfSome, OnOk, map, option_map, vec_len};
-ghost use Rattle.std.specs.List.{filter_map};
+ghost use Rattle.std.specs.Prelude.{◌≡◌, ◌≤◌, ◌++◌, ◌∷◌, [], Err, IfErr, IfOk, IfSome, OnOk, map, option_map, vec_len};
+ghost use Rattle.std.specs.Result.{result_map_both};
 ghost use Rattle.std.specs.Path.{path_buf_bytes};
 ghost use Rattle.mrp_rows.specs.Joined.{joined};
-ghost use Rattle.mrp_main.specs.Folder.{AreFilesOf, IsAt, Kept, Known, all_tables, bundle_of, part_in, path_in};
+ghost use Rattle.mrp_rows.specs.declared.streams.ReadFault.TheVariants as read;
+ghost use Rattle.mrp_main.specs.Folder.{AreParts, HasTooMuch, IsAt, IsReadFrom, IsTooLongAt, Known, nothing_known, path_in};
 
 use mrp_qty::NoMemory;
 use mrp_rows::{GREATEST_BUNDLE, READ_CALLS, ReadFault, Table, Told, join_bundle, read_within};
@@ -42,7 +43,8 @@ pub trait FileStore {
         most: usize,
     ) -> Result<Option<Vec<u8>>, ReadFault>
         ensures bytes { IfOk result (λ file. IsAt (known self.now) path.now (option_map (λ bytes. bytes.items) file)) }
-        ensures within { IfOk result (λ file. IfSome file (λ bytes. vec_len bytes ≤ most)) };
+        ensures within { IfOk result (λ file. IfSome file (λ bytes. vec_len bytes ≤ most)) }
+        ensures past { result ≡ Err read.Read → IsTooLongAt (known self.now) path.now most };
 }
 
 // Whether a file can't be opened because there is none: none of its name, or no folder above it.
@@ -52,7 +54,7 @@ fn is_absent(kind: ErrorKind) -> bool {
 
 // No contract can say which bytes the operating system's files have.
 impl<F: Files> FileStore for F {
-    ghost known = { λ _ _. None };
+    ghost known = { λ _. nothing_known };
 
     fn read_file(
         &self,
@@ -90,6 +92,7 @@ fn read_table<F: FileStore>(
 ) -> Result<Option<Vec<u8>>, ReadFault>
     ensures bytes { IfOk result (λ file. IsAt (F.known files.now) (path_in folder.now table) (option_map (λ bytes. bytes.items) file)) }
     ensures within { IfOk result (λ file. IfSome file (λ bytes. vec_len bytes ≤ most)) }
+    ensures past { result ≡ Err read.Read → IsTooLongAt (F.known files.now) (path_in folder.now table) most }
 {
     let path = path_of(alloc, folder, table)?;
     files.read_file(alloc, path.as_str(), most)
@@ -101,7 +104,8 @@ fn push_table(
     table: Table,
     bytes: Vec<u8>,
 ) -> Result<(), ReadFault>
-    ensures { OnOk result (tables.new.items ≡ tables.old.items ++ (table, bytes) ∷ []) }
+    ensures pushed { OnOk result (tables.new.items ≡ tables.old.items ++ (table, bytes) ∷ []) }
+    ensures memory { IfErr result (λ fault. fault ≡ read.NoMemory) }
 {
     match tables.push((table, bytes)) {
         Ok(()) => Ok(()),
@@ -116,8 +120,8 @@ fn read_tables<F: FileStore>(
     alloc: Global,
     folder: &str,
 ) -> Result<Vec<(Table, Vec<u8>)>, ReadFault>
-    ensures { IfOk result (λ tables. (found : List Kept) × AreFilesOf (F.known files.now) folder.now all_tables found
-        × (map (λ part. (part.0, part.1.items)) tables.items ≡ filter_map part_in found)) }
+    ensures parts { IfOk result (λ tables. AreParts (F.known files.now) folder.now (map (λ part. (part.0, part.1.items)) tables.items)) }
+    ensures past { result ≡ Err read.Read → HasTooMuch (F.known files.now) folder.now }
 {
     let mut left = GREATEST_BUNDLE;
     let mut tables = Vec::new(alloc);
@@ -153,8 +157,7 @@ pub fn read_folder<F: FileStore>(
     alloc: Global,
     folder: &str,
 ) -> Result<Vec<u8>, ReadFault>
-    ensures { IfOk result (λ bundle. (found : List Kept) × AreFilesOf (F.known files.now) folder.now all_tables found
-        × (bundle.items ≡ bundle_of found)) }
+    ensures { IsReadFrom (F.known files.now) folder.now (result_map_both (λ bundle. bundle.items) (λ fault. fault) result) }
 {
     let tables = read_tables(files, alloc, folder)?;
     match join_tables(alloc, &tables) {

@@ -2,13 +2,14 @@
 
 ghost use Rattle.std.specs.Prelude.{◌≡◌, ◌<◌, map, string_bytes};
 ghost use Rattle.std.specs.Int.{IsInRange};
+ghost use Rattle.std.specs.Result.{result_map_both};
 ghost use Rattle.std.specs.Result.{ForOk};
-ghost use Rattle.mrp_main.specs.Ends.{Ends, FolderEnds, HelpEnds, IsDone, PlanEnds, RequestEnds};
+ghost use Rattle.mrp_main.specs.Ends.{BundleEnds, Ends, FolderEnds, HelpEnds, IsDone, PlanEnds, RequestEnds};
 ghost use Rattle.mrp_main.specs.Words.{HasWorkers};
 
 use crate::command::{NoRequest, Request, read_words};
 use crate::ending::Ending;
-use crate::files::read_folder;
+use crate::files::{FileStore, read_folder};
 use mrp_engine::{MOST_WORKERS, run_day};
 use mrp_rows::{ReadFault, Told, Tries, write_text};
 use std::alloc::Global;
@@ -41,18 +42,18 @@ fn plan<R: Read, W: Write>(
     Ending::of_day(alloc, run_day(rt, alloc, input, output, workers))
 }
 
-// Plans the bundle of a folder's files.
-fn plan_folder<W: Write>(
-    rt: &(impl Alloc + Files + Threads + Sync),
+// Plans a bundle that was read.
+fn plan_bundle<W: Write>(
+    rt: &(impl Alloc + Threads + Sync),
     alloc: Global,
     workers: usize,
-    folder: &str,
+    bundle: Result<Vec<u8>, ReadFault>,
     output: &mut Told<W>,
 ) -> Ending
     requires workers { IsInRange 1 MOST_WORKERS workers }
-    ensures { FolderEnds W.contents output.old output.new result }
+    ensures { BundleEnds W.contents output.old output.new (result_map_both (λ bundle. bundle.items) (λ fault. fault) bundle) result }
 {
-    match read_folder(rt, alloc, folder) {
+    match bundle {
         Ok(bundle) => {
             let mut input = Told::new(bundle.as_slice());
             plan(rt, alloc, workers, &mut input, output)
@@ -62,38 +63,61 @@ fn plan_folder<W: Write>(
     }
 }
 
-// Plans what was asked for.
-fn plan_request<R: Read, W: Write>(
-    rt: &(impl Alloc + Files + Threads + Sync),
+// Plans the bundle of a folder's files.
+fn plan_folder<F: FileStore, W: Write>(
+    rt: &(impl Alloc + Threads + Sync),
     alloc: Global,
+    files: &F,
+    workers: usize,
+    folder: &str,
+    output: &mut Told<W>,
+) -> Ending
+    requires workers { IsInRange 1 MOST_WORKERS workers }
+    ensures { FolderEnds (F.known files.now) folder.now W.contents output.old output.new result }
+{
+    plan_bundle(
+        rt,
+        alloc,
+        workers,
+        read_folder(files, alloc, folder),
+        output,
+    )
+}
+
+// Plans what was asked for.
+fn plan_request<F: FileStore, R: Read, W: Write>(
+    rt: &(impl Alloc + Threads + Sync),
+    alloc: Global,
+    files: &F,
     request: Request,
     input: &mut Told<R>,
     output: &mut Told<W>,
 ) -> Ending
     requires workers { HasWorkers request }
-    ensures { RequestEnds R.remaining W.contents input.old input.new output.old output.new request result }
+    ensures { RequestEnds (F.known files.now) R.remaining W.contents input.old input.new output.old output.new request result }
 {
     match request {
         Request::Plan { workers, folder } => match folder {
             None => plan(rt, alloc, workers, input, output),
-            Some(folder) => plan_folder(rt, alloc, workers, &folder, output),
+            Some(folder) => plan_folder(rt, alloc, files, workers, &folder, output),
         },
     }
 }
 
 // Does what was asked for. The error stream has no part in it, so it decides nothing.
-fn carry_out<R: Read, W: Write>(
-    rt: &(impl Alloc + Files + Threads + Sync),
+fn carry_out<F: FileStore, R: Read, W: Write>(
+    rt: &(impl Alloc + Threads + Sync),
     alloc: Global,
+    files: &F,
     asked: Result<Request, NoRequest>,
     input: &mut Told<R>,
     output: &mut Told<W>,
 ) -> Ending
     requires { ForOk asked HasWorkers }
-    ensures { Ends R.remaining W.contents input.old input.new output.old output.new asked result }
+    ensures { Ends (F.known files.now) R.remaining W.contents input.old input.new output.old output.new asked result }
 {
     match asked {
-        Ok(request) => plan_request(rt, alloc, request, input, output),
+        Ok(request) => plan_request(rt, alloc, files, request, input, output),
         Err(NoRequest::Help(text)) => write_help(&text, output),
         Err(NoRequest::Usage(text)) => Ending::Usage(text),
         Err(NoRequest::NoMemory) => Ending::NoMemory,
@@ -110,8 +134,8 @@ fn carry_out<R: Read, W: Write>(
 ///
 /// Words that ask for a plan plan: at 0 the day of what the input had left was written; at 1, and
 /// where reading failed, nothing was; at 3 and where writing failed, at most a front of the day.
-/// Of a folder the same is said of the bundle that its files make: for each table one section with
-/// its file's bytes, or none. Which bytes files have no contract says. Words that ask for help have
+/// Of a folder the same is said of the bundle that the files of this folder make: for each table one
+/// section with its file's bytes, or none. Which bytes files have no contract says. Words that ask for help have
 /// it written, and wrong words nothing. All but a plan of the input leave it as it is.
 pub fn run_words<S: AsStr, R: Read, W: Write, E: Write>(
     rt: &(impl Alloc + Files + Threads + Sync),
@@ -125,7 +149,7 @@ pub fn run_words<S: AsStr, R: Read, W: Write, E: Write>(
         input.old input.new output.old output.new errors.old errors.new result }
     ensures few { result < 5 }
 {
-    let end = carry_out(rt, alloc, read_words(alloc, words), input, output);
+    let end = carry_out(rt, alloc, rt, read_words(alloc, words), input, output);
     let _ = end.tell(errors);
     end.status().code()
 }

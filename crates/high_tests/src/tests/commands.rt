@@ -265,24 +265,44 @@ fn help_is_written_to_the_output(rt: HostRuntime) {
     }
 }
 
-// Makes a folder whose calendar is a folder, and one that has an item table too long for a bundle. They
-// may be there from an earlier run.
+// Makes a file of so many bytes.
+fn make_long(files: &impl Files, path: &str, length: u64) -> Result<(), Fail> {
+    File::create(files, path)?.set_len(length)?;
+    Ok(())
+}
+
+// Makes a folder whose calendar is a folder, one that has an item table too long for a bundle, one whose
+// item table and stock are too long together, and one whose calendar is as long as a bundle may be. They may
+// be there from an earlier run.
 fn make_folders(files: &impl Files) -> Result<(), Fail> {
-    for folder in ["out", "out/shut", "out/shut/calendar.csv", "out/long"] {
+    const FOLDERS: [&str; 6] = [
+        "out",
+        "out/shut",
+        "out/shut/calendar.csv",
+        "out/long",
+        "out/both",
+        "out/full",
+    ];
+    for folder in FOLDERS {
         let _ = fs::create_dir(files, folder);
     }
-    let items = File::create(files, "out/long/items.csv")?;
-    items.set_len(GREATEST_BUNDLE as u64 + 1)?;
-    Ok(())
+    make_long(files, "out/long/items.csv", GREATEST_BUNDLE as u64 + 1)?;
+    make_long(files, "out/both/items.csv", GREATEST_BUNDLE as u64)?;
+    make_long(files, "out/both/stock.csv", 1)?;
+    make_long(files, "out/full/calendar.csv", GREATEST_BUNDLE as u64)?;
+    make_long(files, "out/file", 1)
 }
 
 // The input is no bundle, and is not read.
 #[test]
 fn folders_that_can_not_be_read_are_told(rt: HostRuntime) {
-    const ENDS: [(&str, u8, &str); 3] = [
+    const ENDS: [(&str, u8, &str); 6] = [
         ("nowhere", 1, "refused: 4 missing-section calendar 0\n"),
+        ("out/file", 1, "refused: 4 missing-section calendar 0\n"),
         ("out/shut", 4, "read failed\n"),
         ("out/long", 4, "read failed\n"),
+        ("out/both", 4, "read failed\n"),
+        ("out/full", 4, "read failed\n"),
     ];
     made(&rt, make_folders(&rt));
     for (folder, status, errors) in ENDS {
