@@ -7,3 +7,5 @@ pub mod DayWritten
 pub mod DayRuns
 pub mod RefusedItem
 pub mod SomeDay
+mod DeskCounts
+mod DeskRecords

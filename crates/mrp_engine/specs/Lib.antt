@@ -6,3 +6,4 @@ pub mod Opened
 pub mod Run
 pub mod Planned
 pub mod Laws
+pub mod Desks

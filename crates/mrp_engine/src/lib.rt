@@ -2,6 +2,7 @@
 #![tactic(auto)]
 
 mod day;
+mod desks;
 mod fault;
 pub mod laws;
 mod opening;
@@ -10,6 +11,7 @@ mod reading;
 mod run;
 mod runs;
 mod script;
+mod serving;
 mod writing;
 
 pub use fault::DayFault;

@@ -3,10 +3,12 @@
 
 mod fault;
 mod finished;
+mod gate;
 mod grouping;
 mod levels;
 mod serial;
 
 pub use fault::RunFault;
+pub use gate::{Gate, OpenGate};
 pub use levels::explode_levels;
 pub use serial::explode_serial;
