@@ -9,3 +9,5 @@ pub mod RefusedItem
 pub mod SomeDay
 mod DeskCounts
 mod DeskRecords
+mod Parting
+mod DeskLists

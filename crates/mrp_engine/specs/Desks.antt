@@ -1,5 +1,5 @@
 -- What a desk leaves that has made the calls of its records (profile).
-use Rattle.std.specs.Prelude.{ℕ, ◌≡◌, ◌<◌, ◌≤◌, ◌+◌, ◌++◌, List, [], ◌∷◌, All, Any, Result, Err, OnErr, OnOk, length, slice_index_or}
+use Rattle.std.specs.Prelude.{ℕ, ◌≡◌, ◌<◌, ◌≤◌, ◌+◌, ◌++◌, List, [], ◌∷◌, All, Any, Result, Ok, Err, IsOk, OnErr, OnOk, length, slice_index_or}
 use Rattle.mrp_bill.specs.Shop.{Shop}
 use Rattle.mrp_turn.specs.Seen.{TurnId}
 use Rattle.mrp_book.specs.declared.call.Call.{Call}
@@ -7,6 +7,7 @@ use Rattle.mrp_book.specs.declared.refused.Refused.{Refused}
 use Rattle.mrp_book.specs.declared.refused.Refused.TheVariants.{Full}
 use Rattle.mrp_book.specs.History.{IsFull, asked}
 use Rattle.mrp_desk.specs.Offices.{Desk}
+use Rattle.mrp_engine.specs.declared.serving.Served.{Served}
 use Rattle.mrp_engine.specs.Script.{Script}
 use Rattle.mrp_engine.specs.RightDay.{asked_by}
 
@@ -37,3 +38,8 @@ pub record HaveServed (records : Script) (desks : List Desk) {U : Type 0} (end :
   pub served : OnOk end (All (λ d. asked d.mine ≡ asked_by d.number records) desks)
   pub few : All (λ d. length d.mine ≤ length (asked_by d.number records)) desks
   pub full : end ≡ Err Full → Any (λ d. IsFull d.seen) desks
+
+-- how the calls of desks ended, all together: all were answered, or one of them was refused like this
+abbrev pub EndAs : List Served → Result (Unit {0}) Refused → Type 0
+EndAs all (Ok u) = All (λ s. IsOk s.end) all
+EndAs all (Err e) = Any (λ s. s.end ≡ Err e) all

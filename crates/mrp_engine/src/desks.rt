@@ -1,11 +1,11 @@
 //! The history that desks make beside one another.
 
-ghost use Rattle.std.specs.Prelude.{◌≡◌, ◌<◌, ◌≤◌, All, ℕ, IfOk, OnOk, length, map, slice_index_or, vec_len};
+ghost use Rattle.std.specs.Prelude.{◌≡◌, ◌<◌, ◌≤◌, All, [], ℕ, IfOk, Ok, length, map, slice_index_or, vec_len};
 ghost use Rattle.mrp_book.specs.History.{Fits};
 ghost use Rattle.mrp_master.specs.Supply.{supply_of};
-ghost use Rattle.mrp_turn.specs.Seen.{newcomer};
+ghost use Rattle.mrp_tables.specs.declared.limits.TheConstants.{MOST_DESKS, MOST_ENTRIES};
 ghost use Rattle.mrp_desk.specs.Offices.{Desk, supply_at};
-ghost use Rattle.mrp_engine.specs.Desks.{AreDesksOf, HasServed, HaveServed};
+ghost use Rattle.mrp_engine.specs.Desks.{AreDesksOf, EndAs, HasServed, HaveServed};
 ghost use Rattle.mrp_engine.specs.RightDay.{AnswersDesks};
 ghost use Rattle.mrp_engine.specs.Script.{call_of, record_of, script_of, with_run};
 
@@ -77,14 +77,38 @@ fn serve_all<R: Threads + Wait + Sync, G: Gate + Sync>(
 }
 
 // The desks, and how their calls ended: as those of the first that was refused one.
-fn parted(alloc: Global, all: Vec<Served>) -> Result<(Vec<Desk>, Result<(), Refused>), NoMemory> {
+fn parted(alloc: Global, all: Vec<Served>) -> Result<(Vec<Desk>, Result<(), Refused>), AllocError>
+    ensures desks { IfOk result (λ r. r.0.items ≡ map (λ s. s.desk) all.items) }
+    ensures end { IfOk result (λ r. EndAs all.items r.1) }
+{
     let mut desks = Vec::with_capacity(alloc, all.len())?;
     let mut end = Ok(());
     for served in all {
-        desks.push(served.desk)?;
-        end = end.and(served.end);
+        let Served { desk, end: ended } = served;
+        desks.push(desk)?;
+        if end.is_ok() {
+            end = ended;
+        }
     }
     Ok((desks, end))
+}
+
+// Has the desks of an office, which have made no call yet, make those of their records.
+fn serve_script<R: Threads + Wait + Sync, G: Gate + Sync>(
+    rt: &R,
+    alloc: Global,
+    office: &Office,
+    script: &[ScriptRow],
+    gate: &G,
+    desks: Vec<Desk>,
+) -> Result<(Vec<Desk>, Result<(), Refused>), AllocError>
+    requires desks { AreDesksOf office.now desks.items }
+    requires new { All (λ d. d.mine ≡ []) desks.items }
+    requires fits { All (λ r. Fits (supply_at office.now) (call_of r.call)) script.now }
+    ensures desks { IfOk result (λ r. AreDesksOf office.now r.0.items) }
+    ensures served { IfOk result (λ r. HaveServed (map record_of script.now) r.0.items r.1) }
+{
+    parted(alloc, serve_all(rt, office, script, gate, desks)?)
 }
 
 // Adds a run to a script without one: the last call of all, by the first desk.
@@ -93,11 +117,34 @@ fn add_run<R: Wait>(
     office: &Office,
     script: &[ScriptRow],
     desks: &mut [Desk],
-) -> Result<(), Refused> {
+) -> Result<(), Refused>
+    requires desks { AreDesksOf office.now desks.old }
+    requires some { 1 ≤ length desks.old }
+    requires served { HaveServed (map record_of script.now) desks.old {U = Unit {0}} (Ok tt) }
+    ensures desks { AreDesksOf office.now desks.new }
+    ensures served { HaveServed (with_run (map record_of script.now)) desks.new result }
+{
     if has_run(script) {
         return Ok(());
     }
     make(rt, office, &mut desks[0], Call::Snapshot)
+}
+
+// Ends an office whose desks have made the calls of their records, and gives its history.
+fn close(office: Office, desks: Vec<Desk>, end: Result<(), Refused>) -> Result<History, NoMemory>
+    requires desks { AreDesksOf office desks.items }
+    requires served { HaveServed (with_run (script_of office.about.object.tables)) desks.items end }
+    requires enough { (1 ≤ office.about.seats) × All (λ row. row.desk ≤ office.about.seats) office.about.object.tables.script }
+    requires few { length office.about.object.tables.script < MOST_ENTRIES }
+    ensures supply { IfOk result (λ h. h.supply ≡ supply_at office) }
+    ensures answers { IfOk result (λ h. AnswersDesks office.about.object.tables h.entries) }
+{
+    let history = office.close(desks);
+    match end {
+        Ok(()) => Ok(history),
+        Err(Refused::NoMemory) => Err(NoMemory),
+        Err(Refused::Full) => unreachable!(),
+    }
 }
 
 /// The history that a shop's desks make, each in a thread of its own, which makes the calls of its
@@ -118,15 +165,10 @@ pub fn answer_by_desks<R: Threads + Wait + Sync, G: Gate + Sync>(
     let (office, desks) = open(alloc, shop)?;
     let shop = office.shop().clone()?;
     let script = shop.tables().script();
-    let (mut desks, end) = parted(alloc, serve_all(rt, &office, script, gate, desks)?)?;
+    let (mut desks, end) = serve_script(rt, alloc, &office, script, gate, desks)?;
     let end = match end {
         Ok(()) => add_run(rt, &office, script, &mut desks),
-        refused => refused,
+        Err(refused) => Err(refused),
     };
-    let history = office.close(desks);
-    match end {
-        Ok(()) => Ok((shop, history)),
-        Err(Refused::NoMemory) => Err(NoMemory),
-        Err(Refused::Full) => unreachable!(),
-    }
+    Ok((shop, close(office, desks, end)?))
 }
