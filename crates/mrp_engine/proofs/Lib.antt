@@ -11,3 +11,4 @@ mod DeskCounts
 mod DeskRecords
 mod Parting
 mod DeskLists
+mod DeskHistories

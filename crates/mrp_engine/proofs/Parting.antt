@@ -1,5 +1,5 @@
 -- Desks are parted from how their calls ended, one by one.
-use Rattle.std.proofs.Common.{◌≡◌, ◌∙◌, ℕ, ◌+◌, ◌<◌, ◌++◌, List, [], ◌∷◌, Option, Result, Ok, Err, IsOk, get_or, length, map, ap, arith, refl, subst, sym}
+use Rattle.std.proofs.Common.{◌≡◌, ◌∙◌, ℕ, ◌+◌, ◌<◌, ◌++◌, List, [], ◌∷◌, Option, Result, Ok, Err, IsOk, is_ok, true, get_or, length, map, ap, arith, refl, subst, sym}
 use Rattle.std.specs.Prelude.{Any}
 use Rattle.std.proofs.lemmas.List.{append-nil, append_assoc, get_or_append_left, get_or_push, length-append, length_push, map-append}
 use Rattle.std.proofs.lemmas.List.Elements.{All-nil, All-push}
@@ -32,6 +32,11 @@ kept done s e (k, x, within, at, is) = let long = length_push done s in (k, x, o
 more : (done : List Served) (s : Served) (end new : End) → EndAs done end → (IsOk end → new ≡ s.end) → ((e : Refused) → end ≡ Err e → new ≡ end) → EndAs (done ++ s ∷ []) new
 more done s (Ok u) new ends ok refused = last done s new ends (sym (ok refl))
 more done s (Err e) new ends ok refused = subst (EndAs (done ++ s ∷ [])) (sym (refused e refl)) (kept done s e ends)
+
+-- an end that is well is no refusal
+pub well-not-refused : {X : Type 0} (end : End) → is_ok end ≡ true → (e : Refused) → end ≡ Err e → X
+well-not-refused (Ok u) well e is = absurd (cc)
+well-not-refused (Err f) well e is = absurd (cc)
 
 -- one more is parted
 pub one-parted : (all rest left : List Served) (desks now : List Desk) (end new : End) (s : Served) → AreParted all rest desks end → rest ≡ s ∷ left → now ≡ desks ++ s.desk ∷ []

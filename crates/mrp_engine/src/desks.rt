@@ -135,7 +135,7 @@ fn close(office: Office, desks: Vec<Desk>, end: Result<(), Refused>) -> Result<H
     requires desks { AreDesksOf office desks.items }
     requires served { HaveServed (with_run (script_of office.about.object.tables)) desks.items end }
     requires enough { (1 ≤ office.about.seats) × All (λ row. row.desk ≤ office.about.seats) office.about.object.tables.script }
-    requires few { length office.about.object.tables.script < MOST_ENTRIES }
+    requires few { length office.about.object.tables.script + 1 < MOST_ENTRIES }
     ensures supply { IfOk result (λ h. h.supply ≡ supply_at office) }
     ensures answers { IfOk result (λ h. AnswersDesks office.about.object.tables h.entries) }
 {
