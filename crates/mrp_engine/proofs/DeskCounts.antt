@@ -6,7 +6,7 @@ use Rattle.std.proofs.lemmas.List.Elements.{All-head, All-tail}
 
 length-if : {X : Type 0} (b : Bool) (x : X) (xs : List X) → length (cond b (x ∷ xs) xs) ≡ cond b 1 0 + length xs
 length-if true x xs = omega arith
-length-if false x xs = refl
+length-if false x xs = omega arith
 
 at-most-one : (b : Bool) → cond b 1 0 ≤ 1
 at-most-one true = omega arith
@@ -30,7 +30,7 @@ number-splits m n = elim (cases_lt m n) [
 
 module _ {X : Type 0} (number : X → ℕ) where
   -- how many have a number below this one
-  below : ℕ → List X → ℕ
+  abbrev below : ℕ → List X → ℕ
   below n xs = length (filter (λ x. ltb (number x) n) xs)
 
   below-next : (n : ℕ) (xs : List X) → below (n + 1) xs ≡ below n xs + length (filter (λ x. number x == n) xs)
@@ -47,7 +47,7 @@ module _ {X : Type 0} (number : X → ℕ) where
   below-none [] = refl
   below-none (x ∷ xs) =
       let a = length-if (ltb (number x) 0) x (filter (λ y. ltb (number y) 0) xs) in
-      let b : cond (ltb (number x) 0) 1 0 ≡ 0 = ap (λ (b : Bool). cond b 1 0) (le-ltb (number x) 0 (omega arith)) in
+      let b : ◌≡◌ {A = ℕ} (cond (ltb (number x) 0) 1 0) 0 = ap (λ (b : Bool). cond b 1 0) (le-ltb (number x) 0 (omega arith)) in
       let rest = below-none xs in
       omega (arith, a, b, rest)
 
@@ -63,7 +63,7 @@ module _ {X : Type 0} (number : X → ℕ) where
   below-all n [] all = refl
   below-all n (x ∷ xs) all =
       let a = length-if (ltb (number x) n) x (filter (λ y. ltb (number y) n) xs) in
-      let b : cond (ltb (number x) n) 1 0 ≡ 1 = ap (λ (b : Bool). cond b 1 0) (lt-ltb (number x) n (All-head (λ y. number y < n) x xs all)) in
+      let b : ◌≡◌ {A = ℕ} (cond (ltb (number x) n) 1 0) 1 = ap (λ (b : Bool). cond b 1 0) (lt-ltb (number x) n (All-head (λ y. number y < n) x xs all)) in
       let rest = below-all n xs (All-tail (λ y. number y < n) x xs all) in
       omega (arith, a, b, rest)
 
@@ -86,8 +86,9 @@ few-by-number {X} {Y} number mark xs ys n all each =
     upto : (k : ℕ) → k ≤ n → below number k xs ≤ below mark k ys
     upto zero within = let a = below-none number xs in omega (arith, a)
     upto (suc k) within =
-        let a = below-next number k xs in
-        let b = below-next mark k ys in
+        let next : suc k ≡ k + 1 = omega arith in
+        let a : below number (suc k) xs ≡ below number k xs + length (filter (λ x. number x == k) xs) = ap (λ (m : ℕ). below number m xs) next ∙ below-next number k xs in
+        let b : below mark (suc k) ys ≡ below mark k ys + length (filter (λ y. mark y == k) ys) = ap (λ (m : ℕ). below mark m ys) next ∙ below-next mark k ys in
         let c = upto k (omega (arith, within)) in
         let d = each k (omega (arith, within)) in
         omega (arith, a, b, c, d)

@@ -4,7 +4,7 @@ use Rattle.std.specs.Prelude.{All, Any}
 use Rattle.std.specs.List.{list_any}
 use Rattle.std.proofs.lemmas.Bool.{cases_lt}
 use Rattle.std.proofs.lemmas.List.{length-append, length-map}
-use Rattle.std.proofs.lemmas.List.Elements.{All-contains, All-map, All-weaker}
+use Rattle.std.proofs.lemmas.List.Elements.{All-contains, All-map, All-push, All-weaker}
 use Rattle.mrp_bill.specs.Shop.{Shop}
 use Rattle.mrp_turn.specs.Lists.{StartsWith}
 use Rattle.mrp_turn.specs.Log.{entries_by}
@@ -12,13 +12,16 @@ use Rattle.mrp_turn.specs.Seen.{HasNumber, TurnId}
 use Rattle.mrp_turn.proofs.Callers.{in_order}
 use Rattle.mrp_tables.specs.declared.limits.TheConstants.{MOST_ENTRIES}
 use Rattle.mrp_book.specs.declared.call.Call.{Call}
+use Rattle.mrp_book.specs.declared.call.Call.TheVariants as call
 use Rattle.mrp_book.specs.Standing.{History}
 use Rattle.mrp_book.specs.History.{IsFull, asked}
 use Rattle.mrp_desk.specs.Offices.{Desk}
 use Rattle.mrp_engine.specs.Desks.{AreDesksOf}
 use Rattle.mrp_engine.specs.RightDay.{asked_by}
-use Rattle.mrp_engine.specs.Script.{Script, is_run, with_run}
+use Rattle.mrp_tables.specs.declared.rows.ScriptRow.{ScriptRow}
+use Rattle.mrp_engine.specs.Script.{Script, is_run, record_of, with_run}
 use Rattle.mrp_engine.proofs.DeskCounts.{few-by-number, none-numbered}
+use Rattle.mrp_engine.proofs.DeskLists.{run-more}
 
 map-if : {X Y : Type 0} (f : X → Y) (b : Bool) (x : X) (xs : List X) → map f (cond b (x ∷ xs) xs) ≡ cond b (f x ∷ map f xs) (map f xs)
 map-if f true x xs = refl
@@ -34,9 +37,23 @@ asked-part d (e ∷ es) =
 pub run-adds : (records : Script) → length (with_run records) ≤ length records + 1
 run-adds records = adds (list_any (λ r. is_run r.1) records)
   where
-    adds : (b : Bool) → length (if b then records else records ++ (1, Rattle.mrp_book.specs.declared.call.Call.TheVariants.Snapshot) ∷ []) ≤ length records + 1
+    adds : (b : Bool) → length (if b then records else records ++ (1, call.Snapshot) ∷ []) ≤ length records + 1
     adds true = omega arith
-    adds false = let both = length-append records ((1, Rattle.mrp_book.specs.declared.call.Call.TheVariants.Snapshot) ∷ []) in omega (arith, both)
+    adds false = let both = length-append records ((1, call.Snapshot) ∷ []) in omega (arith, both)
+
+-- the records of a script with its run are of these desks
+pub all-wide : (seats : ℕ) (rows : List ScriptRow) → All (λ row. 1 ≤ row.desk) rows → All (λ row. row.desk ≤ seats) rows → 1 ≤ seats → All (λ r. (1 ≤ r.0) × (r.0 ≤ seats)) (with_run (map record_of rows))
+all-wide seats rows least most some = added (list_any (λ r. is_run r.1) (map record_of rows))
+  where
+    Wide : ℕ × Call → Type 0
+    Wide r = (1 ≤ r.0) × (r.0 ≤ seats)
+
+    rows-wide : All Wide (map record_of rows)
+    rows-wide = All-map Wide record_of rows (λ k d within. (least k d within, most k d within))
+
+    added : (b : Bool) → All Wide (if b then map record_of rows else map record_of rows ++ (1, call.Snapshot) ∷ [])
+    added true = rows-wide
+    added false = All-push Wide (map record_of rows) (1, call.Snapshot) rows-wide (omega arith, some)
 
 module _ (office : TurnId Shop) (desks : List Desk) (h : History) (records : Script) (are : AreDesksOf office desks) (mine : All (λ d. d.mine ≡ entries_by d.number h) desks)
     (callers : All (λ e. HasNumber desks e.who) h) (wide : All (λ r. (1 ≤ r.0) × (r.0 ≤ office.about.seats)) records) where
@@ -114,3 +131,11 @@ module _ (office : TurnId Shop) (desks : List Desk) (h : History) (records : Scr
       let most = no-more few in
       let both = ap (length {A = _}) is ∙ length-append s.seen rest in
       absurd (omega (arith, most, both, full, short))
+
+-- a script with its run has no fewer records of any desk
+pub run-fewer : (records : Script) (d : ℕ) → length (asked_by d records) ≤ length (asked_by d (with_run records))
+run-fewer records d = added (list_any (λ r. is_run r.1) records)
+  where
+    added : (b : Bool) → length (asked_by d records) ≤ length (asked_by d (if b then records else records ++ (1, call.Snapshot) ∷ []))
+    added true = omega arith
+    added false = run-more records d

@@ -1,6 +1,6 @@
 //! The history that desks make beside one another.
 
-ghost use Rattle.std.specs.Prelude.{◌≡◌, ◌<◌, ◌≤◌, All, [], ℕ, IfOk, Ok, length, map, slice_index_or, vec_len};
+ghost use Rattle.std.specs.Prelude.{◌≡◌, ◌<◌, ◌≤◌, ◌+◌, All, [], ℕ, IfOk, Ok, length, map, slice_index_or, vec_len};
 ghost use Rattle.mrp_book.specs.History.{Fits};
 ghost use Rattle.mrp_master.specs.Supply.{supply_of};
 ghost use Rattle.mrp_tables.specs.declared.limits.TheConstants.{MOST_DESKS, MOST_ENTRIES};
@@ -135,6 +135,7 @@ fn close(office: Office, desks: Vec<Desk>, end: Result<(), Refused>) -> Result<H
     requires desks { AreDesksOf office desks.items }
     requires served { HaveServed (with_run (script_of office.about.object.tables)) desks.items end }
     requires enough { (1 ≤ office.about.seats) × All (λ row. row.desk ≤ office.about.seats) office.about.object.tables.script }
+    requires rows { All (λ row. 1 ≤ row.desk) office.about.object.tables.script }
     requires few { length office.about.object.tables.script + 1 < MOST_ENTRIES }
     ensures supply { IfOk result (λ h. h.supply ≡ supply_at office) }
     ensures answers { IfOk result (λ h. AnswersDesks office.about.object.tables h.entries) }
