@@ -71,6 +71,10 @@ one-more-answered old new script k row desk c before adds is within same =
 pub all-answered : (h : History) (script : List ScriptRow) (k : ℕ) → asked h ≡ map record_of (take k script) → length script ≤ k → asked h ≡ map record_of script
 all-answered h script k same all = same ∙ ap (map record_of) (take_all k script all)
 
+-- all records are taken
+pub all-taken : (calls : Script) (script : List ScriptRow) (k : ℕ) → calls ≡ map record_of (take k script) → length script ≤ k → calls ≡ map record_of script
+all-taken calls script k same all = same ∙ ap (map record_of) (take_all k script all)
+
 with-run-is : (records : Script) (b : Bool) → list_any (λ r. is_run r.1) records ≡ b → with_run records ≡ (if b then records else records ++ (1, call.Snapshot) ∷ [])
 with-run-is records b e = ap (λ (x : Bool). if x then records else records ++ (1, call.Snapshot) ∷ []) e
 

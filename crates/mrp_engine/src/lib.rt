@@ -13,4 +13,7 @@ mod script;
 mod writing;
 
 pub use fault::DayFault;
+pub use opening::open_shop;
+pub use planning::plan_run;
 pub use run::{MOST_WORKERS, run_day};
+pub use script::script_calls;

@@ -6,13 +6,13 @@ ghost use Rattle.std.specs.List.{list_any};
 ghost use Rattle.mrp_master.specs.Supply.{supply_of};
 ghost use Rattle.mrp_book.specs.History.{Fits, asked};
 ghost use Rattle.mrp_engine.specs.Day.{AnswersScript};
-ghost use Rattle.mrp_engine.specs.Script.{call_of, is_run};
+ghost use Rattle.mrp_engine.specs.Script.{call_of, is_run, script_of, with_run};
 
 use mrp_bill::Shop;
 use mrp_book::{Book, Call, History, Line, Refused, Spot, Wish};
 use mrp_qty::NoMemory;
 use mrp_tables::limits::{MOST_DESKS, MOST_ENTRIES};
-use mrp_tables::{ScriptCall, ScriptRow};
+use mrp_tables::{ScriptCall, ScriptRow, Tables};
 use std::alloc::Global;
 
 // The desk whose run is added to a script without one.
@@ -59,6 +59,24 @@ fn answer(alloc: Global, book: &mut Book, desk: u64, call: Call) -> Result<(), N
         Err(Refused::NoMemory) => Err(NoMemory),
         Err(Refused::Full) => unreachable!(),
     }
+}
+
+/// What the records of a shop's script call, by desk, in order. A script without a run is taken with
+/// one more record at its end, a run of desk 1.
+///
+/// Errors: `NoMemory` where memory is refused.
+pub fn script_calls(alloc: Global, tables: &Tables) -> Result<Vec<(u64, Call)>, NoMemory>
+    ensures { IfOk result (λ calls. calls.items ≡ with_run (script_of tables.now)) }
+{
+    let script = tables.script();
+    let mut calls = Vec::with_capacity(alloc, script.len())?;
+    for row in script {
+        calls.push((row.desk, call_of(row.call)))?;
+    }
+    if !has_run(script) {
+        calls.push((ADDED_DESK, Call::Snapshot))?;
+    }
+    Ok(calls)
 }
 
 /// The history that answers a shop's script, record by record. A script without a run is taken with
