@@ -8,6 +8,7 @@ use std::io::Eprint;
 use std::process::{Abort, Termination};
 use std::test::Fail;
 
+mod audits;
 mod commands;
 mod days;
 mod explosions;

@@ -1,0 +1,192 @@
+//! The checker of a day.
+
+use super::texts::{LOTS_HISTORY, LOTS_REPORT};
+use super::{made, same};
+use mrp_audit::{AuditFault, check};
+use mrp_rows::{Fault, Table};
+use sample_shops::{Records, bicycles_in_lots, tower};
+use std::alloc::Global;
+use std::io::Eprint;
+use std::process::Abort;
+use std::thread::Threads;
+
+const SHAPE: Result<(), AuditFault> = Err(AuditFault::Shape);
+
+// The calls of two desks on the bicycles.
+const SCRIPT: &str = "\
+1,book,BIKE,2025-01-20,12,\n\
+1,book,BIKE,2025-02-03,25,\n\
+2,ask,BIKE,2025-01-06,,\n\
+2,book,BIKE,2025-01-13,15,\n\
+2,book,BIKE,2025-01-06,10,\n\
+1,ask,BIKE,2025-01-20,,\n\
+1,run,,,,\n";
+
+// What is found of the bicycles with these calls and a text of such pieces.
+fn found<R: Alloc + Abort + Eprint + Threads + Sync>(
+    rt: &R,
+    alloc: Global,
+    script: &str,
+    pieces: &[&str],
+) -> Result<(), AuditFault> {
+    let shop = Records {
+        script,
+        ..bicycles_in_lots()
+    };
+    let bundle = made(rt, shop.bundle(alloc));
+    let mut text = String::new(alloc);
+    for piece in pieces {
+        let added = text.push_str(piece);
+        same(rt, added.is_ok(), true);
+    }
+    check(rt, alloc, bundle.as_bytes(), text.as_bytes())
+}
+
+// What is found of the right day with the first place of this text changed.
+fn found_changed<R: Alloc + Abort + Eprint + Threads + Sync>(
+    rt: &R,
+    alloc: Global,
+    old: &str,
+    new: &str,
+) -> Result<(), AuditFault> {
+    if let Some((front, back)) = LOTS_HISTORY.split_once(old) {
+        return found(rt, alloc, SCRIPT, &[front, new, back, LOTS_REPORT]);
+    }
+    match LOTS_REPORT.split_once(old) {
+        Some((front, back)) => found(rt, alloc, SCRIPT, &[LOTS_HISTORY, front, new, back]),
+        None => rt.panic("the day has no such place"),
+    }
+}
+
+#[test]
+fn a_right_day_is_right(rt: HostRuntime) {
+    let day = [LOTS_HISTORY, LOTS_REPORT];
+    same(&rt, found(&rt, rt.alloc(), SCRIPT, &day), Ok(()));
+}
+
+#[test]
+fn what_is_wrong_with_a_history_is_told(rt: HostRuntime) {
+    const CASES: &[(&str, &str, Result<(), AuditFault>)] = &[
+        ("[history]\n", "", SHAPE),
+        ("\n1,1,book", "\n01,1,book", SHAPE),
+        ("\n1,1,book", "\n2,1,book", SHAPE),
+        ("\n1,1,book", "\n1,65,book", SHAPE),
+        ("BIKE,3,12,,booked", "FRAME,3,12,,booked", SHAPE),
+        ("BIKE,3,12,,booked", "\"BIKE\",3,12,,booked", SHAPE),
+        ("BIKE,3,12,,booked", "BIKE,7,12,,booked", SHAPE),
+        ("1,run", "1,front", SHAPE),
+        ("short,10\n", "short\n", SHAPE),
+        ("short,10\n", "short,10\r\n", SHAPE),
+        ("front,7\n", "front,7", SHAPE),
+        (
+            "short,10",
+            "booked,4",
+            Err(AuditFault::HistoryNotLegal { entry: 4 }),
+        ),
+        (
+            "booked,2",
+            "booked,3",
+            Err(AuditFault::HistoryNotLegal { entry: 2 }),
+        ),
+        (
+            "front,7",
+            "front,8",
+            Err(AuditFault::HistoryNotLegal { entry: 7 }),
+        ),
+        (
+            "available,3",
+            "week,104",
+            Err(AuditFault::HistoryNotLegal { entry: 6 }),
+        ),
+        ("7,1,run", "7,2,run", Err(AuditFault::DeskRows { desk: 1 })),
+    ];
+    for case in CASES {
+        same(&rt, found_changed(&rt, rt.alloc(), case.0, case.1), case.2);
+    }
+}
+
+#[test]
+fn a_changed_report_is_told(rt: HostRuntime) {
+    const CASES: &[(&str, &str)] = &[
+        ("7,3\n", "7,2\n"),
+        ("BIKE,1,0,10,0,0\n", "BIKE,1,0,10,0,1\n"),
+        ("\n[pegs]", "[pegs]"),
+    ];
+    for case in CASES {
+        let got = found_changed(&rt, rt.alloc(), case.0, case.1);
+        same(&rt, got, Err(AuditFault::ReportDiffers { run: 1 }));
+    }
+}
+
+#[test]
+fn desks_may_stand_in_another_order(rt: HostRuntime) {
+    const BY_DESK: &str = "\
+2,ask,BIKE,2025-01-06,,\n\
+2,book,BIKE,2025-01-13,15,\n\
+2,book,BIKE,2025-01-06,10,\n\
+1,book,BIKE,2025-01-20,12,\n\
+1,book,BIKE,2025-02-03,25,\n\
+1,ask,BIKE,2025-01-20,,\n";
+    let day = [LOTS_HISTORY, LOTS_REPORT];
+    same(&rt, found(&rt, rt.alloc(), BY_DESK, &day), Ok(()));
+}
+
+#[test]
+fn two_entries_of_one_desk_may_not_be_exchanged(rt: HostRuntime) {
+    const ORDER: &str = "\
+[history]\n\
+entry,desk,call,item,week,quantity,number,reply,value\n\
+1,1,book,BIKE,3,12,,booked,1\n\
+2,1,book,BIKE,5,25,,booked,2\n\
+3,2,book,BIKE,2,15,,short,10\n\
+4,2,ask,BIKE,1,,,available,10\n\
+5,2,book,BIKE,1,10,,booked,5\n\
+6,1,ask,BIKE,3,,,available,3\n\
+7,1,run,,,,,front,7\n";
+    let got = found(&rt, rt.alloc(), SCRIPT, &[ORDER, LOTS_REPORT]);
+    same(&rt, got, Err(AuditFault::DeskRows { desk: 2 }));
+}
+
+#[test]
+fn what_is_too_much_or_too_little_is_told(rt: HostRuntime) {
+    let day = [LOTS_HISTORY, LOTS_REPORT, "x"];
+    let more = found(&rt, rt.alloc(), SCRIPT, &day);
+    same(&rt, more, Err(AuditFault::ReportDiffers { run: 2 }));
+    let cut = LOTS_REPORT.strip_suffix("\n").unwrap_or("");
+    let less = found(&rt, rt.alloc(), SCRIPT, &[LOTS_HISTORY, cut]);
+    same(&rt, less, Err(AuditFault::ReportDiffers { run: 1 }));
+    let none = found(&rt, rt.alloc(), SCRIPT, &[LOTS_HISTORY]);
+    same(&rt, none, Err(AuditFault::ReportDiffers { run: 1 }));
+    let head = "[history]\nentry,desk,call,item,week,quantity,number,reply,value\n";
+    let bare = found(&rt, rt.alloc(), SCRIPT, &[head]);
+    same(&rt, bare, Err(AuditFault::DeskRows { desk: 1 }));
+    same(&rt, found(&rt, rt.alloc(), SCRIPT, &[]), SHAPE);
+}
+
+#[test]
+fn a_run_that_gets_too_large_has_no_report(rt: HostRuntime) {
+    const HISTORY: &str = "\
+[history]\n\
+entry,desk,call,item,week,quantity,number,reply,value\n\
+1,1,book,TOP,1,1,,booked,1\n\
+2,1,run,,,,,front,2\n";
+    let shop = Records {
+        script: "1,book,TOP,2025-01-06,1,\n1,run,,,,\n",
+        ..tower()
+    };
+    let bundle = made(&rt, shop.bundle(rt.alloc()));
+    let got = check(&rt, rt.alloc(), bundle.as_bytes(), HISTORY.as_bytes());
+    same(&rt, got, Ok(()));
+    drop(bundle);
+}
+
+#[test]
+fn a_refused_bundle_has_no_right_day(rt: HostRuntime) {
+    let got = found(&rt, rt.alloc(), "1,ask,CAR,2025-01-06,,\n", &[]);
+    let fault = Fault {
+        code: 13,
+        table: Table::Script,
+        row: 1,
+    };
+    same(&rt, got, Err(AuditFault::Input(fault)));
+}

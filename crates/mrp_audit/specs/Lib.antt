@@ -1,0 +1,5 @@
+pub mod Claims
+pub mod Shape
+pub mod Verdict
+pub mod Parts
+pub mod Comparing

@@ -1,0 +1,18 @@
+//! The checker of a day: whether a text is a right day of a bundle, and where it is not.
+#![tactic(auto)]
+
+mod audit;
+mod call;
+mod cell;
+mod claim;
+mod comparing;
+mod desks;
+mod fault;
+mod history;
+pub mod laws;
+mod record;
+mod reports;
+mod shape;
+
+pub use audit::check;
+pub use fault::AuditFault;

@@ -1,0 +1,164 @@
+//! The records of a given history.
+
+ghost use Rattle.std.specs.Prelude.{◌≡◌, ◌<◌, [], IfOk, length, option_map};
+ghost use Rattle.std.specs.List.{slice_index_or};
+ghost use Rattle.csv.specs.Machine.{next_record};
+ghost use Rattle.csv.specs.Reading.{default_config, strip_bom};
+ghost use Rattle.csv.specs.Records.{fields_of};
+ghost use Rattle.csv.specs.declared.parser.State.TheVariants as st;
+ghost use Rattle.mrp_qty.specs.Quantity.{greatest_quantity};
+ghost use Rattle.mrp_report.specs.Section.{row};
+ghost use Rattle.mrp_audit.specs.Parts.{NamesReply, ReadsClaim, ReadsNumber, ReadsReply, SplitsRow};
+
+use crate::call::CallCells;
+use crate::cell::{is_word, number_in};
+use crate::claim::{Claim, ClaimedReply};
+use csv::{ByteRecord, ReaderBuilder, WriterBuilder};
+use mrp_bill::Shop;
+use mrp_cal::MOST_WEEKS;
+use mrp_qty::NoMemory;
+use mrp_tables::limits::MOST_DESKS;
+use std::alloc::Global;
+
+// The most bytes that a record of a day's history has, and more.
+const LONGEST: usize = 512;
+
+// The greatest value of a reply.
+const GREATEST_VALUE: u64 = 1_000_000_000_000_000;
+
+// The cells of the record at the front of a text, however they are spelled; None where there is none.
+fn first_cells(alloc: Global, text: &[u8]) -> Result<Option<ByteRecord>, NoMemory>
+    ensures { IfOk result (λ found. option_map fields_of found ≡ option_map (λ p. p.0) (next_record default_config st.StartRecord [] [] (strip_bom text.now))) }
+{
+    let mut reader = ReaderBuilder::new()
+        .has_headers(false)
+        .from_reader(alloc, text);
+    let mut cells = ByteRecord::new(alloc);
+    match reader.read_byte_record(&mut cells) {
+        Ok(true) => Ok(Some(cells)),
+        Ok(false) => Ok(None),
+        Err(_) => Err(NoMemory),
+    }
+}
+
+// The text of a record, as a day spells it.
+fn text_of(alloc: Global, cells: &ByteRecord) -> Result<Vec<u8>, NoMemory>
+    ensures { IfOk result (λ text. text.items ≡ row (fields_of cells.now)) }
+{
+    let mut rows = WriterBuilder::new().from_writer(Vec::new(alloc));
+    if rows.write_byte_record(cells).is_err() {
+        return Err(NoMemory);
+    }
+    match rows.into_inner() {
+        Ok(text) => Ok(text),
+        Err(_) => Err(NoMemory),
+    }
+}
+
+/// The cells of the record at the front of a text, and how many bytes it has; None where the text
+/// does not begin with a record that is spelled as a day's.
+pub(crate) fn split_record(
+    alloc: Global,
+    text: &[u8],
+) -> Result<Option<(ByteRecord, usize)>, NoMemory>
+    ensures { SplitsRow text.now result }
+{
+    let (front, _) = text.split_at(text.len().min(LONGEST));
+    let Some(cells) = first_cells(alloc, front)? else {
+        return Ok(None);
+    };
+    let spelled = text_of(alloc, &cells)?;
+    if text.starts_with(spelled.as_slice()) {
+        Ok(Some((cells, spelled.len())))
+    } else {
+        Ok(None)
+    }
+}
+
+// A number or a quantity.
+fn value_in(cell: &[u8]) -> Option<u64>
+    ensures { ReadsNumber 0 greatest_quantity cell.now result }
+{
+    number_in(cell, 0, GREATEST_VALUE)
+}
+
+// A reply without a value.
+fn bare_reply(word: &[u8]) -> Option<ClaimedReply>
+    ensures { ReadsReply word.now [] result }
+{
+    if is_word(word, "cancelled") {
+        return Some(ClaimedReply::Cancelled);
+    }
+    if is_word(word, "not-standing") {
+        return Some(ClaimedReply::NotStanding);
+    }
+    if is_word(word, "not-yours") {
+        return Some(ClaimedReply::NotYours);
+    }
+    if is_word(word, "no-week") {
+        return Some(ClaimedReply::NoWeek);
+    }
+    None
+}
+
+// A reply with a number or a quantity.
+fn valued_reply(word: &[u8], value: u64) -> Option<ClaimedReply>
+    ensures { NamesReply word.now value result }
+{
+    if is_word(word, "booked") {
+        return Some(ClaimedReply::Booked(value));
+    }
+    if is_word(word, "short") {
+        return Some(ClaimedReply::Short(value));
+    }
+    if is_word(word, "available") {
+        return Some(ClaimedReply::Available(value));
+    }
+    if is_word(word, "front") {
+        return Some(ClaimedReply::Front(value));
+    }
+    None
+}
+
+// A reply, by the cells of its word and value.
+fn reply_in(word: &[u8], value: &[u8]) -> Option<ClaimedReply>
+    ensures { ReadsReply word.now value.now result }
+{
+    if value.is_empty() {
+        return bare_reply(word);
+    }
+    if is_word(word, "week") {
+        return Some(ClaimedReply::Week(number_in(value, 1, MOST_WEEKS)?));
+    }
+    valued_reply(word, value_in(value)?)
+}
+
+// A record's cell. Columns are counted from 0.
+fn cell_of(cells: &ByteRecord, column: usize) -> &[u8]
+    requires { column < length (fields_of cells.now) }
+    ensures { result.now ≡ slice_index_or (fields_of cells.now) column [] }
+{
+    cells.get(column).unwrap_or(b"")
+}
+
+/// What the record of an entry's number claims; None where no record of a day's history has such
+/// cells.
+pub(crate) fn claim_in(shop: &Shop, number: u64, cells: &ByteRecord) -> Option<Claim>
+    ensures { ReadsClaim shop.now.tables number (fields_of cells.now) result }
+{
+    if cells.len() != 9 {
+        return None;
+    }
+    number_in(cell_of(cells, 0), number, number)?;
+    let desk = number_in(cell_of(cells, 1), 1, MOST_DESKS)?;
+    let call = CallCells {
+        word: cell_of(cells, 2),
+        item: cell_of(cells, 3),
+        week: cell_of(cells, 4),
+        quantity: cell_of(cells, 5),
+        number: cell_of(cells, 6),
+    };
+    let call = call.call(shop)?;
+    let reply = reply_in(cell_of(cells, 7), cell_of(cells, 8))?;
+    Some(Claim { desk, call, reply })
+}
