@@ -8,7 +8,7 @@ use Rattle.mrp_audit.specs.Claims.{IsClaimable, claimed_cells}
 
 -- a word that a test refuses
 pub not-word : {P : Type 0} (b : Bool) → (P → b ≡ true) → b ≡ false → P → ⊥
-not-word b yes no p = let t = yes p in absurd cc
+not-word b is_so not_so p = let t = is_so p in absurd cc
 
 -- a number's text is not empty
 digits : (n : ℕ) → n ≤ 1000000000000000 → [] ≡ decimal n → ⊥
