@@ -1,8 +1,6 @@
 -- The row of an item of which nothing is booked.
-use Rattle.std.proofs.Common.{ℕ, ◌≡◌, ◌≤◌, ◌+◌, List, [], length, get_or, replicate, arith, refl, sym, ◌∙◌, ap}
-use Rattle.std.specs.Prelude.{All, sum}
+use Rattle.std.proofs.Common.{ℕ, ◌≡◌, List, [], replicate, arith, refl, ◌∙◌, ap}
 use Rattle.std.proofs.lemmas.List.{length-replicate}
-use Rattle.mrp_qty.specs.Quantity.{greatest_quantity}
 use Rattle.mrp_phase.specs.Weeks.{row, sum_to}
 use Rattle.mrp_phase.proofs.WeekRows.{in_week_replicate, length-row, row_is, sum_to_whole}
 use Rattle.mrp_master.specs.Supply.{Supply, IsSupply, due_by}

@@ -1,13 +1,11 @@
 -- What comes in of an item in each week, line by line.
-use Rattle.std.proofs.Common.{ℕ, zero, suc, ◌≡◌, ◌≢◌, ◌≤◌, ◌<◌, ◌+◌, ◌-◌, ◌&&◌, inl, inr, Bool, true, false, cond, eqb, leb, List, [], ◌∷◌, ◌++◌, length, get_or, set, take, replicate, arith, refl, sym, ◌∙◌, ap, subst}
-use Rattle.std.specs.Prelude.{All, AllPairs, sum}
-use Rattle.std.proofs.lemmas.Bool.{cases_eq, cases_lt, eq-eqb, eqb-true, ne_eqb, leb-false}
-use Rattle.std.proofs.lemmas.List.{get_or-take, get_or_append_left, get_or_past, get_or_push, get_or_read, length-replicate, length-set, length-take, length_push, take_all}
-use Rattle.std.proofs.lemmas.List.Elements.{All-push}
-use Rattle.std.proofs.lemmas.List.Quantifiers.{all_pairs_push}
-use Rattle.std.proofs.lemmas.List.Sums.{sum_by-le-sum_by, sum_by_more, sum_by_more_le, sum_by_push}
+use Rattle.std.proofs.Common.{ℕ, ◌≡◌, ◌≢◌, ◌≤◌, ◌<◌, ◌+◌, ◌-◌, ◌&&◌, inl, inr, Bool, true, false, cond, eqb, leb, List, [], length, get_or, set, take, replicate, arith, refl, sym, ◌∙◌, ap, subst}
+use Rattle.std.specs.Prelude.{All, sum}
+use Rattle.std.proofs.lemmas.Bool.{cases_eq, eq-eqb, eqb-true, ne_eqb, leb-false}
+use Rattle.std.proofs.lemmas.List.{length-replicate, length-set, take_all}
+use Rattle.std.proofs.lemmas.List.Sums.{sum_by-le-sum_by, sum_by_more, sum_by_more_le}
 use Rattle.mrp_phase.specs.Weeks.{in_week, row, with_week}
-use Rattle.mrp_phase.proofs.WeekRows.{in_week_at, in_week_changed, in_week_kept, in_week_next, in_week_replicate, row_is, with_week_at}
+use Rattle.mrp_phase.proofs.WeekRows.{in_week_at, in_week_changed, in_week_kept, in_week_replicate, row_is, with_week_at}
 use Rattle.mrp_master.specs.declared.line.Line.{Line}
 use Rattle.mrp_master.specs.AtpRow.{due_in, opening}
 use Rattle.mrp_master.specs.Supply.{Supply, IsSupply, IsWeek, due_by, supply}

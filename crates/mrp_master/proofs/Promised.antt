@@ -1,5 +1,5 @@
 -- What is available in a row and from which week on, by what is uncommitted.
-use Rattle.std.proofs.Common.{ℕ, ◌≡◌, ◌≤◌, ◌<◌, ◌+◌, ◌-◌, ◌*◌, inl, inr, Some, None, length, ℤ, pos, ◌+ℤ◌, ◌-ℤ◌, ◌≤ℤ◌, ◌<ℤ◌, arith, refl, ap, sym, subst, ◌∙◌}
+use Rattle.std.proofs.Common.{ℕ, ◌≡◌, ◌≤◌, ◌<◌, ◌+◌, ◌-◌, ◌*◌, inl, inr, Some, None, length, ℤ, pos, ◌+ℤ◌, ◌-ℤ◌, ◌≤ℤ◌, ◌<ℤ◌, arith, ap, sym, subst, ◌∙◌}
 use Rattle.std.proofs.lemmas.Bool.{cases_lt}
 use Rattle.std.proofs.lemmas.Int.{ints}
 use Rattle.mrp_phase.specs.Weeks.{sum_to}
@@ -8,7 +8,7 @@ use Rattle.mrp_master.specs.AtpRow.{AtpRow, IsAvailableIn, IsCoveredRow, IsEarli
 use Rattle.mrp_master.specs.Nodes.{IsNode, IsPromiseRow, IsSpan, before, last, uncommitted_to}
 use Rattle.mrp_master.proofs.Carried.{booked_before, booked_since}
 use Rattle.mrp_master.proofs.Places.{halves, root_before, root_last, place_before, place_last}
-use Rattle.mrp_master.proofs.Spans.{covered_to, little_to, span_little, week_within}
+use Rattle.mrp_master.proofs.Spans.{covered_to, span_little, week_within}
 
 -- a node with a week below it up to which less than a quantity is uncommitted, and none after it
 pub record IsWalk (r : AtpRow) (quantity node : ℕ) (end : ℤ) : Type 0 where

@@ -1,12 +1,12 @@
 -- A row with another quantity booked in a week, and its tree before the week is renewed.
-use Rattle.std.proofs.Common.{ℕ, zero, suc, ◌≡◌, ◌≢◌, ◌≤◌, ◌<◌, ◌+◌, ◌-◌, inl, inr, List, length, pos, ◌-ℤ◌, set, sym, ◌∙◌, ap, subst, arith}
+use Rattle.std.proofs.Common.{ℕ, zero, suc, ◌≡◌, ◌≢◌, ◌≤◌, ◌<◌, ◌+◌, ◌-◌, inl, inr, List, pos, ◌-ℤ◌, set, sym, ◌∙◌, ap, arith}
 use Rattle.std.proofs.lemmas.Bool.{cases_lt}
 use Rattle.mrp_phase.specs.Weeks.{in_week, sum_to, with_week}
 use Rattle.mrp_phase.proofs.WeekRows.{in_week_changed, in_week_kept, length-with_week, sum_to_suc, with_week_at}
 use Rattle.mrp_master.specs.declared.nodes.Node.{Node}
-use Rattle.mrp_master.specs.AtpRow.{AtpRow, IsCoveredRow, IsWeekOf, with_booked}
+use Rattle.mrp_master.specs.AtpRow.{IsCoveredRow, IsWeekOf, with_booked}
 use Rattle.mrp_master.specs.Nodes.{IsPromiseRow}
-use Rattle.mrp_master.specs.Tree.{IsKept, IsMade, IsTree, made, place_node, row_of}
+use Rattle.mrp_master.specs.Tree.{IsKept, IsMade, place_node, row_of}
 use Rattle.mrp_master.proofs.Spans.{little_to}
 use Rattle.mrp_master.proofs.Trees.{made_inner, made_place}
 

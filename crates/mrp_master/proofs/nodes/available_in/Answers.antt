@@ -1,10 +1,10 @@
 -- From a week's place to the root, with what the weeks below change and the least from the week on.
-use Rattle.std.proofs.Common.{ℕ, ◌≡◌, ◌≤◌, ◌<◌, ◌+◌, ◌-◌, ◌*◌, ◌/◌, ◌%◌, ◌+ℤ◌, FitsSigned, w64, ℤ, pos, ap, refl, subst, sym, ◌∙◌, arith}
+use Rattle.std.proofs.Common.{ℕ, ◌≡◌, ◌≤◌, ◌<◌, ◌+◌, ◌-◌, ◌*◌, ◌/◌, ap, refl, subst, ◌∙◌, arith}
 use Rattle.std.proofs.lemmas.Int.{ints}
 use Rattle.mrp_master.specs.declared.nodes.Node.{Node}
 use Rattle.mrp_master.specs.AtpRow.{AtpRow}
 use Rattle.mrp_master.specs.Nodes.{IsNode, IsSpan, before, height, last}
-use Rattle.mrp_master.proofs.Places.{halves, height_most, place_before, place_last, root_before, root_last}
+use Rattle.mrp_master.proofs.Places.{halves, height_most, place_before, root_before, root_last}
 use Rattle.mrp_master.proofs.Promised.{span_available, span_natural}
 use Rattle.mrp_master.proofs.Spans.{span_fits}
 use Rattle.mrp_master.proofs.Trees.{from_left, from_right, span_at}

@@ -1,4 +1,4 @@
-use Rattle.std.proofs.Common.{◌≡◌, ◌≤◌, ◌<◌, ◌+◌}
+use Rattle.std.proofs.Common.{◌≡◌, ◌≤◌, ◌+◌}
 use Rattle.mrp_master.specs.Nodes.{IsSpan, before, height, last}
 use Rattle.mrp_master.proofs.nodes.available_in.Given as goal
 

@@ -1,5 +1,5 @@
 -- From the root to the last week up to which less than the quantity is uncommitted.
-use Rattle.std.proofs.Common.{ℕ, ◌≡◌, ◌≤◌, ◌<◌, ◌+◌, ◌-◌, ◌*◌, FitsSigned, w64, length, ℤ, pos, ◌+ℤ◌, ◌-ℤ◌, ◌≤ℤ◌, ◌<ℤ◌, Some, to_z, of_z, ap, subst, sym, ◌∙◌, arith}
+use Rattle.std.proofs.Common.{ℕ, ◌≡◌, ◌+◌, ◌-◌, ◌*◌, FitsSigned, w64, length, ℤ, ◌+ℤ◌, ◌-ℤ◌, Some, to_z, of_z, ap, subst, ◌∙◌, arith}
 use Rattle.std.proofs.lemmas.Int.{ints}
 use Rattle.mrp_master.specs.declared.nodes.Node.{Node}
 use Rattle.mrp_master.specs.AtpRow.{AtpRow, IsEarliestIn}

@@ -1,4 +1,4 @@
-use Rattle.std.proofs.Common.{ℕ, ◌≡◌, ◌≢◌, ◌≤◌, ◌<◌, ◌*◌, ◌+◌, ◌-◌, List, inl, inr, length, length-set, set, subst, sym, ap, arith, ◌∙◌}
+use Rattle.std.proofs.Common.{ℕ, ◌≡◌, ◌≤◌, ◌<◌, ◌-◌, List, inl, inr, length, length-set, set, subst, sym, ap, arith, ◌∙◌}
 use Rattle.std.proofs.lemmas.Bool.{cases_eq}
 use Rattle.mrp_master.specs.declared.nodes.Node.{Node}
 use Rattle.mrp_master.specs.AtpRow.{AtpRow}

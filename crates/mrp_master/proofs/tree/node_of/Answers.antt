@@ -1,5 +1,5 @@
 -- The two nodes below are what their weeks change, so no sum of them is past a number of the code.
-use Rattle.std.proofs.Common.{ℕ, ◌+◌, ◌*◌, ◌≤◌, ◌<◌, FitsSigned, w64, ◌+ℤ◌, length, List, arith}
+use Rattle.std.proofs.Common.{ℕ, ◌+◌, ◌*◌, ◌≤◌, ◌<◌, FitsSigned, w64, ◌+ℤ◌, List, arith}
 use Rattle.mrp_master.specs.declared.nodes.Node.{Node}
 use Rattle.mrp_master.specs.AtpRow.{AtpRow}
 use Rattle.mrp_master.specs.Nodes.{IsNode, IsPromiseRow, before, last}

@@ -1,4 +1,4 @@
-use Rattle.std.proofs.Common.{ℕ, ◌≡◌, ◌+◌, length, get_or, ℤ, pos, ◌-ℤ◌, to_z, of_z, w64, ap, sym, ◌∙◌, arith}
+use Rattle.std.proofs.Common.{ℕ, ◌≡◌, ◌+◌, ℤ, pos, ◌-ℤ◌, to_z, of_z, w64, ap, sym, ◌∙◌, arith}
 use Rattle.std.proofs.lemmas.Int.{ints}
 use Rattle.std.proofs.lemmas.List.{get_or_past, get_or_read}
 use Rattle.mrp_phase.specs.Weeks.{in_week}

@@ -1,5 +1,5 @@
 -- The row with another quantity in the week is covered, so its quantities are in range, and the nodes over the week are renewed.
-use Rattle.std.proofs.Common.{ℕ, ◌≡◌, ◌≢◌, ◌≤◌, ◌<◌, ◌+◌, ◌-◌, List, length, set, ap, sym, subst, ◌∙◌}
+use Rattle.std.proofs.Common.{ℕ, ◌≡◌, ◌-◌, List, length, set, ap, sym, subst, ◌∙◌}
 use Rattle.std.proofs.lemmas.List.{with_items_is}
 use Rattle.mrp_phase.specs.Weeks.{with_week}
 use Rattle.mrp_master.specs.declared.nodes.Node.{Node}

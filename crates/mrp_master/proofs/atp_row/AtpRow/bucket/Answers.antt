@@ -1,5 +1,5 @@
 -- A week's bucket is what is available in it and not in the week before.
-use Rattle.std.proofs.Common.{ℕ, ◌≡◌, ◌+◌, ◌-◌, ◌∙◌, subst, arith}
+use Rattle.std.proofs.Common.{◌≡◌, ◌+◌, ◌-◌, ◌∙◌, subst, arith}
 use Rattle.mrp_master.specs.AtpRow.{AtpRow, IsAvailableIn, bucket}
 use Rattle.mrp_master.proofs.Carried.{bucket_is}
 use Rattle.mrp_master.proofs.atp_row.AtpRow.bucket.Goals as goal

@@ -1,6 +1,5 @@
-use Rattle.std.proofs.Common.{ℕ, ◌≡◌, ◌<◌, ◌∙◌, length, pos, ap, subst, sym, arith}
+use Rattle.std.proofs.Common.{◌≡◌, ◌<◌, ◌∙◌, length, pos, ap, subst, sym, arith}
 use Rattle.std.proofs.lemmas.List.{get_or_read}
-use Rattle.mrp_master.specs.declared.nodes.Node.{Node}
 use Rattle.mrp_master.specs.AtpRow.{AtpRow}
 use Rattle.mrp_master.specs.Nodes.{IsNode}
 use Rattle.mrp_master.specs.Tree.{node_at, row_of}

@@ -1,7 +1,7 @@
-use Rattle.std.proofs.Common.{ℕ, ◌≡◌, List, [], length, replicate, ap, sym, subst, ◌∙◌, arith}
+use Rattle.std.proofs.Common.{ℕ, ◌≡◌, List, length, replicate, ap, sym, subst, ◌∙◌, arith}
 use Rattle.mrp_phase.specs.Weeks.{row}
 use Rattle.mrp_phase.proofs.WeekRows.{length-row}
-use Rattle.mrp_master.specs.AtpRow.{atp_row, opening}
+use Rattle.mrp_master.specs.AtpRow.{opening}
 use Rattle.mrp_master.specs.Nodes.{IsPromiseRow}
 use Rattle.mrp_master.specs.Supply.{Supply}
 use Rattle.mrp_master.specs.Tree.{IsTree, row_of}
