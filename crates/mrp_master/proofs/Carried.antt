@@ -1,9 +1,9 @@
 -- The carried buckets of a row up to a week add up to what is available in it.
-use Rattle.std.proofs.Common.{ℕ, zero, suc, ◌≡◌, ◌≢◌, ◌≤◌, ◌<◌, ◌+◌, ◌-◌, inl, inr, List, Some, None, length, arith, refl, sym, ◌∙◌, ap, subst}
+use Rattle.std.proofs.Common.{ℕ, zero, suc, ◌≡◌, ◌≢◌, ◌≤◌, ◌<◌, ◌+◌, ◌-◌, inl, inr, List, length, arith, refl, sym, ◌∙◌, ap, subst}
 use Rattle.std.proofs.lemmas.Bool.{cases_lt}
 use Rattle.mrp_phase.specs.Weeks.{in_week, row, sum_to, with_week}
 use Rattle.mrp_phase.proofs.WeekRows.{in_week_changed, in_week_kept, in_week_row, sum_to_suc}
-use Rattle.mrp_master.specs.AtpRow.{AtpRow, IsAtpRow, IsAvailableIn, IsCoveredRow, IsEarliestIn, IsWeekOf, bucket, buckets_to, lacking, with_booked, with_booking}
+use Rattle.mrp_master.specs.AtpRow.{AtpRow, IsAtpRow, IsAvailableIn, IsCoveredRow, IsWeekOf, bucket, buckets_to, lacking, with_booked, with_booking}
 
 -- with another quantity in a week, sums up to an earlier week stay
 pub sum_before : (xs : List ℕ) (week quantity t : ℕ) → t < week → sum_to (with_week xs week quantity) t ≡ sum_to xs t
@@ -137,17 +137,24 @@ module _ (r : AtpRow) where
       greatest = λ more fits. fits_at_most week more inside fits;
     }
 
-    -- the first week up to which the buckets hold so much is the first in which so much is available
-    pub reaching_is_earliest : (week quantity : ℕ) → IsWeekOf r week → quantity ≤ buckets_to r week
-        → ((sooner : ℕ) → 1 ≤ sooner → sooner < week → buckets_to r sooner < quantity) → IsEarliestIn r quantity (Some week)
-    reaching_is_earliest week quantity inside enough less = (
-      inside,
-      fits_within week quantity inside enough,
-      λ sooner within before fits. absurd (omega (arith, fits_at_most sooner quantity within fits, less sooner within.0 before)),
-    )
+    -- which is nothing else
+    available_is : (week quantity : ℕ) → IsWeekOf r week → IsAvailableIn r week quantity → quantity ≡ buckets_to r week
+    available_is week quantity inside a =
+        omega (arith, fits_at_most week quantity inside a.fits, a.greatest (buckets_to r week) (fits_within week (buckets_to r week) inside (omega arith)))
 
-    pub reaching_none : (quantity : ℕ) → ((week : ℕ) → IsWeekOf r week → buckets_to r week < quantity) → IsEarliestIn r quantity None
-    reaching_none quantity less = λ week inside fits. absurd (omega (arith, fits_at_most week quantity inside fits, less week inside))
+    -- so a week's bucket is what is available in it and not in the week before
+    pub bucket_is : (week now : ℕ) → IsWeekOf r week → IsAvailableIn r week now → (before : ℕ) → ((1 < week → IsAvailableIn r (week - 1) before) × (week ≡ 1 → before ≡ 0)) → now ≡ before + bucket r week
+    bucket_is zero now inside a before b = absurd (omega (arith, inside.0))
+    bucket_is (suc week) now inside a before b =
+        let back : suc week - 1 ≡ week = omega arith in
+        let own : in_week (row (length r.supply) (bucket r)) (suc week) ≡ bucket r (suc week) = in_week_row (bucket r) (length r.supply) (suc week) (omega arith) inside.1 in
+        let rest : before ≡ buckets_to r week = elim (cases_lt 0 week) [
+          | inl some ↦ available_is week before (some, omega (arith, inside.1)) (rw back at (b.0 (omega arith)))
+          | inr none ↦
+              let zero_is : week ≡ 0 = omega arith in
+              omega (arith, b.1 (omega arith), ap (buckets_to r) zero_is)
+        ] in
+        omega (arith, own, rest, available_is (suc week) now inside a, sum_to_suc (row (length r.supply) (bucket r)) week)
 
 -- a smaller quantity is covered where a larger one is
 pub fits_less : (r : AtpRow) (week less more : ℕ) → length r.booked ≡ length r.supply → IsWeekOf r week → less ≤ more → IsCoveredRow (with_booked r week more) → IsCoveredRow (with_booked r week less)

@@ -1,17 +1,13 @@
--- What comes in of an item in each week, line by line; and the buckets of it, week by week.
-use Rattle.std.proofs.Common.{ℕ, zero, suc, ◌≡◌, ◌≢◌, ◌≤◌, ◌<◌, ◌+◌, ◌-◌, ◌&&◌, inl, inr, Bool, true, false, cond, eqb, leb, List, [], ◌∷◌, ◌++◌, length, get_or, set, take, replicate, arith, refl, sym, ◌∙◌, ap, subst}
-use Rattle.std.specs.Prelude.{All, AllPairs, sum}
-use Rattle.std.proofs.lemmas.Bool.{cases_eq, cases_lt, eq-eqb, eqb-true, ne_eqb, leb-false}
-use Rattle.std.proofs.lemmas.List.{get_or-take, get_or_append_left, get_or_past, get_or_push, get_or_read, length-replicate, length-set, length-take, length_push, take_all}
-use Rattle.std.proofs.lemmas.List.Elements.{All-push}
-use Rattle.std.proofs.lemmas.List.Quantifiers.{all_pairs_push}
-use Rattle.std.proofs.lemmas.List.Sums.{sum_by-le-sum_by, sum_by_more, sum_by_more_le, sum_by_push}
+-- What comes in of an item in each week, line by line.
+use Rattle.std.proofs.Common.{ℕ, ◌≡◌, ◌≢◌, ◌≤◌, ◌<◌, ◌+◌, ◌-◌, ◌&&◌, inl, inr, Bool, true, false, cond, eqb, leb, List, [], length, get_or, set, take, replicate, arith, refl, sym, ◌∙◌, ap, subst}
+use Rattle.std.specs.Prelude.{All, sum}
+use Rattle.std.proofs.lemmas.Bool.{cases_eq, eq-eqb, eqb-true, ne_eqb, leb-false}
+use Rattle.std.proofs.lemmas.List.{length-replicate, length-set, take_all}
+use Rattle.std.proofs.lemmas.List.Sums.{sum_by-le-sum_by, sum_by_more, sum_by_more_le}
 use Rattle.mrp_phase.specs.Weeks.{in_week, row, with_week}
-use Rattle.mrp_phase.proofs.WeekRows.{in_week_at, in_week_changed, in_week_kept, in_week_next, in_week_replicate, row_is, with_week_at}
+use Rattle.mrp_phase.proofs.WeekRows.{in_week_at, in_week_changed, in_week_kept, in_week_replicate, row_is, with_week_at}
 use Rattle.mrp_master.specs.declared.line.Line.{Line}
-use Rattle.mrp_master.specs.declared.buckets.Bucket.{Bucket}
 use Rattle.mrp_master.specs.AtpRow.{due_in, opening}
-use Rattle.mrp_master.specs.Buckets.{AreInOrder, opened}
 use Rattle.mrp_master.specs.Supply.{Supply, IsSupply, IsWeek, due_by, supply}
 
 -- what a line adds in a week
@@ -150,126 +146,3 @@ pub opened_all : (s : Supply) (item k : ℕ) (lines : List Line) (openings : Lis
 opened_all s item k lines openings o all is =
     row_is openings (opening s item) s.weeks o.size
     (λ t a b. o.each t a b ∙ ap (λ xs. cond (eqb t 1) (get_or s.on_hand item 0) 0 + due_in item t xs) (take_all k lines all ∙ is))
-
--- Buckets.
-
--- a row's first weeks, and nothing after them
-pub in_week_front : (xs : List ℕ) (n t : ℕ) → t ≤ n → in_week (take n xs) t ≡ in_week xs t
-unfolding in_week
-in_week_front xs n zero h = refl
-in_week_front xs n (suc t) h =
-    let within : t < n = omega arith in
-    get_or-take n xs t 0 within
-
-pub in_week_past : (xs : List ℕ) (n t : ℕ) → n < t → in_week (take n xs) t ≡ 0
-unfolding in_week
-in_week_past xs n zero h = refl
-in_week_past xs n (suc t) h = get_or_past (take n xs) t 0 (omega (arith, length-take n xs))
-
--- the buckets of the first weeks of a row
-pub record Opening (openings : List ℕ) (k : ℕ) (bs : List Bucket) : Type 0 where
-  pub order : AllPairs (λ a b. a.week < b.week) bs
-  pub first : 0 < k → (0 < length bs) × ((d : Bucket) → (get_or bs 0 d).week ≡ 1)
-  pub empty : k ≡ 0 → length bs ≡ 0
-  pub within : All (λ b. b.week ≤ k) bs
-  pub opens : (t : ℕ) → opened bs t ≡ in_week (take k openings) t
-  pub left : All (λ b. b.left ≡ b.supplied) bs
-
-pub opening_start : (openings : List ℕ) → Opening openings 0 []
-unfolding in_week
-opening_start openings = record {
-  order = λ i j d a b. absurd (omega arith);
-  first = λ h. absurd (omega arith);
-  empty = λ e. refl;
-  within = λ k d h. absurd (omega arith);
-  opens = λ t. by t;
-  left = λ k d h. absurd (omega arith);
-}
-  where
-    by : (t : ℕ) → opened [] t ≡ in_week [] t
-    by zero = refl
-    by (suc t) = refl
-
-module _ (openings : List ℕ) (k : ℕ) (bs : List Bucket) (o : Opening openings k bs) (h : k < length openings) (s : ℕ) (read : s ≡ get_or openings k s) where
-  read_week_of : in_week openings (k + 1) ≡ s
-  read_week_of = in_week_next openings k ∙ sym (get_or_read openings k s h read 0)
-
-  other_weeks : (t : ℕ) → t ≢ k + 1 → in_week (take (k + 1) openings) t ≡ in_week (take k openings) t
-  other_weeks t ne = elim (cases_lt k t) [
-    | inl later ↦ in_week_past openings (k + 1) t (omega arith) ∙ sym (in_week_past openings k t later)
-    | inr before ↦ in_week_front openings (k + 1) t (omega arith) ∙ sym (in_week_front openings k t before)
-  ]
-
-  -- a week in which nothing comes in
-  pub opening_skip : 0 < k → s ≡ 0 → Opening openings (k + 1) bs
-  opening_skip later none = record {
-    order = o.order;
-    first = λ a. o.first later;
-    empty = λ e. absurd (omega arith);
-    within = λ i d a. omega (arith, o.within i d a);
-    opens = λ t. elim (cases_eq t (k + 1)) [
-      | inl here ↦
-          omega (
-            arith,
-            o.opens t,
-            in_week_past openings k t (omega arith),
-            in_week_front openings (k + 1) t (omega arith),
-            ap (in_week openings) here,
-            read_week_of,
-          )
-      | inr other ↦ o.opens t ∙ sym (other_weeks t other)
-    ];
-    left = o.left;
-  }
-
-  -- and one that opens a bucket
-  pub opening_push : (b : Bucket) → b.week ≡ k + 1 → b.supplied ≡ s → b.left ≡ s → Opening openings (k + 1) (bs ++ b ∷ [])
-  opening_push b week supplied left = record {
-    order = all_pairs_push (λ x y. x.week < y.week) bs b o.order (λ i d a. omega (arith, o.within i d a, week));
-    first = λ a. (
-      omega (arith, length_push bs b),
-      λ d. elim (cases_lt 0 k) [
-        | inl later ↦ ap (λ (x : Bucket). x.week) (get_or_append_left bs (b ∷ []) d 0 (o.first later).0) ∙ (o.first later).1 d
-        | inr none ↦
-            let start : k ≡ 0 = omega arith in
-            let own : get_or (bs ++ b ∷ []) 0 d ≡ b = get_or_push bs b d 0 (o.empty start) in
-            ap (λ (x : Bucket). x.week) own ∙ week ∙ ap (λ n. n + 1) start
-      ],
-    );
-    empty = λ e. absurd (omega arith);
-    within = All-push (λ (x : Bucket). x.week ≤ k + 1) bs b (λ i d a. omega (arith, o.within i d a)) (omega (arith, week));
-    opens = λ t. elim (cases_eq t (k + 1)) [
-      | inl here ↦
-          omega (
-            arith,
-            sum_by_push (λ (x : Bucket). cond (eqb x.week t) x.supplied 0) bs b,
-            ap (λ c. cond c b.supplied 0) (eq-eqb b.week t (week ∙ sym here)),
-            o.opens t,
-            in_week_past openings k t (omega arith),
-            in_week_front openings (k + 1) t (omega arith),
-            ap (in_week openings) here,
-            read_week_of,
-          )
-      | inr other ↦
-          let apart : b.week ≢ t = omega arith in
-          omega (
-            arith,
-            sum_by_push (λ (x : Bucket). cond (eqb x.week t) x.supplied 0) bs b,
-            ap (λ c. cond c b.supplied 0) (ne_eqb b.week t apart),
-            o.opens t,
-            other_weeks t other,
-          )
-    ];
-    left = All-push (λ (x : Bucket). x.left ≡ x.supplied) bs b o.left (left ∙ sym supplied);
-  }
-
-pub opening_order : (openings : List ℕ) (k : ℕ) (bs : List Bucket) → 0 < k → Opening openings k bs → AreInOrder bs
-opening_order openings k bs h o = record {
-  some = (o.first h).0;
-  first = (o.first h).1;
-  order = o.order;
-}
-
-pub opening_all : (openings : List ℕ) (k : ℕ) (bs : List Bucket) → length openings ≤ k → Opening openings k bs → row (length openings) (opened bs) ≡ openings
-opening_all openings k bs all o =
-    sym (row_is openings (opened bs) (length openings) refl (λ t a b. sym (o.opens t ∙ ap (λ xs. in_week xs t) (take_all k openings all))))

@@ -1,67 +1,61 @@
--- A row with another quantity booked in a week, its buckets carried again.
-use Rattle.std.proofs.Common.{ℕ, ◌≡◌, ◌≤◌, List, length, sym, ◌∙◌, ap, subst, arith}
-use Rattle.std.specs.Prelude.{sum}
-use Rattle.mrp_qty.specs.Quantity.{greatest_quantity}
-use Rattle.mrp_phase.specs.Weeks.{row, sum_to, with_week}
-use Rattle.mrp_phase.proofs.WeekRows.{in_week_changed, length-with_week, row_same, sum_to_rises, sum_to_whole}
-use Rattle.mrp_master.specs.declared.buckets.Bucket.{Bucket}
-use Rattle.mrp_master.specs.AtpRow.{AtpRow, IsAtpRow, IsCoveredRow, IsWeekOf, with_booked}
-use Rattle.mrp_master.specs.Buckets.{AreCarried, AreInOrder, AreWithin, IsKept, opened, row_of}
-use Rattle.mrp_master.proofs.Carrying.{week_sum}
-use Rattle.mrp_master.proofs.Kept.{weeks_of}
+-- A row with another quantity booked in a week, and its tree before the week is renewed.
+use Rattle.std.proofs.Common.{ℕ, zero, suc, ◌≡◌, ◌≢◌, ◌≤◌, ◌<◌, ◌+◌, ◌-◌, inl, inr, List, pos, ◌-ℤ◌, set, sym, ◌∙◌, ap, arith}
+use Rattle.std.proofs.lemmas.Bool.{cases_lt}
+use Rattle.mrp_phase.specs.Weeks.{in_week, sum_to, with_week}
+use Rattle.mrp_phase.proofs.WeekRows.{in_week_changed, in_week_kept, length-with_week, sum_to_suc, with_week_at}
+use Rattle.mrp_master.specs.declared.nodes.Node.{Node}
+use Rattle.mrp_master.specs.AtpRow.{IsCoveredRow, IsWeekOf, with_booked}
+use Rattle.mrp_master.specs.Nodes.{IsPromiseRow}
+use Rattle.mrp_master.specs.Tree.{IsKept, IsMade, place_node, row_of}
+use Rattle.mrp_master.proofs.Spans.{little_to}
+use Rattle.mrp_master.proofs.Trees.{made_inner, made_place}
 
--- the row of these supplies and bookings
-abbrev pub to_row : List ℕ → List ℕ → AtpRow
-to_row supply booked = record { supply = supply; booked = booked }
+-- a changed week of the list, by its place
+pub changed : (xs : List ℕ) (week place pieces quantity : ℕ) → 1 ≤ week → place ≡ week → quantity ≡ pieces → set xs (place - 1) quantity ≡ with_week xs week pieces
+changed xs week place pieces quantity h is same =
+    ap (λ i. set xs (i - 1) quantity) is ∙ ap (λ q. set xs (week - 1) q) same ∙ sym (with_week_at xs week pieces h)
 
-module _ (booked : List ℕ) (bs : List Bucket) (week pieces : ℕ) (kept : IsKept booked bs) (inside : IsWeekOf (row_of booked bs) week)
-    (covered : IsCoveredRow (with_booked (row_of booked bs) week pieces)) where
-  -- what is booked then is no more than a quantity
-  pub rebooked_little : sum (with_week booked week pieces) ≤ greatest_quantity
-  rebooked_little =
-      let r : AtpRow = row_of booked bs in
-      let first : 1 ≤ length r.supply = omega (arith, inside.0, inside.1) in
-      let last : sum_to (with_week booked week pieces) (length r.supply) ≤ sum_to r.supply (length r.supply) = covered (length r.supply) (first, omega arith) in
-      let size : length (with_week booked week pieces) ≡ length r.supply = length-with_week booked week pieces ∙ sym (weeks_of booked bs) in
-      omega (arith, last, kept.little, sum_to_whole r.supply, sum_to_whole (with_week booked week pieces), ap (sum_to (with_week booked week pieces)) size)
+abbrev both : ℕ → ℕ → Node
+both x y = record { sum = pos x -ℤ pos y; least = pos x -ℤ pos y }
 
-  -- nor in its week
-  pub pieces_little : pieces ≤ greatest_quantity
+in_sum : (xs : List ℕ) (week : ℕ) → 1 ≤ week → in_week xs week ≤ sum_to xs week
+in_sum xs zero h = absurd (omega arith)
+in_sum xs (suc week) h = omega (arith, sum_to_suc xs week)
+
+module _ (supply booked : List ℕ) (nodes : List Node) (week pieces : ℕ) (kept : IsKept supply booked nodes) (inside : IsWeekOf (row_of supply booked) week)
+    (covered : IsCoveredRow (with_booked (row_of supply booked) week pieces)) where
+  abbrev pub after : List ℕ
+  after = with_week booked week pieces
+
+  pub rebooked : IsPromiseRow (row_of supply after)
+  rebooked = record {
+    row = record {
+      weeks = kept.row.row.weeks;
+      same = length-with_week booked week pieces ∙ kept.row.row.same;
+      covered = covered;
+    };
+    some = kept.row.some;
+    little = kept.row.little;
+  }
+
+  -- no more is booked in the week than a quantity
+  pub pieces_little : pieces ≤ 1000000000000000
   pieces_little =
-      let xs : List ℕ = with_week booked week pieces in
-      let last : week ≤ length booked = omega (arith, inside.1, weeks_of booked bs) in
       omega (
         arith,
-        rebooked_little,
-        in_week_changed booked week pieces inside.0 last,
-        week_sum xs week inside.0,
-        sum_to_rises xs week (length xs) (omega (arith, last, length-with_week booked week pieces)),
-        sum_to_whole xs,
+        in_week_changed booked week pieces inside.0 (omega (arith, inside.1, kept.row.row.same)),
+        in_sum after week inside.0,
+        covered week inside,
+        little_to (row_of supply booked) kept.row week,
       )
 
-  module _ (after : List ℕ) (bs' : List Bucket) (is : after ≡ with_week booked week pieces) (same : (t : ℕ) → opened bs' t ≡ opened bs t) where
-    same_supply : (row_of after bs').supply ≡ (row_of booked bs).supply
-    same_supply =
-        let size : length after ≡ length booked = ap length is ∙ length-with_week booked week pieces in
-        ap (λ n. row n (opened bs')) size ∙ row_same (opened bs') (opened bs) (length booked) (λ t a b. same t)
-
-    -- it is the row with this booked
-    pub rebooked_row : row_of after bs' ≡ with_booked (row_of booked bs) week pieces
-    rebooked_row =
-        ap (λ (xs : List ℕ). to_row xs after) same_supply ∙ ap (λ (xs : List ℕ). to_row (row_of booked bs).supply xs) is
-
-    -- and is kept
-    pub rebooked_kept : AreInOrder bs' → AreWithin (length after) bs' → AreCarried (row_of after bs) bs' → IsKept after bs'
-    rebooked_kept order within carried = record {
-      row = subst IsAtpRow (sym rebooked_row) (record {
-        weeks = kept.row.weeks;
-        same = length-with_week booked week pieces ∙ sym (weeks_of booked bs);
-        covered = covered;
-      });
-      order = order;
-      within = within;
-      carried =
-          let old : row_of after bs ≡ row_of after bs' = ap (λ (xs : List ℕ). to_row xs after) (row_same (opened bs) (opened bs') (length after) (λ t a b. sym (same t))) in
-          subst (λ r. AreCarried r bs') old carried;
-      little = subst (λ (xs : List ℕ). sum xs ≤ greatest_quantity) (sym same_supply) kept.little;
-    }
+  -- nodes but the week's place are made as before
+  pub others_made : (n : ℕ) → 1 ≤ n → n < 256 → n ≢ week + 127 → IsMade (row_of supply after) nodes n
+  others_made n some within other = elim (cases_lt n 128) [
+    | inl inner ↦ record { is = (kept.tree.made n some within).is ∙ made_inner (row_of supply booked) nodes n inner ∙ sym (made_inner (row_of supply after) nodes n inner) }
+    | inr place ↦
+        let apart : n - 127 ≢ week = omega (arith, other) in
+        let same : place_node (row_of supply booked) (n - 127) ≡ place_node (row_of supply after) (n - 127) =
+        ap (λ (x : ℕ). both (in_week supply (n - 127)) x) (sym (in_week_kept booked week (n - 127) pieces apart)) in
+        record { is = (kept.tree.made n some within).is ∙ made_place (row_of supply booked) nodes n place ∙ same ∙ sym (made_place (row_of supply after) nodes n place) }
+  ]

@@ -2,4 +2,5 @@ pub mod Promising
 pub mod Supply
 pub mod Lines
 pub mod AtpRow
-pub mod Buckets
+pub mod Nodes
+pub mod Tree

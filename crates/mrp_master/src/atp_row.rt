@@ -1,17 +1,19 @@
-//! What can be promised of an item, by its buckets.
+//! What can be promised of an item, by the tree of its weeks.
 
-use crate::buckets::{self, Bucket, carry, open_buckets};
+use crate::nodes::{Node, Nodes, available_in, earliest_in};
 use crate::supply::{Supply, quantity};
+use crate::tree;
 use mrp_qty::{NoMemory, Qty};
 use std::alloc::Global;
 use std::marker::Model;
 
-/// An item's supply and bookings, with a bucket for week 1 and for each week in which a firm
-/// quantity comes in (APICS Dictionary: available-to-promise; profile: overdrafts are carried back).
+/// An item's supply and bookings, with a tree over the weeks (APICS Dictionary:
+/// available-to-promise; profile: overdrafts are carried back).
 #[derive(Drop)]
 pub struct AtpRow {
+    supply: Vec<Qty>,
     booked: Vec<Qty>,
-    buckets: Vec<Bucket>,
+    nodes: Vec<Node>,
 }
 
 impl Model for AtpRow {
@@ -19,17 +21,44 @@ impl Model for AtpRow {
 
     ghost Value = { AtpRow };
 
-    ghost use Rattle.mrp_master.specs.Buckets.{IsKept, row_of};
+    ghost use Rattle.mrp_master.specs.Tree.{IsKept, row_of};
 
-    ghost view = { λ r. row_of r.booked.items r.buckets.items };
+    ghost view = { λ r. row_of r.supply.items r.booked.items };
 
-    ghost invariant = { λ r. IsKept r.booked.items r.buckets.items };
+    ghost invariant = { λ r. IsKept r.supply.items r.booked.items r.nodes.items };
+}
+
+/// The tree of a row, with the count of the nodes that were read.
+#[derive(Drop)]
+pub struct RowNodes<'a> {
+    row: &'a AtpRow,
+    reads: u64,
+}
+
+impl Nodes for RowNodes<'_> {
+    ghost of_row = { λ s. s.row.now };
+
+    ghost count = { λ s. s.reads };
+
+    fn weeks(&self) -> u16 {
+        self.row.weeks()
+    }
+
+    fn read(&mut self, node: u8) -> Node {
+        self.reads = self.reads.saturating_add(1);
+        self.row.node(node)
+    }
+
+    fn reads(&self) -> u64 {
+        self.reads
+    }
 }
 
 impl AtpRow {
     ghost use Rattle.std.specs.Prelude.{◌≡◌, ◌≤◌, [], IfOk, length};
     ghost use Rattle.mrp_phase.specs.Weeks.{in_week};
     ghost use Rattle.mrp_master.specs.AtpRow.{IsAtpRow, IsAvailableIn, IsCoveredRow, IsEarliestIn, IsWeekOf, atp_row, bucket, with_booked, with_booking, without_booking};
+    ghost use Rattle.mrp_master.specs.Nodes.{IsNode, IsPromiseRow};
 
     /// An item's row, with nothing booked.
     ///
@@ -37,10 +66,13 @@ impl AtpRow {
     pub fn of(alloc: Global, supply: &Supply, item: usize) -> Result<AtpRow, NoMemory>
         ensures { IfOk result (λ r. r ≡ atp_row supply.now item []) }
     {
-        let openings = supply.openings(alloc, item)?;
+        let supply = supply.openings(alloc, item)?;
+        let booked = vec![in alloc; quantity(0); supply.len()]?;
+        let nodes = tree::grow(alloc, &supply, &booked)?;
         Ok(AtpRow {
-            booked: vec![in alloc; quantity(0); openings.len()]?,
-            buckets: open_buckets(alloc, &openings)?,
+            supply,
+            booked,
+            nodes,
         })
     }
 
@@ -52,6 +84,27 @@ impl AtpRow {
         self.booked.len() as u16
     }
 
+    /// The tree of the row, of which no node was read.
+    pub fn nodes(&self) -> RowNodes<'_>
+        ensures row { ⟦<RowNodes<'static> as Nodes>⟧.of_row result ≡ self.now }
+        ensures fresh { ⟦<RowNodes<'static> as Nodes>⟧.count result ≡ 0 }
+        ensures kept { IsPromiseRow self.now }
+    {
+        let _ = &self.nodes;
+        RowNodes {
+            row: self,
+            reads: 0,
+        }
+    }
+
+    // A node of the tree.
+    fn node(&self, node: u8) -> Node
+        requires { 1 ≤ node }
+        ensures { IsNode self.now node result }
+    {
+        self.nodes[usize::from(node)]
+    }
+
     /// What is booked that is due in a week, in pieces.
     pub fn booked(&self, week: u16) -> Qty
         requires { IsWeekOf self.now week }
@@ -61,12 +114,18 @@ impl AtpRow {
         self.booked[usize::from(week) - 1]
     }
 
-    /// A week's bucket: what is left of what came in, in pieces; 0 where none opens.
+    /// A week's bucket: what is left of what came in, in pieces; 0 where none opens. It is what is
+    /// available in the week and not in the one before.
     pub fn bucket(&self, week: u16) -> Qty
         requires { IsWeekOf self.now week }
         ensures { result ≡ bucket self.now week }
     {
-        buckets::left_in(&self.buckets, week)
+        let mut nodes = self.nodes();
+        let up_to = available_in(&mut nodes, week).value();
+        if week == 1 {
+            return quantity(up_to);
+        }
+        quantity(up_to - available_in(&mut nodes, week - 1).value())
     }
 
     /// What is available to promise in a week, in pieces.
@@ -74,14 +133,14 @@ impl AtpRow {
         requires { IsWeekOf self.now week }
         ensures { IsAvailableIn self.now week result }
     {
-        buckets::left_to(&self.buckets, week)
+        available_in(&mut self.nodes(), week)
     }
 
     /// The first week in which so much is available to promise.
     pub fn earliest(&self, quantity: Qty) -> Option<u16>
         ensures { IsEarliestIn self.now quantity result }
     {
-        buckets::earliest(&self.buckets, quantity)
+        earliest_in(&mut self.nodes(), quantity)
     }
 
     /// Books so much, due in a week. The caller owes that it is available there.
@@ -112,6 +171,6 @@ impl AtpRow {
     {
         let booked = &mut self.booked[usize::from(week) - 1];
         *booked = quantity(pieces);
-        carry(&self.booked, &mut self.buckets);
+        tree::renew(&self.supply, &self.booked, &mut self.nodes, week);
     }
 }

@@ -2,12 +2,14 @@
 #![tactic(auto)]
 
 mod atp_row;
-mod buckets;
 mod firm;
 pub mod laws;
 mod line;
+mod nodes;
 mod supply;
+mod tree;
 
-pub use atp_row::AtpRow;
+pub use atp_row::{AtpRow, RowNodes};
 pub use line::{Line, LineFault, Spot, Wish};
+pub use nodes::{MOST_READS, Node, Nodes, available_in, earliest_in};
 pub use supply::Supply;

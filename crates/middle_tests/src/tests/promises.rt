@@ -4,7 +4,9 @@ use super::{made, pieces, same};
 use jiff::civil::Date;
 use mrp_bill::Shop;
 use mrp_cal::Calendar;
-use mrp_master::{AtpRow, Line, LineFault, Spot, Supply, Wish};
+use mrp_master::{
+    AtpRow, Line, LineFault, MOST_READS, Nodes, Spot, Supply, Wish, available_in, earliest_in,
+};
 use sample_shops::{Records, bicycles, no_records};
 use std::alloc::Global;
 use std::process::Abort;
@@ -361,4 +363,65 @@ fn a_horizon_may_be_full_of_buckets(rt: HostRuntime) {
     are_earliest(&rt, &row, &[(104, Some(104)), (105, None)]);
     take(&rt, &mut row, 104, 104);
     is_empty(&rt, &row);
+}
+
+// What is available in a week by the nodes of a row's tree, of which few are read.
+fn available_by_nodes(rt: &impl Abort, row: &AtpRow, week: u16) -> u64 {
+    assert!(rt; 1 <= week && week <= row.weeks());
+    let mut nodes = row.nodes();
+    let available = available_in(&mut nodes, week);
+    assert!(rt; nodes.reads() <= MOST_READS);
+    available.value()
+}
+
+// The first week for so many pieces by the nodes of a row's tree, of which few are read.
+fn earliest_by_nodes(rt: &impl Abort, row: &AtpRow, count: u64) -> Option<u16> {
+    let mut nodes = row.nodes();
+    let week = earliest_in(&mut nodes, pieces(rt, count));
+    assert!(rt; nodes.reads() <= MOST_READS);
+    week
+}
+
+// Fails unless so much is available in each week of a row's tree as in the row.
+fn are_as_available(rt: &impl Abort, row: &AtpRow) {
+    for week in 1..105 {
+        let (_, want, _) = week_of(rt, row, week);
+        same(rt, available_by_nodes(rt, row, week), want);
+    }
+}
+
+#[test]
+fn a_few_nodes_tell_what_is_promised(rt: HostRuntime) {
+    let mut row = long_row(&rt, rt.alloc());
+    same(&rt, available_by_nodes(&rt, &row, 104), 104);
+    same(&rt, earliest_by_nodes(&rt, &row, 0), Some(1));
+    same(&rt, earliest_by_nodes(&rt, &row, 104), Some(104));
+    same(&rt, earliest_by_nodes(&rt, &row, 105), None);
+    are_as_available(&rt, &row);
+    take(&rt, &mut row, 104, 104);
+    are_as_available(&rt, &row);
+    same(&rt, available_by_nodes(&rt, &row, 1), 0);
+    same(&rt, earliest_by_nodes(&rt, &row, 1), None);
+    give(&rt, &mut row, 104, 60);
+    take(&rt, &mut row, 50, 7);
+    are_as_available(&rt, &row);
+}
+
+// What a tree says of its horizon, and of its first and last places.
+fn ends_of<N: Nodes>(nodes: &mut N) -> (u16, i64, i64, u64) {
+    let root = nodes.read(1);
+    let past = nodes.read(255);
+    (nodes.weeks(), root.sum, past.sum, nodes.reads())
+}
+
+#[test]
+fn a_node_is_what_the_weeks_below_it_change(rt: HostRuntime) {
+    let mut row = bike_row(&rt, rt.alloc());
+    take(&rt, &mut row, 5, 25);
+    same(&rt, ends_of(&mut row.nodes()), (6, 25, 0, 2));
+    let mut nodes = row.nodes();
+    let fifth = nodes.read(132);
+    same(&rt, (fifth.sum, fifth.least), (-5, -5));
+    let first_four = nodes.read(32);
+    same(&rt, (first_four.sum, first_four.least), (30, 10));
 }

@@ -1,44 +1,48 @@
 use Rattle.std.proofs.Common.{ℕ, ◌≡◌, List, length, replicate, ap, sym, subst, ◌∙◌, arith}
 use Rattle.mrp_phase.specs.Weeks.{row}
 use Rattle.mrp_phase.proofs.WeekRows.{length-row}
-use Rattle.mrp_master.specs.declared.buckets.Bucket.{Bucket}
 use Rattle.mrp_master.specs.AtpRow.{opening}
+use Rattle.mrp_master.specs.Nodes.{IsPromiseRow}
 use Rattle.mrp_master.specs.Supply.{Supply}
-use Rattle.mrp_master.specs.Buckets.{AreWithin, opened}
+use Rattle.mrp_master.specs.Tree.{IsTree, row_of}
 use Rattle.mrp_master.proofs.Fresh.{fresh_kept, fresh_row}
 use Rattle.mrp_master.proofs.atp_row.AtpRow.of.Goals as goal
 
-pub open_buckets-requires-clause-some : goal.open_buckets-requires-clause-some
-open_buckets-requires-clause-some c =
-    let e : length c.deref.result.now ≡ c.args.supply.now.weeks = ap length (c.deref.ensures.value ∙ c.in_ok-openings.ensures.value) ∙ length-row (opening c.args.supply.now c.args.item) c.args.supply.now.weeks in
-    omega (arith, c.in_ok-openings.ensures.kept.first)
+-- a vector of zeros, one for each week
+zeros : (supply booked : List ℕ) (f : ℕ → ℕ) (weeks count zero_is : ℕ) → supply ≡ row weeks f → count ≡ length supply → zero_is ≡ 0 → booked ≡ replicate count zero_is → booked ≡ replicate weeks 0
+zeros supply booked f weeks count zero_is e g z is = is ∙ ap (λ n. replicate n zero_is) (g ∙ ap length e ∙ length-row f weeks) ∙ ap (λ (q : ℕ). replicate weeks q) z
 
-pub open_buckets-requires-clause-weeks : goal.open_buckets-requires-clause-weeks
-open_buckets-requires-clause-weeks c =
-    let e : length c.deref.result.now ≡ c.args.supply.now.weeks = ap length (c.deref.ensures.value ∙ c.in_ok-openings.ensures.value) ∙ length-row (opening c.args.supply.now c.args.item) c.args.supply.now.weeks in
-    omega (arith, c.in_ok-openings.ensures.kept.last)
+pub grow-requires : goal.grow-requires
+grow-requires c =
+    let s : Supply = c.args.supply.now in
+    let supply : List ℕ = c.in_ok-supply.supply.items in
+    let booked : List ℕ = c.in_ok-booked.booked.items in
+    let none : booked ≡ replicate s.weeks 0 =
+    zeros supply booked (opening s c.args.item) s.weeks c.len.result c.quantity.result c.in_ok-supply.ensures.value (omega (arith, c.len.ensures, c.in_ok-supply.supply.ok)) c.quantity.ensures
+    (c.in_ok-booked.ensures.items_if_clones_equal (λ y e. e)) in
+    subst IsPromiseRow (sym (fresh_row s c.args.item c.deref.result.now c.deref-2.result.now (c.deref.ensures.value ∙ c.in_ok-supply.ensures.value) (c.deref-2.ensures.value ∙ none)))
+    (fresh_kept s c.args.item c.in_ok-supply.ensures.kept)
 
 pub invariant_of-result : goal.invariant_of-result
 invariant_of-result c =
     let s : Supply = c.args.supply.now in
-    let bs : List Bucket = c.in_ok-open_buckets.field-0.items in
-    let is : c.deref.result.now ≡ row s.weeks (opening s c.args.item) = c.deref.ensures.value ∙ c.in_ok-openings.ensures.value in
-    let size : length c.deref.result.now ≡ s.weeks = ap length is ∙ length-row (opening s c.args.item) s.weeks in
-    let count : c.len.result ≡ s.weeks = omega (arith, c.len.ensures, c.deref.ensures.len, size) in
-    let nothing : c.in_ok-vec.field-0.items ≡ replicate s.weeks 0 =
-    c.in_ok-vec.ensures.items_if_clones_equal (λ y e. e) ∙ ap (λ n. replicate n c.quantity.result) count ∙ ap (λ (q : ℕ). replicate s.weeks q) c.quantity.ensures in
-    let opens : row s.weeks (opened bs) ≡ row s.weeks (opening s c.args.item) = ap (λ n. row n (opened bs)) (sym size) ∙ c.in_ok-open_buckets.ensures.opened ∙ is in
-    fresh_kept s c.in_ok-openings.ensures.kept c.args.item c.in_ok-vec.field-0.items bs nothing opens c.in_ok-open_buckets.ensures.order
-    (subst (λ (n : ℕ). AreWithin n bs) size c.in_ok-open_buckets.ensures.within) c.in_ok-open_buckets.ensures.left
+    let supply : List ℕ = c.in_ok-supply.supply.items in
+    let booked : List ℕ = c.in_ok-booked.booked.items in
+    let none : booked ≡ replicate s.weeks 0 =
+    zeros supply booked (opening s c.args.item) s.weeks c.len.result c.quantity.result c.in_ok-supply.ensures.value (omega (arith, c.len.ensures, c.in_ok-supply.supply.ok)) c.quantity.ensures
+    (c.in_ok-booked.ensures.items_if_clones_equal (λ y e. e)) in
+    let lent : row_of c.deref.result.now c.deref-2.result.now ≡ row_of supply booked = ap (λ xs. row_of xs c.deref-2.result.now) c.deref.ensures.value ∙ ap (row_of supply) c.deref-2.ensures.value in
+    record {
+      row = subst IsPromiseRow (sym (fresh_row s c.args.item supply booked c.in_ok-supply.ensures.value none)) (fresh_kept s c.args.item c.in_ok-supply.ensures.kept);
+      tree = subst (λ r. IsTree r c.in_ok-nodes.nodes.items) lent c.in_ok-nodes.ensures;
+    }
 
 pub returns : goal.returns
 returns c =
     let s : Supply = c.args.supply.now in
-    let bs : List Bucket = c.in_ok-open_buckets.field-0.items in
-    let is : c.deref.result.now ≡ row s.weeks (opening s c.args.item) = c.deref.ensures.value ∙ c.in_ok-openings.ensures.value in
-    let size : length c.deref.result.now ≡ s.weeks = ap length is ∙ length-row (opening s c.args.item) s.weeks in
-    let count : c.len.result ≡ s.weeks = omega (arith, c.len.ensures, c.deref.ensures.len, size) in
-    let nothing : c.in_ok-vec.field-0.items ≡ replicate s.weeks 0 =
-    c.in_ok-vec.ensures.items_if_clones_equal (λ y e. e) ∙ ap (λ n. replicate n c.quantity.result) count ∙ ap (λ (q : ℕ). replicate s.weeks q) c.quantity.ensures in
-    let opens : row s.weeks (opened bs) ≡ row s.weeks (opening s c.args.item) = ap (λ n. row n (opened bs)) (sym size) ∙ c.in_ok-open_buckets.ensures.opened ∙ is in
-    fresh_row s c.in_ok-openings.ensures.kept c.args.item c.in_ok-vec.field-0.items bs nothing opens
+    let supply : List ℕ = c.in_ok-supply.supply.items in
+    let booked : List ℕ = c.in_ok-booked.booked.items in
+    let none : booked ≡ replicate s.weeks 0 =
+    zeros supply booked (opening s c.args.item) s.weeks c.len.result c.quantity.result c.in_ok-supply.ensures.value (omega (arith, c.len.ensures, c.in_ok-supply.supply.ok)) c.quantity.ensures
+    (c.in_ok-booked.ensures.items_if_clones_equal (λ y e. e)) in
+    fresh_row s c.args.item supply booked c.in_ok-supply.ensures.value none

@@ -1,0 +1,56 @@
+-- A tree of counts over the weeks of a row: what its nodes are, by the weeks below them (profile).
+use Rattle.std.specs.Prelude.{ℕ, ◌≡◌, ◌≤◌, ◌+◌, ◌-◌, ◌*◌, ◌^◌, ℤ, pos, ◌+ℤ◌, ◌-ℤ◌, ◌≤ℤ◌, if◌then◌else◌, nat_lt, length, sum}
+use Rattle.std.specs.Int.{int_min}
+use Rattle.mrp_qty.specs.Quantity.{greatest_quantity}
+use Rattle.mrp_phase.specs.Weeks.{sum_to}
+use Rattle.mrp_master.specs.declared.nodes.Node.{Node}
+use Rattle.mrp_master.specs.AtpRow.{AtpRow, IsAtpRow}
+
+-- a covered row of quantities, of some weeks
+pub record IsPromiseRow (r : AtpRow) : Type 0 where
+  pub row : IsAtpRow r
+  pub some : 1 ≤ length r.supply
+  pub little : sum r.supply ≤ greatest_quantity
+
+-- what comes in up to a week, less what is booked up to it; after the last week it stays as it is
+abbrev pub uncommitted_to : AtpRow → ℕ → ℤ
+uncommitted_to r week = pos (sum_to r.supply week) -ℤ pos (sum_to r.booked week)
+
+-- what the weeks after a week, up to a last one, change: in all, and from the first of them the least up to one of those from a week on
+pub record IsSpan (r : AtpRow) (before from last : ℕ) (node : Node) : Type 0 where
+  pub sum : node.sum ≡ uncommitted_to r last -ℤ uncommitted_to r before
+  pub below : (week : ℕ) → from ≤ week → week ≤ last → node.least ≤ℤ (uncommitted_to r week -ℤ uncommitted_to r before)
+  pub reached : (week : ℕ) × (from ≤ week) × (week ≤ last) × (node.least ≡ uncommitted_to r week -ℤ uncommitted_to r before)
+
+-- how often a node's number doubles until it is a week's place
+unfoldable pub height : ℕ → ℕ
+height node =
+    if nat_lt node 2 then 7
+    else if nat_lt node 4 then 6
+    else if nat_lt node 8 then 5
+    else if nat_lt node 16 then 4
+    else if nat_lt node 32 then 3
+    else if nat_lt node 64 then 2
+    else if nat_lt node 128 then 1
+    else 0
+
+-- the week before those below a node, and the last of them: their places are 128, 129 and so on
+unfoldable pub before : ℕ → ℕ
+before node = node * 2 ^ height node - 128
+
+unfoldable pub last : ℕ → ℕ
+last node = (node + 1) * 2 ^ height node - 128
+
+-- a node of a row's tree: what the weeks below it change
+abbrev pub IsNode : AtpRow → ℕ → Node → Type 0
+IsNode r number node = IsSpan r (before number) (before number + 1) (last number) node
+
+-- A node over two others.
+
+-- the weeks of the first, then those of the second
+abbrev pub joined : Node → Node → Node
+joined a b = record { sum = a.sum +ℤ b.sum; least = int_min a.least (a.sum +ℤ b.least) }
+
+-- the same, with the least over the second's weeks alone
+abbrev pub shifted : Node → Node → Node
+shifted a b = record { sum = a.sum +ℤ b.sum; least = a.sum +ℤ b.least }

@@ -1,0 +1,56 @@
+//! Calls on a row, in turn: what is available, the first week, a booking, one given back.
+
+ghost use Rattle.std.specs.Prelude.{◌≡◌, ◌≤◌, length};
+ghost use Rattle.mrp_master.specs.AtpRow.{IsWeekOf};
+
+use mrp_master::AtpRow;
+use mrp_qty::Qty;
+
+// Books so many pieces in a week, if they are available; how many are booked.
+fn take_pieces(row: &mut AtpRow, week: u16, quantity: Qty) -> u64
+    requires { IsWeekOf row.old week }
+{
+    if row.weeks() < week || row.available(week).value() < quantity.value() {
+        return 0;
+    }
+    row.take(week, quantity);
+    quantity.value()
+}
+
+// Gives back so many pieces of a week, if they are booked there; how many are given back.
+fn give_pieces(row: &mut AtpRow, week: u16, quantity: Qty) -> u64
+    requires { IsWeekOf row.old week }
+{
+    if row.booked(week).value() < quantity.value() {
+        return 0;
+    }
+    row.give(week, quantity);
+    quantity.value()
+}
+
+// The answer of one call.
+fn call(row: &mut AtpRow, number: u64) -> u64 {
+    let weeks = row.weeks();
+    let Some(quantity) = Qty::new(number % 7) else {
+        return 0;
+    };
+    if weeks == 0 {
+        return 0;
+    }
+    let week = (number % 1_000_003 * 37 % u64::from(weeks)) as u16 + 1;
+    match number % 4 {
+        0 => row.available(week).value(),
+        1 => u64::from(row.earliest(quantity).unwrap_or(0)),
+        2 => take_pieces(row, week, quantity),
+        _ => give_pieces(row, week, quantity),
+    }
+}
+
+/// What the answers of so many calls add up to.
+pub(crate) fn call_often(row: &mut AtpRow, calls: u64) -> u64 {
+    let mut answers: u64 = 0;
+    for number in 0..calls {
+        answers = answers.saturating_add(call(row, number));
+    }
+    answers
+}
