@@ -1,4 +1,4 @@
-pub mod PageRows
+pub mod RowCells
 pub mod SheetRows
 pub mod RowTexts
 pub mod PlanSheets

@@ -16,8 +16,7 @@ pub mod LoadText
 pub mod LoadRows
 pub mod HistoryText
 pub mod EntryCells
-pub mod PageWriter
-pub mod PageView
+pub mod CsvCells
 pub mod Written
 pub mod PlanRows
 pub mod ReportText

@@ -17,6 +17,7 @@ mod plan;
 mod promise_item;
 mod promise_sheet;
 mod promises;
+mod quoting;
 mod report;
 mod run;
 mod section;
