@@ -17,6 +17,9 @@ pub mod LoadRows
 pub mod HistoryText
 pub mod EntryCells
 pub mod CsvCells
+pub mod Put
+pub mod Groups
+pub mod WordText
 pub mod Written
 pub mod PlanRows
 pub mod ReportText

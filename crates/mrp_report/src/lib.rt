@@ -2,14 +2,18 @@
 #![tactic(auto)]
 
 mod cell;
+mod cells;
 mod centre;
+mod csv_name;
 mod fault;
 mod history;
 mod item;
 pub mod laws;
+mod line;
 mod loads;
 mod messages;
 mod minutes;
+mod number;
 mod orders;
 mod page;
 mod pegs;
@@ -17,6 +21,7 @@ mod plan;
 mod promise_item;
 mod promise_sheet;
 mod promises;
+mod put;
 mod quoting;
 mod report;
 mod run;
@@ -24,6 +29,7 @@ mod section;
 mod sheet;
 mod shop_names;
 mod source;
+mod word;
 
 pub use fault::ReportFault;
 pub use history::write_history;

@@ -1,21 +1,25 @@
 //! Rows of csv text in memory.
 
-ghost use Rattle.std.specs.Prelude.{◌≡◌, ◌≤◌, ◌-◌, [], ◌∷◌, ◌++◌, Err, OnOk, OnErr, length, map};
+ghost use Rattle.std.specs.Prelude.{◌≡◌, ◌+◌, ◌≤◌, ◌-◌, [], ◌∷◌, ◌++◌, Err, OnOk, OnErr, length, map, take, vec_len};
 ghost use Rattle.csv.specs.Writing.{default_writer, escaped, quoted};
 ghost use Rattle.mrp_report.specs.CsvCells.{cell_text, next_cell};
 ghost use Rattle.mrp_report.specs.Section.{row, section_head};
 ghost use Rattle.mrp_report.specs.Written.{HasTaken, HasTakenFront, HasGivenUp, HasGoneOn, PassesOn};
 
 use crate::fault::ReportFault;
+use crate::line::Line;
 use crate::quoting::is_quoted_text;
 use mrp_qty::NoMemory;
 use mrp_rows::{Told, Tries, write_text};
-use std::alloc::Global;
+use std::alloc::{AllocError, Global};
 use std::io::Write;
 use std::marker::Model;
 
 // How many bytes a page may hold before it is handed to the writer.
 const FULL: usize = 65_536;
+
+// No line is longer.
+const ROOM: usize = 512;
 
 /// Rows of csv text, one after the other, seen as that text.
 ///
@@ -35,6 +39,29 @@ impl Model for Page {
     ghost view = { λ p. take p.end p.bytes.items };
 
     ghost invariant = { λ p. p.end ≤ vec_len p.bytes };
+}
+
+// Makes room for a line behind the end.
+#[inline(always)]
+fn make_room(bytes: &mut Vec<u8>, end: usize) -> Result<(), AllocError>
+    requires { end ≤ vec_len bytes.old }
+    ensures same { take end bytes.new.items ≡ take end bytes.old.items }
+    ensures within { end ≤ vec_len bytes.new }
+    ensures room { OnOk result (end + 512 ≤ vec_len bytes.new) }
+{
+    if bytes.len() - end < ROOM {
+        grow(bytes)?;
+    }
+    Ok(())
+}
+
+#[inline(never)]
+fn grow(bytes: &mut Vec<u8>) -> Result<(), AllocError>
+    ensures same { take (vec_len bytes.old) bytes.new.items ≡ bytes.old.items }
+    ensures within { vec_len bytes.old ≤ vec_len bytes.new }
+    ensures room { OnOk result (vec_len bytes.new ≡ vec_len bytes.old + 512) }
+{
+    bytes.extend_from_slice(&[0; ROOM])
 }
 
 impl Page {
@@ -97,6 +124,17 @@ impl Page {
     {
         self.add(b",")?;
         self.add_cell(cell)
+    }
+
+    /// Adds a line.
+    ///
+    /// Errors: where a growth of memory was refused. The page is unchanged then.
+    pub(crate) fn line<L: Line>(&mut self, line: &L) -> Result<(), NoMemory>
+        ensures { OnOk result (self.new ≡ self.old ++ L.csv line.now) }
+    {
+        make_room(&mut self.bytes, self.end)?;
+        self.end = line.put(self.bytes.as_mut_slice(), self.end);
+        Ok(())
     }
 
     /// Adds a row of cells, two at least: a row of one empty cell would be written another way.
