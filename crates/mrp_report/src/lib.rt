@@ -1,7 +1,6 @@
 //! The texts of a day, section by section: the history of the order book, and the report of a run.
 #![tactic(auto)]
 
-mod cell;
 mod cells;
 mod centre;
 mod csv_name;
