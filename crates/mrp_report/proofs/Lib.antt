@@ -1,4 +1,9 @@
-pub mod PageRows
+pub mod RowCells
+pub mod Puts
+pub mod Digits
+pub mod Tables
+pub mod PlainCells
+pub mod Lines
 pub mod SheetRows
 pub mod RowTexts
 pub mod PlanSheets

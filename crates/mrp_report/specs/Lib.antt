@@ -16,8 +16,10 @@ pub mod LoadText
 pub mod LoadRows
 pub mod HistoryText
 pub mod EntryCells
-pub mod PageWriter
-pub mod PageView
+pub mod CsvCells
+pub mod Put
+pub mod Groups
+pub mod WordText
 pub mod Written
 pub mod PlanRows
 pub mod ReportText

@@ -9,6 +9,7 @@ ghost use Rattle.mrp_report.specs.LoadRows.{load_row};
 ghost use Rattle.mrp_report.specs.LoadText.{load_text};
 ghost use Rattle.mrp_report.specs.ReportText.{loaded_text};
 
+use crate::csv_name::CsvName;
 use crate::loads::{LoadRow, load_row};
 use crate::page::Page;
 use mrp_item::Plan;
@@ -33,7 +34,7 @@ fn row_of(loads: &LoadTable, centre: usize, week: u16) -> LoadRow
 // Adds the weeks of a work centre.
 fn week_rows(
     page: &mut Page,
-    name: &[u8],
+    name: &CsvName,
     loads: &LoadTable,
     centre: usize,
     weeks: u16,
@@ -67,6 +68,6 @@ pub(crate) fn centre_rows(
     requires within { centre < length plan.now.inputs.tables.centres }
     ensures { OnOk result (page.new ≡ page.old ++ loaded_text plan.now.inputs centre) }
 {
-    let name = centre_of(plan, centre).name;
-    week_rows(page, name.as_bytes(), loads, centre, plan.inputs().weeks())
+    let name = CsvName::of(&centre_of(plan, centre).name);
+    week_rows(page, &name, loads, centre, plan.inputs().weeks())
 }

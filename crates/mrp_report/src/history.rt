@@ -1,20 +1,25 @@
 //! The section `history`: what the order book was asked, and what it replied.
 
-ghost use Rattle.std.specs.Prelude.{◌≡◌, ◌++◌, [], Err, None, OnOk, OnErr};
+ghost use Rattle.std.specs.Prelude.{◌≡◌, ◌++◌, [], ◌∷◌, Err, None, OnOk, OnErr, decimal};
 ghost use Rattle.mrp_master.specs.Supply.{supply_of};
 ghost use Rattle.mrp_report.specs.HistoryText.{call_cells, entry_text, history_head, history_text, reply_cells};
 ghost use Rattle.mrp_report.specs.EntryCells.{called_cells, replied_cells};
+ghost use Rattle.mrp_report.specs.Section.{row};
 ghost use Rattle.mrp_report.specs.Written.{HasGivenUp, HasGoneOn, HasTakenFront, HasTakenWhole};
 
-use crate::cell::{item_name, number_cell};
+use crate::cells::{put_first_number, put_some};
+use crate::csv_name::CsvName;
 use crate::fault::ReportFault;
+use crate::line::Line;
+use crate::number::put_number;
 use crate::page::Page;
-use itoa::Buffer;
+use crate::put::put_byte;
+use crate::shop_names::ShopNames;
+use crate::word::{Word, put_word};
 use mrp_bill::Shop;
 use mrp_book::{Call, Entry, History, Reply};
 use mrp_qty::NoMemory;
 use mrp_rows::{Told, Tries, WRITE_TRIES};
-use mrp_tables::Tables;
 use std::alloc::Global;
 use std::io::Write;
 
@@ -40,8 +45,8 @@ fn history_section(page: &mut Page) -> Result<(), NoMemory>
 // What a row has of a call. An absent number is an empty cell.
 #[derive(Clone, Copy)]
 struct Called<'a> {
-    word: &'a [u8],
-    item: &'a [u8],
+    word: Word,
+    item: &'a CsvName,
     week: Option<u64>,
     quantity: Option<u64>,
     number: Option<u64>,
@@ -49,105 +54,118 @@ struct Called<'a> {
 
 // What a row has of a reply.
 #[derive(Clone, Copy)]
-struct Replied<'a> {
-    word: &'a [u8],
+struct Replied {
+    word: Word,
     value: Option<u64>,
 }
 
 impl<'a> Called<'a> {
     // A call of this word alone.
-    fn word(word: &'a [u8]) -> Called<'a>
-        ensures word { result.word.now ≡ word.now }
+    fn word(names: &'a ShopNames<'_>, word: Word) -> Called<'a>
+        ensures word { result.word ≡ word }
         ensures item { result.item.now ≡ [] }
         ensures numbers { (result.week ≡ None) × (result.quantity ≡ None) × (result.number ≡ None) }
     {
         Called {
             word,
-            item: b"",
+            item: names.no_name(),
             week: None,
             quantity: None,
             number: None,
         }
     }
 
-    fn of(tables: &'a Tables, call: &Call) -> Called<'a>
-        ensures { called_cells result ≡ call_cells tables.now call.now }
+    fn of(names: &'a ShopNames<'_>, call: &Call) -> Called<'a>
+        ensures { called_cells result ≡ call_cells names.now.tables.now call.now }
     {
         match call {
             Call::Book(line) => Called {
-                item: item_name(tables, line.item),
+                item: names.item(line.item),
                 week: Some(u64::from(line.week)),
                 quantity: Some(line.quantity.value()),
-                ..Called::word(b"book")
+                ..Called::word(names, Word::Book)
             },
             Call::Cancel(number) => Called {
                 number: Some(*number),
-                ..Called::word(b"cancel")
+                ..Called::word(names, Word::CancelBooking)
             },
             Call::Ask(spot) => Called {
-                item: item_name(tables, spot.item),
+                item: names.item(spot.item),
                 week: Some(u64::from(spot.week)),
-                ..Called::word(b"ask")
+                ..Called::word(names, Word::Ask)
             },
             Call::When(wish) => Called {
-                item: item_name(tables, wish.item),
+                item: names.item(wish.item),
                 quantity: Some(wish.quantity.value()),
-                ..Called::word(b"when")
+                ..Called::word(names, Word::When)
             },
-            Call::Snapshot => Called::word(b"run"),
-            Call::Front => Called::word(b"front"),
+            Call::Snapshot => Called::word(names, Word::Run),
+            Call::Front => Called::word(names, Word::Front),
         }
     }
 }
 
-impl<'a> Replied<'a> {
-    fn of(reply: &'a Reply) -> Replied<'a>
+impl Replied {
+    fn of(reply: &Reply) -> Replied
         ensures { replied_cells result ≡ reply_cells reply.now }
     {
-        let (word, value): (&[u8], Option<u64>) = match reply {
-            Reply::Booked(number) => (b"booked", Some(*number)),
-            Reply::Short(available) => (b"short", Some(available.value())),
-            Reply::Cancelled => (b"cancelled", None),
-            Reply::NotStanding => (b"not-standing", None),
-            Reply::NotYours => (b"not-yours", None),
-            Reply::Available(available) => (b"available", Some(available.value())),
-            Reply::Week(week) => (b"week", Some(u64::from(*week))),
-            Reply::NoWeek => (b"no-week", None),
-            Reply::Taken(snapshot) => (b"front", Some(snapshot.front())),
-            Reply::Front(number) => (b"front", Some(*number)),
+        let (word, value) = match reply {
+            Reply::Booked(number) => (Word::Booked, Some(*number)),
+            Reply::Short(available) => (Word::Short, Some(available.value())),
+            Reply::Cancelled => (Word::Cancelled, None),
+            Reply::NotStanding => (Word::NotStanding, None),
+            Reply::NotYours => (Word::NotYours, None),
+            Reply::Available(available) => (Word::Available, Some(available.value())),
+            Reply::Week(week) => (Word::Week, Some(u64::from(*week))),
+            Reply::NoWeek => (Word::NoWeek, None),
+            Reply::Taken(snapshot) => (Word::Front, Some(snapshot.front())),
+            Reply::Front(number) => (Word::Front, Some(*number)),
         };
         Replied { word, value }
+    }
+}
+
+// An entry with its number.
+#[derive(Clone, Copy)]
+struct EntryLine<'a> {
+    number: u64,
+    desk: u64,
+    called: Called<'a>,
+    replied: Replied,
+}
+
+impl Line for EntryLine<'_> {
+    ghost csv = { λ line. row (decimal line.number ∷ decimal line.desk ∷ (called_cells line.called ++ replied_cells line.replied)) };
+
+    fn put(&self, text: &mut [u8], at: usize) -> usize {
+        let end = put_first_number(text, at, self.number);
+        let end = put_number(text, end, self.desk);
+        let end = put_word(text, end, self.called.word);
+        let end = self.called.item.put_next(text, end);
+        let end = put_some(text, end, self.called.week);
+        let end = put_some(text, end, self.called.quantity);
+        let end = put_some(text, end, self.called.number);
+        let end = put_word(text, end, self.replied.word);
+        let end = put_some(text, end, self.replied.value);
+        put_byte(text, end, b'\n')
     }
 }
 
 // Adds an entry.
 fn entry_row(
     page: &mut Page,
-    tables: &Tables,
+    names: &ShopNames<'_>,
     number: usize,
     entry: &Entry<Call, Reply>,
 ) -> Result<(), NoMemory>
-    ensures { OnOk result (page.new ≡ page.old ++ entry_text tables.now (number, entry.now)) }
+    ensures { OnOk result (page.new ≡ page.old ++ entry_text names.now.tables.now (number, entry.now)) }
 {
-    let mut entry_number = Buffer::new();
-    let mut desk = Buffer::new();
-    let mut week = Buffer::new();
-    let mut quantity = Buffer::new();
-    let mut booking = Buffer::new();
-    let mut value = Buffer::new();
-    let called = Called::of(tables, &entry.call);
-    let replied = Replied::of(&entry.reply);
-    page.row(&[
-        entry_number.format(number).as_bytes(),
-        desk.format(entry.who).as_bytes(),
-        called.word,
-        called.item,
-        number_cell(&mut week, called.week),
-        number_cell(&mut quantity, called.quantity),
-        number_cell(&mut booking, called.number),
-        replied.word,
-        number_cell(&mut value, replied.value),
-    ])
+    page.line(&EntryLine {
+        number: number as u64,
+        desk: entry.who,
+        called: Called::of(names, &entry.call),
+        replied: Replied::of(&entry.reply),
+    })
 }
 
 /// Writes the section `history`: a row for each entry of the order book of an equal shop.
@@ -167,12 +185,12 @@ pub fn write_history<W: Write>(
     ensures refused { result ≡ Err ReportFault.Write → HasGivenUp writer.old writer.new WRITE_TRIES }
     ensures memory { result ≡ Err ReportFault.NoMemory → HasGoneOn writer.old writer.new WRITE_TRIES }
 {
-    let tables = shop.tables();
+    let names = ShopNames::of(alloc, shop.tables())?;
     let mut tries = Tries::new();
     let mut page = Page::new(alloc);
     history_section(&mut page)?;
     for (place, entry) in history.entries().iter().enumerate() {
-        entry_row(&mut page, tables, place + 1, entry)?;
+        entry_row(&mut page, &names, place + 1, entry)?;
         page.pass_on(writer, &mut tries)?;
     }
     page.hand_over(writer, &mut tries)

@@ -6,6 +6,7 @@ ghost use Rattle.mrp_report.specs.ReportText.{item_text};
 
 use crate::page::Page;
 use crate::sheet::Sheet;
+use crate::shop_names::ShopNames;
 use mrp_item::Planned;
 use mrp_qty::NoMemory;
 use mrp_tables::Item;
@@ -19,7 +20,13 @@ pub(crate) fn entry_of(planned: &Planned) -> Item
 }
 
 // Adds an item's rows of the section `plan`.
-pub(crate) fn item_rows(alloc: Global, page: &mut Page, planned: &Planned) -> Result<(), NoMemory>
+pub(crate) fn item_rows(
+    alloc: Global,
+    page: &mut Page,
+    names: &ShopNames<'_>,
+    planned: &Planned,
+) -> Result<(), NoMemory>
+    requires { names.now.tables.now ≡ planned.now.inputs.tables }
     ensures { OnOk result (page.new ≡ page.old ++ item_text planned.now.inputs planned.now.item planned.now.plan) }
 {
     let entry = entry_of(planned);
@@ -33,5 +40,5 @@ pub(crate) fn item_rows(alloc: Global, page: &mut Page, planned: &Planned) -> Re
         received: planned.receipts().as_slice(),
         started: planned.started().as_slice(),
     };
-    sheet.write(page, entry.name.as_bytes())
+    sheet.write(page, names.item(planned.item()))
 }

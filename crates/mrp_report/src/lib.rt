@@ -1,15 +1,18 @@
 //! The texts of a day, section by section: the history of the order book, and the report of a run.
 #![tactic(auto)]
 
-mod cell;
+mod cells;
 mod centre;
+mod csv_name;
 mod fault;
 mod history;
 mod item;
 pub mod laws;
+mod line;
 mod loads;
 mod messages;
 mod minutes;
+mod number;
 mod orders;
 mod page;
 mod pegs;
@@ -17,12 +20,15 @@ mod plan;
 mod promise_item;
 mod promise_sheet;
 mod promises;
+mod put;
+mod quoting;
 mod report;
 mod run;
 mod section;
 mod sheet;
 mod shop_names;
 mod source;
+mod word;
 
 pub use fault::ReportFault;
 pub use history::write_history;

@@ -3,9 +3,13 @@
 ghost use Rattle.std.specs.Prelude.{◌≡◌, ◌++◌, OnOk};
 ghost use Rattle.mrp_report.specs.LoadText.{load_text, loads_head};
 
+use crate::cells::put_cell;
+use crate::csv_name::CsvName;
+use crate::line::Line;
 use crate::minutes::TimeBuffer;
+use crate::number::put_number;
 use crate::page::Page;
-use itoa::Buffer;
+use crate::put::put_byte;
 use mrp_qty::{Milli, NoMemory};
 
 /// What a work centre has to do in a week, and what it can.
@@ -32,21 +36,34 @@ pub(crate) fn loads_section(page: &mut Page) -> Result<(), NoMemory>
     page.section(b"[loads]", &header)
 }
 
+// A week of a work centre with this name.
+#[derive(Clone, Copy)]
+struct LoadLine<'a> {
+    name: &'a CsvName,
+    row: &'a LoadRow,
+}
+
+impl Line for LoadLine<'_> {
+    ghost csv = { λ line. load_text line.name.now line.row.now };
+
+    fn put(&self, text: &mut [u8], at: usize) -> usize {
+        let mut load = TimeBuffer::new();
+        let mut capacity = TimeBuffer::new();
+        let mut over = TimeBuffer::new();
+        let end = self.name.put_first(text, at);
+        let end = put_number(text, end, u64::from(self.row.week));
+        let end = put_cell(text, end, load.format(self.row.load));
+        let end = put_cell(text, end, capacity.format(self.row.capacity));
+        let end = put_cell(text, end, over.format(self.row.over));
+        put_byte(text, end, b'\n')
+    }
+}
+
 /// Adds a week of a work centre, its times in minutes.
 ///
 /// Errors: where a growth of memory was refused.
-pub(crate) fn load_row(page: &mut Page, name: &[u8], row: &LoadRow) -> Result<(), NoMemory>
+pub(crate) fn load_row(page: &mut Page, name: &CsvName, row: &LoadRow) -> Result<(), NoMemory>
     ensures { OnOk result (page.new ≡ page.old ++ load_text name.now row.now) }
 {
-    let mut week = Buffer::new();
-    let mut load = TimeBuffer::new();
-    let mut capacity = TimeBuffer::new();
-    let mut over = TimeBuffer::new();
-    page.row(&[
-        name,
-        week.format(row.week).as_bytes(),
-        load.format(row.load),
-        capacity.format(row.capacity),
-        over.format(row.over),
-    ])
+    page.line(&LoadLine { name, row })
 }

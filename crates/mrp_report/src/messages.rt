@@ -1,13 +1,20 @@
 //! The section `messages`.
 
-ghost use Rattle.std.specs.Prelude.{◌≡◌, ◌++◌, OnOk, flat_map};
+ghost use Rattle.std.specs.Prelude.{◌≡◌, [], ◌∷◌, ◌++◌, OnOk, flat_map};
+ghost use Rattle.mrp_report.specs.Cells.{number_cell};
 ghost use Rattle.mrp_report.specs.MessageText.{advice_value, advice_word, message_text, messages_head};
+ghost use Rattle.mrp_report.specs.Section.{row};
+ghost use Rattle.mrp_report.specs.Which.{which_cell};
+ghost use Rattle.mrp_report.specs.WordText.{word_text};
 
-use crate::cell::number_cell;
+use crate::cells::put_some;
+use crate::csv_name::CsvName;
+use crate::line::Line;
 use crate::page::Page;
+use crate::put::put_byte;
 use crate::shop_names::ShopNames;
-use crate::source::{WhichCell, source_word, which_supply};
-use itoa::Buffer;
+use crate::source::{Which, put_which, source_word, which_supply};
+use crate::word::{Word, put_word};
 use mrp_item::Order;
 use mrp_notes::{Advice, Message};
 use mrp_qty::NoMemory;
@@ -22,15 +29,15 @@ pub(crate) fn messages_section(page: &mut Page) -> Result<(), NoMemory>
 }
 
 // The word for what is said of a supply.
-fn advice_word(advice: &Advice) -> &[u8]
-    ensures { result.now ≡ advice_word advice.now }
+fn advice_word(advice: Advice) -> Word
+    ensures { word_text result ≡ advice_word advice }
 {
     match advice {
-        Advice::Release => b"RELEASE",
-        Advice::PastDue(_) => b"PAST-DUE",
-        Advice::Earlier(_) => b"IN",
-        Advice::Later(_) => b"OUT",
-        Advice::Cancel => b"CANCEL",
+        Advice::Release => Word::Release,
+        Advice::PastDue(_) => Word::PastDue,
+        Advice::Earlier(_) => Word::In,
+        Advice::Later(_) => Word::Out,
+        Advice::Cancel => Word::Cancel,
     }
 }
 
@@ -46,33 +53,53 @@ fn advice_value(advice: Advice) -> Option<u64>
     }
 }
 
+// A message about a supply of an item with this name.
+#[derive(Clone, Copy)]
+struct MessageLine<'a> {
+    name: &'a CsvName,
+    supply: Word,
+    which: Which,
+    advice: Word,
+    value: Option<u64>,
+}
+
+impl Line for MessageLine<'_> {
+    ghost csv = { λ line. row (line.name.now ∷ word_text line.supply ∷ which_cell line.which ∷ word_text line.advice ∷ number_cell line.value ∷ []) };
+
+    fn put(&self, text: &mut [u8], at: usize) -> usize {
+        let end = self.name.put_first(text, at);
+        let end = put_word(text, end, self.supply);
+        let end = put_which(text, end, self.which);
+        let end = put_word(text, end, self.advice);
+        let end = put_some(text, end, self.value);
+        put_byte(text, end, b'\n')
+    }
+}
+
 // Adds a message about a supply of an item.
 fn message_row(
     page: &mut Page,
     names: &ShopNames<'_>,
-    name: &[u8],
+    name: &CsvName,
     orders: &[Order],
     message: &Message,
 ) -> Result<(), NoMemory>
     ensures { OnOk result (page.new ≡ page.old ++ message_text names.now.tables.now name.now orders.now message.now) }
 {
-    let mut value = Buffer::new();
-    let supply = message.supply;
-    let mut which = WhichCell::new(which_supply(supply, names));
-    page.row(&[
+    page.line(&MessageLine {
         name,
-        source_word(&supply, orders),
-        which.text(),
-        advice_word(&message.advice),
-        number_cell(&mut value, advice_value(message.advice)),
-    ])
+        supply: source_word(message.supply, orders),
+        which: which_supply(message.supply, names),
+        advice: advice_word(message.advice),
+        value: advice_value(message.advice),
+    })
 }
 
 // Adds an item's messages.
 pub(crate) fn message_rows(
     page: &mut Page,
     names: &ShopNames<'_>,
-    name: &[u8],
+    name: &CsvName,
     orders: &[Order],
     messages: &[Message],
 ) -> Result<(), NoMemory>

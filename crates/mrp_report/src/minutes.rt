@@ -1,6 +1,6 @@
 //! Times as texts, without memory.
 
-ghost use Rattle.std.specs.Prelude.{◌≡◌, ◌<◌, ◌∷◌, [], ◌/◌, ◌%◌};
+ghost use Rattle.std.specs.Prelude.{◌≡◌, ◌<◌, ◌≤◌, ◌∷◌, [], ◌/◌, ◌%◌, length};
 ghost use Rattle.mrp_qty.specs.Minutes.{digit_of, minutes_text_of};
 
 use itoa::Buffer;
@@ -47,7 +47,8 @@ impl TimeBuffer {
 
     /// A time in minutes with three decimals, as `minutes_text` writes it.
     pub(crate) fn format(&mut self, time: Milli) -> &[u8]
-        ensures { result.now ≡ minutes_text_of time }
+        ensures text { result.now ≡ minutes_text_of time }
+        ensures short { length result.now ≤ 44 }
     {
         let thousandths = time.value();
         let mut whole = Buffer::new();

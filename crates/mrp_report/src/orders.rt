@@ -3,9 +3,14 @@
 ghost use Rattle.std.specs.Prelude.{◌≡◌, ◌++◌, OnOk, flat_map};
 ghost use Rattle.std.specs.List.{enumerate_from};
 ghost use Rattle.mrp_report.specs.OrderText.{kind_word, order_text, orders_head};
+ghost use Rattle.mrp_report.specs.WordText.{word_text};
 
+use crate::csv_name::CsvName;
+use crate::line::Line;
+use crate::number::put_number;
 use crate::page::Page;
-use itoa::Buffer;
+use crate::put::put_byte;
+use crate::word::{Word, put_word};
 use mrp_item::{Order, OrderKind};
 use mrp_qty::NoMemory;
 
@@ -28,39 +33,53 @@ pub(crate) fn orders_section(page: &mut Page) -> Result<(), NoMemory>
 }
 
 // The word for who made an order.
-pub(crate) fn kind_word<'a>(kind: OrderKind) -> &'a [u8]
-    ensures { result.now ≡ kind_word kind }
+pub(crate) fn kind_word(kind: OrderKind) -> Word
+    ensures { word_text result ≡ kind_word kind }
 {
     match kind {
-        OrderKind::Firm => b"firm",
-        OrderKind::Planned => b"planned",
+        OrderKind::Firm => Word::Firm,
+        OrderKind::Planned => Word::Planned,
+    }
+}
+
+// An order of an item with this name, and the order's number.
+#[derive(Clone, Copy)]
+struct OrderLine<'a> {
+    name: &'a CsvName,
+    number: usize,
+    order: &'a Order,
+}
+
+impl Line for OrderLine<'_> {
+    ghost csv = { λ line. order_text line.name.now (line.number, line.order.now) };
+
+    #[inline(always)]
+    fn put(&self, text: &mut [u8], at: usize) -> usize {
+        let end = self.name.put_first(text, at);
+        let end = put_number(text, end, self.number as u64);
+        let end = put_word(text, end, kind_word(self.order.kind));
+        let end = put_number(text, end, u64::from(self.order.due));
+        let end = put_number(text, end, self.order.quantity.value());
+        let end = put_number(text, end, self.order.start.value());
+        let end = put_number(text, end, u64::from(self.order.release));
+        let end = put_number(text, end, u64::from(self.order.late));
+        put_byte(text, end, b'\n')
     }
 }
 
 // Adds an order of an item.
-fn order_row(page: &mut Page, name: &[u8], number: usize, order: &Order) -> Result<(), NoMemory>
+fn order_row(page: &mut Page, name: &CsvName, number: usize, order: &Order) -> Result<(), NoMemory>
     ensures { OnOk result (page.new ≡ page.old ++ order_text name.now (number, order.now)) }
 {
-    let mut order_number = Buffer::new();
-    let mut due = Buffer::new();
-    let mut quantity = Buffer::new();
-    let mut start = Buffer::new();
-    let mut release = Buffer::new();
-    let mut late = Buffer::new();
-    page.row(&[
+    page.line(&OrderLine {
         name,
-        order_number.format(number).as_bytes(),
-        kind_word(order.kind),
-        due.format(order.due).as_bytes(),
-        quantity.format(order.quantity.value()).as_bytes(),
-        start.format(order.start.value()).as_bytes(),
-        release.format(order.release).as_bytes(),
-        late.format(order.late).as_bytes(),
-    ])
+        number,
+        order,
+    })
 }
 
 // Adds an item's orders, numbered from 1.
-pub(crate) fn order_rows(page: &mut Page, name: &[u8], orders: &[Order]) -> Result<(), NoMemory>
+pub(crate) fn order_rows(page: &mut Page, name: &CsvName, orders: &[Order]) -> Result<(), NoMemory>
     ensures { OnOk result (page.new ≡ page.old ++ flat_map (order_text name.now) (enumerate_from 1 orders.now)) }
 {
     for (place, order) in orders.iter().enumerate() {

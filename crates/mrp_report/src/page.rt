@@ -1,49 +1,67 @@
 //! Rows of csv text in memory.
 
-ghost use Rattle.std.specs.Prelude.{◌≡◌, ◌≤◌, ◌-◌, [], ◌∷◌, ◌++◌, codes, Err, OnOk, OnErr, IfOk, map};
+ghost use Rattle.std.specs.Prelude.{◌≡◌, ◌+◌, ◌≤◌, ◌-◌, [], ◌∷◌, ◌++◌, Err, OnOk, OnErr, length, map, take, vec_len};
+ghost use Rattle.csv.specs.Writing.{default_writer, escaped, quoted};
+ghost use Rattle.mrp_report.specs.CsvCells.{cell_text, next_cell};
 ghost use Rattle.mrp_report.specs.Section.{row, section_head};
-ghost use Rattle.mrp_report.specs.PageWriter.{IsFresh};
 ghost use Rattle.mrp_report.specs.Written.{HasTaken, HasTakenFront, HasGivenUp, HasGoneOn, PassesOn};
 
 use crate::fault::ReportFault;
-use csv::{Writer, WriterBuilder};
+use crate::line::Line;
+use crate::quoting::is_quoted_text;
 use mrp_qty::NoMemory;
 use mrp_rows::{Told, Tries, write_text};
-use std::alloc::Global;
+use std::alloc::{AllocError, Global};
 use std::io::Write;
 use std::marker::Model;
-use std::mem;
 
 // How many bytes a page may hold before it is handed to the writer.
 const FULL: usize = 65_536;
 
+// No line is longer.
+const ROOM: usize = 512;
+
 /// Rows of csv text, one after the other, seen as that text.
 ///
-/// A page is put together in memory that is used again once its text was handed over.
+/// A page is put together in memory that is used again once its text was handed over: what stands
+/// behind its end is no part of the text.
 #[derive(Drop)]
 pub(crate) struct Page {
-    alloc: Global,
-    writer: Writer<Vec<u8>>,
-    failed: bool,
-}
-
-// A writer of rows of any lengths behind a text.
-fn rows_into(text: Vec<u8>) -> Writer<Vec<u8>>
-    ensures { IsFresh result text }
-{
-    WriterBuilder::new().flexible(true).from_writer(text)
+    bytes: Vec<u8>,
+    end: usize,
 }
 
 impl Model for Page {
-    ghost use Rattle.std.specs.Prelude.{List, ℕ};
+    ghost use Rattle.std.specs.Prelude.{List, ℕ, ◌≤◌, take, vec_len};
 
     ghost Value = { List ℕ };
 
-    ghost use Rattle.mrp_report.specs.PageView.{page_text, IsUsable};
+    ghost view = { λ p. take p.end p.bytes.items };
 
-    ghost view = { page_text };
+    ghost invariant = { λ p. p.end ≤ vec_len p.bytes };
+}
 
-    ghost invariant = { IsUsable };
+// Makes room for a line behind the end.
+#[inline(always)]
+fn make_room(bytes: &mut Vec<u8>, end: usize) -> Result<(), AllocError>
+    requires { end ≤ vec_len bytes.old }
+    ensures same { take end bytes.new.items ≡ take end bytes.old.items }
+    ensures within { end ≤ vec_len bytes.new }
+    ensures room { OnOk result (end + 512 ≤ vec_len bytes.new) }
+{
+    if bytes.len() - end < ROOM {
+        grow(bytes)?;
+    }
+    Ok(())
+}
+
+#[inline(never)]
+fn grow(bytes: &mut Vec<u8>) -> Result<(), AllocError>
+    ensures same { take (vec_len bytes.old) bytes.new.items ≡ bytes.old.items }
+    ensures within { vec_len bytes.old ≤ vec_len bytes.new }
+    ensures room { OnOk result (vec_len bytes.new ≡ vec_len bytes.old + 512) }
+{
+    bytes.extend_from_slice(&[0; ROOM])
 }
 
 impl Page {
@@ -52,72 +70,122 @@ impl Page {
         ensures { result ≡ [] }
     {
         Page {
-            alloc,
-            writer: rows_into(Vec::new(alloc)),
-            failed: false,
+            bytes: Vec::new(alloc),
+            end: 0,
         }
     }
 
-    /// Adds a row of cells. After a refusal every call refuses.
+    // Adds a text.
+    fn add(&mut self, text: &[u8]) -> Result<(), NoMemory>
+        ensures { OnOk result (self.new ≡ self.old ++ text.now) }
+    {
+        self.bytes.truncate(self.end);
+        self.bytes.extend_from_slice(text)?;
+        self.end = self.bytes.len();
+        Ok(())
+    }
+
+    // Adds a byte that stands between quotes.
+    fn add_escaped(&mut self, byte: u8) -> Result<(), NoMemory>
+        ensures { OnOk result (self.new ≡ self.old ++ escaped default_writer (byte ∷ [])) }
+    {
+        if byte == b'"' {
+            self.add(&[byte, byte])
+        } else {
+            self.add(&[byte])
+        }
+    }
+
+    // Adds a text between quotes.
+    fn add_quoted(&mut self, cell: &[u8]) -> Result<(), NoMemory>
+        ensures { OnOk result (self.new ≡ self.old ++ quoted default_writer cell.now) }
+    {
+        self.add(b"\"")?;
+        for byte in cell {
+            self.add_escaped(*byte)?;
+        }
+        self.add(b"\"")
+    }
+
+    // Adds the first cell of a row.
+    fn add_cell(&mut self, cell: &[u8]) -> Result<(), NoMemory>
+        ensures { OnOk result (self.new ≡ self.old ++ cell_text cell.now) }
+    {
+        if is_quoted_text(cell) {
+            self.add_quoted(cell)
+        } else {
+            self.add(cell)
+        }
+    }
+
+    // Adds a cell behind others.
+    fn add_next(&mut self, cell: &[u8]) -> Result<(), NoMemory>
+        ensures { OnOk result (self.new ≡ self.old ++ next_cell cell.now) }
+    {
+        self.add(b",")?;
+        self.add_cell(cell)
+    }
+
+    /// Adds a line.
+    ///
+    /// Errors: where a growth of memory was refused. The page is unchanged then.
+    pub(crate) fn line<L: Line>(&mut self, line: &L) -> Result<(), NoMemory>
+        ensures { OnOk result (self.new ≡ self.old ++ L.csv line.now) }
+    {
+        make_room(&mut self.bytes, self.end)?;
+        self.end = line.put(self.bytes.as_mut_slice(), self.end);
+        Ok(())
+    }
+
+    /// Adds a row of cells, two at least: a row of one empty cell would be written another way.
     ///
     /// Errors: where a growth of memory was refused.
-    #[tactic(auto, using(crate::proofs::PageRows::row_text_same))]
     pub(crate) fn row(&mut self, cells: &[&[u8]]) -> Result<(), NoMemory>
+        requires { 2 ≤ length cells.now }
         ensures { OnOk result (self.new ≡ self.old ++ row (map (λ cell. cell.now) cells.now)) }
     {
-        if self.failed {
-            return Err(NoMemory);
+        self.add_cell(cells[0])?;
+        for place in 1..cells.len() {
+            self.add_next(cells[place])?;
         }
-        if self.writer.write_fields(cells).is_err() {
-            self.failed = true;
-            return Err(NoMemory);
-        }
-        Ok(())
+        self.add(b"\n")
     }
 
     // Adds what a section begins with: its line and its header.
     #[tactic(auto, unfolding(crate::specs::Section::section_head))]
     pub(crate) fn section(&mut self, line: &[u8], header: &[&[u8]]) -> Result<(), NoMemory>
-        requires plain { row (line.now ∷ []) ≡ line.now ++ codes "\n" }
+        requires { 2 ≤ length header.now }
         ensures { OnOk result (self.new ≡ self.old ++ section_head line.now (map (λ cell. cell.now) header.now)) }
     {
-        self.row(&[line])?;
+        self.add(line)?;
+        self.add(b"\n")?;
         self.row(header)
     }
 
     /// Whether so much text stands on the page that it is worth a call of the writer. It may be
     /// handed over at any time.
     pub(crate) fn is_full(&self) -> bool {
-        self.writer.get_ref().len() >= FULL
+        self.end >= FULL
     }
 
-    // The text, where every row went through.
-    fn text(&mut self) -> Result<&[u8], NoMemory>
-        ensures { IfOk result (λ text. text.now ≡ self.old) }
+    // The text.
+    fn text(&self) -> &[u8]
+        ensures { result.now ≡ self.now }
     {
-        if self.failed || self.writer.flush().is_err() {
-            self.failed = true;
-            return Err(NoMemory);
-        }
-        Ok(self.writer.get_ref().as_slice())
+        &self.bytes[..self.end]
     }
 
     // Takes the text away. The page goes on in its memory.
     fn clear(&mut self)
         ensures { self.new ≡ [] }
     {
-        let rows = mem::replace(&mut self.writer, rows_into(Vec::new(self.alloc)));
-        if let Ok(mut text) = rows.into_inner() {
-            text.clear();
-            self.writer = rows_into(text);
-        }
+        self.end = 0;
     }
 
     /// Writes the text, and goes on with an empty page in its memory.
     ///
-    /// Errors: `Write` where a write failed in this call, or was interrupted with no try left, and
-    /// `NoMemory` where a growth of memory was refused, here or before, and no write failed. A front
-    /// of the text was written then.
+    /// Errors: `Write` where a write failed in this call, or was interrupted with no try left. A
+    /// front of the text was written then.
     pub(crate) fn hand_over<W: Write>(
         &mut self,
         writer: &mut Told<W>,
@@ -130,7 +198,7 @@ impl Page {
         ensures refused { result ≡ Err ReportFault.Write → HasGivenUp writer.old writer.new tries.old }
         ensures memory { result ≡ Err ReportFault.NoMemory → HasGoneOn writer.old writer.new tries.old }
     {
-        write_text(writer, self.text()?, tries)?;
+        write_text(writer, self.text(), tries)?;
         self.clear();
         Ok(())
     }

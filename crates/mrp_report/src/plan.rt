@@ -3,8 +3,11 @@
 ghost use Rattle.std.specs.Prelude.{◌≡◌, ◌++◌, OnOk};
 ghost use Rattle.mrp_report.specs.PlanText.{plan_head, week_text};
 
+use crate::csv_name::CsvName;
+use crate::line::Line;
+use crate::number::put_number;
 use crate::page::Page;
-use itoa::Buffer;
+use crate::put::put_byte;
 use mrp_qty::NoMemory;
 
 /// What an item's plan says of a week, in pieces.
@@ -39,27 +42,35 @@ pub(crate) fn plan_section(page: &mut Page) -> Result<(), NoMemory>
     page.section(b"[plan]", &header)
 }
 
+// A week of an item with this name.
+#[derive(Clone, Copy)]
+struct WeekLine<'a> {
+    name: &'a CsvName,
+    row: &'a PlanRow,
+}
+
+impl Line for WeekLine<'_> {
+    ghost csv = { λ line. week_text line.name.now line.row.now };
+
+    #[inline(always)]
+    fn put(&self, text: &mut [u8], at: usize) -> usize {
+        let end = self.name.put_first(text, at);
+        let end = put_number(text, end, u64::from(self.row.week));
+        let end = put_number(text, end, self.row.gross);
+        let end = put_number(text, end, self.row.receipts);
+        let end = put_number(text, end, self.row.firm);
+        let end = put_number(text, end, self.row.planned);
+        let end = put_number(text, end, self.row.start);
+        let end = put_number(text, end, self.row.balance);
+        put_byte(text, end, b'\n')
+    }
+}
+
 /// Adds a week of an item.
 ///
 /// Errors: where a growth of memory was refused.
-pub(crate) fn week_row(page: &mut Page, name: &[u8], row: &PlanRow) -> Result<(), NoMemory>
+pub(crate) fn week_row(page: &mut Page, name: &CsvName, row: &PlanRow) -> Result<(), NoMemory>
     ensures { OnOk result (page.new ≡ page.old ++ week_text name.now row.now) }
 {
-    let mut week = Buffer::new();
-    let mut gross = Buffer::new();
-    let mut receipts = Buffer::new();
-    let mut firm = Buffer::new();
-    let mut planned = Buffer::new();
-    let mut start = Buffer::new();
-    let mut balance = Buffer::new();
-    page.row(&[
-        name,
-        week.format(row.week).as_bytes(),
-        gross.format(row.gross).as_bytes(),
-        receipts.format(row.receipts).as_bytes(),
-        firm.format(row.firm).as_bytes(),
-        planned.format(row.planned).as_bytes(),
-        start.format(row.start).as_bytes(),
-        balance.format(row.balance).as_bytes(),
-    ])
+    page.line(&WeekLine { name, row })
 }

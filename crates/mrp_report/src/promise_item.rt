@@ -10,6 +10,7 @@ ghost use Rattle.mrp_report.specs.ReportText.{promised_text};
 use crate::item::entry_of;
 use crate::page::Page;
 use crate::promise_sheet::PromiseSheet;
+use crate::shop_names::ShopNames;
 use mrp_item::{Inputs, Planned};
 use mrp_master::{AtpRow, Supply};
 use mrp_qty::NoMemory;
@@ -41,10 +42,12 @@ fn promises_of(
 pub(crate) fn item_promises(
     alloc: Global,
     page: &mut Page,
+    names: &ShopNames<'_>,
     supply: &Supply,
     planned: &Planned,
 ) -> Result<(), NoMemory>
-    requires { supply.now ≡ supply_of planned.now.inputs.tables }
+    requires names { names.now.tables.now ≡ planned.now.inputs.tables }
+    requires supply { supply.now ≡ supply_of planned.now.inputs.tables }
     ensures { OnOk result (page.new ≡ page.old ++ promised_text planned.now.inputs planned.now.item) }
 {
     let entry = entry_of(planned);
@@ -59,5 +62,5 @@ pub(crate) fn item_promises(
         firm: stock.scheduled.as_slice(),
         row: &row,
     };
-    sheet.write(page, entry.name.as_bytes())
+    sheet.write(page, names.item(planned.item()))
 }

@@ -5,6 +5,7 @@ ghost use Rattle.mrp_phase.specs.Weeks.{row};
 ghost use Rattle.mrp_report.specs.PromiseText.{promise_text};
 ghost use Rattle.mrp_report.specs.PromiseSheet.{IsLeftTo, IsPromiseSheet, sheet_promise};
 
+use crate::csv_name::CsvName;
 use crate::page::Page;
 use crate::promises::{PromiseRow, promise_row};
 use mrp_master::AtpRow;
@@ -39,7 +40,7 @@ impl PromiseSheet<'_> {
     }
 
     // Adds the item's rows of the section `promises`.
-    pub(crate) fn write(&self, page: &mut Page, name: &[u8]) -> Result<(), NoMemory>
+    pub(crate) fn write(&self, page: &mut Page, name: &CsvName) -> Result<(), NoMemory>
         requires { IsPromiseSheet self.now }
         ensures { OnOk result (page.new ≡ page.old ++ flat_map (promise_text name.now) (row self.now.weeks (sheet_promise self.now))) }
     {

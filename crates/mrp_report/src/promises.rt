@@ -3,8 +3,11 @@
 ghost use Rattle.std.specs.Prelude.{◌≡◌, ◌++◌, OnOk};
 ghost use Rattle.mrp_report.specs.PromiseText.{promises_head, promise_text};
 
+use crate::csv_name::CsvName;
+use crate::line::Line;
+use crate::number::put_number;
 use crate::page::Page;
-use itoa::Buffer;
+use crate::put::put_byte;
 use mrp_qty::NoMemory;
 
 /// What can be promised of an item in a week, in pieces.
@@ -40,23 +43,33 @@ pub(crate) fn promises_section(page: &mut Page) -> Result<(), NoMemory>
     page.section(b"[promises]", &header)
 }
 
+// What can be promised in a week of an item with this name.
+#[derive(Clone, Copy)]
+struct PromiseLine<'a> {
+    name: &'a CsvName,
+    row: &'a PromiseRow,
+}
+
+impl Line for PromiseLine<'_> {
+    ghost csv = { λ line. promise_text line.name.now line.row.now };
+
+    #[inline(always)]
+    fn put(&self, text: &mut [u8], at: usize) -> usize {
+        let end = self.name.put_first(text, at);
+        let end = put_number(text, end, u64::from(self.row.week));
+        let end = put_number(text, end, self.row.firm);
+        let end = put_number(text, end, self.row.booked);
+        let end = put_number(text, end, self.row.bucket);
+        let end = put_number(text, end, self.row.available);
+        put_byte(text, end, b'\n')
+    }
+}
+
 /// Adds a week of an item.
 ///
 /// Errors: where a growth of memory was refused.
-pub(crate) fn promise_row(page: &mut Page, name: &[u8], row: &PromiseRow) -> Result<(), NoMemory>
+pub(crate) fn promise_row(page: &mut Page, name: &CsvName, row: &PromiseRow) -> Result<(), NoMemory>
     ensures { OnOk result (page.new ≡ page.old ++ promise_text name.now row.now) }
 {
-    let mut week = Buffer::new();
-    let mut firm = Buffer::new();
-    let mut booked = Buffer::new();
-    let mut bucket = Buffer::new();
-    let mut available = Buffer::new();
-    page.row(&[
-        name,
-        week.format(row.week).as_bytes(),
-        firm.format(row.firm).as_bytes(),
-        booked.format(row.booked).as_bytes(),
-        bucket.format(row.bucket).as_bytes(),
-        available.format(row.available).as_bytes(),
-    ])
+    page.line(&PromiseLine { name, row })
 }

@@ -8,7 +8,7 @@ ghost use Rattle.mrp_item.specs.Plan.{outcome_of, plan_in};
 ghost use Rattle.mrp_report.specs.Sections.{count_in, head_of, rows_of};
 
 use crate::centre::centre_rows;
-use crate::item::{entry_of, item_rows};
+use crate::item::item_rows;
 use crate::loads::loads_section;
 use crate::messages::{message_rows, messages_section};
 use crate::orders::{order_rows, orders_section};
@@ -77,11 +77,11 @@ impl<'a> Readings<'a> {
 }
 
 // Adds an item's rows of the section `orders`.
-fn ordered_rows(page: &mut Page, planned: &Planned) -> Result<(), NoMemory>
+fn ordered_rows(page: &mut Page, names: &ShopNames<'_>, planned: &Planned) -> Result<(), NoMemory>
+    requires { names.now.tables.now ≡ planned.now.inputs.tables }
     ensures { OnOk result (page.new ≡ page.old ++ ordered_text planned.now.inputs planned.now.item planned.now.plan) }
 {
-    let entry = entry_of(planned);
-    order_rows(page, entry.name.as_bytes(), planned.orders())
+    order_rows(page, names.item(planned.item()), planned.orders())
 }
 
 // Adds an item's rows of the section `pegs`.
@@ -97,12 +97,11 @@ fn pegged_rows(
     ensures { OnOk result (page.new ≡ page.old ++ pegged_text plan.now.inputs item (plan_in (outcome_of plan.now.inputs item))) }
 {
     let planned = plan.item(item);
-    let entry = entry_of(planned);
     let pegs = item_pegs(alloc, plan, item)?;
     peg_rows(
         page,
         names,
-        entry.name.as_bytes(),
+        names.item(item),
         planned.orders(),
         pegs.as_slice(),
     )
@@ -118,12 +117,11 @@ fn told_rows(
     requires { names.now.tables.now ≡ planned.now.inputs.tables }
     ensures { OnOk result (page.new ≡ page.old ++ told_text planned.now.inputs planned.now.item planned.now.plan) }
 {
-    let entry = entry_of(planned);
     let messages = item_messages(alloc, planned)?;
     message_rows(
         page,
         names,
-        entry.name.as_bytes(),
+        names.item(planned.item()),
         planned.orders(),
         messages.as_slice(),
     )
@@ -170,12 +168,15 @@ impl Section {
         requires within { place < count_in plan.now.inputs self }
         ensures { OnOk result (page.new ≡ page.old ++ rows_of plan.now.inputs self place) }
     {
+        let names = &readings.names;
         match self {
-            Section::Promises => item_promises(alloc, page, readings.supply, plan.item(place)),
-            Section::Plan => item_rows(alloc, page, plan.item(place)),
-            Section::Orders => ordered_rows(page, plan.item(place)),
-            Section::Pegs => pegged_rows(alloc, page, plan, &readings.names, place),
-            Section::Messages => told_rows(alloc, page, &readings.names, plan.item(place)),
+            Section::Promises => {
+                item_promises(alloc, page, names, readings.supply, plan.item(place))
+            }
+            Section::Plan => item_rows(alloc, page, names, plan.item(place)),
+            Section::Orders => ordered_rows(page, names, plan.item(place)),
+            Section::Pegs => pegged_rows(alloc, page, plan, names, place),
+            Section::Messages => told_rows(alloc, page, names, plan.item(place)),
             Section::Loads => centre_rows(page, plan, &readings.loads, place),
         }
     }

@@ -5,6 +5,7 @@ ghost use Rattle.mrp_phase.specs.Weeks.{row};
 ghost use Rattle.mrp_report.specs.PlanText.{week_text};
 ghost use Rattle.mrp_report.specs.Sheet.{AreSums, IsSheet, sheet_row};
 
+use crate::csv_name::CsvName;
 use crate::page::Page;
 use crate::plan::{PlanRow, week_row};
 use mrp_qty::{NoMemory, Qty};
@@ -67,7 +68,7 @@ impl Sheet<'_> {
     }
 
     // Adds the item's rows of the section `plan`.
-    pub(crate) fn write(&self, page: &mut Page, name: &[u8]) -> Result<(), NoMemory>
+    pub(crate) fn write(&self, page: &mut Page, name: &CsvName) -> Result<(), NoMemory>
         requires { IsSheet self.now }
         ensures { OnOk result (page.new ≡ page.old ++ flat_map (week_text name.now) (row self.now.weeks (sheet_row self.now))) }
     {

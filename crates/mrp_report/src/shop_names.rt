@@ -1,18 +1,25 @@
-//! What a shop's tables call open receipts and parents.
+//! What a shop's tables call items, open receipts and parents.
 
-ghost use Rattle.std.specs.Prelude.{◌≡◌, ◌<◌, ℕ, All, IfOk};
+ghost use Rattle.std.specs.Prelude.{◌≡◌, ◌<◌, ℕ, [], All, IfOk, map};
+ghost use Rattle.mrp_report.specs.Cells.{name_at, parent_name};
 ghost use Rattle.mrp_report.specs.ReceiptNames.{AreNamesOf, order_of};
 
+use crate::csv_name::CsvName;
 use mrp_qty::NoMemory;
 use mrp_rows::Name;
-use mrp_tables::{Receipt, Tables};
+use mrp_tables::{Item, Receipt, Tables};
 use std::alloc::Global;
 
-// A shop's tables, with the names of the open receipts' orders by the numbers of their records.
+// A shop's tables, with the items' names as cells, and the names of the open receipts' orders by
+// the numbers of their records.
 #[derive(Drop)]
 pub(crate) struct ShopNames<'a> {
     pub tables: &'a Tables,
+    items: Vec<CsvName>,
+    no_name: CsvName,
     receipts: Vec<Option<Name>>,
+    ghost named: { items.items ≡ map (λ item. item.name) tables.now.items },
+    ghost empty: { no_name ≡ [] },
     ghost known: { AreNamesOf receipts.items tables.now.receipts },
 }
 
@@ -41,12 +48,55 @@ fn receipt_names(alloc: Global, receipts: &[Receipt]) -> Result<Vec<Option<Name>
     Ok(names)
 }
 
+// The items' names.
+fn item_names(alloc: Global, items: &[Item]) -> Result<Vec<CsvName>, NoMemory>
+    ensures { IfOk result (λ names. names.items ≡ map (λ item. item.name) items.now) }
+{
+    let mut names = Vec::with_capacity(alloc, items.len())?;
+    for item in items {
+        names.push(CsvName::of(&item.name))?;
+    }
+    Ok(names)
+}
+
 impl<'a> ShopNames<'a> {
     pub(crate) fn of(alloc: Global, tables: &'a Tables) -> Result<ShopNames<'a>, NoMemory>
         ensures { IfOk result (λ names. names.tables.now ≡ tables.now) }
     {
-        let receipts = receipt_names(alloc, tables.receipts())?;
-        Ok(ShopNames { tables, receipts })
+        Ok(ShopNames {
+            tables,
+            items: item_names(alloc, tables.items())?,
+            no_name: CsvName::new(b""),
+            receipts: receipt_names(alloc, tables.receipts())?,
+        })
+    }
+
+    // The name of the item at a place; no name where there is none.
+    pub(crate) fn item(&self, item: usize) -> &CsvName
+        ensures { result.now ≡ name_at self.now.tables.now item }
+    {
+        match self.items.get(item) {
+            Some(name) => name,
+            None => &self.no_name,
+        }
+    }
+
+    // The name of the parent of a bill line, by the line's number from 1; no name where there is
+    // none.
+    pub(crate) fn parent(&self, line: usize) -> &CsvName
+        ensures { result.now ≡ parent_name self.now.tables.now line }
+    {
+        match self.tables.bills().get(line.saturating_sub(1)) {
+            Some(line) => self.item(line.parent),
+            None => &self.no_name,
+        }
+    }
+
+    // The empty cell in place of a name.
+    pub(crate) fn no_name(&self) -> &CsvName
+        ensures { result.now ≡ [] }
+    {
+        &self.no_name
     }
 
     // The name of the order of an open receipt, by the number of its record.

@@ -1,25 +1,31 @@
 //! The cells that tell which supply a row speaks of.
 
-ghost use Rattle.std.specs.Prelude.{◌≡◌};
+ghost use Rattle.std.specs.Prelude.{◌≡◌, ◌+◌, ◌≤◌, length};
+ghost use Rattle.mrp_report.specs.CsvCells.{next_cell};
+ghost use Rattle.mrp_report.specs.Put.{IsPut};
 ghost use Rattle.mrp_report.specs.SourceText.{source_name, source_word};
 ghost use Rattle.mrp_report.specs.Which.{which_cell};
+ghost use Rattle.mrp_report.specs.WordText.{word_text};
 
+use crate::cells::put_none;
+use crate::csv_name::CsvName;
+use crate::number::put_number;
 use crate::orders::kind_word;
 use crate::shop_names::ShopNames;
-use itoa::Buffer;
+use crate::word::Word;
 use mrp_item::{Order, Supplied};
 use mrp_rows::Name;
 
 // The word for a supply of an item with these orders.
-pub(crate) fn source_word<'a>(supply: &'a Supplied, orders: &[Order]) -> &'a [u8]
-    ensures { result.now ≡ source_word orders.now supply.now }
+pub(crate) fn source_word(supply: Supplied, orders: &[Order]) -> Word
+    ensures { word_text result ≡ source_word orders.now supply }
 {
     match supply {
-        Supplied::Stock => b"stock",
-        Supplied::Receipt(_) => b"open",
+        Supplied::Stock => Word::Stock,
+        Supplied::Receipt(_) => Word::Open,
         Supplied::Order(number) => match orders.get(number.saturating_sub(1)) {
             Some(order) => kind_word(order.kind),
-            None => b"",
+            None => Word::Nothing,
         },
     }
 }
@@ -46,30 +52,16 @@ pub(crate) enum Which {
     Number(usize),
 }
 
-// The cell that tells which supply a row speaks of, with room for its text.
-#[derive(Drop)]
-pub(crate) struct WhichCell {
-    which: Which,
-    room: Buffer,
-}
-
-impl WhichCell {
-    pub(crate) fn new(which: Which) -> WhichCell
-        ensures { result.which ≡ which }
-    {
-        WhichCell {
-            which,
-            room: Buffer::new(),
-        }
-    }
-
-    pub(crate) fn text(&mut self) -> &[u8]
-        ensures { result.now ≡ which_cell self.old.which }
-    {
-        match &self.which {
-            Which::Nothing => b"",
-            Which::Name(name) => name.as_bytes(),
-            Which::Number(number) => self.room.format(*number).as_bytes(),
-        }
+// Puts the cell that tells which supply a row speaks of, with the comma before it.
+#[inline(always)]
+pub(crate) fn put_which(text: &mut [u8], at: usize, which: Which) -> usize
+    requires { at + 67 ≤ length text.old }
+    ensures put { IsPut text.old text.new at (next_cell (which_cell which)) result }
+    ensures near { result ≤ at + 67 }
+{
+    match which {
+        Which::Nothing => put_none(text, at),
+        Which::Name(name) => CsvName::of(&name).put_next(text, at),
+        Which::Number(number) => put_number(text, at, number as u64),
     }
 }

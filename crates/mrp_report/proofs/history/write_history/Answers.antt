@@ -1,4 +1,4 @@
-use Rattle.std.proofs.Common.{◌≡◌, ◌∙◌, ◌+◌, ◌++◌, ℕ, List, [], ap, sym, subst, arith, rules, length}
+use Rattle.std.proofs.Common.{◌≡◌, ◌∙◌, ◌+◌, ◌++◌, ℕ, List, [], ap, sym, subst, refl, arith, rules, length}
 use Rattle.std.proofs.lemmas.List.{append-nil}
 use Rattle.mrp_turn.specs.declared.log.Entry.{Entry}
 use Rattle.mrp_book.specs.declared.call.Call.{Call}
@@ -17,6 +17,12 @@ loop-place-init g c =
     let head : c.history_section.new.page ≡ history_head = c.in_ok-history_section.ensures ∙ ap (λ (page : List ℕ). page ++ history_head) c.new-page.ensures in
     written-none g.W.Write.contents c.args.writer.now 1000000 c.new-tries.result c.history_section.new.page (so_far t h 0) c.new-tries.ensures (head ∙ so_far-none t h)
 
+pub returns-in_err-names-clause-front : goal.returns-in_err-names-clause-front
+returns-in_err-names-clause-front g c =
+    let text : List ℕ = history_text c.args.shop.now.tables c.args.history.now.entries in
+    on-err c.from_residual.result
+    (front-now g.W.Write.contents c.args.writer.now c.args.writer.now 1000000 1000000 [] [] text text (written-none g.W.Write.contents c.args.writer.now 1000000 1000000 [] [] refl refl) refl)
+
 pub returns-in_err-entry_row-clause-front : goal.returns-in_err-entry_row-clause-front
 returns-in_err-entry_row-clause-front g c =
     let t = c.args.shop.now.tables in
@@ -29,9 +35,9 @@ returns-in_err-entry_row-clause-front g c =
 stepped : (g : given.Over) (c : In_ok-entry_row g)
     → IsWritten g.W.Write.contents c.args.writer.now c.loop-place.writer 1000000 c.loop-place.tries c.entry_row.new.page (so_far c.args.shop.now.tables c.args.history.now.entries (c.loop-place.place + 1))
 stepped g c =
-    entry-written g.W.Write.contents c.args.writer.now c.loop-place.writer c.loop-place.tries c.loop-place.page c.entry_row.new.page c.tables-tables.result.now c.args.shop.now.tables
+    entry-written g.W.Write.contents c.args.writer.now c.loop-place.writer c.loop-place.tries c.loop-place.page c.entry_row.new.page c.in_ok-names.names.tables.now c.args.shop.now.tables
     c.entries-entry-items.result.now c.args.history.now.entries c.loop-place.place c.entry-item.result
-    c.loop-place.invariant c.tables-tables.ensures.value c.entries-entry-items.ensures.entries c.loop-place-test.true c.entry-item.is c.in_ok-entry_row.ensures
+    c.loop-place.invariant (c.in_ok-names.ensures ∙ c.tables.ensures.value) c.entries-entry-items.ensures.entries c.loop-place-test.true c.entry-item.is c.in_ok-entry_row.ensures
 
 pub returns-in_err-pass_on-clause-front : goal.returns-in_err-pass_on-clause-front
 returns-in_err-pass_on-clause-front g c =

@@ -5,6 +5,7 @@ use Rattle.mrp_tables.specs.declared.item.Item.{Item}
 use Rattle.mrp_net.specs.declared.stock.Stock.{Stock}
 use Rattle.mrp_tables.specs.Items.{is_master}
 use Rattle.mrp_item.specs.Inputs.{Inputs, item_at, horizon}
+use Rattle.mrp_report.specs.Cells.{name_at}
 use Rattle.mrp_report.specs.declared.sheet.Sheet.{Sheet}
 use Rattle.mrp_report.proofs.PlanSheets.{IsSheetOf, is-sheet, sheet-text}
 use Rattle.mrp_report.proofs.item.item_rows.Goals as goal
@@ -50,6 +51,7 @@ returns c =
       received_is = c.as_slice-3.ensures ∙ c.receipts.ensures.receipts;
       started_is = c.as_slice-4.ensures ∙ c.started.ensures.started;
     } in
-    let name : c.as_bytes.result.now ≡ (item_at s c.args.planned.now.item).name = c.as_bytes.ensures.text ∙ ap (λ (e : Item). e.name) entry in
+    let name : c.item-2.result.now ≡ (item_at s c.args.planned.now.item).name =
+    c.item-2.ensures ∙ ap (λ (t : Tables). name_at t c.item.result) c.requires ∙ ap (name_at s.tables) c.item.ensures.item in
     let Writes : List ℕ → Type 0 = λ text. OnOk c.write.result (c.write.new.page ≡ c.args.page.now ++ text) in
-    subst Writes (sheet-text sheet s c.args.planned.now.item c.args.planned.now.plan c.as_bytes.result.now of name) c.write.ensures
+    subst Writes (sheet-text sheet s c.args.planned.now.item c.args.planned.now.plan c.item-2.result.now of name) c.write.ensures
