@@ -1,6 +1,5 @@
 //! Calls on a row, in turn: what is available, the first week, a booking, one given back.
 
-ghost use Rattle.std.specs.Prelude.{◌≡◌, ◌≤◌, length};
 ghost use Rattle.mrp_master.specs.AtpRow.{IsWeekOf};
 
 use mrp_master::AtpRow;
