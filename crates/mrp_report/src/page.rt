@@ -128,7 +128,7 @@ impl Page {
 
     /// Adds a line.
     ///
-    /// Errors: where a growth of memory was refused. The page is unchanged then.
+    /// Errors: where a growth of memory was refused.
     pub(crate) fn line<L: Line>(&mut self, line: &L) -> Result<(), NoMemory>
         ensures { OnOk result (self.new ≡ self.old ++ L.csv line.now) }
     {
