@@ -5,3 +5,7 @@ pub mod Opened
 pub mod Run
 pub mod Planned
 pub mod Laws
+pub mod Board
+pub mod Core
+pub mod Headline
+pub mod Kept
