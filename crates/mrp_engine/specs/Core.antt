@@ -134,11 +134,15 @@ core_after core (x ∷ later) = core_after (after core x.0 x.1) later
 abbrev pub core_of : Tables → List Step → Core
 core_of tables steps = core_after (opened tables) steps
 
--- a right list of events with their answers: those before an event decide its answer
-abbrev pub IsRight : Tables → List Step → Type 0
-IsRight tables steps = EachFollows (λ before x. IsAnswer (core_of tables before) x.0 x.1) steps
-
 -- an event whose call is one of the shop
 abbrev pub FitsShop : Tables → Event → Type 0
 FitsShop tables (event.Call desk c) = Fits (supply_of tables) c
 FitsShop tables e = Unit {0}
+
+-- an event of the shop, with its answer after the steps before it
+abbrev pub MayFollowSteps : Tables → List Step → Step → Type 0
+MayFollowSteps tables before x = FitsShop tables x.0 × IsAnswer (core_of tables before) x.0 x.1
+
+-- a right list of events with their answers: the events are of the shop, and those before an event decide its answer
+abbrev pub IsRight : Tables → List Step → Type 0
+IsRight tables steps = EachFollows (MayFollowSteps tables) steps

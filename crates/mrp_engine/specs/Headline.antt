@@ -1,7 +1,9 @@
 -- What every right list of events and answers keeps.
-use Rattle.std.specs.Prelude.{ℕ, ◌≡◌, ◌↔◌, ◌<◌, ◌==◌, List, [], ◌∷◌, ◌++◌, length, filter, sum_by, zip}
+use Rattle.std.specs.Prelude.{ℕ, ◌≡◌, ◌↔◌, ◌<◌, ◌+◌, ◌==◌, List, [], ◌∷◌, ◌++◌, All, length, filter, sum_by, zip}
 use Rattle.std.specs.Global.{Vec}
 use Rattle.mrp_tables.specs.Tables.{Tables}
+use Rattle.mrp_tables.specs.Facts.{IsBillLine, IsItem}
+use Rattle.mrp_bill.specs.Shop.{IsShop, Shop}
 use Rattle.mrp_turn.specs.Log.{entry}
 use Rattle.mrp_master.specs.declared.line.Line.{Line}
 use Rattle.mrp_master.specs.Supply.{CanPromise, IsCovered, supply_of}
@@ -21,7 +23,13 @@ use Rattle.mrp_engine.specs.declared.event.Event.TheVariants as event
 use Rattle.mrp_engine.specs.declared.event.Answer.{Answer}
 use Rattle.mrp_engine.specs.declared.event.Answer.TheVariants as answer
 use Rattle.mrp_engine.specs.Day.{IsPlannable, IsRefusedBy}
-use Rattle.mrp_engine.specs.Core.{Core, HasMeaning, IsRight, Step, core_of, run_inputs}
+use Rattle.mrp_engine.specs.Core.{HasMeaning, IsRight, Step, core_of, run_inputs}
+
+-- a shop whose tables keep their limits, and in which no item needs itself
+pub record IsAcceptedShop (shop : Shop) : Type 0 where
+  pub accepted : IsShop shop
+  pub items : All IsItem shop.tables.items
+  pub lines : All (IsBillLine shop.tables.items) shop.tables.bills
 
 -- an event was answered so after these steps
 pub record WasAnswered (steps before : List Step) (e : Event) (a : Answer) : Type 0 where

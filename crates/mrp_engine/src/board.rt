@@ -1,5 +1,8 @@
 //! The board of a run: which items are handed out, and which are stored.
 
+ghost use Rattle.std.specs.Prelude.{◌≡◌};
+ghost use Rattle.mrp_engine.specs.Board.{item_in};
+
 use mrp_explode::{Finished, RunFault};
 use mrp_item::{Inputs, Plan};
 use mrp_qty::NoMemory;
@@ -34,6 +37,16 @@ pub enum BoardReply {
     Stopped,
 }
 
+// The item that a reply hands out.
+fn item_in(reply: BoardReply) -> Option<usize>
+    ensures { result ≡ item_in reply }
+{
+    match reply {
+        BoardReply::Item(item) => Some(item),
+        _ => None,
+    }
+}
+
 /// The board of a run, with its log. Contracts see what the run plans from, and the log.
 #[derive(Drop)]
 pub struct Board {
@@ -56,11 +69,12 @@ impl Model for Board {
 }
 
 impl Board {
-    ghost use Rattle.std.specs.Prelude.{◌≡◌, ◌++◌, ◌∷◌, ◌<◌, [], true, Some, IfOk, OnOk, OnErr, find, IfSome};
+    ghost use Rattle.std.specs.Prelude.{◌≡◌, ◌++◌, ◌∷◌, ◌<◌, [], true, Some, IfOk, OnOk, OnErr, find};
     ghost use Rattle.mrp_turn.specs.Log.{entry};
     ghost use Rattle.mrp_item.specs.Inputs.{count, places};
     ghost use Rattle.mrp_explode.specs.Explosion.{Explodes};
-    ghost use Rattle.mrp_engine.specs.Board.{board_reply, held, is_at_end, is_finished, is_out, is_ready, taken};
+    ghost use Rattle.std.specs.Option.{option_copied};
+    ghost use Rattle.mrp_engine.specs.Board.{board_reply, held, is_at_end, is_finished, is_out, is_ready, last_by, taken};
 
     /// The board of a run that plans from these inputs, without an entry.
     ///
@@ -86,16 +100,28 @@ impl Board {
         self.finished.inputs()
     }
 
+    // A worker's last entry.
+    fn last_by(&self, worker: u64) -> Option<&Entry<BoardCall, BoardReply>>
+        ensures { option_copied result ≡ last_by worker self.now.log }
+    {
+        self.log.iter().rev().find(|entry| entry.who == worker)
+    }
+
     /// The item that a worker holds.
     pub fn held(&self, worker: u64) -> Option<usize>
-        ensures item { result ≡ held worker self.now.log }
-        ensures within { IfSome result (λ item. item < count self.now.inputs) }
+        ensures { result ≡ held worker self.now.log }
     {
-        let last = self.log.iter().rev().find(|entry| entry.who == worker)?;
-        match last.reply {
-            BoardReply::Item(item) => Some(item),
-            _ => None,
+        match self.last_by(worker) {
+            Some(last) => item_in(last.reply),
+            None => None,
         }
+    }
+
+    // Whether an item was handed out.
+    fn is_out(&self, item: usize) -> bool
+        ensures { result ≡ is_out self.now.log item }
+    {
+        matches!(self.out.get(item), Some(true))
     }
 
     // Whether an item was never handed out, and all its parents are stored.
@@ -110,14 +136,19 @@ impl Board {
     fn next_item(&self) -> Option<usize>
         ensures { result ≡ find (is_ready self.now.inputs self.now.log) (places self.now.inputs) }
     {
-        (0..self.out.len()).find(|item| self.is_ready(*item))
+        (0..self.out.len()).find(
+            |item: &usize| -> bool
+                requires { item.now < count self.now.inputs }
+                ensures { result ≡ is_ready self.entry.now.inputs self.entry.now.log item.now }
+            { self.is_ready(*item) },
+        )
     }
 
     // Whether every item was handed out, or somebody gave up.
     fn is_at_end(&self) -> bool
         ensures { result ≡ is_at_end self.now.inputs self.now.log }
     {
-        self.stopped || self.out.iter().all(|out| *out)
+        self.stopped || (0..self.out.len()).all(|item| self.is_out(item))
     }
 
     /// Whether every item is stored.
@@ -127,14 +158,35 @@ impl Board {
         (0..self.out.len()).all(|item| self.finished.is_finished(item))
     }
 
-    // The reply to a worker that takes; None where it is told to come again.
-    fn reply_to_take(&self) -> Option<BoardReply>
-        ensures { result ≡ board_reply self.now.inputs self.now.log 0 BoardCall.Take }
+    // Makes the entry of a worker that finds nothing left.
+    fn end(&mut self, worker: u64) -> Result<(), NoMemory>
+        ensures entry { OnOk result (self.new ≡ record self.old { log = self.old.log ++ entry worker BoardCall.Take BoardReply.AllOut ∷ [] }) }
+        ensures refused { OnErr result (self.new ≡ self.old) }
     {
-        if self.is_at_end() {
-            return Some(BoardReply::AllOut);
-        }
-        self.next_item().map(BoardReply::Item)
+        self.log.try_reserve(1)?;
+        self.log.push_reserved(Entry {
+            who: worker,
+            call: BoardCall::Take,
+            reply: BoardReply::AllOut,
+        });
+        Ok(())
+    }
+
+    // Hands out an item that is ready.
+    fn hand_out(&mut self, worker: u64, item: usize) -> Result<(), NoMemory>
+        requires within { item < count self.old.inputs }
+        requires ready { is_ready self.old.inputs self.old.log item ≡ true }
+        ensures entry { OnOk result (self.new ≡ record self.old { log = self.old.log ++ entry worker BoardCall.Take (BoardReply.Item item) ∷ [] }) }
+        ensures refused { OnErr result (self.new ≡ self.old) }
+    {
+        self.log.try_reserve(1)?;
+        self.out[item] = true;
+        self.log.push_reserved(Entry {
+            who: worker,
+            call: BoardCall::Take,
+            reply: BoardReply::Item(item),
+        });
+        Ok(())
     }
 
     /// Answers a worker that takes, and makes an entry of it; None where it is told to come again,
@@ -146,19 +198,15 @@ impl Board {
         ensures entry { IfOk result (λ reply. self.new ≡ record self.old { log = self.old.log ++ taken worker reply }) }
         ensures refused { OnErr result (self.new ≡ self.old) }
     {
-        self.log.try_reserve(1)?;
-        let Some(reply) = self.reply_to_take() else {
+        if self.is_at_end() {
+            self.end(worker)?;
+            return Ok(Some(BoardReply::AllOut));
+        }
+        let Some(item) = self.next_item() else {
             return Ok(None);
         };
-        if let BoardReply::Item(item) = reply {
-            self.out[item] = true;
-        }
-        self.log.push_reserved(Entry {
-            who: worker,
-            call: BoardCall::Take,
-            reply,
-        });
-        Ok(Some(reply))
+        self.hand_out(worker, item)?;
+        Ok(Some(BoardReply::Item(item)))
     }
 
     /// Plans the item that a worker holds, and stores its outcome.

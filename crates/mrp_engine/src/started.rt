@@ -34,7 +34,7 @@ pub struct Run {
 
 impl Model for Run {
     ghost use Rattle.mrp_engine.specs.Board.{RunLog};
-    ghost use Rattle.mrp_engine.specs.Kept.{KeepsRun, run_view};
+    ghost use Rattle.mrp_engine.specs.KeptRun.{KeepsRun, run_view};
 
     ghost Value = { RunLog };
 
@@ -189,12 +189,13 @@ impl Run {
         ensures same { self.new ≡ self.old }
     {
         begin(alloc, &self.rows, &self.snapshot, &mut self.board)?;
-        match &self.board {
-            Some(board) if board.is_finished() => {
-                written(rt, alloc, board.inputs(), board.plan(alloc))
-            }
-            _ => Ok(Answer::Nothing),
+        let Some(board) = &self.board else {
+            unreachable!()
+        };
+        if !board.is_finished() {
+            return Ok(Answer::Nothing);
         }
+        written(rt, alloc, board.inputs(), board.plan(alloc))
     }
 }
 

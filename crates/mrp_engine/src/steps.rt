@@ -27,7 +27,7 @@ pub struct Core {
 
 impl Model for Core {
     ghost use Rattle.mrp_engine.specs.Core.{Core};
-    ghost use Rattle.mrp_engine.specs.Kept.{KeepsCore, core_view};
+    ghost use Rattle.mrp_engine.specs.KeptCore.{KeepsCore, core_view};
 
     ghost Value = { Core };
 
@@ -123,6 +123,8 @@ impl Core {
         }
         self.runs.try_reserve(1)?;
         let rows = self.rows.clone()?;
+        // The entries are legal, so what stands after them can be planned from.
+        let _legal = self.book.entries();
         match self.book.call(alloc, desk, Call::Snapshot) {
             Ok((front, Reply::Taken(snapshot))) => {
                 self.runs.push_reserved(Run::new(rows, snapshot));
@@ -154,7 +156,10 @@ impl Core {
         let Some(place) = self.place(run) else {
             return Ok(Answer::Nothing);
         };
-        if !is_seat(worker) || self.runs[place].held(worker).is_some() {
+        if !is_seat(worker) {
+            return Ok(Answer::Nothing);
+        }
+        if self.runs[place].held(worker).is_some() {
             return Ok(Answer::Nothing);
         }
         self.runs[place].take(alloc, worker)
@@ -221,6 +226,10 @@ impl Core {
         requires { All (FitsShop shop.tables) events.now }
         ensures { IfOk result (λ answers. RunsRight shop.tables events.now answers.items) }
     {
+        // Its tables keep their limits, and no item needs itself.
+        let tables = shop.tables();
+        let _items = tables.items();
+        let _lines = tables.bills();
         let mut core = Core::new(alloc, shop)?;
         let mut answers = Vec::with_capacity(alloc, events.len())?;
         for event in events {
