@@ -230,4 +230,5 @@ module _ (f : Progress) (out : List Bool) (stopped : Bool) (log : BoardLog) (k :
   finished-all is i within =
       let passes = AllPass-from_list_all (λ n. is_some (slice_index_or f.outcomes n None)) (places f.inputs) (all-stored (places f.inputs) ∙ is) in
       let here : is_some (slice_index_or f.outcomes (get_or (places f.inputs) i 0) None) ≡ true = passes i 0 (omega (arith, within, length-range_with_len 0 (count f.inputs))) in
-      subst (λ (n : ℕ). is_some (slice_index_or f.outcomes n None) ≡ true) (get_or-range_with_len 0 (count f.inputs) i 0 within) here
+      let first : 0 + i ≡ i = omega arith in
+      subst (λ (n : ℕ). is_some (slice_index_or f.outcomes n None) ≡ true) (get_or-range_with_len 0 (count f.inputs) i 0 within ∙ first) here

@@ -1,10 +1,13 @@
 -- A core's answers to events, one after the other.
 use Rattle.std.proofs.Common.{◌≡◌, ◌∙◌, ◌<◌, ◌≤◌, ◌+◌, ℕ, List, [], ◌∷◌, ◌++◌, length, take, get_or, refl, sym, ap, subst, arith}
 use Rattle.std.proofs.lemmas.List.{take_all, take_more, length-append, length-take-le}
-use Rattle.std.specs.Prelude.{zip}
+use Rattle.std.specs.Prelude.{All, zip}
 use Rattle.mrp_turn.proofs.Logs.{EachFollows-more, EachFollows-nil}
 use Rattle.mrp_tables.specs.Tables.{Tables}
-use Rattle.mrp_bill.specs.Shop.{Shop}
+use Rattle.mrp_tables.specs.Facts.{IsBillLine, IsItem}
+use Rattle.mrp_tables.specs.declared.item.Item.{Item}
+use Rattle.mrp_tables.specs.declared.rows.BillLine.{BillLine}
+use Rattle.mrp_bill.specs.Shop.{IsShop, Shop}
 use Rattle.mrp_engine.specs.declared.event.Event.{Event}
 use Rattle.mrp_engine.specs.declared.event.Answer.{Answer}
 use Rattle.mrp_engine.specs.Core.{Core, FitsShop, IsAnswer, IsRight, MayFollowSteps, Step, after, core_of, opened}
@@ -45,3 +48,25 @@ fits-core tables events answers core e has fits =
 
 pub answered-all : (shop : Shop) (events : List Event) (answers : List Answer) (core : Core) → IsAcceptedShop shop → HasAnswered shop.tables events answers core → RunsRight shop.tables events answers
 answered-all shop events answers core kept has = record { each = has.each; right = has.right; headline = headline shop kept (zip events answers) has.right }
+
+pub event-fits : (tables : Tables) (events : List Event) (k : ℕ) (e : Event) → All (FitsShop tables) events → k < length events → e ≡ get_or events k e → FitsShop tables e
+event-fits tables events k e all within at = subst (λ (x : Event). FitsShop tables x) (sym at) (all k e within)
+
+-- one event more is answered
+pub step-more : (tables : Tables) (events : List Event) (k : ℕ) (answers more : List Answer) (core new : Core) (e : Event) (a : Answer) → All (FitsShop tables) events → k < length events → e ≡ get_or events k e
+    → HasAnswered tables (take k events) answers core → IsAnswer core e a → new ≡ after core e a → more ≡ answers ++ a ∷ [] → HasAnswered tables (take (k + 1) events) more new
+step-more tables events k answers more core new e a fit within at has is now adds =
+    subst (λ (l : List Answer). HasAnswered tables (take (k + 1) events) l new) (sym adds)
+    (subst (λ (l : List Event). HasAnswered tables l (answers ++ a ∷ []) new) (sym (take_more events k e within ∙ ap (λ (x : Event). take k events ++ x ∷ []) (sym at)))
+    (answered-more tables (take k events) answers core new e a has (event-fits tables events k e fit within at) is now))
+
+pub all-answered : (shop : Shop) (events : List Event) (k : ℕ) (answers : List Answer) (core : Core) → IsAcceptedShop shop → length events ≤ k → HasAnswered shop.tables (take k events) answers core → RunsRight shop.tables events answers
+all-answered shop events k answers core kept past has = answered-all shop events answers core kept (subst (λ (l : List Event). HasAnswered shop.tables l answers core) (take_all k events past) has)
+
+pub accepted-shop : (shop : Shop) (tables : Tables) (items : List Item) (lines : List BillLine) → IsShop shop → tables ≡ shop.tables → All IsItem items → items ≡ tables.items → All (IsBillLine tables.items) lines → lines ≡ tables.bills
+    → IsAcceptedShop shop
+accepted-shop shop tables items lines is same all are each they = record {
+  accepted = is;
+  items = subst (λ (l : List Item). All IsItem l) (are ∙ ap (λ (t : Tables). t.items) same) all;
+  lines = subst (λ (t : Tables). All (IsBillLine t.items) t.bills) same (subst (λ (l : List BillLine). All (IsBillLine tables.items) l) they each);
+}

@@ -1,8 +1,8 @@
 -- Steps of a core, by what it keeps.
 use Rattle.std.proofs.Common.{◌≡◌, ◌≢◌, ◌∙◌, ◌<◌, ◌≤◌, ◌+◌, ◌-◌, ◌⊎◌, ℕ, zero, suc, Bool, true, false, if◌then◌else◌, List, [], ◌∷◌, ◌++◌, Option, Some, None, Result, Ok, Err, length, map, take, set, inl, inr, refl, sym, ap, subst, arith}
-use Rattle.std.proofs.lemmas.List.{append-nil, length-append, length-map, take-append-le, map-append, map-set, set-get_or, take_all}
+use Rattle.std.proofs.lemmas.List.{append-nil, length-append, length-map, take-append-le, map-append, map-set, set-get_or, take_all, get_or_default}
 use Rattle.std.proofs.lemmas.List.Elements.{All-set, All-weaker, All-push}
-use Rattle.std.specs.Prelude.{All, IfOk, OnOk, IsSome, option_map, find}
+use Rattle.std.specs.Prelude.{All, IfOk, OnErr, OnOk, IsSome, is_some, option_map, find}
 use Rattle.std.specs.List.{slice_index_or}
 use Rattle.mrp_turn.specs.declared.log.Entry.{Entry}
 use Rattle.mrp_turn.specs.Log.{IsSeatNumber, entry}
@@ -129,7 +129,7 @@ module _ (tables : Tables) (h : History) where
     )
     finish-by who a None has seat stored nothing = (
       subst (λ (x : Answer). IsAnswer (seen runs) (event.Finish run who) x) (sym (nothing refl))
-          (no-meaning (seen runs) (event.Finish run who) (λ m. let k : IsSome {ℕ} None = subst (λ (x : Option ℕ). IsSome x) (ap (held who) log-is ∙ has) m.2 in absurd (let n : false ≡ true = k in cc))),
+          (no-meaning (seen runs) (event.Finish run who) (λ m. let k : IsSome {T = ℕ} None = subst (λ (x : Option ℕ). IsSome x) (ap (held who) log-is ∙ has) m.2 in absurd (let n : false ≡ true = k in cc))),
       unlogged ∙ ap (λ (x : Answer). after (seen runs) (event.Finish run who) x) (sym (nothing refl)),
     )
 
@@ -227,3 +227,84 @@ if-ok P Q (Err e) p f = p
 pub if-both : {X E : Type 0} (P Q : X → Type 0) (A : Type 0) (r : Result X E) → IfOk r P → OnOk r A → ((x : X) → P x → A → Q x) → IfOk r Q
 if-both P Q A (Ok x) p a f = f x p a
 if-both P Q A (Err e) p a f = p
+
+pub if-two : {X E : Type 0} (P Q R : X → Type 0) (r : Result X E) → IfOk r P → IfOk r Q → ((x : X) → P x → Q x → R x) → IfOk r R
+if-two P Q R (Ok x) p q f = f x p q
+if-two P Q R (Err e) p q f = p
+
+is-none : (o : Option ℕ) → is_some o ≡ false → o ≡ None
+is-none None e = refl
+is-none (Some n) e = absurd (let k : true ≡ false = e in cc)
+
+is-item : (o : Option ℕ) → is_some o ≡ true → (n : ℕ) × (o ≡ Some n)
+is-item None e = absurd (let k : false ≡ true = e in cc)
+is-item (Some n) e = (n, refl)
+
+-- the run at a place of a core
+pub record Here (tables : Tables) (h : History) (runs : List RunLog) (now : Core) (run place : ℕ) (r : RunLog) : Type 0 where
+  pub view : seen tables h runs ≡ now
+  pub at : At runs run place r
+  pub follows : FollowsHistory tables h r
+  pub all : All (FollowsHistory tables h) runs
+
+pub here-of : (tables : Tables) (h : History) (runs : List RunLog) (now : Core) (run place : ℕ) (r : RunLog) → seen tables h runs ≡ now → All (FollowsHistory tables h) runs → IsStarted now run → run ≡ place + 1
+    → r ≡ slice_index_or runs place r → Here tables h runs now run place r
+here-of tables h runs now run place r view all started number is =
+    let inside : place < length runs = omega (arith, started.1, number, length-map runs brief, ap (λ (c : Core). length c.runs) view) in
+    record {
+      view = view;
+      at = record { within = inside; number = number; is = is };
+      follows = subst (λ (x : RunLog). FollowsHistory tables h x) (sym is) (all place r inside);
+      all = all;
+    }
+
+module _ (tables : Tables) (h : History) (runs : List RunLog) (now : Core) (run place : ℕ) (r : RunLog) (x : Here tables h runs now run place r) where
+  -- another reading of the place
+  pub same-run : (q : RunLog) → q ≡ slice_index_or runs place q → q ≡ r
+  same-run q is = is ∙ get_or_default runs place q r x.at.within ∙ sym x.at.is
+
+  pub taken-answer : {E : Type 0} (who : ℕ) (o : Option ℕ) (q : RunLog) (res : Result Answer E) → IsSeatNumber who → is_some o ≡ false → o ≡ held who q.log → q ≡ slice_index_or runs place q
+      → IfOk res (λ a. a ≡ told (board_reply r.inputs r.log who board_call.Take)) → IfOk res (IsAnswer now (event.Take run who))
+  taken-answer who o q res seat none is read says =
+      if-ok (λ a. a ≡ told (board_reply r.inputs r.log who board_call.Take)) (IsAnswer now (event.Take run who)) res says (λ a e.
+      subst (λ (c : Core). IsAnswer c (event.Take run who) a) x.view
+      (take-answer tables h runs run place r x.at who a x.follows seat (ap (λ (y : RunLog). held who y.log) (sym (same-run q read)) ∙ sym is ∙ is-none o none) e))
+
+  pub taken-after : {E : Type 0} (who : ℕ) (res : Result Answer E) (new : RunLog) → IfOk res (λ a. a ≡ told (board_reply r.inputs r.log who board_call.Take))
+      → OnOk res (new ≡ record r { log = r.log ++ taken who (board_reply r.inputs r.log who board_call.Take) }) → IfOk res (λ a. seen tables h (set runs place new) ≡ after now (event.Take run who) a)
+  taken-after who res new says adds =
+      if-both (λ a. a ≡ told (board_reply r.inputs r.log who board_call.Take)) (λ a. seen tables h (set runs place new) ≡ after now (event.Take run who) a)
+      (new ≡ record r { log = r.log ++ taken who (board_reply r.inputs r.log who board_call.Take) }) res says adds (λ a e is.
+      take-after tables h runs run place r x.at who a new e is ∙ ap (λ (c : Core). after c (event.Take run who) a) x.view)
+
+  pub held-nothing : (who : ℕ) (o : Option ℕ) → is_some o ≡ true → o ≡ held who r.log → IsAnswer now (event.Take run who) answer.Nothing
+  held-nothing who o some is =
+      let k = is-item o some in
+      subst (λ (c : Core). IsAnswer c (event.Take run who) answer.Nothing) x.view (take-held tables h runs run place r x.at who k.0 (sym is ∙ k.1))
+
+  pub kept-set : {A E : Type 0} (res : Result A E) (log : BoardLog) (new : RunLog) → OnOk res (new ≡ record r { log = log }) → OnErr res (new ≡ r) → All (FollowsHistory tables h) (set runs place new)
+  kept-set (Ok a) log new grown same = follow-set tables h runs run place r x.at new (ap (λ (y : RunLog). y.inputs) grown) x.follows x.all
+  kept-set (Err e) log new grown same = follow-set tables h runs run place r x.at new (ap (λ (y : RunLog). y.inputs) same) x.follows x.all
+
+  pub finished-answer : {E : Type 0} (who : ℕ) (res : Result Answer E) → IsSeatNumber who → IfOk res (λ a. IsSome (held who r.log) → a ≡ answer.Stored) → IfOk res (λ a. held who r.log ≡ None → a ≡ answer.Nothing)
+      → IfOk res (IsAnswer now (event.Finish run who))
+  finished-answer who res seat stored nothing =
+      if-two (λ a. IsSome (held who r.log) → a ≡ answer.Stored) (λ a. held who r.log ≡ None → a ≡ answer.Nothing) (IsAnswer now (event.Finish run who)) res stored nothing (λ a s n.
+      subst (λ (c : Core). IsAnswer c (event.Finish run who) a) x.view (finish-answer tables h runs run place r x.at who a seat s n))
+
+  pub finished-after : {E : Type 0} (who : ℕ) (res : Result Answer E) (new : RunLog) → IsSeatNumber who → IfOk res (λ a. IsSome (held who r.log) → a ≡ answer.Stored) → IfOk res (λ a. held who r.log ≡ None → a ≡ answer.Nothing)
+      → OnOk res (new ≡ record r { log = r.log ++ finish_of who (held who r.log) }) → IfOk res (λ a. seen tables h (set runs place new) ≡ after now (event.Finish run who) a)
+  finished-after who (Ok a) new seat stored nothing adds =
+      finish-after tables h runs run place r x.at who a new seat stored nothing adds ∙ ap (λ (c : Core). after c (event.Finish run who) a) x.view
+  finished-after who (Err e) new seat stored nothing adds = stored
+
+  pub gave_up-after : (who : ℕ) (new : RunLog) → new ≡ record r { log = r.log ++ entry who board_call.GiveUp board_reply.Stopped ∷ [] }
+      → seen tables h (set runs place new) ≡ with_entries now run (entry who board_call.GiveUp board_reply.Stopped ∷ [])
+  gave_up-after who new is =
+      logged tables h runs run place r x.at new (entry who board_call.GiveUp board_reply.Stopped ∷ []) is ∙ ap (λ (c : Core). with_entries c run (entry who board_call.GiveUp board_reply.Stopped ∷ [])) x.view
+
+  pub written-answer : {E : Type 0} (res : Result Answer E) → IfOk res (λ a. is_finished r.inputs r.log ≡ true → IsReport r.inputs a) → IfOk res (λ a. is_finished r.inputs r.log ≡ false → a ≡ answer.Nothing)
+      → IfOk res (IsAnswer now (event.Write run))
+  written-answer res report nothing =
+      if-two (λ a. is_finished r.inputs r.log ≡ true → IsReport r.inputs a) (λ a. is_finished r.inputs r.log ≡ false → a ≡ answer.Nothing) (IsAnswer now (event.Write run)) res report nothing (λ a s n.
+      subst (λ (c : Core). IsAnswer c (event.Write run) a) x.view (write-answer tables h runs run place r x.at a x.follows s n))

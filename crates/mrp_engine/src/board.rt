@@ -73,6 +73,7 @@ impl Board {
     ghost use Rattle.mrp_turn.specs.Log.{entry};
     ghost use Rattle.mrp_item.specs.Inputs.{count, places};
     ghost use Rattle.mrp_explode.specs.Explosion.{Explodes};
+    ghost use Rattle.std.specs.List.{list_all};
     ghost use Rattle.std.specs.Option.{option_copied};
     ghost use Rattle.mrp_engine.specs.Board.{board_reply, held, is_at_end, is_finished, is_out, is_ready, last_by, taken};
 
@@ -144,11 +145,18 @@ impl Board {
         )
     }
 
+    // Whether every item was handed out.
+    fn are_all_out(&self) -> bool
+        ensures { result ≡ list_all (is_out self.now.log) (places self.now.inputs) }
+    {
+        (0..self.out.len()).all(|item| self.is_out(item))
+    }
+
     // Whether every item was handed out, or somebody gave up.
     fn is_at_end(&self) -> bool
         ensures { result ≡ is_at_end self.now.inputs self.now.log }
     {
-        self.stopped || (0..self.out.len()).all(|item| self.is_out(item))
+        self.stopped || self.are_all_out()
     }
 
     /// Whether every item is stored.

@@ -109,6 +109,13 @@ impl Core {
         }
     }
 
+    // The rows of the shop, shared.
+    fn share_rows(&self) -> Result<Arc<ShopRows>, NoMemory>
+        ensures { IfOk result (λ rows. rows.value.tables ≡ self.now.tables) }
+    {
+        Ok(self.rows.clone()?)
+    }
+
     // A desk starts a run. All that can be refused comes before the entry, which is not taken back.
     fn start(&mut self, alloc: Global, desk: u64) -> Result<Answer, NoMemory>
         ensures answer { IfOk result (IsAnswer self.old (event.Start desk)) }
@@ -121,8 +128,8 @@ impl Core {
         if self.book.is_full() {
             return Ok(Answer::Full);
         }
+        let rows = self.share_rows()?;
         self.runs.try_reserve(1)?;
-        let rows = self.rows.clone()?;
         // The entries are legal, so what stands after them can be planned from.
         let _legal = self.book.entries();
         match self.book.call(alloc, desk, Call::Snapshot) {
