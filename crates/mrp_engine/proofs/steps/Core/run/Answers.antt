@@ -8,7 +8,7 @@ loop-event-init g c =
     subst (λ (l : List Answer). HasAnswered c.args.shop.tables [] l c.in_ok-core.core) (sym c.in_ok-answers.ensures.items) (answered-none c.args.shop.tables c.in_ok-core.core c.in_ok-core.ensures)
 
 pub step-requires-after_bounds : goal.step-requires-after_bounds
-step-requires-after_bounds g c =
+step-requires-after_bounds g c κs within =
     let k = c.loop-event.event-index in
     let events = c.args.events.now in
     let e = c.event-item.result in
