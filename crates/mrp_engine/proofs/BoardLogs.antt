@@ -1,18 +1,17 @@
 -- Boards with one more entry.
-use Rattle.std.proofs.Common.{◌≡◌, ◌≢◌, ◌∙◌, ◌<◌, ◌≤◌, ◌+◌, ◌==◌, ◌||◌, ◌&&◌, ℕ, zero, suc, ◌⊎◌, Bool, true, false, cond, not, if◌then◌else◌, List, [], ◌∷◌, ◌++◌, Option, Some, None, length, map, get_or, set, inl, inr, refl, sym, ap, subst, arith, get_or-set_same, get_or-set_other, length-set}
-use Rattle.std.proofs.lemmas.List.{reverse-append, length-replicate, get_or-replicate}
+use Rattle.std.proofs.Common.{◌≡◌, ◌≢◌, ◌∙◌, ◌<◌, ◌≤◌, ◌+◌, ◌==◌, ◌||◌, ◌&&◌, ℕ, zero, suc, ◌⊎◌, Bool, true, false, cond, not, List, [], ◌∷◌, ◌++◌, Option, Some, None, length, get_or, set, inl, inr, refl, sym, ap, subst, arith, get_or-set_same, get_or-set_other, length-set}
+use Rattle.std.proofs.lemmas.List.{reverse-append, length-replicate}
 use Rattle.std.proofs.lemmas.List.Folds.{list_any-append}
 use Rattle.std.proofs.lemmas.List.Elements.{All-weaker}
 use Rattle.std.proofs.lemmas.List.Sums.{AllPass-from_list_all}
 use Rattle.std.proofs.lemmas.Bool.{cases_order, cases_lt}
 use Rattle.std.proofs.lemmas.Bool.Decides.{nat_tests}
-use Rattle.std.specs.Prelude.{All, IsSome, is_some, replicate, reverse, find}
+use Rattle.std.specs.Prelude.{IsSome, is_some, replicate, reverse, find}
 use Rattle.std.proofs.lemmas.List.FromFn.{get_or-range_with_len, length-range_with_len}
 use Rattle.std.specs.List.{list_any, list_all, range_with_len, slice_index_or}
 use Rattle.mrp_turn.specs.Log.{entry}
 use Rattle.mrp_bill.specs.Bill.{parents_of}
 use Rattle.mrp_item.specs.Inputs.{Inputs, count, places}
-use Rattle.mrp_item.specs.Made.{item_from}
 use Rattle.mrp_item.specs.Places.{ItemOf}
 use Rattle.mrp_explode.specs.Finished.{Finishes, IsFinished, IsReady, Progress}
 use Rattle.mrp_engine.specs.declared.board.BoardCall.TheVariants as call

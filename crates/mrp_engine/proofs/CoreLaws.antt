@@ -1,12 +1,11 @@
 -- What right lists of events and answers come to.
-use Rattle.std.proofs.Common.{◌≡◌, ◌≢◌, ◌∙◌, ◌<◌, ◌≤◌, ◌+◌, ◌-◌, ◌↔◌, ◌⊎◌, ℕ, zero, suc, Bool, true, false, if◌then◌else◌, List, [], ◌∷◌, ◌++◌, Option, Some, None, Ok, length, map, take, set, get_or, inl, inr, refl, sym, ap, subst, arith, append_assoc}
+use Rattle.std.proofs.Common.{◌≡◌, ◌∙◌, ◌<◌, ◌≤◌, ◌+◌, ◌-◌, ◌↔◌, ℕ, zero, suc, Bool, true, false, if◌then◌else◌, List, [], ◌∷◌, ◌++◌, Option, Some, None, length, map, set, inl, inr, refl, sym, ap, subst, arith, append_assoc}
 use Rattle.std.proofs.lemmas.List.{append-nil, length-append, length-map, take-append-le, get_or_append_left, map-append, map-set, set-get_or}
-use Rattle.std.proofs.lemmas.List.Elements.{All-get_or}
 use Rattle.std.specs.Prelude.{All, option_map, find, slice_index}
 use Rattle.std.specs.Global.{Vec}
 use Rattle.std.specs.List.{slice_index_or}
 use Rattle.mrp_turn.specs.declared.log.Entry.{Entry}
-use Rattle.mrp_turn.specs.Log.{EachFollows, IsSeatNumber, entry}
+use Rattle.mrp_turn.specs.Log.{IsSeatNumber, entry}
 use Rattle.mrp_turn.proofs.Logs.{EachFollows-front, InTurn, InTurn-from_Each, one_more}
 use Rattle.mrp_tables.specs.Tables.{Tables}
 use Rattle.mrp_tables.specs.Facts.{IsBillLine, IsItem}
@@ -14,18 +13,15 @@ use Rattle.mrp_tables.specs.declared.item.Item.{Item}
 use Rattle.mrp_tables.specs.declared.item.Class.TheVariants.{Part}
 use Rattle.mrp_tables.specs.declared.item.LotRule.TheVariants.{LotForLot}
 use Rattle.mrp_bill.specs.Shop.{Shop}
-use Rattle.mrp_master.specs.declared.line.Line.{Line}
 use Rattle.mrp_master.specs.Supply.{supply_of}
 use Rattle.mrp_book.specs.declared.call.Call.{Call}
 use Rattle.mrp_book.specs.declared.call.Call.TheVariants as call
 use Rattle.mrp_book.specs.declared.reply.Reply.{Reply}
-use Rattle.mrp_book.specs.declared.reply.Reply.TheVariants as reply
 use Rattle.mrp_book.specs.Standing.{History, standing}
 use Rattle.mrp_book.specs.History.{IsFull, IsLegal, IsReply, next_number}
 use Rattle.mrp_book.proofs.Histories.{legal-more, legal-none, prefix-covered}
 use Rattle.mrp_book.proofs.Promised.{booked_within}
 use Rattle.mrp_item.specs.Inputs.{Inputs, count, item_at, places}
-use Rattle.mrp_item.specs.Plan.{plan_of}
 use Rattle.mrp_item.proofs.ShopLemmas.{has_parents, is_plannable, is_ranked}
 use Rattle.mrp_peg.specs.Laws.{AddUpToRequirements, AddUpToSupplies}
 use Rattle.mrp_peg.specs.Pegging.{pegs_of}
@@ -34,7 +30,6 @@ use Rattle.mrp_peg.proofs.ItemSums.{to-requirements, to-supplies}
 use Rattle.mrp_peg.proofs.Own.{own-of_all}
 use Rattle.mrp_report.specs.ReportText.{report_text}
 use Rattle.mrp_engine.specs.declared.board.BoardCall.TheVariants as board_call
-use Rattle.mrp_engine.specs.declared.board.BoardReply.{BoardReply}
 use Rattle.mrp_engine.specs.declared.board.BoardReply.TheVariants as board_reply
 use Rattle.mrp_engine.specs.declared.event.Event.{Event}
 use Rattle.mrp_engine.specs.declared.event.Event.TheVariants as event
@@ -42,7 +37,7 @@ use Rattle.mrp_engine.specs.declared.event.Answer.{Answer}
 use Rattle.mrp_engine.specs.declared.event.Answer.TheVariants as answer
 use Rattle.mrp_engine.specs.Day.{IsPlannable, IsRefusedBy}
 use Rattle.mrp_engine.specs.Board.{BoardLog, board_reply, held, is_at_end, is_ready}
-use Rattle.mrp_engine.specs.Core.{Core, FitsShop, HasMeaning, IsAnswer, IsAnswered, IsReport, IsRight, IsStarted, MayFollowSteps, Run, Step, after, core_after, core_of, finish_of, inputs_at, log_at, no_run, opened, run_at, run_inputs, snapshot_of, told, with_entries}
+use Rattle.mrp_engine.specs.Core.{Core, FitsShop, HasMeaning, IsAnswer, IsAnswered, IsRight, IsStarted, MayFollowSteps, Run, Step, after, core_after, core_of, finish_of, inputs_at, log_at, no_run, opened, run_at, run_inputs, snapshot_of, told, with_entries}
 use Rattle.mrp_engine.specs.Headline.{Headline, IsAcceptedShop, WasAnswered, WasWritten}
 
 abbrev pub fronts : Core → List ℕ

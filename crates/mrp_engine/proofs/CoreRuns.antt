@@ -1,6 +1,6 @@
 -- A core's answers to events, one after the other.
 use Rattle.std.proofs.Common.{◌≡◌, ◌∙◌, ◌<◌, ◌≤◌, ◌+◌, ℕ, List, [], ◌∷◌, ◌++◌, length, take, get_or, refl, sym, ap, subst, arith}
-use Rattle.std.proofs.lemmas.List.{take_all, take_more, length-append, length-take-le}
+use Rattle.std.proofs.lemmas.List.{take_all, take_more, length-append}
 use Rattle.std.specs.Prelude.{All, zip}
 use Rattle.mrp_turn.proofs.Logs.{EachFollows-more, EachFollows-nil}
 use Rattle.mrp_tables.specs.Tables.{Tables}

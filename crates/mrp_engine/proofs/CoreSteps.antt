@@ -1,7 +1,7 @@
 -- Steps of a core, by what it keeps.
-use Rattle.std.proofs.Common.{◌≡◌, ◌≢◌, ◌∙◌, ◌<◌, ◌≤◌, ◌+◌, ◌-◌, ◌⊎◌, ℕ, zero, suc, Bool, true, false, if◌then◌else◌, List, [], ◌∷◌, ◌++◌, Option, Some, None, Result, Ok, Err, length, map, take, set, inl, inr, refl, sym, ap, subst, arith}
+use Rattle.std.proofs.Common.{◌≡◌, ◌∙◌, ◌<◌, ◌≤◌, ◌+◌, ◌-◌, ℕ, zero, suc, Bool, true, false, if◌then◌else◌, List, [], ◌∷◌, ◌++◌, Option, Some, None, Result, Ok, Err, length, map, take, set, inl, inr, refl, sym, ap, subst, arith}
 use Rattle.std.proofs.lemmas.List.{append-nil, length-append, length-map, take-append-le, map-append, map-set, set-get_or, take_all, get_or_default}
-use Rattle.std.proofs.lemmas.List.Elements.{All-set, All-weaker, All-push}
+use Rattle.std.proofs.lemmas.List.Elements.{All-set, All-weaker}
 use Rattle.std.specs.Prelude.{All, IfOk, OnErr, OnOk, IsSome, is_some, option_map, find}
 use Rattle.std.specs.List.{slice_index_or}
 use Rattle.mrp_turn.specs.declared.log.Entry.{Entry}
@@ -19,7 +19,6 @@ use Rattle.mrp_book.specs.History.{IsFull, IsReply, next_number}
 use Rattle.mrp_book.proofs.Standings.{standing_after}
 use Rattle.mrp_item.specs.Inputs.{Inputs, inputs_of, places}
 use Rattle.mrp_engine.specs.declared.board.BoardCall.TheVariants as board_call
-use Rattle.mrp_engine.specs.declared.board.BoardReply.{BoardReply}
 use Rattle.mrp_engine.specs.declared.board.BoardReply.TheVariants as board_reply
 use Rattle.mrp_engine.specs.declared.event.Event.{Event}
 use Rattle.mrp_engine.specs.declared.event.Event.TheVariants as event

@@ -1,6 +1,5 @@
-use Rattle.std.proofs.Common.{◌≡◌, ◌∙◌, Result, inl, refl, ap, subst}
+use Rattle.std.proofs.Common.{◌∙◌, Result, inl, refl, ap, subst}
 use Rattle.mrp_item.specs.Places.{WholePlan}
-use Rattle.mrp_item.specs.Plan.{plan_of}
 use Rattle.mrp_explode.specs.Explosion.{Explodes}
 use Rattle.mrp_explode.specs.declared.fault.RunFault.{RunFault}
 use Rattle.mrp_report.specs.ReportText.{report_text}

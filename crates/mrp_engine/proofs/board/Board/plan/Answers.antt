@@ -1,4 +1,4 @@
-use Rattle.std.proofs.Common.{◌≡◌, ◌∙◌, true, ap}
+use Rattle.std.proofs.Common.{◌∙◌, ap}
 use Rattle.mrp_engine.specs.Board.{RunLog, is_finished}
 use Rattle.mrp_engine.proofs.BoardLogs.{finished-all}
 use Rattle.mrp_engine.proofs.board.Board.plan.Goals as goal

@@ -1,4 +1,4 @@
-use Rattle.std.proofs.Common.{◌≡◌, ◌<◌, ◌+◌, sym, arith}
+use Rattle.std.proofs.Common.{sym, arith}
 use Rattle.mrp_item.specs.Inputs.{count}
 use Rattle.mrp_engine.specs.Board.{is_ready}
 use Rattle.mrp_engine.proofs.BoardLogs.{found-in}

@@ -1,4 +1,4 @@
-use Rattle.std.proofs.Common.{◌≡◌, ◌∙◌, Some, true, ap, subst}
+use Rattle.std.proofs.Common.{◌≡◌, ◌∙◌, true, ap, subst}
 use Rattle.mrp_item.specs.Inputs.{Inputs, inputs_of}
 use Rattle.mrp_engine.specs.declared.event.Answer.{Answer}
 use Rattle.mrp_engine.specs.Board.{RunLog, is_finished}

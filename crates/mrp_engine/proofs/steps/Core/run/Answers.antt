@@ -1,4 +1,4 @@
-use Rattle.std.proofs.Common.{◌≡◌, [], List, arith, subst, sym, take}
+use Rattle.std.proofs.Common.{[], List, arith, subst, sym, take}
 use Rattle.mrp_engine.specs.declared.event.Answer.{Answer}
 use Rattle.mrp_engine.proofs.CoreRuns.{HasAnswered, accepted-shop, all-answered, answered-none, event-fits, fits-core, step-more}
 use Rattle.mrp_engine.proofs.steps.Core.run.Goals as goal
