@@ -7,3 +7,7 @@ pub mod DayWritten
 pub mod DayRuns
 pub mod RefusedItem
 pub mod SomeDay
+pub mod BoardLogs
+pub mod CoreLaws
+pub mod CoreSteps
+pub mod CoreRuns

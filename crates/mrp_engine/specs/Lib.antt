@@ -5,3 +5,9 @@ pub mod Opened
 pub mod Run
 pub mod Planned
 pub mod Laws
+pub mod Board
+pub mod Core
+pub mod Headline
+pub mod Kept
+pub mod KeptRun
+pub mod KeptCore

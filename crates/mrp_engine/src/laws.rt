@@ -6,6 +6,9 @@ ghost use Rattle.mrp_tables.specs.Tables.{AreTables, Tables};
 ghost use Rattle.mrp_book.specs.Standing.{History};
 ghost use Rattle.mrp_item.specs.Inputs.{Inputs};
 ghost use Rattle.mrp_engine.specs.Day.{AnswersScript, IsDay, IsRefused, IsTooLarge};
+ghost use Rattle.mrp_bill.specs.Shop.{Shop};
+ghost use Rattle.mrp_engine.specs.Core.{IsRight, Step};
+ghost use Rattle.mrp_engine.specs.Headline.{Headline, IsAcceptedShop};
 ghost use Rattle.mrp_engine.specs.Laws.{ArePlannedOrRefused, BooksWithin, HasDay, HasLoopOrNone, HasReading, PlansWhatStood, StaysCovered};
 
 use mrp_bill::laws::loops;
@@ -56,4 +59,13 @@ pub fn bookings()
     ensures within { (tables : Tables) (h : History) → AnswersScript tables h → BooksWithin tables h }
     // At every front the standing bookings are covered by the supply.
     ensures covered { (tables : Tables) (h : History) → AnswersScript tables h → StaysCovered tables h }
+{}
+
+/// The headline. For every interleaving of bookings, cancellations, snapshots and item steps, with any
+/// number of desks and workers from 1 to 64: the bytes that a finished run writes are the report of
+/// the plan that the tables and the bookings standing at its snapshot define; no accepted booking
+/// exceeded what was then available to promise; every requirement's pegs add up to it exactly; every
+/// work centre's load is its orders' standard minutes. `Headline` has a clause for each.
+pub fn headline()
+    ensures { (shop : Shop) (steps : List Step) → IsAcceptedShop shop → IsRight shop.tables steps → Headline shop.tables steps }
 {}

@@ -1,7 +1,9 @@
 //! Days: from a bundle's bytes to its history and reports.
 #![tactic(auto)]
 
+mod board;
 mod day;
+mod event;
 mod fault;
 pub mod laws;
 mod opening;
@@ -10,7 +12,11 @@ mod reading;
 mod run;
 mod runs;
 mod script;
+mod started;
+mod steps;
 mod writing;
 
+pub use event::{Answer, Event};
 pub use fault::DayFault;
 pub use run::{MOST_WORKERS, run_day};
+pub use steps::Core;

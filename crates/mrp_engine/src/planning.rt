@@ -31,8 +31,8 @@ fn inputs_of(
     Inputs::over(alloc, rows.clone()?, snapshot.copy()?)
 }
 
-// The name of an item.
-fn name_of(inputs: &Inputs, item: usize) -> Name
+/// The name of an item that refuses the plan of its inputs.
+pub fn name_of(inputs: &Inputs, item: usize) -> Name
     requires { plan_of inputs.now ≡ Err item }
     ensures { result ≡ (item_at inputs.now item).name }
 {

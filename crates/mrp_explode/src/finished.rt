@@ -1,6 +1,8 @@
 //! The items that are planned so far, parents before their components.
 
-ghost use Rattle.std.specs.Prelude.{◌≡◌, ◌<◌, ℕ, IfOk, OnOk};
+ghost use Rattle.std.specs.Prelude.{◌≡◌, ◌<◌, ℕ, Some, None, IfOk, OnOk, OnErr, is_some, replicate, set};
+ghost use Rattle.std.specs.List.{list_all, slice_index_or};
+ghost use Rattle.mrp_bill.specs.Bill.{parents_of};
 ghost use Rattle.mrp_item.specs.Inputs.{count};
 ghost use Rattle.mrp_item.specs.Made.{all_from, item_from, parents_from};
 ghost use Rattle.mrp_explode.specs.Finished.{Finishes, IsFinished, IsReady};
@@ -13,7 +15,7 @@ use std::alloc::Global;
 use std::marker::Model;
 use std::sync::Arc;
 
-// The outcomes of the items that are planned so far, by their places; each is its item's.
+/// The outcomes of the items that are planned so far, by their places; each is its item's.
 #[derive(Drop)]
 pub struct Finished {
     inputs: Arc<Inputs>,
@@ -38,9 +40,12 @@ fn too_large(item: usize) -> RunFault
 }
 
 impl Finished {
-    // No item is planned yet.
+    /// No item is planned yet.
+    ///
+    /// Errors: `NoMemory` where memory is refused, or a count of sharers can't rise.
     pub fn new(alloc: Global, inputs: &Arc<Inputs>) -> Result<Finished, NoMemory>
-        ensures { IfOk result (λ f. f.inputs ≡ inputs.now.value) }
+        ensures inputs { IfOk result (λ f. f.inputs ≡ inputs.now.value) }
+        ensures none { IfOk result (λ f. f.outcomes ≡ replicate (count inputs.now.value) None) }
     {
         let inputs = inputs.clone()?;
         let count = inputs.shop().tables().items().len();
@@ -49,6 +54,29 @@ impl Finished {
             outcomes.push(None)?;
         }
         Ok(Finished { inputs, outcomes })
+    }
+
+    /// What the items are planned from.
+    pub fn inputs(&self) -> &Arc<Inputs>
+        ensures { result.now.value ≡ self.now.inputs }
+    {
+        &self.inputs
+    }
+
+    /// Whether an item is planned.
+    pub fn is_finished(&self, item: usize) -> bool
+        ensures { result ≡ is_some (slice_index_or self.now.outcomes item None) }
+    {
+        matches!(self.outcomes.get(item), Some(Some(_)))
+    }
+
+    /// Whether all parents of an item are planned.
+    pub fn is_ready(&self, item: usize) -> bool
+        requires { item < count self.now.inputs }
+        ensures { result ≡ list_all (λ p. is_some (slice_index_or self.now.outcomes p None)) (parents_of self.now.inputs.tables.bills (count self.now.inputs) item) }
+    {
+        let parents = self.inputs.shop().parents(item);
+        parents.iter().all(|parent| self.is_finished(*parent))
     }
 
     // The outcome of a finished item.
@@ -84,7 +112,9 @@ impl Finished {
         Ok(copies)
     }
 
-    // What planning makes of an item whose parents are finished.
+    /// What planning makes of an item whose parents are finished.
+    ///
+    /// Errors: `NoMemory` where memory is refused, or a count of sharers can't rise.
     pub fn outcome_for(&self, alloc: Global, item: usize) -> Result<Outcome, NoMemory>
         requires item { item < count self.now.inputs }
         requires ready { IsReady self.now item }
@@ -94,21 +124,26 @@ impl Finished {
         plan_item(alloc, &self.inputs, item, &parents)
     }
 
-    // Puts an outcome in its item's place.
+    /// Puts an outcome in its item's place.
     pub fn put(&mut self, outcome: Outcome)
         requires inputs { outcome.inputs ≡ self.old.inputs }
         requires item { outcome.item < count self.old.inputs }
-        ensures { Finishes self.old self.new outcome.item }
+        ensures finishes { Finishes self.old self.new outcome.item }
+        ensures place { self.new ≡ record self.old { outcomes = set self.old.outcomes outcome.item (Some outcome) } }
     {
         let item = outcome.item();
         self.outcomes[item] = Some(outcome);
     }
 
-    // Plans an item whose parents are finished.
+    /// Plans an item whose parents are finished.
+    ///
+    /// Errors: `NoMemory` where memory is refused, or a count of sharers can't rise.
     pub fn plan(&mut self, alloc: Global, item: usize) -> Result<(), NoMemory>
         requires item { item < count self.old.inputs }
         requires ready { IsReady self.old item }
-        ensures { OnOk result (Finishes self.old self.new item) }
+        ensures finishes { OnOk result (Finishes self.old self.new item) }
+        ensures place { OnOk result (self.new ≡ record self.old { outcomes = set self.old.outcomes item (Some (item_from self.old.inputs item)) }) }
+        ensures refused { OnErr result (self.new ≡ self.old) }
     {
         let outcome = self.outcome_for(alloc, item)?;
         self.put(outcome);
@@ -128,16 +163,22 @@ impl Finished {
         Ok(all)
     }
 
-    // The plan of all items, or the first that is over.
-    pub fn whole(self, alloc: Global) -> Result<Plan, RunFault>
-        requires { (i : ℕ) → i < count self.inputs → IsFinished self i }
-        ensures { Explodes self.inputs result }
+    // What the items are planned from, shared.
+    fn share_inputs(&self) -> Result<Arc<Inputs>, NoMemory>
+        ensures { IfOk result (λ inputs. inputs.value ≡ self.now.inputs) }
+    {
+        Ok(self.inputs.clone()?)
+    }
+
+    /// The plan of all items, each of which is finished.
+    ///
+    /// Errors: `NoMemory` where memory is refused, and `TooLarge` with the first item that is over.
+    pub fn whole(&self, alloc: Global) -> Result<Plan, RunFault>
+        requires { (i : ℕ) → i < count self.now.inputs → IsFinished self.now i }
+        ensures { Explodes self.now.inputs result }
     {
         let outcomes = self.all(alloc)?;
-        let Finished {
-            inputs,
-            outcomes: _,
-        } = self;
+        let inputs = self.share_inputs()?;
         Plan::of(inputs, outcomes).map_err(too_large)
     }
 }

@@ -8,5 +8,6 @@ mod levels;
 mod serial;
 
 pub use fault::RunFault;
+pub use finished::Finished;
 pub use levels::explode_levels;
 pub use serial::explode_serial;

@@ -10,7 +10,7 @@ use Rattle.mrp_explode.proofs.levels.explode_levels.Goals as goal
 
 pub loop-level-init : goal.loop-level-init
 loop-level-init g c = record {
-  inputs = c.in_ok-finished.ensures;
+  inputs = c.in_ok-finished.ensures.inputs;
   done = λ i code below is low. absurd (omega (arith, low));
 }
 

@@ -29,11 +29,11 @@ put-requires-clause-item g c =
 
 pub loop-outcome-preserved : goal.loop-outcome-preserved
 loop-outcome-preserved g c = record {
-  inputs = c.put.ensures.inputs ∙ c.loop-outcome.invariant.inputs;
+  inputs = c.put.ensures.finishes.inputs ∙ c.loop-outcome.invariant.inputs;
   placed = one-placed (item_from c.args.finished.now.inputs) c.args.items.now _ (IsFinished c.loop-outcome.finished) (IsFinished c.put.new.self) c.in-Some.outcome _
       c.loop-outcome.invariant.placed c.in-Some.ensures.steps.0
-      (λ i same. subst (IsFinished c.put.new.self) (ap (λ (o : ItemOf). o.item) same) c.put.ensures.here) c.put.ensures.others;
-  others = λ i there. c.put.ensures.others i (c.loop-outcome.invariant.others i there);
+      (λ i same. subst (IsFinished c.put.new.self) (ap (λ (o : ItemOf). o.item) same) c.put.ensures.finishes.here) c.put.ensures.finishes.others;
+  others = λ i there. c.put.ensures.finishes.others i (c.loop-outcome.invariant.others i there);
 }
 
 pub returns : goal.returns

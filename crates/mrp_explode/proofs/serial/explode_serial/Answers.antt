@@ -26,7 +26,7 @@ whole-requires c =
 
 pub loop-item-preserved : goal.loop-item-preserved
 loop-item-preserved c = (
-  c.in_ok-plan.ensures.inputs ∙ c.loop-item.invariant.0,
-  one-more-done c.order-item-items.result.now c.loop-item.item-index _ (IsFinished c.loop-item.finished) (IsFinished c.plan.new.self) refl c.loop-item.invariant.1 c.in_ok-plan.ensures.here
-      c.in_ok-plan.ensures.others,
+  c.in_ok-plan.ensures.finishes.inputs ∙ c.loop-item.invariant.0,
+  one-more-done c.order-item-items.result.now c.loop-item.item-index _ (IsFinished c.loop-item.finished) (IsFinished c.plan.new.self) refl c.loop-item.invariant.1 c.in_ok-plan.ensures.finishes.here
+      c.in_ok-plan.ensures.finishes.others,
 )

@@ -13,8 +13,8 @@ invariant_of-self c =
     own-put s c.self.inside.outcomes.items c.item-item.result c.args.outcome c.self.invariant within
     (ap (λ (x : Inputs). item_from x c.args.outcome.item) (c.requires.inputs ∙ sym from) ∙ ap (item_from s) (sym c.item-item.ensures))
 
-pub returns : goal.returns
-returns c =
+pub returns-clause-finishes : goal.returns-clause-finishes
+returns-clause-finishes c =
     let s = c.self.inside.inputs.value in
     let xs = c.self.inside.outcomes.items in
     let item = c.item-item.result in

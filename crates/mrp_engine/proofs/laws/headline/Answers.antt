@@ -1,0 +1,5 @@
+use Rattle.mrp_engine.proofs.CoreLaws.{headline}
+use Rattle.mrp_engine.proofs.laws.headline.Goals as goal
+
+pub returns : goal.returns
+returns c = λ shop steps kept right. headline shop kept steps right
