@@ -9,7 +9,6 @@ use std::process::{Abort, Termination};
 use std::test::Fail;
 
 mod commands;
-mod cores;
 mod days;
 mod explosions;
 mod loads;
