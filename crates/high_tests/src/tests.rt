@@ -9,8 +9,10 @@ use std::process::{Abort, Termination};
 use std::test::Fail;
 
 mod commands;
+mod cores;
 mod days;
 mod explosions;
+mod live_days;
 mod loads;
 mod notes;
 mod pegging;

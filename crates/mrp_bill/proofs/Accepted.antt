@@ -1,6 +1,8 @@
 -- From the lists of a bill back to its lines.
 use Rattle.std.proofs.Common.{◌≡◌, ◌⊎◌, inl, inr, All, ℕ, zero, suc, ◌<◌, ◌≤◌, Bool, true, false, cond, List, [], ◌∷◌, length, map, filter, get_or, slice_index, refl, sym, ap, subst, ◌∙◌, arith}
-use Rattle.std.specs.Prelude.{◌==◌, ◌↔◌}
+use Rattle.std.specs.Prelude.{◌==◌, ◌↔◌, IfOk, Result, Ok, Err, Vec}
+use Rattle.std.specs.declared.alloc.Global.{Global}
+use Rattle.mrp_qty.specs.declared.memory.NoMemory.{NoMemory as Refused}
 use Rattle.std.specs.List.{Contains, range_with_len}
 use Rattle.std.proofs.lemmas.List.{get_or_default}
 use Rattle.std.proofs.Math.ListN.{get_or-eq_default}
@@ -15,6 +17,7 @@ use Rattle.mrp_tables.specs.Facts.{IsBillLine}
 use Rattle.mrp_bill.specs.Bill.{AreWithin, is_parent, IsParent, NeedsItself, IsFirstLoop, IsLoopPath, IsPath, AreCodes, IsCode, IsDepth, HoldsEachOnce, IsOrder, Chain, line_at, lines_of}
 use Rattle.mrp_bill.specs.BillLists.{AreLists}
 use Rattle.mrp_bill.specs.Climb.{IsSettled}
+use Rattle.mrp_bill.specs.Fault.{IsRefusal, loop_fault}
 use Rattle.mrp_bill.specs.Links.{IsFirstRound, IsRound, AreRising}
 use Rattle.mrp_bill.specs.Lists.{IsListed}
 use Rattle.mrp_bill.proofs.BillListed.{listed-parent, parent-listed, listed-child, parent-within}
@@ -49,6 +52,12 @@ loop-path bill count lists path within l (i, first, round) =
       },
       round-along (IsListed lists.parents.items) (IsParent bill) (to-parent bill count lists l) i path round,
     )
+
+-- why tables with a loop are refused
+pub loop-refusal : (bill : List BillLine) (count : ℕ) (lists : Lists) (found : Result (Vec ℕ Global) Refused) → AreWithin count bill → AreLists bill count lists
+    → IfOk found (λ path. (i : ℕ) × IsFirstRound (IsListed lists.parents.items) i × IsRound (IsListed lists.parents.items) i path.items) → IsRefusal bill (loop_fault found)
+loop-refusal bill count lists (Ok path) within l round = loop-path bill count lists path.items within l round
+loop-refusal bill count lists (Err refused) within l round = tt
 
 pub are-codes : (bill : List BillLine) (count : ℕ) (lists : Lists) (code : ℕ → ℕ) → AreWithin count bill → AreLists bill count lists → AreRising (IsListed lists.parents.items) code → AreCodes bill code
 are-codes bill count lists code within l r = record {

@@ -1,10 +1,14 @@
 //! A shop: tables in which no item needs itself.
 
+ghost use Rattle.std.specs.Prelude.{◌≡◌};
+ghost use Rattle.mrp_bill.specs.Fault.{loop_fault};
+
 use crate::climb::order_of;
 use crate::codes::{codes_of, greatest};
 use crate::fault::BillFault;
 use crate::lists::{Lists, lists_of};
 use crate::search::first_loop;
+use mrp_qty::NoMemory;
 use mrp_tables::Tables;
 use std::alloc::Global;
 use std::marker::Model;
@@ -97,6 +101,16 @@ impl Shop {
     }
 }
 
+// Why tables with a loop make no shop: the loop's path, or that no memory was left to find it.
+fn loop_fault(path: Result<Vec<usize>, NoMemory>) -> BillFault
+    ensures { result ≡ loop_fault path }
+{
+    match path {
+        Ok(path) => BillFault::Loop { path },
+        Err(NoMemory) => BillFault::NoMemory,
+    }
+}
+
 /// The bill of material.
 pub struct Bill;
 
@@ -120,8 +134,8 @@ impl Bill {
         let lists = lists_of(alloc, tables.items().len(), tables.bills())?;
         let order = order_of(alloc, &lists.parents)?;
         if order.closed {
-            let path = first_loop(alloc, &lists.parents, &lists.children, &order.items)?;
-            return Err(BillFault::Loop { path });
+            let path = first_loop(alloc, &lists.parents, &lists.children, &order.items);
+            return Err(loop_fault(path));
         }
         let codes = codes_of(alloc, &lists.parents, &order.items)?;
         Ok(Shop {

@@ -23,7 +23,8 @@ use Rattle.mrp_book.specs.Bookings.{lines_of}
 abbrev pub not_cancelled : Call → Reply → Booking → Bool
 not_cancelled c r b = not (is_cancel_of b.number c r)
 
-any-more : {A : Type 0} (p : A → Bool) (xs : List A) (x : A) → list_any p (xs ++ x ∷ []) ≡ (list_any p xs || p x)
+-- whether one of a list and one more passes a test
+pub any-more : {A : Type 0} (p : A → Bool) (xs : List A) (x : A) → list_any p (xs ++ x ∷ []) ≡ (list_any p xs || p x)
 any-more p xs x = list_any-append p xs (x ∷ []) ∙ ap (λ v. list_any p xs || v) (or-false (p x))
 
 filter-step : (c : Call) (r : Reply) (b : Booking) (gone : Bool)

@@ -56,6 +56,19 @@ fn tell_line(told: &mut String, text: &str, ended: &str, wanted: &str) -> Result
     Ok(())
 }
 
+// Whether one desk made all calls of a day.
+fn is_of_one_desk(day: &str) -> bool {
+    let mut desks = day
+        .lines()
+        .skip(2)
+        .take_while(|line| !line.starts_with('['))
+        .map(|line| line.split(',').nth(1));
+    match desks.next() {
+        Some(first) => desks.all(|desk| desk == first),
+        None => true,
+    }
+}
+
 impl Ending {
     /// Whether a run has ended exactly as it is wanted to.
     pub fn is(&self, wanted: &Ending) -> bool
@@ -64,6 +77,15 @@ impl Ending {
             × (string_bytes self.now.words ≡ string_bytes wanted.now.words) }
     {
         self.status == wanted.status && self.day == wanted.day && self.words == wanted.words
+    }
+
+    /// Whether desks that make their calls beside one another can end in no other way: one made all
+    /// calls, or the bundle has a fault.
+    pub fn is_of_any_order(&self) -> bool {
+        match self.status {
+            0 => is_of_one_desk(&self.day),
+            _ => self.words.as_str().starts_with("refused: "),
+        }
     }
 
     /// Tells what is other than it is wanted: the status, and the first other line of the day and of the words.

@@ -1,5 +1,6 @@
-//! Plans each bundle and each folder of tables of the folder that it is run in, as `mrp plan` does, and tells
-//! of each that does not end as the file beside it says: with its day written, or refused with its words.
+//! Plans each bundle and each folder of tables of the folder that it is run in, as `mrp plan` does, and as
+//! `mrp live` does where that can end in one way alone. Tells of each that does not end as the file beside it
+//! says: with its day written, or refused with its words.
 #![tactic(auto)]
 
 mod ending;
@@ -14,6 +15,7 @@ use std::io;
 use std::io::ErrorKind;
 use std::process::ExitCode;
 use std::rt::Files;
+use std::sync::Wait;
 use std::thread::Threads;
 
 fn text_of(bytes: Vec<u8>) -> io::Result<String> {
@@ -25,7 +27,7 @@ fn text_of(bytes: Vec<u8>) -> io::Result<String> {
 
 // How these words end, over this input.
 fn ended(
-    rt: &(impl Alloc + Files + Threads + Sync),
+    rt: &(impl Alloc + Files + Threads + Wait + Sync),
     alloc: Global,
     words: &[&str],
     input: &[u8],
@@ -41,56 +43,92 @@ fn ended(
     })
 }
 
-// How planning a case ends: its bundle, or its folder of tables where it has no bundle.
-fn planned<R: Files + AllocGlobal + Threads + Sync>(rt: &R, name: &str) -> io::Result<Ending> {
+// How a command ends over a case: its bundle, or its folder of tables where it has no bundle.
+fn ended_by<R: Files + AllocGlobal + Threads + Wait + Sync>(
+    rt: &R,
+    command: &str,
+    name: &str,
+) -> io::Result<Ending> {
     if let Some(bundle) = bundle_of(rt, name)? {
-        return ended(rt, rt.alloc(), &["plan"], &bundle);
+        return ended(rt, rt.alloc(), &[command], &bundle);
     }
     let folder = format!(in rt.alloc(); "{name}{FILES}")?;
-    ended(rt, rt.alloc(), &["plan", "--dir", folder.as_str()], b"")
+    ended(rt, rt.alloc(), &[command, "--dir", folder.as_str()], b"")
 }
 
-// Whether a case ends as it must. Where it does not, a line tells how it ended.
-fn is_right<R: Files + AllocGlobal + Print + Threads + Sync>(
+// Whether a command ends over a case as it must. Where it does not, a line tells how it ended.
+fn is_right_by<R: Files + AllocGlobal + Print + Threads + Wait + Sync>(
     rt: &R,
+    command: &str,
     name: &str,
+    wanted: &Ending,
 ) -> io::Result<bool> {
-    let Some(wanted) = wanted_of(rt, name)? else {
-        println!(rt; "{name} is not as it must be; no day and no words stand beside it")?;
-        return Ok(false);
-    };
-    let ended = planned(rt, name)?;
-    if ended.is(&wanted) {
+    let ended = ended_by(rt, command, name)?;
+    if ended.is(wanted) {
         return Ok(true);
     }
-    let told = ended.told_beside(rt.alloc(), &wanted)?;
-    println!(rt; "{name} is not as it must be{told}")?;
+    let told = ended.told_beside(rt.alloc(), wanted)?;
+    println!(rt; "{command} {name} is not as it must be{told}")?;
     Ok(false)
 }
 
-// How many of the cases do not end as they must.
-fn count_wrong<R: Files + AllocGlobal + Print + Threads + Sync>(
+// What was seen of a case.
+#[derive(Clone, Copy)]
+enum Seen {
+    Wrong,
+    Planned,
+    // Planned, and made live as well.
+    Live,
+}
+
+// Whether a case ends as it must, by a plan and where there is no choice by a live day.
+fn seen<R: Files + AllocGlobal + Print + Threads + Wait + Sync>(
+    rt: &R,
+    name: &str,
+) -> io::Result<Seen> {
+    let Some(wanted) = wanted_of(rt, name)? else {
+        println!(rt; "{name} is not as it must be; no day and no words stand beside it")?;
+        return Ok(Seen::Wrong);
+    };
+    if !is_right_by(rt, "plan", name, &wanted)? {
+        return Ok(Seen::Wrong);
+    }
+    if !wanted.is_of_any_order() {
+        return Ok(Seen::Planned);
+    }
+    if is_right_by(rt, "live", name, &wanted)? {
+        Ok(Seen::Live)
+    } else {
+        Ok(Seen::Wrong)
+    }
+}
+
+// How many of the cases do not end as they must, and how many were made live as well.
+fn count_seen<R: Files + AllocGlobal + Print + Threads + Wait + Sync>(
     rt: &R,
     cases: &[String],
-) -> io::Result<usize> {
+) -> io::Result<(usize, usize)> {
     let mut wrong = 0usize;
+    let mut live = 0usize;
     for name in cases {
-        let right = match is_right(rt, name) {
-            Ok(right) => right,
+        let seen = match seen(rt, name) {
+            Ok(seen) => seen,
             Err(error) => {
                 println!(rt; "{name} could not be looked at; {error}")?;
-                false
+                Seen::Wrong
             }
         };
-        if !right {
-            wrong = wrong.saturating_add(1);
+        match seen {
+            Seen::Wrong => wrong = wrong.saturating_add(1),
+            Seen::Planned => {}
+            Seen::Live => live = live.saturating_add(1),
         }
     }
-    Ok(wrong)
+    Ok((wrong, live))
 }
 
 // Whether there are cases in the folder, each ends as it must, and each day and refusal belongs to one.
-fn are_right<R: Files + AllocGlobal + Print + Threads + Sync + Clone + Drop>(
+fn are_right<R: Files + AllocGlobal + Print + Threads + Wait + Sync + Clone + Drop>(
     rt: &R,
 ) -> io::Result<bool> {
     let Folder { cases, answers } = Folder::read(rt)?;
@@ -99,7 +137,7 @@ fn are_right<R: Files + AllocGlobal + Print + Threads + Sync + Clone + Drop>(
         println!(rt; "no case is in this folder")?;
         return Ok(false);
     }
-    let wrong = count_wrong(rt, &cases)?;
+    let (wrong, live) = count_seen(rt, &cases)?;
     if wrong > 0 {
         println!(rt; "{wrong} of {count} cases are not as they must be")?;
         return Ok(false);
@@ -108,7 +146,7 @@ fn are_right<R: Files + AllocGlobal + Print + Threads + Sync + Clone + Drop>(
         println!(rt; "{answers} days and refusals for {count} cases")?;
         return Ok(false);
     }
-    println!(rt; "{count} cases as they must be")?;
+    println!(rt; "{count} cases as they must be, {live} of them as live days too")?;
     Ok(true)
 }
 

@@ -23,12 +23,12 @@ or-false : (b : Bool) → (b || false) ≡ b
 or-false true = refl
 or-false false = refl
 
-or-true : (b : Bool) → (b || true) ≡ true
+pub or-true : (b : Bool) → (b || true) ≡ true
 or-true true = refl
 or-true false = refl
 
 -- a test of one more entry
-any-more : {X : Type 0} (p : X → Bool) (xs : List X) (x : X) → list_any p (xs ++ x ∷ []) ≡ (list_any p xs || p x)
+pub any-more : {X : Type 0} (p : X → Bool) (xs : List X) (x : X) → list_any p (xs ++ x ∷ []) ≡ (list_any p xs || p x)
 any-more p xs x = list_any-append p xs (x ∷ []) ∙ ap (λ b. list_any p xs || b) (or-false (p x))
 
 pub out-more : (log : BoardLog) (e : BoardEntry) (i : ℕ) → is_out (log ++ e ∷ []) i ≡ (is_out log i || hands_out i e.reply)
@@ -49,13 +49,13 @@ held-more who log e =
     ap (λ (l : BoardLog). item_of (find (λ (x : BoardEntry). x.who == who) l)) (reverse-append log (e ∷ []))
     ∙ held-cond (e.who == who) e (find (λ (x : BoardEntry). x.who == who) (reverse log))
 
-same-number : (i j : ℕ) → i ≡ j → (i == j) ≡ true
+pub same-number : (i j : ℕ) → i ≡ j → (i == j) ≡ true
 same-number i j e = grind (arith, nat_tests)
 
-other-number : (i j : ℕ) → i ≢ j → (i == j) ≡ false
+pub other-number : (i j : ℕ) → i ≢ j → (i == j) ≡ false
 other-number i j e = grind (arith, nat_tests)
 
-apart : (i j : ℕ) → (i < j) ⊎ (j < i) → i ≢ j
+pub apart : (i j : ℕ) → (i < j) ⊎ (j < i) → i ≢ j
 apart i j (inl low) same = absurd (omega (arith, low, same))
 apart i j (inr high) same = absurd (omega (arith, high, same))
 
@@ -67,7 +67,7 @@ who-holds false now before j k = inr k
 held-after : (who : ℕ) (log : BoardLog) (e : BoardEntry) (j : ℕ) → held who (log ++ e ∷ []) ≡ Some j → (item_in e.reply ≡ Some j) ⊎ (held who log ≡ Some j)
 held-after who log e j is = who-holds (e.who == who) (item_in e.reply) (held who log) j (sym (held-more who log e) ∙ is)
 
-still-out : (log : BoardLog) (e : BoardEntry) (i : ℕ) → is_out log i ≡ true → is_out (log ++ e ∷ []) i ≡ true
+pub still-out : (log : BoardLog) (e : BoardEntry) (i : ℕ) → is_out log i ≡ true → is_out (log ++ e ∷ []) i ≡ true
 still-out log e i is = out-more log e i ∙ ap (λ (b : Bool). b || hands_out i e.reply) is
 
 all-same : {X : Type 0} (n : ℕ) (x : X) (i : ℕ) → slice_index_or (replicate n x) i x ≡ x
@@ -86,6 +86,14 @@ kept-none s outcomes out none marks = record {
   ready = λ i e. absurd (let k : false ≡ true = e in cc);
   held_out = λ who i e. absurd (let k : None ≡ Some i = e in cc);
 }
+
+-- a board without an entry is finished where it has no item
+none-stored : (a n : ℕ) → list_all (is_stored []) (range_with_len a n) ≡ (n == 0)
+none-stored a zero = refl
+none-stored a (suc n) = sym (other-number (suc n) 0 (λ e. absurd (omega (arith, e))))
+
+pub finished-none : (s : Inputs) → is_finished s [] ≡ (count s == 0)
+finished-none s = none-stored 0 (count s)
 
 past-end : (xs : List Bool) (i : ℕ) → length xs ≤ i → slice_index_or xs i false ≡ false
 past-end [] i h = refl

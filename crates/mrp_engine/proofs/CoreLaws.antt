@@ -1,7 +1,9 @@
 -- What right lists of events and answers come to.
-use Rattle.std.proofs.Common.{◌≡◌, ◌∙◌, ◌<◌, ◌≤◌, ◌+◌, ◌-◌, ◌↔◌, ℕ, zero, suc, Bool, true, false, if◌then◌else◌, List, [], ◌∷◌, ◌++◌, Option, Some, None, length, map, set, inl, inr, refl, sym, ap, subst, arith, append_assoc}
-use Rattle.std.proofs.lemmas.List.{append-nil, length-append, length-map, take-append-le, get_or_append_left, map-append, map-set, set-get_or}
-use Rattle.std.specs.Prelude.{All, option_map, find, slice_index}
+use Rattle.std.proofs.Common.{◌≡◌, ◌≢◌, ◌⊎◌, ◌∙◌, ◌<◌, ◌≤◌, ◌+◌, ◌-◌, ◌↔◌, ℕ, zero, suc, Bool, true, false, if◌then◌else◌, List, [], ◌∷◌, ◌++◌, Option, Some, None, Result, Ok, Err, length, map, set, inl, inr, refl, sym, ap, subst, arith, append_assoc}
+use Rattle.std.proofs.Math.Seq.{get_or-append_seam}
+use Rattle.std.proofs.lemmas.Bool.{cases_lt, cases_order}
+use Rattle.std.proofs.lemmas.List.{append-nil, length-append, length-map, take-append-le, get_or-set_other, get_or-set_same, get_or_append_left, length-set, map-append, map-set, set-get_or}
+use Rattle.std.specs.Prelude.{All, IfOk, IsSome, OnErr, option_map, find, slice_index}
 use Rattle.std.specs.Global.{Vec}
 use Rattle.std.specs.List.{slice_index_or}
 use Rattle.mrp_turn.specs.declared.log.Entry.{Entry}
@@ -36,9 +38,11 @@ use Rattle.mrp_engine.specs.declared.event.Event.TheVariants as event
 use Rattle.mrp_engine.specs.declared.event.Answer.{Answer}
 use Rattle.mrp_engine.specs.declared.event.Answer.TheVariants as answer
 use Rattle.mrp_engine.specs.Day.{IsPlannable, IsRefusedBy}
+use Rattle.mrp_engine.specs.declared.board.BoardReply.{BoardReply}
 use Rattle.mrp_engine.specs.Board.{BoardLog, board_reply, held, is_at_end, is_ready}
-use Rattle.mrp_engine.specs.Core.{Core, FitsShop, HasMeaning, IsAnswer, IsAnswered, IsRight, IsStarted, MayFollowSteps, Run, Step, after, core_after, core_of, finish_of, inputs_at, log_at, no_run, opened, run_at, run_inputs, snapshot_of, told, with_entries}
-use Rattle.mrp_engine.specs.Headline.{Headline, IsAcceptedShop, WasAnswered, WasWritten}
+use Rattle.mrp_engine.specs.Core.{AsksFullBook, Core, FitsShop, HasMeaning, IsAnswer, IsAnswered, IsOfDesk, IsRight, IsStarted, MayFollowSteps, Run, Step, after, core_after, core_of, finish_of, inputs_at, log_at, no_run, opened, run_at, run_inputs, snapshot_of, told, with_entries}
+use Rattle.mrp_engine.proofs.BoardLaws.{KeepsBoard, keeps-end, keeps-none, keeps-stopped, keeps-stored, keeps-taken}
+use Rattle.mrp_engine.specs.Headline.{Headline, IsAcceptedShop, IsEntry, WasAnswered, WasWritten}
 
 abbrev pub fronts : Core → List ℕ
 fronts core = map (λ (r : Run). r.front) core.runs
@@ -82,6 +86,15 @@ give_up-same core run who a = same-core core
 
 write-same : (core : Core) (run : ℕ) (a : Answer) → Same core (after core (event.Write run) a)
 write-same core run a = same-core core
+
+-- Nothing changes nothing
+unchanged : (core : Core) (e : Event) → after core e answer.Nothing ≡ core
+unchanged core (event.Call desk c) = refl
+unchanged core (event.Start desk) = refl
+unchanged core (event.Take run who) = refl
+unchanged core (event.Finish run who) = refl
+unchanged core (event.GiveUp run who) = refl
+unchanged core (event.Write run) = refl
 
 -- A core grows: entries and runs are only added.
 
@@ -131,6 +144,11 @@ step-grows core (event.Take run who) a = grows-same core (after core (event.Take
 step-grows core (event.Finish run who) a = grows-same core (after core (event.Finish run who) a) (finish-same core run who a)
 step-grows core (event.GiveUp run who) a = grows-same core (after core (event.GiveUp run who) a) (give_up-same core run who a)
 step-grows core (event.Write run) a = grows-same core (after core (event.Write run) a) (write-same core run a)
+
+-- an event changes no tables
+pub tables-kept : {E : Type 0} (old new : Core) (e : Event) (r : Result Answer E) → IfOk r (λ a. new ≡ after old e a) → OnErr r (new ≡ old) → new.tables ≡ old.tables
+tables-kept old new e (Ok a) is same = ap (λ (c : Core). c.tables) is ∙ (step-grows old e a).tables
+tables-kept old new e (Err x) is same = ap (λ (c : Core). c.tables) same
 
 pub steps-grow : (core : Core) (steps : List Step) → Grows core (core_after core steps)
 unfolding core_after
@@ -196,7 +214,7 @@ longer h e = length-append h (e ∷ [])
 sound-entered : (core : Core) (desk : ℕ) (c : Call) (r : Reply) (n : ℕ) → Sound core → IsSeatNumber desk → IsReply (supply_of core.tables) core.history desk c r → FitsShop core.tables (event.Call desk c)
     → Sound (after core (event.Call desk c) (answer.Replied n r))
 sound-entered core desk c r n sound seat is fits = record {
-  legal = legal-more (supply_of core.tables) core.history (entry desk c r) sound.legal (seat, is, fits);
+  legal = legal-more (supply_of core.tables) core.history (entry desk c r) sound.legal (seat, is, fits seat);
   within = within-more (fronts core) (length core.history) (length (core.history ++ entry desk c r ∷ [])) (omega (arith, longer core.history (entry desk c r))) sound.within;
 }
 
@@ -271,6 +289,117 @@ module _ (tables : Tables) where
   answered : (steps before : List Step) (e : Event) (a : Answer) → IsRight tables steps → WasAnswered steps before e a → IsAnswer (core_of tables before) e a
   answered steps before e a right was = (right before (e, a) was.after was.place).1
 
+-- The boards of a core's runs are legal, and their workers finish what they hold.
+
+abbrev KeepsBoards : Core → Type 0
+KeepsBoards core = (run : ℕ) → IsStarted core run → KeepsBoard (run_inputs core run) (log_at core run)
+
+module _ (tables : Tables) (core : Core) (sound : Sound core) (boards : KeepsBoards core) where
+  -- a run whose log has more entries
+  run-logged : (run other : ℕ) (entries : BoardLog) → IsStarted core run → IsStarted core other → KeepsBoard (run_inputs core run) (log_at core run ++ entries)
+      → KeepsBoard (run_inputs (with_entries core run entries) other) (log_at (with_entries core run entries) other)
+  run-logged run other entries started there kept =
+      let new : Core = with_entries core run entries in
+      let now : Run = record { front = (run_at core run).front; log = log_at core run ++ entries } in
+      let stays = inputs-stay tables core new other sound (grows-same core new (same-logged core run entries)) there in
+      subst (λ (s : Inputs). KeepsBoard s (log_at new other)) (sym stays) (elim (cases_order other run) [
+        | inl same ↦
+            let log : log_at new other ≡ log_at core run ++ entries =
+            ap (λ (r : ℕ). log_at new r) same ∙ ap (λ (r : Run). r.log) (get_or-set_same core.runs (run - 1) now no_run (omega (arith, started.0, started.1))) in
+            subst (λ (l : BoardLog). KeepsBoard (run_inputs core other) l) (sym log) (subst (λ (r : ℕ). KeepsBoard (run_inputs core r) (log_at core run ++ entries)) (sym same) kept)
+        | inr apart ↦
+            let log : log_at new other ≡ log_at core other = ap (λ (r : Run). r.log) (get_or-set_other core.runs (run - 1) (other - 1) now no_run (differ other run there.0 started.0 apart)) in
+            subst (λ (l : BoardLog). KeepsBoard (run_inputs core other) l) (sym log) (boards other there)
+      ])
+    where
+      differ : (i j : ℕ) → 1 ≤ i → 1 ≤ j → (i < j) ⊎ (j < i) → i - 1 ≢ j - 1
+      differ i j a b (inl low) same = absurd (omega (arith, a, b, low, same))
+      differ i j a b (inr high) same = absurd (omega (arith, a, b, high, same))
+
+  logged-boards : (run : ℕ) (entries : BoardLog) → IsStarted core run → KeepsBoard (run_inputs core run) (log_at core run ++ entries) → KeepsBoards (with_entries core run entries)
+  logged-boards run entries started kept other there =
+      run-logged run other entries started
+      (there.0, omega (arith, there.1, length-set core.runs (run - 1) (record { front = (run_at core run).front; log = log_at core run ++ entries }))) kept
+
+  -- a worker takes
+  took-boards : (run who : ℕ) (o : Option BoardReply) → IsStarted core run → IsSeatNumber who → board_reply (run_inputs core run) (log_at core run) who board_call.Take ≡ o
+      → KeepsBoards (after core (event.Take run who) (told o))
+  took-boards run who None started seat is = boards
+  took-boards run who (Some board_reply.AllOut) started seat is =
+      logged-boards run (entry who board_call.Take board_reply.AllOut ∷ []) started (keeps-end (run_inputs core run) (log_at core run) (boards run started) who seat is)
+  took-boards run who (Some (board_reply.Item item)) started seat is =
+      logged-boards run (entry who board_call.Take (board_reply.Item item) ∷ []) started (keeps-taken (run_inputs core run) (log_at core run) (boards run started) who seat item is)
+  took-boards run who (Some board_reply.Stored) started seat is = boards
+  took-boards run who (Some board_reply.NotOut) started seat is = boards
+  took-boards run who (Some board_reply.Stopped) started seat is = boards
+
+  -- finishes
+  finished-boards : (run who : ℕ) (o : Option ℕ) → IsStarted core run → IsSeatNumber who → held who (log_at core run) ≡ o → IsSome o → KeepsBoards (with_entries core run (finish_of who o))
+  finished-boards run who None started seat is some = absurd (let n : false ≡ true = some in cc)
+  finished-boards run who (Some item) started seat is some =
+      logged-boards run (finish_of who (Some item)) started (keeps-stored (run_inputs core run) (log_at core run) (boards run started) who seat item is)
+
+  -- the history grows, and the runs stay
+  same-boards : (new : Core) → Grows core new → new.runs ≡ core.runs → KeepsBoards new
+  same-boards new grows same run started =
+      let there : IsStarted core run = subst (λ (l : List Run). (1 ≤ run) × (run ≤ length l)) same started in
+      subst (λ (s : Inputs). KeepsBoard s (log_at new run)) (sym (inputs-stay tables core new run sound grows there))
+      (subst (λ (l : List Run). KeepsBoard (run_inputs core run) (slice_index_or l (run - 1) no_run).log) (sym same) (boards run there))
+
+  -- one more run
+  begun-boards : (desk number front : ℕ) → KeepsBoards (after core (event.Start desk) (answer.Started number front))
+  begun-boards desk number front run started =
+      let new : Core = after core (event.Start desk) (answer.Started number front) in
+      elim (cases_lt (length core.runs) run) [
+        | inl past ↦
+            let last : log_at new run ≡ [] =
+            ap (λ (n : ℕ). (slice_index_or (core.runs ++ record { front = front; log = [] } ∷ []) n no_run).log) (place run past started)
+            ∙ ap (λ (r : Run). r.log) (get_or-append_seam core.runs (record { front = front; log = [] }) [] no_run) in
+            subst (λ (l : BoardLog). KeepsBoard (run_inputs new run) l) (sym last) (keeps-none (run_inputs new run))
+        | inr inside ↦
+            let there : IsStarted core run = (started.0, inside) in
+            let log : log_at new run ≡ log_at core run =
+            ap (λ (r : Run). r.log) (get_or_append_left core.runs (record { front = front; log = [] } ∷ []) no_run (run - 1) (omega (arith, started.0, inside))) in
+            subst (λ (s : Inputs). KeepsBoard s (log_at new run)) (sym (inputs-stay tables core new run sound (start-grows core desk (answer.Started number front)) there))
+            (subst (λ (l : BoardLog). KeepsBoard (run_inputs core run) l) (sym log) (boards run there))
+      ]
+    where
+      place : (run : ℕ) → length core.runs < run → IsStarted (after core (event.Start desk) (answer.Started number front)) run → run - 1 ≡ length core.runs
+      place run past started = omega (arith, past, started.1, length-append core.runs (record { front = front; log = [] } ∷ []))
+
+  step-boards : (e : Event) (a : Answer) → IsAnswer core e a → KeepsBoards (after core e a)
+  step-boards e a (inr (none, is)) = subst (λ (x : Answer). KeepsBoards (after core e x)) (sym is) (subst KeepsBoards (sym (unchanged core e)) boards)
+  step-boards (event.Call desk c) a (inl (has, inl (full, is))) = subst (λ (x : Answer). KeepsBoards (after core (event.Call desk c) x)) (sym is) boards
+  step-boards (event.Call desk c) a (inl (has, inr (open_, r, said, is))) =
+      subst (λ (x : Answer). KeepsBoards (after core (event.Call desk c) x)) (sym is)
+      (same-boards (after core (event.Call desk c) (answer.Replied (next_number core.history) r)) (call-grows core desk c (answer.Replied (next_number core.history) r)) refl)
+  step-boards (event.Start desk) a (inl (has, inl (full, is))) = subst (λ (x : Answer). KeepsBoards (after core (event.Start desk) x)) (sym is) boards
+  step-boards (event.Start desk) a (inl (has, inr (open_, is))) =
+      subst (λ (x : Answer). KeepsBoards (after core (event.Start desk) x)) (sym is) (begun-boards desk (length core.runs + 1) (next_number core.history))
+  step-boards (event.Take run who) a (inl (has, is)) =
+      subst (λ (x : Answer). KeepsBoards (after core (event.Take run who) x)) (sym is)
+      (took-boards run who (board_reply (run_inputs core run) (log_at core run) who board_call.Take) has.0 has.1 refl)
+  step-boards (event.Finish run who) a (inl (has, is)) =
+      subst (λ (x : Answer). KeepsBoards (after core (event.Finish run who) x)) (sym is) (finished-boards run who (held who (log_at core run)) has.0 has.1 refl has.2)
+  step-boards (event.GiveUp run who) a (inl (has, is)) =
+      subst (λ (x : Answer). KeepsBoards (after core (event.GiveUp run who) x)) (sym is)
+      (logged-boards run (entry who board_call.GiveUp board_reply.Stopped ∷ []) has.0 (keeps-stopped (run_inputs core run) (log_at core run) (boards run has.0) who has.1))
+  step-boards (event.Write run) a (inl (has, is)) = boards
+
+module _ (tables : Tables) where
+  boards-from : (before steps : List Step) → InTurn (MayFollowSteps tables) before steps → Sound (core_of tables before) → KeepsBoards (core_of tables before) → KeepsBoards (core_of tables (before ++ steps))
+  boards-from before [] w sound boards = subst (λ (l : List Step). KeepsBoards (core_of tables l)) (sym (append-nil before)) boards
+  boards-from before (x ∷ steps) w sound boards =
+      subst (λ (l : List Step). KeepsBoards (core_of tables l)) (sym (one_more before x steps))
+      (boards-from (before ++ x ∷ []) steps w.1
+      (subst (λ (c : Core). Sound c) (sym (core-one tables before x)) (step-sound (core_of tables before) sound x.0 x.1 (subst (λ (t : Tables). FitsShop t x.0) (sym (tables-stay tables before)) w.0.0) w.0.1))
+      (subst KeepsBoards (sym (core-one tables before x)) (step-boards tables (core_of tables before) sound boards x.0 x.1 w.0.1)))
+
+  right-boards : (steps : List Step) → IsRight tables steps → KeepsBoards (core_of tables steps)
+  right-boards steps right =
+      boards-from [] steps (InTurn-from_Each (MayFollowSteps tables) [] steps right) (subst (λ (c : Core). Sound c) (sym (core-none (opened tables))) (sound-none tables))
+      (subst KeepsBoards (sym (core-none (opened tables))) (λ run started. absurd (omega (arith, started.0, started.1))))
+
 told-something : (s : Inputs) (log : BoardLog) (who : ℕ) → told (board_reply s log who board_call.Take) ≡ answer.Nothing → ⊥
 told-something s log who e = by (is_at_end s log) (find (is_ready s log) (places s)) e
   where
@@ -295,15 +424,6 @@ meaningless : (core : Core) (e : Event) (a : Answer) → IsAnswer core e a → (
 meaningless core e a (inl (has, is)) = (λ k. absurd (answered-something core e (subst (λ (x : Answer). IsAnswered core e x) k is)), λ none. absurd (none has))
 meaningless core e a (inr (none, is)) = (λ k. none, λ k. is)
 
--- Nothing changes nothing
-unchanged : (core : Core) (e : Event) → after core e answer.Nothing ≡ core
-unchanged core (event.Call desk c) = refl
-unchanged core (event.Start desk) = refl
-unchanged core (event.Take run who) = refl
-unchanged core (event.Finish run who) = refl
-unchanged core (event.GiveUp run who) = refl
-unchanged core (event.Write run) = refl
-
 told-full : (s : Inputs) (log : BoardLog) (who : ℕ) → told (board_reply s log who board_call.Take) ≡ answer.Full → ⊥
 told-full s log who e = by (is_at_end s log) (find (is_ready s log) (places s)) e
   where
@@ -312,10 +432,10 @@ told-full s log who e = by (is_at_end s log) (find (is_ready s log) (places s)) 
     by false None k = cc
     by false (Some i) k = cc
 
-answered-full : (core : Core) (e : Event) → IsAnswered core e answer.Full → IsFull core.history
-answered-full core (event.Call desk c) (inl (full, is)) = full
+answered-full : (core : Core) (e : Event) → IsAnswered core e answer.Full → IsOfDesk e × IsFull core.history
+answered-full core (event.Call desk c) (inl (full, is)) = (tt, full)
 answered-full core (event.Call desk c) (inr (open_, r, said, is)) = absurd (cc)
-answered-full core (event.Start desk) (inl (full, is)) = full
+answered-full core (event.Start desk) (inl (full, is)) = (tt, full)
 answered-full core (event.Start desk) (inr (open_, is)) = absurd (cc)
 answered-full core (event.Take run who) is = absurd (told-full (run_inputs core run) (log_at core run) who (sym is))
 answered-full core (event.Finish run who) is = absurd (cc)
@@ -323,9 +443,22 @@ answered-full core (event.GiveUp run who) is = absurd (cc)
 answered-full core (event.Write run) (inl (bytes, is, plannable, text)) = absurd (cc)
 answered-full core (event.Write run) (inr (name, is, refused)) = absurd (cc)
 
-full-is : (core : Core) (e : Event) → IsAnswer core e answer.Full → IsFull core.history
-full-is core e (inl (has, is)) = answered-full core e is
-full-is core e (inr (none, is)) = absurd (cc)
+told-of-full : (core : Core) (e : Event) (a : Answer) → IsOfDesk e → IsFull core.history → IsAnswered core e a → a ≡ answer.Full
+told-of-full core (event.Call desk c) a of full (inl (f, is)) = is
+told-of-full core (event.Call desk c) a of full (inr (open_, r, said, is)) = absurd (open_ full)
+told-of-full core (event.Start desk) a of full (inl (f, is)) = is
+told-of-full core (event.Start desk) a of full (inr (open_, is)) = absurd (open_ full)
+told-of-full core (event.Take run who) a of full is = absurd of
+told-of-full core (event.Finish run who) a of full is = absurd of
+told-of-full core (event.GiveUp run who) a of full is = absurd of
+told-of-full core (event.Write run) a of full is = absurd of
+
+full-is : (core : Core) (e : Event) (a : Answer) → IsAnswer core e a → (a ≡ answer.Full) ↔ AsksFullBook core e
+full-is core e a (inl (has, is)) = (
+  λ k. (let told_so = answered-full core e (subst (λ (x : Answer). IsAnswered core e x) k is) in (told_so.0, has, told_so.1)),
+  λ asks. told-of-full core e a asks.0 asks.2 is,
+)
+full-is core e a (inr (none, is)) = (λ k. absurd (let n : answer.Full ≡ answer.Nothing = sym k ∙ is in cc), λ asks. absurd (none asks.1))
 
 numbered-is : (core : Core) (desk n : ℕ) (c : Call) (r : Reply) → IsAnswer core (event.Call desk c) (answer.Replied n r) → n ≡ next_number core.history
 numbered-is core desk n c r (inl (seat, inl (full, is))) = absurd (cc)
@@ -347,6 +480,26 @@ name-is : (core : Core) (run : ℕ) (name : List ℕ) → IsAnswer core (event.W
 name-is core run name (inl (has, inl (given, is, plannable, text))) = absurd (cc)
 name-is core run name (inl (has, inr (other, is, refused))) = let same : name ≡ other = cc in (has.0, subst (λ (x : List ℕ). IsRefusedBy (run_inputs core run) x) (sym same) refused)
 name-is core run name (inr (none, is)) = absurd (cc)
+
+-- an entry that a step made stands in the history to the end
+core-next : (core : Core) (x : Step) (later : List Step) → core_after core (x ∷ later) ≡ core_after (after core x.0 x.1) later
+unfolding core_after
+core-next core x later = refl
+
+stays-entered : (tables : Tables) (steps before : List Step) (e : Event) (a : Answer) → WasAnswered steps before e a → (n : ℕ) (x : Entry Call Reply)
+    → (after (core_of tables before) e a).history ≡ (core_of tables before).history ++ x ∷ [] → n ≡ next_number (core_of tables before).history → IsEntry (core_of tables steps).history n x
+stays-entered tables steps before e a was n x adds number =
+    let core : Core = core_of tables before in
+    let g = steps-grow (after core e a) was.after in
+    let whole : core_of tables steps ≡ core_after (after core e a) was.after =
+    ap (core_of tables) was.place ∙ core-append (opened tables) before ((e, a) ∷ was.after) ∙ core-next core (e, a) was.after in
+    record {
+      before = core.history;
+      after = g.entries;
+      place =
+          ap (λ (c : Core). c.history) whole ∙ g.history ∙ ap (λ (h : History). h ++ g.entries) adds ∙ append_assoc core.history (x ∷ []) g.entries;
+      counted = number;
+    }
 
 abbrev no_item : Item
 no_item = record { name = []; class = Part; lead = 0; scrap = 0; lot = LotForLot; safety = 0 }
@@ -395,13 +548,18 @@ module _ (shop : Shop) (kept : IsAcceptedShop shop) (steps : List Step) (right :
     legal = end-legal;
     numbered = λ before desk n c r was. numbered-is (core_of shop.tables before) desk n c r (answered shop.tables steps before (event.Call desk c) (answer.Replied n r) right was);
     started = λ before desk run front was. started-is (core_of shop.tables before) desk run front (answered shop.tables steps before (event.Start desk) (answer.Started run front) right was);
+    entered = λ before desk n c r was. stays-entered shop.tables steps before (event.Call desk c) (answer.Replied n r) was n (entry desk c r) refl
+        (numbered-is (core_of shop.tables before) desk n c r (answered shop.tables steps before (event.Call desk c) (answer.Replied n r) right was));
+    snapped = λ before desk run front was. stays-entered shop.tables steps before (event.Start desk) (answer.Started run front) was front (entry desk call.Snapshot (snapshot_of (core_of shop.tables before) front)) refl
+        (started-is (core_of shop.tables before) desk run front (answered shop.tables steps before (event.Start desk) (answer.Started run front) right was)).1;
     written = end-written;
     refused = end-refused;
+    boards = λ run started. (right-boards shop.tables steps right run started).legal;
     within = λ before rest desk number l same. (booked_within (supply_of shop.tables) before rest desk number l (subst (λ (h : History). IsLegal (supply_of shop.tables) h) same end-legal)).0;
     covered = λ before rest same. prefix-covered (supply_of shop.tables) before rest (subst (λ (h : History). IsLegal (supply_of shop.tables) h) same end-legal);
     pegged = end-pegged;
     loaded = λ s was centre week. refl;
     meaning = λ before e a was. meaningless (core_of shop.tables before) e a (answered shop.tables steps before e a right was);
     nothing = λ before e was. core-one shop.tables before (e, answer.Nothing) ∙ unchanged (core_of shop.tables before) e;
-    full = λ before e was. full-is (core_of shop.tables before) e (answered shop.tables steps before e answer.Full right was);
+    full = λ before e a was. full-is (core_of shop.tables before) e a (answered shop.tables steps before e a right was);
   }

@@ -25,7 +25,7 @@ use Rattle.mrp_engine.specs.declared.event.Event.TheVariants as event
 use Rattle.mrp_engine.specs.declared.event.Answer.{Answer}
 use Rattle.mrp_engine.specs.declared.event.Answer.TheVariants as answer
 use Rattle.mrp_engine.specs.Board.{BoardLog, RunLog, board_reply, held, is_at_end, is_finished, is_ready, taken}
-use Rattle.mrp_engine.specs.Core.{Core, HasMeaning, IsAnswer, IsReport, IsStarted, Run, after, finish_of, inputs_at, log_at, no_run, run_at, run_inputs, snapshot_of, told, with_entries}
+use Rattle.mrp_engine.specs.Core.{Core, HasMeaning, IsAnswer, IsReport, IsStarted, Run, WantsMemory, after, finish_of, inputs_at, log_at, no_run, run_at, run_inputs, snapshot_of, told, with_entries}
 use Rattle.mrp_engine.specs.KeptCore.{FollowsHistory, brief}
 
 -- an event without meaning
@@ -146,15 +146,15 @@ module _ (tables : Tables) (h : History) where
 
     -- A run is written.
 
+    pub finished-is : FollowsHistory tables h r → is_finished (run_inputs (seen runs) run) (log_at (seen runs) run) ≡ is_finished r.inputs r.log
+    finished-is f = ap (λ (s : Inputs). is_finished s (log_at (seen runs) run)) (inputs-are f) ∙ ap (λ (l : BoardLog). is_finished r.inputs l) log-is
+
     write-by : (b : Bool) (a : Answer) → is_finished r.inputs r.log ≡ b → FollowsHistory tables h r → (b ≡ true → IsReport r.inputs a) → (b ≡ false → a ≡ answer.Nothing)
         → IsAnswer (seen runs) (event.Write run) a
-    write-by true a is f report nothing = inl ((started, finished-is ∙ is), subst (λ (s : Inputs). IsReport s a) (sym (inputs-are f)) (report refl))
-      where
-        finished-is : is_finished (run_inputs (seen runs) run) (log_at (seen runs) run) ≡ is_finished r.inputs r.log
-        finished-is = ap (λ (s : Inputs). is_finished s (log_at (seen runs) run)) (inputs-are f) ∙ ap (λ (l : BoardLog). is_finished r.inputs l) log-is
+    write-by true a is f report nothing = inl ((started, finished-is f ∙ is), subst (λ (s : Inputs). IsReport s a) (sym (inputs-are f)) (report refl))
     write-by false a is f report nothing =
         subst (λ (x : Answer). IsAnswer (seen runs) (event.Write run) x) (sym (nothing refl))
-        (no-meaning (seen runs) (event.Write run) (λ m. let k : false ≡ true = sym is ∙ sym (ap (λ (s : Inputs). is_finished s (log_at (seen runs) run)) (inputs-are f) ∙ ap (λ (l : BoardLog). is_finished r.inputs l) log-is) ∙ m.1 in cc))
+        (no-meaning (seen runs) (event.Write run) (λ m. let k : false ≡ true = sym is ∙ sym (finished-is f) ∙ m.1 in cc))
 
     pub write-answer : (a : Answer) → FollowsHistory tables h r → (is_finished r.inputs r.log ≡ true → IsReport r.inputs a) → (is_finished r.inputs r.log ≡ false → a ≡ answer.Nothing)
         → IsAnswer (seen runs) (event.Write run) a
@@ -230,6 +230,18 @@ if-both P Q A (Err e) p a f = p
 pub if-two : {X E : Type 0} (P Q R : X → Type 0) (r : Result X E) → IfOk r P → IfOk r Q → ((x : X) → P x → Q x → R x) → IfOk r R
 if-two P Q R (Ok x) p q f = f x p q
 if-two P Q R (Err e) p q f = p
+
+pub on-err : {X E : Type 0} (P : Type 0) (r : Result X E) → P → OnErr r P
+on-err P (Ok x) p = tt
+on-err P (Err e) p = p
+
+at-err : {X E : Type 0} (P Q : Type 0) (r : Result X E) → OnErr r P → (P → Q) → OnErr r Q
+at-err P Q (Ok x) p f = p
+at-err P Q (Err e) p f = f p
+
+-- a book that is not full may want memory
+pub desk-wants : (core : Core) (e : Event) → HasMeaning core e → (IsFull core.history → ⊥) → WantsMemory core e
+desk-wants core e has open_ = (has, λ asks. open_ asks.2)
 
 is-none : (o : Option ℕ) → is_some o ≡ false → o ≡ None
 is-none None e = refl
@@ -307,3 +319,24 @@ module _ (tables : Tables) (h : History) (runs : List RunLog) (now : Core) (run 
   written-answer res report nothing =
       if-two (λ a. is_finished r.inputs r.log ≡ true → IsReport r.inputs a) (λ a. is_finished r.inputs r.log ≡ false → a ≡ answer.Nothing) (IsAnswer now (event.Write run)) res report nothing (λ a s n.
       subst (λ (c : Core). IsAnswer c (event.Write run) a) x.view (write-answer tables h runs run place r x.at a x.follows s n))
+
+  -- What may be refused for want of memory.
+
+  pub take-wants : {E : Type 0} (who : ℕ) (o : Option ℕ) (q : RunLog) (res : Result Answer E) → IsSeatNumber who → is_some o ≡ false → o ≡ held who q.log → q ≡ slice_index_or runs place q
+      → OnErr res (WantsMemory now (event.Take run who))
+  take-wants who o q res seat none is read =
+      let free : held who r.log ≡ None = ap (λ (y : RunLog). held who y.log) (sym (same-run q read)) ∙ sym is ∙ is-none o none in
+      on-err (WantsMemory now (event.Take run who)) res (subst (λ (c : Core). WantsMemory c (event.Take run who)) x.view
+      ((started tables h runs run place r x.at, seat, ap (held who) (log-is tables h runs run place r x.at) ∙ free), λ asks. asks.0))
+
+  pub finish-wants : {E : Type 0} (who : ℕ) (res : Result Answer E) → IsSeatNumber who → OnErr res (IsSome (held who r.log)) → OnErr res (WantsMemory now (event.Finish run who))
+  finish-wants who res seat memory =
+      at-err (IsSome (held who r.log)) (WantsMemory now (event.Finish run who)) res memory (λ some.
+      subst (λ (c : Core). WantsMemory c (event.Finish run who)) x.view
+      ((started tables h runs run place r x.at, seat, subst (λ (o : Option ℕ). IsSome o) (sym (ap (held who) (log-is tables h runs run place r x.at))) some), λ asks. asks.0))
+
+  pub write-wants : {E : Type 0} (res : Result Answer E) → OnErr res (is_finished r.inputs r.log ≡ true) → OnErr res (WantsMemory now (event.Write run))
+  write-wants res memory =
+      at-err (is_finished r.inputs r.log ≡ true) (WantsMemory now (event.Write run)) res memory (λ done.
+      subst (λ (c : Core). WantsMemory c (event.Write run)) x.view
+      ((started tables h runs run place r x.at, finished-is tables h runs run place r x.at x.follows ∙ done), λ asks. asks.0))

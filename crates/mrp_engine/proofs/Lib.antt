@@ -8,6 +8,13 @@ pub mod DayRuns
 pub mod RefusedItem
 pub mod SomeDay
 pub mod BoardLogs
+pub mod BoardLaws
 pub mod CoreLaws
 pub mod CoreSteps
 pub mod CoreRuns
+mod DeskCounts
+mod DeskRecords
+mod Parting
+mod DeskLists
+mod DeskHistories
+mod RightDays

@@ -1,4 +1,4 @@
--- What the history that answers a script keeps.
+-- What a legal history keeps, and so one that answers a script.
 use Rattle.std.proofs.Common.{◌≡◌, ◌∙◌, ℕ, ◌≤◌, Bool, true, false, if◌then◌else◌, nat_le, [], ◌∷◌, ◌++◌, Option, Some, None, sym, ap, subst, refl, arith}
 use Rattle.std.proofs.lemmas.Bool.Decides.{nat_tests}
 use Rattle.std.proofs.lemmas.List.Elements.{All-nil, All-cons}
@@ -18,7 +18,7 @@ use Rattle.mrp_book.specs.History.{IsLegal, IsReply, cancel_reply, next_number, 
 use Rattle.mrp_turn.proofs.Logs.{one_more}
 use Rattle.mrp_book.proofs.Histories.{prefix-covered}
 use Rattle.mrp_item.specs.Inputs.{inputs_of}
-use Rattle.mrp_engine.specs.Day.{AnswersScript, planned_from, runs_of}
+use Rattle.mrp_engine.specs.Day.{planned_from, runs_of}
 use Rattle.mrp_engine.specs.Laws.{BooksWithin, IsRunOf, PlansWhatStood, StaysCovered}
 
 not-booking : (b : Bool) (n a : ℕ) (snapshot : Snapshot) → (if b then reply.Booked n else reply.Short a) ≡ reply.Taken snapshot → ⊥
@@ -79,8 +79,8 @@ runs-from t h before [] legal cut = All-nil (IsRunOf t h)
 runs-from t h before (e ∷ later) legal cut =
     run-at t h before e later cut (legal before e later cut).1 e.reply refl (runs-from t h (before ++ e ∷ []) later legal (cut ∙ one_more before e later))
 
-pub plans-what-stood : (t : Tables) (h : History) → AnswersScript t h → PlansWhatStood t h
-plans-what-stood t h a = runs-from t h [] h a.legal refl
+pub plans-what-stood : (t : Tables) (h : History) → IsLegal (supply_of t) h → PlansWhatStood t h
+plans-what-stood t h legal = runs-from t h [] h legal refl
 
 -- a booking is answered so only within what is available
 within : (b : Bool) (q a n m : ℕ) → nat_le q a ≡ b → reply.Booked n ≡ (if b then reply.Booked m else reply.Short a) → q ≤ a
@@ -93,9 +93,9 @@ booked-within s h desk c r l n is called replied =
     let (a, available, e) = subst (λ (x : Call). IsReply s h desk x r) called is in
     (a, available, within (nat_le l.quantity a) l.quantity a n (next_number h) refl (sym replied ∙ e))
 
-pub books-within : (t : Tables) (h : History) → AnswersScript t h → BooksWithin t h
-books-within t h a before e after l n cut called replied =
-    booked-within (supply_of t) before e.who e.call e.reply l n (a.legal before e after cut).1 called replied
+pub books-within : (t : Tables) (h : History) → IsLegal (supply_of t) h → BooksWithin t h
+books-within t h legal before e after l n cut called replied =
+    booked-within (supply_of t) before e.who e.call e.reply l n (legal before e after cut).1 called replied
 
-pub stays-covered : (t : Tables) (h : History) → AnswersScript t h → StaysCovered t h
-stays-covered t h a before after cut = prefix-covered (supply_of t) before after (subst (IsLegal (supply_of t)) cut a.legal)
+pub stays-covered : (t : Tables) (h : History) → IsLegal (supply_of t) h → StaysCovered t h
+stays-covered t h legal before after cut = prefix-covered (supply_of t) before after (subst (IsLegal (supply_of t)) cut legal)

@@ -66,6 +66,20 @@ HasMeaning core (event.Finish run who) = IsStarted core run × IsSeatNumber who 
 HasMeaning core (event.GiveUp run who) = IsStarted core run × IsSeatNumber who
 HasMeaning core (event.Write run) = IsStarted core run × (is_finished (run_inputs core run) (log_at core run) ≡ true)
 
+-- an event of a desk: it asks the order book for an entry
+abbrev pub IsOfDesk : Event → Type 0
+IsOfDesk (event.Call desk c) = Unit {0}
+IsOfDesk (event.Start desk) = Unit {0}
+IsOfDesk e = ⊥
+
+-- an event that has meaning asks a full order book for an entry
+abbrev pub AsksFullBook : Core → Event → Type 0
+AsksFullBook core e = IsOfDesk e × HasMeaning core e × IsFull core.history
+
+-- an event that may be refused for want of memory: one that has meaning, and asks no full order book
+abbrev pub WantsMemory : Core → Event → Type 0
+WantsMemory core e = HasMeaning core e × (¬ AsksFullBook core e)
+
 -- a board's reply, as the core tells it; none is NotYet
 abbrev pub told : Option BoardReply → Answer
 told None = answer.NotYet
@@ -133,9 +147,9 @@ core_after core (x ∷ later) = core_after (after core x.0 x.1) later
 abbrev pub core_of : Tables → List Step → Core
 core_of tables steps = core_after (opened tables) steps
 
--- an event whose call is one of the shop
+-- an event whose call, if a desk makes one, is one of the shop
 abbrev pub FitsShop : Tables → Event → Type 0
-FitsShop tables (event.Call desk c) = Fits (supply_of tables) c
+FitsShop tables (event.Call desk c) = IsSeatNumber desk → Fits (supply_of tables) c
 FitsShop tables e = Unit {0}
 
 -- an event of the shop, with its answer after the steps before it

@@ -39,6 +39,10 @@ pub record AnswersScript (tables : Tables) (h : History) : Type 0 where
   pub legal : IsLegal (supply_of tables) h
   pub in_order : asked h ≡ with_run (script_of tables)
 
+-- how a script may be answered: which histories answer the script of which tables
+abbrev pub Answering : Type 1
+Answering = Tables → History → Type 0
+
 -- what a reply has planned: a snapshot, what stands at it
 abbrev pub planned_from : Tables → Reply → List Inputs
 planned_from tables (Taken snapshot) = inputs_of tables snapshot ∷ []
@@ -62,17 +66,25 @@ IsFirstRefusal runs name =
     (before : List Inputs) × (s : Inputs) × (after : List Inputs)
     × (runs ≡ before ++ s ∷ after) × All IsPlannable before × IsRefusedBy s name
 
+-- a bundle whose script may be answered so that a run is refused, the first of them by the item of this name
+abbrev pub IsTooLargeBy : Answering → List ℕ → List ℕ → Type 0
+IsTooLargeBy Answers bundle name =
+    (tables : Tables) × IsAccepted bundle tables × (h : History) × Answers tables h × IsFirstRefusal (runs_of tables h) name
+
 -- a bundle of which a run is refused, the first of them by the item of this name
 abbrev pub IsTooLarge : List ℕ → List ℕ → Type 0
-IsTooLarge bundle name =
-    (tables : Tables) × IsAccepted bundle tables × (h : History) × AnswersScript tables h × IsFirstRefusal (runs_of tables h) name
+IsTooLarge = IsTooLargeBy AnswersScript
 
 -- the history, then the report of each run, in order
 abbrev pub day_text : Tables → History → List ℕ
 day_text tables h = history_text tables h ++ flat_map report_text (runs_of tables h)
 
+-- a bundle and the text of a day in which its script is answered like this
+abbrev pub IsDayBy : Answering → List ℕ → List ℕ → Type 0
+IsDayBy Answers bundle text =
+    (tables : Tables) × IsAccepted bundle tables × (h : History) × Answers tables h
+    × All IsPlannable (runs_of tables h) × (text ≡ day_text tables h)
+
 -- a bundle and the text of its day
 abbrev pub IsDay : List ℕ → List ℕ → Type 0
-IsDay bundle text =
-    (tables : Tables) × IsAccepted bundle tables × (h : History) × AnswersScript tables h
-    × All IsPlannable (runs_of tables h) × (text ≡ day_text tables h)
+IsDay = IsDayBy AnswersScript

@@ -4,6 +4,7 @@ use Rattle.std.specs.Global.{Vec}
 use Rattle.mrp_tables.specs.Tables.{Tables}
 use Rattle.mrp_tables.specs.Facts.{IsBillLine, IsItem}
 use Rattle.mrp_bill.specs.Shop.{IsShop, Shop}
+use Rattle.mrp_turn.specs.declared.log.Entry.{Entry}
 use Rattle.mrp_turn.specs.Log.{entry}
 use Rattle.mrp_master.specs.declared.line.Line.{Line}
 use Rattle.mrp_master.specs.Supply.{CanPromise, IsCovered, supply_of}
@@ -12,7 +13,7 @@ use Rattle.mrp_book.specs.declared.call.Call.TheVariants as call
 use Rattle.mrp_book.specs.declared.reply.Reply.{Reply}
 use Rattle.mrp_book.specs.declared.reply.Reply.TheVariants as reply
 use Rattle.mrp_book.specs.Standing.{History, booked}
-use Rattle.mrp_book.specs.History.{IsFull, IsLegal, next_number}
+use Rattle.mrp_book.specs.History.{IsLegal, next_number}
 use Rattle.mrp_item.specs.Inputs.{Inputs, count}
 use Rattle.mrp_peg.specs.Laws.{AddUpToRequirements, AddUpToSupplies}
 use Rattle.mrp_peg.specs.Pegging.{pegs_of}
@@ -23,13 +24,21 @@ use Rattle.mrp_engine.specs.declared.event.Event.TheVariants as event
 use Rattle.mrp_engine.specs.declared.event.Answer.{Answer}
 use Rattle.mrp_engine.specs.declared.event.Answer.TheVariants as answer
 use Rattle.mrp_engine.specs.Day.{IsPlannable, IsRefusedBy}
-use Rattle.mrp_engine.specs.Core.{HasMeaning, IsRight, Step, core_of, run_inputs}
+use Rattle.mrp_engine.specs.Board.{IsLegalBoard}
+use Rattle.mrp_engine.specs.Core.{AsksFullBook, HasMeaning, IsRight, IsStarted, Step, core_of, log_at, run_inputs, snapshot_of}
 
 -- a shop whose tables keep their limits, and in which no item needs itself
 pub record IsAcceptedShop (shop : Shop) : Type 0 where
   pub accepted : IsShop shop
   pub items : All IsItem shop.tables.items
   pub lines : All (IsBillLine shop.tables.items) shop.tables.bills
+
+-- the entry of a history with this number
+pub record IsEntry (h : History) (number : ℕ) (e : Entry Call Reply) : Type 0 where
+  pub before : History
+  pub after : History
+  pub place : h ≡ before ++ e ∷ after
+  pub counted : number ≡ next_number before
 
 -- an event was answered so after these steps
 pub record WasAnswered (steps before : List Step) (e : Event) (a : Answer) : Type 0 where
@@ -56,12 +65,18 @@ pub record Headline (tables : Tables) (steps : List Step) : Type 0 where
   pub numbered : (before : List Step) (desk n : ℕ) (c : Call) (r : Reply) → WasAnswered steps before (event.Call desk c) (answer.Replied n r) → n ≡ next_number (core_of tables before).history
   pub started : (before : List Step) (desk run front : ℕ) → WasAnswered steps before (event.Start desk) (answer.Started run front)
       → (run ≡ length (core_of tables before).runs + 1) × (front ≡ next_number (core_of tables before).history)
+  -- and each stands there under its number to the end
+  pub entered : (before : List Step) (desk n : ℕ) (c : Call) (r : Reply) → WasAnswered steps before (event.Call desk c) (answer.Replied n r) → IsEntry (core_of tables steps).history n (entry desk c r)
+  pub snapped : (before : List Step) (desk run front : ℕ) → WasAnswered steps before (event.Start desk) (answer.Started run front)
+      → IsEntry (core_of tables steps).history front (entry desk call.Snapshot (snapshot_of (core_of tables before) front))
   -- the bytes that a finished run wrote are the report of the plan that the tables and the first entries up to its front define,
   -- whatever came between or after
   pub written : (before : List Step) (run : ℕ) (bytes : Vec ℕ) → WasAnswered steps before (event.Write run) (answer.Bytes bytes)
       → IsPlannable (run_inputs (core_of tables steps) run) × (bytes.items ≡ report_text (run_inputs (core_of tables steps) run))
   pub refused : (before : List Step) (run : ℕ) (name : List ℕ) → WasAnswered steps before (event.Write run) (answer.TooLarge name)
       → IsRefusedBy (run_inputs (core_of tables steps) run) name
+  -- the log of each run's board is legal: an item is handed out where its parents are stored, and stored by the worker that holds it
+  pub boards : (run : ℕ) → IsStarted (core_of tables steps) run → IsLegalBoard (run_inputs (core_of tables steps) run) (log_at (core_of tables steps) run)
   -- no accepted booking exceeded what was then available to promise
   pub within : (before after : History) (desk number : ℕ) (l : Line)
       → (core_of tables steps).history ≡ before ++ entry desk (call.Book l) (reply.Booked number) ∷ after → CanPromise (supply_of tables) (booked before) l.item l.quantity l.week
@@ -74,8 +89,8 @@ pub record Headline (tables : Tables) (steps : List Step) : Type 0 where
   -- an event is answered Nothing exactly where it has no meaning, and changes nothing then
   pub meaning : (before : List Step) (e : Event) (a : Answer) → WasAnswered steps before e a → (a ≡ answer.Nothing) ↔ (¬ HasMeaning (core_of tables before) e)
   pub nothing : (before : List Step) (e : Event) → WasAnswered steps before e answer.Nothing → core_of tables (before ++ (e, answer.Nothing) ∷ []) ≡ core_of tables before
-  -- the order book is full exactly at its limit of entries
-  pub full : (before : List Step) (e : Event) → WasAnswered steps before e answer.Full → IsFull (core_of tables before).history
+  -- a call or a start is answered that the order book is full exactly where it has its limit of entries
+  pub full : (before : List Step) (e : Event) (a : Answer) → WasAnswered steps before e a → (a ≡ answer.Full) ↔ AsksFullBook (core_of tables before) e
 
 -- what a run of the core answers to events: one answer each, and right
 pub record RunsRight (tables : Tables) (events : List Event) (answers : List Answer) : Type 0 where

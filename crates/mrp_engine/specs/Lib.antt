@@ -1,5 +1,6 @@
 pub mod Script
 pub mod Day
+pub mod RightDay
 pub mod Fault
 pub mod Opened
 pub mod Run
@@ -11,3 +12,4 @@ pub mod Headline
 pub mod Kept
 pub mod KeptRun
 pub mod KeptCore
+pub mod Desks

@@ -7,7 +7,7 @@ use Rattle.mrp_bill.specs.Shop.{Shop}
 use Rattle.mrp_report.specs.Written.{HasTaken, HasTakenFront}
 use Rattle.mrp_engine.specs.declared.fault.DayFault.{DayFault}
 use Rattle.mrp_engine.specs.declared.fault.DayFault.TheVariants.{Refused, TooLarge, Read, Write, NoMemory}
-use Rattle.mrp_engine.specs.Day.{IsAccepted, IsDay, IsRefused}
+use Rattle.mrp_engine.specs.Day.{Answering, AnswersScript, IsAccepted, IsDayBy, IsRefused}
 use Rattle.mrp_rows.specs.declared.faults.TheConstants as faults
 
 -- a bundle is what a reader had left, where the reader tells it, and no longer than a bundle may be
@@ -36,17 +36,25 @@ ReadsShop given (Err Read) = ⊤
 ReadsShop given (Err Write) = ⊥
 ReadsShop given (Err NoMemory) = ⊤
 
+-- the text of a day of the bundle that was read, in which its script is answered like this
+abbrev pub TellsDayBy : Answering → Option (List ℕ) → List ℕ → Type 0
+TellsDayBy Answers given text = (bundle : List ℕ) × IsRead given bundle × IsDayBy Answers bundle text
+
 -- the text of the day of the bundle that was read
 abbrev pub TellsDay : Option (List ℕ) → List ℕ → Type 0
-TellsDay given text = (bundle : List ℕ) × IsRead given bundle × IsDay bundle text
+TellsDay = TellsDayBy AnswersScript
 
 -- a writer took a text whole, however many interrupted writes were tried again
 abbrev pub HasTakenAll : {W : Type 0} → (W → Option (List ℕ)) → Told W → Told W → List ℕ → Type 0
 HasTakenAll contents old new text = (retried : ℕ) × HasTaken contents old new text retried
 
+-- a writer took a front of the text of a day in which the script is answered like this
+abbrev pub WritesFrontBy : Answering → {W : Type 0} → (W → Option (List ℕ)) → Option (List ℕ) → Told W → Told W → Type 0
+WritesFrontBy Answers contents given old new = (text : List ℕ) × TellsDayBy Answers given text × HasTakenFront contents old new text
+
 -- a writer took a front of the text of the day
 abbrev pub WritesDayFront : {W : Type 0} → (W → Option (List ℕ)) → Option (List ℕ) → Told W → Told W → Type 0
-WritesDayFront contents given old new = (text : List ℕ) × TellsDay given text × HasTakenFront contents old new text
+WritesDayFront contents given old new = WritesFrontBy AnswersScript contents given old new
 
 -- a refusal before anything is written
 abbrev pub IsBeforeWriting : DayFault → Type 0

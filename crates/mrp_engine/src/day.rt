@@ -1,14 +1,52 @@
 //! A day before it is written.
 
+ghost use Rattle.std.specs.Prelude.{◌≡◌, IfOk};
+ghost use Rattle.mrp_master.specs.Supply.{supply_of};
+ghost use Rattle.mrp_engine.specs.Planned.{PlansHistory};
+
+use crate::fault::DayFault;
+use crate::runs::plan_runs;
 use mrp_bill::Shop;
 use mrp_book::History;
-use mrp_item::Plan;
+use mrp_item::{Plan, ShopRows};
+use mrp_qty::NoMemory;
+use std::alloc::Global;
 use std::sync::Arc;
+use std::thread::Threads;
 
-/// A shop, the history that answers its script, and the plan of each run of it, in order.
+/// A shop, a history of its order book, and the plan of each run of it, in order.
 #[derive(Drop)]
 pub struct Day {
     pub shop: Arc<Shop>,
     pub history: History,
     pub plans: Vec<Plan>,
+}
+
+// The rows of a shop.
+fn rows_of(alloc: Global, shop: &Arc<Shop>) -> Result<Arc<ShopRows>, NoMemory>
+    ensures { IfOk result (λ rows. rows.value ≡ shop.now.value) }
+{
+    ShopRows::of(alloc, shop.clone()?)
+}
+
+/// The day of a shop's history, each run of which is planned.
+///
+/// Errors: `TooLarge` with the first item in table order that gets too large in the first run with
+/// such an item, and `NoMemory`.
+pub fn plan_history(
+    rt: &(impl Threads + Sync),
+    alloc: Global,
+    shop: Arc<Shop>,
+    history: History,
+) -> Result<Day, DayFault>
+    requires { history.supply ≡ supply_of shop.value.tables }
+    ensures { PlansHistory shop.value.tables history.entries result }
+{
+    let rows = rows_of(alloc, &shop)?;
+    let plans = plan_runs(rt, alloc, &rows, &history)?;
+    Ok(Day {
+        shop,
+        history,
+        plans,
+    })
 }

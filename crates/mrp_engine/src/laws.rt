@@ -5,7 +5,8 @@ ghost use Rattle.mrp_rows.specs.declared.fault.Fault.{Fault};
 ghost use Rattle.mrp_tables.specs.Tables.{AreTables, Tables};
 ghost use Rattle.mrp_book.specs.Standing.{History};
 ghost use Rattle.mrp_item.specs.Inputs.{Inputs};
-ghost use Rattle.mrp_engine.specs.Day.{AnswersScript, IsDay, IsRefused, IsTooLarge};
+ghost use Rattle.mrp_engine.specs.Day.{AnswersScript, IsDay, IsDayBy, IsRefused, IsTooLarge};
+ghost use Rattle.mrp_engine.specs.RightDay.{AnswersDesks, IsRightDay};
 ghost use Rattle.mrp_bill.specs.Shop.{Shop};
 ghost use Rattle.mrp_engine.specs.Core.{IsRight, Step};
 ghost use Rattle.mrp_engine.specs.Headline.{Headline, IsAcceptedShop};
@@ -59,6 +60,19 @@ pub fn bookings()
     ensures within { (tables : Tables) (h : History) → AnswersScript tables h → BooksWithin tables h }
     // At every front the standing bookings are covered by the supply.
     ensures covered { (tables : Tables) (h : History) → AnswersScript tables h → StaysCovered tables h }
+{}
+
+/// The right days of a bundle, in which its desks make their calls beside one another.
+pub fn right_days()
+    // The history that answers a script in row order is one of those that answer it desk by desk.
+    ensures in_order { (tables : Tables) (h : History) → AnswersScript tables h → AnswersDesks tables h }
+    // So the day of a bundle is a right day of it, and so is each in which the desks answer beside one another.
+    ensures day { (bundle text : List ℕ) → IsDay bundle text → IsRightDay bundle text }
+    ensures live { (bundle text : List ℕ) → IsDayBy AnswersDesks bundle text → IsRightDay bundle text }
+    // Its runs are planned from what stood, and its bookings were within what was available, as in row order.
+    ensures what_stood { (tables : Tables) (h : History) → AnswersDesks tables h → PlansWhatStood tables h }
+    ensures within { (tables : Tables) (h : History) → AnswersDesks tables h → BooksWithin tables h }
+    ensures covered { (tables : Tables) (h : History) → AnswersDesks tables h → StaysCovered tables h }
 {}
 
 /// The headline. For every interleaving of bookings, cancellations, snapshots and item steps, with any

@@ -3,20 +3,25 @@
 
 mod board;
 mod day;
+mod desks;
 mod event;
 mod fault;
 pub mod laws;
+mod live;
 mod opening;
 mod planning;
 mod reading;
 mod run;
 mod runs;
 mod script;
+mod serving;
 mod started;
 mod steps;
 mod writing;
 
+pub use desks::answer_by_desks;
 pub use event::{Answer, Event};
 pub use fault::DayFault;
+pub use live::live_day;
 pub use run::{MOST_WORKERS, run_day};
 pub use steps::Core;

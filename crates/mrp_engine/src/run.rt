@@ -1,6 +1,6 @@
 //! A day: from a reader's bundle to a writer's history and reports.
 
-ghost use Rattle.std.specs.Prelude.{◌≡◌, ◌≢◌, ◌⊎◌, ℕ, List, Err, OnOk, IfOk, IfErr};
+ghost use Rattle.std.specs.Prelude.{◌≡◌, ◌≢◌, ◌⊎◌, ℕ, List, Err, OnOk, IfErr};
 ghost use Rattle.std.specs.Int.{IsInRange};
 ghost use Rattle.std.specs.Io.KnownBytes.{IsAtEnd};
 ghost use Rattle.mrp_rows.specs.Streams.{TakesFront};
@@ -8,19 +8,16 @@ ghost use Rattle.mrp_rows.specs.Told.{inner_of, moved_of};
 ghost use Rattle.mrp_rows.specs.declared.fault.Fault.{Fault};
 ghost use Rattle.mrp_rows.specs.declared.faults.TheConstants as faults;
 ghost use Rattle.mrp_report.specs.Written.{HasGivenUp};
-ghost use Rattle.mrp_engine.specs.Day.{IsRefused, IsTooLarge};
+ghost use Rattle.mrp_engine.specs.Day.{AnswersScript, IsRefused, IsTooLarge};
 ghost use Rattle.mrp_engine.specs.Planned.{PlansDay};
 ghost use Rattle.mrp_engine.specs.Run.{HasNotFailed, HasPassedLimits, HasTakenAll, IsAfterReading, IsBeforeWriting, IsRead, IsReadWithin, TellsDay, WritesDayFront};
 
-use crate::day::Day;
+use crate::day::{Day, plan_history};
 use crate::fault::DayFault;
 use crate::reading::read_shop;
-use crate::runs::plan_runs;
 use crate::script::answer_script;
 use crate::writing::write_day;
 use mrp_bill::Shop;
-use mrp_item::ShopRows;
-use mrp_qty::NoMemory;
 use mrp_rows::{Told, WRITE_TRIES};
 use std::alloc::Global;
 use std::io::{Read, Write};
@@ -28,36 +25,23 @@ use std::sync::Arc;
 use std::thread::Threads;
 
 /// The most workers of a day.
-pub const MOST_WORKERS: u64 = 64;
+pub const MOST_WORKERS: u64 = mrp_report::MOST_WORKERS;
 
-// The rows of a shop.
-fn rows_of(alloc: Global, shop: &Arc<Shop>) -> Result<Arc<ShopRows>, NoMemory>
-    ensures { IfOk result (λ rows. rows.value ≡ shop.now.value) }
-{
-    ShopRows::of(alloc, shop.clone()?)
-}
-
-// Answers a shop's script, and plans the runs of it.
+// Answers a shop's script record by record, and plans the runs of it.
 fn plan_day(rt: &(impl Alloc + Threads + Sync), alloc: Global, shop: Shop) -> Result<Day, DayFault>
-    ensures { PlansDay shop.tables result }
+    ensures { PlansDay AnswersScript shop.tables result }
 {
     let shop = Arc::new(alloc, shop)?;
     let history = answer_script(alloc, &shop)?;
-    let rows = rows_of(alloc, &shop)?;
-    let plans = plan_runs(rt, alloc, &rows, &history)?;
-    Ok(Day {
-        shop,
-        history,
-        plans,
-    })
+    plan_history(rt, alloc, shop, history)
 }
 
 /// Reads a bundle to its end, answers its script, plans its runs, and writes the history and the
 /// report of each run. Nothing is written before every run is planned.
 ///
 /// The items of a low-level code are planned side by side, and the work centres' loads are summed side
-/// by side, where there are enough of them. An interrupted read or write is tried again.
-/// It owes 1 to 64 workers, of which it makes no use.
+/// by side, where there are enough of them. So many workers, 1 to 64 as the caller owes, make the rows
+/// of a report. An interrupted read or write is tried again.
 ///
 /// Errors: `Read` where the reader failed in this call, needed more than 100,000,000 calls or gave
 /// more than 67,108,864 bytes; `Refused` with the bundle's first fault, the loop last; `TooLarge`
@@ -93,6 +77,6 @@ pub fn run_day<R: Read, W: Write>(
 {
     let shop = read_shop(alloc, reader)?;
     let day = plan_day(rt, alloc, shop)?;
-    write_day(rt, alloc, day, writer)?;
+    write_day(rt, alloc, day, writer, workers)?;
     Ok(())
 }

@@ -16,10 +16,10 @@ use mrp_tables::{ScriptCall, ScriptRow};
 use std::alloc::Global;
 
 // The desk whose run is added to a script without one.
-const ADDED_DESK: u64 = 1;
+pub const ADDED_DESK: u64 = 1;
 
 // A script's call, as the order book takes it: a run plans a snapshot.
-fn call_of(call: ScriptCall) -> Call
+pub fn call_of(call: ScriptCall) -> Call
     ensures { result ≡ call_of call }
 {
     match call {
@@ -40,7 +40,7 @@ fn call_of(call: ScriptCall) -> Call
 }
 
 // Whether a script has a run.
-fn has_run(script: &[ScriptRow]) -> bool
+pub fn has_run(script: &[ScriptRow]) -> bool
     ensures { result ≡ list_any (λ r. is_run (call_of r.call)) script.now }
 {
     script.iter().any(|row| matches!(row.call, ScriptCall::Run))

@@ -1,9 +1,10 @@
 //! A run that was started.
 
-ghost use Rattle.std.specs.Prelude.{◌≡◌, IfOk, OnErr, OnOk, Some};
+ghost use Rattle.std.specs.Prelude.{◌≡◌, ℕ, Err, IfOk, IsOk, OnErr, OnOk, Some};
 ghost use Rattle.mrp_master.specs.Supply.{supply_of};
 ghost use Rattle.mrp_book.specs.Booked.{AreBooked};
 ghost use Rattle.mrp_item.specs.Inputs.{inputs_of};
+ghost use Rattle.mrp_explode.specs.declared.fault.RunFault.TheVariants as fault;
 ghost use Rattle.mrp_explode.specs.Explosion.{Explodes};
 ghost use Rattle.mrp_report.specs.ReportText.{report_text};
 ghost use Rattle.mrp_engine.specs.Core.{IsReport, told};
@@ -71,7 +72,7 @@ fn report_of(
     ensures { IfOk result (λ bytes. bytes.items ≡ report_text plan.now.inputs) }
 {
     let mut writer = Told::new(Vec::new(alloc));
-    match write_report(rt, alloc, plan, &mut writer) {
+    match write_report(rt, alloc, plan, &mut writer, 1) {
         Ok(()) => Ok(writer.into_inner()),
         Err(_) => Err(NoMemory),
     }
@@ -85,7 +86,8 @@ fn written(
     planned: Result<Plan, RunFault>,
 ) -> Result<Answer, NoMemory>
     requires { Explodes inputs.now planned }
-    ensures { IfOk result (IsReport inputs.now) }
+    ensures report { IfOk result (IsReport inputs.now) }
+    ensures large { (item : ℕ) → planned ≡ Err (fault.TooLarge item) → IsOk result }
 {
     match planned {
         Ok(plan) => Ok(Answer::Bytes(report_of(rt, alloc, &plan)?)),
@@ -145,12 +147,14 @@ impl Run {
 
     /// Plans and stores the item that a worker holds.
     ///
-    /// Errors: `NoMemory` where memory is refused. Nothing has changed then.
+    /// Errors: `NoMemory` where memory is refused, and the worker holds an item. Nothing has changed
+    /// then.
     pub fn finish(&mut self, alloc: Global, worker: u64) -> Result<Answer, NoMemory>
         ensures held { IfOk result (λ a. IsSome (held worker self.old.log) → a ≡ answer.Stored) }
         ensures not_held { IfOk result (λ a. held worker self.old.log ≡ None → a ≡ answer.Nothing) }
         ensures entry { OnOk result (self.new ≡ record self.old { log = self.old.log ++ finish_of worker (held worker self.old.log) }) }
         ensures refused { OnErr result (self.new ≡ self.old) }
+        ensures memory { OnErr result (IsSome (held worker self.old.log)) }
     {
         let Some(board) = &mut self.board else {
             return Ok(Answer::Nothing);
@@ -176,9 +180,19 @@ impl Run {
         }
     }
 
+    // Whether every item is stored.
+    fn is_finished(&self) -> bool
+        ensures { result ≡ is_finished self.now.inputs self.now.log }
+    {
+        match &self.board {
+            Some(board) => board.is_finished(),
+            None => self.rows.shop().tables().items().is_empty(),
+        }
+    }
+
     /// The report of a run whose items are all stored.
     ///
-    /// Errors: `NoMemory` where memory is refused. Nothing has changed then.
+    /// Errors: `NoMemory` where memory is refused, and they are. Nothing has changed then.
     pub fn write(
         &mut self,
         rt: &(impl Alloc + Threads + Sync),
@@ -187,14 +201,15 @@ impl Run {
         ensures report { IfOk result (λ a. is_finished self.old.inputs self.old.log ≡ true → IsReport self.old.inputs a) }
         ensures nothing { IfOk result (λ a. is_finished self.old.inputs self.old.log ≡ false → a ≡ answer.Nothing) }
         ensures same { self.new ≡ self.old }
+        ensures memory { OnErr result (is_finished self.old.inputs self.old.log ≡ true) }
     {
+        if !self.is_finished() {
+            return Ok(Answer::Nothing);
+        }
         begin(alloc, &self.rows, &self.snapshot, &mut self.board)?;
         let Some(board) = &self.board else {
             unreachable!()
         };
-        if !board.is_finished() {
-            return Ok(Answer::Nothing);
-        }
         written(rt, alloc, board.inputs(), board.plan(alloc))
     }
 }

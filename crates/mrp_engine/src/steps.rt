@@ -48,7 +48,7 @@ impl Core {
     ghost use Rattle.mrp_master.specs.Supply.{supply_of};
     ghost use Rattle.mrp_book.specs.History.{Fits};
     ghost use Rattle.mrp_engine.specs.declared.event.Event.TheVariants as event;
-    ghost use Rattle.mrp_engine.specs.Core.{FitsShop, IsAnswer, IsStarted, after, opened};
+    ghost use Rattle.mrp_engine.specs.Core.{FitsShop, IsAnswer, IsStarted, WantsMemory, after, opened};
     ghost use Rattle.mrp_engine.specs.Headline.{RunsRight};
 
     /// The core of a shop, without an entry and without a run.
@@ -68,9 +68,11 @@ impl Core {
 
     /// Answers an event: a call on the order book, the start of a run, a step of a worker at a run,
     /// or the report of a run. An event that has no meaning is answered `Nothing` and changes
-    /// nothing. The caller owes a call that was made for an equal shop.
+    /// nothing. Of a desk with a number from 1 to 64 the caller owes a call that was made for an equal
+    /// shop.
     ///
-    /// Errors: `NoMemory` where memory is refused. Nothing has changed then.
+    /// Errors: `NoMemory` where memory is refused. Nothing has changed then. An event that has no
+    /// meaning takes no memory, nor does one that a full order book is asked.
     pub fn step(
         &mut self,
         rt: &(impl Alloc + Threads + Sync),
@@ -81,6 +83,8 @@ impl Core {
         ensures answer { IfOk result (IsAnswer self.old event) }
         ensures after { IfOk result (λ a. self.new ≡ after self.old event a) }
         ensures refused { OnErr result (self.new ≡ self.old) }
+        ensures memory { OnErr result (WantsMemory self.old event) }
+        ensures tables { self.new.tables ≡ self.old.tables }
     {
         match event {
             Event::Call(desk, call) => self.call(alloc, desk, call),
@@ -94,10 +98,11 @@ impl Core {
 
     // A desk calls on the order book.
     fn call(&mut self, alloc: Global, desk: u64, call: Call) -> Result<Answer, NoMemory>
-        requires { Fits (supply_of self.old.tables) call }
+        requires { IsSeatNumber desk → Fits (supply_of self.old.tables) call }
         ensures answer { IfOk result (IsAnswer self.old (event.Call desk call)) }
         ensures after { IfOk result (λ a. self.new ≡ after self.old (event.Call desk call) a) }
         ensures refused { OnErr result (self.new ≡ self.old) }
+        ensures memory { OnErr result (WantsMemory self.old (event.Call desk call)) }
     {
         if !is_seat(desk) {
             return Ok(Answer::Nothing);
@@ -121,6 +126,7 @@ impl Core {
         ensures answer { IfOk result (IsAnswer self.old (event.Start desk)) }
         ensures after { IfOk result (λ a. self.new ≡ after self.old (event.Start desk) a) }
         ensures refused { OnErr result (self.new ≡ self.old) }
+        ensures memory { OnErr result (WantsMemory self.old (event.Start desk)) }
     {
         if !is_seat(desk) {
             return Ok(Answer::Nothing);
@@ -159,6 +165,7 @@ impl Core {
         ensures answer { IfOk result (IsAnswer self.old (event.Take run worker)) }
         ensures after { IfOk result (λ a. self.new ≡ after self.old (event.Take run worker) a) }
         ensures refused { OnErr result (self.new ≡ self.old) }
+        ensures memory { OnErr result (WantsMemory self.old (event.Take run worker)) }
     {
         let Some(place) = self.place(run) else {
             return Ok(Answer::Nothing);
@@ -177,6 +184,7 @@ impl Core {
         ensures answer { IfOk result (IsAnswer self.old (event.Finish run worker)) }
         ensures after { IfOk result (λ a. self.new ≡ after self.old (event.Finish run worker) a) }
         ensures refused { OnErr result (self.new ≡ self.old) }
+        ensures memory { OnErr result (WantsMemory self.old (event.Finish run worker)) }
     {
         let Some(place) = self.place(run) else {
             return Ok(Answer::Nothing);
@@ -192,6 +200,7 @@ impl Core {
         ensures answer { IfOk result (IsAnswer self.old (event.GiveUp run worker)) }
         ensures after { IfOk result (λ a. self.new ≡ after self.old (event.GiveUp run worker) a) }
         ensures refused { OnErr result (self.new ≡ self.old) }
+        ensures memory { OnErr result (WantsMemory self.old (event.GiveUp run worker)) }
     {
         let Some(place) = self.place(run) else {
             return Ok(Answer::Nothing);
@@ -213,6 +222,7 @@ impl Core {
         ensures answer { IfOk result (IsAnswer self.old (event.Write run)) }
         ensures after { IfOk result (λ a. self.new ≡ after self.old (event.Write run) a) }
         ensures refused { OnErr result (self.new ≡ self.old) }
+        ensures memory { OnErr result (WantsMemory self.old (event.Write run)) }
     {
         let Some(place) = self.place(run) else {
             return Ok(Answer::Nothing);
@@ -220,8 +230,8 @@ impl Core {
         self.runs[place].write(rt, alloc)
     }
 
-    /// What a new core of a shop answers to events, one answer each. The caller owes calls that were
-    /// made for an equal shop.
+    /// What a new core of a shop answers to events, one answer each. The caller owes of desks with a
+    /// number from 1 to 64 calls that were made for an equal shop.
     ///
     /// Errors: `NoMemory` where memory is refused.
     pub fn run(

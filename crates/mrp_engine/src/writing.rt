@@ -1,6 +1,7 @@
 //! The text of a day, written.
 
 ghost use Rattle.std.specs.Prelude.{◌≡◌, Err, IfErr, OnOk, OnErr, flat_map};
+ghost use Rattle.std.specs.Int.{IsInRange};
 ghost use Rattle.mrp_report.specs.ReportText.{report_text};
 ghost use Rattle.mrp_report.specs.Written.{HasGivenUp, HasTakenFront};
 ghost use Rattle.mrp_engine.specs.Planned.{IsPlanned, inputs_of_plans, text_of};
@@ -8,6 +9,7 @@ ghost use Rattle.mrp_engine.specs.Run.{HasNotFailed, HasTakenAll, IsWhileWriting
 
 use crate::day::Day;
 use crate::fault::DayFault;
+use crate::run::MOST_WORKERS;
 use mrp_item::Plan;
 use mrp_report::{write_history, write_report};
 use mrp_rows::{Told, WRITE_TRIES};
@@ -21,7 +23,9 @@ fn write_reports<W: Write>(
     alloc: Global,
     plans: &[Plan],
     writer: &mut Told<W>,
+    workers: usize,
 ) -> Result<(), DayFault>
+    requires workers { IsInRange 1 MOST_WORKERS workers }
     ensures whole { OnOk result (HasTakenAll W.contents writer.old writer.new (flat_map report_text (inputs_of_plans plans.now))) }
     ensures front { OnErr result (HasTakenFront W.contents writer.old writer.new (flat_map report_text (inputs_of_plans plans.now))) }
     ensures gave_up { result ≡ Err DayFault.Write → HasGivenUp writer.old writer.new WRITE_TRIES }
@@ -29,7 +33,7 @@ fn write_reports<W: Write>(
     ensures writing { IfErr result IsWhileWriting }
 {
     for plan in plans {
-        write_report(rt, alloc, plan, writer)?;
+        write_report(rt, alloc, plan, writer, workers)?;
     }
     Ok(())
 }
@@ -40,8 +44,10 @@ fn write_texts<W: Write>(
     alloc: Global,
     day: &Day,
     writer: &mut Told<W>,
+    workers: usize,
 ) -> Result<(), DayFault>
-    requires { IsPlanned day.now }
+    requires planned { IsPlanned day.now }
+    requires workers { IsInRange 1 MOST_WORKERS workers }
     ensures whole { OnOk result (HasTakenAll W.contents writer.old writer.new (text_of day.now)) }
     ensures front { OnErr result (HasTakenFront W.contents writer.old writer.new (text_of day.now)) }
     ensures gave_up { result ≡ Err DayFault.Write → HasGivenUp writer.old writer.new WRITE_TRIES }
@@ -49,10 +55,11 @@ fn write_texts<W: Write>(
     ensures writing { IfErr result IsWhileWriting }
 {
     write_history(alloc, &day.history, &day.shop, writer)?;
-    write_reports(rt, alloc, &day.plans, writer)
+    write_reports(rt, alloc, &day.plans, writer, workers)
 }
 
-/// Writes a planned day, which is given up: the history, and then the report of each of its runs.
+/// Writes a planned day, which is given up: the history, and then the report of each of its runs, whose
+/// rows so many workers make, 1 to 64 as the caller owes.
 ///
 /// Errors: `Write` where a write failed in this call, or more than 1,000,000 were interrupted in the
 /// history or in a report, and `NoMemory` where a growth of memory was refused, and no write failed. A
@@ -62,13 +69,15 @@ pub fn write_day<W: Write>(
     alloc: Global,
     day: Day,
     writer: &mut Told<W>,
+    workers: usize,
 ) -> Result<(), DayFault>
-    requires { IsPlanned day }
+    requires planned { IsPlanned day }
+    requires workers { IsInRange 1 MOST_WORKERS workers }
     ensures whole { OnOk result (HasTakenAll W.contents writer.old writer.new (text_of day)) }
     ensures front { OnErr result (HasTakenFront W.contents writer.old writer.new (text_of day)) }
     ensures gave_up { result ≡ Err DayFault.Write → HasGivenUp writer.old writer.new WRITE_TRIES }
     ensures unfailed { result ≡ Err DayFault.NoMemory → HasNotFailed writer.old writer.new }
     ensures writing { IfErr result IsWhileWriting }
 {
-    write_texts(rt, alloc, &day, writer)
+    write_texts(rt, alloc, &day, writer, workers)
 }

@@ -1,9 +1,8 @@
 -- Items are planned in an order in which parents stand before their components.
-use Rattle.std.proofs.Common.{◌≡◌, ◌∙◌, ◌≢◌, ℕ, zero, suc, ◌+◌, ◌<◌, true, List, [], ◌∷◌, ◌++◌, Option, Some, None, length, length-set, get_or, set, sym, ap, subst, inl, inr, refl, arith, get_or-set_same, get_or-set_other}
+use Rattle.std.proofs.Common.{◌≡◌, ◌∙◌, ◌≢◌, ℕ, ◌+◌, ◌<◌, true, List, Option, Some, None, length, length-set, get_or, set, sym, ap, subst, inl, inr, refl, arith, get_or-set_same, get_or-set_other}
 use Rattle.std.proofs.lemmas.Bool.{cases_order}
-use Rattle.std.proofs.lemmas.List.{map-append}
-use Rattle.std.proofs.lemmas.List.Elements.{All-push, filter_passes}
-use Rattle.std.specs.Prelude.{All, map, IsSome}
+use Rattle.std.proofs.lemmas.List.Elements.{filter_passes}
+use Rattle.std.specs.Prelude.{All, IsSome}
 use Rattle.std.specs.List.{range_with_len, slice_index_or}
 use Rattle.mrp_tables.specs.declared.rows.BillLine.{BillLine}
 use Rattle.mrp_bill.specs.Bill.{IsOrder, is_parent, parents_of}

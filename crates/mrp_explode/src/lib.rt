@@ -3,11 +3,13 @@
 
 mod fault;
 mod finished;
+mod gate;
 mod grouping;
 mod levels;
 mod serial;
 
 pub use fault::RunFault;
 pub use finished::Finished;
+pub use gate::{Gate, OpenGate};
 pub use levels::explode_levels;
 pub use serial::explode_serial;

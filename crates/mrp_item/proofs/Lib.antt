@@ -13,6 +13,7 @@ pub mod SupplyOrder
 pub mod ReceiptRows
 pub mod OwnPlan
 pub mod Firsts
+pub mod Results
 pub mod PlannedItems
 pub mod Fuel
 pub mod ShopLemmas

@@ -13,15 +13,26 @@ use Rattle.mrp_item.specs.Orders.{orders_of}
 use Rattle.mrp_item.specs.Recursion.{value_to}
 use Rattle.mrp_item.specs.Plan.{Outcome, Planned, Over, Blocked, ItemPlan, is_planned, is_too_large, item_plan, gross_in, outcome_of, outcome_step}
 
--- a planned item's plan is that of its parents' outcomes, and not too large
-record IsStep (t : Bool) (p plan : ItemPlan) : Type 0 where
-  small : t ≡ false
-  same : p ≡ plan
+-- an item's plan, from the outcomes of those above it
+abbrev pub plan_below : Inputs → ℕ → ItemPlan
+plan_below s i = item_plan s i (row (horizon s) (gross_in s i (value_to (outcome_step s) Blocked (count s))))
 
-stepped : (b t : Bool) (p plan : ItemPlan) → (if b then (if t then Over else Planned p) else Blocked) ≡ Planned plan → IsStep t p plan
-stepped true true p plan e = absurd (cc)
-stepped true false p plan e = record { small = refl; same = cc }
-stepped false t p plan e = absurd (cc)
+-- a planned item's plan is that of its parents' outcomes, and not too large
+pub record IsStep (large : Bool) (own plan : ItemPlan) : Type 0 where
+  pub small : large ≡ false
+  pub same : own ≡ plan
+
+pub stepped : (ready large : Bool) (own plan : ItemPlan) → (if ready then (if large then Over else Planned own) else Blocked) ≡ Planned plan → IsStep large own plan
+stepped true true own plan e = absurd (cc)
+stepped true false own plan e = record { small = refl; same = cc }
+stepped false large own plan e = absurd (cc)
+
+pub step_of : (s : Inputs) (i : ℕ) (plan : ItemPlan) → outcome_of s i ≡ Planned plan → IsStep (is_too_large s i (plan_below s i)) (plan_below s i) plan
+step_of s i plan e =
+    let above : ℕ → Outcome = value_to (outcome_step s) Blocked (count s) in
+    let own : ItemPlan = plan_below s i in
+    let is : outcome_step s i above ≡ Planned plan = unfold outcome_of in unfold value_to in e in
+    stepped (list_all (λ q. is_planned (above q)) (parents_of s.tables.bills (count s) i)) (is_too_large s i own) own plan is
 
 first : (a b : Bool) → (a || b) ≡ false → a ≡ false
 first true b e = absurd (cc)
@@ -35,14 +46,12 @@ pub record IsPlanOf (s : Inputs) (i : ℕ) (plan : ItemPlan) : Type 0 where
 
 pub planned_rows : (s : Inputs) (i : ℕ) (plan : ItemPlan) → outcome_of s i ≡ Planned plan → IsPlanOf s i plan
 planned_rows s i plan e =
-    let above : ℕ → Outcome = value_to (outcome_step s) Blocked (count s) in
-    let p : ItemPlan = item_plan s i (row (horizon s) (gross_in s i above)) in
-    let e' : outcome_step s i above ≡ Planned plan = unfold outcome_of in unfold value_to in e in
-    let step : IsStep (is_too_large s i p) p plan = stepped (list_all (λ q. is_planned (above q)) (parents_of s.tables.bills (count s) i)) (is_too_large s i p) p plan e' in
+    let p : ItemPlan = plan_below s i in
+    let step = step_of s i plan e in
     let small : nat_lt greatest_quantity (sum_to p.gross (horizon s) + (stock_of s i).safety) ≡ false = first _ _ step.small in
     let at_most = ltb-false greatest_quantity (sum_to p.gross (horizon s) + (stock_of s i).safety) small in
     let gross : p.gross ≡ plan.gross = ap (λ (q : ItemPlan). q.gross) step.same in
-    let long : length p.gross ≡ horizon s = length-row (gross_in s i above) (horizon s) in
+    let long : length p.gross ≡ horizon s = length-row (gross_in s i (value_to (outcome_step s) Blocked (count s))) (horizon s) in
     let whole : sum_to p.gross (horizon s) ≡ sum p.gross = ap (sum_to p.gross) (sym long) ∙ sum_to_whole p.gross in
     record {
       weeks = ap length (sym gross) ∙ long;

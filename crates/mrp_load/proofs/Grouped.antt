@@ -1,5 +1,5 @@
 -- Operations are put in the groups of their work centres.
-use Rattle.std.proofs.Common.{◌≡◌, ◌≢◌, ◌∙◌, ℕ, ◌+◌, ◌-◌, ◌<◌, ◌≤◌, Bool, true, false, cond, eqb, List, [], ◌∷◌, ◌++◌, length, take, map, get_or, set, refl, sym, ap, subst, arith}
+use Rattle.std.proofs.Common.{◌≡◌, ◌≢◌, ◌∙◌, ℕ, ◌+◌, ◌-◌, ◌<◌, Bool, true, false, cond, eqb, List, [], ◌∷◌, ◌++◌, length, take, map, get_or, set, refl, sym, ap, subst, arith}
 use Rattle.std.specs.Prelude.{All, filter, Vec}
 use Rattle.std.specs.Int.{IsInRange}
 use Rattle.std.specs.declared.alloc.Global.{Global}
@@ -18,7 +18,7 @@ use Rattle.mrp_item.specs.Inputs.{Inputs, horizon}
 use Rattle.mrp_load.specs.Bounds.{AreOperations}
 use Rattle.mrp_load.specs.Groups.{Appends, group_at}
 use Rattle.mrp_load.specs.Kept.{AreLoads}
-use Rattle.mrp_load.specs.Loads.{centres, load, loads_by, operations_at}
+use Rattle.mrp_load.specs.Loads.{load, loads_by, operations_at}
 use Rattle.mrp_load.proofs.Summing.{loads_by-row}
 
 abbrev pub items : Vec Operation Global → List Operation

@@ -1,21 +1,18 @@
 -- What the orders of a planned item keep.
-use Rattle.std.proofs.Common.{◌≡◌, ◌∙◌, ℕ, zero, suc, ◌+◌, ◌-◌, ◌<◌, ◌≤◌, ◌||◌, ◌^◌, Bool, true, false, cond, List, [], ◌∷◌, ◌++◌, length, refl, sym, ap, subst, arith}
-use Rattle.std.specs.Prelude.{if◌then◌else◌, All, flat_map, max, nat_lt, sum_by}
-use Rattle.std.specs.Int.{IsInRange}
-use Rattle.std.specs.List.{list_all}
+use Rattle.std.proofs.Common.{◌≡◌, ℕ, zero, suc, ◌-◌, ◌<◌, ◌≤◌, ◌||◌, ◌^◌, Bool, true, false, cond, List, [], ◌∷◌, length, ap, subst, arith}
+use Rattle.std.specs.Prelude.{All, flat_map, max, nat_lt, sum_by}
 use Rattle.std.proofs.lemmas.Bool.{ltb-false}
 use Rattle.std.proofs.lemmas.List.Elements.{All-append, All-cons, All-map, All-nil}
 use Rattle.mrp_qty.specs.Quantity.{greatest_quantity}
 use Rattle.mrp_tables.specs.declared.rows.MasterRow.{MasterRow}
-use Rattle.mrp_bill.specs.Bill.{parents_of}
-use Rattle.mrp_phase.specs.Weeks.{in_week, row, sum_to, weeks}
+use Rattle.mrp_phase.specs.Weeks.{in_week, weeks}
 use Rattle.mrp_item.specs.declared.order.Order.{Order}
 use Rattle.mrp_item.specs.declared.order.OrderKind.TheVariants as kind
-use Rattle.mrp_item.specs.Inputs.{Inputs, count, horizon, item_at}
-use Rattle.mrp_item.specs.Rows.{firm_rows, stock_of}
+use Rattle.mrp_item.specs.Inputs.{Inputs, horizon, item_at}
+use Rattle.mrp_item.specs.Rows.{firm_rows}
 use Rattle.mrp_item.specs.Orders.{firm_orders, order_of, orders_due, orders_of, planned_order}
-use Rattle.mrp_item.specs.Recursion.{value_to}
-use Rattle.mrp_item.specs.Plan.{Outcome, Planned, Over, Blocked, ItemPlan, gross_in, is_planned, is_too_large, item_plan, outcome_of, outcome_step}
+use Rattle.mrp_item.specs.Plan.{Planned, ItemPlan, outcome_of}
+use Rattle.mrp_item.proofs.PlannedRows.{plan_below, step_of}
 use Rattle.mrp_item.proofs.Starts.{orders_more}
 use Rattle.mrp_item.proofs.OrderWeeks.{due-within}
 use Rattle.mrp_load.specs.Bounds.{AreOrders}
@@ -52,16 +49,6 @@ released s i receipts = up_to (horizon s)
         rw (orders_more (orders_due s i receipts) n)
         (All-append IsReleased (flat_map (orders_due s i receipts) (weeks n)) (orders_due s i receipts (suc n)) (up_to n) (released_here s i (suc n) receipts))
 
--- a planned item's plan is that of its parents' outcomes, and not too large
-record IsStep (t : Bool) (p plan : ItemPlan) : Type 0 where
-  small : t ≡ false
-  same : p ≡ plan
-
-stepped : (b t : Bool) (p plan : ItemPlan) → (if b then (if t then Over else Planned p) else Blocked) ≡ Planned plan → IsStep t p plan
-stepped true true p plan e = absurd (cc)
-stepped true false p plan e = record { small = refl; same = cc }
-stepped false t p plan e = absurd (cc)
-
 last : (a b c : Bool) → (a || (b || c)) ≡ false → c ≡ false
 last true b c e = absurd (cc)
 last false true c e = absurd (cc)
@@ -70,10 +57,8 @@ last false false c e = e
 -- the orders of a planned item
 pub planned-orders : (s : Inputs) (i : ℕ) (plan : ItemPlan) → outcome_of s i ≡ Planned plan → length plan.orders < 2 ^ 64 → AreOrders (horizon s) plan.orders
 planned-orders s i plan e few =
-    let above : ℕ → Outcome = value_to (outcome_step s) Blocked (count s) in
-    let p : ItemPlan = item_plan s i (row (horizon s) (gross_in s i above)) in
-    let e' : outcome_step s i above ≡ Planned plan = unfold outcome_of in unfold value_to in e in
-    let step : IsStep (is_too_large s i p) p plan = stepped (list_all (λ q. is_planned (above q)) (parents_of s.tables.bills (count s) i)) (is_too_large s i p) p plan e' in
+    let p : ItemPlan = plan_below s i in
+    let step = step_of s i plan e in
     let small : nat_lt greatest_quantity (sum_by (λ (o : Order). o.start) p.orders) ≡ false = last _ _ _ step.small in
     let own : AreOrders (horizon s) p.orders = record {
       due = due-within s i p.receipts;

@@ -2,3 +2,4 @@ pub mod DayEnds
 pub mod Asked
 pub mod Workers
 pub mod Folders
+pub mod Entered

@@ -11,12 +11,15 @@ use Rattle.mrp_rows.specs.declared.streams.TheConstants.{WRITE_TRIES}
 use Rattle.mrp_rows.specs.Streams.{TakesFront}
 use Rattle.mrp_rows.specs.Told.{inner_of, moved_of}
 use Rattle.mrp_report.specs.Written.{HasGivenUp, HasTakenFront, HasTakenWhole}
-use Rattle.mrp_engine.specs.Day.{IsRefused, IsTooLarge}
-use Rattle.mrp_engine.specs.Run.{HasNotFailed, HasPassedLimits, HasTakenAll, IsRead, IsReadWithin, TellsDay, WritesDayFront}
+use Rattle.mrp_engine.specs.Day.{Answering, AnswersScript, IsRefused, IsTooLargeBy}
+use Rattle.mrp_engine.specs.RightDay.{AnswersDesks}
+use Rattle.mrp_engine.specs.Run.{HasNotFailed, HasPassedLimits, HasTakenAll, IsRead, IsReadWithin, TellsDayBy, WritesFrontBy}
 use Rattle.mrp_engine.specs.declared.fault.DayFault.{DayFault}
 use Rattle.mrp_engine.specs.declared.fault.DayFault.TheVariants as fault
 use Rattle.mrp_main.specs.declared.command.Request.{Request}
-use Rattle.mrp_main.specs.declared.command.Request.TheVariants.{Plan}
+use Rattle.mrp_main.specs.declared.command.Request.TheVariants.{Day}
+use Rattle.mrp_main.specs.declared.day.DayCommand.{DayCommand}
+use Rattle.mrp_main.specs.declared.day.DayCommand.TheVariants.{Plan, Live}
 use Rattle.mrp_main.specs.declared.command.NoRequest.{NoRequest}
 use Rattle.mrp_main.specs.declared.command.NoRequest.TheVariants as none
 use Rattle.mrp_main.specs.declared.ending.Ending.{Ending}
@@ -25,28 +28,33 @@ use Rattle.mrp_main.specs.Status.{code_of, status_of}
 use Rattle.mrp_main.specs.Folder.{IsReadFrom, Known, nothing_known}
 use Rattle.mrp_main.specs.Words.{Asks}
 
+-- how a command has the script answered: by `plan` in row order, by `live` desk by desk
+abbrev pub answering : DayCommand → Answering
+answering Plan = AnswersScript
+answering Live = AnswersDesks
+
 -- what a reader had left is a bundle with a fault of this text, which is no want of memory
 abbrev pub IsRefusedAs : Option (List ℕ) → List ℕ → Type 0
 IsRefusedAs given text = (bundle : List ℕ) × IsRead given bundle × (f : Fault) × IsRefused bundle f × (f.code ≢ faults.NO_MEMORY) × (text ≡ text_of_fault f)
 
--- what a reader had left is a bundle with a plan that gets too large, at the item of this name
-abbrev pub IsTooLargeAt : Option (List ℕ) → List ℕ → Type 0
-IsTooLargeAt given name = (bundle : List ℕ) × IsRead given bundle × IsTooLarge bundle name
+-- what a reader had left is a bundle, a day of which by this command has a plan that gets too large, at the item of this name
+abbrev pub IsTooLargeAt : DayCommand → Option (List ℕ) → List ℕ → Type 0
+IsTooLargeAt command given name = (bundle : List ℕ) × IsRead given bundle × IsTooLargeBy (answering command) bundle name
 
--- what planning of what was given has written at its end: its day, or a front of it, or nothing; a front where memory is wanted only after all was read, and nothing where reading failed
-abbrev pub DayWrites : {W : Type 0} → (W → Option (List ℕ)) → Option (List ℕ) → Type 0 → Type 0 → Told W → Told W → Ending → Type 0
-DayWrites contents given ended failed output written Done = (text : List ℕ) × TellsDay given text × HasTakenAll contents output written text
-DayWrites contents given ended failed output written (Refused text) = IsRefusedAs given (string_bytes text) × (written ≡ output)
-DayWrites contents given ended failed output written (TooLarge name) = IsTooLargeAt given name × (written ≡ output)
-DayWrites contents given ended failed output written (Usage text) = ⊥
-DayWrites contents given ended failed output written NoMemory = (written ≡ output) ⊎ (ended × WritesDayFront contents given output written)
-DayWrites contents given ended failed output written Read = failed × (written ≡ output)
-DayWrites contents given ended failed output written Write = HasGivenUp output written WRITE_TRIES × WritesDayFront contents given output written
+-- what a command has written of what was given at its end: a day, or a front of one, or nothing; a front where memory is wanted only after all was read, and nothing where reading failed
+abbrev pub DayWrites : DayCommand → {W : Type 0} → (W → Option (List ℕ)) → Option (List ℕ) → Type 0 → Type 0 → Told W → Told W → Ending → Type 0
+DayWrites command contents given ended failed output written Done = (text : List ℕ) × TellsDayBy (answering command) given text × HasTakenAll contents output written text
+DayWrites command contents given ended failed output written (Refused text) = IsRefusedAs given (string_bytes text) × (written ≡ output)
+DayWrites command contents given ended failed output written (TooLarge name) = IsTooLargeAt command given name × (written ≡ output)
+DayWrites command contents given ended failed output written (Usage text) = ⊥
+DayWrites command contents given ended failed output written NoMemory = (written ≡ output) ⊎ (ended × WritesFrontBy (answering command) contents given output written)
+DayWrites command contents given ended failed output written Read = failed × (written ≡ output)
+DayWrites command contents given ended failed output written Write = HasGivenUp output written WRITE_TRIES × WritesFrontBy (answering command) contents given output written
 
--- what planning of what the input had left has written at its end
-abbrev pub PlanWrites : {R W : Type 0} → (R → Option (List ℕ)) → (W → Option (List ℕ)) → Told R → Told R → Told W → Told W → Ending → Type 0
-PlanWrites remaining contents input read output written end =
-    DayWrites contents (remaining (inner_of input)) (IsAtEnd (remaining (inner_of read))) (HasPassedLimits input read) output written end
+-- what a command has written of what the input had left at its end
+abbrev pub InputWrites : DayCommand → {R W : Type 0} → (R → Option (List ℕ)) → (W → Option (List ℕ)) → Told R → Told R → Told W → Told W → Ending → Type 0
+InputWrites command remaining contents input read output written end =
+    DayWrites command contents (remaining (inner_of input)) (IsAtEnd (remaining (inner_of read))) (HasPassedLimits input read) output written end
 
 -- an end after the input was read to its end
 abbrev pub HasReadAll : Ending → Type 0
@@ -58,30 +66,30 @@ HasReadAll NoMemory = ⊥
 HasReadAll Read = ⊥
 HasReadAll Write = ⊤
 
--- how planning ends: what was written; whether the input was read to its end, within the limits; a front of what the input had left was taken; and want of memory is told where neither failed
-pub record PlanEnds {R W : Type 0} (remaining : R → Option (List ℕ)) (contents : W → Option (List ℕ)) (input read : Told R) (output written : Told W) (end : Ending) : Type 0 where
-  pub writes : PlanWrites remaining contents input read output written end
+-- how a day of the input ends: what was written; whether the input was read to its end, within the limits; a front of what the input had left was taken; and want of memory is told where neither failed
+pub record DayEnds {R W : Type 0} (command : DayCommand) (remaining : R → Option (List ℕ)) (contents : W → Option (List ℕ)) (input read : Told R) (output written : Told W) (end : Ending) : Type 0 where
+  pub writes : InputWrites command remaining contents input read output written end
   pub at_end : HasReadAll end → IsAtEnd (remaining (inner_of read))
   pub within : HasReadAll end → IsReadWithin input read
   pub unfailed : end ≡ NoMemory → IsReadWithin input read × HasNotFailed output written
   pub taken : TakesFront (remaining (inner_of input)) (remaining (inner_of read)) (moved_of input) (moved_of read)
 
--- how planning of a bundle that was read ends: with its day, where memory is wanted only if the output did not fail; or with what kept it from being read, and nothing was written
-abbrev pub BundleEnds : {W : Type 0} → (W → Option (List ℕ)) → Told W → Told W → Result (List ℕ) ReadFault → Ending → Type 0
-BundleEnds contents output written (Ok bundle) end = DayWrites contents (Some bundle) ⊤ ⊤ output written end × (end ≡ NoMemory → HasNotFailed output written)
-BundleEnds contents output written (Err read.Read) end = (end ≡ Read) × (written ≡ output)
-BundleEnds contents output written (Err read.NoMemory) end = (end ≡ NoMemory) × (written ≡ output)
+-- how a day of a bundle that was read ends: with this day, where memory is wanted only if the output did not fail; or with what kept it from being read, and nothing was written
+abbrev pub BundleEnds : DayCommand → {W : Type 0} → (W → Option (List ℕ)) → Told W → Told W → Result (List ℕ) ReadFault → Ending → Type 0
+BundleEnds command contents output written (Ok bundle) end = DayWrites command contents (Some bundle) ⊤ ⊤ output written end × (end ≡ NoMemory → HasNotFailed output written)
+BundleEnds command contents output written (Err read.Read) end = (end ≡ Read) × (written ≡ output)
+BundleEnds command contents output written (Err read.NoMemory) end = (end ≡ NoMemory) × (written ≡ output)
 
--- how planning of a folder's files ends: as their bundle does
-pub record FolderEnds {W : Type 0} (known : Known) (folder : List ℕ) (contents : W → Option (List ℕ)) (output written : Told W) (end : Ending) : Type 0 where
+-- how a day of a folder's files ends: as that of their bundle does
+pub record FolderEnds {W : Type 0} (command : DayCommand) (known : Known) (folder : List ℕ) (contents : W → Option (List ℕ)) (output written : Told W) (end : Ending) : Type 0 where
   pub read : Result (List ℕ) ReadFault
   pub is_read : IsReadFrom known folder read
-  pub ends : BundleEnds contents output written read end
+  pub ends : BundleEnds command contents output written read end
 
 -- how what is asked for ends: a folder's files leave the input as it was
 abbrev pub RequestEnds : Known → {R W : Type 0} → (R → Option (List ℕ)) → (W → Option (List ℕ)) → Told R → Told R → Told W → Told W → Request → Ending → Type 0
-RequestEnds known remaining contents input read output written (Plan workers None) end = PlanEnds remaining contents input read output written end
-RequestEnds known remaining contents input read output written (Plan workers (Some folder)) end = (read ≡ input) × FolderEnds known (string_bytes folder) contents output written end
+RequestEnds known remaining contents input read output written (Day command workers None) end = DayEnds command remaining contents input read output written end
+RequestEnds known remaining contents input read output written (Day command workers (Some folder)) end = (read ≡ input) × FolderEnds command known (string_bytes folder) contents output written end
 
 -- how help ends: it was written, or a front of it
 abbrev pub HelpEnds : {W : Type 0} → (W → Option (List ℕ)) → Told W → Told W → List ℕ → Ending → Type 0
@@ -89,7 +97,7 @@ HelpEnds contents output written help Done = HasTakenWhole contents output writt
 HelpEnds contents output written help Write = HasGivenUp output written WRITE_TRIES × HasTakenFront contents output written help
 HelpEnds contents output written help _ = ⊥
 
--- how a command ends, by what its words ask for: what asks for no plan leaves the input as it was
+-- how a command ends, by what its words ask for: what asks for no day leaves the input as it was
 abbrev pub Ends : Known → {R W : Type 0} → (R → Option (List ℕ)) → (W → Option (List ℕ)) → Told R → Told R → Told W → Told W → Result Request NoRequest → Ending → Type 0
 Ends known remaining contents input read output written (Ok request) end = RequestEnds known remaining contents input read output written request end
 Ends known remaining contents input read output written (Err (none.Help text)) end = (read ≡ input) × HelpEnds contents output written (string_bytes text) end

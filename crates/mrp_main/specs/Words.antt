@@ -1,5 +1,5 @@
 -- What the words of the command line ask for, as `clap` reads them (profile).
-use Rattle.std.specs.Prelude.{ℕ, ◌≡◌, ◌≢◌, ◌⊎◌, List, [], ◌∷◌, Option, Some, option_and_then, option_map, string_bytes, true, codes, Result, Ok, Err, ⊤}
+use Rattle.std.specs.Prelude.{ℕ, ◌≡◌, ◌≢◌, ◌⊎◌, List, [], ◌∷◌, Option, Some, option_and_then, option_map, string_bytes, true, false, codes, Result, Ok, Err, ⊤}
 use Rattle.std.specs.Int.{IsInRange}
 use Rattle.std.specs.Str.Parse.{digits_value, without_leading_plus}
 use Rattle.clap.specs.Walk.{Row, Rule, Text, first_of, one_of}
@@ -8,12 +8,16 @@ use Rattle.clap.specs.Kinds.{IsAmong, Kinds}
 use Rattle.clap.specs.Faults.{fault_of}
 use Rattle.clap.specs.Values.{IsUnsignedIn}
 use Rattle.clap.specs.declared.builder.action.ArgAction.TheVariants.{Set}
+use Rattle.clap.specs.declared.builder.command.Command.{Command}
+use Rattle.clap.specs.declared.builder.command.Command.TheViews.{out-Command}
 use Rattle.clap.specs.declared.builder.value_parser.ValueParser.TheVariants.{Unsigned}
 use Rattle.clap.specs.declared.error.kind.ErrorKind.{ErrorKind}
 use Rattle.clap.specs.declared.error.kind.ErrorKind.TheVariants.{DisplayHelp, DisplayVersion, OutOfMemory}
 use Rattle.mrp_engine.specs.declared.run.TheConstants.{MOST_WORKERS}
 use Rattle.mrp_main.specs.declared.command.Request.{Request}
-use Rattle.mrp_main.specs.declared.command.Request.TheVariants.{Plan}
+use Rattle.mrp_main.specs.declared.command.Request.TheVariants.{Day}
+use Rattle.mrp_main.specs.declared.day.DayCommand.{DayCommand}
+use Rattle.mrp_main.specs.declared.day.DayCommand.TheVariants.{Plan, Live}
 use Rattle.mrp_main.specs.declared.command.NoRequest.{NoRequest}
 use Rattle.mrp_main.specs.declared.command.NoRequest.TheVariants.{Help, Usage, NoMemory}
 
@@ -35,14 +39,30 @@ dir_rule = record (new_rule (codes "dir")) {
   value_names = 1;
 }
 
--- `plan`
-abbrev pub plan_command : App
-plan_command = with_rule (with_rule (new_app (codes "plan")) workers_rule) dir_rule
+-- the word of each command that makes a day
+abbrev pub word_of : DayCommand → Text
+word_of Plan = codes "plan"
+word_of Live = codes "live"
+
+-- a word of one of them
+abbrev pub IsDayWord : Text → Type 0
+IsDayWord word = (word ≡ word_of Plan) ⊎ (word ≡ word_of Live)
+
+-- such a command: its word, and what it may be given
+abbrev pub day_app : DayCommand → App
+day_app command = with_rule (with_rule (new_app (word_of command)) workers_rule) dir_rule
+
+-- no argument of a command is one of its subcommands too
+abbrev pub HasNoGlobals : Command → Type 0
+HasNoGlobals command = (out-Command command).has_globals ≡ false
 
 -- `mrp`, without its name: one of its subcommands has to be there
 abbrev pub mrp_command : App
 mrp_command =
-    with_subcommand (on_top (λ s. record s { no_binary_name = true; subcommand_required = true }) (new_app (codes "mrp"))) plan_command.top
+    with_subcommand (
+    with_subcommand (on_top (λ s. record s { no_binary_name = true; subcommand_required = true }) (new_app (codes "mrp")))
+    (day_app Plan).top)
+    (day_app Live).top
 
 -- why clap may refuse the words; help is a refusal too, and words that are taken have none
 abbrev pub refusals : List Text → Kinds
@@ -70,28 +90,33 @@ AreWrong words = (kind : ErrorKind) × IsAmong kind (refusals words) × (IsAnswe
 
 -- 1 to `MOST_WORKERS` workers
 abbrev pub HasWorkers : Request → Type 0
-HasWorkers (Plan workers folder) = IsInRange 1 MOST_WORKERS workers
+HasWorkers (Day command workers folder) = IsInRange 1 MOST_WORKERS workers
 
 -- the folder whose files are to be planned
 abbrev pub folder_of : Request → Option Text
-folder_of (Plan workers folder) = option_map string_bytes folder
+folder_of (Day command workers folder) = option_map string_bytes folder
 
--- the subcommand that words enter is a plan by so many workers: by the number of `--workers`, or by the one that stands for it
-pub record IsPlanBy (entered : Option (Text × List Row)) (workers : ℕ) : Type 0 where
+-- the subcommand that words enter is this command
+abbrev pub Enters : Option (Text × List Row) → DayCommand → Type 0
+Enters entered command = (rows : List Row) × (entered ≡ Some (word_of command, rows))
+
+-- the subcommand that words enter is by so many workers: by the number of `--workers`, or by the one that stands for it
+pub record IsBy (entered : Option (Text × List Row)) (workers : ℕ) : Type 0 where
+  pub name : Text
   pub rows : List Row
-  pub plan : entered ≡ Some (codes "plan", rows)
+  pub is : entered ≡ Some (name, rows)
   pub text : Text
   pub given : one_of (codes "workers") rows ≡ Some text
   pub number : IsUnsignedIn 1 MOST_WORKERS text
   pub value : workers ≡ digits_value 10 (without_leading_plus text)
 
--- words ask for a plan by so many workers
-abbrev pub AskForPlanBy : List Text → ℕ → Type 0
-AskForPlanBy words workers = IsPlanBy (subcommand_of mrp_command words) workers
+-- words ask for a command by so many workers
+abbrev pub AskFor : List Text → DayCommand → ℕ → Type 0
+AskFor words command workers = Enters (subcommand_of mrp_command words) command × IsBy (subcommand_of mrp_command words) workers
 
--- a request has the workers of the plan that is asked for
+-- a request is for the command that words enter, and has the workers that are asked for
 abbrev pub IsAsAsked : Option (Text × List Row) → Request → Type 0
-IsAsAsked entered (Plan workers folder) = (asked : ℕ) → IsPlanBy entered asked → workers ≡ asked
+IsAsAsked entered (Day command workers folder) = Enters entered command × ((asked : ℕ) → IsBy entered asked → workers ≡ asked)
 
 -- what an error of clap's asks for, by its kind
 abbrev pub IsOfKind : ErrorKind → NoRequest → Type 0

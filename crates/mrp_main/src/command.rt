@@ -6,8 +6,9 @@ ghost use Rattle.clap.specs.Matches.{first_value, found_of};
 ghost use Rattle.clap.specs.Values.{kind_of};
 ghost use Rattle.clap.specs.Walk.{rule_of};
 ghost use Rattle.clap.specs.Simple.{app_of, subcommand_rows_of};
-ghost use Rattle.mrp_main.specs.Words.{Asks, HasWorkers, IsAsAsked, IsOfKind, IsPlanBy, dir_among, dir_rule, folder_of, mrp_command, workers_rule};
+ghost use Rattle.mrp_main.specs.Words.{Asks, Enters, HasNoGlobals, HasWorkers, IsAsAsked, IsBy, IsOfKind, day_app, dir_among, dir_rule, folder_of, mrp_command, workers_rule};
 
+use crate::day::DayCommand;
 use clap::builder::ValueParser;
 use clap::error::ErrorKind;
 use clap::{Arg, ArgAction, ArgMatches, Command, Error};
@@ -38,8 +39,20 @@ script, with its reply. Then, for each run:
   [messages]  which orders to release, and which supplies to take earlier, later or not at all
   [loads]     each work centre and week: load, capacity, and what is over, in minutes";
 
+const ABOUT_LIVE: &str =
+    "Reads a bundle, as `mrp plan` does, has the desks of its script make their calls beside one another,
+and writes the history of these calls and the plan of each run to standard output.
+
+There are as many desks as the greatest desk number of the script, and at least one. Each makes the
+calls of its records in order, in a thread of its own where one can be started. Which desk comes first
+is left open, so one bundle can have other days from one time to the next: each is right, with every
+reply the one that the entries before it decide, and each desk's calls in the order of its records. A
+script without a run is taken with one more call, a run of desk 1 after all others.
+
+Bundles, --dir and the sections that are written are those of `mrp plan`: see `mrp plan --help`.";
+
 const ABOUT_WORKERS: &str =
-    "A number from 1 to 64, of which no use is made: the threads that plan items and load work centres are as many as the machine has processors for, whatever N is";
+    "How many threads make the rows of a report, from 1 to 64; those that plan items and load work centres are as many as the machine has processors for, and each desk of a live day has one, whatever N is";
 
 const ABOUT_DIR: &str =
     "A folder, whose files calendar.csv, items.csv and so on are planned in place of standard input";
@@ -47,15 +60,17 @@ const ABOUT_DIR: &str =
 const EXAMPLE: &str = "Examples:
   mrp plan < shop.bundle > shop.day
   mrp plan --dir shop > shop.day
+  mrp live < shop.bundle > shop.day
 
 Exit status: 0 done, 1 refused, 2 usage, 3 no memory, 4 read or write failed.";
 
 /// What the words ask for.
 #[derive(Drop)]
 pub enum Request {
-    /// Plan the bundle of the input, or that of a folder's files where one is named, by so many
-    /// workers, 1 to 64, of which no use is made.
-    Plan {
+    /// Make the day of the bundle of the input, or of a folder's files where one is named, by so
+    /// many workers, 1 to 64.
+    Day {
+        command: DayCommand,
         workers: usize,
         folder: Option<String>,
     },
@@ -107,22 +122,44 @@ fn dir<'a>(alloc: Global) -> Arg<'a>
         .help(ABOUT_DIR)
 }
 
+// What the help says of a command, in a line and at length.
+fn help_of<'a>(command: DayCommand) -> (&'a str, &'a str) {
+    match command {
+        DayCommand::Plan => (
+            "Plans a bundle from standard input, or the files of a folder",
+            ABOUT_PLAN,
+        ),
+        DayCommand::Live => (
+            "Plans the same with its desks at work beside one another",
+            ABOUT_LIVE,
+        ),
+    }
+}
+
+fn day_command<'a>(alloc: Global, command: DayCommand) -> Result<Command<'a>, AllocError>
+    ensures app { IfOk result (λ made. app_of made ≡ day_app command) }
+    ensures local { IfOk result HasNoGlobals }
+{
+    let (line, text) = help_of(command);
+    Command::new(alloc, command.word())
+        .about(line)
+        .long_about(text)
+        .after_help(EXAMPLE)
+        .arg(workers(alloc))?
+        .arg(dir(alloc))
+}
+
 fn command<'a>(alloc: Global) -> Result<Command<'a>, AllocError>
     ensures { IfOk result (λ command. app_of command ≡ mrp_command) }
 {
-    let plan = Command::new(alloc, "plan")
-        .about("Plans a bundle from standard input, or the files of a folder")
-        .long_about(ABOUT_PLAN)
-        .after_help(EXAMPLE)
-        .arg(workers(alloc))?
-        .arg(dir(alloc))?;
     Command::new(alloc, "mrp")
         .about(ABOUT)
         .after_help(EXAMPLE)
         .bin_name("mrp")?
         .no_binary_name(true)
         .subcommand_required(true)
-        .subcommand(plan)
+        .subcommand(day_command(alloc, DayCommand::Plan)?)?
+        .subcommand(day_command(alloc, DayCommand::Live)?)
 }
 
 // Why clap gave no matches, as the text that it has for it.
@@ -140,12 +177,23 @@ fn no_request(alloc: Global, error: &Error) -> Result<NoRequest, AllocError>
     }
 }
 
-// The number of workers of the plan that is asked for.
-fn workers_of(matches: &ArgMatches<'_>) -> Option<u64>
-    ensures { (asked : ℕ) → IsPlanBy (subcommand_rows_of matches.now) asked → result ≡ Some asked }
+// The command that was entered.
+fn command_of(matches: &ArgMatches<'_>) -> DayCommand
+    requires { (command : DayCommand) × Enters (subcommand_rows_of matches.now) command }
+    ensures { Enters (subcommand_rows_of matches.now) result }
 {
-    match matches.subcommand_matches("plan") {
-        Some(plan) => plan.get_one::<u64>("workers"),
+    match matches.subcommand_name() {
+        Some(name) => DayCommand::of(name),
+        None => unreachable!(),
+    }
+}
+
+// The number of workers that the command is asked for by.
+fn workers_of(matches: &ArgMatches<'_>) -> Option<u64>
+    ensures { (asked : ℕ) → IsBy (subcommand_rows_of matches.now) asked → result ≡ Some asked }
+{
+    match matches.subcommand() {
+        Some((_, found)) => found.get_one::<u64>("workers"),
         None => None,
     }
 }
@@ -162,10 +210,10 @@ fn taken(workers: u64) -> usize
     }
 }
 
-// The number of workers that a plan takes; 1 where none is found.
+// The number of workers that a command takes; 1 where none is found.
 fn workers_taken(matches: &ArgMatches<'_>) -> usize
     ensures within { IsInRange 1 MOST_WORKERS result }
-    ensures asked { (asked : ℕ) → IsPlanBy (subcommand_rows_of matches.now) asked → result ≡ asked }
+    ensures asked { (asked : ℕ) → IsBy (subcommand_rows_of matches.now) asked → result ≡ asked }
 {
     match workers_of(matches) {
         Some(workers) => taken(workers),
@@ -174,10 +222,10 @@ fn workers_taken(matches: &ArgMatches<'_>) -> usize
 }
 
 // What `--dir` is given in the matches of a subcommand.
-fn dir_in(alloc: Global, plan: &ArgMatches<'_>) -> Result<Option<String>, AllocError>
-    ensures { IfOk result (λ folder. option_map string_bytes folder ≡ first_value (found_of plan.now) (codes "dir")) }
+fn dir_in(alloc: Global, found: &ArgMatches<'_>) -> Result<Option<String>, AllocError>
+    ensures { IfOk result (λ folder. option_map string_bytes folder ≡ first_value (found_of found.now) (codes "dir")) }
 {
-    match plan.get_str("dir") {
+    match found.get_str("dir") {
         Some(folder) => Ok(Some(String::from_str(alloc, folder)?)),
         None => Ok(None),
     }
@@ -188,20 +236,26 @@ fn folder_named(alloc: Global, matches: &ArgMatches<'_>) -> Result<Option<String
     ensures { IfOk result (λ folder. option_map string_bytes folder ≡ dir_among (subcommand_rows_of matches.now)) }
 {
     match matches.subcommand() {
-        Some((_, plan)) => dir_in(alloc, plan),
+        Some((_, found)) => dir_in(alloc, found),
         None => Ok(None),
     }
 }
 
 fn request_of(alloc: Global, matches: &ArgMatches<'_>) -> Result<Request, NoRequest>
+    requires { (command : DayCommand) × Enters (subcommand_rows_of matches.now) command }
     ensures workers { IfOk result HasWorkers }
     ensures asked { IfOk result (IsAsAsked (subcommand_rows_of matches.now)) }
     ensures folder { IfOk result (λ request. folder_of request ≡ dir_among (subcommand_rows_of matches.now)) }
     ensures memory { IfErr result (λ none. none ≡ NoRequest.NoMemory) }
 {
     let folder = folder_named(alloc, matches)?;
+    let command = command_of(matches);
     let workers = workers_taken(matches);
-    Ok(Request::Plan { workers, folder })
+    Ok(Request::Day {
+        command,
+        workers,
+        folder,
+    })
 }
 
 /// What the words behind the program's name ask for. It is `clap` that decides, here alone.

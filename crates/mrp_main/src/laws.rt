@@ -3,32 +3,41 @@
 
 ghost use Rattle.std.specs.Prelude.{◌≡◌, [], ◌∷◌, Some, None, codes};
 ghost use Rattle.clap.specs.declared.error.kind.ErrorKind.TheVariants as kind;
-ghost use Rattle.mrp_main.specs.Words.{AskForPlanBy, folder_in, refusals};
+ghost use Rattle.mrp_main.specs.declared.day.DayCommand.TheVariants.{Plan, Live};
+ghost use Rattle.mrp_main.specs.Words.{AskFor, folder_in, refusals};
 
 /// Words that are taken, and why others are refused.
 pub fn words()
-    // These ask for a plan.
+    // These are taken.
     ensures plan { refusals (codes "plan" ∷ []) ≡ [] }
+    ensures live { refusals (codes "live" ∷ []) ≡ [] }
     ensures workers { refusals (codes "plan" ∷ codes "--workers" ∷ codes "64" ∷ []) ≡ [] }
     ensures joined { refusals (codes "plan" ∷ codes "--workers=1" ∷ []) ≡ [] }
     ensures folder { refusals (codes "plan" ∷ codes "--dir" ∷ codes "shop" ∷ []) ≡ [] }
+    ensures live_folder { refusals (codes "live" ∷ codes "--workers=8" ∷ codes "--dir" ∷ codes "shop" ∷ []) ≡ [] }
     // They name a folder, or none.
     ensures named { folder_in (codes "plan" ∷ codes "--dir" ∷ codes "shop" ∷ []) ≡ Some (codes "shop") }
     ensures behind { folder_in (codes "plan" ∷ codes "--workers=2" ∷ codes "--dir=shop" ∷ []) ≡ Some (codes "shop") }
+    ensures of_live { folder_in (codes "live" ∷ codes "--dir" ∷ codes "shop" ∷ []) ≡ Some (codes "shop") }
     ensures input { folder_in (codes "plan" ∷ codes "--workers=2" ∷ []) ≡ None }
-    // By these workers.
-    ensures one_worker { AskForPlanBy (codes "plan" ∷ []) 1 }
-    ensures all_workers { AskForPlanBy (codes "plan" ∷ codes "--workers" ∷ codes "64" ∷ []) 64 }
-    ensures two_workers { AskForPlanBy (codes "plan" ∷ codes "--workers=2" ∷ []) 2 }
+    // They ask for these commands, by these workers.
+    ensures one_worker { AskFor (codes "plan" ∷ []) Plan 1 }
+    ensures all_workers { AskFor (codes "plan" ∷ codes "--workers" ∷ codes "64" ∷ []) Plan 64 }
+    ensures two_workers { AskFor (codes "plan" ∷ codes "--workers=2" ∷ []) Plan 2 }
+    ensures live_day { AskFor (codes "live" ∷ []) Live 1 }
+    ensures live_workers { AskFor (codes "live" ∷ codes "--workers" ∷ codes "8" ∷ []) Live 8 }
     // These ask for help.
     ensures help { refusals (codes "--help" ∷ []) ≡ kind.DisplayHelp ∷ [] }
     ensures short { refusals (codes "-h" ∷ []) ≡ kind.DisplayHelp ∷ [] }
-    ensures of_plan { refusals (codes "plan" ∷ codes "--help" ∷ []) ≡ kind.DisplayHelp ∷ [] }
+    ensures help_of_plan { refusals (codes "plan" ∷ codes "--help" ∷ []) ≡ kind.DisplayHelp ∷ [] }
+    ensures help_of_live { refusals (codes "live" ∷ codes "--help" ∷ []) ≡ kind.DisplayHelp ∷ [] }
     // These are wrong.
     ensures none { refusals [] ≡ kind.MissingSubcommand ∷ [] }
     ensures unknown { refusals (codes "explode" ∷ []) ≡ kind.UnknownArgument ∷ kind.InvalidSubcommand ∷ [] }
+    ensures both { refusals (codes "plan" ∷ codes "live" ∷ []) ≡ kind.UnknownArgument ∷ [] }
     ensures no_worker { refusals (codes "plan" ∷ codes "--workers=0" ∷ []) ≡ kind.ValueValidation ∷ [] }
     ensures too_many { refusals (codes "plan" ∷ codes "--workers=65" ∷ []) ≡ kind.ValueValidation ∷ [] }
+    ensures no_live_worker { refusals (codes "live" ∷ codes "--workers=0" ∷ []) ≡ kind.ValueValidation ∷ [] }
     ensures two_folders { refusals (codes "plan" ∷ codes "--dir=a" ∷ codes "--dir=b" ∷ []) ≡ kind.ArgumentConflict ∷ [] }
     ensures no_number { refusals (codes "plan" ∷ codes "--workers=many" ∷ []) ≡ kind.ValueValidation ∷ [] }
 {}

@@ -2,6 +2,7 @@
 #![tactic(auto)]
 
 mod command;
+mod day;
 mod ending;
 mod files;
 pub mod laws;

@@ -4,18 +4,20 @@ ghost use Rattle.std.specs.Prelude.{◌≡◌, ◌<◌, map, string_bytes};
 ghost use Rattle.std.specs.Int.{IsInRange};
 ghost use Rattle.std.specs.Result.{result_map_both};
 ghost use Rattle.std.specs.Result.{ForOk};
-ghost use Rattle.mrp_main.specs.Ends.{BundleEnds, Ends, FolderEnds, HelpEnds, IsDone, PlanEnds, RequestEnds};
+ghost use Rattle.mrp_main.specs.Ends.{BundleEnds, DayEnds, Ends, FolderEnds, HelpEnds, IsDone, RequestEnds};
 ghost use Rattle.mrp_main.specs.Words.{HasWorkers};
 
 use crate::command::{NoRequest, Request, read_words};
+use crate::day::DayCommand;
 use crate::ending::Ending;
 use crate::files::{FileStore, read_folder};
-use mrp_engine::{MOST_WORKERS, run_day};
+use mrp_engine::{MOST_WORKERS, live_day, run_day};
 use mrp_rows::{ReadFault, Told, Tries, write_text};
 use std::alloc::Global;
 use std::convert::AsStr;
 use std::io::{Read, Write};
 use std::rt::Files;
+use std::sync::Wait;
 use std::thread::Threads;
 
 // Writes the help that was asked for.
@@ -28,65 +30,66 @@ fn write_help<W: Write>(text: &str, output: &mut Told<W>) -> Ending
     }
 }
 
-// Plans the bundle of the input.
-fn plan<R: Read, W: Write>(
-    rt: &(impl Alloc + Threads + Sync),
+// Makes a day of the bundle of the input.
+fn make_day<R: Read, W: Write>(
+    rt: &(impl Alloc + Threads + Wait + Sync),
     alloc: Global,
+    command: DayCommand,
     workers: usize,
     input: &mut Told<R>,
     output: &mut Told<W>,
 ) -> Ending
     requires workers { IsInRange 1 MOST_WORKERS workers }
-    ensures { PlanEnds R.remaining W.contents input.old input.new output.old output.new result }
+    ensures { DayEnds command R.remaining W.contents input.old input.new output.old output.new result }
 {
-    Ending::of_day(alloc, run_day(rt, alloc, input, output, workers))
+    match command {
+        DayCommand::Plan => Ending::of_day(alloc, run_day(rt, alloc, input, output, workers)),
+        DayCommand::Live => Ending::of_day(alloc, live_day(rt, alloc, input, output, workers)),
+    }
 }
 
-// Plans a bundle that was read.
-fn plan_bundle<W: Write>(
-    rt: &(impl Alloc + Threads + Sync),
+// Makes a day of a bundle that was read.
+fn make_day_of_bundle<W: Write>(
+    rt: &(impl Alloc + Threads + Wait + Sync),
     alloc: Global,
+    command: DayCommand,
     workers: usize,
     bundle: Result<Vec<u8>, ReadFault>,
     output: &mut Told<W>,
 ) -> Ending
     requires workers { IsInRange 1 MOST_WORKERS workers }
-    ensures { BundleEnds W.contents output.old output.new (result_map_both (λ bundle. bundle.items) (λ fault. fault) bundle) result }
+    ensures { BundleEnds command W.contents output.old output.new (result_map_both (λ bundle. bundle.items) (λ fault. fault) bundle) result }
 {
     match bundle {
         Ok(bundle) => {
             let mut input = Told::new(bundle.as_slice());
-            plan(rt, alloc, workers, &mut input, output)
+            make_day(rt, alloc, command, workers, &mut input, output)
         }
         Err(ReadFault::Read) => Ending::Read,
         Err(ReadFault::NoMemory) => Ending::NoMemory,
     }
 }
 
-// Plans the bundle of a folder's files.
-fn plan_folder<F: FileStore, W: Write>(
-    rt: &(impl Alloc + Threads + Sync),
+// Makes a day of the bundle of a folder's files.
+fn make_day_of_folder<F: FileStore, W: Write>(
+    rt: &(impl Alloc + Threads + Wait + Sync),
     alloc: Global,
     files: &F,
+    command: DayCommand,
     workers: usize,
     folder: &str,
     output: &mut Told<W>,
 ) -> Ending
     requires workers { IsInRange 1 MOST_WORKERS workers }
-    ensures { FolderEnds (F.known files.now) folder.now W.contents output.old output.new result }
+    ensures { FolderEnds command (F.known files.now) folder.now W.contents output.old output.new result }
 {
-    plan_bundle(
-        rt,
-        alloc,
-        workers,
-        read_folder(files, alloc, folder),
-        output,
-    )
+    let bundle = read_folder(files, alloc, folder);
+    make_day_of_bundle(rt, alloc, command, workers, bundle, output)
 }
 
-// Plans what was asked for.
-fn plan_request<F: FileStore, R: Read, W: Write>(
-    rt: &(impl Alloc + Threads + Sync),
+// Answers a request.
+fn answer<F: FileStore, R: Read, W: Write>(
+    rt: &(impl Alloc + Threads + Wait + Sync),
     alloc: Global,
     files: &F,
     request: Request,
@@ -97,16 +100,22 @@ fn plan_request<F: FileStore, R: Read, W: Write>(
     ensures { RequestEnds (F.known files.now) R.remaining W.contents input.old input.new output.old output.new request result }
 {
     match request {
-        Request::Plan { workers, folder } => match folder {
-            None => plan(rt, alloc, workers, input, output),
-            Some(folder) => plan_folder(rt, alloc, files, workers, &folder, output),
+        Request::Day {
+            command,
+            workers,
+            folder,
+        } => match folder {
+            None => make_day(rt, alloc, command, workers, input, output),
+            Some(folder) => {
+                make_day_of_folder(rt, alloc, files, command, workers, &folder, output)
+            }
         },
     }
 }
 
 // Does what was asked for. The error stream has no part in it, so it decides nothing.
 fn carry_out<F: FileStore, R: Read, W: Write>(
-    rt: &(impl Alloc + Threads + Sync),
+    rt: &(impl Alloc + Threads + Wait + Sync),
     alloc: Global,
     files: &F,
     asked: Result<Request, NoRequest>,
@@ -117,28 +126,30 @@ fn carry_out<F: FileStore, R: Read, W: Write>(
     ensures { Ends (F.known files.now) R.remaining W.contents input.old input.new output.old output.new asked result }
 {
     match asked {
-        Ok(request) => plan_request(rt, alloc, files, request, input, output),
+        Ok(request) => answer(rt, alloc, files, request, input, output),
         Err(NoRequest::Help(text)) => write_help(&text, output),
         Err(NoRequest::Usage(text)) => Ending::Usage(text),
         Err(NoRequest::NoMemory) => Ending::NoMemory,
     }
 }
 
-/// Does what the words behind the program's name ask for, as `plan --workers 2`, over an input, an
-/// output and an error stream, and gives the exit status. With `--dir D` the files of the folder D
-/// are planned in place of the input.
+/// Does what the words behind the program's name ask for, as `plan --workers 2` or `live`, over an
+/// input, an output and an error stream, and gives the exit status. With `--dir D` the files of the
+/// folder D are read in place of the input.
 ///
 /// The status is 0 where it was done, 1 where the bundle was refused or its plan gets too large, 2
 /// for wrong words, 3 where memory was refused, and 4 where reading or writing failed. A line on the
 /// error stream says why; its failure does not change the status.
 ///
-/// Words that ask for a plan plan: at 0 the day of what the input had left was written; at 1, and
-/// where reading failed, nothing was; at 3 and where writing failed, at most a front of the day.
-/// Of a folder the same is said of the bundle that the files of this folder make: for each table one
-/// section with its file's bytes, or none. Which bytes files have no contract says. Words that ask for help have
-/// it written, and wrong words nothing. All but a plan of the input leave it as it is.
+/// Words that ask for a plan have the script answered in row order, and words that ask for a live day
+/// desk by desk, which leaves open which desk comes first. At 0 such a day of what the input had left
+/// was written; at 1, and where reading failed, nothing was; at 3 and where writing failed, at most a
+/// front of such a day. Of a folder the same is said of the bundle that the files of this folder make:
+/// for each table one section with its file's bytes, or none. Which bytes files have no contract says.
+/// Words that ask for help have it written, and wrong words nothing. All but a day of the input leave
+/// it as it is.
 pub fn run_words<S: AsStr, R: Read, W: Write, E: Write>(
-    rt: &(impl Alloc + Files + Threads + Sync),
+    rt: &(impl Alloc + Files + Threads + Wait + Sync),
     alloc: Global,
     words: &[S],
     input: &mut Told<R>,

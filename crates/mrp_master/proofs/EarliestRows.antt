@@ -1,5 +1,5 @@
 -- The first week in which enough is available in an item's row is the first in which it can be promised.
-use Rattle.std.proofs.Common.{ℕ, ◌≤◌, List, Option, Some, None, arith}
+use Rattle.std.proofs.Common.{ℕ, List, Option, Some, None, arith}
 use Rattle.mrp_phase.proofs.WeekRows.{length-row}
 use Rattle.mrp_master.specs.declared.line.Line.{Line}
 use Rattle.mrp_master.specs.Supply.{Supply, IsCovered, IsEarliest, IsMaster, IsSupply, IsWeek}

@@ -10,6 +10,7 @@ pub mod Fresh
 pub mod Promises
 pub mod EarliestRows
 pub mod Places
+pub mod NodeReads
 pub mod Spans
 pub mod Trees
 pub mod Promised

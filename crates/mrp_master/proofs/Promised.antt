@@ -30,8 +30,8 @@ module _ (r : AtpRow) (kept : IsPromiseRow r) where
   fails_at : (week quantity t : ℕ) → IsWeekOf r week → week ≤ t → sum_to r.supply t < quantity + sum_to r.booked t → ¬ IsCoveredRow (with_booking r week quantity)
   fails_at week quantity t inside since short fits =
       let v = week_within r kept t in
-      let later : week ≤ v.0 = elim (cases_lt (length r.supply) t) [ inl past ↦ omega (arith, v.3, inside.1) | inr in_it ↦ omega (arith, v.4) ] in
-      omega (arith, v.5, v.6, fits v.0 (omega (arith, later, inside.0), v.2), booked_since r week quantity v.0 inside kept.row.same later)
+      let later : week ≤ v.week = elim (cases_lt (length r.supply) t) [ inl past ↦ omega (arith, v.at_end, inside.1) | inr in_it ↦ omega (arith, v.as_it_is) ] in
+      omega (arith, v.supplied, v.booked, fits v.week (omega (arith, later, inside.0), v.within), booked_since r week quantity v.week inside kept.row.same later)
 
   -- the least over the weeks since one is available in it
   pub span_available : (week quantity : ℕ) (node : Node) → IsWeekOf r week → IsSpan r 0 week 128 node → pos quantity ≡ node.least → IsAvailableIn r week quantity

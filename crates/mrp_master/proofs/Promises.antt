@@ -1,5 +1,5 @@
 -- There is a quantity that is available, and a first week for each quantity, or none.
-use Rattle.std.proofs.Common.{ℕ, zero, suc, ◌≡◌, ◌≤◌, ◌<◌, ◌+◌, ◌-◌, ◌∷◌, ◌++◌, [], inl, inr, List, Option, Some, None, arith, ap, refl, sym, subst}
+use Rattle.std.proofs.Common.{ℕ, zero, suc, ◌≡◌, ◌≤◌, ◌<◌, ◌+◌, ◌-◌, ◌∷◌, ◌++◌, [], inl, inr, List, Option, Some, None, arith, ap, refl, subst}
 use Rattle.std.proofs.lemmas.Bool.{cases_lt}
 use Rattle.mrp_master.specs.declared.line.Line.{Line}
 use Rattle.mrp_master.specs.Supply.{Supply, CanPromise, IsAvailable, IsCovered, IsEarliest, IsMaster, IsWeek, available, line, uncommitted}

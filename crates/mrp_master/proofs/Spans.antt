@@ -50,37 +50,54 @@ place_span r week =
 past : (xs : List ℕ) (t : ℕ) → length xs ≤ t → sum_to xs t ≡ sum_to xs (length xs)
 past xs t h = ap sum (take_all t xs h) ∙ sym (sum_to_whole xs)
 
+-- a week of the horizon up to which as much is supplied and booked as up to this one
+pub record HasWeekWithin (r : AtpRow) (t : ℕ) : Type 0 where
+  pub week : ℕ
+  pub no_later : week ≤ t
+  pub within : week ≤ length r.supply
+  pub at_end : length r.supply ≤ t → week ≡ length r.supply
+  pub as_it_is : t ≤ length r.supply → week ≡ t
+  pub supplied : sum_to r.supply t ≡ sum_to r.supply week
+  pub booked : sum_to r.booked t ≡ sum_to r.booked week
+
 module _ (r : AtpRow) (kept : IsPromiseRow r) where
-  -- a week of the horizon up to which as much is supplied and booked
-  pub week_within : (t : ℕ) → (v : ℕ) × (v ≤ t) × (v ≤ length r.supply) × (length r.supply ≤ t → v ≡ length r.supply) × (t ≤ length r.supply → v ≡ t) × (sum_to r.supply t ≡ sum_to r.supply v) × (sum_to r.booked t ≡ sum_to r.booked v)
+  pub week_within : (t : ℕ) → HasWeekWithin r t
   week_within t = elim (cases_lt (length r.supply) t) [
-    | inl later ↦ (
-      length r.supply,
-      omega arith,
-      omega arith,
-      λ h. refl,
-      λ h. absurd (omega arith),
-      past r.supply t (omega arith),
-      past r.booked t (omega (arith, kept.row.same)) ∙ ap (sum_to r.booked) kept.row.same,
-    )
-    | inr inside ↦ (t, omega arith, inside, λ h. omega arith, λ h. refl, refl, refl)
+    | inl later ↦ record {
+      week = length r.supply;
+      no_later = omega arith;
+      within = omega arith;
+      at_end = λ h. refl;
+      as_it_is = λ h. absurd (omega arith);
+      supplied = past r.supply t (omega arith);
+      booked = past r.booked t (omega (arith, kept.row.same)) ∙ ap (sum_to r.booked) kept.row.same;
+    }
+    | inr inside ↦ record {
+      week = t;
+      no_later = omega arith;
+      within = inside;
+      at_end = λ h. omega arith;
+      as_it_is = λ h. refl;
+      supplied = refl;
+      booked = refl;
+    }
   ]
 
   -- up to no week is more booked than supplied, and no more supplied than a quantity
   pub covered_to : (t : ℕ) → sum_to r.booked t ≤ sum_to r.supply t
   covered_to t =
       let v = week_within t in
-      elim (cases_lt 0 v.0) [
-        | inl some ↦ omega (arith, v.5, v.6, kept.row.covered v.0 (some, v.2))
+      elim (cases_lt 0 v.week) [
+        | inl some ↦ omega (arith, v.supplied, v.booked, kept.row.covered v.week (some, v.within))
         | inr none ↦
-            let zero_is : v.0 ≡ 0 = omega arith in
-            omega (arith, v.5, v.6, ap (sum_to r.booked) zero_is, ap (sum_to r.supply) zero_is)
+            let zero_is : v.week ≡ 0 = omega arith in
+            omega (arith, v.supplied, v.booked, ap (sum_to r.booked) zero_is, ap (sum_to r.supply) zero_is)
       ]
 
   pub little_to : (t : ℕ) → sum_to r.supply t ≤ 1000000000000000
   little_to t =
       let v = week_within t in
-      omega (arith, v.5, sum_to_rises r.supply v.0 (length r.supply) v.2, sum_to_whole r.supply, kept.little)
+      omega (arith, v.supplied, sum_to_rises r.supply v.week (length r.supply) v.within, sum_to_whole r.supply, kept.little)
 
   -- so no node is past a quantity, nor two together past a number of the code
   pub span_little : (before from last : ℕ) (a : Node) → IsSpan r before from last a

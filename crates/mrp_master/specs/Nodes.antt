@@ -1,5 +1,5 @@
 -- A tree of counts over the weeks of a row: what its nodes are, by the weeks below them (profile).
-use Rattle.std.specs.Prelude.{ℕ, ◌≡◌, ◌≤◌, ◌+◌, ◌-◌, ◌*◌, ◌^◌, ℤ, pos, ◌+ℤ◌, ◌-ℤ◌, ◌≤ℤ◌, if◌then◌else◌, nat_lt, length, sum}
+use Rattle.std.specs.Prelude.{ℕ, zero, suc, ◌≡◌, ◌≤◌, ◌+◌, ◌-◌, ◌*◌, ◌^◌, ℤ, pos, ◌+ℤ◌, ◌-ℤ◌, ◌≤ℤ◌, if◌then◌else◌, nat_lt, length, sum}
 use Rattle.std.specs.Int.{int_min}
 use Rattle.mrp_qty.specs.Quantity.{greatest_quantity}
 use Rattle.mrp_phase.specs.Weeks.{sum_to}
@@ -44,6 +44,17 @@ last node = (node + 1) * 2 ^ height node - 128
 -- a node of a row's tree: what the weeks below it change
 abbrev pub IsNode : AtpRow → ℕ → Node → Type 0
 IsNode r number node = IsSpan r (before number) (before number + 1) (last number) node
+
+-- Reads of nodes, one after another, where it is told what one of them makes.
+module _ {S : Type 0} (IsRead : S → S → Type 0) where
+  -- so many of them make the new of the old
+  abbrev pub AreReads : ℕ → S → S → Type 0
+  AreReads zero old new = old ≡ new
+  AreReads (suc more) old new = (between : S) × AreReads more old between × IsRead between new
+
+  -- no more than so many do
+  abbrev pub ReadsAtMost : ℕ → S → S → Type 0
+  ReadsAtMost most old new = (count : ℕ) × (count ≤ most) × AreReads count old new
 
 -- A node over two others.
 

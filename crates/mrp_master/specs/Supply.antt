@@ -1,5 +1,5 @@
 -- Supply, cover, and what is available to promise (APICS Dictionary: available-to-promise; profile: its exact rules).
-use Rattle.std.specs.Prelude.{ℕ, zero, suc, ◌≡◌, ◌≤◌, ◌+◌, ◌-◌, ◌==◌, ◌&&◌, Bool, true, false, IsTrue, if◌then◌else◌, min, nat_le, Option, List, [], ◌∷◌, ◌++◌, All, map, filter, sum_by, length}
+use Rattle.std.specs.Prelude.{ℕ, zero, suc, ◌≡◌, ◌≤◌, ◌+◌, ◌-◌, ◌==◌, ◌&&◌, Bool, false, IsTrue, if◌then◌else◌, min, nat_le, Option, List, [], ◌∷◌, ◌++◌, All, map, filter, sum_by, length}
 use Rattle.std.specs.List.{slice_index_or, range_with_len}
 use Rattle.mrp_cal.specs.declared.calendar.TheConstants.{MOST_WEEKS}
 use Rattle.mrp_qty.specs.Quantity.{greatest_quantity}

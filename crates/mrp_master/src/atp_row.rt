@@ -40,6 +40,10 @@ impl Nodes for RowNodes<'_> {
 
     ghost count = { λ s. s.reads };
 
+    ghost use Rattle.std.specs.Prelude.{◌≡◌, ◌+◌, ◌-◌, ◌^◌, min};
+
+    ghost is_read = { λ old new. (new.row.now ≡ old.row.now) × (new.reads ≡ min (old.reads + 1) (2 ^ 64 - 1)) };
+
     fn weeks(&self) -> u16 {
         self.row.weeks()
     }
@@ -105,6 +109,14 @@ impl AtpRow {
         self.nodes[usize::from(node)]
     }
 
+    // What comes in in a week, in pieces.
+    fn supplied(&self, week: u16) -> Qty
+        requires { IsWeekOf self.now week }
+        ensures { result ≡ in_week self.now.supply week }
+    {
+        self.supply[usize::from(week) - 1]
+    }
+
     /// What is booked that is due in a week, in pieces.
     pub fn booked(&self, week: u16) -> Qty
         requires { IsWeekOf self.now week }
@@ -120,6 +132,10 @@ impl AtpRow {
         requires { IsWeekOf self.now week }
         ensures { result ≡ bucket self.now week }
     {
+        let opens = self.supplied(week).value();
+        if opens == 0 {
+            return quantity(opens);
+        }
         let mut nodes = self.nodes();
         let up_to = available_in(&mut nodes, week).value();
         if week == 1 {

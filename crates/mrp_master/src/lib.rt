@@ -11,5 +11,5 @@ mod tree;
 
 pub use atp_row::{AtpRow, RowNodes};
 pub use line::{Line, LineFault, Spot, Wish};
-pub use nodes::{MOST_READS, Node, Nodes, available_in, earliest_in};
+pub use nodes::{Node, Nodes, available_in, earliest_in};
 pub use supply::Supply;

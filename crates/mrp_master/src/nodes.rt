@@ -3,7 +3,7 @@
 ghost use Rattle.std.specs.Prelude.{◌≡◌, ◌≤◌, ◌+◌, ◌-◌, ◌^◌, ◌+ℤ◌, ℕ, FitsSigned, length, min};
 ghost use Rattle.std.specs.Int.{w64};
 ghost use Rattle.mrp_master.specs.AtpRow.{AtpRow, IsAvailableIn, IsEarliestIn, IsWeekOf};
-ghost use Rattle.mrp_master.specs.Nodes.{IsNode, IsPromiseRow, joined, shifted};
+ghost use Rattle.mrp_master.specs.Nodes.{IsNode, IsPromiseRow, ReadsAtMost, joined, shifted};
 
 use crate::supply::quantity;
 use mrp_qty::Qty;
@@ -11,15 +11,12 @@ use mrp_qty::Qty;
 /// The places of weeks in a tree. Places past the last week of a row change nothing.
 pub const PLACES: u8 = 128;
 
-/// The most nodes that are read to promise.
-pub const MOST_READS: u64 = 16;
-
 /// What the weeks below a node change: by how much what comes in is more than what is booked.
 #[derive(Clone, Copy, Debug, PartialEq, Eq)]
 pub struct Node {
     /// In all of them together, in pieces.
     pub sum: i64,
-    /// From the first of them up to one, the least of these.
+    /// The least, over these weeks, of the sum from the first of them up to it, in pieces.
     pub least: i64,
 }
 
@@ -61,6 +58,9 @@ pub trait Nodes {
     // How many nodes were read.
     ghost count: { Self → ℕ };
 
+    // What one read makes of the first is the second.
+    ghost is_read: { Self → Self → Type 0 };
+
     /// The weeks of the horizon.
     fn weeks(&self) -> u16
         ensures { result ≡ length (of_row self.now).supply };
@@ -70,7 +70,8 @@ pub trait Nodes {
         requires { 1 ≤ node }
         ensures value { IsNode (of_row self.old) node result }
         ensures same { of_row self.new ≡ of_row self.old }
-        ensures count { count self.new ≡ min (count self.old + 1) (2 ^ 64 - 1) };
+        ensures count { count self.new ≡ min (count self.old + 1) (2 ^ 64 - 1) }
+        ensures one { is_read self.old self.new };
 
     /// How many nodes were read, up to the greatest number, where the count stays.
     fn reads(&self) -> u64
@@ -78,13 +79,15 @@ pub trait Nodes {
 }
 
 /// What is available to promise in a week, in pieces, by the nodes over the week and those beside
-/// them. The caller owes the tree of a covered row.
+/// them, of which at most 16 are read. The caller owes the tree of a covered row.
 pub fn available_in<N: Nodes>(nodes: &mut N, week: u16) -> Qty
     requires row { IsPromiseRow (N.of_row nodes.old) }
     requires week { IsWeekOf (N.of_row nodes.old) week }
     ensures value { IsAvailableIn (N.of_row nodes.old) week result }
     ensures same { N.of_row nodes.new ≡ N.of_row nodes.old }
-    ensures few { N.count nodes.new ≤ N.count nodes.old + MOST_READS }
+    // By the count, and also where that has come to its end and tells no more.
+    ensures count { N.count nodes.new ≤ N.count nodes.old + 16 }
+    ensures few { ReadsAtMost N.is_read 16 nodes.old nodes.new }
 {
     let mut node = (PLACES - 1) + week as u8;
     let mut since = nodes.read(node);
@@ -100,12 +103,14 @@ pub fn available_in<N: Nodes>(nodes: &mut N, week: u16) -> Qty
 }
 
 /// The first week in which so much is available to promise: the one after the last up to which
-/// less is uncommitted. The caller owes the tree of a covered row.
+/// less is uncommitted. At most 16 nodes are read. The caller owes the tree of a covered row.
 pub fn earliest_in<N: Nodes>(nodes: &mut N, quantity: Qty) -> Option<u16>
     requires { IsPromiseRow (N.of_row nodes.old) }
     ensures value { IsEarliestIn (N.of_row nodes.old) quantity result }
     ensures same { N.of_row nodes.new ≡ N.of_row nodes.old }
-    ensures few { N.count nodes.new ≤ N.count nodes.old + MOST_READS }
+    // By the count, and also where that has come to its end and tells no more.
+    ensures count { N.count nodes.new ≤ N.count nodes.old + 16 }
+    ensures few { ReadsAtMost N.is_read 16 nodes.old nodes.new }
 {
     let wanted = quantity.value() as i64;
     let root = nodes.read(1);

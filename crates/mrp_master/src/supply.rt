@@ -89,7 +89,7 @@ impl Supply {
     }
 
     /// The supply of an item up to a week, in pieces: what is on hand, and the firm rows up to the
-    /// week.
+    /// week; 0 of what is no item.
     pub fn up_to(&self, item: usize, week: u16) -> Qty
         ensures { result ≡ supply self.now item week }
     {

@@ -30,7 +30,8 @@ use Rattle.mrp_peg.specs.declared.peg.Cause.{Cause}
 use Rattle.mrp_peg.specs.declared.peg.Cause.TheVariants as cause
 use Rattle.mrp_peg.specs.Causes.{EndsIn, IsCause, Leads, is_need_of, is_order, need_or_surplus_cause, own_cause, same_kind, same_need, sources_of, surplus_cause}
 use Rattle.mrp_peg.specs.Matching.{amount_offered}
-use Rattle.mrp_peg.specs.Own.{IsOwn, own_gross}
+use Rattle.mrp_item.specs.Own.{own_gross}
+use Rattle.mrp_peg.specs.Own.{IsOwn}
 use Rattle.mrp_peg.specs.Pegging.{orders_in, pegs_of, requirements, supplies}
 use Rattle.mrp_peg.specs.Units.{Amount}
 use Rattle.mrp_peg.proofs.ItemSums.{to-supplies}

@@ -1,10 +1,9 @@
 -- The supplies of a planned item cover its requirements.
-use Rattle.std.proofs.Common.{◌≡◌, ◌∙◌, ℕ, suc, ◌+◌, ◌<◌, ◌≤◌, ◌⊎◌, inl, inr, Bool, true, false, cond, List, ◌∷◌, ◌++◌, length, sym, ap, arith}
-use Rattle.std.specs.Prelude.{◌==◌, filter, flat_map, map, sum, sum_by}
+use Rattle.std.proofs.Common.{◌≡◌, ◌∙◌, ℕ, suc, ◌+◌, ◌<◌, ◌≤◌, ◌⊎◌, inl, inr, Bool, true, false, cond, List, sym, ap, arith}
+use Rattle.std.specs.Prelude.{◌==◌, filter, map, sum, sum_by}
 use Rattle.std.specs.List.{enumerate_from}
 use Rattle.std.proofs.lemmas.Bool.{cases_lt}
 use Rattle.std.proofs.lemmas.List.Sums.{sum_by-cons, sum_by-append, sum_by-le-sum_by}
-use Rattle.mrp_tables.specs.declared.rows.MasterRow.{MasterRow}
 use Rattle.mrp_tables.specs.declared.rows.Receipt.{Receipt}
 use Rattle.mrp_phase.specs.Weeks.{in_week, row, sum_to, weeks}
 use Rattle.mrp_phase.proofs.WeekRows.{greatest_above, in_week_row, length-row, sum_to_whole}
@@ -27,8 +26,8 @@ use Rattle.mrp_item.specs.Supplies.{due_supply, order_supply, stock_supply, supp
 use Rattle.mrp_peg.specs.Matching.{amount_offered}
 use Rattle.mrp_peg.specs.Pegging.{requirements, supplies}
 use Rattle.mrp_peg.specs.Units.{Amount, total}
-use Rattle.mrp_peg.specs.Weekly.{by_weeks}
-use Rattle.mrp_peg.specs.Own.{IsOwn, own_gross}
+use Rattle.mrp_item.specs.Own.{own_gross}
+use Rattle.mrp_peg.specs.Own.{IsOwn}
 use Rattle.mrp_peg.proofs.Lists.{sum_by-flat_map, sum_by_weeks}
 use Rattle.mrp_peg.proofs.Own.{all_due, orders-own}
 use Rattle.mrp_peg.proofs.Sums.{sum_by-add, sum_by-agree, sum_by-map}

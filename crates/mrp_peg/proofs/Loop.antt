@@ -1,8 +1,8 @@
 -- What is left to match, from two places on.
 use Rattle.std.proofs.Common.{◌≡◌, ◌∙◌, ℕ, ◌+◌, ◌≤◌, List, [], ◌∷◌, ◌++◌, refl, sym, ap, arith, length, drop, take, append_assoc, subst, slice_index_or, Some, None, Bool, true, false, cond, min, max, ◌-◌, ◌<◌, drop-cons, add-one}
-use Rattle.std.specs.Prelude.{map, filter, nat_lt, sum_by}
+use Rattle.std.specs.Prelude.{map, filter, nat_lt}
 use Rattle.std.proofs.lemmas.List.{map-append, append-nil, drop_all, take_all}
-use Rattle.std.proofs.lemmas.List.Sums.{sum_by-cons, sum_by_more, sum_by-take-drop, sum_by-drop_more}
+use Rattle.std.proofs.lemmas.List.Sums.{sum_by_more, sum_by-take-drop}
 use Rattle.std.proofs.lemmas.List.Elements.{filter-append}
 use Rattle.mrp_peg.specs.Units.{Amount, Span, Match, spans_from, spans, total, is_positive, match_of, surplus_of, pairs, matches}
 use Rattle.mrp_peg.specs.Matching.{first_quantity}

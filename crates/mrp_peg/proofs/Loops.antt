@@ -1,15 +1,13 @@
 -- One more step of the loops that list requirements and supplies.
-use Rattle.std.proofs.Common.{◌≡◌, ◌≢◌, ◌∙◌, ℕ, zero, suc, ◌+◌, ◌-◌, ◌<◌, ◌≤◌, List, [], ◌∷◌, ◌++◌, Bool, true, false, cond, length, take, map, set, get_or, Some, None, Option, rules, subst, refl, sym, ap, arith, append_assoc, add-one}
-use Rattle.std.specs.Prelude.{flat_map, nat_le, All, ◌==◌}
-use Rattle.mrp_qty.specs.Quantity.{greatest_quantity, quantity_of}
+use Rattle.std.proofs.Common.{◌≡◌, ◌∙◌, ℕ, zero, suc, ◌+◌, ◌-◌, ◌<◌, List, [], ◌∷◌, ◌++◌, cond, length, take, map, set, get_or, refl, sym, ap, arith, append_assoc}
+use Rattle.std.specs.Prelude.{flat_map}
 use Rattle.std.specs.Int.{IsInRange}
 use Rattle.std.specs.List.{enumerate_from}
-use Rattle.std.specs.Option.{IsSome}
-use Rattle.std.proofs.lemmas.Bool.{eqb-true, eqb-false, eq-eqb, ne_eqb, le-leb}
+use Rattle.std.proofs.lemmas.Bool.{eq-eqb, ne_eqb}
 use Rattle.std.proofs.lemmas.List.{map-append, append-nil}
 use Rattle.std.proofs.lemmas.List.Concat.{flat_map-append}
 use Rattle.mrp_phase.specs.Weeks.{in_week, row, weeks, with_week}
-use Rattle.mrp_phase.proofs.WeekRows.{in_week_at, in_week_next, in_week_row, length-row, row_is, row_same, weeks_more, with_week-row, with_week_at}
+use Rattle.mrp_phase.proofs.WeekRows.{in_week_at, in_week_next, in_week_row, length-row, row_is, weeks_more, with_week-row, with_week_at}
 use Rattle.mrp_item.specs.declared.due.Due.{Due}
 use Rattle.mrp_item.specs.declared.order.Order.{Order}
 use Rattle.mrp_item.specs.Dues.{due_sum}

@@ -1,13 +1,13 @@
 -- What a planned item's plan is, and that its sums are within the greatest quantity.
-use Rattle.std.proofs.Common.{◌≡◌, ◌∙◌, ℕ, zero, suc, max, [], ◌∷◌, ◌+◌, ◌-◌, ◌*◌, ◌<◌, ◌≤◌, Bool, true, false, cond, Option, Some, None, Ok, List, map, length, refl, sym, ap, subst, arith}
-use Rattle.std.specs.Prelude.{◌||◌, if◌then◌else◌, nat_lt, sum, sum_by, All}
+use Rattle.std.proofs.Common.{◌≡◌, ◌∙◌, ℕ, zero, suc, max, [], ◌∷◌, ◌+◌, ◌-◌, ◌<◌, ◌≤◌, Bool, true, false, cond, Option, Some, None, Ok, List, map, length, refl, sym, ap, subst, arith}
+use Rattle.std.specs.Prelude.{◌||◌, nat_lt, sum, sum_by, All}
 use Rattle.std.specs.List.{list_all}
 use Rattle.std.specs.Int.{IsInRange}
 use Rattle.std.proofs.lemmas.Bool.{ltb-false}
 use Rattle.std.proofs.lemmas.List.Elements.{All-append, All-map}
 use Rattle.mrp_qty.specs.Quantity.{greatest_quantity}
 use Rattle.mrp_bill.specs.Bill.{parents_of}
-use Rattle.mrp_phase.specs.Weeks.{in_week, row, sum_to}
+use Rattle.mrp_phase.specs.Weeks.{in_week, sum_to}
 use Rattle.mrp_phase.proofs.WeekRows.{length-row, sum_to_whole}
 use Rattle.mrp_item.specs.declared.order.Order.{Order}
 use Rattle.mrp_item.specs.Inputs.{Inputs, count, horizon, item_at, places}
@@ -15,22 +15,19 @@ use Rattle.mrp_item.specs.Rows.{firm_rows, stock_of}
 use Rattle.mrp_item.specs.declared.order.OrderKind.TheVariants.{Firm, Planned as Made}
 use Rattle.mrp_tables.specs.declared.rows.MasterRow.{MasterRow}
 use Rattle.mrp_item.specs.Orders.{firm_orders, order_of, orders_due, orders_of, planned_order}
-use Rattle.mrp_peg.specs.Own.{IsOwn, own_gross}
+use Rattle.mrp_item.specs.Own.{own_gross}
+use Rattle.mrp_peg.specs.Own.{IsOwn}
 use Rattle.mrp_peg.proofs.Lists.{All-weeks}
 use Rattle.mrp_item.specs.Plan.{HasParents, IsRanked, ItemPlan, Outcome, Planned, Over, Blocked, first_over, gross_in, is_planned, is_too_large, item_plan, outcome_of, plan_in, plan_of, plan_unless, receipts_of}
 use Rattle.mrp_item.proofs.Outcomes.{all-planned, outcome_of-unfolds}
 use Rattle.mrp_item.proofs.OrderWeeks.{due-within}
-
-stepped : (b t : Bool) (p plan : ItemPlan) → (if b then (if t then Over else Planned p) else Blocked) ≡ Planned plan → (t ≡ false) × (p ≡ plan)
-stepped true true p plan e = absurd (cc)
-stepped true false p plan e = (refl, ap plan_in e)
-stepped false t p plan e = absurd (cc)
+use Rattle.mrp_item.proofs.PlannedRows.{stepped}
 
 pub own : (s : Inputs) (i : ℕ) (code : ℕ → ℕ) (plan : ItemPlan) → IsRanked s code → outcome_of s i ≡ Planned plan → IsOwn s i
 own s i code plan ranked e =
     let p : ItemPlan = item_plan s i (own_gross s i) in
     let is = stepped (list_all (λ q. is_planned (outcome_of s q)) (parents_of s.tables.bills (count s) i)) (is_too_large s i p) p plan (sym (outcome_of-unfolds s code ranked i) ∙ e) in
-    record { plan = ap plan_in e ∙ sym is.1; small = is.0 }
+    record { plan = ap plan_in e ∙ sym is.same; small = is.small }
 
 none-over : (first : Option ℕ) (plans all : List ItemPlan) → plan_unless first all ≡ Ok plans → first ≡ None
 none-over None plans all e = refl

@@ -1,12 +1,11 @@
 -- The requirements of an item add up to its gross requirements.
-use Rattle.std.proofs.Common.{◌≡◌, ◌∙◌, ℕ, zero, suc, ◌+◌, ◌-◌, ◌*◌, ◌<◌, ◌≤◌, Bool, true, false, cond, List, [], ◌∷◌, ◌++◌, length, get_or, refl, sym, ap, arith, max}
+use Rattle.std.proofs.Common.{◌≡◌, ◌∙◌, ℕ, ◌+◌, ◌-◌, ◌*◌, ◌<◌, ◌≤◌, Bool, true, false, cond, List, [], ◌∷◌, ◌++◌, length, get_or, refl, sym, ap, arith}
 use Rattle.std.specs.List.{enumerate_from}
-use Rattle.std.specs.Prelude.{◌==◌, filter, flat_map, map, sum, sum_by, nat_lt, if◌then◌else◌}
-use Rattle.std.proofs.lemmas.Bool.{ltb-true, ltb-false}
-use Rattle.std.proofs.lemmas.List.Sums.{sum_by-cons, sum_by-append, sum-map, get_or-le-sum_by}
+use Rattle.std.specs.Prelude.{◌==◌, filter, sum, sum_by, nat_lt}
+use Rattle.std.proofs.lemmas.Bool.{ltb-false}
+use Rattle.std.proofs.lemmas.List.Sums.{sum_by-cons, sum_by-append, get_or-le-sum_by}
 use Rattle.mrp_qty.specs.Quantity.{greatest_quantity}
 use Rattle.mrp_bill.specs.Bill.{line_at, lines_of}
-use Rattle.mrp_tables.specs.declared.rows.BillLine.{BillLine}
 use Rattle.mrp_book.specs.declared.booking.Booking.{Booking}
 use Rattle.mrp_phase.specs.Weeks.{row, weeks}
 use Rattle.mrp_item.specs.declared.order.Order.{Order}
@@ -14,15 +13,15 @@ use Rattle.mrp_item.specs.Inputs.{Inputs, horizon, is_master}
 use Rattle.mrp_item.specs.Plan.{asked_by, gross_in, outcome_of, plan_in}
 use Rattle.mrp_item.specs.Rows.{booked, bookings_due, demand, forecast, lines_to}
 use Rattle.mrp_item.proofs.Parents.{lines-at}
-use Rattle.mrp_peg.specs.declared.peg.Need.{Need}
 use Rattle.mrp_peg.specs.declared.peg.NeedKind.TheVariants.{Booking as for_booking, Forecast, Parent}
 use Rattle.mrp_peg.specs.declared.matching.Wanted.{Wanted}
-use Rattle.mrp_peg.specs.Matching.{amount_wanted, amounts_wanted}
+use Rattle.mrp_peg.specs.Matching.{amount_wanted}
 use Rattle.mrp_peg.specs.Pegging.{booking_needs, forecast_needs, line_needs, needed, needs_in, orders_in, parent_needs, requirements}
 use Rattle.mrp_peg.specs.Rows.{all_wanted, demand_wanted, line_wanted, order_wanted, parents_wanted}
 use Rattle.mrp_peg.specs.Units.{Amount, total}
 use Rattle.mrp_peg.specs.Weekly.{AreWithin, by_weeks}
-use Rattle.mrp_peg.specs.Own.{IsOwn, own_gross}
+use Rattle.mrp_item.specs.Own.{own_gross}
+use Rattle.mrp_peg.specs.Own.{IsOwn}
 use Rattle.mrp_peg.proofs.Listed.{requirements_are}
 use Rattle.mrp_peg.proofs.Lists.{sum_by-flat_map, sum_by_weeks}
 use Rattle.mrp_peg.proofs.Own.{gross-within}

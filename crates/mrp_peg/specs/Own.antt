@@ -1,12 +1,8 @@
 -- A planned item.
-use Rattle.std.specs.Prelude.{ℕ, ◌≡◌, false, List}
-use Rattle.mrp_phase.specs.Weeks.{row}
-use Rattle.mrp_item.specs.Inputs.{Inputs, horizon}
-use Rattle.mrp_item.specs.Plan.{gross_in, is_too_large, item_plan, outcome_of, plan_in}
-
--- the gross requirements of an item, from its parents' outcomes
-abbrev pub own_gross : Inputs → ℕ → List ℕ
-own_gross s i = row (horizon s) (gross_in s i (outcome_of s))
+use Rattle.std.specs.Prelude.{ℕ, ◌≡◌, false}
+use Rattle.mrp_item.specs.Inputs.{Inputs}
+use Rattle.mrp_item.specs.Own.{own_gross}
+use Rattle.mrp_item.specs.Plan.{is_too_large, item_plan, outcome_of, plan_in}
 
 -- an item that is planned: its plan is that of its gross requirements, and not too large
 pub record IsOwn (s : Inputs) (i : ℕ) : Type 0 where

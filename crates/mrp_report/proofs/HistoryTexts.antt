@@ -1,7 +1,7 @@
 -- A history's text, entry by entry.
 use Rattle.std.proofs.Common.{◌≡◌, ◌∙◌, ℕ, ◌+◌, ◌<◌, List, ◌++◌, length, get_or, Option, sym, ap, arith}
 use Rattle.std.proofs.lemmas.List.FromFn.{length-enumerate_from}
-use Rattle.std.specs.List.{enumerate_from, flat_map}
+use Rattle.std.specs.List.{enumerate_from}
 use Rattle.mrp_turn.specs.declared.log.Entry.{Entry}
 use Rattle.mrp_book.specs.declared.call.Call.{Call}
 use Rattle.mrp_book.specs.declared.reply.Reply.{Reply}

@@ -13,6 +13,8 @@ pub mod ListTexts
 pub mod ListWritten
 pub mod HistoryTexts
 pub mod SectionTexts
+pub mod ChunkTexts
+pub mod PlacesWritten
 pub mod PromiseSums
 pub mod PromiseBookings
 pub mod PromiseSheets

@@ -84,6 +84,26 @@ written-passed {W} contents start now then first tries fewer page left text w le
       within = omega (arith, less, w.within);
     }
 
+-- a page was written
+pub written-taken : {W : Type 0} (contents : W → Option (List ℕ)) (start now then : Told W) (first tries fewer : ℕ) (page text : List ℕ) → IsWritten contents start now first tries page text → fewer ≤ tries
+    → HasTaken contents now then page (tries - fewer) → IsWritten contents start then first fewer [] text
+written-taken contents start now then first tries fewer page text w less taken =
+    written-passed contents start now then first tries fewer page [] text w less (record {
+      passed = page;
+      split = sym (append-nil page);
+      taken = taken;
+    })
+
+-- another page is to be written
+pub written-next : {W : Type 0} (contents : W → Option (List ℕ)) (start now : Told W) (first tries : ℕ) (text more : List ℕ) → IsWritten contents start now first tries [] text
+    → IsWritten contents start now first tries more (text ++ more)
+written-next contents start now first tries text more w = written-more contents start now first tries [] more text more w refl
+
+-- all that was to be written was taken
+pub taken-whole : {W : Type 0} (contents : W → Option (List ℕ)) (start now : Told W) (first tries : ℕ) (text : List ℕ) → IsWritten contents start now first tries [] text → HasTaken contents start now text (first - tries)
+taken-whole {W} contents start now first tries text w =
+    subst (λ (t : List ℕ). HasTaken contents start now t (first - tries)) (sym (w.split ∙ append-nil w.passed)) w.taken
+
 take-behind : (s t u : List ℕ) (n : ℕ) → n ≤ length t → take (length s + n) (s ++ (t ++ u)) ≡ s ++ take n t
 take-behind s t u n h = take-append-add s (t ++ u) n ∙ ap (λ (l : List ℕ). s ++ l) (take-append-le n t u h)
 

@@ -1,17 +1,16 @@
 -- An item's row of promising, booking by booking.
 use Rattle.std.proofs.Common.{◌≡◌, ◌∙◌, ℕ, zero, suc, ◌+◌, ◌≤◌, ◌<◌, ◌&&◌, Bool, true, false, cond, eqb, List, [], ◌∷◌, length, map, take, get_or, refl, sym, ap, subst, arith}
-use Rattle.std.specs.Prelude.{All, IsTrue, filter, sum, sum_by}
+use Rattle.std.specs.Prelude.{All, IsTrue, filter, sum_by}
 use Rattle.std.proofs.lemmas.List.{get_or-map, get_or_default, take_all}
 use Rattle.std.proofs.lemmas.List.Elements.{All-filter, All-get_or, All-map, All-same, All-weaker}
 use Rattle.std.proofs.lemmas.List.Sums.{sum_by-cons}
 use Rattle.mrp_phase.specs.Weeks.{in_week, row, sum_to, with_week}
 use Rattle.mrp_phase.proofs.WeekRows.{in_week_row, length-row, row_same, sum_to_suc}
 use Rattle.mrp_tables.specs.Items as items
-use Rattle.mrp_tables.specs.Tables.{Tables}
 use Rattle.mrp_tables.specs.declared.item.Item.{Item}
 use Rattle.mrp_master.specs.declared.line.Line.{Line}
 use Rattle.mrp_master.specs.Lines.{IsLine}
-use Rattle.mrp_master.specs.Supply.{IsMaster, IsSupply, IsWeek, Supply, due_by, supply, supply_of}
+use Rattle.mrp_master.specs.Supply.{IsMaster, IsSupply, IsWeek, Supply, supply, supply_of}
 use Rattle.mrp_master.specs.AtpRow.{AtpRow, IsCoveredRow, IsWeekOf, atp_row, due_in, opening, with_booking}
 use Rattle.mrp_master.proofs.ItemRows.{booked_to, firm_from_first, supplied_to}
 use Rattle.mrp_book.specs.declared.booking.Booking.{Booking}

@@ -1,5 +1,5 @@
 -- What is available in a row of promising is the least of what is uncommitted.
-use Rattle.std.proofs.Common.{◌≡◌, ◌∙◌, ℕ, zero, suc, ◌+◌, ◌-◌, ◌≤◌, ◌<◌, min, List, length, inl, inr, ap, subst, arith}
+use Rattle.std.proofs.Common.{◌≡◌, ◌∙◌, ℕ, zero, suc, ◌+◌, ◌-◌, ◌≤◌, ◌<◌, min, List, length, inl, inr, ap, arith}
 use Rattle.std.proofs.lemmas.Bool.{cases_lt}
 use Rattle.mrp_phase.specs.Weeks.{in_week, row, sum_to, with_week}
 use Rattle.mrp_phase.proofs.WeekRows.{in_week_row, sum_to_suc}

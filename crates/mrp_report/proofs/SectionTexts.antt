@@ -2,11 +2,11 @@
 use Rattle.std.proofs.Common.{◌≡◌, ◌∙◌, ℕ, ◌+◌, ◌<◌, List, [], ◌∷◌, ◌++◌, length, get_or, sym, ap, arith}
 use Rattle.std.proofs.lemmas.List.{append-nil, flat_map_more}
 use Rattle.std.proofs.lemmas.List.FromFn.{get_or-range_with_len, length-range_with_len}
-use Rattle.std.specs.List.{flat_map, range_with_len}
+use Rattle.std.specs.List.{flat_map}
 use Rattle.mrp_item.specs.Inputs.{Inputs}
 use Rattle.mrp_report.specs.ReportText.{loads_text, messages_text, orders_text, pegs_text, plan_text, promises_text, report_text}
 use Rattle.mrp_report.specs.RunText.{run_text}
-use Rattle.mrp_report.specs.Sections.{count_in, head_of, places_in, rows_of, section_text}
+use Rattle.mrp_report.specs.Sections.{count_in, places_in, section_text}
 use Rattle.mrp_report.specs.declared.section.Section.{Section}
 use Rattle.mrp_report.specs.declared.section.Section.TheVariants as section
 

@@ -8,7 +8,7 @@ use Rattle.mrp_book.specs.declared.call.Call.TheVariants as call
 use Rattle.mrp_book.specs.declared.reply.Reply.{Reply}
 use Rattle.mrp_book.specs.declared.reply.Reply.TheVariants as reply
 use Rattle.mrp_book.specs.Standing.{History}
-use Rattle.mrp_report.specs.Cells.{name_at, number_cell}
+use Rattle.mrp_report.specs.Cells.{name_at}
 use Rattle.mrp_report.specs.Section.{row, section_head}
 
 abbrev pub history_head : List ℕ

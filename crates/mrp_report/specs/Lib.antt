@@ -24,4 +24,5 @@ pub mod Written
 pub mod PlanRows
 pub mod ReportText
 pub mod Sections
+pub mod Chunks
 pub mod Sheet

@@ -44,6 +44,10 @@ rows_of s section.Pegs i = pegged_text s i (plan_in (outcome_of s i))
 rows_of s section.Messages i = told_text s i (plan_in (outcome_of s i))
 rows_of s section.Loads i = loaded_text s i
 
+-- the rows of a section, of each in table order
+abbrev pub all_rows : Inputs → Section → List ℕ
+all_rows s section = flat_map (rows_of s section) (places_in s section)
+
 -- a section, with the rows of each in table order
 abbrev pub section_text : Inputs → Section → List ℕ
-section_text s section = head_of section ++ flat_map (rows_of s section) (places_in s section)
+section_text s section = head_of section ++ all_rows s section

@@ -1,5 +1,5 @@
 -- The cells that tell which supply a row speaks of (profile).
-use Rattle.std.specs.Prelude.{ℕ, ◌-◌, List, [], ◌∷◌, codes, decimal, Option, Some, None, slice_get}
+use Rattle.std.specs.Prelude.{ℕ, ◌-◌, List, [], codes, decimal, Option, Some, None, slice_get}
 use Rattle.mrp_tables.specs.Tables.{Tables}
 use Rattle.mrp_item.specs.declared.order.Order.{Order}
 use Rattle.mrp_item.specs.declared.supplies.Supplied.{Supplied}

@@ -3,7 +3,9 @@
 
 mod cells;
 mod centre;
+mod chunks;
 mod csv_name;
+mod cut;
 mod fault;
 mod history;
 mod item;
@@ -22,14 +24,17 @@ mod promise_sheet;
 mod promises;
 mod put;
 mod quoting;
+mod readings;
 mod report;
 mod run;
 mod section;
 mod sheet;
 mod shop_names;
+mod slot;
 mod source;
+mod wave;
 mod word;
 
 pub use fault::ReportFault;
 pub use history::write_history;
-pub use report::write_report;
+pub use report::{MOST_WORKERS, write_report};

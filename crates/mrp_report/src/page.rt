@@ -175,11 +175,30 @@ impl Page {
         &self.bytes[..self.end]
     }
 
-    // Takes the text away. The page goes on in its memory.
-    fn clear(&mut self)
+    /// Takes the text away. The page goes on in its memory.
+    pub(crate) fn clear(&mut self)
         ensures { self.new ≡ [] }
     {
         self.end = 0;
+    }
+
+    /// Writes the text, and leaves it on the page.
+    ///
+    /// Errors: `Write` where a write failed in this call, or was interrupted with no try left. A
+    /// front of the text was written then.
+    pub(crate) fn write<W: Write>(
+        &self,
+        writer: &mut Told<W>,
+        tries: &mut Tries,
+    ) -> Result<(), ReportFault>
+        ensures whole { OnOk result (HasTaken W.contents writer.old writer.new self.now (tries.old - tries.new)) }
+        ensures tries { tries.new ≤ tries.old }
+        ensures front { OnErr result (HasTakenFront W.contents writer.old writer.new self.now) }
+        ensures refused { result ≡ Err ReportFault.Write → HasGivenUp writer.old writer.new tries.old }
+        ensures memory { result ≡ Err ReportFault.NoMemory → HasGoneOn writer.old writer.new tries.old }
+    {
+        write_text(writer, self.text(), tries)?;
+        Ok(())
     }
 
     /// Writes the text, and goes on with an empty page in its memory.
@@ -198,7 +217,7 @@ impl Page {
         ensures refused { result ≡ Err ReportFault.Write → HasGivenUp writer.old writer.new tries.old }
         ensures memory { result ≡ Err ReportFault.NoMemory → HasGoneOn writer.old writer.new tries.old }
     {
-        write_text(writer, self.text(), tries)?;
+        self.write(writer, tries)?;
         self.clear();
         Ok(())
     }

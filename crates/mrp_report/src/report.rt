@@ -1,22 +1,29 @@
 //! The report of a run.
 
-ghost use Rattle.std.specs.Prelude.{◌≡◌, ◌≤◌, ◌-◌, ◌++◌, Err, OnOk, OnErr, length};
-ghost use Rattle.mrp_master.specs.Supply.{supply_of};
+ghost use Rattle.std.specs.Prelude.{◌≡◌, ◌<◌, ◌≤◌, ◌-◌, ◌++◌, Err, OnOk, OnErr, length};
+ghost use Rattle.std.specs.Int.{IsInRange};
 ghost use Rattle.mrp_report.specs.ReportText.{report_text};
 ghost use Rattle.mrp_report.specs.RunText.{run_text};
-ghost use Rattle.mrp_report.specs.Sections.{section_text};
+ghost use Rattle.mrp_report.specs.Chunks.{rows_in, text_of};
 ghost use Rattle.mrp_report.specs.Written.{HasGivenUp, HasGoneOn, HasTakenFront, HasTakenWhole, PassesOn};
 
+use crate::cut::Chunks;
 use crate::fault::ReportFault;
 use crate::page::Page;
+use crate::readings::Readings;
 use crate::run::run_section;
-use crate::section::{Readings, SECTIONS, Section};
+use crate::section::SECTIONS;
+use crate::slot::{Slot, slots};
+use crate::wave::write_waves;
 use mrp_item::Plan;
 use mrp_qty::NoMemory;
 use mrp_rows::{Told, Tries, WRITE_TRIES};
 use std::alloc::Global;
 use std::io::Write;
 use std::thread::Threads;
+
+/// The most workers that make the rows of a report.
+pub const MOST_WORKERS: u64 = 64;
 
 // Adds the section `run`.
 fn write_run(page: &mut Page, plan: &Plan) -> Result<(), NoMemory>
@@ -26,35 +33,99 @@ fn write_run(page: &mut Page, plan: &Plan) -> Result<(), NoMemory>
     run_section(page, snapshot.front(), snapshot.standing().len() as u64)
 }
 
-// Adds a section, and hands full pages over.
-fn write_section<W: Write>(
+// Adds the rows of a section one after the other, and hands full pages over.
+fn write_in_turn<W: Write>(
     alloc: Global,
-    section: Section,
-    plan: &Plan,
-    readings: &Readings<'_>,
+    chunks: &Chunks<'_>,
     page: &mut Page,
     writer: &mut Told<W>,
     tries: &mut Tries,
 ) -> Result<(), ReportFault>
-    requires supply { readings.now.supply.now ≡ supply_of plan.now.inputs.tables }
-    requires names { readings.now.names.tables.now ≡ plan.now.inputs.tables }
-    requires loads { readings.now.loads ≡ plan.now.inputs }
-    ensures passed { OnOk result (PassesOn W.contents writer.old writer.new (page.old ++ section_text plan.now.inputs section) page.new (tries.old - tries.new)) }
+    ensures passed { OnOk result (PassesOn W.contents writer.old writer.new (page.old ++ rows_in chunks.now) page.new (tries.old - tries.new)) }
     ensures tries { tries.new ≤ tries.old }
-    ensures front { OnErr result (HasTakenFront W.contents writer.old writer.new (page.old ++ section_text plan.now.inputs section)) }
+    ensures front { OnErr result (HasTakenFront W.contents writer.old writer.new (page.old ++ rows_in chunks.now)) }
     ensures refused { result ≡ Err ReportFault.Write → HasGivenUp writer.old writer.new tries.old }
     ensures memory { result ≡ Err ReportFault.NoMemory → HasGoneOn writer.old writer.new tries.old }
 {
-    section.begin(page)?;
-    for place in 0..section.count(plan) {
-        section.add(alloc, page, plan, readings, place)?;
+    for place in 0..chunks.count() {
+        chunks.section.add(alloc, page, chunks.readings, place)?;
         page.pass_on(writer, tries)?;
     }
     Ok(())
 }
 
+// Writes what stands on the page, and the rows of a section behind it, in chunks that are made side
+// by side.
+fn write_beside<W: Write>(
+    rt: &(impl Threads + Sync),
+    alloc: Global,
+    slots: &mut [Slot],
+    chunks: &Chunks<'_>,
+    page: &mut Page,
+    writer: &mut Told<W>,
+    tries: &mut Tries,
+) -> Result<(), ReportFault>
+    requires { 0 < length slots.old }
+    ensures passed { OnOk result (PassesOn W.contents writer.old writer.new (page.old ++ rows_in chunks.now) page.new (tries.old - tries.new)) }
+    ensures tries { tries.new ≤ tries.old }
+    ensures front { OnErr result (HasTakenFront W.contents writer.old writer.new (page.old ++ rows_in chunks.now)) }
+    ensures refused { result ≡ Err ReportFault.Write → HasGivenUp writer.old writer.new tries.old }
+    ensures memory { result ≡ Err ReportFault.NoMemory → HasGoneOn writer.old writer.new tries.old }
+{
+    page.hand_over(writer, tries)?;
+    write_waves(rt, alloc, slots, chunks, writer, tries)
+}
+
+// Adds the rows of a section, and hands full pages over. They are made side by side where there are
+// more than a chunk of them, and a page for each of some workers.
+fn write_rows<W: Write>(
+    rt: &(impl Threads + Sync),
+    alloc: Global,
+    slots: &mut [Slot],
+    chunks: &Chunks<'_>,
+    page: &mut Page,
+    writer: &mut Told<W>,
+    tries: &mut Tries,
+) -> Result<(), ReportFault>
+    ensures passed { OnOk result (PassesOn W.contents writer.old writer.new (page.old ++ rows_in chunks.now) page.new (tries.old - tries.new)) }
+    ensures tries { tries.new ≤ tries.old }
+    ensures front { OnErr result (HasTakenFront W.contents writer.old writer.new (page.old ++ rows_in chunks.now)) }
+    ensures refused { result ≡ Err ReportFault.Write → HasGivenUp writer.old writer.new tries.old }
+    ensures memory { result ≡ Err ReportFault.NoMemory → HasGoneOn writer.old writer.new tries.old }
+{
+    if slots.len() > 1 && chunks.are_many() {
+        write_beside(rt, alloc, slots, chunks, page, writer, tries)
+    } else {
+        write_in_turn(alloc, chunks, page, writer, tries)
+    }
+}
+
+// Adds a section, and hands full pages over.
+fn write_section<W: Write>(
+    rt: &(impl Threads + Sync),
+    alloc: Global,
+    slots: &mut [Slot],
+    chunks: &Chunks<'_>,
+    page: &mut Page,
+    writer: &mut Told<W>,
+    tries: &mut Tries,
+) -> Result<(), ReportFault>
+    ensures passed { OnOk result (PassesOn W.contents writer.old writer.new (page.old ++ text_of chunks.now) page.new (tries.old - tries.new)) }
+    ensures tries { tries.new ≤ tries.old }
+    ensures front { OnErr result (HasTakenFront W.contents writer.old writer.new (page.old ++ text_of chunks.now)) }
+    ensures refused { result ≡ Err ReportFault.Write → HasGivenUp writer.old writer.new tries.old }
+    ensures memory { result ≡ Err ReportFault.NoMemory → HasGoneOn writer.old writer.new tries.old }
+{
+    chunks.section.begin(page)?;
+    write_rows(rt, alloc, slots, chunks, page, writer, tries)
+}
+
 /// Writes the report of a run: the sections `run`, `promises`, `plan`, `orders`, `pegs`, `messages`
 /// and `loads`. The work centres' loads are made side by side, before anything is written.
+///
+/// So many workers, 1 to 64 as the caller owes, make the rows: a section with more rows than one of
+/// them makes at a time is made by all of them side by side, and else by one. By one worker no
+/// thread is started for rows.
 ///
 /// An interrupted write is tried again, at most 1,000,000 times. Errors: `Write` where a write failed
 /// in this call or was interrupted more often, and `NoMemory` where a growth of memory was refused
@@ -64,7 +135,9 @@ pub fn write_report<W: Write>(
     alloc: Global,
     plan: &Plan,
     writer: &mut Told<W>,
+    workers: usize,
 ) -> Result<(), ReportFault>
+    requires workers { IsInRange 1 MOST_WORKERS workers }
     ensures whole { OnOk result (HasTakenWhole W.contents writer.old writer.new (report_text plan.now.inputs)) }
     ensures front { OnErr result (HasTakenFront W.contents writer.old writer.new (report_text plan.now.inputs)) }
     ensures refused { result ≡ Err ReportFault.Write → HasGivenUp writer.old writer.new WRITE_TRIES }
@@ -72,11 +145,19 @@ pub fn write_report<W: Write>(
 {
     let mut tries = Tries::new();
     let mut page = Page::new(alloc);
+    let mut slots = slots(alloc, workers)?;
     let readings = Readings::of(rt, alloc, plan)?;
     write_run(&mut page, plan)?;
     for section in SECTIONS {
+        let chunks = Chunks::of(&readings, section);
         write_section(
-            alloc, section, plan, &readings, &mut page, writer, &mut tries,
+            rt,
+            alloc,
+            slots.as_mut_slice(),
+            &chunks,
+            &mut page,
+            writer,
+            &mut tries,
         )?;
     }
     page.hand_over(writer, &mut tries)

@@ -1,7 +1,6 @@
 //! The sections of a report that go over the items or the work centres.
 
-ghost use Rattle.std.specs.Prelude.{◌≡◌, ◌<◌, ◌++◌, IfOk, OnOk};
-ghost use Rattle.mrp_master.specs.Supply.{supply_of};
+ghost use Rattle.std.specs.Prelude.{◌≡◌, ◌<◌, ◌++◌, OnOk};
 ghost use Rattle.mrp_item.specs.Inputs.{count};
 ghost use Rattle.mrp_report.specs.ReportText.{ordered_text, pegged_text, told_text};
 ghost use Rattle.mrp_item.specs.Plan.{outcome_of, plan_in};
@@ -17,15 +16,13 @@ use crate::pegs::{peg_rows, pegs_section};
 use crate::plan::plan_section;
 use crate::promise_item::item_promises;
 use crate::promises::promises_section;
+use crate::readings::Readings;
 use crate::shop_names::ShopNames;
 use mrp_item::{Plan, Planned};
-use mrp_load::{LoadTable, loads};
-use mrp_master::Supply;
 use mrp_notes::item_messages;
 use mrp_peg::item_pegs;
 use mrp_qty::NoMemory;
 use std::alloc::Global;
-use std::thread::Threads;
 
 // A section with rows for each item, or for each work centre.
 #[derive(Clone, Copy)]
@@ -47,34 +44,6 @@ pub(crate) const SECTIONS: [Section; 6] = [
     Section::Messages,
     Section::Loads,
 ];
-
-// What sections read beside a plan: what promising reads of its shop, what the shop's tables call
-// things, and the loads of its work centres.
-#[derive(Drop)]
-pub(crate) struct Readings<'a> {
-    supply: &'a Supply,
-    names: ShopNames<'a>,
-    loads: LoadTable,
-}
-
-impl<'a> Readings<'a> {
-    pub(crate) fn of(
-        rt: &(impl Threads + Sync),
-        alloc: Global,
-        plan: &'a Plan,
-    ) -> Result<Readings<'a>, NoMemory>
-        ensures supply { IfOk result (λ readings. readings.supply.now ≡ supply_of plan.now.inputs.tables) }
-        ensures names { IfOk result (λ readings. readings.names.tables.now ≡ plan.now.inputs.tables) }
-        ensures loads { IfOk result (λ readings. readings.loads ≡ plan.now.inputs) }
-    {
-        let inputs = plan.inputs();
-        Ok(Readings {
-            supply: inputs.rows().supply(),
-            names: ShopNames::of(alloc, inputs.shop().tables())?,
-            loads: loads(rt, alloc, plan)?,
-        })
-    }
-}
 
 // Adds an item's rows of the section `orders`.
 fn ordered_rows(page: &mut Page, names: &ShopNames<'_>, planned: &Planned) -> Result<(), NoMemory>
@@ -153,21 +122,18 @@ impl Section {
         }
     }
 
-    // Adds the rows of the item or work centre at a place. The readings are those of the plan.
+    // Adds the rows of the item or work centre at a place.
     pub(crate) fn add(
         self,
         alloc: Global,
         page: &mut Page,
-        plan: &Plan,
         readings: &Readings<'_>,
         place: usize,
     ) -> Result<(), NoMemory>
-        requires supply { readings.now.supply.now ≡ supply_of plan.now.inputs.tables }
-        requires names { readings.now.names.tables.now ≡ plan.now.inputs.tables }
-        requires loads { readings.now.loads ≡ plan.now.inputs }
-        requires within { place < count_in plan.now.inputs self }
-        ensures { OnOk result (page.new ≡ page.old ++ rows_of plan.now.inputs self place) }
+        requires { place < count_in readings.now.plan.now.inputs self }
+        ensures { OnOk result (page.new ≡ page.old ++ rows_of readings.now.plan.now.inputs self place) }
     {
+        let plan = readings.plan;
         let names = &readings.names;
         match self {
             Section::Promises => {

@@ -1,5 +1,5 @@
 -- What opening a table gives, and what a call of `next` gives and leaves (profile).
-use Rattle.std.specs.Prelude.{ℕ, ◌≡◌, ◌≢◌, ◌⊎◌, ◌+◌, if◌then◌else◌, List, [], ◌∷◌, length, Option, Some, None, Result, Ok, Err, min, nat_eq, true, false}
+use Rattle.std.specs.Prelude.{ℕ, ◌≡◌, ◌≢◌, ◌⊎◌, ◌+◌, if◌then◌else◌, Bool, List, [], ◌∷◌, length, Option, Some, None, Result, Ok, Err, min, nat_eq, true, false}
 use Rattle.std.specs.Cmp.Lexicographic.{pointwise}
 use Rattle.mrp_rows.specs.declared.fault.Fault.{Fault}
 use Rattle.mrp_rows.specs.declared.faults.TheConstants as faults
@@ -16,11 +16,20 @@ header_fault table = record { code = faults.HEADER; table = table; row = 0 }
 abbrev pub memory_fault : Table → ℕ → Fault
 memory_fault table number = record { code = faults.NO_MEMORY; table = table; row = number }
 
--- the records after the header, where its cells are exactly the names of the table's columns, in order (profile)
+-- a table's first record is its header: its cells are exactly the names of the table's columns, in order (profile)
+abbrev pub is_header : Table → List (List ℕ) → Bool
+is_header table cells = pointwise (pointwise nat_eq) cells (columns_of table)
+
+-- a table's header, or HEADER: also where there is no record
+abbrev pub headed : Table → Option Cells → Result (Unit {0}) Fault
+headed table None = Err (header_fault table)
+headed table (Some first) = if is_header table first.cells then Ok tt else Err (header_fault table)
+
+-- the records after the header
 abbrev pub after_header : Table → List (List (List ℕ)) → Result Left Fault
 after_header table [] = Err (header_fault table)
 after_header table (header ∷ records) =
-    if pointwise (pointwise nat_eq) header (columns_of table) then Ok (record { table = table; number = 1; left = records; is_over = false })
+    if is_header table header then Ok (record { table = table; number = 1; left = records; is_over = false })
     else Err (header_fault table)
 
 -- a table's text, opened

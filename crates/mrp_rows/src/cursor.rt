@@ -2,7 +2,7 @@
 
 ghost use Rattle.std.specs.Prelude.{◌≡◌, false};
 ghost use Rattle.mrp_rows.specs.Bundle.{text_in};
-ghost use Rattle.mrp_rows.specs.Next.{GivesUnless, NextIs, TakesNext, memory_fault, opened};
+ghost use Rattle.mrp_rows.specs.Next.{GivesUnless, NextIs, TakesNext, headed, memory_fault, opened};
 ghost use Rattle.mrp_rows.specs.Reading.{IsReading, ReadsCells};
 ghost use Rattle.mrp_rows.specs.Records.{records_of};
 
@@ -78,14 +78,9 @@ impl<'a> Cursor<'a> {
         ensures { GivesUnless (memory_fault table 0) result (opened table text.now) }
     {
         let mut cursor = Cursor::front(alloc, text, table);
-        match cursor.take_next()? {
-            Some(header) if is_header(&header, columns(table)) => Ok(cursor),
-            _ => Err(Fault {
-                code: HEADER,
-                table,
-                row: 0,
-            }),
-        }
+        let first = cursor.take_next()?;
+        headed(table, &first)?;
+        Ok(cursor)
     }
 
     /// The table.
@@ -147,6 +142,20 @@ impl<'a> Cursor<'a> {
                 })
             }
         }
+    }
+}
+
+// A table's first record as its header.
+fn headed(table: Table, first: &Option<Row>) -> Result<(), Fault>
+    ensures { result ≡ headed table first.now }
+{
+    match first {
+        Some(header) if is_header(header, columns(table)) => Ok(()),
+        _ => Err(Fault {
+            code: HEADER,
+            table,
+            row: 0,
+        }),
     }
 }
 

@@ -38,7 +38,7 @@ either f r code table row wide false h = within f r code table row h wide
 
 -- a refusal of memory stays, at the record
 by_why : (old new : Left) (f : Fault) → LacksMemory old f new ⊎ IsMisshapen old f new → NextAdmitted old (Err (past_first f)) new
-by_why old new f (inl memory) = inl (ap past_first memory.fault)
+by_why old new f (inl memory) = inl (record { fault = ap past_first memory.fault; number = memory.number })
 by_why old new f (inr other) =
     let r : Cells = record { table = old.table; number = old.number; cells = other.cells } in
     let code : f.code ≡ faults.COLUMNS = ap (λ (x : Fault). x.code) other.fault in

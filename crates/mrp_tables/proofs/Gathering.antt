@@ -105,7 +105,7 @@ pub refuses : {X : Type 0} (read : Reads X) (t : Table) (start : List X) (first 
     → IsLeft read t before old total → IsDone read t start first all before old → NextAdmitted old (Ok (Some r)) new → Adds read before r (Err f) after
     → IsRefusedBehind read t start first all f ⊎ (total ≡ Err f)
 refuses read t start first all before after old new r total f h d given (same, inl memory) =
-    inl (behind read t start first all before old f d h.table (memory ∙ (λ i. memory_fault (given.first.table i) (given.first.number i))))
+    inl (behind read t start first all before old f d h.table (memory.fault ∙ (λ i. memory_fault (given.first.table i) (given.first.number i))))
 refuses read t start first all before after old new r total f h d given (same, inr why) = inr (sym (rw why at (begins read t before old new r total h given)))
 
 -- the next record is refused
@@ -113,7 +113,7 @@ pub stops : {X : Type 0} (read : Reads X) (t : Table) (start : List X) (first : 
     → IsLeft read t before old total → IsDone read t start first all before old → NextAdmitted old (Err f) new
     → IsRefusedBehind read t start first all f ⊎ (total ≡ Err f)
 unfolding rows_from
-stops read t start first all before old new total f h d (inl memory) = inl (behind read t start first all before old f d h.table memory)
+stops read t start first all before old new total f h d (inl memory) = inl (behind read t start first all before old f d h.table memory.fault)
 stops read t start first all before old new total f h d (inr none) =
     let opened : rows_from read t before old.number old.left ≡ Err f = rw (none.left, ← h.table, none.refused) refl in
     inr (sym h.left ∙ opened)

@@ -6,7 +6,7 @@ use Rattle.mrp_rows.specs.declared.faults.TheConstants as faults
 use Rattle.mrp_rows.specs.declared.fault.Table.{Table}
 use Rattle.mrp_rows.specs.Columns.{width_of}
 use Rattle.mrp_rows.specs.Left.{Cells, Left}
-use Rattle.mrp_rows.specs.Next.{IsTaken, memory_fault, next_number, opened}
+use Rattle.mrp_rows.specs.Next.{IsTaken, LacksMemory, memory_fault, next_number, opened}
 use Rattle.mrp_rows.specs.Cell.{fault_at}
 use Rattle.mrp_tables.specs.Limits.{record_limit}
 
@@ -64,10 +64,16 @@ abbrev pub Gives : {X Y : Type 0} → (Fault → Type 0) → (X → Y) → Resul
 Gives IsRefusal view (Ok x) read = read ≡ Ok (view x)
 Gives IsRefusal view (Err f) read = IsRefusal f ⊎ (read ≡ Err f)
 
--- adding a record's row: the row is what the record reads as, or nothing is added; where memory was refused, the fault is at the record
+-- memory was refused for the row of a record that reads as one: a record's own fault comes first
+pub record LacksRoom {X : Type 0} (read : Reads X) (old : List X) (r : Cells) (f : Fault) : Type 0 where
+  pub row : X
+  pub reads : read old r ≡ Ok row
+  pub fault : f ≡ fault_at r faults.NO_MEMORY
+
+-- adding a record's row: the row is what the record reads as, or nothing is added, for its fault or for want of memory
 abbrev pub Adds : {X : Type 0} → Reads X → List X → Cells → Result (Unit {0}) Fault → List X → Type 0
 Adds {X} read old r (Ok u) new = (x : X) × (read old r ≡ Ok x) × (new ≡ old ++ (x ∷ []))
-Adds read old r (Err f) new = (new ≡ old) × ((f ≡ fault_at r faults.NO_MEMORY) ⊎ (read old r ≡ Err f))
+Adds read old r (Err f) new = (new ≡ old) × (LacksRoom read old r f ⊎ (read old r ≡ Err f))
 
 -- the first of the records that were left is taken, and admitted
 pub record IsAdmitted (old : Left) (r : Cells) (new : Left) : Type 0 where
@@ -81,8 +87,8 @@ pub record IsNotAdmitted (old : Left) (f : Fault) : Type 0 where
   pub left : old.left ≡ cells ∷ rest
   pub refused : admitted (record { table = old.table; number = old.number; cells = cells }) ≡ Err f
 
--- the next record of a table, admitted; none where none is left; or why it is refused: for want of memory at its number
+-- the next record of a table, admitted; none where none is left; or why it is refused: for want of memory no record is taken
 abbrev pub NextAdmitted : Left → Result (Option Cells) Fault → Left → Type 0
 NextAdmitted old (Ok None) new = old.left ≡ []
 NextAdmitted old (Ok (Some r)) new = IsAdmitted old r new
-NextAdmitted old (Err f) new = (f ≡ memory_fault old.table old.number) ⊎ IsNotAdmitted old f
+NextAdmitted old (Err f) new = LacksMemory old f new ⊎ IsNotAdmitted old f

@@ -105,11 +105,11 @@ module _ {O S C R : Type 0} (opens : O → S → Type 0) (answers : O → S → 
       → Closed (opens key.object) (answers key.object) key.seats seats log held.state
   closes key seats rest first m n held log shape same h taken all =
       let t = taken h.seat h.is in let found : List (Entry C R) = t.0 in let ps : List (Account C R) = h.seat.own ∷ h.seat.kept in
-      let is : found ≡ log = sym t.2.0 ∙ sym same in
-      let each : Each (λ x. IsTrueOf found (account x.number x.seen x.mine)) (first ∷ rest) = Each-map (λ x. Has ps (account x.number x.seen x.mine)) (λ x. IsTrueOf found (account x.number x.seen x.mine)) (first ∷ rest) (λ x k. Each-Has (IsTrueOf found) ps (account x.number x.seen x.mine) t.2.4 k) h.all in
+      let is : found ≡ log = sym t.2.log_is ∙ sym same in
+      let each : Each (λ x. IsTrueOf found (account x.number x.seen x.mine)) (first ∷ rest) = Each-map (λ x. Has ps (account x.number x.seen x.mine)) (λ x. IsTrueOf found (account x.number x.seen x.mine)) (first ∷ rest) (λ x k. Each-Has (IsTrueOf found) ps (account x.number x.seen x.mine) t.2.seen k) h.all in
       let told : Each (λ x. IsTrueOf log (account x.number x.seen x.mine)) seats = subst (λ (x : List (Seated O C R) × List (Entry C R)). Each (λ y. IsTrueOf x.1 (account y.number y.seen y.mine)) x.0) (λ i. (sym shape i, is i)) (Each-append (λ x. IsTrueOf found (account x.number x.seen x.mine)) rest (first ∷ []) each.1 (each.0, tt)) in
-      let from : AreFrom key.seats log = subst (λ (x : About O × List (Entry C R)). AreFrom x.0.seats x.1) (λ i. (h.about i, is i)) t.2.3 in record {
-        legal = subst (λ (x : About O × List (Entry C R)). LeadsTo (answers x.0.object) (opens x.0.object) x.1 held.state) (λ i. (h.about i, is i)) t.2.1;
+      let from : AreFrom key.seats log = subst (λ (x : About O × List (Entry C R)). AreFrom x.0.seats x.1) (λ i. (h.about i, is i)) t.2.numbered in record {
+        legal = subst (λ (x : About O × List (Entry C R)). LeadsTo (answers x.0.object) (opens x.0.object) x.1 held.state) (λ i. (h.about i, is i)) t.2.legal;
         seen = All-from_Each (λ x. StartsWith log x.seen) seats (Each-map (λ x. IsTrueOf log (account x.number x.seen x.mine)) (λ x. StartsWith log x.seen) seats (λ x k. k.0) told);
         mine = All-from_Each (λ x. x.mine ≡ entries_by x.number log) seats (Each-map (λ x. IsTrueOf log (account x.number x.seen x.mine)) (λ x. x.mine ≡ entries_by x.number log) seats (λ x k. k.1) told);
         in_range = All-from_Each (λ e. (1 ≤ e.who) × (e.who ≤ key.seats)) log from;

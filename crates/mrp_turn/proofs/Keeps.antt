@@ -141,13 +141,13 @@ module _ {O S C R : Type 0} (opens : O → S → Type 0) (answers : O → S → 
             held,
             r.log,
             refl,
-            (
-              stores.log_is,
-              subst (λ (x : S). LeadsTo (answers s.about.object) (opens s.about.object) r.log x) (sym stores.state_is) (subst (λ (k : About O). LeadsTo (answers k.object) (opens k.object) r.log r.state) (sym about) r.legal),
-              subst (λ (k : About O). k.room ≤ vec_capacity held.log) (sym about) stores.room,
-              subst (λ (k : About O). AreFrom k.seats r.log) (sym about) r.numbered,
-              known.1,
-            ),
+            record {
+              log_is = stores.log_is;
+              legal = subst (λ (x : S). LeadsTo (answers s.about.object) (opens s.about.object) r.log x) (sym stores.state_is) (subst (λ (k : About O). LeadsTo (answers k.object) (opens k.object) r.log r.state) (sym about) r.legal);
+              room = subst (λ (k : About O). k.room ≤ vec_capacity held.log) (sym about) stores.room;
+              numbered = subst (λ (k : About O). AreFrom k.seats r.log) (sym about) r.numbered;
+              seen = known.1;
+            },
           )),
           λ ne. absurd (ne free.0),
         ),

@@ -33,20 +33,29 @@ module _ {O S C R E : Type 0} (opens : O → S → Type 0) (answers : O → S �
   -- the log is the one that was found, with the entry behind it or not
   pub ends : (s : LiveSeat O C R) (call : C) (old : Held S C R) (log : List (Entry C R)) (new : Held S C R) (result : Result (ℕ × R) (CallFault E)) → Opens opens answers s old log → vec_capacity old.log ≤ vec_capacity new.log
       → Each (λ p. p.number ≡ 0) s.kept → Answered s.about.object s.own.number call old result new → MayGive opens answers (holding s log) new
-  ends s call old log new (Ok r) o cap notes a = let e : Entry C R = entry s.own.number call r.1 in let grows : new.log.items ≡ log ++ e ∷ [] = a.0 ∙ ap (λ l. l ++ e ∷ []) o.0 in (
-    refl,
-    (e ∷ [], grows, (refl, tt)),
-    notes,
-    subst (λ (l : List (Entry C R)). LeadsTo (answers s.about.object) (opens s.about.object) l new.state) (sym grows) (o.1.0, o.1.1, Leads-snoc (answers s.about.object) o.1.0 log old.state e new.state o.1.2 a.2),
-    omega (arith, o.2, cap),
-  )
-  ends s call old log new (Err f) o cap notes a = let same : new.log.items ≡ log = a.0 ∙ o.0 in (
-    refl,
-    ([], same ∙ sym (append-nil log), tt),
-    notes,
-    subst (λ (x : List (Entry C R) × S). LeadsTo (answers s.about.object) (opens s.about.object) x.0 x.1) (λ i. (sym same i, sym a.1 i)) o.1,
-    omega (arith, o.2, cap),
-  )
+  ends s call old log new (Ok r) o cap notes a =
+      let e : Entry C R = entry s.own.number call r.1 in
+      let grows : new.log.items ≡ log ++ e ∷ [] = a.0 ∙ ap (λ l. l ++ e ∷ []) o.log_is in
+      record {
+        holds = refl;
+        added = e ∷ [];
+        goes_on = grows;
+        own = (refl, tt);
+        notes = notes;
+        legal = subst (λ (l : List (Entry C R)). LeadsTo (answers s.about.object) (opens s.about.object) l new.state) (sym grows) (o.legal.0, o.legal.1, Leads-snoc (answers s.about.object) o.legal.0 log old.state e new.state o.legal.2 a.2);
+        room = omega (arith, o.room, cap);
+      }
+  ends s call old log new (Err f) o cap notes a =
+      let same : new.log.items ≡ log = a.0 ∙ o.log_is in
+      record {
+        holds = refl;
+        added = [];
+        goes_on = same ∙ sym (append-nil log);
+        own = tt;
+        notes = notes;
+        legal = subst (λ (x : List (Entry C R) × S). LeadsTo (answers s.about.object) (opens s.about.object) x.0 x.1) (λ i. (sym same i, sym a.1 i)) o.legal;
+        room = omega (arith, o.room, cap);
+      }
 
   pub starts_later : (log seen' seen : List (Entry C R)) (new : List (Entry C R)) → seen' ≡ log ++ new → StartsWith log seen → StartsWith seen' seen
   starts_later log seen' seen new e h = subst (λ (l : List (Entry C R)). StartsWith l seen) (sym e) (starts_more log new seen h)
@@ -55,34 +64,34 @@ module _ {O S C R E : Type 0} (opens : O → S → Type 0) (answers : O → S �
   why : (s : LiveSeat O C R) (call : C) (old : Held S C R) (log : List (Entry C R)) (new : Held S C R) (f : CallFault E) → Opens opens answers s old log → new.log.items ≡ log
       → Explains (refuses s.about.object old.state s.own.number call) (wants_memory s.about.object old.state s.own.number call) (vec_capacity old.log) (length old.log.items) f
       → HasCause (opens s.about.object) (answers s.about.object) (refuses s.about.object) (wants_memory s.about.object) s.about.room s.own.number call new.log.items f
-  why s call old log new NoMemory o same h = omega (arith, h, o.2, ap length o.0, ap length same)
+  why s call old log new NoMemory o same h = omega (arith, h, o.room, ap length o.log_is, ap length same)
   why s call old log new (Refused f) o same h =
-      (old.state, subst (λ (l : List (Entry C R)). LeadsTo (answers s.about.object) (opens s.about.object) l old.state) (sym same) o.1, h)
+      (old.state, subst (λ (l : List (Entry C R)). LeadsTo (answers s.about.object) (opens s.about.object) l old.state) (sym same) o.legal, h)
 
   -- what the call tells, of the log with or without its entry
   pub outcome : (s : LiveSeat O C R) (call : C) (old : Held S C R) (log : List (Entry C R)) (new : Held S C R) (result : Result (ℕ × R) (CallFault E)) → Opens opens answers s old log → vec_capacity old.log ≤ vec_capacity new.log
       → Each (λ p. p.number ≡ 0) s.kept → Answered s.about.object s.own.number call old result new
       → Tells (opens s.about.object) (answers s.about.object) (refuses s.about.object) (wants_memory s.about.object) s.about.room s.own.number call s.own.seen s.own.mine result new.log.items (entries_by s.own.number new.log.items)
-  outcome s call old log new (Ok r) o cap notes a = let e : Entry C R = entry s.own.number call r.1 in let n : ℕ = s.own.number in let grows : new.log.items ≡ log ++ e ∷ [] = a.0 ∙ ap (λ l. l ++ e ∷ []) o.0 in
+  outcome s call old log new (Ok r) o cap notes a = let e : Entry C R = entry s.own.number call r.1 in let n : ℕ = s.own.number in let grows : new.log.items ≡ log ++ e ∷ [] = a.0 ∙ ap (λ l. l ++ e ∷ []) o.log_is in
       let may = ends s call old log new (Ok r) o cap notes a in record {
-        legal = (new.state, may.3);
-        goes_on = starts_later log new.log.items s.own.seen may.1.0 may.1.1 o.4.0.0;
+        legal = (new.state, may.legal);
+        goes_on = starts_later log new.log.items s.own.seen may.added may.goes_on o.seen.0.0;
         exact = refl;
-        last = (log, grows, o.4.0.0);
+        last = (log, grows, o.seen.0.0);
         number = a.1;
-        added = ap (entries_by n) grows ∙ (filter-append (λ x. eqb x.who n) log (e ∷ []) ∙ (ap (λ l. l ++ entries_by n (e ∷ [])) (sym o.4.0.1) ∙ ap (λ l. s.own.mine ++ l) (own_all (e ∷ []) n (refl, tt))));
+        added = ap (entries_by n) grows ∙ (filter-append (λ x. eqb x.who n) log (e ∷ []) ∙ (ap (λ l. l ++ entries_by n (e ∷ [])) (sym o.seen.0.1) ∙ ap (λ l. s.own.mine ++ l) (own_all (e ∷ []) n (refl, tt))));
         unchanged = tt;
         cause = tt;
       }
-  outcome s call old log new (Err f) o cap notes a = let same : new.log.items ≡ log = a.0 ∙ o.0 in
+  outcome s call old log new (Err f) o cap notes a = let same : new.log.items ≡ log = a.0 ∙ o.log_is in
       let may = ends s call old log new (Err f) o cap notes a in record {
-        legal = (new.state, may.3);
-        goes_on = starts_later log new.log.items s.own.seen may.1.0 may.1.1 o.4.0.0;
+        legal = (new.state, may.legal);
+        goes_on = starts_later log new.log.items s.own.seen may.added may.goes_on o.seen.0.0;
         exact = refl;
         last = tt;
         number = tt;
         added = tt;
-        unchanged = ap (entries_by s.own.number) same ∙ sym o.4.0.1;
+        unchanged = ap (entries_by s.own.number) same ∙ sym o.seen.0.1;
         cause = why s call old log new f o same a.2;
       }
 
@@ -97,7 +106,7 @@ module _ {O S C R E : Type 0} (opens : O → S → Type 0) (answers : O → S �
     entries_by s.own.number new.log.items,
     is,
     outcome s call old log new result o cap notes a,
-    Each-map (IsTrueOf log) (λ p. StartsWith new.log.items p.seen) s.kept (λ p f. starts_later log new.log.items p.seen may.1.0 may.1.1 f.0) o.4.1,
+    Each-map (IsTrueOf log) (λ p. StartsWith new.log.items p.seen) s.kept (λ p f. starts_later log new.log.items p.seen may.added may.goes_on f.0) o.seen.1,
   )
 
 module _ {O C R : Type 0} where

@@ -55,15 +55,18 @@ module _ {O C R : Type 0} where
   joined (Live s) Spent = live s
   joined (Live s) (Live t) = live (record s { kept = s.kept ++ t.own ∷ t.kept })
 
-module _ {O S C R : Type 0} (opens : O → S → Type 0) (answers : O → S → ℕ → C → R → S → Type 0) where
-  -- the value in the slot has this log, which is legal and leads to its state, and the seat's lists fit it
-  abbrev pub Opens : LiveSeat O C R → Held S C R → List (Entry C R) → Type 0
-  Opens s held log = (held.log.items ≡ log) × LeadsTo (answers s.about.object) (opens s.about.object) log held.state × (s.about.room ≤ vec_capacity held.log)
-      × AreFrom s.about.seats log × Each (IsTrueOf log) (s.own ∷ s.kept)
+-- the value in the slot has this log, which is legal and leads to its state, and the seat's lists fit it
+pub record Opens {O S C R : Type 0} (opens : O → S → Type 0) (answers : O → S → ℕ → C → R → S → Type 0) (s : LiveSeat O C R) (held : Held S C R) (log : List (Entry C R)) : Type 0 where
+  pub log_is : held.log.items ≡ log
+  pub legal : LeadsTo (answers s.about.object) (opens s.about.object) log held.state
+  pub room : s.about.room ≤ vec_capacity held.log
+  pub numbered : AreFrom s.about.seats log
+  pub seen : Each (IsTrueOf log) (s.own ∷ s.kept)
 
+module _ {O S C R : Type 0} (opens : O → S → Type 0) (answers : O → S → ℕ → C → R → S → Type 0) where
   -- the seat has taken the slot, with the value in it
   abbrev pub Won : LiveSeat O C R → List (ℕ × Option (Held S C R)) → Me (Option (Held S C R)) (View O C R) → Type 0
-  Won s c n = (held : Held S C R) × (log : List (Entry C R)) × (n ≡ (live (holding s log), (0, Some held) ∷ c)) × Opens s held log
+  Won s c n = (held : Held S C R) × (log : List (Entry C R)) × (n ≡ (live (holding s log), (0, Some held) ∷ c)) × Opens opens answers s held log
 
   -- a take: it wins where it finds 0; elsewhere the seat is as before, and lacks the holder's number
   abbrev pub TookFrom : View O C R → List (ℕ × Option (Held S C R)) → ℕ → Me (Option (Held S C R)) (View O C R) → Type 0
@@ -95,6 +98,16 @@ pub record IsIdle {O S C R : Type 0} (key : About O) (m : Me (Option (Held S C R
   pub about : seat.about ≡ key
   pub numbered : 1 ≤ seat.own.number
 
+-- the seat holds the empty slot, and may put this value into it and give it back
+pub record MayGive {O S C R : Type 0} (opens : O → S → Type 0) (answers : O → S → ℕ → C → R → S → Type 0) (s : LiveSeat O C R) (held : Held S C R) : Type 0 where
+  pub holds : s.holds ≡ true
+  pub added : List (Entry C R)
+  pub goes_on : held.log.items ≡ s.own.seen ++ added
+  pub own : Each (λ e. e.who ≡ s.own.number) added
+  pub notes : Each (λ p. p.number ≡ 0) s.kept
+  pub legal : LeadsTo (answers s.about.object) (opens s.about.object) held.log.items held.state
+  pub room : s.about.room ≤ vec_capacity held.log
+
 module _ {O S C R : Type 0} (opens : O → S → Type 0) (answers : O → S → ℕ → C → R → S → Type 0) where
   -- the seat has taken the slot, and the value out of it
   abbrev pub Taken : Me (Option (Held S C R)) (View O C R) → Held S C R → Me (Option (Held S C R)) (View O C R) → Type 0
@@ -104,14 +117,9 @@ module _ {O S C R : Type 0} (opens : O → S → Type 0) (answers : O → S → 
   abbrev pub Lost : Me (Option (Held S C R)) (View O C R) → Me (Option (Held S C R)) (View O C R) → Type 0
   Lost m n = (n ≡ m) × ((s : LiveSeat O C R) → m ≡ (live s, []) → ¬ Covers s)
 
-  -- the seat holds the empty slot, and may put this value into it and give it back
-  abbrev pub MayGive : LiveSeat O C R → Held S C R → Type 0
-  MayGive s held = (s.holds ≡ true) × ((new : List (Entry C R)) × (held.log.items ≡ s.own.seen ++ new) × Each (λ e. e.who ≡ s.own.number) new) × Each (λ p. p.number ≡ 0) s.kept
-      × LeadsTo (answers s.about.object) (opens s.about.object) held.log.items held.state × (s.about.room ≤ vec_capacity held.log)
-
-  -- the same, of the seat at the table
+  -- the seat at the table holds the empty slot, and may give this value back
   abbrev pub MayGiveFrom : Me (Option (Held S C R)) (View O C R) → Held S C R → Type 0
-  MayGiveFrom m held = (s : LiveSeat O C R) × (m ≡ (live s, (0, None) ∷ [])) × MayGive s held
+  MayGiveFrom m held = (s : LiveSeat O C R) × (m ≡ (live s, (0, None) ∷ [])) × MayGive opens answers s held
 
 module _ {O S C R : Type 0} where
   -- the seat has given back the slot with this value

@@ -11,23 +11,29 @@ use std::fs;
 use std::fs::{File, OpenFile};
 use std::process::Abort;
 use std::rt::Files;
+use std::sync::Wait;
 use std::test::Fail;
 use std::thread::Threads;
 
 const PLAN: &[&str] = &["plan"];
 
+const LIVE: &[&str] = &["live"];
+
+// The words that have a day made.
+const DAYS: [&[&str]; 2] = [PLAN, LIVE];
+
 // What a run is given: the input's text, and the turns of the three streams.
 #[derive(Clone, Copy)]
-struct Streams<'a> {
-    input: &'a str,
-    reads: &'a [Turn],
-    writes: &'a [Turn],
-    tells: &'a [Turn],
+pub struct Streams<'a> {
+    pub input: &'a str,
+    pub reads: &'a [Turn],
+    pub writes: &'a [Turn],
+    pub tells: &'a [Turn],
 }
 
 impl<'a> Streams<'a> {
     // Streams that move all.
-    fn of(input: &'a str) -> Streams<'a> {
+    pub fn of(input: &'a str) -> Streams<'a> {
         Streams {
             input,
             reads: &[],
@@ -40,15 +46,15 @@ impl<'a> Streams<'a> {
 // What a run left: its status, its output and its error stream, and how often its reads and its
 // writes were interrupted.
 #[derive(Drop)]
-struct Left {
-    status: u8,
-    output: String,
-    errors: String,
-    interrupted: (u64, u64),
+pub struct Left {
+    pub status: u8,
+    pub output: String,
+    pub errors: String,
+    pub interrupted: (u64, u64),
 }
 
 // What these words leave.
-fn left_by<R: Alloc + Abort + Files + Threads + Sync>(
+pub fn left_by<R: Alloc + Abort + Files + Threads + Wait + Sync>(
     rt: &R,
     alloc: Global,
     words: &[&str],
@@ -79,7 +85,7 @@ fn is_planned(rt: &impl Abort, left: &Left) {
 }
 
 // Fails unless a run ended so, with these bytes of output.
-fn has_ended(rt: &impl Abort, left: &Left, status: u8, output: &str, errors: &str) {
+pub fn has_ended(rt: &impl Abort, left: &Left, status: u8, output: &str, errors: &str) {
     same(rt, left.status, status);
     same(rt, left.output.as_str(), output);
     same(rt, left.errors.as_str(), errors);
@@ -87,11 +93,14 @@ fn has_ended(rt: &impl Abort, left: &Left, status: u8, output: &str, errors: &st
 
 #[test]
 fn bundles_are_planned_by_1_to_64_workers(rt: HostRuntime) {
-    const WORDS: [&[&str]; 4] = [
+    const WORDS: [&[&str]; 7] = [
         &["plan"],
         &["plan", "--workers", "1"],
         &["plan", "--workers", "64"],
         &["plan", "--workers=08"],
+        &["live"],
+        &["live", "--workers", "64"],
+        &["live", "--workers=08"],
     ];
     let bundle = made(&rt, bicycles().bundle(rt.alloc()));
     for words in WORDS {
@@ -115,10 +124,13 @@ fn short_and_interrupted_reads_and_writes_are_gone_on_with(rt: HostRuntime) {
         ],
         ..Streams::of(&bundle)
     };
-    let left = left_by(&rt, rt.alloc(), PLAN, streams);
-    is_planned(&rt, &left);
-    same(&rt, left.interrupted, (1, 2));
-    drop((left, bundle));
+    for words in DAYS {
+        let left = left_by(&rt, rt.alloc(), words, streams);
+        is_planned(&rt, &left);
+        same(&rt, left.interrupted, (1, 2));
+        drop(left);
+    }
+    drop(bundle);
 }
 
 #[test]
@@ -128,33 +140,48 @@ fn a_reader_that_fails_is_told(rt: HostRuntime) {
         reads: &[Turn::Moves(100), Turn::Fails],
         ..Streams::of(&bundle)
     };
-    let left = left_by(&rt, rt.alloc(), PLAN, streams);
-    has_ended(&rt, &left, 4, "", "read failed\n");
-    drop((left, bundle));
-}
-
-#[test]
-fn a_writer_that_fails_has_a_front_of_the_day(rt: HostRuntime) {
-    const WRITES: [&[Turn]; 3] = [
-        &[Turn::Moves(12), Turn::Fails],
-        &[Turn::Moves(12), Turn::Moves(0)],
-        &[Turn::Moves(12), Turn::Interrupts],
-    ];
-    let bundle = made(&rt, bicycles().bundle(rt.alloc()));
-    for writes in WRITES {
-        let streams = Streams {
-            writes,
-            ..Streams::of(&bundle)
-        };
-        let left = left_by(&rt, rt.alloc(), PLAN, streams);
-        has_ended(&rt, &left, 4, "[history]\nen", "write failed\n");
+    for words in DAYS {
+        let left = left_by(&rt, rt.alloc(), words, streams);
+        has_ended(&rt, &left, 4, "", "read failed\n");
         drop(left);
     }
     drop(bundle);
 }
 
+// Fails unless a day is written to a writer that fails up to there.
+fn is_written_in_part<R: Alloc + Abort + Files + Threads + Wait + Sync>(
+    rt: &R,
+    alloc: Global,
+    words: &[&str],
+    bundle: &str,
+) {
+    const WRITES: [&[Turn]; 3] = [
+        &[Turn::Moves(12), Turn::Fails],
+        &[Turn::Moves(12), Turn::Moves(0)],
+        &[Turn::Moves(12), Turn::Interrupts],
+    ];
+    for writes in WRITES {
+        let streams = Streams {
+            writes,
+            ..Streams::of(bundle)
+        };
+        let left = left_by(rt, alloc, words, streams);
+        has_ended(rt, &left, 4, "[history]\nen", "write failed\n");
+        drop(left);
+    }
+}
+
+#[test]
+fn a_writer_that_fails_has_a_front_of_the_day(rt: HostRuntime) {
+    let bundle = made(&rt, bicycles().bundle(rt.alloc()));
+    for words in DAYS {
+        is_written_in_part(&rt, rt.alloc(), words, &bundle);
+    }
+    drop(bundle);
+}
+
 // The status of a run whose error stream fails.
-fn unheard_status<R: Alloc + Abort + Files + Threads + Sync>(
+fn unheard_status<R: Alloc + Abort + Files + Threads + Wait + Sync>(
     rt: &R,
     alloc: Global,
     words: &[&str],
@@ -175,8 +202,10 @@ fn a_failing_error_stream_changes_no_status(rt: HostRuntime) {
     let alloc = rt.alloc();
     let bundle = made(&rt, bicycles().bundle(alloc));
     let wrong = ["plan", "--workers", "0"];
-    same(&rt, unheard_status(&rt, alloc, PLAN, &bundle), 0);
-    same(&rt, unheard_status(&rt, alloc, PLAN, ""), 1);
+    for words in DAYS {
+        same(&rt, unheard_status(&rt, alloc, words, &bundle), 0);
+        same(&rt, unheard_status(&rt, alloc, words, ""), 1);
+    }
     same(&rt, unheard_status(&rt, alloc, &wrong, &bundle), 2);
     same(&rt, unheard_status(&rt, alloc, &["--help"], &bundle), 0);
     drop(bundle);
@@ -190,12 +219,13 @@ fn is_usage(rt: &impl Abort, left: &Left, line: &str) {
 }
 
 // Wrong words, and the first line that is told of them.
-const WRONG: [(&[&str], &str); 11] = [
+const WRONG: [(&[&str], &str); 15] = [
     (
         &[],
         "error: 'mrp' requires a subcommand but one was not provided",
     ),
     (&["plans"], "error: unrecognized subcommand 'plans'"),
+    (&["lives"], "error: unrecognized subcommand 'lives'"),
     (
         &["plan", "--workers", "0"],
         "error: invalid value '0' for '--workers <N>': 0 is not in 1..=64",
@@ -225,6 +255,12 @@ const WRONG: [(&[&str], &str); 11] = [
         "error: the argument '--dir <D>' cannot be used multiple times",
     ),
     (&["plan", "more"], "error: unexpected argument 'more' found"),
+    (&["live", "more"], "error: unexpected argument 'more' found"),
+    (&["plan", "live"], "error: unexpected argument 'live' found"),
+    (
+        &["live", "--workers", "0"],
+        "error: invalid value '0' for '--workers <N>': 0 is not in 1..=64",
+    ),
     (
         &["--workers", "2"],
         "error: unexpected argument '--workers' found",
@@ -252,11 +288,13 @@ fn is_help(rt: &impl Abort, left: &Left) {
 
 #[test]
 fn help_is_written_to_the_output(rt: HostRuntime) {
-    const ASKED: [&[&str]; 4] = [
+    const ASKED: [&[&str]; 6] = [
         &["--help"],
         &["plan", "--help"],
+        &["live", "--help"],
         &["help"],
         &["help", "plan"],
+        &["help", "live"],
     ];
     for words in ASKED {
         let left = left_by(&rt, rt.alloc(), words, Streams::of(""));
@@ -311,4 +349,13 @@ fn folders_that_can_not_be_read_are_told(rt: HostRuntime) {
         has_ended(&rt, &left, status, "", errors);
         drop(left);
     }
+}
+
+#[test]
+fn a_live_day_of_a_folder_leaves_the_input_too(rt: HostRuntime) {
+    let words = ["live", "--dir", "nowhere"];
+    let left = left_by(&rt, rt.alloc(), &words, Streams::of("no bundle"));
+    let refused = "refused: 4 missing-section calendar 0\n";
+    has_ended(&rt, &left, 1, "", refused);
+    drop(left);
 }

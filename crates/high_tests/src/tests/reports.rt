@@ -27,7 +27,7 @@ pub fn has_report<R: Alloc + Abort + Threads + Sync>(
     want: &str,
 ) {
     let mut writer = Told::new(Vec::new(alloc));
-    same(rt, write_report(rt, alloc, plan, &mut writer), Ok(()));
+    same(rt, write_report(rt, alloc, plan, &mut writer, 1), Ok(()));
     has_text(rt, writer, want);
 }
 
@@ -63,7 +63,7 @@ fn a_failing_writer_has_a_front_of_the_report(rt: HostRuntime) {
     let plan = made(&rt, bicycles().plan(rt.alloc(), &[]));
     for (turns, count) in FAILING {
         let mut writer = writer(rt.alloc(), turns);
-        let written = write_report(&rt, rt.alloc(), &plan, &mut writer);
+        let written = write_report(&rt, rt.alloc(), &plan, &mut writer, 1);
         has_front(&rt, written, writer, BICYCLE_REPORT, count);
     }
     drop(plan);

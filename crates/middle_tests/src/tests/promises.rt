@@ -4,9 +4,7 @@ use super::{made, pieces, same};
 use jiff::civil::Date;
 use mrp_bill::Shop;
 use mrp_cal::Calendar;
-use mrp_master::{
-    AtpRow, Line, LineFault, MOST_READS, Nodes, Spot, Supply, Wish, available_in, earliest_in,
-};
+use mrp_master::{AtpRow, Line, LineFault, Nodes, Spot, Supply, Wish, available_in, earliest_in};
 use sample_shops::{Records, bicycles, no_records};
 use std::alloc::Global;
 use std::process::Abort;
@@ -370,7 +368,7 @@ fn available_by_nodes(rt: &impl Abort, row: &AtpRow, week: u16) -> u64 {
     assert!(rt; 1 <= week && week <= row.weeks());
     let mut nodes = row.nodes();
     let available = available_in(&mut nodes, week);
-    assert!(rt; nodes.reads() <= MOST_READS);
+    assert!(rt; nodes.reads() <= 16);
     available.value()
 }
 
@@ -378,7 +376,7 @@ fn available_by_nodes(rt: &impl Abort, row: &AtpRow, week: u16) -> u64 {
 fn earliest_by_nodes(rt: &impl Abort, row: &AtpRow, count: u64) -> Option<u16> {
     let mut nodes = row.nodes();
     let week = earliest_in(&mut nodes, pieces(rt, count));
-    assert!(rt; nodes.reads() <= MOST_READS);
+    assert!(rt; nodes.reads() <= 16);
     week
 }
 

@@ -6,4 +6,4 @@ pub returns-clause-one_history : goal.returns-clause-one_history
 returns-clause-one_history c = same-history
 
 pub returns-clause-what_stood : goal.returns-clause-what_stood
-returns-clause-what_stood c = plans-what-stood
+returns-clause-what_stood c = λ tables h answers. plans-what-stood tables h answers.legal

@@ -44,7 +44,7 @@ first g c =
 
 -- and the plans are those of its runs
 runs : (g : given.Over) (c : After-write_reports g) → inputs_of_plans c.deref-2.result.now ≡ runs_of c.args.day.now.shop.value.tables c.args.day.now.history.entries
-runs g c = ap inputs_of_plans c.deref-2.ensures.value ∙ c.requires.runs
+runs g c = ap inputs_of_plans c.deref-2.ensures.value ∙ c.requires.planned.runs
 
 pub returns-clause-whole : goal.returns-clause-whole
 returns-clause-whole g c =

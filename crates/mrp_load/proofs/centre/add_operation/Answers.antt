@@ -1,4 +1,4 @@
-use Rattle.std.proofs.Common.{◌≡◌, ◌∙◌, arith}
+use Rattle.std.proofs.Common.{◌∙◌, arith}
 use Rattle.mrp_load.proofs.Summing.{operation_load-few, row-none, set-more, sum-fits}
 use Rattle.mrp_load.proofs.centre.add_operation.Goals as goal
 

@@ -2,7 +2,7 @@ use Rattle.std.proofs.Common.{◌≡◌, ◌∙◌, ◌*◌, ℕ, List, length, 
 use Rattle.mrp_phase.specs.Weeks.{in_week, row}
 use Rattle.mrp_phase.proofs.WeekRows.{length-row}
 use Rattle.mrp_tables.specs.declared.rows.Operation.{Operation}
-use Rattle.mrp_item.specs.Inputs.{Inputs, horizon}
+use Rattle.mrp_item.specs.Inputs.{horizon}
 use Rattle.mrp_load.specs.Bounds.{AreOrders}
 use Rattle.mrp_load.specs.Loads.{load_by}
 use Rattle.mrp_load.proofs.Summing.{load_by-none, load_row-more, loads_by-row, row-within}

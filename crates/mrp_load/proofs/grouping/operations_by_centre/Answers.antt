@@ -1,4 +1,4 @@
-use Rattle.std.proofs.Common.{◌≡◌, ◌∙◌, ap, take_all, arith, length}
+use Rattle.std.proofs.Common.{◌∙◌, ap, take_all}
 use Rattle.std.specs.Prelude.{filter}
 use Rattle.mrp_load.proofs.Grouped.{at_centre, grouped-more}
 use Rattle.mrp_load.proofs.grouping.operations_by_centre.Goals as goal

@@ -1,4 +1,4 @@
-use Rattle.std.proofs.Common.{◌≡◌, ◌∙◌, ℕ, List, length, sym, subst, ap}
+use Rattle.std.proofs.Common.{◌≡◌, ◌∙◌, List, length, sym, subst, ap}
 use Rattle.std.specs.Prelude.{All, Vec, filter}
 use Rattle.std.specs.declared.alloc.Global.{Global}
 use Rattle.mrp_tables.specs.Facts.{IsOperation}

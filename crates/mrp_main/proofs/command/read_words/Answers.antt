@@ -1,4 +1,4 @@
-use Rattle.std.proofs.Common.{◌∙◌, ◌≡◌, List, Option, ap, map, subst, sym, true}
+use Rattle.std.proofs.Common.{◌∙◌, ◌≡◌, [], List, Option, ap, map, subst, sym, true}
 use Rattle.std.proofs.lemmas.Result.{IfOk-weaker}
 use Rattle.clap.specs.Walk.{Row, Text}
 use Rattle.clap.specs.Simple.{App, app_of, is_simple, subcommand_of, subcommand_rows_of}
@@ -6,7 +6,19 @@ use Rattle.clap.specs.Kinds.{HasKind}
 use Rattle.clap.specs.Faults.{fault_of, is_simple_and_free}
 use Rattle.mrp_main.specs.Words.{IsAsAsked, dir_among, folder_in, mrp_command, refusals}
 use Rattle.mrp_main.proofs.Asked.{asked-by, asked-for, is-plain, is-simple-command}
+use Rattle.mrp_main.proofs.Entered.{enters-one}
 use Rattle.mrp_main.proofs.command.read_words.Goals as goal
+
+pub request_of-requires : goal.request_of-requires
+request_of-requires g c =
+    let words : List Text = map g.S.AsStr.text c.args.words.now in
+    let app : app_of c.in_ok-command.field-0 ≡ mrp_command = c.in_ok-command.ensures in
+    let plain : is_simple_and_free (app_of c.in_ok-command.field-0) ≡ true = ap is_simple_and_free app ∙ is-plain in
+    let simple : is_simple (app_of c.in_ok-command.field-0) ≡ true = ap is_simple app ∙ is-simple-command in
+    let entered : subcommand_rows_of c.in-Ok.matches ≡ subcommand_of mrp_command words = (c.in-Ok.ensures.matches simple).1 ∙ ap (λ (a : App). subcommand_of a words) app in
+    let taken : refusals words ≡ [] = ap (λ (a : App). fault_of a words) (sym app) ∙ c.in-Ok.ensures.kinds plain in
+    let (command, (rows, is)) = enters-one words taken in
+    (command, (rows, entered ∙ is))
 
 pub returns-in-Ok-clause-asks : goal.returns-in-Ok-clause-asks
 returns-in-Ok-clause-asks g c =

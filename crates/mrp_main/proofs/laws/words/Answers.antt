@@ -1,7 +1,8 @@
 use Rattle.std.proofs.Common.{◌≡◌, [], ◌∷◌, Some, None, codes, refl, arith}
 use Rattle.clap.specs.declared.error.kind.ErrorKind.TheVariants as kind
 use Rattle.clap.proofs.OnLiterals.{clap_on_literals}
-use Rattle.mrp_main.specs.Words.{AskForPlanBy, folder_in, refusals}
+use Rattle.mrp_main.specs.declared.day.DayCommand.TheVariants.{Plan, Live}
+use Rattle.mrp_main.specs.Words.{AskFor, folder_in, refusals}
 use Rattle.mrp_main.proofs.laws.words.Goals as goal
 
 plan-words : refusals (codes "plan" ∷ []) ≡ []
@@ -32,24 +33,36 @@ input-words : folder_in (codes "plan" ∷ codes "--workers=2" ∷ []) ≡ None
 unfolding clap_on_literals
 input-words = refl
 
-one-worker : AskForPlanBy (codes "plan" ∷ []) 1
+one-worker : AskFor (codes "plan" ∷ []) Plan 1
 unfolding clap_on_literals
-one-worker = record { rows = _; plan = refl; text = codes "1"; given = refl; number = ((omega arith, (omega arith, tt)), omega arith, omega arith, omega arith); value = refl }
+one-worker = ((_, refl), record { name = _; rows = _; is = refl; text = codes "1"; given = refl; number = ((omega arith, (omega arith, tt)), omega arith, omega arith, omega arith); value = refl })
 
-all-workers : AskForPlanBy (codes "plan" ∷ codes "--workers" ∷ codes "64" ∷ []) 64
+all-workers : AskFor (codes "plan" ∷ codes "--workers" ∷ codes "64" ∷ []) Plan 64
 unfolding clap_on_literals
-all-workers = record {
-  rows = _;
-  plan = refl;
-  text = codes "64";
-  given = refl;
-  number = ((omega arith, (omega arith, (omega arith, tt))), omega arith, omega arith, omega arith);
-  value = refl;
-}
+all-workers = (
+  (_, refl),
+  record {
+    name = _;
+    rows = _;
+    is = refl;
+    text = codes "64";
+    given = refl;
+    number = ((omega arith, (omega arith, (omega arith, tt))), omega arith, omega arith, omega arith);
+    value = refl;
+  },
+)
 
-two-workers : AskForPlanBy (codes "plan" ∷ codes "--workers=2" ∷ []) 2
+live-day : AskFor (codes "live" ∷ []) Live 1
 unfolding clap_on_literals
-two-workers = record { rows = _; plan = refl; text = codes "2"; given = refl; number = ((omega arith, (omega arith, tt)), omega arith, omega arith, omega arith); value = refl }
+live-day = ((_, refl), record { name = _; rows = _; is = refl; text = codes "1"; given = refl; number = ((omega arith, (omega arith, tt)), omega arith, omega arith, omega arith); value = refl })
+
+live-workers : AskFor (codes "live" ∷ codes "--workers" ∷ codes "8" ∷ []) Live 8
+unfolding clap_on_literals
+live-workers = ((_, refl), record { name = _; rows = _; is = refl; text = codes "8"; given = refl; number = ((omega arith, (omega arith, tt)), omega arith, omega arith, omega arith); value = refl })
+
+two-workers : AskFor (codes "plan" ∷ codes "--workers=2" ∷ []) Plan 2
+unfolding clap_on_literals
+two-workers = ((_, refl), record { name = _; rows = _; is = refl; text = codes "2"; given = refl; number = ((omega arith, (omega arith, tt)), omega arith, omega arith, omega arith); value = refl })
 
 help-words : refusals (codes "--help" ∷ []) ≡ kind.DisplayHelp ∷ []
 unfolding clap_on_literals
@@ -59,9 +72,9 @@ short-words : refusals (codes "-h" ∷ []) ≡ kind.DisplayHelp ∷ []
 unfolding clap_on_literals
 short-words = refl
 
-of-plan-words : refusals (codes "plan" ∷ codes "--help" ∷ []) ≡ kind.DisplayHelp ∷ []
+help-of-plan-words : refusals (codes "plan" ∷ codes "--help" ∷ []) ≡ kind.DisplayHelp ∷ []
 unfolding clap_on_literals
-of-plan-words = refl
+help-of-plan-words = refl
 
 none-words : refusals [] ≡ kind.MissingSubcommand ∷ []
 unfolding clap_on_literals
@@ -86,6 +99,30 @@ two-folders-words = refl
 no-number-words : refusals (codes "plan" ∷ codes "--workers=many" ∷ []) ≡ kind.ValueValidation ∷ []
 unfolding clap_on_literals
 no-number-words = refl
+
+live-words : refusals (codes "live" ∷ []) ≡ []
+unfolding clap_on_literals
+live-words = refl
+
+live-folder-words : refusals (codes "live" ∷ codes "--workers=8" ∷ codes "--dir" ∷ codes "shop" ∷ []) ≡ []
+unfolding clap_on_literals
+live-folder-words = refl
+
+of-live-words : folder_in (codes "live" ∷ codes "--dir" ∷ codes "shop" ∷ []) ≡ Some (codes "shop")
+unfolding clap_on_literals
+of-live-words = refl
+
+help-of-live-words : refusals (codes "live" ∷ codes "--help" ∷ []) ≡ kind.DisplayHelp ∷ []
+unfolding clap_on_literals
+help-of-live-words = refl
+
+both-words : refusals (codes "plan" ∷ codes "live" ∷ []) ≡ kind.UnknownArgument ∷ []
+unfolding clap_on_literals
+both-words = refl
+
+no-live-worker-words : refusals (codes "live" ∷ codes "--workers=0" ∷ []) ≡ kind.ValueValidation ∷ []
+unfolding clap_on_literals
+no-live-worker-words = refl
 
 pub returns-clause-plan : goal.returns-clause-plan
 returns-clause-plan c = plan-words
@@ -123,8 +160,8 @@ returns-clause-help c = help-words
 pub returns-clause-short : goal.returns-clause-short
 returns-clause-short c = short-words
 
-pub returns-clause-of_plan : goal.returns-clause-of_plan
-returns-clause-of_plan c = of-plan-words
+pub returns-clause-help_of_plan : goal.returns-clause-help_of_plan
+returns-clause-help_of_plan c = help-of-plan-words
 
 pub returns-clause-none : goal.returns-clause-none
 returns-clause-none c = none-words
@@ -143,3 +180,27 @@ returns-clause-two_folders c = two-folders-words
 
 pub returns-clause-no_number : goal.returns-clause-no_number
 returns-clause-no_number c = no-number-words
+
+pub returns-clause-live : goal.returns-clause-live
+returns-clause-live c = live-words
+
+pub returns-clause-live_folder : goal.returns-clause-live_folder
+returns-clause-live_folder c = live-folder-words
+
+pub returns-clause-of_live : goal.returns-clause-of_live
+returns-clause-of_live c = of-live-words
+
+pub returns-clause-help_of_live : goal.returns-clause-help_of_live
+returns-clause-help_of_live c = help-of-live-words
+
+pub returns-clause-both : goal.returns-clause-both
+returns-clause-both c = both-words
+
+pub returns-clause-no_live_worker : goal.returns-clause-no_live_worker
+returns-clause-no_live_worker c = no-live-worker-words
+
+pub returns-clause-live_day : goal.returns-clause-live_day
+returns-clause-live_day c = live-day
+
+pub returns-clause-live_workers : goal.returns-clause-live_workers
+returns-clause-live_workers c = live-workers

@@ -6,6 +6,7 @@ use Rattle.mrp_master.specs.AtpRow.{AtpRow}
 use Rattle.mrp_master.specs.Nodes.{IsNode, IsSpan, before, height, last}
 use Rattle.mrp_master.proofs.Places.{halves, height_most, place_before, root_before, root_last}
 use Rattle.mrp_master.proofs.Promised.{span_available, span_natural}
+use Rattle.mrp_master.proofs.NodeReads.{at_most, one_more, one_read}
 use Rattle.mrp_master.proofs.Spans.{span_fits}
 use Rattle.mrp_master.proofs.Trees.{from_left, from_right, span_at}
 use Rattle.mrp_master.proofs.nodes.available_in.Goals as goal
@@ -21,34 +22,24 @@ loop-node-init g c =
       first = omega arith;
       same = c.read-since.ensures.same;
       count = omega (arith, c.read-since.ensures.count);
+      few = at_most g.N.Nodes.is_read 1 (1 + height n) _ _ (one_read g.N.Nodes.is_read _ _ c.read-since.ensures.one) (omega arith);
       since = span_at r (before n) (before n + 1) (last n) (before n) c.args.week (last n) c.read-since.result refl start refl c.read-since.ensures.value;
     }
 
-pub join-since-requires-clause-sum : goal.join-since-requires-clause-sum
-join-since-requires-clause-sum g c =
+pub join-since-requires : goal.join-since-requires
+join-since-requires g c =
     let r : AtpRow = g.N.Nodes.of_row c.args.nodes.now in
     let y : IsNode r (c.loop-node.node + 1) c.read.result = subst (λ (x : AtpRow). IsNode x (c.loop-node.node + 1) c.read.result) c.loop-node.invariant.same c.read.ensures.value in
-    (span_fits r c.requires.row _ _ _ _ _ _ c.loop-node.since c.read.result c.loop-node.invariant.since y).0
+    let fits = span_fits r c.requires.row _ _ _ _ _ _ c.loop-node.since c.read.result c.loop-node.invariant.since y in
+    record { sum = fits.0; least = fits.1 }
 
-pub join-since-requires-clause-least : goal.join-since-requires-clause-least
-join-since-requires-clause-least g c =
-    let r : AtpRow = g.N.Nodes.of_row c.args.nodes.now in
-    let y : IsNode r (c.loop-node.node + 1) c.read.result = subst (λ (x : AtpRow). IsNode x (c.loop-node.node + 1) c.read.result) c.loop-node.invariant.same c.read.ensures.value in
-    (span_fits r c.requires.row _ _ _ _ _ _ c.loop-node.since c.read.result c.loop-node.invariant.since y).1
-
-pub before-since-requires-clause-sum : goal.before-since-requires-clause-sum
-before-since-requires-clause-sum g c =
+pub before-since-requires : goal.before-since-requires
+before-since-requires g c =
     let r : AtpRow = g.N.Nodes.of_row c.args.nodes.now in
     let b : Node = c.read-else-node-eq0.result in
     let y : IsNode r (c.loop-node.node - 1) b = subst (λ (x : AtpRow). IsNode x (c.loop-node.node - 1) b) c.loop-node.invariant.same c.read-else-node-eq0.ensures.value in
-    (span_fits r c.requires.row _ _ _ _ _ _ b c.loop-node.since y c.loop-node.invariant.since).0
-
-pub before-since-requires-clause-least : goal.before-since-requires-clause-least
-before-since-requires-clause-least g c =
-    let r : AtpRow = g.N.Nodes.of_row c.args.nodes.now in
-    let b : Node = c.read-else-node-eq0.result in
-    let y : IsNode r (c.loop-node.node - 1) b = subst (λ (x : AtpRow). IsNode x (c.loop-node.node - 1) b) c.loop-node.invariant.same c.read-else-node-eq0.ensures.value in
-    (span_fits r c.requires.row _ _ _ _ _ _ b c.loop-node.since y c.loop-node.invariant.since).1
+    let fits = span_fits r c.requires.row _ _ _ _ _ _ b c.loop-node.since y c.loop-node.invariant.since in
+    record { sum = fits.0; least = fits.1 }
 
 pub loop-node-preserved : goal.loop-node-preserved
 loop-node-preserved g c =
@@ -66,6 +57,7 @@ loop-node-preserved g c =
             first = some;
             same = rw w.nodes-is (w.read.ensures.same ∙ c.loop-node.invariant.same);
             count = rw w.nodes-is (omega (arith, c.loop-node.invariant.count, w.read.ensures.count, h.left, ap height even));
+            few = rw w.nodes-is (one_more g.N.Nodes.is_read (1 + height n) (1 + height over) _ _ _ c.loop-node.invariant.few w.read.ensures.one (omega (arith, h.left, ap height even)));
             since = rw (w.since-is, w.join-since.ensures) (from_left r c.args.week over n (n + 1) c.loop-node.since w.read.result some inner c.loop-node.invariant.since y even (omega arith));
           }
       | else-node-eq0 w ↦
@@ -76,6 +68,7 @@ loop-node-preserved g c =
             first = some;
             same = rw w.nodes-is (w.read-else-node-eq0.ensures.same ∙ c.loop-node.invariant.same);
             count = rw w.nodes-is (omega (arith, c.loop-node.invariant.count, w.read-else-node-eq0.ensures.count, h.right, ap height odd));
+            few = rw w.nodes-is (one_more g.N.Nodes.is_read (1 + height n) (1 + height over) _ _ _ c.loop-node.invariant.few w.read-else-node-eq0.ensures.one (omega (arith, h.right, ap height odd)));
             since = rw (w.since-is, w.before-since.ensures) (from_right r c.args.week over n (n - 1) c.loop-node.since b some inner c.loop-node.invariant.since y odd (omega arith));
           }
     ]
@@ -105,5 +98,8 @@ returns-clause-value g c =
     let all : IsSpan r 0 c.args.week 128 c.loop-node.since = all_since r c.args.week c.loop-node.node c.loop-node.since root c.loop-node.invariant.since in
     span_available r c.requires.row c.args.week c.quantity.result c.loop-node.since c.requires.week all (omega (arith, ints, c.quantity.ensures, span_natural r c.requires.row c.args.week c.loop-node.since all))
 
+pub returns-clause-count : goal.returns-clause-count
+returns-clause-count g c = omega (arith, c.loop-node.invariant.count, height_most c.loop-node.node)
+
 pub returns-clause-few : goal.returns-clause-few
-returns-clause-few g c = omega (arith, c.loop-node.invariant.count, height_most c.loop-node.node)
+returns-clause-few g c = at_most g.N.Nodes.is_read (1 + height c.loop-node.node) 16 _ _ c.loop-node.invariant.few (omega (arith, height_most c.loop-node.node))

@@ -1,4 +1,4 @@
-use Rattle.std.proofs.Common.{◌≡◌, ◌∙◌, ◌++◌, ◌∷◌, [], ◌+◌, ◌<◌, ℕ, length, ap, cond, arith}
+use Rattle.std.proofs.Common.{◌∙◌, ◌++◌, ◌∷◌, [], ◌+◌, ◌<◌, ℕ, length, ap, cond, arith}
 use Rattle.std.specs.Prelude.{nat_lt}
 use Rattle.mrp_peg.specs.declared.peg.NeedKind.TheVariants.{Forecast}
 use Rattle.mrp_peg.specs.Rows.{forecast_wanted}

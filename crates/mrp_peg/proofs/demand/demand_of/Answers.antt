@@ -1,4 +1,4 @@
-use Rattle.std.proofs.Common.{◌≡◌, ◌∙◌, ◌++◌, ap, map, length}
+use Rattle.std.proofs.Common.{◌∙◌, ◌++◌, ap, map, length}
 use Rattle.std.specs.Prelude.{flat_map}
 use Rattle.mrp_phase.specs.Weeks.{row, weeks}
 use Rattle.mrp_phase.proofs.WeekRows.{length-row}

@@ -1,4 +1,4 @@
-use Rattle.std.proofs.Common.{◌≡◌, ◌∙◌}
+use Rattle.std.proofs.Common.{◌∙◌}
 use Rattle.std.specs.Int.{IsInRange}
 use Rattle.std.proofs.Common.{length, sym, subst}
 use Rattle.mrp_item.specs.declared.due.Due.{Due}

@@ -1,5 +1,5 @@
 use Rattle.std.proofs.Common.{◌≡◌, ◌∙◌, ℕ, ◌<◌, ◌≤◌, List, [], ◌∷◌, ◌++◌, ◌+◌, arith, refl, subst, cond, length, sym, ap, slice_index_or, Some, None, Option}
-use Rattle.std.specs.Prelude.{nat_lt, map, drop}
+use Rattle.std.specs.Prelude.{nat_lt, drop}
 use Rattle.std.proofs.Math.ListN.{get_or-map}
 use Rattle.std.proofs.lemmas.List.{drop-map, length-map}
 use Rattle.mrp_peg.specs.declared.peg.Need.{Need}

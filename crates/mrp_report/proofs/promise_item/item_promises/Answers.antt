@@ -1,6 +1,6 @@
-use Rattle.std.proofs.Common.{◌≡◌, ◌∙◌, ◌++◌, List, ℕ, Bool, false, ap, subst, sym, arith}
+use Rattle.std.proofs.Common.{◌≡◌, ◌∙◌, ◌++◌, List, ℕ, ap, subst, sym, arith}
 use Rattle.std.proofs.lemmas.List.{append-nil}
-use Rattle.std.specs.Prelude.{IsTrue, OnOk}
+use Rattle.std.specs.Prelude.{OnOk}
 use Rattle.mrp_tables.specs.Items as items
 use Rattle.mrp_tables.specs.Tables.{Tables}
 use Rattle.mrp_tables.specs.declared.item.Item.{Item}
@@ -10,7 +10,6 @@ use Rattle.mrp_book.specs.Booked.{AreBooked}
 use Rattle.mrp_item.specs.Inputs.{Inputs, count, is_master, item_at}
 use Rattle.mrp_report.specs.Cells.{name_at}
 use Rattle.mrp_report.specs.PromiseRows.{promises_of}
-use Rattle.mrp_report.specs.ReportText.{promised_text}
 use Rattle.mrp_report.specs.declared.promise_sheet.PromiseSheet.{PromiseSheet}
 use Rattle.mrp_report.proofs.PromiseSheets.{IsPromiseSheetOf, is-promise-sheet, no-promises, promises-text}
 use Rattle.mrp_report.proofs.promise_item.item_promises.Goals as goal

@@ -1,4 +1,4 @@
-use Rattle.std.proofs.Common.{◌≡◌, ◌<◌, ◌≤◌, List, length, sym, subst, arith}
+use Rattle.std.proofs.Common.{sym, subst}
 use Rattle.mrp_master.specs.Supply.{IsMaster, IsWeek, Supply}
 use Rattle.mrp_master.specs.AtpRow.{IsCoveredRow, IsWeekOf, with_booking}
 use Rattle.mrp_book.specs.Booked.{AreBooked}

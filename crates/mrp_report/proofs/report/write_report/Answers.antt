@@ -1,10 +1,13 @@
-use Rattle.std.proofs.Common.{◌≡◌, ◌∙◌, ◌+◌, ◌++◌, ◌<◌, ℕ, List, [], length, get_or, ap, sym, subst, refl, arith, rules}
+use Rattle.std.proofs.Common.{◌≡◌, ◌∙◌, ◌+◌, ◌-◌, ◌++◌, ℕ, List, [], length, get_or, ap, sym, subst, refl, arith, rules}
 use Rattle.std.proofs.lemmas.List.{append-nil}
+use Rattle.mrp_item.specs.Places.{WholePlan}
 use Rattle.mrp_report.specs.ReportText.{report_text}
 use Rattle.mrp_report.specs.RunText.{run_text}
 use Rattle.mrp_report.specs.Sections.{section_text}
+use Rattle.mrp_report.specs.Written.{HasTakenFront, PassesOn}
 use Rattle.mrp_report.specs.declared.section.Section.{Section}
 use Rattle.mrp_report.specs.declared.section.Section.TheVariants as section
+use Rattle.mrp_report.proofs.ChunkTexts.{text-is}
 use Rattle.mrp_report.proofs.ListTexts.{so_far, so_far-none, to-come, whole}
 use Rattle.mrp_report.proofs.ListWritten.{next-passed, next-written}
 use Rattle.mrp_report.proofs.Progress.{IsWritten, front-now, front-then, on-err, on-err-then, given-up, gone-on-then, on-ok-then, written-none, written-whole}
@@ -21,8 +24,17 @@ loop-section-init g c =
 pub returns-in_err-readings-clause-front : goal.returns-in_err-readings-clause-front
 returns-in_err-readings-clause-front g c =
     let text : List ℕ = report_text c.args.plan.now.inputs in
+    on-err c.from_residual-in_err-readings.result
+    (front-now g.W.Write.contents c.args.writer.now c.args.writer.now 1000000 1000000 [] [] text text (written-none g.W.Write.contents c.args.writer.now 1000000 1000000 [] [] refl refl) refl)
+
+pub returns-in_err-slots-clause-front : goal.returns-in_err-slots-clause-front
+returns-in_err-slots-clause-front g c =
+    let text : List ℕ = report_text c.args.plan.now.inputs in
     on-err c.from_residual.result
     (front-now g.W.Write.contents c.args.writer.now c.args.writer.now 1000000 1000000 [] [] text text (written-none g.W.Write.contents c.args.writer.now 1000000 1000000 [] [] refl refl) refl)
+
+pub returns-in_err-slots-clause-memory : goal.returns-in_err-slots-clause-memory
+returns-in_err-slots-clause-memory g c refused = (refl, omega arith)
 
 pub returns-in_err-write_section-clause-front : goal.returns-in_err-write_section-clause-front
 returns-in_err-write_section-clause-front g c =
@@ -36,7 +48,8 @@ returns-in_err-write_section-clause-front g c =
     let (rest, is) = to-come run (section_text s) in_order (k + 1) in
     on-err c.from_residual-in_err-write_section.result
     (front-then g.W.Write.contents c.args.writer.now c.loop-section.writer c.write_section.new.writer 1000000 c.loop-section.tries (c.loop-section.page ++ section_text s x) (so_far run (section_text s) in_order (k + 1)) rest
-    (report_text s) next (report-is s ∙ is) c.in_err-write_section.ensures.front)
+    (report_text s) next (report-is s ∙ is)
+    (subst (λ (t : List ℕ). HasTakenFront g.W.Write.contents c.loop-section.writer c.write_section.new.writer (c.loop-section.page ++ t)) (text-is c.of-chunks.result c.args.plan.now.inputs (get_or in_order c.loop-section.section-index section.Promises) (c.of-chunks.ensures.inputs ∙ ap (λ (p : WholePlan). p.inputs) c.in_ok-readings.ensures) c.of-chunks.ensures.section) c.in_err-write_section.ensures.front))
 
 pub loop-section-preserved : goal.loop-section-preserved
 loop-section-preserved g c =
@@ -44,7 +57,9 @@ loop-section-preserved g c =
     let run : List ℕ = run_text s.front (length s.standing) in
     let k = c.loop-section.section-index in
     next-passed g.W.Write.contents c.args.writer.now c.loop-section.writer c.write_section.new.writer 1000000 c.loop-section.tries c.write_section.new.tries c.loop-section.page c.write_section.new.page run (section_text s)
-    in_order k (get_or in_order k section.Promises) section.Promises c.loop-section.invariant c.loop-section-test.true refl c.in_ok-write_section.ensures.tries c.in_ok-write_section.ensures.passed
+    in_order k (get_or in_order k section.Promises) section.Promises c.loop-section.invariant c.loop-section-test.true refl c.in_ok-write_section.ensures.tries
+    (subst (λ (t : List ℕ). PassesOn g.W.Write.contents c.loop-section.writer c.write_section.new.writer (c.loop-section.page ++ t) c.write_section.new.page (c.loop-section.tries - c.write_section.new.tries)) (text-is c.of-chunks.result c.args.plan.now.inputs (get_or in_order c.loop-section.section-index section.Promises) (c.of-chunks.ensures.inputs ∙ ap (λ (p : WholePlan). p.inputs) c.in_ok-readings.ensures) c.of-chunks.ensures.section)
+    c.in_ok-write_section.ensures.passed)
 
 pub returns-clause-whole : goal.returns-clause-whole
 returns-clause-whole g c =

@@ -5,23 +5,23 @@ use Rattle.std.specs.declared.alloc.Global.{Global}
 use Rattle.mrp_bill.specs.Bill.{AreWithin, HoldsEachOnce}
 use Rattle.mrp_bill.specs.BillLists.{AreLists}
 use Rattle.mrp_bill.specs.Shop.{IsShop}
-use Rattle.mrp_bill.proofs.Accepted.{are-within, parents-within, children-within, loop-path, are-codes, is-order, no-loop}
+use Rattle.mrp_bill.proofs.Accepted.{are-within, parents-within, children-within, loop-refusal, are-codes, is-order, no-loop}
 use Rattle.mrp_bill.proofs.shop.Bill.of.Goals as goal
 
 pub order_of-requires : goal.order_of-requires
 order_of-requires c = rw c.deref.ensures.value (parents-within _ _ c.in_ok-lists.lists c.in_ok-lists.ensures)
 
-pub first_loop-requires-clause-parents : goal.first_loop-requires-clause-parents
-first_loop-requires-clause-parents c = rw c.deref-then-order.ensures.value (parents-within _ _ c.in_ok-lists.lists c.in_ok-lists.ensures)
+pub first_loop-path-requires-clause-parents : goal.first_loop-path-requires-clause-parents
+first_loop-path-requires-clause-parents c = rw c.deref-then-order.ensures.value (parents-within _ _ c.in_ok-lists.lists c.in_ok-lists.ensures)
 
-pub first_loop-requires-clause-children : goal.first_loop-requires-clause-children
-first_loop-requires-clause-children c = rw c.deref-then-order-2.ensures.value (children-within _ _ c.in_ok-lists.lists c.in_ok-lists.ensures)
+pub first_loop-path-requires-clause-children : goal.first_loop-path-requires-clause-children
+first_loop-path-requires-clause-children c = rw c.deref-then-order-2.ensures.value (children-within _ _ c.in_ok-lists.lists c.in_ok-lists.ensures)
 
 pub returns-then-order-clause-refused : goal.returns-then-order-clause-refused
 returns-then-order-clause-refused c =
     let lists : AreLists c.args.tables.bills (length c.args.tables.items) c.in_ok-lists.lists = rw (c.bills.ensures.rows, c.items.ensures.rows) at c.in_ok-lists.ensures in
     let within : AreWithin (length c.args.tables.items) c.args.tables.bills = are-within c.args.tables.items c.args.tables.bills (rw c.bills.ensures.rows at c.bills.ensures.within) in
-    loop-path c.args.tables.bills (length c.args.tables.items) c.in_ok-lists.lists c.in_ok-path.path.items within lists (rw c.deref-then-order.ensures.value at c.in_ok-path.ensures)
+    rw c.loop_fault.ensures (loop-refusal c.args.tables.bills (length c.args.tables.items) c.in_ok-lists.lists c.first_loop-path.result within lists (rw c.deref-then-order.ensures.value at c.first_loop-path.ensures))
 
 pub codes_of-requires-clause-within : goal.codes_of-requires-clause-within
 codes_of-requires-clause-within c = rw c.deref-2.ensures.value (parents-within _ _ c.in_ok-lists.lists c.in_ok-lists.ensures)
@@ -55,8 +55,8 @@ returns-clause-accepted c = accepted c
 pub returns-clause-no_loop : goal.returns-clause-no_loop
 returns-clause-no_loop c = no-loop c.args.tables.bills (slice_index c.in_ok-codes.codes.items) (accepted c).codes
 
-pub first_loop-requires-clause-some : goal.first_loop-requires-clause-some
-first_loop-requires-clause-some c =
+pub first_loop-path-requires-clause-some : goal.first_loop-path-requires-clause-some
+first_loop-path-requires-clause-some c =
     let same = c.deref.ensures.value ∙ sym c.deref-then-order.ensures.value in
     let Loops : List (Vec ℕ Global) → Type 0 = λ parents. (i : ℕ) × Leads (IsListed parents) i i in
     subst Loops same (c.in_ok-order.ensures.loops c.if-order.true)

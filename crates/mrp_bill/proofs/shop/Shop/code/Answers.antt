@@ -1,6 +1,5 @@
 use Rattle.std.proofs.Common.{◌≡◌, ◌∙◌, length, slice_index, ap, arith, subst}
 use Rattle.std.proofs.lemmas.List.{get_or_default}
-use Rattle.mrp_bill.specs.Bill.{IsCode}
 use Rattle.mrp_bill.specs.Shop.{Shop, IsShop}
 use Rattle.mrp_bill.proofs.Accepted.{code-is}
 use Rattle.mrp_bill.proofs.shop.Shop.code.Goals as goal

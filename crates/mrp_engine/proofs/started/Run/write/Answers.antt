@@ -1,10 +1,10 @@
-use Rattle.std.proofs.Common.{◌≡◌, ◌∙◌, true, ap, subst}
+use Rattle.std.proofs.Common.{◌≡◌, ◌∙◌, true, ap, subst, sym}
 use Rattle.mrp_item.specs.Inputs.{Inputs, inputs_of}
 use Rattle.mrp_engine.specs.declared.event.Answer.{Answer}
 use Rattle.mrp_engine.specs.Board.{RunLog, is_finished}
 use Rattle.mrp_engine.specs.Core.{IsReport}
 use Rattle.mrp_engine.specs.Kept.{log_of}
-use Rattle.mrp_engine.proofs.CoreSteps.{if-ok}
+use Rattle.mrp_engine.proofs.CoreSteps.{if-ok, on-err}
 use Rattle.mrp_engine.proofs.started.Run.write.Goals as goal
 
 pub returns-clause-report : goal.returns-clause-report
@@ -12,5 +12,15 @@ returns-clause-report g c =
     let now = c.args.self.now in
     let made : c.in-Some.board ≡ record { inputs = inputs_of c.self.inside.rows.value.tables c.self.inside.snapshot; log = log_of c.self.inside.board } = cc (c.in-Some.is, c.in_ok-begin.ensures.begun) in
     let from : c.inputs.result.now ≡ now.inputs = c.inputs.ensures ∙ ap (λ (r : RunLog). r.inputs) (made ∙ c.self.view_is) in
-    if-ok (IsReport c.inputs.result.now) (λ a. is_finished now.inputs now.log ≡ true → IsReport now.inputs a) c.written.result c.written.ensures
+    if-ok (IsReport c.inputs.result.now) (λ a. is_finished now.inputs now.log ≡ true → IsReport now.inputs a) c.written.result c.written.ensures.report
     (λ (a : Answer) is done. subst (λ (s : Inputs). IsReport s a) from is)
+
+pub plan-requires : goal.plan-requires
+plan-requires g c =
+    let made : c.in-Some.board ≡ record { inputs = inputs_of c.self.inside.rows.value.tables c.self.inside.snapshot; log = log_of c.self.inside.board } = cc (c.in-Some.is, c.in_ok-begin.ensures.begun) in
+    ap (λ (r : RunLog). is_finished r.inputs r.log) (made ∙ c.self.view_is) ∙ sym c.is_finished.ensures ∙ c.if-not-is_finished.false
+
+pub returns-clause-memory : goal.returns-clause-memory
+returns-clause-memory g c =
+    let now = c.args.self.now in
+    on-err (is_finished now.inputs now.log ≡ true) c.written.result (sym c.is_finished.ensures ∙ c.if-not-is_finished.false)

@@ -2,7 +2,7 @@ use Rattle.std.proofs.Common.{◌∙◌, sym}
 use Rattle.mrp_engine.specs.declared.board.BoardCall.TheVariants as call
 use Rattle.std.proofs.Common.{◌++◌}
 use Rattle.mrp_engine.specs.Board.{board_reply, taken}
-use Rattle.mrp_engine.proofs.CoreSteps.{held-nothing, here-of, kept-set, taken-after, taken-answer}
+use Rattle.mrp_engine.proofs.CoreSteps.{held-nothing, here-of, kept-set, take-wants, taken-after, taken-answer}
 use Rattle.mrp_engine.proofs.steps.Core.take.Goals as goal
 
 pub returns-then-is_some-clause-answer : goal.returns-then-is_some-clause-answer
@@ -35,3 +35,10 @@ returns-clause-after c =
     let r = c.index_mut.result.now in
     let here = here-of i.rows.value.tables i.book.entries i.runs.items c.args.self.now c.args.run c.in-Some.place r c.self.view_is c.self.invariant.runs c.in-Some.ensures.started.0 c.in-Some.ensures.started.1 c.index_mut.ensures.value in
     taken-after i.rows.value.tables i.book.entries i.runs.items c.args.self.now c.args.run c.in-Some.place r here c.args.worker c.take.result c.take.new.self c.take.ensures.answer c.take.ensures.entry
+
+pub returns-clause-memory : goal.returns-clause-memory
+returns-clause-memory c =
+    let i = c.self.inside in
+    let r = c.index_mut.result.now in
+    let here = here-of i.rows.value.tables i.book.entries i.runs.items c.args.self.now c.args.run c.in-Some.place r c.self.view_is c.self.invariant.runs c.in-Some.ensures.started.0 c.in-Some.ensures.started.1 c.index_mut.ensures.value in
+    take-wants i.rows.value.tables i.book.entries i.runs.items c.args.self.now c.args.run c.in-Some.place r here c.args.worker c.held.result c.index.result.now c.take.result (c.is_seat.ensures.0 c.if-not-is_seat.false) (sym c.is_some.ensures ∙ c.if-is_some.false) c.held.ensures c.index.ensures

@@ -1,6 +1,4 @@
-use Rattle.std.proofs.Common.{◌≡◌, ◌∙◌, ◌<◌, ◌≤◌, ◌+◌, ◌∷◌, ◌++◌, [], List, ℕ, ap, arith}
-use Rattle.std.specs.Prelude.{Vec}
-use Rattle.std.specs.declared.alloc.Global.{Global}
+use Rattle.std.proofs.Common.{◌∙◌, ◌<◌, ◌≤◌, ◌+◌, ◌∷◌, ◌++◌, [], ℕ, ap, arith}
 use Rattle.mrp_load.specs.Loads.{over}
 use Rattle.mrp_load.proofs.Overloads.{over-more, over-same}
 use Rattle.mrp_load.proofs.table.LoadTable.add_overloads.Goals as goal

@@ -1,4 +1,4 @@
-use Rattle.std.proofs.Common.{◌≡◌, ◌∙◌, ◌<◌, ℕ, List, length, ap, sym, arith}
+use Rattle.std.proofs.Common.{◌∙◌, ◌<◌, ℕ, length, ap, arith}
 use Rattle.std.specs.Prelude.{Vec}
 use Rattle.std.specs.Int.{IsInRange}
 use Rattle.std.specs.declared.alloc.Global.{Global}

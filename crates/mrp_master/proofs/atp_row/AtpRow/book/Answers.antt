@@ -9,12 +9,15 @@ use Rattle.mrp_master.specs.Tree.{IsKept, IsMade, IsTree, row_of}
 use Rattle.mrp_master.proofs.Rebooked.{changed, others_made, pieces_little, rebooked}
 use Rattle.mrp_master.proofs.atp_row.AtpRow.book.Goals as goal
 
+-- what the caller owes of the row, of what is kept of it
+as_kept : (kept row : AtpRow) (week pieces : ℕ) → kept ≡ row → IsWeekOf row week → IsCoveredRow (with_booked row week pieces) → IsWeekOf kept week × IsCoveredRow (with_booked kept week pieces)
+as_kept kept row week pieces is inside covered = subst (λ r. IsWeekOf r week × IsCoveredRow (with_booked r week pieces)) (sym is) (inside, covered)
+
 pub quantity-requires : goal.quantity-requires
 quantity-requires c =
     let supply = c.self.inside.supply.items in
     let booked = c.self.inside.booked.items in
-    let inside : IsWeekOf (row_of supply booked) c.args.week = subst (λ r. IsWeekOf r c.args.week) (sym c.self.view_is) c.requires.week in
-    let covered : IsCoveredRow (with_booked (row_of supply booked) c.args.week c.args.pieces) = subst (λ r. IsCoveredRow (with_booked r c.args.week c.args.pieces)) (sym c.self.view_is) c.requires.available in
+    let (inside, covered) = as_kept (row_of supply booked) c.args.self.now c.args.week c.args.pieces c.self.view_is c.requires.week c.requires.available in
     pieces_little supply booked c.self.inside.nodes.items c.args.week c.args.pieces c.self.invariant inside covered
 
 -- the row of what is lent is the row with so much booked
@@ -25,8 +28,7 @@ pub renew-requires-clause-row : goal.renew-requires-clause-row
 renew-requires-clause-row c =
     let supply = c.self.inside.supply.items in
     let booked = c.self.inside.booked.items in
-    let inside : IsWeekOf (row_of supply booked) c.args.week = subst (λ r. IsWeekOf r c.args.week) (sym c.self.view_is) c.requires.week in
-    let covered : IsCoveredRow (with_booked (row_of supply booked) c.args.week c.args.pieces) = subst (λ r. IsCoveredRow (with_booked r c.args.week c.args.pieces)) (sym c.self.view_is) c.requires.available in
+    let (inside, covered) = as_kept (row_of supply booked) c.args.self.now c.args.week c.args.pieces c.self.view_is c.requires.week c.requires.available in
     let is : set booked (c.from.result - 1) c.quantity.result ≡ with_week booked c.args.week c.args.pieces =
     changed booked c.args.week c.from.result c.args.pieces c.quantity.result inside.0 c.from.ensures c.quantity.ensures in
     subst IsPromiseRow (lent supply _ (with_week booked c.args.week c.args.pieces) c.deref.result.now c.deref-2.result.now c.deref.ensures.value c.deref-2.ensures.value is)
@@ -36,8 +38,7 @@ pub renew-requires-clause-others : goal.renew-requires-clause-others
 renew-requires-clause-others c =
     let supply = c.self.inside.supply.items in
     let booked = c.self.inside.booked.items in
-    let inside : IsWeekOf (row_of supply booked) c.args.week = subst (λ r. IsWeekOf r c.args.week) (sym c.self.view_is) c.requires.week in
-    let covered : IsCoveredRow (with_booked (row_of supply booked) c.args.week c.args.pieces) = subst (λ r. IsCoveredRow (with_booked r c.args.week c.args.pieces)) (sym c.self.view_is) c.requires.available in
+    let (inside, covered) = as_kept (row_of supply booked) c.args.self.now c.args.week c.args.pieces c.self.view_is c.requires.week c.requires.available in
     let is : set booked (c.from.result - 1) c.quantity.result ≡ with_week booked c.args.week c.args.pieces =
     changed booked c.args.week c.from.result c.args.pieces c.quantity.result inside.0 c.from.ensures c.quantity.ensures in
     λ n some within other.
@@ -50,8 +51,7 @@ pub invariant_of-self : goal.invariant_of-self
 invariant_of-self c =
     let supply = c.self.inside.supply.items in
     let booked = c.self.inside.booked.items in
-    let inside : IsWeekOf (row_of supply booked) c.args.week = subst (λ r. IsWeekOf r c.args.week) (sym c.self.view_is) c.requires.week in
-    let covered : IsCoveredRow (with_booked (row_of supply booked) c.args.week c.args.pieces) = subst (λ r. IsCoveredRow (with_booked r c.args.week c.args.pieces)) (sym c.self.view_is) c.requires.available in
+    let (inside, covered) = as_kept (row_of supply booked) c.args.self.now c.args.week c.args.pieces c.self.view_is c.requires.week c.requires.available in
     let after : List ℕ = set booked (c.from.result - 1) c.quantity.result in
     let is : after ≡ with_week booked c.args.week c.args.pieces = changed booked c.args.week c.from.result c.args.pieces c.quantity.result inside.0 c.from.ensures c.quantity.ensures in
     let lent_row : row_of c.deref.result.now c.deref-2.result.now ≡ row_of supply after = ap (λ xs. row_of xs c.deref-2.result.now) c.deref.ensures.value ∙ ap (row_of supply) c.deref-2.ensures.value in
@@ -65,6 +65,6 @@ pub returns : goal.returns
 returns c =
     let supply = c.self.inside.supply.items in
     let booked = c.self.inside.booked.items in
-    let inside : IsWeekOf (row_of supply booked) c.args.week = subst (λ r. IsWeekOf r c.args.week) (sym c.self.view_is) c.requires.week in
+    let (inside, covered) = as_kept (row_of supply booked) c.args.self.now c.args.week c.args.pieces c.self.view_is c.requires.week c.requires.available in
     ap (row_of supply) (changed booked c.args.week c.from.result c.args.pieces c.quantity.result inside.0 c.from.ensures c.quantity.ensures)
     ∙ ap (λ r. with_booked r c.args.week c.args.pieces) c.self.view_is

@@ -21,5 +21,5 @@ swap-found-requires g c =
       omega (arith, c.self.invariant.0),
       subst (λ (x : ℕ × Me (Option (Held g.row.O-State.Denot g.row.O-Call.Denot g.row.O-Reply.Denot)) (View g.row.O.Denot g.row.O-Call.Denot g.row.O-Reply.Denot)). Allows (FollowsRule opens answers key) x.0 seat.id x.1 0 (λ _. 0) (gave (step x.0 0 0 0 none) x.1))
           (λ i. (sym c.self.invariant.1 i, sym me i))
-          (yields opens answers key seat.id may.0 held may.2.1.0 may.2.0 may.2.1.1 may.2.1.2 may.2.2 may.2.3 may.2.4),
+          (yields opens answers key seat.id may.0 held may.2.added may.2.holds may.2.goes_on may.2.own may.2.notes may.2.legal may.2.room),
     )

@@ -13,7 +13,7 @@ answer-result-requires-clause-state g c =
     let at = c.requires.seat.0 in
     let taken = c.take-held.ensures.taken at.seat at.is in
     let object = ap (λ t. t.about.object) c.self.view_is ∙ ap (λ k. k.object) (sym at.about) in
-    subst (λ (o : g.row.O.Denot). IsReached (ob.answers o) (ob.opens o) c.take-held.result.state) (sym object) (taken.0, taken.2.1)
+    subst (λ (o : g.row.O.Denot). IsReached (ob.answers o) (ob.opens o) c.take-held.result.state) (sym object) (taken.0, taken.2.legal)
 
 pub give-requires-clause-holds : goal.give-requires-clause-holds
 give-requires-clause-holds g c =

@@ -1,0 +1,154 @@
+//! Parts of the program that are timed: how records are read, calls of promising, calls on a turn.
+//!
+//! It reads a bundle on standard input, and the part's name as its word. With a number of calls after
+//! it, it says how long they took; without, it makes a few and says what they answered. With no word
+//! it does that for each part.
+#![tactic(auto)]
+
+mod plain;
+mod promising;
+mod rows;
+mod turns;
+
+use mrp_master::AtpRow;
+use mrp_rows::Fault;
+use rows::Counts;
+use std::io::Read;
+use std::rt::Runtime;
+use std::sync::Wait;
+use std::thread::Threads;
+use std::time::{Duration, Instant};
+use std::{env, io};
+
+// So many calls are made where no number is given.
+const FEW_CALLS: u64 = 1_000;
+
+const FEW_TURNS: u64 = 100;
+
+// At most so many calls are made.
+const MANY: u64 = 100_000_000;
+
+// The numbers of threads that are tried on a turn.
+const THREADS: [u64; 3] = [1, 2, 4];
+
+fn tell_rows<R: Runtime + AllocGlobal>(rt: &R, bundle: &[u8]) -> io::Result<()> {
+    match rows::count(rt.alloc(), bundle) {
+        Ok(counts) => {
+            let Counts {
+                records,
+                cells,
+                bytes,
+            } = counts;
+            println!(rt; "{records} records, {cells} cells, {bytes} bytes")
+        }
+        Err(fault) => {
+            let Fault { code, table, row } = fault;
+            println!(rt; "fault {code} {table:?} {row}")
+        }
+    }
+}
+
+fn tell_answers<R: Runtime>(rt: &R, row: &mut AtpRow) -> io::Result<()> {
+    let answers = promising::call_often(row, FEW_CALLS);
+    println!(rt; "{FEW_CALLS} calls, their answers add up to {answers}")
+}
+
+fn time_answers<R: Runtime>(rt: &R, row: &mut AtpRow, calls: u64) -> io::Result<()> {
+    let start = Instant::now(rt)?;
+    let answers = promising::call_often(row, calls);
+    let nanos = start.elapsed(rt)?.as_nanos() / u128::from(calls.max(1));
+    println!(rt; "{nanos} nanoseconds a call, answers add up to {answers}")
+}
+
+fn promise<R: Runtime + AllocGlobal>(rt: &R, bundle: &[u8], calls: Option<u64>) -> io::Result<()> {
+    let Some(mut row) = promising::first_row(rt.alloc(), bundle) else {
+        return println!(rt; "no shop");
+    };
+    match calls {
+        None => tell_answers(rt, &mut row),
+        Some(calls) => time_answers(rt, &mut row, calls),
+    }
+}
+
+fn tell_turns<R: Runtime + AllocGlobal + Threads + Wait + Sync>(rt: &R) -> io::Result<()> {
+    for threads in THREADS {
+        let turn = turns::entries(rt, rt.alloc(), threads, FEW_TURNS)?;
+        let plain = plain::entries(rt, rt.alloc(), threads, FEW_TURNS)?;
+        println!(rt; "{threads} threads: {turn} entries by turns, {plain} under a plain lock")?;
+    }
+    Ok(())
+}
+
+fn time_turns<R: Runtime + AllocGlobal + Threads + Wait + Sync>(
+    rt: &R,
+    calls: u64,
+) -> io::Result<()> {
+    for threads in THREADS {
+        let start = Instant::now(rt)?;
+        let turn = turns::entries(rt, rt.alloc(), threads, calls)?;
+        let by_turns = per_second(turn, start.elapsed(rt)?);
+        let start = Instant::now(rt)?;
+        let plain = plain::entries(rt, rt.alloc(), threads, calls)?;
+        let by_lock = per_second(plain, start.elapsed(rt)?);
+        println!(rt;
+            "{threads} threads: {by_turns} calls a second by turns, {by_lock} under a plain lock"
+        )?;
+    }
+    Ok(())
+}
+
+fn per_second(calls: usize, took: Duration) -> u64 {
+    let micros = u64::try_from(took.as_micros()).unwrap_or(u64::MAX).max(1);
+    (calls as u64).saturating_mul(1_000_000) / micros
+}
+
+fn turn<R: Runtime + AllocGlobal + Threads + Wait + Sync>(
+    rt: &R,
+    calls: Option<u64>,
+) -> io::Result<()> {
+    match calls {
+        None => tell_turns(rt),
+        Some(calls) => time_turns(rt, calls),
+    }
+}
+
+fn all<R: Runtime + AllocGlobal + Threads + Wait + Sync>(rt: &R, bundle: &[u8]) -> io::Result<()> {
+    tell_rows(rt, bundle)?;
+    promise(rt, bundle, None)?;
+    turn(rt, None)
+}
+
+fn read_calls(word: &str) -> Option<u64> {
+    match word.parse::<u64>() {
+        Ok(calls) if calls <= MANY => Some(calls),
+        _ => None,
+    }
+}
+
+fn tell_usage<R: Runtime>(rt: &R) -> io::Result<()> {
+    println!(rt; "usage: benches [rows | promise [CALLS] | turn [CALLS]], at most {MANY} calls")
+}
+
+fn main(rt: HostRuntime) -> io::Result<()> {
+    let mut text = Vec::new(rt.alloc());
+    rt.reader().read_to_end(&mut text)?;
+    let bundle = text.as_slice();
+    let mut words = env::args(&rt)?;
+    let _program = words.next();
+    let Some(part) = words.next() else {
+        return all(&rt, bundle);
+    };
+    let calls = match words.next() {
+        None => None,
+        Some(word) => match read_calls(word.as_str()) {
+            None => return tell_usage(&rt),
+            calls => calls,
+        },
+    };
+    match part.as_str() {
+        "rows" => tell_rows(&rt, bundle),
+        "promise" => promise(&rt, bundle, calls),
+        "turn" => turn(&rt, calls),
+        _ => tell_usage(&rt),
+    }
+}

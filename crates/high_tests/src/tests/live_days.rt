@@ -1,0 +1,233 @@
+//! Live days. With several desks there are many right ones of a bundle, so a day is looked at by what
+//! all of them have.
+
+use super::commands::{Left, Streams, has_ended, left_by};
+use super::{made, same};
+use mrp_engine::answer_by_desks;
+use mrp_explode::Gate;
+use sample_shops::{Records, bicycles_in_lots, tower};
+use std::alloc::Global;
+use std::io::Eprint;
+use std::process::Abort;
+use std::rt::Files;
+use std::sync::Wait;
+use std::sync::atomic::{AtomicU64, Ordering};
+use std::test::Fail;
+use std::thread::Threads;
+
+// A morning at two desks.
+const MORNING: &str = "\
+1,book,BIKE,2025-01-20,12,\n\
+1,book,BIKE,2025-02-03,25,\n\
+2,ask,BIKE,2025-01-06,,\n\
+2,book,BIKE,2025-01-13,15,\n\
+2,book,BIKE,2025-01-06,10,\n\
+1,ask,BIKE,2025-01-20,,\n";
+
+// The same with a run of the first desk.
+const MORNING_AND_RUN: &str = "\
+1,book,BIKE,2025-01-20,12,\n\
+1,book,BIKE,2025-02-03,25,\n\
+2,ask,BIKE,2025-01-06,,\n\
+2,book,BIKE,2025-01-13,15,\n\
+2,book,BIKE,2025-01-06,10,\n\
+1,ask,BIKE,2025-01-20,,\n\
+1,run,,,,\n";
+
+// The calls of the first desk, with its run, and of the second: what stands between a row's desk and
+// its reply.
+const FIRST: &str = "book,BIKE,3,12,,\nbook,BIKE,5,25,,\nask,BIKE,3,,,\nrun,,,,,\n";
+
+const SECOND: &str = "ask,BIKE,1,,,\nbook,BIKE,2,15,,\nbook,BIKE,1,10,,\n";
+
+// The lines that begin the sections of a day with one run.
+const SECTIONS: &str =
+    "[history]\n[run]\n[promises]\n[plan]\n[orders]\n[pegs]\n[messages]\n[loads]\n";
+
+// The cells of a row from its call to before its reply.
+const CALL_CELLS: usize = 5;
+
+// Puts a call's cells behind a text, if a desk made it.
+fn put_call(calls: &mut String, row: &str, desk: &str) -> Result<(), Fail> {
+    let mut cells = row.split(',').skip(1);
+    if cells.next() != Some(desk) {
+        return Ok(());
+    }
+    for cell in cells.take(CALL_CELLS) {
+        calls.push_str(cell)?;
+        calls.push_str(",")?;
+    }
+    calls.push_str("\n")?;
+    Ok(())
+}
+
+// The calls of a desk in a day's history, line by line.
+fn calls_of(alloc: Global, day: &str, desk: &str) -> Result<String, Fail> {
+    let mut calls = String::new(alloc);
+    for line in day.lines() {
+        if line == "[run]" {
+            return Ok(calls);
+        }
+        put_call(&mut calls, line, desk)?;
+    }
+    Ok(calls)
+}
+
+// The lines of a day that begin its sections.
+fn sections_of(alloc: Global, day: &str) -> Result<String, Fail> {
+    let mut sections = String::new(alloc);
+    for line in day.lines() {
+        if line.starts_with('[') {
+            sections.push_str(line)?;
+            sections.push_str("\n")?;
+        }
+    }
+    Ok(sections)
+}
+
+// Fails unless a day's history has so many entries, numbered from 1.
+fn is_numbered(rt: &impl Abort, day: &str, entries: u64) {
+    let mut count = 0u64;
+    for row in day.lines().skip(2) {
+        if row == "[run]" {
+            break;
+        }
+        count = count.saturating_add(1);
+        let number = match row.split(',').next() {
+            Some(cell) => cell.parse::<u64>().ok(),
+            None => None,
+        };
+        same(rt, number, Some(count));
+    }
+    same(rt, count, entries);
+}
+
+// Fails unless a day is right as far as its history can be told beforehand, and has all sections.
+fn is_morning<R: Abort + Eprint>(rt: &R, alloc: Global, left: &Left) {
+    let day = left.output.as_str();
+    same(rt, left.errors.as_str(), "");
+    same(rt, left.status, 0);
+    is_numbered(rt, day, 7);
+    let first = made(rt, calls_of(alloc, day, "1"));
+    let second = made(rt, calls_of(alloc, day, "2"));
+    let sections = made(rt, sections_of(alloc, day));
+    same(rt, first.as_str(), FIRST);
+    same(rt, second.as_str(), SECOND);
+    same(rt, sections.as_str(), SECTIONS);
+    drop((first, second, sections));
+}
+
+// What the bicycles leave after these calls, by eight workers.
+fn morning_by<R: Alloc + Abort + Eprint + Files + Threads + Wait + Sync>(
+    rt: &R,
+    alloc: Global,
+    script: &str,
+) -> Left {
+    let shop = Records {
+        script,
+        ..bicycles_in_lots()
+    };
+    let bundle = made(rt, shop.bundle(alloc));
+    let words = ["live", "--workers", "8"];
+    let left = left_by(rt, alloc, &words, Streams::of(&bundle));
+    drop(bundle);
+    left
+}
+
+#[test]
+fn each_desk_makes_its_calls_in_order(rt: HostRuntime) {
+    for _ in 0..8 {
+        let left = morning_by(&rt, rt.alloc(), MORNING_AND_RUN);
+        is_morning(&rt, rt.alloc(), &left);
+        drop(left);
+    }
+}
+
+#[test]
+fn the_run_of_a_script_without_one_comes_last(rt: HostRuntime) {
+    for _ in 0..8 {
+        let left = morning_by(&rt, rt.alloc(), MORNING);
+        is_morning(&rt, rt.alloc(), &left);
+        same(
+            &rt,
+            left.output
+                .as_str()
+                .contains("\n7,1,run,,,,,front,7\n[run]\nfront,standing\n7,"),
+            true,
+        );
+        drop(left);
+    }
+}
+
+#[test]
+fn nothing_is_written_where_a_run_of_a_live_day_gets_too_large(rt: HostRuntime) {
+    let shop = Records {
+        script: "1,run,,,,\n1,book,TOP,2025-01-06,1,\n1,run,,,,\n",
+        ..tower()
+    };
+    let bundle = made(&rt, shop.bundle(rt.alloc()));
+    let left = left_by(&rt, rt.alloc(), &["live"], Streams::of(&bundle));
+    has_ended(&rt, &left, 1, "", "too large: B\n");
+    drop((left, bundle));
+}
+
+// A gate that lets the first desk pass only once the second has come to it. It gives up at some time, and
+// then says so.
+#[derive(Drop)]
+struct SecondFirst {
+    second_came: AtomicU64,
+    given_up: AtomicU64,
+}
+
+const MOST_TURNS: u64 = 10_000_000;
+
+impl SecondFirst {
+    // Waits for the second desk; whether it came.
+    fn has_come(&self) -> bool {
+        for _ in 0..MOST_TURNS {
+            if self.second_came.load(Ordering::SeqCst) > 0 {
+                return true;
+            }
+        }
+        false
+    }
+}
+
+impl Gate for SecondFirst {
+    fn pass<R: Wait>(&self, _rt: &R, desk: usize) {
+        if desk == 2 {
+            self.second_came.store(1, Ordering::SeqCst);
+        } else if !self.has_come() {
+            self.given_up.store(1, Ordering::SeqCst);
+        }
+    }
+}
+
+// How many entries desks have made that had to pass a gate.
+fn entries_behind<R: Abort + Eprint + Threads + Wait + Sync>(
+    rt: &R,
+    alloc: Global,
+    script: &str,
+    gate: &SecondFirst,
+) -> usize {
+    let shop = Records {
+        script,
+        ..bicycles_in_lots()
+    };
+    let shop = made(rt, shop.shop(alloc));
+    let (shop, history) = answer_by_desks(rt, alloc, shop, gate).expect(rt, "memory");
+    let count = history.entries().len();
+    drop((shop, history));
+    count
+}
+
+#[test]
+fn a_desk_that_waits_for_another_does_not_hold_it(rt: HostRuntime) {
+    let gate = SecondFirst {
+        second_came: AtomicU64::new(0),
+        given_up: AtomicU64::new(0),
+    };
+    let count = entries_behind(&rt, rt.alloc(), MORNING_AND_RUN, &gate);
+    same(&rt, count, 7);
+    same(&rt, gate.given_up.load(Ordering::SeqCst), 0);
+}

@@ -1,0 +1,57 @@
+-- The records of a desk, one after the other.
+use Rattle.std.proofs.Common.{◌≡◌, ◌∙◌, ◌≢◌, ℕ, ◌+◌, ◌<◌, ◌≤◌, ◌==◌, ◌++◌, Bool, cond, List, [], ◌∷◌, OnOk, Result, Ok, Err, drop, get_or, length, map, take, ap, arith, refl, sym}
+use Rattle.std.proofs.lemmas.Bool.{eq-eqb, ne_eqb}
+use Rattle.std.proofs.lemmas.List.{append-nil, length-append, length-map, map-append, take-append-drop, take_more}
+use Rattle.std.proofs.lemmas.List.Elements.{filter-append}
+use Rattle.mrp_tables.specs.declared.rows.ScriptRow.{ScriptRow}
+use Rattle.mrp_book.specs.declared.call.Call.{Call}
+use Rattle.mrp_book.specs.Standing.{History}
+use Rattle.mrp_book.specs.History.{asked}
+use Rattle.mrp_engine.specs.RightDay.{asked_by}
+use Rattle.mrp_engine.specs.Script.{Script, call_of, record_of}
+
+abbrev pub records : ℕ → List ScriptRow → Script
+records d rows = asked_by d (map record_of rows)
+
+next : (d : ℕ) (rows : List ScriptRow) (k : ℕ) (row : ScriptRow) → k < length rows → row ≡ get_or rows k row
+    → records d (take (k + 1) rows) ≡ records d (take k rows) ++ cond (row.desk == d) (record_of row ∷ []) []
+next d rows k row within is =
+    ap (records d) (take_more rows k row within ∙ ap (λ (r : ScriptRow). take k rows ++ r ∷ []) (sym is))
+    ∙ ap (asked_by d) (map-append record_of (take k rows) (row ∷ []))
+    ∙ filter-append (λ (r : ℕ × Call). r.0 == d) (map record_of (take k rows)) (record_of row ∷ [])
+
+-- the desk's next record
+pub next-own : (d : ℕ) (rows : List ScriptRow) (k : ℕ) (row : ScriptRow) → k < length rows → row ≡ get_or rows k row → row.desk ≡ d
+    → records d (take (k + 1) rows) ≡ records d (take k rows) ++ (d, call_of row.call) ∷ []
+next-own d rows k row within is own =
+    next d rows k row within is ∙ ap (λ (b : Bool). records d (take k rows) ++ cond b (record_of row ∷ []) []) (eq-eqb row.desk d own)
+    ∙ ap (λ (n : ℕ). records d (take k rows) ++ (n, call_of row.call) ∷ []) own
+
+-- another desk's record
+pub next-other : (d : ℕ) (rows : List ScriptRow) (k : ℕ) (row : ScriptRow) → k < length rows → row ≡ get_or rows k row → row.desk ≢ d
+    → records d (take (k + 1) rows) ≡ records d (take k rows)
+next-other d rows k row within is other =
+    next d rows k row within is ∙ ap (λ (b : Bool). records d (take k rows) ++ cond b (record_of row ∷ []) []) (ne_eqb row.desk d other)
+    ∙ append-nil (records d (take k rows))
+
+-- a front of the rows has no more records of the desk
+pub front-few : (d : ℕ) (rows : List ScriptRow) (k : ℕ) → length (records d (take k rows)) ≤ length (records d rows)
+front-few d rows k =
+    let whole : records d rows ≡ records d (take k rows) ++ records d (drop k rows) =
+    ap (records d) (sym (take-append-drop k rows)) ∙ ap (asked_by d) (map-append record_of (take k rows) (drop k rows))
+    ∙ filter-append (λ (r : ℕ × Call). r.0 == d) (map record_of (take k rows)) (map record_of (drop k rows)) in
+    let lengths = ap (length {A = ℕ × Call}) whole ∙ length-append (records d (take k rows)) (records d (drop k rows)) in
+    omega (arith, lengths)
+
+-- how many entries there are, by what they asked
+pub entries-of : (new old : History) (xs : Script) → asked new ≡ asked old ++ xs → length new ≡ length old + length xs
+entries-of new old xs is =
+    let a = length-map {B = ℕ × Call} new (λ e. (e.who, e.call)) in
+    let b = length-map {B = ℕ × Call} old (λ e. (e.who, e.call)) in
+    let c = ap (length {A = ℕ × Call}) is ∙ length-append (asked old) xs in
+    omega (arith, a, b, c)
+
+-- what holds of an answered call, of a call that was not refused
+pub ok-then : {U E : Type 0} (r : Result U E) (P : Type 0) → OnOk r P → ((e : E) → r ≡ Err e → ⊥) → P
+ok-then (Ok u) P p not-refused = p
+ok-then (Err e) P p not-refused = absurd (not-refused e refl)

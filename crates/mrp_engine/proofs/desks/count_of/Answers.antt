@@ -1,0 +1,24 @@
+use Rattle.std.proofs.Common.{◌≤◌, List, arith, get_or, subst, sym, take}
+use Rattle.std.specs.Prelude.{All}
+use Rattle.std.proofs.lemmas.List.{take_all}
+use Rattle.std.proofs.lemmas.List.Elements.{All-more, All-weaker}
+use Rattle.mrp_tables.specs.declared.limits.TheConstants.{MOST_DESKS}
+use Rattle.mrp_tables.specs.declared.rows.ScriptRow.{ScriptRow}
+use Rattle.mrp_engine.proofs.desks.count_of.Goals as goal
+
+pub loop-row-preserved : goal.loop-row-preserved
+loop-row-preserved c =
+    let rows = c.args.script.now in
+    let k = c.loop-row.row-index in
+    let row = c.row-item.result in
+    let m = c.max-count.result in
+    let is = c.max-count.ensures in
+    let (one, most, all) = c.loop-row.invariant in
+    let desk : row.desk ≤ MOST_DESKS = subst (λ (r : ScriptRow). r.desk ≤ MOST_DESKS) (sym c.row-item.is) (c.requires k row c.loop-row-test.true) in
+    let here : (get_or rows k row).desk ≤ m = subst (λ (r : ScriptRow). r.desk ≤ m) c.row-item.is (omega (arith, is)) in
+    let before = All-weaker (λ (r : ScriptRow). r.desk ≤ c.loop-row.count) (λ (r : ScriptRow). r.desk ≤ m) (λ r le. omega (arith, is, le)) (take k rows) all in
+    (omega (arith, is, one), omega (arith, is, most, desk), All-more (λ (r : ScriptRow). r.desk ≤ m) rows k row c.loop-row-test.true before here)
+
+pub returns-clause-all : goal.returns-clause-all
+returns-clause-all c =
+    subst (λ (rows : List ScriptRow). All (λ row. row.desk ≤ c.loop-row.count) rows) (take_all c.loop-row.row-index c.args.script.now c.loop-row-test.false) c.loop-row.invariant.2

@@ -1,0 +1,7 @@
+use Rattle.std.proofs.Common.{◌≤◌, take}
+use Rattle.std.specs.Prelude.{All}
+use Rattle.mrp_tables.specs.declared.limits.TheConstants.{MOST_DESKS}
+use Rattle.mrp_engine.proofs.desks.count_of.Given as goal
+
+abbrev pub invariant-loop-row : goal.invariant-loop-row
+invariant-loop-row l = (1 ≤ l.count) × (l.count ≤ MOST_DESKS) × All (λ row. row.desk ≤ l.count) (take l.row-index l.script)

@@ -1,0 +1,51 @@
+use Rattle.std.proofs.Common.{◌≡◌, ◌∙◌, ◌<◌, ℕ, List, [], length, take, ap, sym, subst, arith, rules}
+use Rattle.std.proofs.lemmas.List.{length-take}
+use Rattle.mrp_report.specs.Chunks.{between, count_of, end_of, row_of, rows_in}
+use Rattle.mrp_report.proofs.ChunkTexts.{reach-past, rows-between}
+use Rattle.mrp_report.proofs.PlacesWritten.{next-wave, wave-front}
+use Rattle.mrp_report.proofs.Progress.{IsWritten, given-up, gone-on-then, on-err, taken-whole}
+use Rattle.mrp_report.proofs.wave.write_waves.Goals as goal
+
+pub loop-from-preserved : goal.loop-from-preserved
+loop-from-preserved g c =
+    let chunks = c.args.chunks.now in
+    let k : ℕ = length (take c.min-size.result c.loop-from.slots) in
+    let same : k ≡ c.min-size.result = omega (arith, length-take c.min-size.result c.loop-from.slots, c.min-size.ensures) in
+    let there : c.reach-from.result ≡ end_of chunks c.loop-from.from k = c.reach-from.ensures ∙ ap (end_of chunks c.loop-from.from) (sym same) in (
+      omega (arith, c.reach-from.ensures),
+      subst (λ (n : ℕ). IsWritten g.W.Write.contents c.args.writer.now c.write_wave.new.writer c.args.tries.now c.write_wave.new.tries [] (between (row_of chunks) 0 n)) (sym there)
+          (next-wave g.W.Write.contents c.args.writer.now c.args.tries.now c.loop-from.writer c.write_wave.new.writer c.loop-from.tries c.write_wave.new.tries chunks c.loop-from.from k c.loop-from.invariant.0
+          c.loop-from.invariant.1 c.in_ok-write_wave.ensures.tries c.in_ok-write_wave.ensures.whole),
+    )
+
+pub loop-from-smaller : goal.loop-from-smaller
+loop-from-smaller g c =
+    let chunks = c.args.chunks.now in
+    let some : 0 < c.min-size.result = omega (arith, c.min-size.ensures, c.left.ensures.some, c.requires, c.loop-from.auto.slots) in
+    let within : c.loop-from.from < count_of chunks = omega (arith, c.count-count.ensures, c.loop-from-test.true) in
+    let past : c.loop-from.from < end_of chunks c.loop-from.from c.min-size.result = reach-past (count_of chunks) chunks.size c.loop-from.from c.min-size.result within c.left.ensures.filled some in
+    omega (arith, past, within, c.reach-from.ensures, c.count-count.ensures)
+
+pub returns-in_err-write_wave-clause-front : goal.returns-in_err-write_wave-clause-front
+returns-in_err-write_wave-clause-front g c =
+    on-err c.from_residual.result
+    (wave-front g.W.Write.contents c.args.writer.now c.args.tries.now c.loop-from.writer c.write_wave.new.writer c.loop-from.tries c.args.chunks.now c.loop-from.from (length (take c.min-size.result c.loop-from.slots)) c.loop-from.invariant.0
+    c.loop-from.invariant.1 c.in_err-write_wave.ensures.front)
+
+pub returns-in_err-write_wave-clause-refused : goal.returns-in_err-write_wave-clause-refused
+returns-in_err-write_wave-clause-refused g c refused =
+    given-up g.W.Write.contents c.args.writer.now c.loop-from.writer c.write_wave.new.writer c.args.tries.now c.loop-from.tries [] (between (row_of c.args.chunks.now) 0 c.loop-from.from) c.loop-from.invariant.1
+    (c.in_err-write_wave.ensures.refused (search rules))
+
+pub returns-in_err-write_wave-clause-memory : goal.returns-in_err-write_wave-clause-memory
+returns-in_err-write_wave-clause-memory g c refused =
+    gone-on-then g.W.Write.contents c.args.writer.now c.loop-from.writer c.write_wave.new.writer c.args.tries.now c.loop-from.tries [] (between (row_of c.args.chunks.now) 0 c.loop-from.from) c.loop-from.invariant.1
+    (c.in_err-write_wave.ensures.memory (search rules))
+
+pub returns-clause-whole : goal.returns-clause-whole
+returns-clause-whole g c =
+    let chunks = c.args.chunks.now in
+    let all : c.loop-from.from ≡ count_of chunks = omega (arith, c.loop-from.invariant.0, c.loop-from-test.false) in
+    let whole : between (row_of chunks) 0 c.loop-from.from ≡ rows_in chunks = ap (between (row_of chunks) 0) all ∙ sym (rows-between chunks) in
+    taken-whole g.W.Write.contents c.args.writer.now c.loop-from.writer c.args.tries.now c.loop-from.tries (rows_in chunks)
+    (subst (λ (t : List ℕ). IsWritten g.W.Write.contents c.args.writer.now c.loop-from.writer c.args.tries.now c.loop-from.tries [] t) whole c.loop-from.invariant.1)
