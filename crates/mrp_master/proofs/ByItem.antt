@@ -1,16 +1,13 @@
 -- The firm rows of each item, one row at a time.
-use Rattle.std.proofs.Common.{◌≡◌, ◌≢◌, ◌∙◌, ℕ, ◌+◌, ◌<◌, ◌≤◌, ◌&&◌, Bool, true, false, cond, eqb, List, [], ◌∷◌, ◌++◌, length, take, map, get_or, set, refl, sym, ap, arith}
-use Rattle.std.specs.Prelude.{filter}
+use Rattle.std.proofs.Common.{◌≡◌, ◌≢◌, ◌∙◌, ℕ, ◌+◌, ◌<◌, ◌≤◌, Bool, true, false, cond, eqb, List, [], ◌∷◌, ◌++◌, length, take, map, get_or, set, refl, sym, ap, arith}
 use Rattle.std.specs.Global.{Vec}
 use Rattle.std.specs.List.{range_with_len}
-use Rattle.std.proofs.lemmas.List.{append-nil, get_or-map, get_or-set_same, get_or-set_other, length-map, map-append, map-set, take_all}
-use Rattle.std.proofs.lemmas.List.Elements.{filter_more}
+use Rattle.std.proofs.lemmas.List.{append-nil, get_or-map, get_or-set_same, get_or-set_other, length-map, map-set, take_all}
 use Rattle.std.proofs.lemmas.List.FromFn.{fill_by_all}
 use Rattle.std.proofs.lemmas.Bool.{eqb-true, eqb-false}
 use Rattle.mrp_tables.specs.declared.rows.MasterRow.{MasterRow}
 use Rattle.mrp_master.specs.declared.line.Line.{Line}
-use Rattle.mrp_tables.specs.Master.{is_firm}
-use Rattle.mrp_master.specs.Supply.{firm_lines, line}
+use Rattle.mrp_master.specs.Supply.{firm_lines}
 
 -- one row more of an item, told of each item
 pub rows_add : (lists : List (Vec Line)) (at i : ℕ) (old new : Vec Line) (l : Line) → at < length lists → old ≡ get_or lists at old → new.items ≡ old.items ++ l ∷ []
@@ -28,24 +25,6 @@ rows_add lists at i old new l h read pushed = by (eqb at i) refl
     by false e =
         let other : i ≢ at = (let no : at ≢ i = eqb-false at i e in omega arith) in
         rw (map-set (λ (w : Vec Line). w.items) lists at new) (get_or-set_other (map (λ w. w.items) lists) at i new.items [] other) ∙ sym (append-nil (get_or (map (λ w. w.items) lists) i []))
-
--- the firm rows of an item, with one row more of the table
-pub firm_lines_more : (rows : List MasterRow) (k i : ℕ) (r : MasterRow) → k < length rows → r ≡ get_or rows k r
-    → firm_lines (take (k + 1) rows) i ≡ firm_lines (take k rows) i ++ cond (eqb r.item i && is_firm r.kind) (line r.item r.week r.quantity ∷ []) []
-firm_lines_more rows k i r h is =
-    ap (map to_line) (filter_more keep rows k r h ∙ ap (λ (x : MasterRow). filter keep (take k rows) ++ cond (keep x) (x ∷ []) []) (sym is))
-    ∙ map-append to_line (filter keep (take k rows)) (cond (keep r) (r ∷ []) [])
-    ∙ ap (λ xs. map to_line (filter keep (take k rows)) ++ xs) (by (keep r))
-  where
-    to_line : MasterRow → Line
-    to_line x = line x.item x.week x.quantity
-
-    keep : MasterRow → Bool
-    keep x = eqb x.item i && is_firm x.kind
-
-    by : (b : Bool) → map to_line (cond b (r ∷ []) []) ≡ cond b (to_line r ∷ []) []
-    by true = refl
-    by false = refl
 
 -- the firm rows of each item, once every row was read
 pub firm_lines_all : (rows : List MasterRow) (firm : List (List Line)) (n k : ℕ) → length firm ≡ n → length rows ≤ k

@@ -1,23 +1,13 @@
 -- A report's text, section by section, and a section's, item by item or work centre by work centre.
-use Rattle.std.proofs.Common.{◌≡◌, ◌∙◌, ℕ, ◌+◌, ◌<◌, List, [], ◌∷◌, ◌++◌, length, get_or, sym, ap, arith}
+use Rattle.std.proofs.Common.{◌≡◌, ◌∙◌, List, [], ◌∷◌, ◌++◌, ℕ, length, sym, ap}
 use Rattle.std.proofs.lemmas.List.{append-nil, flat_map_more}
-use Rattle.std.proofs.lemmas.List.FromFn.{get_or-range_with_len, length-range_with_len}
 use Rattle.std.specs.List.{flat_map}
 use Rattle.mrp_item.specs.Inputs.{Inputs}
 use Rattle.mrp_report.specs.ReportText.{loads_text, messages_text, orders_text, pegs_text, plan_text, promises_text, report_text}
 use Rattle.mrp_report.specs.RunText.{run_text}
-use Rattle.mrp_report.specs.Sections.{count_in, places_in, section_text}
+use Rattle.mrp_report.specs.Sections.{section_text}
 use Rattle.mrp_report.specs.declared.section.Section.{Section}
 use Rattle.mrp_report.specs.declared.section.Section.TheVariants as section
-
--- the item or work centre at a place
-pub item-at : (s : Inputs) (x : Section) (k d : ℕ) → k < count_in s x → k ≡ get_or (places_in s x) k d
-item-at s x k d within =
-    let place : 0 + k ≡ k = omega arith in
-    sym (get_or-range_with_len 0 (count_in s x) k d within ∙ place)
-
-pub all-places : (s : Inputs) (x : Section) → length (places_in s x) ≡ count_in s x
-all-places s x = length-range_with_len 0 (count_in s x)
 
 -- these sections, in the order in which they are written
 abbrev pub in_order : List Section

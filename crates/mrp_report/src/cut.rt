@@ -5,9 +5,11 @@ ghost use Rattle.std.specs.Prelude.{◌≡◌, ◌<◌};
 use crate::readings::Readings;
 use crate::section::Section;
 
-// About how many rows a chunk has in a section with a row for each week: a megabyte of text, which
-// is worth a thread.
+// About how many rows a chunk has: a megabyte of text, which is worth a thread.
 const ROWS: usize = 32_768;
+
+// About how many pegs of an item there are for a week, where items have many parents.
+const PEGS: usize = 16;
 
 // A section's rows, cut into chunks of so many places each.
 #[derive(Drop)]
@@ -24,10 +26,14 @@ impl<'a> Chunks<'a> {
         ensures section { result.section ≡ section }
     {
         let weeks = usize::from(readings.plan.inputs().weeks());
+        let rows = match section {
+            Section::Pegs => weeks.saturating_mul(PEGS),
+            _ => weeks,
+        };
         Chunks {
             readings,
             section,
-            size: (ROWS / weeks.max(1)).max(1),
+            size: (ROWS / rows.max(1)).max(1),
         }
     }
 }

@@ -1,0 +1,82 @@
+-- What a row shows are its cells, and what a page begins and ends with.
+use Rattle.std.proofs.Common.{◌≡◌, ◌∙◌, ◌⊎◌, ◌+◌, ◌<◌, ◌≤◌, ℕ, zero, suc, List, [], ◌∷◌, ◌++◌, codes, drop, get_or, length, refl, sym, ap, arith, append_assoc, inl, inr}
+use Rattle.std.proofs.lemmas.Bool.{cases_lt}
+use Rattle.std.proofs.lemmas.List.{append-nil, get_or_past}
+use Rattle.std.proofs.lemmas.List.Concat.{flat_map-append, flat_map-cons}
+use Rattle.std.proofs.lemmas.List.Elements.{All-append, All-cons, All-nil, Contains-get_or}
+use Rattle.std.specs.List.{All, Contains, flat_map}
+use Rattle.mrp_page.specs.Draw.{history_html, todo_html}
+use Rattle.mrp_page.specs.Html.{number_tag}
+use Rattle.mrp_page.specs.ItemRows.{item_lists}
+use Rattle.mrp_page.specs.Laws.{Piece, part_pieces, piece_html, pieces, shown, text_of}
+use Rattle.mrp_page.specs.Layout.{page_end, page_top}
+use Rattle.mrp_page.specs.Notes.{Noted}
+use Rattle.mrp_page.specs.Page.{head_html, item_section, load_section, page_html, rest_html, top_html}
+use Rattle.mrp_page.specs.Row.{RowView, cell_at}
+use Rattle.mrp_page.specs.Rows.{rows_in}
+use Rattle.mrp_page.specs.Template.{Drawn, Mark, Number, Text, Where, part_html, row_html}
+use Rattle.mrp_page.specs.declared.section.Section.TheVariants as s
+
+part-is : (row : RowView) (part : Drawn) → part_html row part ≡ flat_map piece_html (part_pieces row part)
+part-is row (Mark markup) = sym (append-nil markup)
+part-is row (Where column word markup) = sym (append-nil _)
+part-is row (Text column) = sym (append-nil _)
+part-is row (Number column) = refl
+
+pub drawn-is : (parts : List Drawn) (row : RowView) → row_html parts row ≡ flat_map piece_html (pieces row parts)
+unfolding row_html pieces
+drawn-is [] row = refl
+drawn-is (part ∷ parts) row =
+    ap (λ (t : List ℕ). t ++ flat_map (part_html row) parts) (part-is row part) ∙ ap (λ (t : List ℕ). flat_map piece_html (part_pieces row part) ++ t) (drawn-is parts row)
+    ∙ sym (flat_map-append piece_html (part_pieces row part) (flat_map (part_pieces row) parts))
+
+abbrev IsCell : RowView → List ℕ → Type 0
+IsCell row text = (text ≡ []) ⊎ Contains row.cells text
+
+is-cell : (row : RowView) (column : ℕ) → IsCell row (cell_at row column)
+is-cell row column = by (cases_lt column (length row.cells))
+  where
+    by : (column < length row.cells) ⊎ (length row.cells ≤ column) → IsCell row (cell_at row column)
+    by (inl within) = inr (Contains-get_or row.cells column [] within)
+    by (inr past) = inl (get_or_past row.cells column [] past)
+
+-- one text
+one : (row : RowView) (text : List ℕ) → IsCell row text → All (IsCell row) (text ∷ [])
+one row text is = All-cons (IsCell row) text [] is (All-nil (IsCell row))
+
+none : (row : RowView) → All (IsCell row) []
+none row = All-nil (IsCell row)
+
+part-cells : (row : RowView) (part : Drawn) → All (IsCell row) (flat_map text_of (part_pieces row part))
+part-cells row (Mark markup) = none row
+part-cells row (Where column word markup) = none row
+part-cells row (Text column) = one row (cell_at row column) (is-cell row column)
+part-cells row (Number column) = one row (cell_at row column) (is-cell row column)
+
+pub shown-cells : (parts : List Drawn) (row : RowView) → All (λ text. (text ≡ []) ⊎ Contains row.cells text) (shown (pieces row parts))
+unfolding shown pieces
+shown-cells [] row = none row
+shown-cells (part ∷ parts) row =
+    rw (flat_map-append text_of (part_pieces row part) (flat_map (part_pieces row) parts)) (All-append (IsCell row) (flat_map text_of (part_pieces row part)) (shown (pieces row parts)) (part-cells row part) (shown-cells parts row))
+
+-- a page begins with its type
+pub begins : (title : List ℕ) (notes : Noted) → (rest : List ℕ) × (page_html title notes ≡ codes "<!doctype html>" ++ rest)
+unfolding page_html top_html head_html row_html page_top
+begins title notes = (drop 15 (page_html title notes), refl)
+
+joined : (a b c d e f g : List ℕ) → a ++ (b ++ (c ++ (d ++ (e ++ (f ++ g))))) ≡ (a ++ (b ++ (c ++ (d ++ (e ++ f))))) ++ g
+joined a b c d e f g = sym (simp append_assoc)
+
+-- and ends with its end
+pub ends : (title : List ℕ) (notes : Noted) → (front : List ℕ) × (page_html title notes ≡ front ++ (codes "</html>" ++ 10 ∷ []))
+unfolding page_html rest_html page_end
+ends title notes =
+    let top = top_html title (rows_in s.Run notes.report) (rows_in s.Plan notes.report) in
+    let todo = todo_html (rows_in s.Messages notes.report) in
+    let loads = load_section (rows_in s.Loads notes.report) in
+    let items = item_section (item_lists notes.report) in
+    let history = history_html notes.history in
+    let last = codes "</main>\n</body>\n" in (
+      top ++ (todo ++ (loads ++ (items ++ (history ++ last)))),
+      joined top todo loads items history last (codes "</html>" ++ 10 ∷ []),
+    )

@@ -1,0 +1,7 @@
+use Rattle.std.proofs.Common.{◌≡◌, map}
+use Rattle.mrp_page.specs.Template.{number_at}
+use Rattle.mrp_page.proofs.Pieces.{so_far}
+use Rattle.mrp_page.proofs.template.put_numbers.Given as goal
+
+abbrev pub invariant-loop-row : goal.invariant-loop-row
+invariant-loop-row l = l.page ≡ so_far l.fn.page (number_at l.column) l.rows l.row-index

@@ -1,0 +1,36 @@
+-- What a row shows.
+use Rattle.std.specs.Prelude.{ℕ, List, [], ◌∷◌, ◌++◌, codes, flat_map, if◌then◌else◌}
+use Rattle.mrp_page.specs.Escaped.{escaped}
+use Rattle.mrp_page.specs.Html.{number_tag}
+use Rattle.mrp_page.specs.Row.{RowView, cell_at}
+use Rattle.mrp_page.specs.Template.{Drawn, Mark, Number, Text, Where, has_word, markup_if}
+
+-- a piece of a page: markup, which is no text of a day, or a text
+pub data Piece : Type 0 where
+  Markup : List ℕ → Piece
+  Escaped : List ℕ → Piece
+
+-- markup as it is, a text escaped
+abbrev pub piece_html : Piece → List ℕ
+piece_html (Markup markup) = markup
+piece_html (Escaped text) = escaped text
+
+-- the text of a piece
+abbrev pub text_of : Piece → List (List ℕ)
+text_of (Markup markup) = []
+text_of (Escaped text) = text ∷ []
+
+-- the texts that pieces show
+unfoldable pub shown : List Piece → List (List ℕ)
+shown pieces = flat_map text_of pieces
+
+-- the pieces that a part of a row is drawn as
+abbrev pub part_pieces : RowView → Drawn → List Piece
+part_pieces row (Mark markup) = Markup markup ∷ []
+part_pieces row (Where column word markup) = Markup (markup_if (has_word column word row) markup) ∷ []
+part_pieces row (Text column) = Escaped (cell_at row column) ∷ []
+part_pieces row (Number column) = Markup (number_tag (cell_at row column)) ∷ Escaped (cell_at row column) ∷ Markup (codes "</td>") ∷ []
+
+-- the pieces that a row is drawn as
+unfoldable pub pieces : RowView → List Drawn → List Piece
+pieces row parts = flat_map (part_pieces row) parts

@@ -1,0 +1,309 @@
+-- The parts of a page: what its rows are drawn as.
+use Rattle.std.specs.Prelude.{ℕ, List, [], ◌∷◌, codes}
+use Rattle.mrp_page.specs.Template.{Drawn, Mark, Number, Text, Where}
+
+-- the style sheet
+unfoldable pub style : List ℕ
+style = codes "*{box-sizing:border-box}\nbody{font:15px/1.45 system-ui,sans-serif;max-width:72rem;margin:0 auto;padding:1rem 1.2rem 3rem;color:#1d2733;background:#fff}\nh1{font-size:1.5rem;margin:.4rem 0 0}\nh2{font-size:1.15rem;margin:0 0 .4rem}\nheader p,caption,.grid thead th,.list thead th{color:#566472}\nheader p{margin:.1rem 0 1rem}\nheader b{color:#1d2733}\nsection{border-top:1px solid #dde3ea;padding:1rem 0}\ntable{border-collapse:collapse;font-variant-numeric:tabular-nums}\ncaption{text-align:left;padding:.2rem 0}\nth{font-weight:400;text-align:left}\na{color:#2b6cb0}\n.scroll{overflow-x:auto;margin:.3rem 0 .6rem}\n.todo th,.todo td{padding:.12rem 1rem .12rem 0;vertical-align:top}\n.todo td{border-left:4px solid #cbd5e0;padding-left:.6rem}\n.todo .late td{border-color:#c53030}\n.todo .release td{border-color:#2f855a}\n.todo .in td{border-color:#b7791f}\n.todo .out td{border-color:#2b6cb0}\n.todo tbody:empty::after{content:\"Nothing to do\"}\n.grid th:first-child{position:sticky;left:0;z-index:1;background:#fff;padding-right:1rem;white-space:nowrap}\n.grid td,.grid thead th+th{min-width:3.4rem;padding:.1rem .4rem .1rem 0;text-align:right}\n.grid thead th{border-bottom:1px solid #dde3ea}\n.grid .strong th,.grid .strong td{font-weight:600}\n.z{color:#98a5b2}\n.grid .over td:not(.z){color:#b32626;font-weight:600}\n.grid .over td:not(.z)::before{content:\"+\"}\n.grid .chart td{padding:.3rem 0}\nsvg{display:block;width:100%;height:4.2rem;overflow:visible}\npolyline{fill:none;stroke:#2b6cb0;stroke-width:2;vector-effect:non-scaling-stroke}\nrect.load{fill:#7fb0e3}\nrect.over{fill:#c53030}\npath{stroke:#1d2733;stroke-width:2;vector-effect:non-scaling-stroke}\nsummary{cursor:pointer}\n.list{margin:.3rem 0 .8rem}\n.list th,.list td{padding:.1rem 1.2rem .1rem 0;text-align:right}\n.list .t,.list th[scope=row]{text-align:left}\n@media (max-width:30rem){body{padding:.6rem}.grid th:first-child{white-space:normal;max-width:8.5rem}}\n@media print{body{max-width:none;font-size:11px}.scroll{overflow:visible}section{break-inside:avoid}}\n"
+
+-- what stands before the style sheet: the title
+unfoldable pub page_top : List Drawn
+page_top =
+    Mark (codes "<!doctype html>\n<html lang=\"en\">\n<head>\n<meta charset=\"utf-8\">\n<meta name=\"viewport\" content=\"width=device-width, initial-scale=1\">\n<title>") ∷
+    Text 0 ∷
+    Mark (codes "</title>\n<style>\n") ∷ []
+
+-- the head of a page: the title, the entry that the plan stands at, the bookings that stand there, the weeks
+unfoldable pub page_head : List Drawn
+page_head =
+    Mark (codes "</style>\n</head>\n<body>\n<header>\n<h1>") ∷
+    Text 0 ∷
+    Mark (codes "</h1>\n<p>Plan at entry <b>") ∷
+    Text 1 ∷
+    Mark (codes "</b> of the history, with <b>") ∷
+    Text 2 ∷
+    Mark (codes "</b> bookings standing, over <b>") ∷
+    Text 3 ∷
+    Mark (codes "</b> weeks</p>\n</header>\n<main>\n") ∷ []
+
+-- a message, in plain words, which leads to its item
+unfoldable pub task : List Drawn
+task =
+    Mark (codes "<tr class=\"") ∷
+    Where 3 (codes "PAST-DUE") (codes "late") ∷
+    Where 3 (codes "RELEASE") (codes "release") ∷
+    Where 3 (codes "IN") (codes "in") ∷
+    Where 3 (codes "OUT") (codes "out") ∷
+    Where 3 (codes "CANCEL") (codes "cancel") ∷
+    Mark (codes "\"><th scope=row><a href=\"#i-") ∷
+    Text 0 ∷
+    Mark (codes "\">") ∷
+    Text 0 ∷
+    Mark (codes "</a></th><td>") ∷
+    Where 3 (codes "PAST-DUE") (codes "Past due, start now: ") ∷
+    Where 3 (codes "RELEASE") (codes "Release now: ") ∷
+    Where 3 (codes "IN") (codes "Bring in: ") ∷
+    Where 3 (codes "OUT") (codes "Put off: ") ∷
+    Where 3 (codes "CANCEL") (codes "Cancel: ") ∷
+    Text 1 ∷
+    Mark (codes " ") ∷
+    Text 2 ∷
+    Where 3 (codes "IN") (codes " to week ") ∷
+    Where 3 (codes "OUT") (codes " to week ") ∷
+    Where 3 (codes "PAST-DUE") (codes ", weeks late: ") ∷
+    Text 4 ∷
+    Mark (codes "</td></tr>\n") ∷ []
+
+-- a week of a heading
+unfoldable pub week : List Drawn
+week =
+    Mark (codes "<th scope=col>") ∷
+    Text 1 ∷
+    Mark (codes "</th>") ∷ []
+
+-- an entry of the history
+unfoldable pub entry : List Drawn
+entry =
+    Mark (codes "<tr><th scope=row>") ∷
+    Text 0 ∷
+    Mark (codes "</th>") ∷
+    Number 1 ∷
+    Mark (codes "<td class=t>") ∷
+    Text 2 ∷
+    Mark (codes "</td><td class=t>") ∷
+    Text 3 ∷
+    Mark (codes "</td>") ∷
+    Number 4 ∷
+    Number 5 ∷
+    Number 6 ∷
+    Mark (codes "<td class=t>") ∷
+    Text 7 ∷
+    Mark (codes "</td>") ∷
+    Number 8 ∷
+    Mark (codes "</tr>\n") ∷ []
+
+-- an order
+unfoldable pub order : List Drawn
+order =
+    Mark (codes "<tr><th scope=row>") ∷
+    Text 1 ∷
+    Mark (codes "</th><td class=t>") ∷
+    Text 2 ∷
+    Mark (codes "</td>") ∷
+    Number 3 ∷
+    Number 4 ∷
+    Number 5 ∷
+    Number 6 ∷
+    Number 7 ∷
+    Mark (codes "</tr>\n") ∷ []
+
+-- a peg: which supply serves which requirement
+unfoldable pub peg : List Drawn
+peg =
+    Mark (codes "<tr>") ∷
+    Number 1 ∷
+    Mark (codes "<td class=t>") ∷
+    Where 2 (codes "booking") (codes "booking ") ∷
+    Where 2 (codes "forecast") (codes "forecast") ∷
+    Where 2 (codes "parent") (codes "order ") ∷
+    Where 2 (codes "surplus") (codes "surplus") ∷
+    Text 3 ∷
+    Where 2 (codes "parent") (codes " of ") ∷
+    Text 4 ∷
+    Where 2 (codes "parent") (codes ", bill line ") ∷
+    Text 5 ∷
+    Mark (codes "</td><td class=t>") ∷
+    Text 6 ∷
+    Mark (codes " ") ∷
+    Text 7 ∷
+    Mark (codes "</td>") ∷
+    Number 8 ∷
+    Mark (codes "</tr>\n") ∷ []
+
+-- the heading of a work centre, of its name
+unfoldable pub centre_head : List Drawn
+centre_head =
+    Mark (codes "<div class=scroll><table class=grid>\n<caption>") ∷
+    Text 0 ∷
+    Mark (codes "</caption>\n<thead><tr><th scope=col>Week</th>") ∷ []
+
+-- the frame of loads, of the name, the weeks and the greatest number
+unfoldable pub load_chart : List Drawn
+load_chart =
+    Mark (codes "<tr class=chart><th scope=row>Load; the line is capacity</th><td colspan=\"") ∷
+    Text 1 ∷
+    Mark (codes "\"><svg role=\"img\" viewBox=\"0.5 -") ∷
+    Text 2 ∷
+    Mark (codes " ") ∷
+    Text 1 ∷
+    Mark (codes " ") ∷
+    Text 2 ∷
+    Mark (codes "\" preserveAspectRatio=\"none\"><title>Load against capacity of ") ∷
+    Text 0 ∷
+    Mark (codes "</title><g transform=\"translate(-.4) scale(1 -1)\">") ∷ []
+
+-- the load of a week, with what is over, and its capacity
+unfoldable pub bar : List Drawn
+bar =
+    Mark (codes "<rect class=\"load\" x=\"") ∷
+    Text 1 ∷
+    Mark (codes "\" width=\".8\" height=\"") ∷
+    Text 2 ∷
+    Mark (codes "\"/><rect class=\"over\" x=\"") ∷
+    Text 1 ∷
+    Mark (codes "\" y=\"") ∷
+    Text 3 ∷
+    Mark (codes "\" width=\".8\" height=\"") ∷
+    Text 4 ∷
+    Mark (codes "\"/><path d=\"M") ∷
+    Text 1 ∷
+    Mark (codes " ") ∷
+    Text 3 ∷
+    Mark (codes "h.8\"/>") ∷ []
+
+-- the heading of an item, of its name
+unfoldable pub item_head : List Drawn
+item_head =
+    Mark (codes "<section class=item id=\"i-") ∷
+    Text 0 ∷
+    Mark (codes "\">\n<h2>") ∷
+    Text 0 ∷
+    Mark (codes "</h2>\n") ∷ []
+
+-- the heading of an item's time-phased record, of its name
+unfoldable pub record_head : List Drawn
+record_head =
+    Mark (codes "<div class=scroll><table class=grid>\n<caption>Time-phased record of ") ∷
+    Text 0 ∷
+    Mark (codes "</caption>\n<thead><tr><th scope=col>Week</th>") ∷ []
+
+-- the frame of balances, of the name, the weeks and the greatest number
+unfoldable pub balance_chart : List Drawn
+balance_chart =
+    Mark (codes "<tr class=chart><th scope=row>Balance</th><td colspan=\"") ∷
+    Text 1 ∷
+    Mark (codes "\"><svg role=\"img\" viewBox=\"0.5 -") ∷
+    Text 2 ∷
+    Mark (codes " ") ∷
+    Text 1 ∷
+    Mark (codes " ") ∷
+    Text 2 ∷
+    Mark (codes "\" preserveAspectRatio=\"none\"><title>Projected available balance of ") ∷
+    Text 0 ∷
+    Mark (codes "</title><polyline transform=\"scale(1 -1)\" points=\"") ∷ []
+
+-- a week and its balance
+unfoldable pub point : List Drawn
+point =
+    Text 1 ∷
+    Mark (codes ",") ∷
+    Text 7 ∷
+    Mark (codes " ") ∷ []
+
+-- what the section of what is to be done begins with
+unfoldable pub todo_open : List ℕ
+todo_open = codes "<section id=todo>\n<h2>To do</h2>\n<table class=todo><thead><tr><th scope=col>Item</th><th scope=col>What to do</th></tr></thead>\n<tbody>"
+
+-- and what it ends with
+unfoldable pub todo_end : List ℕ
+todo_end = codes "</tbody></table>\n</section>\n"
+
+-- what an item's messages begin with
+unfoldable pub item_tasks_open : List ℕ
+item_tasks_open = codes "<table class=todo><tbody>"
+
+-- and what they end with
+unfoldable pub item_tasks_end : List ℕ
+item_tasks_end = codes "</tbody></table>\n"
+
+-- what the weeks of a table end with
+unfoldable pub weeks_end : List ℕ
+weeks_end = codes "</tr></thead>\n<tbody>\n"
+
+-- what the picture of loads ends with
+unfoldable pub bars_end : List ℕ
+bars_end = codes "</g></svg></td></tr>\n"
+
+-- what the picture of balances ends with
+unfoldable pub points_end : List ℕ
+points_end = codes "\"/></svg></td></tr>\n"
+
+-- the label of a row
+unfoldable pub load_label : List ℕ
+load_label = codes "<tr><th scope=row>Load</th>"
+
+-- the label of a row
+unfoldable pub capacity_label : List ℕ
+capacity_label = codes "<tr><th scope=row>Capacity</th>"
+
+-- the label of a row
+unfoldable pub over_label : List ℕ
+over_label = codes "<tr class=over><th scope=row>Over</th>"
+
+-- what a table over the weeks ends with
+unfoldable pub grid_end : List ℕ
+grid_end = codes "</tbody></table></div>\n"
+
+-- what the section of the work centres begins with
+unfoldable pub centres_open : List ℕ
+centres_open = codes "<section id=centres>\n<h2>Work centres</h2>\n"
+
+-- what a section ends with
+unfoldable pub section_end : List ℕ
+section_end = codes "</section>\n"
+
+-- the label of a row
+unfoldable pub scheduled_label : List ℕ
+scheduled_label = codes "<tr><th scope=row>Scheduled receipts</th>"
+
+-- the label of a row
+unfoldable pub firm_label : List ℕ
+firm_label = codes "<tr><th scope=row>Firm master schedule</th>"
+
+-- the label of a row
+unfoldable pub booked_label : List ℕ
+booked_label = codes "<tr><th scope=row>Booked</th>"
+
+-- the label of a row
+unfoldable pub available_label : List ℕ
+available_label = codes "<tr class=strong><th scope=row>Available to promise</th>"
+
+-- the label of a row
+unfoldable pub gross_label : List ℕ
+gross_label = codes "<tr><th scope=row>Gross requirements</th>"
+
+-- the label of a row
+unfoldable pub planned_label : List ℕ
+planned_label = codes "<tr><th scope=row>Planned order receipts</th>"
+
+-- the label of a row
+unfoldable pub starts_label : List ℕ
+starts_label = codes "<tr><th scope=row>Order releases (starts)</th>"
+
+-- the label of a row
+unfoldable pub balance_label : List ℕ
+balance_label = codes "<tr class=strong><th scope=row>Projected available balance</th>"
+
+-- what the orders of an item begin with
+unfoldable pub orders_open : List ℕ
+orders_open = codes "<details><summary>Orders</summary><div class=scroll><table class=list><thead><tr><th class=t scope=col>Order</th><th class=t scope=col>Kind</th><th scope=col>Due week</th><th scope=col>Quantity</th><th scope=col>Starts</th><th scope=col>Release week</th><th scope=col>Weeks late</th></tr></thead>\n<tbody>"
+
+-- what the pegs of an item begin with
+unfoldable pub pegs_open : List ℕ
+pegs_open = codes "<details><summary>Where it goes (pegs)</summary><div class=scroll><table class=list><thead><tr><th scope=col>Week</th><th class=t scope=col>Requirement</th><th class=t scope=col>Supply</th><th scope=col>Pieces</th></tr></thead>\n<tbody>"
+
+-- what these end with
+unfoldable pub list_end : List ℕ
+list_end = codes "</tbody></table></div></details>\n"
+
+-- what the history begins with
+unfoldable pub history_open : List ℕ
+history_open = codes "<section id=history>\n<details><summary>History of the order book</summary><div class=scroll><table class=list><thead><tr><th class=t scope=col>Entry</th><th scope=col>Desk</th><th class=t scope=col>Call</th><th class=t scope=col>Item</th><th scope=col>Week</th><th scope=col>Quantity</th><th scope=col>Number</th><th class=t scope=col>Reply</th><th scope=col>Value</th></tr></thead>\n<tbody>"
+
+-- and what it ends with
+unfoldable pub history_end : List ℕ
+history_end = codes "</tbody></table></div></details>\n</section>\n"
+
+-- what a page ends with
+unfoldable pub page_end : List ℕ
+page_end = codes "</main>\n</body>\n</html>\n"

@@ -1,0 +1,16 @@
+pub mod Draw
+pub mod Escaped
+pub mod Frame
+pub mod Html
+pub mod ItemRows
+pub mod Laws
+pub mod Layout
+pub mod Notes
+pub mod Page
+pub mod Reading
+pub mod Row
+pub mod Rows
+pub mod Section
+pub mod Spot
+pub mod Template
+pub mod Written

@@ -1,0 +1,67 @@
+-- What is kept of a day while it is read.
+use Rattle.std.specs.Prelude.{ℕ, Bool, true, false, ◌&&◌, ◌==◌, ◌++◌, List, [], ◌∷◌, Option, Some, None, is_some, not, nat_le, if◌then◌else◌}
+use Rattle.mrp_page.specs.declared.section.Section.{Section}
+use Rattle.mrp_page.specs.declared.section.Section.TheVariants as s
+use Rattle.mrp_page.specs.declared.spot.Spot.{Spot}
+use Rattle.mrp_page.specs.Row.{Cells, RowView}
+use Rattle.mrp_page.specs.Spot.{Names, after, begins_run, start}
+
+-- where the last record stands, and the rows that were taken
+pub record Noted : Type 0 where
+  pub spot : Spot
+  pub history : List RowView
+  pub report : List RowView
+
+abbrev pub none_noted : Noted
+none_noted = record { spot = start; history = []; report = [] }
+
+-- a run is the one that is asked for: by its number, or the last so far
+abbrev pub is_shown : Option ℕ → ℕ → Bool
+is_shown None run = true
+is_shown (Some number) run = number == run
+
+abbrev pub is_history : Section → Bool
+is_history s.History = true
+is_history _ = false
+
+-- the row of the history that a record is, if it is one
+abbrev pub history_rows : Option Section → Cells → List RowView
+history_rows None cells = []
+history_rows (Some section) cells = if is_history section then record { section = section; cells = cells } ∷ [] else []
+
+abbrev pub rows_taken : Bool → Option Section → Cells → List RowView
+rows_taken shown None cells = []
+rows_taken shown (Some section) cells = if not (is_history section) && shown then record { section = section; cells = cells } ∷ [] else []
+
+-- the row of the report that a record is, if it is one of the run that is shown
+abbrev pub report_rows : Option ℕ → Spot → Cells → List RowView
+report_rows asked spot cells = rows_taken (is_shown asked spot.run) spot.takes cells
+
+-- the rows of the report that stay: none of them where the last run is asked for and another one begins
+abbrev pub rows_left : Option ℕ → Spot → List RowView → List RowView
+rows_left asked spot rows = if not (is_some asked) && begins_run spot.place then [] else rows
+
+abbrev pub noted_at : Option ℕ → Spot → Noted → Cells → Noted
+noted_at asked spot before cells = record {
+  spot = spot;
+  history = before.history ++ history_rows spot.takes cells;
+  report = rows_left asked spot before.report ++ report_rows asked spot cells;
+}
+
+-- with one more record
+abbrev pub noted : Names → Option ℕ → Noted → Cells → Noted
+noted items asked before cells = noted_at asked (after items before.spot cells) before cells
+
+-- with these records behind it
+unfoldable pub noted_from : Names → Option ℕ → Noted → List Cells → Noted
+noted_from items asked before [] = before
+noted_from items asked before (cells ∷ rest) = noted_from items asked (noted items asked before cells) rest
+
+-- of all these records
+abbrev pub notes_of : Names → Option ℕ → List Cells → Noted
+notes_of items asked records = noted_from items asked none_noted records
+
+-- the run that is asked for has begun; each day has a last one
+abbrev pub has_run : Option ℕ → ℕ → Bool
+has_run None runs = true
+has_run (Some number) runs = nat_le 1 number && nat_le number runs

@@ -1,0 +1,78 @@
+-- How a day is read, record by record.
+use Rattle.std.specs.Prelude.{ℕ, Bool, ◌≡◌, ◌⊎◌, List, Option, Some, None, true, false}
+use Rattle.csv.specs.Machine.{next_record}
+use Rattle.csv.specs.Reading.{AreRecords, Reached, Ready, default_config, is_flexible, reader_config, reader_state, reader_trim, source_of, strip_bom}
+use Rattle.csv.specs.declared.parser.State.{State}
+use Rattle.csv.specs.declared.parser.State.TheVariants as st
+use Rattle.csv.specs.declared.reader.Reader.{Reader}
+use Rattle.csv.specs.declared.reader.Trim.TheVariants as trim
+use Rattle.mrp_page.specs.declared.fault.PageFault.{PageFault}
+use Rattle.mrp_page.specs.declared.fault.PageFault.TheVariants as fault
+use Rattle.mrp_page.specs.Notes.{Noted, has_run, notes_of}
+use Rattle.mrp_page.specs.Row.{Cells}
+use Rattle.mrp_page.specs.Spot.{Names, is_end, is_wrong, place_of}
+
+-- a reader with the default dialect, of records of any count of cells, which reads on
+pub record IsReading {R : Type 0} (reader : Reader R) : Type 0 where
+  pub config : reader_config reader ≡ default_config
+  pub trim : reader_trim reader ≡ trim.None
+  pub flexible : is_flexible reader ≡ true
+  pub ready : Ready reader
+
+-- a reader that failed, or memory that was refused
+abbrev pub is_read_fault : PageFault → Bool
+is_read_fault fault.NoMemory = true
+is_read_fault fault.Read = true
+is_read_fault _ = false
+
+-- the same, or no day
+abbrev pub is_reading_fault : PageFault → Bool
+is_reading_fault fault.Shape = true
+is_reading_fault fault.NoMemory = true
+is_reading_fault fault.Read = true
+is_reading_fault _ = false
+
+abbrev pub is_write_fault : PageFault → Bool
+is_write_fault fault.Write = true
+is_write_fault _ = false
+
+-- the records that csv's words give for a text, all of them
+abbrev pub AreRecordsOf : List ℕ → List Cells → Type 0
+AreRecordsOf text records = AreRecords default_config st.StartRecord (strip_bom text) records
+
+-- a text has records of which this holds
+abbrev pub HasRecords : List ℕ → (List Cells → Type 0) → Type 0
+HasRecords text P = (records : List Cells) × AreRecordsOf text records × P records
+
+-- these are the first records of a text
+abbrev pub BeginsWith : List ℕ → List Cells → Type 0
+BeginsWith text records = (state : State) × (rest : List ℕ) × Reached default_config st.StartRecord (strip_bom text) records state rest
+
+-- the first records of a text are those of no day
+abbrev pub HasWrongFront : List ℕ → Type 0
+HasWrongFront text = (records : List Cells) × BeginsWith text records × (is_wrong (place_of records) ≡ true)
+
+-- a text is no day: by its first records, or since it ends where no day does
+abbrev pub IsNoDay : List ℕ → Type 0
+IsNoDay text = HasWrongFront text ⊎ HasRecords text (λ records. is_end (place_of records) ≡ false)
+
+-- a text has fewer runs than that which is asked for
+abbrev pub LacksRun : Names → Option ℕ → List ℕ → Type 0
+LacksRun items asked text = HasRecords text (λ records. has_run asked (notes_of items asked records).spot.run ≡ false)
+
+-- a text is a day, and this is kept of it
+pub record IsDayOf (items : Names) (asked : Option ℕ) (records : List Cells) (notes : Noted) : Type 0 where
+  pub kept : notes ≡ notes_of items asked records
+  pub day : is_end (place_of records) ≡ true
+  pub run : has_run asked notes.spot.run ≡ true
+
+abbrev pub IsKeptOf : Names → Option ℕ → List ℕ → Noted → Type 0
+IsKeptOf items asked text notes = HasRecords text (λ records. IsDayOf items asked records notes)
+
+-- the first records of a text were read, and this is kept of them
+pub record HasRead {R : Type 0} (remaining : R → Option (List ℕ)) (text : List ℕ) (items : Names) (asked : Option ℕ) (reader : Reader R) (notes : Noted) : Type 0 where
+  pub records : List Cells
+  pub rest : List ℕ
+  pub reached : Reached default_config st.StartRecord (strip_bom text) records (reader_state reader) rest
+  pub source : source_of remaining reader ≡ Some rest
+  pub noted : notes ≡ notes_of items asked records

@@ -1,0 +1,74 @@
+-- The sections of a day: a history, and for each run seven of its report.
+use Rattle.std.specs.Prelude.{ℕ, Bool, true, false, List, [], ◌∷◌, ◌==◌, codes}
+use Rattle.mrp_page.specs.declared.section.Section.{Section}
+use Rattle.mrp_page.specs.declared.section.Section.TheVariants as s
+
+-- the line that a section begins with
+abbrev pub line_of : Section → List ℕ
+line_of s.History = codes "[history]"
+line_of s.Run = codes "[run]"
+line_of s.Promises = codes "[promises]"
+line_of s.Plan = codes "[plan]"
+line_of s.Orders = codes "[orders]"
+line_of s.Pegs = codes "[pegs]"
+line_of s.Messages = codes "[messages]"
+line_of s.Loads = codes "[loads]"
+
+-- the names of its columns
+abbrev pub columns_of : Section → List (List ℕ)
+columns_of s.History = codes "entry" ∷ codes "desk" ∷ codes "call" ∷ codes "item" ∷ codes "week" ∷ codes "quantity" ∷ codes "number" ∷ codes "reply" ∷ codes "value" ∷ []
+columns_of s.Run = codes "front" ∷ codes "standing" ∷ []
+columns_of s.Promises = codes "item" ∷ codes "week" ∷ codes "firm" ∷ codes "booked" ∷ codes "bucket" ∷ codes "available" ∷ []
+columns_of s.Plan = codes "item" ∷ codes "week" ∷ codes "gross" ∷ codes "open" ∷ codes "firm" ∷ codes "planned" ∷ codes "start" ∷ codes "balance" ∷ []
+columns_of s.Orders = codes "item" ∷ codes "order" ∷ codes "kind" ∷ codes "due" ∷ codes "quantity" ∷ codes "start" ∷ codes "release" ∷ codes "late" ∷ []
+columns_of s.Pegs = codes "item" ∷ codes "week" ∷ codes "need" ∷ codes "number" ∷ codes "parent" ∷ codes "line" ∷ codes "supply" ∷ codes "source" ∷ codes "quantity" ∷ []
+columns_of s.Messages = codes "item" ∷ codes "supply" ∷ codes "source" ∷ codes "message" ∷ codes "value" ∷ []
+columns_of s.Loads = codes "centre" ∷ codes "week" ∷ codes "load" ∷ codes "capacity" ∷ codes "over" ∷ []
+
+-- the section behind it; behind the last one the report of the next run begins
+abbrev pub next_of : Section → Section
+next_of s.History = s.Run
+next_of s.Run = s.Promises
+next_of s.Promises = s.Plan
+next_of s.Plan = s.Orders
+next_of s.Orders = s.Pegs
+next_of s.Pegs = s.Messages
+next_of s.Messages = s.Loads
+next_of s.Loads = s.Run
+
+-- how many of its rows a page has room for: of items and work centres those of 200 over 104 weeks
+abbrev pub room_of : Section → ℕ
+room_of s.History = 1000
+room_of s.Run = 1
+room_of s.Promises = 20800
+room_of s.Plan = 20800
+room_of s.Orders = 20800
+room_of s.Pegs = 20800
+room_of s.Messages = 20800
+room_of s.Loads = 20800
+
+-- whether its rows are of items
+abbrev pub is_of_items : Section → Bool
+is_of_items s.History = false
+is_of_items s.Run = false
+is_of_items s.Promises = true
+is_of_items s.Plan = true
+is_of_items s.Orders = true
+is_of_items s.Pegs = true
+is_of_items s.Messages = true
+is_of_items s.Loads = false
+
+-- its place among the sections
+abbrev pub place_of : Section → ℕ
+place_of s.History = 0
+place_of s.Run = 1
+place_of s.Promises = 2
+place_of s.Plan = 3
+place_of s.Orders = 4
+place_of s.Pegs = 5
+place_of s.Messages = 6
+place_of s.Loads = 7
+
+-- two sections are the same
+abbrev pub same_section : Section → Section → Bool
+same_section a b = place_of a == place_of b

@@ -1,0 +1,59 @@
+-- What rows are drawn as.
+use Rattle.std.specs.Prelude.{ℕ, Bool, List, [], if◌then◌else◌, flat_map}
+use Rattle.mrp_page.specs.declared.template.Part.{Part}
+use Rattle.mrp_page.specs.declared.template.Part.TheVariants as part
+use Rattle.mrp_page.specs.Escaped.{escaped}
+use Rattle.mrp_page.specs.Html.{number_html}
+use Rattle.mrp_page.specs.Row.{RowView, cell_at, same_text}
+
+-- a part of what a row is drawn as: markup, markup for the rows that have a word in a column, a cell's text, and a cell's
+-- text as a number of a table
+pub data Drawn : Type 0 where
+  Mark : List ℕ → Drawn
+  Where : ℕ → List ℕ → List ℕ → Drawn
+  Text : ℕ → Drawn
+  Number : ℕ → Drawn
+
+abbrev pub drawn_of : Part → Drawn
+drawn_of (part.Markup markup) = Mark markup.now
+drawn_of (part.If column word markup) = Where column word.now markup.now
+drawn_of (part.Cell column) = Text column
+drawn_of (part.Number column) = Number column
+
+abbrev pub markup_if : Bool → List ℕ → List ℕ
+markup_if holds markup = if holds then markup else []
+
+-- a row has this word in a column
+abbrev pub has_word : ℕ → List ℕ → RowView → Bool
+has_word column word row = same_text (cell_at row column) word
+
+-- a part, of a row: markup as it is, cells escaped
+abbrev pub part_html : RowView → Drawn → List ℕ
+part_html row (Mark markup) = markup
+part_html row (Where column word markup) = markup_if (has_word column word row) markup
+part_html row (Text column) = escaped (cell_at row column)
+part_html row (Number column) = number_html (cell_at row column)
+
+-- a row, part by part
+unfoldable pub row_html : List Drawn → RowView → List ℕ
+row_html parts row = flat_map (part_html row) parts
+
+-- rows, one behind the other
+unfoldable pub rows_html : List Drawn → List RowView → List ℕ
+rows_html parts rows = flat_map (row_html parts) rows
+
+-- a row that has this word in a column
+abbrev pub row_if : ℕ → List ℕ → List Drawn → RowView → List ℕ
+row_if column word parts row = if has_word column word row then row_html parts row else []
+
+-- the rows that have this word in a column, one behind the other
+unfoldable pub rows_with : ℕ → List ℕ → List Drawn → List RowView → List ℕ
+rows_with column word parts rows = flat_map (row_if column word parts) rows
+
+-- the number in a column
+abbrev pub number_at : ℕ → RowView → List ℕ
+number_at column row = number_html (cell_at row column)
+
+-- the numbers of a column, one behind the other
+unfoldable pub numbers_html : ℕ → List RowView → List ℕ
+numbers_html column rows = flat_map (number_at column) rows

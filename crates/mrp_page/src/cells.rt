@@ -1,0 +1,29 @@
+//! The cells of a record.
+
+ghost use Rattle.std.specs.Prelude.{◌≡◌, [], length, map, nat_eq, slice_index_or};
+ghost use Rattle.std.specs.Cmp.Lexicographic.{pointwise};
+ghost use Rattle.csv.specs.Records.{fields_of};
+
+use csv::ByteRecord;
+
+// The bytes of a cell, counted from 0: none where the record has no such cell.
+pub(crate) fn cell_of(cells: &ByteRecord, column: usize) -> &[u8]
+    ensures { result.now ≡ slice_index_or (fields_of cells.now) column [] }
+{
+    cells.get(column).unwrap_or(b"")
+}
+
+// Whether a record's cells are these texts, in order.
+pub(crate) fn are_texts(cells: &ByteRecord, texts: &[&str]) -> bool
+    ensures { result ≡ pointwise (pointwise nat_eq) (fields_of cells.now) (map (λ c. c.now) texts.now) }
+{
+    if cells.len() != texts.len() {
+        return false;
+    }
+    for (column, text) in texts.iter().enumerate() {
+        if cell_of(cells, column) != text.as_bytes() {
+            return false;
+        }
+    }
+    true
+}

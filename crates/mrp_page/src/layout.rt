@@ -1,0 +1,499 @@
+//! The parts of a page: what its rows are drawn as.
+
+ghost use Rattle.std.specs.Prelude.{◌≡◌, map};
+ghost use Rattle.mrp_page.specs.Template.{drawn_of};
+ghost use Rattle.mrp_page.specs.Layout.{available_label, balance_chart, balance_label, bar, bars_end, booked_label, capacity_label, centre_head, centres_open, entry, firm_label, grid_end, gross_label, history_end, history_open, item_head, item_tasks_end, item_tasks_open, list_end, load_chart, load_label, order, orders_open, over_label, page_end, page_head, page_top, peg, pegs_open, planned_label, point, points_end, record_head, scheduled_label, section_end, starts_label, task, todo_end, todo_open, week, weeks_end, style};
+
+use crate::template::Part;
+
+// The style sheet. Nothing is fetched, and nothing runs.
+#[tactic(auto, unfolding(crate::specs::Layout::style))]
+pub(crate) fn style() -> &'static [u8]
+    ensures { result.now ≡ style }
+{
+    b"*{box-sizing:border-box}\nbody{font:15px/1.45 system-ui,sans-serif;max-width:72rem;margin:0 auto;padding:1rem 1.2rem 3rem;color:#1d2733;background:#fff}\nh1{font-size:1.5rem;margin:.4rem 0 0}\nh2{font-size:1.15rem;margin:0 0 .4rem}\nheader p,caption,.grid thead th,.list thead th{color:#566472}\nheader p{margin:.1rem 0 1rem}\nheader b{color:#1d2733}\nsection{border-top:1px solid #dde3ea;padding:1rem 0}\ntable{border-collapse:collapse;font-variant-numeric:tabular-nums}\ncaption{text-align:left;padding:.2rem 0}\nth{font-weight:400;text-align:left}\na{color:#2b6cb0}\n.scroll{overflow-x:auto;margin:.3rem 0 .6rem}\n.todo th,.todo td{padding:.12rem 1rem .12rem 0;vertical-align:top}\n.todo td{border-left:4px solid #cbd5e0;padding-left:.6rem}\n.todo .late td{border-color:#c53030}\n.todo .release td{border-color:#2f855a}\n.todo .in td{border-color:#b7791f}\n.todo .out td{border-color:#2b6cb0}\n.todo tbody:empty::after{content:\"Nothing to do\"}\n.grid th:first-child{position:sticky;left:0;z-index:1;background:#fff;padding-right:1rem;white-space:nowrap}\n.grid td,.grid thead th+th{min-width:3.4rem;padding:.1rem .4rem .1rem 0;text-align:right}\n.grid thead th{border-bottom:1px solid #dde3ea}\n.grid .strong th,.grid .strong td{font-weight:600}\n.z{color:#98a5b2}\n.grid .over td:not(.z){color:#b32626;font-weight:600}\n.grid .over td:not(.z)::before{content:\"+\"}\n.grid .chart td{padding:.3rem 0}\nsvg{display:block;width:100%;height:4.2rem;overflow:visible}\npolyline{fill:none;stroke:#2b6cb0;stroke-width:2;vector-effect:non-scaling-stroke}\nrect.load{fill:#7fb0e3}\nrect.over{fill:#c53030}\npath{stroke:#1d2733;stroke-width:2;vector-effect:non-scaling-stroke}\nsummary{cursor:pointer}\n.list{margin:.3rem 0 .8rem}\n.list th,.list td{padding:.1rem 1.2rem .1rem 0;text-align:right}\n.list .t,.list th[scope=row]{text-align:left}\n@media (max-width:30rem){body{padding:.6rem}.grid th:first-child{white-space:normal;max-width:8.5rem}}\n@media print{body{max-width:none;font-size:11px}.scroll{overflow:visible}section{break-inside:avoid}}\n"
+}
+
+// What stands before the style sheet: the title.
+#[tactic(auto, unfolding(crate::specs::Layout::page_top))]
+pub(crate) fn page_top() -> &'static [Part]
+    ensures { map drawn_of result.now ≡ page_top }
+{
+    &[
+        Part::Markup(
+            b"<!doctype html>\n<html lang=\"en\">\n<head>\n<meta charset=\"utf-8\">\n<meta name=\"viewport\" content=\"width=device-width, initial-scale=1\">\n<title>",
+        ),
+        Part::Cell(0),
+        Part::Markup(b"</title>\n<style>\n"),
+    ]
+}
+
+// The head of a page: the title, the entry that the plan stands at, the bookings that stand there, the weeks.
+#[tactic(auto, unfolding(crate::specs::Layout::page_head))]
+pub(crate) fn page_head() -> &'static [Part]
+    ensures { map drawn_of result.now ≡ page_head }
+{
+    &[
+        Part::Markup(b"</style>\n</head>\n<body>\n<header>\n<h1>"),
+        Part::Cell(0),
+        Part::Markup(b"</h1>\n<p>Plan at entry <b>"),
+        Part::Cell(1),
+        Part::Markup(b"</b> of the history, with <b>"),
+        Part::Cell(2),
+        Part::Markup(b"</b> bookings standing, over <b>"),
+        Part::Cell(3),
+        Part::Markup(b"</b> weeks</p>\n</header>\n<main>\n"),
+    ]
+}
+
+// A message, in plain words, which leads to its item.
+#[tactic(auto, unfolding(crate::specs::Layout::task))]
+pub(crate) fn task() -> &'static [Part]
+    ensures { map drawn_of result.now ≡ task }
+{
+    &[
+        Part::Markup(b"<tr class=\""),
+        Part::If(3, b"PAST-DUE", b"late"),
+        Part::If(3, b"RELEASE", b"release"),
+        Part::If(3, b"IN", b"in"),
+        Part::If(3, b"OUT", b"out"),
+        Part::If(3, b"CANCEL", b"cancel"),
+        Part::Markup(b"\"><th scope=row><a href=\"#i-"),
+        Part::Cell(0),
+        Part::Markup(b"\">"),
+        Part::Cell(0),
+        Part::Markup(b"</a></th><td>"),
+        Part::If(3, b"PAST-DUE", b"Past due, start now: "),
+        Part::If(3, b"RELEASE", b"Release now: "),
+        Part::If(3, b"IN", b"Bring in: "),
+        Part::If(3, b"OUT", b"Put off: "),
+        Part::If(3, b"CANCEL", b"Cancel: "),
+        Part::Cell(1),
+        Part::Markup(b" "),
+        Part::Cell(2),
+        Part::If(3, b"IN", b" to week "),
+        Part::If(3, b"OUT", b" to week "),
+        Part::If(3, b"PAST-DUE", b", weeks late: "),
+        Part::Cell(4),
+        Part::Markup(b"</td></tr>\n"),
+    ]
+}
+
+// A week of a heading.
+#[tactic(auto, unfolding(crate::specs::Layout::week))]
+pub(crate) fn week() -> &'static [Part]
+    ensures { map drawn_of result.now ≡ week }
+{
+    &[
+        Part::Markup(b"<th scope=col>"),
+        Part::Cell(1),
+        Part::Markup(b"</th>"),
+    ]
+}
+
+// An entry of the history.
+#[tactic(auto, unfolding(crate::specs::Layout::entry))]
+pub(crate) fn entry() -> &'static [Part]
+    ensures { map drawn_of result.now ≡ entry }
+{
+    &[
+        Part::Markup(b"<tr><th scope=row>"),
+        Part::Cell(0),
+        Part::Markup(b"</th>"),
+        Part::Number(1),
+        Part::Markup(b"<td class=t>"),
+        Part::Cell(2),
+        Part::Markup(b"</td><td class=t>"),
+        Part::Cell(3),
+        Part::Markup(b"</td>"),
+        Part::Number(4),
+        Part::Number(5),
+        Part::Number(6),
+        Part::Markup(b"<td class=t>"),
+        Part::Cell(7),
+        Part::Markup(b"</td>"),
+        Part::Number(8),
+        Part::Markup(b"</tr>\n"),
+    ]
+}
+
+// An order.
+#[tactic(auto, unfolding(crate::specs::Layout::order))]
+pub(crate) fn order() -> &'static [Part]
+    ensures { map drawn_of result.now ≡ order }
+{
+    &[
+        Part::Markup(b"<tr><th scope=row>"),
+        Part::Cell(1),
+        Part::Markup(b"</th><td class=t>"),
+        Part::Cell(2),
+        Part::Markup(b"</td>"),
+        Part::Number(3),
+        Part::Number(4),
+        Part::Number(5),
+        Part::Number(6),
+        Part::Number(7),
+        Part::Markup(b"</tr>\n"),
+    ]
+}
+
+// A peg: which supply serves which requirement.
+#[tactic(auto, unfolding(crate::specs::Layout::peg))]
+pub(crate) fn peg() -> &'static [Part]
+    ensures { map drawn_of result.now ≡ peg }
+{
+    &[
+        Part::Markup(b"<tr>"),
+        Part::Number(1),
+        Part::Markup(b"<td class=t>"),
+        Part::If(2, b"booking", b"booking "),
+        Part::If(2, b"forecast", b"forecast"),
+        Part::If(2, b"parent", b"order "),
+        Part::If(2, b"surplus", b"surplus"),
+        Part::Cell(3),
+        Part::If(2, b"parent", b" of "),
+        Part::Cell(4),
+        Part::If(2, b"parent", b", bill line "),
+        Part::Cell(5),
+        Part::Markup(b"</td><td class=t>"),
+        Part::Cell(6),
+        Part::Markup(b" "),
+        Part::Cell(7),
+        Part::Markup(b"</td>"),
+        Part::Number(8),
+        Part::Markup(b"</tr>\n"),
+    ]
+}
+
+// The heading of a work centre, of its name.
+#[tactic(auto, unfolding(crate::specs::Layout::centre_head))]
+pub(crate) fn centre_head() -> &'static [Part]
+    ensures { map drawn_of result.now ≡ centre_head }
+{
+    &[
+        Part::Markup(b"<div class=scroll><table class=grid>\n<caption>"),
+        Part::Cell(0),
+        Part::Markup(b"</caption>\n<thead><tr><th scope=col>Week</th>"),
+    ]
+}
+
+// The frame of loads, of the name, the weeks and the greatest number.
+#[tactic(auto, unfolding(crate::specs::Layout::load_chart))]
+pub(crate) fn load_chart() -> &'static [Part]
+    ensures { map drawn_of result.now ≡ load_chart }
+{
+    &[
+        Part::Markup(
+            b"<tr class=chart><th scope=row>Load; the line is capacity</th><td colspan=\"",
+        ),
+        Part::Cell(1),
+        Part::Markup(b"\"><svg role=\"img\" viewBox=\"0.5 -"),
+        Part::Cell(2),
+        Part::Markup(b" "),
+        Part::Cell(1),
+        Part::Markup(b" "),
+        Part::Cell(2),
+        Part::Markup(b"\" preserveAspectRatio=\"none\"><title>Load against capacity of "),
+        Part::Cell(0),
+        Part::Markup(b"</title><g transform=\"translate(-.4) scale(1 -1)\">"),
+    ]
+}
+
+// The load of a week, with what is over, and its capacity.
+#[tactic(auto, unfolding(crate::specs::Layout::bar))]
+pub(crate) fn bar() -> &'static [Part]
+    ensures { map drawn_of result.now ≡ bar }
+{
+    &[
+        Part::Markup(b"<rect class=\"load\" x=\""),
+        Part::Cell(1),
+        Part::Markup(b"\" width=\".8\" height=\""),
+        Part::Cell(2),
+        Part::Markup(b"\"/><rect class=\"over\" x=\""),
+        Part::Cell(1),
+        Part::Markup(b"\" y=\""),
+        Part::Cell(3),
+        Part::Markup(b"\" width=\".8\" height=\""),
+        Part::Cell(4),
+        Part::Markup(b"\"/><path d=\"M"),
+        Part::Cell(1),
+        Part::Markup(b" "),
+        Part::Cell(3),
+        Part::Markup(b"h.8\"/>"),
+    ]
+}
+
+// The heading of an item, of its name.
+#[tactic(auto, unfolding(crate::specs::Layout::item_head))]
+pub(crate) fn item_head() -> &'static [Part]
+    ensures { map drawn_of result.now ≡ item_head }
+{
+    &[
+        Part::Markup(b"<section class=item id=\"i-"),
+        Part::Cell(0),
+        Part::Markup(b"\">\n<h2>"),
+        Part::Cell(0),
+        Part::Markup(b"</h2>\n"),
+    ]
+}
+
+// The heading of an item's time-phased record, of its name.
+#[tactic(auto, unfolding(crate::specs::Layout::record_head))]
+pub(crate) fn record_head() -> &'static [Part]
+    ensures { map drawn_of result.now ≡ record_head }
+{
+    &[
+        Part::Markup(b"<div class=scroll><table class=grid>\n<caption>Time-phased record of "),
+        Part::Cell(0),
+        Part::Markup(b"</caption>\n<thead><tr><th scope=col>Week</th>"),
+    ]
+}
+
+// The frame of balances, of the name, the weeks and the greatest number.
+#[tactic(auto, unfolding(crate::specs::Layout::balance_chart))]
+pub(crate) fn balance_chart() -> &'static [Part]
+    ensures { map drawn_of result.now ≡ balance_chart }
+{
+    &[
+        Part::Markup(b"<tr class=chart><th scope=row>Balance</th><td colspan=\""),
+        Part::Cell(1),
+        Part::Markup(b"\"><svg role=\"img\" viewBox=\"0.5 -"),
+        Part::Cell(2),
+        Part::Markup(b" "),
+        Part::Cell(1),
+        Part::Markup(b" "),
+        Part::Cell(2),
+        Part::Markup(b"\" preserveAspectRatio=\"none\"><title>Projected available balance of "),
+        Part::Cell(0),
+        Part::Markup(b"</title><polyline transform=\"scale(1 -1)\" points=\""),
+    ]
+}
+
+// A week and its balance.
+#[tactic(auto, unfolding(crate::specs::Layout::point))]
+pub(crate) fn point() -> &'static [Part]
+    ensures { map drawn_of result.now ≡ point }
+{
+    &[
+        Part::Cell(1),
+        Part::Markup(b","),
+        Part::Cell(7),
+        Part::Markup(b" "),
+    ]
+}
+
+// What the section of what is to be done begins with.
+#[tactic(auto, unfolding(crate::specs::Layout::todo_open))]
+pub(crate) fn todo_open() -> &'static [u8]
+    ensures { result.now ≡ todo_open }
+{
+    b"<section id=todo>\n<h2>To do</h2>\n<table class=todo><thead><tr><th scope=col>Item</th><th scope=col>What to do</th></tr></thead>\n<tbody>"
+}
+
+// And what it ends with.
+#[tactic(auto, unfolding(crate::specs::Layout::todo_end))]
+pub(crate) fn todo_end() -> &'static [u8]
+    ensures { result.now ≡ todo_end }
+{
+    b"</tbody></table>\n</section>\n"
+}
+
+// What an item's messages begin with.
+#[tactic(auto, unfolding(crate::specs::Layout::item_tasks_open))]
+pub(crate) fn item_tasks_open() -> &'static [u8]
+    ensures { result.now ≡ item_tasks_open }
+{
+    b"<table class=todo><tbody>"
+}
+
+// And what they end with.
+#[tactic(auto, unfolding(crate::specs::Layout::item_tasks_end))]
+pub(crate) fn item_tasks_end() -> &'static [u8]
+    ensures { result.now ≡ item_tasks_end }
+{
+    b"</tbody></table>\n"
+}
+
+// What the weeks of a table end with.
+#[tactic(auto, unfolding(crate::specs::Layout::weeks_end))]
+pub(crate) fn weeks_end() -> &'static [u8]
+    ensures { result.now ≡ weeks_end }
+{
+    b"</tr></thead>\n<tbody>\n"
+}
+
+// What the picture of loads ends with.
+#[tactic(auto, unfolding(crate::specs::Layout::bars_end))]
+pub(crate) fn bars_end() -> &'static [u8]
+    ensures { result.now ≡ bars_end }
+{
+    b"</g></svg></td></tr>\n"
+}
+
+// What the picture of balances ends with.
+#[tactic(auto, unfolding(crate::specs::Layout::points_end))]
+pub(crate) fn points_end() -> &'static [u8]
+    ensures { result.now ≡ points_end }
+{
+    b"\"/></svg></td></tr>\n"
+}
+
+// The label of a row.
+#[tactic(auto, unfolding(crate::specs::Layout::load_label))]
+pub(crate) fn load_label() -> &'static [u8]
+    ensures { result.now ≡ load_label }
+{
+    b"<tr><th scope=row>Load</th>"
+}
+
+// The label of a row.
+#[tactic(auto, unfolding(crate::specs::Layout::capacity_label))]
+pub(crate) fn capacity_label() -> &'static [u8]
+    ensures { result.now ≡ capacity_label }
+{
+    b"<tr><th scope=row>Capacity</th>"
+}
+
+// The label of a row.
+#[tactic(auto, unfolding(crate::specs::Layout::over_label))]
+pub(crate) fn over_label() -> &'static [u8]
+    ensures { result.now ≡ over_label }
+{
+    b"<tr class=over><th scope=row>Over</th>"
+}
+
+// What a table over the weeks ends with.
+#[tactic(auto, unfolding(crate::specs::Layout::grid_end))]
+pub(crate) fn grid_end() -> &'static [u8]
+    ensures { result.now ≡ grid_end }
+{
+    b"</tbody></table></div>\n"
+}
+
+// What the section of the work centres begins with.
+#[tactic(auto, unfolding(crate::specs::Layout::centres_open))]
+pub(crate) fn centres_open() -> &'static [u8]
+    ensures { result.now ≡ centres_open }
+{
+    b"<section id=centres>\n<h2>Work centres</h2>\n"
+}
+
+// What a section ends with.
+#[tactic(auto, unfolding(crate::specs::Layout::section_end))]
+pub(crate) fn section_end() -> &'static [u8]
+    ensures { result.now ≡ section_end }
+{
+    b"</section>\n"
+}
+
+// The label of a row.
+#[tactic(auto, unfolding(crate::specs::Layout::scheduled_label))]
+pub(crate) fn scheduled_label() -> &'static [u8]
+    ensures { result.now ≡ scheduled_label }
+{
+    b"<tr><th scope=row>Scheduled receipts</th>"
+}
+
+// The label of a row.
+#[tactic(auto, unfolding(crate::specs::Layout::firm_label))]
+pub(crate) fn firm_label() -> &'static [u8]
+    ensures { result.now ≡ firm_label }
+{
+    b"<tr><th scope=row>Firm master schedule</th>"
+}
+
+// The label of a row.
+#[tactic(auto, unfolding(crate::specs::Layout::booked_label))]
+pub(crate) fn booked_label() -> &'static [u8]
+    ensures { result.now ≡ booked_label }
+{
+    b"<tr><th scope=row>Booked</th>"
+}
+
+// The label of a row.
+#[tactic(auto, unfolding(crate::specs::Layout::available_label))]
+pub(crate) fn available_label() -> &'static [u8]
+    ensures { result.now ≡ available_label }
+{
+    b"<tr class=strong><th scope=row>Available to promise</th>"
+}
+
+// The label of a row.
+#[tactic(auto, unfolding(crate::specs::Layout::gross_label))]
+pub(crate) fn gross_label() -> &'static [u8]
+    ensures { result.now ≡ gross_label }
+{
+    b"<tr><th scope=row>Gross requirements</th>"
+}
+
+// The label of a row.
+#[tactic(auto, unfolding(crate::specs::Layout::planned_label))]
+pub(crate) fn planned_label() -> &'static [u8]
+    ensures { result.now ≡ planned_label }
+{
+    b"<tr><th scope=row>Planned order receipts</th>"
+}
+
+// The label of a row.
+#[tactic(auto, unfolding(crate::specs::Layout::starts_label))]
+pub(crate) fn starts_label() -> &'static [u8]
+    ensures { result.now ≡ starts_label }
+{
+    b"<tr><th scope=row>Order releases (starts)</th>"
+}
+
+// The label of a row.
+#[tactic(auto, unfolding(crate::specs::Layout::balance_label))]
+pub(crate) fn balance_label() -> &'static [u8]
+    ensures { result.now ≡ balance_label }
+{
+    b"<tr class=strong><th scope=row>Projected available balance</th>"
+}
+
+// What the orders of an item begin with.
+#[tactic(auto, unfolding(crate::specs::Layout::orders_open))]
+pub(crate) fn orders_open() -> &'static [u8]
+    ensures { result.now ≡ orders_open }
+{
+    b"<details><summary>Orders</summary><div class=scroll><table class=list><thead><tr><th class=t scope=col>Order</th><th class=t scope=col>Kind</th><th scope=col>Due week</th><th scope=col>Quantity</th><th scope=col>Starts</th><th scope=col>Release week</th><th scope=col>Weeks late</th></tr></thead>\n<tbody>"
+}
+
+// What the pegs of an item begin with.
+#[tactic(auto, unfolding(crate::specs::Layout::pegs_open))]
+pub(crate) fn pegs_open() -> &'static [u8]
+    ensures { result.now ≡ pegs_open }
+{
+    b"<details><summary>Where it goes (pegs)</summary><div class=scroll><table class=list><thead><tr><th scope=col>Week</th><th class=t scope=col>Requirement</th><th class=t scope=col>Supply</th><th scope=col>Pieces</th></tr></thead>\n<tbody>"
+}
+
+// What these end with.
+#[tactic(auto, unfolding(crate::specs::Layout::list_end))]
+pub(crate) fn list_end() -> &'static [u8]
+    ensures { result.now ≡ list_end }
+{
+    b"</tbody></table></div></details>\n"
+}
+
+// What the history begins with.
+#[tactic(auto, unfolding(crate::specs::Layout::history_open))]
+pub(crate) fn history_open() -> &'static [u8]
+    ensures { result.now ≡ history_open }
+{
+    b"<section id=history>\n<details><summary>History of the order book</summary><div class=scroll><table class=list><thead><tr><th class=t scope=col>Entry</th><th scope=col>Desk</th><th class=t scope=col>Call</th><th class=t scope=col>Item</th><th scope=col>Week</th><th scope=col>Quantity</th><th scope=col>Number</th><th class=t scope=col>Reply</th><th scope=col>Value</th></tr></thead>\n<tbody>"
+}
+
+// And what it ends with.
+#[tactic(auto, unfolding(crate::specs::Layout::history_end))]
+pub(crate) fn history_end() -> &'static [u8]
+    ensures { result.now ≡ history_end }
+{
+    b"</tbody></table></div></details>\n</section>\n"
+}
+
+// What a page ends with.
+#[tactic(auto, unfolding(crate::specs::Layout::page_end))]
+pub(crate) fn page_end() -> &'static [u8]
+    ensures { result.now ≡ page_end }
+{
+    b"</main>\n</body>\n</html>\n"
+}

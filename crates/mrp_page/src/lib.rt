@@ -1,0 +1,25 @@
+//! The page that a planner opens: a day, drawn as one file of HTML that fetches nothing and runs nothing.
+#![tactic(auto)]
+
+mod cells;
+mod draw;
+mod escape;
+mod fault;
+mod frame;
+mod html;
+mod item_rows;
+pub mod laws;
+mod layout;
+mod notes;
+mod page;
+mod read;
+mod row;
+mod rows;
+mod section;
+mod spot;
+mod template;
+mod write;
+
+pub use escape::{escaped_texts_read_back, put_escaped};
+pub use fault::PageFault;
+pub use write::{PageOptions, write_page};

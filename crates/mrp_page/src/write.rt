@@ -1,0 +1,69 @@
+//! The page of a day.
+
+ghost use Rattle.std.specs.Prelude.{◌≡◌, ◌+◌, ◌⊎◌, ℕ, List, Err, IfErr, IfOk, OnOk, Some, false};
+ghost use Rattle.std.specs.Io.KnownBytes.{Appends};
+ghost use Rattle.mrp_page.specs.Reading.{IsNoDay, LacksRun, is_write_fault};
+ghost use Rattle.mrp_page.specs.Written.{HasPage, IsPageOf};
+ghost use Rattle.mrp_rows.specs.Streams.{WritesFront};
+ghost use Rattle.mrp_rows.specs.Told.{HasRisenBy, failures_of, inner_of, interrupted_of};
+
+use crate::fault::PageFault;
+use crate::html::Html;
+use crate::page::put_page;
+use crate::read::read_day;
+use mrp_rows::{Told, Tries, WRITE_TRIES, write_text};
+use std::alloc::Global;
+use std::io::{Read, Write};
+
+/// What a page shows.
+#[derive(Clone, Copy)]
+pub struct PageOptions<'a> {
+    /// Its title.
+    pub title: &'a [u8],
+    /// The run whose report is shown, counted from 1; the last where none is named.
+    pub run: Option<u64>,
+    /// The names of the items that are shown; all that there is room for where none is named.
+    pub items: &'a [&'a [u8]],
+}
+
+// A page's text.
+fn page_of<R: Read + Drop>(
+    alloc: Global,
+    input: R,
+    options: &PageOptions<'_>,
+) -> Result<Html, PageFault>
+    ensures page { IfOk result (λ page. (text : List ℕ) → R.remaining input ≡ Some text → HasPage options.now.title.now options.now.items.now options.now.run text page) }
+    ensures wrong { result ≡ Err PageFault.Shape → (text : List ℕ) → R.remaining input ≡ Some text → IsNoDay text }
+    ensures run { result ≡ Err PageFault.NoRun → (text : List ℕ) → R.remaining input ≡ Some text → LacksRun options.now.items.now options.now.run text }
+    ensures fault { IfErr result (λ fault. is_write_fault fault ≡ false) }
+{
+    let notes = read_day(alloc, input, options.items, options.run)?;
+    let mut page = Html::new(alloc);
+    put_page(alloc, &mut page, options.title, &notes)?;
+    Ok(page)
+}
+
+/// Writes the page of a day: one file of HTML, which fetches nothing and runs nothing.
+///
+/// The day is read once, record by record. Nothing is written before all of it was read.
+///
+/// Errors, with nothing written: `Shape` where the text is no day, `NoRun` where it has fewer runs
+/// than the one that is asked for, `Read` where the reader failed, `NoMemory`. `Write` where a write
+/// failed, or was interrupted more than 1,000,000 times: a front of the page was written then.
+pub fn write_page<R: Read + Drop, W: Write>(
+    alloc: Global,
+    input: R,
+    options: &PageOptions<'_>,
+    writer: &mut Told<W>,
+) -> Result<(), PageFault>
+    ensures whole { OnOk result ((text : List ℕ) → R.remaining input ≡ Some text → IsPageOf options.now.title.now options.now.items.now options.now.run text (λ page. Appends (W.contents (inner_of writer.old)) (W.contents (inner_of writer.new)) page)) }
+    ensures wrong { result ≡ Err PageFault.Shape → (text : List ℕ) → R.remaining input ≡ Some text → IsNoDay text }
+    ensures run { result ≡ Err PageFault.NoRun → (text : List ℕ) → R.remaining input ≡ Some text → LacksRun options.now.items.now options.now.run text }
+    ensures untouched { IfErr result (λ fault. is_write_fault fault ≡ false → writer.new ≡ writer.old) }
+    ensures refused { result ≡ Err PageFault.Write → HasRisenBy 1 (failures_of writer.old) (failures_of writer.new) ⊎ HasRisenBy (WRITE_TRIES + 1) (interrupted_of writer.old) (interrupted_of writer.new) }
+    ensures front { result ≡ Err PageFault.Write → (text : List ℕ) → R.remaining input ≡ Some text → IsPageOf options.now.title.now options.now.items.now options.now.run text (λ page. WritesFront (W.contents (inner_of writer.old)) (W.contents (inner_of writer.new)) page) }
+{
+    let page = page_of(alloc, input, options)?;
+    write_text(writer, page.as_bytes(), &mut Tries::new())?;
+    Ok(())
+}
