@@ -72,9 +72,9 @@ fn is_right_by<R: Files + AllocGlobal + Print + Threads + Wait + Sync>(
     Ok(false)
 }
 
-// What was seen of a case.
+// How a case compares with what stands beside it.
 #[derive(Clone, Copy)]
-enum Seen {
+enum Verdict {
     Wrong,
     Planned,
     // Planned, and made live as well.
@@ -82,46 +82,46 @@ enum Seen {
 }
 
 // Whether a case ends as it must, by a plan and where there is no choice by a live day.
-fn seen<R: Files + AllocGlobal + Print + Threads + Wait + Sync>(
+fn compare<R: Files + AllocGlobal + Print + Threads + Wait + Sync>(
     rt: &R,
     name: &str,
-) -> io::Result<Seen> {
+) -> io::Result<Verdict> {
     let Some(wanted) = wanted_of(rt, name)? else {
         println!(rt; "{name} is not as it must be; no day and no words stand beside it")?;
-        return Ok(Seen::Wrong);
+        return Ok(Verdict::Wrong);
     };
     if !is_right_by(rt, "plan", name, &wanted)? {
-        return Ok(Seen::Wrong);
+        return Ok(Verdict::Wrong);
     }
     if !wanted.is_of_any_order() {
-        return Ok(Seen::Planned);
+        return Ok(Verdict::Planned);
     }
     if is_right_by(rt, "live", name, &wanted)? {
-        Ok(Seen::Live)
+        Ok(Verdict::Live)
     } else {
-        Ok(Seen::Wrong)
+        Ok(Verdict::Wrong)
     }
 }
 
 // How many of the cases do not end as they must, and how many were made live as well.
-fn count_seen<R: Files + AllocGlobal + Print + Threads + Wait + Sync>(
+fn count_verdicts<R: Files + AllocGlobal + Print + Threads + Wait + Sync>(
     rt: &R,
     cases: &[String],
 ) -> io::Result<(usize, usize)> {
     let mut wrong = 0usize;
     let mut live = 0usize;
     for name in cases {
-        let seen = match seen(rt, name) {
-            Ok(seen) => seen,
+        let judged = match compare(rt, name) {
+            Ok(judged) => judged,
             Err(error) => {
                 println!(rt; "{name} could not be looked at; {error}")?;
-                Seen::Wrong
+                Verdict::Wrong
             }
         };
-        match seen {
-            Seen::Wrong => wrong = wrong.saturating_add(1),
-            Seen::Planned => {}
-            Seen::Live => live = live.saturating_add(1),
+        match judged {
+            Verdict::Wrong => wrong = wrong.saturating_add(1),
+            Verdict::Planned => {}
+            Verdict::Live => live = live.saturating_add(1),
         }
     }
     Ok((wrong, live))
@@ -137,7 +137,7 @@ fn are_right<R: Files + AllocGlobal + Print + Threads + Wait + Sync + Clone + Dr
         println!(rt; "no case is in this folder")?;
         return Ok(false);
     }
-    let (wrong, live) = count_seen(rt, &cases)?;
+    let (wrong, live) = count_verdicts(rt, &cases)?;
     if wrong > 0 {
         println!(rt; "{wrong} of {count} cases are not as they must be")?;
         return Ok(false);
