@@ -8,6 +8,8 @@ use std::io::Eprint;
 use std::process::{Abort, Termination};
 use std::test::Fail;
 
+mod audits;
+mod checks;
 mod commands;
 mod cores;
 mod days;
@@ -15,6 +17,7 @@ mod explosions;
 mod live_days;
 mod loads;
 mod notes;
+mod pages;
 mod pegging;
 mod reports;
 mod streams;

@@ -118,7 +118,7 @@ path-needs bill (a ∷ []) (i, first, round) = absurd round
 path-needs bill (a ∷ b ∷ more) (i, first, round) = subst (λ (x : ℕ). NeedsItself bill x) (sym round.0) first.loop
 
 -- mapping after keeping is keeping after mapping
-map-filter : {X Y : Type 0} (f : X → Y) (p : Y → Bool) (xs : List X) → map f (filter (λ x. p (f x)) xs) ≡ filter p (map f xs)
+pub map-filter : {X Y : Type 0} (f : X → Y) (p : Y → Bool) (xs : List X) → map f (filter (λ x. p (f x)) xs) ≡ filter p (map f xs)
 map-filter f p [] = refl
 map-filter {X} {Y} f p (x ∷ xs) = by (p (f x)) (map-filter f p xs)
   where

@@ -1,5 +1,5 @@
 -- How a walk goes on.
-use Rattle.std.proofs.Common.{◌≡◌, ◌≢◌, ◌⊎◌, inl, inr, ℕ, suc, ◌-◌, ◌<◌, ◌≤◌, true, false, List, [], ◌∷◌, ◌++◌, length, get_or, take, refl, sym, ap, subst, ◌∙◌, arith, sum, sum_by, Vec, Result, Ok, Err, OnOk}
+use Rattle.std.proofs.Common.{◌≡◌, ◌≢◌, ◌⊎◌, inl, inr, ℕ, suc, ◌-◌, ◌<◌, ◌≤◌, true, false, List, [], ◌∷◌, ◌++◌, length, get_or, take, refl, sym, ap, subst, ◌∙◌, arith, sum, sum_by, Vec}
 use Rattle.std.specs.declared.alloc.Global.{Global}
 use Rattle.std.proofs.Math.Bool.{or-false, or-true}
 use Rattle.std.proofs.Math.ListN.{set}
@@ -15,10 +15,6 @@ use Rattle.mrp_bill.specs.Lists.{listed, IsListed}
 use Rattle.mrp_bill.proofs.Listed.{listed-is, listed-contains}
 use Rattle.mrp_bill.proofs.Linked.{links-before, links-down}
 use Rattle.mrp_bill.proofs.Stages.{at-push, stage-other, stages-open, stages-place}
-
-pub on_ok : {X E P Q : Type 0} (r : Result X E) → OnOk r P → (P → Q) → OnOk r Q
-on_ok (Ok x) h f = f h
-on_ok (Err e) h f = tt
 
 -- parents that were passed stay placed
 passed-kept : (parents : List (Vec ℕ Global)) (left : List ℕ) (stages : List Stage) (item : ℕ) (s : Stage) → ArePassed parents left stages

@@ -1,4 +1,4 @@
--- Lists of numbers, one for each item.
+-- A list for each place of a list: of numbers, one for each item, and of others.
 use Rattle.std.proofs.Common.{◌≡◌, ◌≢◌, ℕ, ◌+◌, ◌<◌, Bool, true, false, cond, eqb, subst, take, List, [], ◌∷◌, ◌++◌, length, get_or, map, filter, refl, sym, ap, ◌∙◌, arith}
 use Rattle.std.proofs.Math.ListN.{set}
 use Rattle.std.proofs.lemmas.List.{map-id, map-set, length-map, get_or-map, get_or-set_same, get_or-set_other, length-set, append-nil, length-append, get_or_push}
@@ -15,23 +15,23 @@ use Rattle.std.specs.declared.alloc.Global.{Global}
 use Rattle.mrp_bill.specs.Lists.{listed, IsListed, Appends, turn_to}
 
 -- a list as it is read
-pub listed-read : (lists : List (Vec ℕ Global)) (i : ℕ) (d : Vec ℕ Global) → i < length lists → listed lists i ≡ (get_or lists i d).items
+pub listed-read : {X : Type 0} (lists : List (Vec X Global)) (i : ℕ) (d : Vec X Global) → i < length lists → listed lists i ≡ (get_or lists i d).items
 listed-read lists i d h = get_or-map (λ v. v.items) lists i d [] h
 
-pub listed-set_same : (lists : List (Vec ℕ Global)) (i : ℕ) (v : Vec ℕ Global) → i < length lists → listed (set lists i v) i ≡ v.items
-listed-set_same lists i v h =
-    let k : i < length (map (λ (w : Vec ℕ Global). w.items) lists) = omega (arith, length-map lists (λ w. w.items)) in
-    rw (map-set (λ (w : Vec ℕ Global). w.items) lists i v) (get_or-set_same (map (λ w. w.items) lists) i v.items [] k)
+pub listed-set_same : {X : Type 0} (lists : List (Vec X Global)) (i : ℕ) (v : Vec X Global) → i < length lists → listed (set lists i v) i ≡ v.items
+listed-set_same {X} lists i v h =
+    let k : i < length (map (λ (w : Vec X Global). w.items) lists) = omega (arith, length-map lists (λ (w : Vec X Global). w.items)) in
+    rw (map-set (λ (w : Vec X Global). w.items) lists i v) (get_or-set_same (map (λ (w : Vec X Global). w.items) lists) i v.items [] k)
 
-pub listed-set_other : (lists : List (Vec ℕ Global)) (i j : ℕ) (v : Vec ℕ Global) → j ≢ i → listed (set lists i v) j ≡ listed lists j
-listed-set_other lists i j v ne =
-    rw (map-set (λ (w : Vec ℕ Global). w.items) lists i v) (get_or-set_other (map (λ w. w.items) lists) i j v.items [] ne)
+pub listed-set_other : {X : Type 0} (lists : List (Vec X Global)) (i j : ℕ) (v : Vec X Global) → j ≢ i → listed (set lists i v) j ≡ listed lists j
+listed-set_other {X} lists i j v ne =
+    rw (map-set (λ (w : Vec X Global). w.items) lists i v) (get_or-set_other (map (λ (w : Vec X Global). w.items) lists) i j v.items [] ne)
 
--- a list that a number was put at the end of
-pub appends-set : (lists : List (Vec ℕ Global)) (at x : ℕ) (old new : Vec ℕ Global) → at < length lists → old ≡ get_or lists at old → new.items ≡ old.items ++ x ∷ [] → Appends lists (set lists at new) at x
-appends-set lists at x old new h read pushed = record {
+-- a list that one was put at the end of
+pub appends-set : {X : Type 0} (lists : List (Vec X Global)) (at : ℕ) (x : X) (old new : Vec X Global) → at < length lists → old ≡ get_or lists at old → new.items ≡ old.items ++ x ∷ [] → Appends lists (set lists at new) at x
+appends-set {X} lists at x old new h read pushed = record {
   size = length-set lists at new;
-  put = listed-set_same lists at new h ∙ pushed ∙ ap (λ xs. xs ++ x ∷ []) (ap (λ (v : Vec ℕ Global). v.items) read ∙ sym (listed-read lists at old h));
+  put = listed-set_same lists at new h ∙ pushed ∙ ap (λ (xs : List X). xs ++ x ∷ []) (ap (λ (v : Vec X Global). v.items) read ∙ sym (listed-read lists at old h));
   others = λ i ne. listed-set_other lists at i new ne;
 }
 
@@ -41,9 +41,9 @@ filter-range_more p n =
     ap (filter p) (sym (map-id (range_with_len 0 (n + 1)))) ∙ filter_of_map_range_with_len_more p (λ x. x) 0 n n (omega arith)
     ∙ ap (λ xs. filter p xs ++ cond (p n) (n ∷ []) []) (map-id (range_with_len 0 n))
 
--- one more number at the end of one list, told of each list
-pub listed-appends : (old new : List (Vec ℕ Global)) (at x : ℕ) → Appends old new at x → (i : ℕ) → listed new i ≡ listed old i ++ cond (eqb at i) (x ∷ []) []
-listed-appends old new at x a i = by (eqb at i) refl
+-- one more at the end of one list, told of each list
+pub listed-appends : {X : Type 0} (old new : List (Vec X Global)) (at : ℕ) (x : X) → Appends old new at x → (i : ℕ) → listed new i ≡ listed old i ++ cond (eqb at i) (x ∷ []) []
+listed-appends {X} old new at x a i = by (eqb at i) refl
   where
     by : (b : Bool) → eqb at i ≡ b → listed new i ≡ listed old i ++ cond b (x ∷ []) []
     by true e = let same : at ≡ i = eqb-true at i e in rw (← same) a.put

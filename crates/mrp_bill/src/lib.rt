@@ -11,4 +11,5 @@ mod search;
 mod shop;
 
 pub use fault::BillFault;
+pub use lists::{append, empty_lists};
 pub use shop::{Bill, Shop};

@@ -1,4 +1,4 @@
-//! Lists of numbers, one for each item: the lines to an item, its parents, its components.
+//! A list for each of some places: of each item the lines to it, its parents, its components.
 
 ghost use Rattle.std.specs.Prelude.{◌≡◌, ◌≢◌, ◌<◌, ◌==◌, ◌++◌, ◌∷◌, [], ℕ, All, IsTrue, ◌↔◌, List, length, filter, map, vec_len, OnOk, IfOk, if◌then◌else◌};
 ghost use Rattle.std.specs.List.{list_any, range_with_len};
@@ -17,8 +17,8 @@ pub struct Lists {
     pub children: Vec<Vec<usize>>,
 }
 
-// As many empty lists.
-fn empty_lists(alloc: Global, count: usize) -> Result<Vec<Vec<usize>>, NoMemory>
+/// As many empty lists.
+pub fn empty_lists<X: Drop>(alloc: Global, count: usize) -> Result<Vec<Vec<X>>, NoMemory>
     ensures size { IfOk result (λ lists. length lists.items ≡ count) }
     ensures empty { IfOk result (λ lists. (i : ℕ) → listed lists.items i ≡ []) }
 {
@@ -29,8 +29,8 @@ fn empty_lists(alloc: Global, count: usize) -> Result<Vec<Vec<usize>>, NoMemory>
     Ok(lists)
 }
 
-// Puts a number at the end of a list.
-fn append(lists: &mut Vec<Vec<usize>>, at: usize, x: usize) -> Result<(), NoMemory>
+/// Puts an element at the end of the list at a place.
+pub fn append<X: Drop>(lists: &mut Vec<Vec<X>>, at: usize, x: X) -> Result<(), NoMemory>
     requires { at < length lists.old.items }
     ensures { OnOk result (Appends lists.old.items lists.new.items at x) }
 {

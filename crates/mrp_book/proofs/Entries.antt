@@ -24,7 +24,7 @@ use Rattle.mrp_master.proofs.Promises.{promise_fits}
 use Rattle.mrp_book.proofs.Numbers.{cancelled, find-at, has_number, is_other, nothing_made, others-at, others_differ, standing_of-cons, standing_of-push}
 use Rattle.mrp_book.proofs.Standings.{covered-fewer}
 
-abbrev IsBefore : Booking → Booking → Type 0
+abbrev pub IsBefore : Booking → Booking → Type 0
 IsBefore a b = a.number < b.number
 
 -- lines of the horizon are due from week 1 on

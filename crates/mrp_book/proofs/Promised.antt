@@ -21,6 +21,7 @@ use Rattle.mrp_book.specs.Standing.{History, standing, kept, booking_of, booked}
 use Rattle.mrp_book.specs.History.{next_number, cancel_reply, week_reply, IsReply, IsLegal, MayFollow}
 use Rattle.mrp_turn.proofs.Logs.{InTurn-from_Each, one_more}
 use Rattle.mrp_book.proofs.Standings.{standing_after, standing-more, not_cancelled}
+use Rattle.mrp_book.proofs.Entries.{IsBefore}
 use Rattle.mrp_book.proofs.Histories.{IsLegalFrom}
 
 module _ (s : Supply) where
@@ -83,9 +84,6 @@ module _ (s : Supply) where
   desks h legal = desks_from [] h (InTurn-from_Each (MayFollow s) [] h legal)
 
   -- The numbers of what stands rise, none past the last entry.
-
-  abbrev IsBefore : Booking → Booking → Type 0
-  IsBefore a b = a.number < b.number
 
   abbrev Rises : ℕ → List Booking → Type 0
   Rises next bs = AllPairs IsBefore bs × All (λ b. b.number < next) bs

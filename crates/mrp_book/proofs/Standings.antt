@@ -1,9 +1,9 @@
 -- What stands after one more entry.
 use Rattle.std.specs.Prelude.{filter, not}
 use Rattle.std.specs.List.{list_any}
-use Rattle.std.proofs.Common.{ℕ, ◌≡◌, ◌≤◌, ◌+◌, ◌==◌, ◌&&◌, ◌||◌, Bool, true, false, if◌then◌else◌, nat_le, List, [], ◌∷◌, ◌++◌, take, drop, Option, Some, None, arith, refl, sym, ◌∙◌, ap, append_assoc}
+use Rattle.std.proofs.Common.{ℕ, ◌≡◌, ◌≤◌, ◌+◌, ◌==◌, ◌&&◌, ◌||◌, Bool, true, false, if◌then◌else◌, nat_le, List, [], ◌∷◌, ◌++◌, Option, Some, None, arith, refl, sym, ◌∙◌, ap, append_assoc}
 use Rattle.std.proofs.Math.Bool.{or-false}
-use Rattle.std.proofs.lemmas.List.{append-nil, map-append, take-append-drop}
+use Rattle.std.proofs.lemmas.List.{append-nil, map-append}
 use Rattle.std.proofs.lemmas.List.Elements.{filter-append}
 use Rattle.std.proofs.lemmas.List.Folds.{list_any-append}
 use Rattle.std.proofs.lemmas.List.Sums.{sum_by-cons, sum_by-append}
@@ -82,13 +82,6 @@ standing_after h desk call.Front r = standing-more h (entry desk call.Front r) �
 
 pub due_by-append : (item week : ℕ) (xs ys : List Line) → due_by item week (xs ++ ys) ≡ due_by item week xs + due_by item week ys
 due_by-append item week xs ys = sum_by-append (λ l. if (l.item == item) && nat_le l.week week then l.quantity else 0) xs ys
-
--- the first bookings are due for no more than all of them
-pub due_by_take : (item week k : ℕ) (bs : List Booking) → due_by item week (lines_of (take k bs)) ≤ due_by item week (lines_of bs)
-due_by_take item week k bs =
-    let parts : due_by item week (lines_of (take k bs ++ drop k bs)) ≡ due_by item week (lines_of (take k bs)) + due_by item week (lines_of (drop k bs)) = ap (due_by item week) (map-append (λ b. b.line) (take k bs) (drop k bs)) ∙ due_by-append item week (lines_of (take k bs)) (lines_of (drop k bs)) in
-    let whole : due_by item week (lines_of (take k bs ++ drop k bs)) ≡ due_by item week (lines_of bs) = ap (λ x. due_by item week (lines_of x)) (take-append-drop k bs) in
-    omega arith
 
 -- a part of the bookings is due for no more
 due_by-fewer : (item week : ℕ) (p : Booking → Bool) (bs : List Booking) → due_by item week (lines_of (filter p bs)) ≤ due_by item week (lines_of bs)

@@ -1,5 +1,5 @@
 -- Legal histories: the entries before an entry decide its reply.
-use Rattle.std.specs.Prelude.{ℕ, ◌≡◌, ◌<◌, ◌≤◌, ◌+◌, ◌==◌, nat_le, if◌then◌else◌, List, ◌∷◌, ◌++◌, Option, Some, None, length, find, map}
+use Rattle.std.specs.Prelude.{ℕ, ◌≡◌, ◌≤◌, ◌+◌, ◌==◌, nat_le, if◌then◌else◌, List, Option, Some, None, length, find, map}
 use Rattle.mrp_turn.specs.declared.log.Entry.{Entry}
 use Rattle.mrp_book.specs.declared.booking.Booking.{Booking}
 use Rattle.mrp_book.specs.declared.call.Call.{Call}
@@ -7,7 +7,6 @@ use Rattle.mrp_book.specs.declared.call.Call.TheVariants as call
 use Rattle.mrp_book.specs.declared.reply.Reply.{Reply}
 use Rattle.mrp_book.specs.declared.reply.Reply.TheVariants as reply
 use Rattle.mrp_tables.specs.declared.limits.TheConstants.{MOST_ENTRIES}
-use Rattle.mrp_master.specs.declared.line.Line.{Line}
 use Rattle.mrp_master.specs.Lines.{IsLine, IsSpot, IsWish}
 use Rattle.mrp_master.specs.Supply.{Supply, CanPromise, IsAvailable, IsEarliest}
 use Rattle.mrp_turn.specs.Log.{EachFollows, IsSeatNumber}
@@ -90,9 +89,3 @@ HasSnapshot r = ⊥
 -- who called what, in order
 abbrev pub asked : History → List (ℕ × Call)
 asked h = map (λ e. (e.who, e.call)) h
-
--- the number of the first entry that the entries before it do not decide so
-abbrev pub IsFirstWrong : Supply → History → ℕ → Type 0
-IsFirstWrong s h number =
-    (before : History) × (e : Entry Call Reply) × (after : History)
-    × (h ≡ before ++ e ∷ after) × (number ≡ next_number before) × IsLegal s before × (¬ MayFollow s before e)

@@ -4,10 +4,11 @@ use Rattle.std.specs.Char.{is_ascii_digit}
 use Rattle.jiff.specs.Types.{Date}
 use Rattle.jiff.specs.Words.{IsBetween, date_text}
 use Rattle.mrp_cal.specs.CivilDay.{civil_date}
+use Rattle.mrp_cal.specs.declared.date_text.TheConstants.{FIRST_YEAR, LAST_YEAR}
 
 -- the years of a plan (profile)
 abbrev pub IsPlanningYear : ℤ → Type 0
-IsPlanningYear year = IsBetween (pos 1900) (pos 2999) year
+IsPlanningYear year = IsBetween (pos FIRST_YEAR) (pos LAST_YEAR) year
 
 -- a text is that of a date: YYYY-MM-DD (ISO 8601), in the years of a plan
 pub record IsTextOf (text : List ℕ) (d : Date) : Type 0 where
@@ -32,7 +33,7 @@ two_digits tens ones =
 -- the date of a year, month and day, where the calendar has it, in the years of a plan
 abbrev pub planning_date : ℕ → ℕ → ℕ → Option Date
 planning_date year month day =
-    if nat_le 1900 year && nat_le year 2999 then civil_date (pos year) month day else None
+    if nat_le FIRST_YEAR year && nat_le year LAST_YEAR then civil_date (pos year) month day else None
 
 -- ten bytes, the fifth and the eighth a dash
 abbrev pub has_date_form : List ℕ → Bool

@@ -12,7 +12,7 @@ use std::marker::Model;
 pub const MOST_WEEKS: u64 = 104;
 
 /// The days of the longest horizon.
-const MOST_DAYS: usize = 728;
+const MOST_DAYS: usize = 7 * MOST_WEEKS as usize;
 
 /// A shop calendar: a horizon of 1 to 104 weeks of seven days each, counted from 1, from a start
 /// that is a Monday, with the weekdays that are worked and the holidays.
@@ -47,7 +47,7 @@ impl Calendar {
     ghost use Rattle.mrp_cal.specs.ShopDays as shop;
     ghost use Rattle.mrp_cal.specs.ShopDays.{first_day_of, shop_days_in};
 
-    /// The calendar of a start in the years 1900 to 2999, a horizon in weeks, the weekdays that
+    /// The calendar of a start in the years `FIRST_YEAR` to `LAST_YEAR`, a horizon in weeks, the weekdays that
     /// are worked, from Monday, and the holidays. A holiday outside the horizon has no effect, and
     /// one that stands twice counts once.
     ///

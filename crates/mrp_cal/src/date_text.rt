@@ -6,12 +6,14 @@ ghost use Rattle.mrp_cal.specs.DateText.{IsDateText, IsTextOf};
 
 use jiff::civil::Date;
 
-const FIRST_YEAR: u16 = 1900;
+/// The first year of a plan (profile).
+pub const FIRST_YEAR: u16 = 1900;
 
-const LAST_YEAR: u16 = 2999;
+/// The last year of a plan (profile).
+pub const LAST_YEAR: u16 = 2999;
 
 /// The date that a text is: exactly `YYYY-MM-DD` (ISO 8601), a day that the calendar has, in the
-/// years 1900 to 2999. `None` for every other text.
+/// years `FIRST_YEAR` to `LAST_YEAR`. `None` for every other text.
 pub fn read_date(text: &[u8]) -> Option<Date>
     ensures value { result ≡ spec.date_of text.now }
     ensures accepted { IsSome result ↔ IsDateText text.now }

@@ -8,5 +8,5 @@ mod fault;
 pub mod laws;
 
 pub use calendar::{Calendar, MOST_WEEKS};
-pub use date_text::read_date;
+pub use date_text::{FIRST_YEAR, LAST_YEAR, read_date};
 pub use fault::CalFault;

@@ -1,8 +1,9 @@
-//! The folder of cases that the program is run in: of each case the file NAME.bundle, or the folder NAME.files
-//! with its tables, and beside it either NAME.day, the day that planning it writes, or NAME.said, the words with
-//! which it is refused.
+//! The folder of cases that the program is run in: of each case the file NAME.bundle, or the folder
+//! NAME.files with its tables, and beside it either NAME.day, the day that planning it writes, or
+//! NAME.said, the words with which it is refused.
 
 use crate::ending::Ending;
+use std::alloc::Global;
 use std::io::ErrorKind;
 use std::rt::Files;
 use std::{fs, io};
@@ -21,6 +22,16 @@ pub struct Folder {
     pub answers: usize,
 }
 
+// Adds the case that a file or a folder of this name is of, if there is one.
+fn add_case(alloc: Global, cases: &mut Vec<String>, file: &str) -> io::Result<()> {
+    for end in [BUNDLE, FILES] {
+        if let Some(name) = file.strip_suffix(end) {
+            cases.push(String::from_str(alloc, name)?)?;
+        }
+    }
+    Ok(())
+}
+
 impl Folder {
     /// Reads the folder.
     pub fn read<R: Files + AllocGlobal + Clone + Drop>(rt: &R) -> io::Result<Folder> {
@@ -29,11 +40,7 @@ impl Folder {
         for entry in fs::read_dir(rt, ".")? {
             let entry = entry?;
             let file = entry.file_name();
-            for end in [BUNDLE, FILES] {
-                if let Some(name) = file.strip_suffix(end) {
-                    cases.push(String::from_str(rt.alloc(), name)?)?;
-                }
-            }
+            add_case(rt.alloc(), &mut cases, file)?;
             if file.ends_with(".day") || file.ends_with(".said") {
                 answers = answers.saturating_add(1);
             }
@@ -63,7 +70,8 @@ fn answer_of<R: Files + AllocGlobal>(rt: &R, name: &str, kind: &str) -> io::Resu
     }
 }
 
-/// How planning a case has to end: its day is written, or it is refused with its words. None where it has neither.
+/// How planning a case has to end: its day is written, or it is refused with its words. None where it
+/// has neither.
 pub fn wanted_of<R: Files + AllocGlobal>(rt: &R, name: &str) -> io::Result<Option<Ending>> {
     let nothing = String::new(rt.alloc());
     if let Some(day) = answer_of(rt, name, "day")? {

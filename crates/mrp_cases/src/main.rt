@@ -1,6 +1,7 @@
 //! Plans each bundle and each folder of tables of the folder that it is run in, as `mrp plan` does, and as
 //! `mrp live` does where that can end in one way alone. Tells of each that does not end as the file beside it
-//! says: with its day written, or refused with its words.
+//! says: with its day written, or refused with its words. Each day that is made is checked beside its tables
+//! too, and has to be found right.
 #![tactic(auto)]
 
 mod ending;
@@ -8,6 +9,7 @@ mod folder;
 
 use self::ending::Ending;
 use self::folder::{FILES, Folder, bundle_of, wanted_of};
+use mrp_audit::check;
 use mrp_main::run_words;
 use mrp_rows::Told;
 use std::alloc::Global;
@@ -17,6 +19,9 @@ use std::process::ExitCode;
 use std::rt::Files;
 use std::sync::Wait;
 use std::thread::Threads;
+
+// What a check says of a right day.
+const RIGHT: &str = "right\n";
 
 fn text_of(bytes: Vec<u8>) -> io::Result<String> {
     match String::from_utf8(bytes) {
@@ -72,6 +77,40 @@ fn is_right_by<R: Files + AllocGlobal + Print + Threads + Wait + Sync>(
     Ok(false)
 }
 
+// What is said of a case's day beside its bundle, or beside its folder of tables where it has no bundle.
+fn said_of<R: Files + AllocGlobal + Threads + Wait + Sync>(
+    rt: &R,
+    name: &str,
+    day: &str,
+) -> io::Result<String> {
+    if let Some(bundle) = bundle_of(rt, name)? {
+        return match check(rt, rt.alloc(), &bundle, day.as_bytes()) {
+            Ok(()) => Ok(String::from_str(rt.alloc(), RIGHT)?),
+            Err(fault) => Ok(format!(in rt.alloc(); "wrong: {fault}\n")?),
+        };
+    }
+    let folder = format!(in rt.alloc(); "{name}{FILES}")?;
+    let words = ["check", "--dir", folder.as_str()];
+    Ok(ended(rt, rt.alloc(), &words, day.as_bytes())?.day)
+}
+
+// Whether a case's day is found right, if it has one. Where it is not, a line tells what is said of it.
+fn is_found_right<R: Files + AllocGlobal + Print + Threads + Wait + Sync>(
+    rt: &R,
+    name: &str,
+    wanted: &Ending,
+) -> io::Result<bool> {
+    if wanted.status > 0 {
+        return Ok(true);
+    }
+    let said = said_of(rt, name, &wanted.day)?;
+    if said.as_str() == RIGHT {
+        return Ok(true);
+    }
+    println!(rt; "check {name} is not as it must be; it says {said:?}")?;
+    Ok(false)
+}
+
 // How a case compares with what stands beside it.
 #[derive(Clone, Copy)]
 enum Verdict {
@@ -81,7 +120,8 @@ enum Verdict {
     Live,
 }
 
-// Whether a case ends as it must, by a plan and where there is no choice by a live day.
+// Whether a case ends as it must, by a plan and where there is no choice by a live day, and a day of
+// it is found right.
 fn compare<R: Files + AllocGlobal + Print + Threads + Wait + Sync>(
     rt: &R,
     name: &str,
@@ -90,7 +130,7 @@ fn compare<R: Files + AllocGlobal + Print + Threads + Wait + Sync>(
         println!(rt; "{name} is not as it must be; no day and no words stand beside it")?;
         return Ok(Verdict::Wrong);
     };
-    if !is_right_by(rt, "plan", name, &wanted)? {
+    if !is_right_by(rt, "plan", name, &wanted)? || !is_found_right(rt, name, &wanted)? {
         return Ok(Verdict::Wrong);
     }
     if !wanted.is_of_any_order() {

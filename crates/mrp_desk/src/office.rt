@@ -17,12 +17,12 @@ use std::sync::{Arc, Wait};
 // One place more than an order book has entries, so that the log never grows.
 const ROOM: usize = MOST_ENTRIES as usize + 1;
 
-/// An order desk, which one thread at a time makes calls with. Contracts see its office, its number, what it has seen of
-/// the order book's history, and its own entries; the last two have no bytes.
+/// An order desk, which one thread at a time makes calls with. Contracts see its office, its number, what
+/// it has seen of the order book's history, and its own entries; the last two have no bytes.
 pub type Desk = Seat<ShopBook>;
 
-/// An office of order desks: a shop, and the history of its order book. A call of a desk is answered while no other is,
-/// and makes one entry.
+/// An office of order desks: a shop, and the history of its order book. A call of a desk is answered
+/// while no other is, and makes one entry.
 #[derive(Drop)]
 pub struct Office {
     turn: Turn<ShopBook>,
@@ -197,7 +197,8 @@ impl Office {
         ensures supply { result.supply ≡ supply_at self }
         ensures legal { IsLegal result.supply result.entries }
         ensures few { length result.entries ≤ MOST_ENTRIES }
-        // What each desk has seen is the front of the history, and its own entries are all those under its number.
+        // What each desk has seen is the front of the history, and its own entries are all those under
+        // its number.
         ensures seen { All (λ d. StartsWith result.entries d.seen) desks.items }
         ensures mine { All (λ d. d.mine ≡ entries_by d.number result.entries) desks.items }
         // Every entry is under the number of one of the desks.

@@ -1,25 +1,24 @@
 -- Each run's log is a legal log of its board.
 use Rattle.std.proofs.Common.{◌≡◌, ◌≢◌, ◌∙◌, ◌==◌, ◌||◌, ◌&&◌, ℕ, ◌⊎◌, Bool, true, false, cond, not, if◌then◌else◌, [], ◌∷◌, ◌++◌, Option, Some, None, inl, inr, refl, sym, ap, subst, arith}
-use Rattle.std.proofs.lemmas.Bool.{cases_order}
+use Rattle.std.proofs.Math.Bool.{or-true}
+use Rattle.std.proofs.lemmas.Bool.{cases_order, false_from_ne_true}
 use Rattle.std.proofs.lemmas.Bool.Decides.{nat_tests}
 use Rattle.std.specs.Prelude.{option_map, find}
 use Rattle.std.specs.List.{list_all}
 use Rattle.mrp_turn.specs.Log.{IsSeatNumber, entry}
 use Rattle.mrp_turn.proofs.Logs.{EachFollows-more, EachFollows-nil}
 use Rattle.mrp_bill.specs.Bill.{parents_of}
+use Rattle.mrp_book.proofs.Standings.{any-more}
 use Rattle.mrp_item.specs.Inputs.{Inputs, count, places}
+use Rattle.mrp_explode.proofs.LevelLists.{apart}
 use Rattle.mrp_engine.specs.declared.board.BoardCall.{BoardCall}
 use Rattle.mrp_engine.specs.declared.board.BoardCall.TheVariants as call
 use Rattle.mrp_engine.specs.declared.board.BoardReply.{BoardReply}
 use Rattle.mrp_engine.specs.declared.board.BoardReply.TheVariants as reply
 use Rattle.mrp_engine.specs.Board.{BoardEntry, BoardLog, IsLegalBoard, MayFollowOnBoard, board_reply, hands_out, held, is_at_end, is_out, is_out_to, is_ready, is_stored, item_in, stores}
-use Rattle.mrp_engine.proofs.BoardLogs.{any-more, apart, found-in, held-more, or-true, other-number, same-number, still-out, stored-more}
+use Rattle.mrp_engine.proofs.BoardLogs.{found-in, held-more, other-number, same-number, still-out, stored-more}
 
 -- Tests.
-
-not-true : (b : Bool) → (b ≡ true → ⊥) → b ≡ false
-not-true true no_way = absurd (no_way refl)
-not-true false no_way = refl
 
 true-not : (b : Bool) → b ≡ true → b ≡ false → ⊥
 true-not b is other = let n : true ≡ false = sym is ∙ other in cc
@@ -139,7 +138,7 @@ module _ (s : Inputs) (log : BoardLog) (k : KeepsBoard s log) where
     keeps-more = record {
       legal = EachFollows-more (MayFollowOnBoard s) log e k.legal follows;
       held_out = λ who i is. out-by who i (holds who i is);
-      unstored = λ who i is. not-true (is_stored more i) (kept-unstored who i (holds who i is));
+      unstored = λ who i is. false_from_ne_true (is_stored more i) (kept-unstored who i (holds who i is));
       one = λ who other i is also. one-holder who other i (holds who i is) (holds other i also);
       stored_out = λ i is. stored-is-out i (either (is_stored log i) (stores i e.call e.reply) (sym (stored-more log e i) ∙ is));
     }

@@ -1,35 +1,25 @@
 -- Boards with one more entry.
 use Rattle.std.proofs.Common.{◌≡◌, ◌≢◌, ◌∙◌, ◌<◌, ◌≤◌, ◌+◌, ◌==◌, ◌||◌, ◌&&◌, ℕ, zero, suc, ◌⊎◌, Bool, true, false, cond, not, List, [], ◌∷◌, ◌++◌, Option, Some, None, length, get_or, set, inl, inr, refl, sym, ap, subst, arith, get_or-set_same, get_or-set_other, length-set}
+use Rattle.std.proofs.Math.Bool.{or-false, or-true}
 use Rattle.std.proofs.lemmas.List.{reverse-append, length-replicate}
-use Rattle.std.proofs.lemmas.List.Folds.{list_any-append}
 use Rattle.std.proofs.lemmas.List.Elements.{All-weaker}
 use Rattle.std.proofs.lemmas.List.Sums.{AllPass-from_list_all}
 use Rattle.std.proofs.lemmas.Bool.{cases_order, cases_lt}
 use Rattle.std.proofs.lemmas.Bool.Decides.{nat_tests}
 use Rattle.std.specs.Prelude.{IsSome, is_some, replicate, reverse, find}
 use Rattle.std.proofs.lemmas.List.FromFn.{get_or-range_with_len, length-range_with_len}
-use Rattle.std.specs.List.{list_any, list_all, range_with_len, slice_index_or}
+use Rattle.std.specs.List.{list_all, range_with_len, slice_index_or}
 use Rattle.mrp_turn.specs.Log.{entry}
 use Rattle.mrp_bill.specs.Bill.{parents_of}
+use Rattle.mrp_book.proofs.Standings.{any-more}
 use Rattle.mrp_item.specs.Inputs.{Inputs, count, places}
 use Rattle.mrp_item.specs.Places.{ItemOf}
 use Rattle.mrp_explode.specs.Finished.{Finishes, IsFinished, IsReady, Progress}
+use Rattle.mrp_explode.proofs.LevelLists.{apart}
 use Rattle.mrp_engine.specs.declared.board.BoardCall.TheVariants as call
 use Rattle.mrp_engine.specs.declared.board.BoardReply.TheVariants as reply
 use Rattle.mrp_engine.specs.Board.{BoardEntry, BoardLog, hands_out, stores, stops, has_stopped, held, is_finished, is_out, is_ready, is_stored, item_in, item_of}
 use Rattle.mrp_engine.specs.Kept.{KeepsLog}
-
-or-false : (b : Bool) → (b || false) ≡ b
-or-false true = refl
-or-false false = refl
-
-pub or-true : (b : Bool) → (b || true) ≡ true
-or-true true = refl
-or-true false = refl
-
--- a test of one more entry
-pub any-more : {X : Type 0} (p : X → Bool) (xs : List X) (x : X) → list_any p (xs ++ x ∷ []) ≡ (list_any p xs || p x)
-any-more p xs x = list_any-append p xs (x ∷ []) ∙ ap (λ b. list_any p xs || b) (or-false (p x))
 
 pub out-more : (log : BoardLog) (e : BoardEntry) (i : ℕ) → is_out (log ++ e ∷ []) i ≡ (is_out log i || hands_out i e.reply)
 out-more log e i = any-more (λ (x : BoardEntry). hands_out i x.reply) log e
@@ -54,10 +44,6 @@ same-number i j e = grind (arith, nat_tests)
 
 pub other-number : (i j : ℕ) → i ≢ j → (i == j) ≡ false
 other-number i j e = grind (arith, nat_tests)
-
-pub apart : (i j : ℕ) → (i < j) ⊎ (j < i) → i ≢ j
-apart i j (inl low) same = absurd (omega (arith, low, same))
-apart i j (inr high) same = absurd (omega (arith, high, same))
 
 who-holds : (b : Bool) (now before : Option ℕ) (j : ℕ) → cond b now before ≡ Some j → (now ≡ Some j) ⊎ (before ≡ Some j)
 who-holds true now before j k = inl k

@@ -1,9 +1,9 @@
 -- What right lists of events and answers come to.
-use Rattle.std.proofs.Common.{◌≡◌, ◌≢◌, ◌⊎◌, ◌∙◌, ◌<◌, ◌≤◌, ◌+◌, ◌-◌, ◌↔◌, ℕ, zero, suc, Bool, true, false, if◌then◌else◌, List, [], ◌∷◌, ◌++◌, Option, Some, None, Result, Ok, Err, length, map, set, inl, inr, refl, sym, ap, subst, arith, append_assoc}
+use Rattle.std.proofs.Common.{◌≡◌, ◌≢◌, ◌⊎◌, ◌∙◌, ◌<◌, ◌≤◌, ◌+◌, ◌-◌, ◌↔◌, ℕ, zero, suc, Bool, true, false, if◌then◌else◌, List, [], ◌∷◌, ◌++◌, Option, Some, None, Result, Ok, Err, length, map, set, take, drop, inl, inr, refl, sym, ap, subst, arith, append_assoc}
 use Rattle.std.proofs.Math.Seq.{get_or-append_seam}
 use Rattle.std.proofs.lemmas.Bool.{cases_lt, cases_order}
-use Rattle.std.proofs.lemmas.List.{append-nil, length-append, length-map, take-append-le, get_or-set_other, get_or-set_same, get_or_append_left, length-set, map-append, map-set, set-get_or}
-use Rattle.std.specs.Prelude.{All, IfOk, IsSome, OnErr, option_map, find, slice_index}
+use Rattle.std.proofs.lemmas.List.{append-nil, length-append, length-map, take-append-drop, take-append-le, get_or-set_other, get_or-set_same, get_or_append_left, length-set, map-append, map-set, set-get_or}
+use Rattle.std.specs.Prelude.{All, AllPairs, IfOk, IsSome, OnErr, option_map, find, slice_index}
 use Rattle.std.specs.Global.{Vec}
 use Rattle.std.specs.List.{slice_index_or}
 use Rattle.mrp_turn.specs.declared.log.Entry.{Entry}
@@ -21,14 +21,15 @@ use Rattle.mrp_book.specs.declared.call.Call.TheVariants as call
 use Rattle.mrp_book.specs.declared.reply.Reply.{Reply}
 use Rattle.mrp_book.specs.Standing.{History, standing}
 use Rattle.mrp_book.specs.History.{IsFull, IsLegal, IsReply, next_number}
-use Rattle.mrp_book.proofs.Histories.{legal-more, legal-none, prefix-covered}
-use Rattle.mrp_book.proofs.Promised.{booked_within}
+use Rattle.mrp_book.proofs.Histories.{legal-front, legal-more, legal-none, prefix-covered}
+use Rattle.mrp_book.proofs.Promised.{booked_within, rising}
 use Rattle.mrp_item.specs.Inputs.{Inputs, count, item_at, places}
 use Rattle.mrp_item.proofs.ShopLemmas.{has_parents, is_plannable, is_ranked}
 use Rattle.mrp_peg.specs.Laws.{AddUpToRequirements, AddUpToSupplies}
-use Rattle.mrp_peg.specs.Pegging.{pegs_of}
+use Rattle.mrp_peg.specs.Pegging.{pegs_of, requirements}
 use Rattle.mrp_peg.proofs.Covered.{covered_item}
 use Rattle.mrp_peg.proofs.ItemSums.{to-requirements, to-supplies}
+use Rattle.mrp_peg.proofs.NeedsDiffer.{needs-differ}
 use Rattle.mrp_peg.proofs.Own.{own-of_all}
 use Rattle.mrp_report.specs.ReportText.{report_text}
 use Rattle.mrp_engine.specs.declared.board.BoardCall.TheVariants as board_call
@@ -42,7 +43,7 @@ use Rattle.mrp_engine.specs.declared.board.BoardReply.{BoardReply}
 use Rattle.mrp_engine.specs.Board.{BoardLog, board_reply, held, is_at_end, is_ready}
 use Rattle.mrp_engine.specs.Core.{AsksFullBook, Core, FitsShop, HasMeaning, IsAnswer, IsAnswered, IsOfDesk, IsRight, IsStarted, MayFollowSteps, Run, Step, after, core_after, core_of, finish_of, inputs_at, log_at, no_run, opened, run_at, run_inputs, snapshot_of, told, with_entries}
 use Rattle.mrp_engine.proofs.BoardLaws.{KeepsBoard, keeps-end, keeps-none, keeps-stopped, keeps-stored, keeps-taken}
-use Rattle.mrp_engine.specs.Headline.{Headline, IsAcceptedShop, IsEntry, WasAnswered, WasWritten}
+use Rattle.mrp_engine.specs.Headline.{ChangesNothing, Headline, IsAcceptedShop, IsEntry, WasAnswered, WasWritten}
 
 abbrev pub fronts : Core → List ℕ
 fronts core = map (λ (r : Run). r.front) core.runs
@@ -87,14 +88,44 @@ give_up-same core run who a = same-core core
 write-same : (core : Core) (run : ℕ) (a : Answer) → Same core (after core (event.Write run) a)
 write-same core run a = same-core core
 
--- Nothing changes nothing
-unchanged : (core : Core) (e : Event) → after core e answer.Nothing ≡ core
-unchanged core (event.Call desk c) = refl
-unchanged core (event.Start desk) = refl
-unchanged core (event.Take run who) = refl
-unchanged core (event.Finish run who) = refl
-unchanged core (event.GiveUp run who) = refl
-unchanged core (event.Write run) = refl
+-- what changes nothing
+unchanged : (core : Core) (e : Event) (a : Answer) → ChangesNothing a → after core e a ≡ core
+unchanged core e (answer.Replied number r) is = absurd is
+unchanged core e (answer.Started number front) is = absurd is
+unchanged core e (answer.Item item) is = absurd is
+unchanged core e answer.AllOut is = absurd is
+unchanged core e answer.Stored is = absurd is
+unchanged core e answer.Stopped is = absurd is
+unchanged core (event.Call desk c) answer.Nothing is = refl
+unchanged core (event.Call desk c) answer.Full is = refl
+unchanged core (event.Call desk c) answer.NotYet is = refl
+unchanged core (event.Call desk c) (answer.Bytes bytes) is = refl
+unchanged core (event.Call desk c) (answer.TooLarge name) is = refl
+unchanged core (event.Start desk) answer.Nothing is = refl
+unchanged core (event.Start desk) answer.Full is = refl
+unchanged core (event.Start desk) answer.NotYet is = refl
+unchanged core (event.Start desk) (answer.Bytes bytes) is = refl
+unchanged core (event.Start desk) (answer.TooLarge name) is = refl
+unchanged core (event.Take run who) answer.Nothing is = refl
+unchanged core (event.Take run who) answer.Full is = refl
+unchanged core (event.Take run who) answer.NotYet is = refl
+unchanged core (event.Take run who) (answer.Bytes bytes) is = refl
+unchanged core (event.Take run who) (answer.TooLarge name) is = refl
+unchanged core (event.Finish run who) answer.Nothing is = refl
+unchanged core (event.Finish run who) answer.Full is = refl
+unchanged core (event.Finish run who) answer.NotYet is = refl
+unchanged core (event.Finish run who) (answer.Bytes bytes) is = refl
+unchanged core (event.Finish run who) (answer.TooLarge name) is = refl
+unchanged core (event.GiveUp run who) answer.Nothing is = refl
+unchanged core (event.GiveUp run who) answer.Full is = refl
+unchanged core (event.GiveUp run who) answer.NotYet is = refl
+unchanged core (event.GiveUp run who) (answer.Bytes bytes) is = refl
+unchanged core (event.GiveUp run who) (answer.TooLarge name) is = refl
+unchanged core (event.Write run) answer.Nothing is = refl
+unchanged core (event.Write run) answer.Full is = refl
+unchanged core (event.Write run) answer.NotYet is = refl
+unchanged core (event.Write run) (answer.Bytes bytes) is = refl
+unchanged core (event.Write run) (answer.TooLarge name) is = refl
 
 -- A core grows: entries and runs are only added.
 
@@ -368,7 +399,7 @@ module _ (tables : Tables) (core : Core) (sound : Sound core) (boards : KeepsBoa
       place run past started = omega (arith, past, started.1, length-append core.runs (record { front = front; log = [] } ∷ []))
 
   step-boards : (e : Event) (a : Answer) → IsAnswer core e a → KeepsBoards (after core e a)
-  step-boards e a (inr (none, is)) = subst (λ (x : Answer). KeepsBoards (after core e x)) (sym is) (subst KeepsBoards (sym (unchanged core e)) boards)
+  step-boards e a (inr (none, is)) = subst (λ (x : Answer). KeepsBoards (after core e x)) (sym is) (subst KeepsBoards (sym (unchanged core e answer.Nothing tt)) boards)
   step-boards (event.Call desk c) a (inl (has, inl (full, is))) = subst (λ (x : Answer). KeepsBoards (after core (event.Call desk c) x)) (sym is) boards
   step-boards (event.Call desk c) a (inl (has, inr (open_, r, said, is))) =
       subst (λ (x : Answer). KeepsBoards (after core (event.Call desk c) x)) (sym is)
@@ -543,6 +574,15 @@ module _ (shop : Shop) (kept : IsAcceptedShop shop) (steps : List Step) (right :
       let (started, plannable, text) = bytes-are core was.run was.bytes (answered shop.tables steps was.before (event.Write was.run) (answer.Bytes was.bytes) right was.answered) in
       planned-pegged shop s kept (sym (ap (λ (x : Inputs). x.tables) was.inputs ∙ tables-stay shop.tables was.before)) (subst (λ (x : Inputs). IsPlannable x) (sym was.inputs) plannable) item within
 
+  end-apart : (s : Inputs) → WasWritten shop.tables steps s → (item : ℕ) → AllPairs (λ a b. a.of ≢ b.of) (requirements s item)
+  end-apart s was item =
+      let (started, plannable, text) = bytes-are (core_of shop.tables was.before) was.run was.bytes (answered shop.tables steps was.before (event.Write was.run) (answer.Bytes was.bytes) right was.answered) in
+      let same = written-inputs shop.tables steps was.before (event.Write was.run) (answer.Bytes was.bytes) was.run right was.answered started in
+      let front : ℕ = (run_at end was.run).front in
+      let legal : IsLegal (supply_of shop.tables) (take front end.history) =
+      legal-front (supply_of shop.tables) (take front end.history) (drop front end.history) (subst (λ (h : History). IsLegal (supply_of shop.tables) h) (sym (take-append-drop front end.history)) end-legal) in
+      needs-differ s item (subst (λ (x : Inputs). AllPairs (λ a b. a.number < b.number) x.standing) (same ∙ sym was.inputs) (rising (supply_of shop.tables) (take front end.history) legal).0)
+
   pub headline : Headline shop.tables steps
   headline = record {
     legal = end-legal;
@@ -558,8 +598,9 @@ module _ (shop : Shop) (kept : IsAcceptedShop shop) (steps : List Step) (right :
     within = λ before rest desk number l same. (booked_within (supply_of shop.tables) before rest desk number l (subst (λ (h : History). IsLegal (supply_of shop.tables) h) same end-legal)).0;
     covered = λ before rest same. prefix-covered (supply_of shop.tables) before rest (subst (λ (h : History). IsLegal (supply_of shop.tables) h) same end-legal);
     pegged = end-pegged;
+    apart = end-apart;
     loaded = λ s was centre week. refl;
     meaning = λ before e a was. meaningless (core_of shop.tables before) e a (answered shop.tables steps before e a right was);
-    nothing = λ before e was. core-one shop.tables before (e, answer.Nothing) ∙ unchanged (core_of shop.tables before) e;
+    unchanged = λ before e a was is. core-one shop.tables before (e, a) ∙ unchanged (core_of shop.tables before) e a is;
     full = λ before e a was. full-is (core_of shop.tables before) e a (answered shop.tables steps before e a right was);
   }

@@ -243,7 +243,7 @@ at-err P Q (Err e) p f = f p
 pub desk-wants : (core : Core) (e : Event) → HasMeaning core e → (IsFull core.history → ⊥) → WantsMemory core e
 desk-wants core e has open_ = (has, λ asks. open_ asks.2)
 
-is-none : (o : Option ℕ) → is_some o ≡ false → o ≡ None
+pub is-none : (o : Option ℕ) → is_some o ≡ false → o ≡ None
 is-none None e = refl
 is-none (Some n) e = absurd (let k : true ≡ false = e in cc)
 

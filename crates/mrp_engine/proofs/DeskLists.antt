@@ -1,5 +1,5 @@
 -- The desks of an office, before and after their calls.
-use Rattle.std.proofs.Common.{◌≡◌, ◌∙◌, ◌≢◌, ℕ, zero, ◌+◌, ◌-◌, ◌<◌, ◌≤◌, ◌==◌, ◌++◌, Bool, cond, List, [], ◌∷◌, Some, OnErr, OnOk, IfOk, IsOk, Result, Vec, Ok, Err, drop, get_or, length, map, set, take, ap, arith, inl, inr, refl, subst, sym, slice_get}
+use Rattle.std.proofs.Common.{◌≡◌, ◌∙◌, ◌≢◌, ℕ, ◌+◌, ◌-◌, ◌<◌, ◌≤◌, ◌==◌, ◌++◌, Bool, cond, List, [], ◌∷◌, Some, OnErr, OnOk, IfErr, IfOk, IsOk, Result, Vec, Ok, Err, drop, get_or, length, map, set, take, ap, arith, inl, inr, refl, subst, sym, slice_get}
 use Rattle.std.specs.Prelude.{All, Any}
 use Rattle.std.specs.declared.alloc.Global.{Global}
 use Rattle.std.proofs.lemmas.Bool.{cases_lt, ne_eqb}
@@ -8,16 +8,20 @@ use Rattle.std.proofs.lemmas.List.Elements.{filter-append}
 use Rattle.mrp_bill.specs.Shop.{Shop}
 use Rattle.mrp_turn.specs.Seen.{TurnId, newcomer}
 use Rattle.mrp_turn.proofs.Callers.{read_at}
+use Rattle.mrp_master.specs.Supply.{Supply}
 use Rattle.mrp_book.specs.declared.call.Call.{Call}
 use Rattle.mrp_book.specs.declared.call.Call.TheVariants as call
 use Rattle.mrp_book.specs.declared.refused.Refused.{Refused}
 use Rattle.mrp_book.specs.declared.refused.Refused.TheVariants.{Full}
 use Rattle.mrp_book.specs.History.{IsFull, asked}
+use Rattle.mrp_desk.specs.Calls.{HasCause}
 use Rattle.mrp_desk.specs.Offices.{Desk}
 use Rattle.mrp_engine.specs.declared.serving.Served.{Served}
-use Rattle.mrp_engine.specs.Desks.{AreDesksOf, EndAs, HasServed, HaveServed, MakesCall}
+use Rattle.mrp_engine.specs.Desks.{AreDesksOf, EndAs, HasServed, HaveServed, IsRefusedOne, MakesCall}
+use Rattle.mrp_engine.specs.DeskCalls.{AreCallsOf, asks, calls_at}
 use Rattle.mrp_engine.specs.RightDay.{asked_by}
 use Rattle.mrp_engine.specs.Script.{Script}
+use Rattle.mrp_engine.proofs.DeskRecords.{entries-of}
 use Rattle.mrp_engine.proofs.Parting.{End}
 
 -- a list of desks that was lent is the one that was given back
@@ -38,8 +42,59 @@ new-desks office desks n seats count each =
       λ k d within. ap (λ (s : Desk). s.mine) (at k d within),
     )
 
+-- a desk has made the calls of its records, or was refused one of them
+pub record HasFollowed (records : Script) (old : Desk) (end : End) (new : Desk) : Type 0 where
+  pub office : new.turn ≡ old.turn
+  pub desk : new.number ≡ old.number
+  pub served : OnOk end (asked new.mine ≡ asked old.mine ++ asked_by old.number records)
+  pub few : length new.mine ≤ length old.mine + length (asked_by old.number records)
+  pub full : end ≡ Err Full → IsFull new.seen
+
+-- the calls of a desk's list are those of its records
+pub followed : (s : Supply) (records : Script) (lists : List (Vec Call Global)) (old new : Desk) (end : End) → AreCallsOf records lists → 1 ≤ old.number
+    → HasServed s (calls_at lists (old.number - 1)) old end new → HasFollowed records old end new
+followed s records lists old new end are some has = record {
+  office = has.office;
+  desk = has.desk;
+  served = made end has.served;
+  few = fewer end has.served has.refused;
+  full = λ is. (subst (λ (r : End). IfErr r (IsRefusedOne s calls old new)) is has.refused).cause;
+}
+  where
+    calls : List Call
+    calls = calls_at lists (old.number - 1)
+
+    same : asks old.number calls ≡ asked_by old.number records
+    same =
+        let number : old.number - 1 + 1 ≡ old.number = omega (arith, some) in
+        subst (λ (n : ℕ). asks n calls ≡ asked_by n records) number (are.each (old.number - 1))
+
+    many : length (asked_by old.number records) ≡ length calls
+    many = ap (length {A = ℕ × Call}) (sym same) ∙ length-map {B = ℕ × Call} calls (λ c. (old.number, c))
+
+    made : (r : End) → OnOk r (asked new.mine ≡ asked old.mine ++ asks old.number calls) → OnOk r (asked new.mine ≡ asked old.mine ++ asked_by old.number records)
+    made (Ok u) is = is ∙ ap (λ (xs : Script). asked old.mine ++ xs) same
+    made (Err e) is = tt
+
+    fewer : (r : End) → OnOk r (asked new.mine ≡ asked old.mine ++ asks old.number calls) → IfErr r (IsRefusedOne s calls old new)
+        → length new.mine ≤ length old.mine + length (asked_by old.number records)
+    fewer (Ok u) is refused = let counts = entries-of new.mine old.mine (asks old.number calls) is in let long = length-map {B = ℕ × Call} calls (λ c. (old.number, c)) in omega (arith, counts, long, many)
+    fewer (Err e) is refused =
+        let counts = entries-of new.mine old.mine (asks old.number refused.done) refused.made in
+        let long = length-map {B = ℕ × Call} refused.done (λ c. (old.number, c)) in
+        let whole = ap (length {A = Call}) refused.place ∙ length-append refused.done (refused.call ∷ refused.left) in
+        omega (arith, counts, long, whole, many)
+
+-- the same of desks that are numbered from 1
+pub followed-each : (office : TurnId Shop) (s : Supply) (records : Script) (lists : List (Vec Call Global)) (desks : List Desk) (all : List Served) → AreDesksOf office desks → AreCallsOf records lists
+    → ((k : ℕ) (d : Desk) (x : Served) → k < length desks → HasServed s (calls_at lists ((get_or desks k d).number - 1)) (get_or desks k d) (get_or all k x).end (get_or all k x).desk)
+    → (k : ℕ) (d : Desk) (x : Served) → k < length desks → HasFollowed records (get_or desks k d) (get_or all k x).end (get_or all k x).desk
+followed-each office s records lists desks all are calls each k d x within =
+    let number = are.numbers k d within in
+    followed s records lists (get_or desks k d) (get_or all k x).desk (get_or all k x).end calls (omega (arith, number)) (each k d x within)
+
 module _ (office : TurnId Shop) (records : Script) (desks now : List Desk) (all : List Served) (are : AreDesksOf office desks) (new : All (λ d. d.mine ≡ []) desks) (count : length all ≡ length desks)
-    (each : (k : ℕ) (d : Desk) (s : Served) → k < length desks → HasServed records (get_or desks k d) (get_or all k s).end (get_or all k s).desk) (parted : now ≡ map (λ (s : Served). s.desk) all) where
+    (each : (k : ℕ) (d : Desk) (s : Served) → k < length desks → HasFollowed records (get_or desks k d) (get_or all k s).end (get_or all k s).desk) (parted : now ≡ map (λ (s : Served). s.desk) all) where
   long : length now ≡ length desks
   long = ap (length {A = Desk}) parted ∙ length-map {B = Desk} all (λ s. s.desk) ∙ count
 
@@ -50,7 +105,7 @@ module _ (office : TurnId Shop) (records : Script) (desks now : List Desk) (all 
   is-at : (k : ℕ) (d : Desk) (within : k < length now) → get_or now k d ≡ (at k d within).desk
   is-at k d within = ap (λ (ds : List Desk). get_or ds k d) parted ∙ get_or-map (λ (s : Served). s.desk) all k (record { desk = d; end = Ok (tt {0}) }) d (omega (arith, within, long, count))
 
-  has : (k : ℕ) (d : Desk) (within : k < length now) → HasServed records (get_or desks k d) (at k d within).end (at k d within).desk
+  has : (k : ℕ) (d : Desk) (within : k < length now) → HasFollowed records (get_or desks k d) (at k d within).end (at k d within).desk
   has k d within = each k d (record { desk = d; end = Ok (tt {0}) }) (omega (arith, within, long))
 
   pub served-desks : AreDesksOf office now
@@ -100,13 +155,13 @@ module _ (office : TurnId Shop) (records : Script) (desks now : List Desk) (all 
 
 -- the same of what parting gives, if it gives anything
 pub if-parted-desks : {E : Type 0} (office : TurnId Shop) (records : Script) (desks : List Desk) (all : List Served) → AreDesksOf office desks → All (λ d. d.mine ≡ []) desks → length all ≡ length desks
-    → ((k : ℕ) (d : Desk) (s : Served) → k < length desks → HasServed records (get_or desks k d) (get_or all k s).end (get_or all k s).desk)
+    → ((k : ℕ) (d : Desk) (s : Served) → k < length desks → HasFollowed records (get_or desks k d) (get_or all k s).end (get_or all k s).desk)
     → (r : Result (Vec Desk Global × End) E) → IfOk r (λ p. p.0.items ≡ map (λ (s : Served). s.desk) all) → IfOk r (λ p. AreDesksOf office p.0.items)
 if-parted-desks office records desks all are new count each (Ok (now, end)) parted = served-desks office records desks now.items all are new count each parted
 if-parted-desks office records desks all are new count each (Err e) parted = tt
 
 pub if-parted-served : {E : Type 0} (office : TurnId Shop) (records : Script) (desks : List Desk) (all : List Served) → AreDesksOf office desks → All (λ d. d.mine ≡ []) desks → length all ≡ length desks
-    → ((k : ℕ) (d : Desk) (s : Served) → k < length desks → HasServed records (get_or desks k d) (get_or all k s).end (get_or all k s).desk)
+    → ((k : ℕ) (d : Desk) (s : Served) → k < length desks → HasFollowed records (get_or desks k d) (get_or all k s).end (get_or all k s).desk)
     → (r : Result (Vec Desk Global × End) E) → IfOk r (λ p. p.0.items ≡ map (λ (s : Served). s.desk) all) → IfOk r (λ p. EndAs all p.1) → IfOk r (λ p. HaveServed records p.0.items p.1)
 if-parted-served office records desks all are new count each (Ok (now, end)) parted ends = served-script office records desks now.items all are new count each parted end ends
 if-parted-served office records desks all are new count each (Err e) parted ends = tt
@@ -139,7 +194,7 @@ run-more records d =
     omega (arith, both)
 
 module _ (office : TurnId Shop) (records : Script) (desks : List Desk) (new : Desk) (end : End) (are : AreDesksOf office desks) (some : 1 ≤ length desks)
-    (have : HaveServed records desks {U = Unit {0}} (Ok (tt {0}))) (makes : (d : Desk) → MakesCall call.Snapshot (get_or desks 0 d) end new) where
+    (have : HaveServed records desks {U = Unit {0}} (Ok (tt {0}))) (s : Supply) (makes : (d : Desk) → MakesCall s call.Snapshot (get_or desks 0 d) end new) where
   abbrev after : List Desk
   after = set desks 0 new
 
@@ -221,5 +276,5 @@ module _ (office : TurnId Shop) (records : Script) (desks : List Desk) (new : De
           let zero : k ≡ 0 = omega (arith, none) in
           subst (λ (s : Desk). length s.mine ≤ length (asked_by s.number (records ++ run ∷ []))) (sym (ap (λ (i : ℕ). get_or after i d) zero ∙ first d)) (few-first end refl d)
     ];
-    full = λ e. (0, new, omega (arith, some, many), first new, (makes new).full e);
+    full = λ e. (0, new, omega (arith, some, many), first new, subst (λ (r : End). IfErr r (HasCause s call.Snapshot new.seen)) e (makes new).cause);
   }

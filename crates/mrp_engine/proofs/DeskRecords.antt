@@ -1,12 +1,13 @@
 -- The records of a desk, one after the other.
-use Rattle.std.proofs.Common.{◌≡◌, ◌∙◌, ◌≢◌, ℕ, ◌+◌, ◌<◌, ◌≤◌, ◌==◌, ◌++◌, Bool, cond, List, [], ◌∷◌, OnOk, Result, Ok, Err, drop, get_or, length, map, take, ap, arith, refl, sym}
+use Rattle.std.proofs.Common.{◌≡◌, ◌∙◌, ◌≢◌, ℕ, ◌+◌, ◌<◌, ◌==◌, ◌++◌, Bool, cond, List, [], ◌∷◌, OnOk, Result, Ok, Err, drop, get_or, length, map, take, ap, arith, refl, sym}
 use Rattle.std.proofs.lemmas.Bool.{eq-eqb, ne_eqb}
-use Rattle.std.proofs.lemmas.List.{append-nil, length-append, length-map, map-append, take-append-drop, take_more}
+use Rattle.std.proofs.lemmas.List.{append-nil, append_assoc, length-append, length-map, map-append, take-append-drop, take_more}
 use Rattle.std.proofs.lemmas.List.Elements.{filter-append}
 use Rattle.mrp_tables.specs.declared.rows.ScriptRow.{ScriptRow}
 use Rattle.mrp_book.specs.declared.call.Call.{Call}
 use Rattle.mrp_book.specs.Standing.{History}
 use Rattle.mrp_book.specs.History.{asked}
+use Rattle.mrp_engine.specs.DeskCalls.{asks}
 use Rattle.mrp_engine.specs.RightDay.{asked_by}
 use Rattle.mrp_engine.specs.Script.{Script, call_of, record_of}
 
@@ -34,14 +35,19 @@ next-other d rows k row within is other =
     next d rows k row within is ∙ ap (λ (b : Bool). records d (take k rows) ++ cond b (record_of row ∷ []) []) (ne_eqb row.desk d other)
     ∙ append-nil (records d (take k rows))
 
--- a front of the rows has no more records of the desk
-pub front-few : (d : ℕ) (rows : List ScriptRow) (k : ℕ) → length (records d (take k rows)) ≤ length (records d rows)
-front-few d rows k =
-    let whole : records d rows ≡ records d (take k rows) ++ records d (drop k rows) =
-    ap (records d) (sym (take-append-drop k rows)) ∙ ap (asked_by d) (map-append record_of (take k rows) (drop k rows))
-    ∙ filter-append (λ (r : ℕ × Call). r.0 == d) (map record_of (take k rows)) (map record_of (drop k rows)) in
-    let lengths = ap (length {A = ℕ × Call}) whole ∙ length-append (records d (take k rows)) (records d (drop k rows)) in
-    omega (arith, lengths)
+-- one more call is made, after those that were made before
+pub asks-more : (before old : Script) (d : ℕ) (calls : List Call) (k : ℕ) (c : Call) → before ≡ old ++ asks d (take k calls) → k < length calls → c ≡ get_or calls k c
+    → before ++ (d, c) ∷ [] ≡ old ++ asks d (take (k + 1) calls)
+asks-more before old d calls k c is within at =
+    ap (λ (xs : Script). xs ++ (d, c) ∷ []) is ∙ append_assoc old (asks d (take k calls)) ((d, c) ∷ [])
+    ∙ ap (λ (xs : Script). old ++ xs) (sym (map-append (λ (x : Call). (d, x)) (take k calls) (c ∷ [])))
+    ∙ ap (λ (xs : List Call). old ++ asks d xs) (ap (λ (x : Call). take k calls ++ x ∷ []) at ∙ sym (take_more calls k c within))
+
+-- the calls before one, it, and those behind it
+pub parts-at : (calls : List Call) (k : ℕ) (c : Call) → k < length calls → c ≡ get_or calls k c → calls ≡ take k calls ++ c ∷ drop (k + 1) calls
+parts-at calls k c within at =
+    sym (take-append-drop (k + 1) calls) ∙ ap (λ (xs : List Call). xs ++ drop (k + 1) calls) (take_more calls k c within ∙ ap (λ (x : Call). take k calls ++ x ∷ []) (sym at))
+    ∙ append_assoc (take k calls) (c ∷ []) (drop (k + 1) calls)
 
 -- how many entries there are, by what they asked
 pub entries-of : (new old : History) (xs : Script) → asked new ≡ asked old ++ xs → length new ≡ length old + length xs

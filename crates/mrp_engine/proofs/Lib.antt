@@ -12,9 +12,10 @@ pub mod BoardLaws
 pub mod CoreLaws
 pub mod CoreSteps
 pub mod CoreRuns
-mod DeskCounts
+pub mod DeskCounts
 mod DeskRecords
+mod DeskCalls
 mod Parting
 mod DeskLists
-mod DeskHistories
-mod RightDays
+pub mod DeskHistories
+pub mod RightDays

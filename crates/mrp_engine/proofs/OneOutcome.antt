@@ -15,13 +15,13 @@ use Rattle.mrp_item.specs.Inputs.{Inputs, item_at}
 use Rattle.mrp_item.specs.Plan.{ItemPlan, plan_of}
 use Rattle.mrp_engine.specs.Day.{AnswersScript, IsAccepted, IsDay, IsFirstRefusal, IsPlannable, IsRefused, IsRefusedBy, IsTooLarge, day_text, loop_fault, runs_of}
 
-same-tables : (bundle : List ℕ) (a b : Tables) → tables_of bundle ≡ Ok a → tables_of bundle ≡ Ok b → a ≡ b
+pub same-tables : (bundle : List ℕ) (a b : Tables) → tables_of bundle ≡ Ok a → tables_of bundle ≡ Ok b → a ≡ b
 same-tables bundle a b e f = cc
 
 same-fault : (bundle : List ℕ) (f g : Fault) → tables_of bundle ≡ Err f → tables_of bundle ≡ Err g → f ≡ g
 same-fault bundle f g d e = cc
 
-not-both : (bundle : List ℕ) (t : Tables) (f : Fault) → tables_of bundle ≡ Ok t → tables_of bundle ≡ Err f → ⊥
+pub not-both : (bundle : List ℕ) (t : Tables) (f : Fault) → tables_of bundle ≡ Ok t → tables_of bundle ≡ Err f → ⊥
 not-both bundle t f e d = cc
 
 same-loop : (lines : List BillLine) (i j : ℕ) → IsFirstLoop lines i → IsFirstLoop lines j → i ≡ j
@@ -91,7 +91,7 @@ one-name bundle x y (t, a, g, m, r) (u, b, h, n, q) =
     let there : IsFirstRefusal (runs_of t h) y = subst (λ (s : Tables). IsFirstRefusal (runs_of s h) y) (sym same) q in
     one-refusal (runs_of t g) x y r (subst (λ (k : History). IsFirstRefusal (runs_of t k) y) (sym (same-history t g h m answers)) there)
 
-accepted-not-refused : (bundle : List ℕ) (t : Tables) (f : Fault) → IsAccepted bundle t → IsRefused bundle f → ⊥
+pub accepted-not-refused : (bundle : List ℕ) (t : Tables) (f : Fault) → IsAccepted bundle t → IsRefused bundle f → ⊥
 accepted-not-refused bundle t f a (inl e) = not-both bundle t f a.tables_are e
 accepted-not-refused bundle t f a (inr (u, i, l, e)) =
     let there : IsFirstLoop t.bills i = subst (λ (s : Tables). IsFirstLoop s.bills i) (sym (same-tables bundle t u a.tables_are l.tables_are)) l.loop in

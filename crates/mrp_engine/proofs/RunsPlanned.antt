@@ -19,13 +19,13 @@ use Rattle.mrp_engine.specs.declared.fault.DayFault.{DayFault}
 use Rattle.mrp_engine.specs.declared.fault.DayFault.TheVariants.{Refused, TooLarge, Read, Write, NoMemory}
 
 -- the runs up to an entry, that entry's and those behind it
-runs-cut : (t : Tables) (h : History) (k : ℕ) (e : Entry Call Reply) → k < length h → e ≡ get_or h k e → runs_of t h ≡ runs_of t (take k h) ++ (planned_from t e.reply ++ runs_of t (drop (k + 1) h))
+pub runs-cut : (t : Tables) (h : History) (k : ℕ) (e : Entry Call Reply) → k < length h → e ≡ get_or h k e → runs_of t h ≡ runs_of t (take k h) ++ (planned_from t e.reply ++ runs_of t (drop (k + 1) h))
 runs-cut t h k e within is =
     let split : h ≡ take k h ++ e ∷ drop (k + 1) h =
     sym (take-append-drop k h) ∙ ap (λ (r : History). take k h ++ r) (drop_more h k e within ∙ ap (λ (x : Entry Call Reply). x ∷ drop (k + 1) h) (sym is)) in
     ap (runs_of t) split ∙ flat_map-append (λ (x : Entry Call Reply). planned_from t x.reply) (take k h) (e ∷ drop (k + 1) h)
 
-runs-more : (t : Tables) (h : History) (k : ℕ) (e : Entry Call Reply) → k < length h → e ≡ get_or h k e → runs_of t (take (k + 1) h) ≡ runs_of t (take k h) ++ planned_from t e.reply
+pub runs-more : (t : Tables) (h : History) (k : ℕ) (e : Entry Call Reply) → k < length h → e ≡ get_or h k e → runs_of t (take (k + 1) h) ≡ runs_of t (take k h) ++ planned_from t e.reply
 runs-more t h k e within is =
     ap (runs_of t) (take_more h k e within ∙ ap (λ (x : Entry Call Reply). take k h ++ x ∷ []) (sym is))
     ∙ flat_map-append (λ (x : Entry Call Reply). planned_from t x.reply) (take k h) (e ∷ [])

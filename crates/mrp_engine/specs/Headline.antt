@@ -1,5 +1,5 @@
 -- What every right list of events and answers keeps.
-use Rattle.std.specs.Prelude.{ℕ, ◌≡◌, ◌↔◌, ◌<◌, ◌+◌, ◌==◌, List, [], ◌∷◌, ◌++◌, All, length, filter, sum_by, zip}
+use Rattle.std.specs.Prelude.{ℕ, ◌≡◌, ◌≢◌, ◌↔◌, ◌<◌, ◌+◌, ◌==◌, List, [], ◌∷◌, ◌++◌, All, AllPairs, length, filter, sum_by, zip}
 use Rattle.std.specs.Global.{Vec}
 use Rattle.mrp_tables.specs.Tables.{Tables}
 use Rattle.mrp_tables.specs.Facts.{IsBillLine, IsItem}
@@ -16,7 +16,7 @@ use Rattle.mrp_book.specs.Standing.{History, booked}
 use Rattle.mrp_book.specs.History.{IsLegal, next_number}
 use Rattle.mrp_item.specs.Inputs.{Inputs, count}
 use Rattle.mrp_peg.specs.Laws.{AddUpToRequirements, AddUpToSupplies}
-use Rattle.mrp_peg.specs.Pegging.{pegs_of}
+use Rattle.mrp_peg.specs.Pegging.{pegs_of, requirements}
 use Rattle.mrp_load.specs.Loads.{load, operation_week, orders_in, standard_time}
 use Rattle.mrp_report.specs.ReportText.{report_text}
 use Rattle.mrp_engine.specs.declared.event.Event.{Event}
@@ -59,6 +59,20 @@ time_in s centre week =
     sum_by (λ operation. sum_by (standard_time operation) (filter (λ order. operation_week operation order == week) (orders_in s operation.item)))
     (filter (λ operation. operation.centre == centre) s.tables.routings)
 
+-- the answers of which nothing is kept
+abbrev pub ChangesNothing : Answer → Type 0
+ChangesNothing answer.Nothing = Unit {0}
+ChangesNothing answer.Full = Unit {0}
+ChangesNothing answer.NotYet = Unit {0}
+ChangesNothing (answer.Bytes bytes) = Unit {0}
+ChangesNothing (answer.TooLarge name) = Unit {0}
+ChangesNothing (answer.Replied n r) = ⊥
+ChangesNothing (answer.Started run front) = ⊥
+ChangesNothing (answer.Item item) = ⊥
+ChangesNothing answer.AllOut = ⊥
+ChangesNothing answer.Stored = ⊥
+ChangesNothing answer.Stopped = ⊥
+
 pub record Headline (tables : Tables) (steps : List Step) : Type 0 where
   -- the order book's replies are those of one legal history, whose entries are numbered from 1
   pub legal : IsLegal (supply_of tables) (core_of tables steps).history
@@ -84,11 +98,14 @@ pub record Headline (tables : Tables) (steps : List Step) : Type 0 where
   pub covered : (before after : History) → (core_of tables steps).history ≡ before ++ after → IsCovered (supply_of tables) (booked before)
   -- of each run that is written, every requirement's pegs add up to it, and every supply's, with its surplus, to the supply
   pub pegged : (s : Inputs) → WasWritten tables steps s → (item : ℕ) → item < count s → AddUpToRequirements s item (pegs_of s item) × AddUpToSupplies s item (pegs_of s item)
+  -- and no two requirements are of one need
+  pub apart : (s : Inputs) → WasWritten tables steps s → (item : ℕ) → AllPairs (λ a b. a.of ≢ b.of) (requirements s item)
   -- and every work centre's load in a week is the standard minutes, in thousandths, of the orders that stand there
   pub loaded : (s : Inputs) → WasWritten tables steps s → (centre week : ℕ) → load s centre week ≡ time_in s centre week
-  -- an event is answered Nothing exactly where it has no meaning, and changes nothing then
+  -- an event is answered Nothing exactly where it has no meaning
   pub meaning : (before : List Step) (e : Event) (a : Answer) → WasAnswered steps before e a → (a ≡ answer.Nothing) ↔ (¬ HasMeaning (core_of tables before) e)
-  pub nothing : (before : List Step) (e : Event) → WasAnswered steps before e answer.Nothing → core_of tables (before ++ (e, answer.Nothing) ∷ []) ≡ core_of tables before
+  -- it changes nothing then, nor where the book is full, the run is not ready, or a run is written
+  pub unchanged : (before : List Step) (e : Event) (a : Answer) → WasAnswered steps before e a → ChangesNothing a → core_of tables (before ++ (e, a) ∷ []) ≡ core_of tables before
   -- a call or a start is answered that the order book is full exactly where it has its limit of entries
   pub full : (before : List Step) (e : Event) (a : Answer) → WasAnswered steps before e a → (a ≡ answer.Full) ↔ AsksFullBook (core_of tables before) e
 

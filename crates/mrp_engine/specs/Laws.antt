@@ -1,7 +1,8 @@
 -- That a bundle has a day, and what the bookings of an answered script are.
-use Rattle.std.specs.Prelude.{ℕ, ◌≡◌, ◌≤◌, ◌+◌, ◌⊎◌, List, ◌∷◌, ◌++◌, length, All, Ok, Err}
+use Rattle.std.specs.Prelude.{ℕ, ◌≡◌, ◌≤◌, ◌+◌, ◌⊎◌, List, ◌∷◌, ◌++◌, length, All, Contains, Ok, Err}
 use Rattle.mrp_rows.specs.declared.fault.Fault.{Fault}
 use Rattle.mrp_tables.specs.declared.rows.BillLine.{BillLine}
+use Rattle.mrp_tables.specs.declared.rows.ScriptCall.{ScriptCall}
 use Rattle.mrp_tables.specs.Tables.{AreTables, Tables, tables_of}
 use Rattle.mrp_bill.specs.Bill.{IsFirstLoop, NeedsItself}
 use Rattle.mrp_turn.specs.declared.log.Entry.{Entry}
@@ -13,6 +14,7 @@ use Rattle.mrp_book.specs.declared.reply.Reply.{Reply}
 use Rattle.mrp_book.specs.declared.reply.Reply.TheVariants as reply
 use Rattle.mrp_book.specs.Standing.{History, booked, standing}
 use Rattle.mrp_item.specs.Inputs.{Inputs}
+use Rattle.mrp_engine.specs.Script.{call_of, script_of, with_run}
 use Rattle.mrp_engine.specs.Day.{IsDay, IsFirstRefusal, IsPlannable, IsRefused, IsTooLarge, runs_of}
 
 -- a bundle has tables, which keep their limits, or a first fault
@@ -53,3 +55,15 @@ BooksWithin tables h =
 -- what stands is covered by the supply at every front
 abbrev pub StaysCovered : Tables → History → Type 0
 StaysCovered tables h = (before after : History) → h ≡ before ++ after → IsCovered (supply_of tables) (booked before)
+
+-- a call that one of the script's five words makes
+abbrev pub IsOfWord : Call → Type 0
+IsOfWord c = (word : ScriptCall) × (c ≡ call_of word)
+
+-- every call of a history is one of these
+abbrev pub CallsByWords : History → Type 0
+CallsByWords h = All (λ e. IsOfWord e.call) h
+
+-- every call of a history is one of the script's records, or the run that is added to a script without one
+abbrev pub CallsFromScript : Tables → History → Type 0
+CallsFromScript tables h = All (λ e. Contains (with_run (script_of tables)) (e.who, e.call)) h

@@ -12,4 +12,5 @@ pub mod Headline
 pub mod Kept
 pub mod KeptRun
 pub mod KeptCore
+pub mod DeskCalls
 pub mod Desks

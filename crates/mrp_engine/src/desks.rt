@@ -1,14 +1,17 @@
 //! The history that desks make beside one another.
 
-ghost use Rattle.std.specs.Prelude.{◌≡◌, ◌<◌, ◌≤◌, ◌+◌, All, [], ℕ, IfOk, Ok, length, map, slice_index_or, vec_len};
+ghost use Rattle.std.specs.Prelude.{◌≡◌, ◌<◌, ◌≤◌, ◌+◌, ◌-◌, All, [], ℕ, Err, IfOk, Ok, OnErr, length, map, slice_index_or, vec_len};
+ghost use Rattle.mrp_book.specs.declared.refused.Refused.TheVariants as refused;
 ghost use Rattle.mrp_book.specs.History.{Fits};
 ghost use Rattle.mrp_master.specs.Supply.{supply_of};
 ghost use Rattle.mrp_tables.specs.declared.limits.TheConstants.{MOST_DESKS, MOST_ENTRIES};
 ghost use Rattle.mrp_desk.specs.Offices.{Desk, supply_at};
-ghost use Rattle.mrp_engine.specs.Desks.{AreDesksOf, EndAs, HasServed, HaveServed};
+ghost use Rattle.mrp_engine.specs.DeskCalls.{calls_at};
+ghost use Rattle.mrp_engine.specs.Desks.{AreDesksOf, EndAs, HasServed, HaveServed, IsDeskCount};
 ghost use Rattle.mrp_engine.specs.RightDay.{AnswersDesks};
 ghost use Rattle.mrp_engine.specs.Script.{call_of, record_of, script_of, with_run};
 
+use crate::desk_calls::{calls_by_desk, list_of};
 use crate::script::{ADDED_DESK, has_run};
 use crate::serving::{Served, make, serve};
 use mrp_bill::Shop;
@@ -26,9 +29,8 @@ use std::thread::Threads;
 // How many desks a script has: its greatest desk number, and at least the desk of an added run.
 fn count_of(script: &[ScriptRow]) -> u64
     requires { All (λ r. r.desk ≤ MOST_DESKS) script.now }
-    ensures one { ADDED_DESK ≤ result }
     ensures most { result ≤ MOST_DESKS }
-    ensures all { All (λ r. r.desk ≤ result) script.now }
+    ensures count { IsDeskCount script.now result }
 {
     let mut count = ADDED_DESK;
     for row in script {
@@ -42,7 +44,7 @@ fn open(alloc: Global, shop: Shop) -> Result<(Office, Vec<Desk>), NoMemory>
     ensures shop { IfOk result (λ r. r.0.about.object ≡ shop) }
     ensures desks { IfOk result (λ r. AreDesksOf r.0 r.1.items) }
     ensures new { IfOk result (λ r. All (λ d. d.mine ≡ []) r.1.items) }
-    ensures enough { IfOk result (λ r. (1 ≤ r.0.about.seats) × All (λ row. row.desk ≤ r.0.about.seats) shop.tables.script) }
+    ensures count { IfOk result (λ r. IsDeskCount shop.tables.script r.0.about.seats) }
 {
     let count = count_of(shop.tables().script());
     match Office::open(alloc, shop, count) {
@@ -52,32 +54,38 @@ fn open(alloc: Global, shop: Shop) -> Result<(Office, Vec<Desk>), NoMemory>
     }
 }
 
-// Has each desk make the calls of its records, in a thread of its own where one can be started.
+// Has each desk make the calls of its list, in a thread of its own where one can be started.
 fn serve_all<R: Threads + Wait + Sync, G: Gate + Sync>(
     rt: &R,
     office: &Office,
-    script: &[ScriptRow],
+    lists: &[Vec<Call>],
     gate: &G,
     desks: Vec<Desk>,
 ) -> Result<Vec<Served>, AllocError>
     requires office { All (λ d. d.turn ≡ office.now) desks.items }
-    requires fits { All (λ r. Fits (supply_at office.now) (call_of r.call)) script.now }
+    requires lists { All (λ d. (1 ≤ d.number) × (d.number ≤ length lists.now)) desks.items }
+    requires fits { (place : ℕ) → All (Fits (supply_at office.now)) (calls_at lists.now place) }
     ensures count { IfOk result (λ all. vec_len all ≡ vec_len desks) }
     ensures each { IfOk result (λ all. (k : ℕ) (d : Desk) (s : _) → k < vec_len desks
-        → HasServed (map record_of script.now) (slice_index_or desks.items k d) (slice_index_or all.items k s).end (slice_index_or all.items k s).desk) }
+        → HasServed (supply_at office.now) (calls_at lists.now ((slice_index_or desks.items k d).number - 1)) (slice_index_or desks.items k d)
+        (slice_index_or all.items k s).end (slice_index_or all.items k s).desk) }
 {
     thread::map_vec(
         rt,
         desks,
         &|desk: Desk| -> Served
-            requires { (desk.turn ≡ office.now) × All (λ r. Fits (supply_at office.now) (call_of r.call)) script.now }
-            ensures { HasServed (map record_of script.entry.now) desk result.end result.desk }
-        { serve(rt, office, script, gate, desk) },
+            requires { (desk.turn ≡ office.now) × (1 ≤ desk.number) × (desk.number ≤ length lists.now)
+                × ((place : ℕ) → All (Fits (supply_at office.now)) (calls_at lists.now place)) }
+            ensures { HasServed (supply_at office.entry.now) (calls_at lists.entry.now (desk.number - 1)) desk result.end result.desk }
+        {
+            let calls = list_of(lists, desk.number());
+            serve(rt, office, calls, gate, desk)
+        },
     )
 }
 
 // The desks, and how their calls ended: as those of the first that was refused one.
-fn parted(alloc: Global, all: Vec<Served>) -> Result<(Vec<Desk>, Result<(), Refused>), AllocError>
+fn parted(alloc: Global, all: Vec<Served>) -> Result<(Vec<Desk>, Result<(), Refused>), NoMemory>
     ensures desks { IfOk result (λ r. r.0.items ≡ map (λ s. s.desk) all.items) }
     ensures end { IfOk result (λ r. EndAs all.items r.1) }
 {
@@ -101,14 +109,18 @@ fn serve_script<R: Threads + Wait + Sync, G: Gate + Sync>(
     script: &[ScriptRow],
     gate: &G,
     desks: Vec<Desk>,
-) -> Result<(Vec<Desk>, Result<(), Refused>), AllocError>
+) -> Result<(Vec<Desk>, Result<(), Refused>), NoMemory>
     requires desks { AreDesksOf office.now desks.items }
     requires new { All (λ d. d.mine ≡ []) desks.items }
+    requires count { IsDeskCount script.now office.now.about.seats }
+    requires rows { All (λ r. 1 ≤ r.desk) script.now }
     requires fits { All (λ r. Fits (supply_at office.now) (call_of r.call)) script.now }
     ensures desks { IfOk result (λ r. AreDesksOf office.now r.0.items) }
     ensures served { IfOk result (λ r. HaveServed (map record_of script.now) r.0.items r.1) }
 {
-    parted(alloc, serve_all(rt, office, script, gate, desks)?)
+    let lists = calls_by_desk(alloc, script, desks.len())?;
+    let all = serve_all(rt, office, lists.as_slice(), gate, desks)?;
+    parted(alloc, all)
 }
 
 // Adds a run to a script without one: the last call of all, by the first desk.
@@ -134,11 +146,13 @@ fn add_run<R: Wait>(
 fn close(office: Office, desks: Vec<Desk>, end: Result<(), Refused>) -> Result<History, NoMemory>
     requires desks { AreDesksOf office desks.items }
     requires served { HaveServed (with_run (script_of office.about.object.tables)) desks.items end }
-    requires enough { (1 ≤ office.about.seats) × All (λ row. row.desk ≤ office.about.seats) office.about.object.tables.script }
+    requires count { IsDeskCount office.about.object.tables.script office.about.seats }
     requires rows { All (λ row. 1 ≤ row.desk) office.about.object.tables.script }
     requires few { length office.about.object.tables.script + 1 < MOST_ENTRIES }
     ensures supply { IfOk result (λ h. h.supply ≡ supply_at office) }
     ensures answers { IfOk result (λ h. AnswersDesks office.about.object.tables h.entries) }
+    // It is refused memory only where a desk was.
+    ensures refused { OnErr result (end ≡ Err refused.NoMemory) }
 {
     let history = office.close(desks);
     match end {
@@ -149,8 +163,8 @@ fn close(office: Office, desks: Vec<Desk>, end: Result<(), Refused>) -> Result<H
 }
 
 /// The history that a shop's desks make, each in a thread of its own where one can be started: it
-/// makes the calls of its records in order and passes the gate before each. A script without a run is taken with one more
-/// call, a run of desk 1, after all others.
+/// makes the calls of its records in order and passes the gate before each, by its number. A script
+/// without a run is taken with one more call, a run of desk 1, after all others.
 ///
 /// Errors: `NoMemory` where memory is refused.
 pub fn answer_by_desks<R: Threads + Wait + Sync, G: Gate + Sync>(

@@ -10,7 +10,7 @@ ghost use Rattle.mrp_engine.specs.RightDay.{AnswersDesks, IsRightDay};
 ghost use Rattle.mrp_bill.specs.Shop.{Shop};
 ghost use Rattle.mrp_engine.specs.Core.{IsRight, Step};
 ghost use Rattle.mrp_engine.specs.Headline.{Headline, IsAcceptedShop};
-ghost use Rattle.mrp_engine.specs.Laws.{ArePlannedOrRefused, BooksWithin, HasDay, HasLoopOrNone, HasReading, PlansWhatStood, StaysCovered};
+ghost use Rattle.mrp_engine.specs.Laws.{ArePlannedOrRefused, BooksWithin, CallsByWords, CallsFromScript, HasDay, HasLoopOrNone, HasReading, PlansWhatStood, StaysCovered};
 
 use mrp_bill::laws::loops;
 use mrp_book::laws::histories;
@@ -69,6 +69,9 @@ pub fn right_days()
     // So the day of a bundle is a right day of it, and so is each in which the desks answer beside one another.
     ensures day { (bundle text : List ℕ) → IsDay bundle text → IsRightDay bundle text }
     ensures live { (bundle text : List ℕ) → IsDayBy AnswersDesks bundle text → IsRightDay bundle text }
+    // Each call of its history is one of the script's, by one of the script's five words.
+    ensures from_script { (tables : Tables) (h : History) → AnswersDesks tables h → CallsFromScript tables h }
+    ensures by_words { (tables : Tables) (h : History) → AnswersDesks tables h → CallsByWords h }
     // Its runs are planned from what stood, and its bookings were within what was available, as in row order.
     ensures what_stood { (tables : Tables) (h : History) → AnswersDesks tables h → PlansWhatStood tables h }
     ensures within { (tables : Tables) (h : History) → AnswersDesks tables h → BooksWithin tables h }

@@ -3,6 +3,7 @@
 
 mod board;
 mod day;
+mod desk_calls;
 mod desks;
 mod event;
 mod fault;
@@ -23,5 +24,7 @@ pub use desks::answer_by_desks;
 pub use event::{Answer, Event};
 pub use fault::DayFault;
 pub use live::live_day;
+pub use opening::open_shop;
 pub use run::{MOST_WORKERS, run_day};
+pub use script::{ADDED_DESK, answer, call_of, has_run};
 pub use steps::Core;

@@ -15,10 +15,10 @@ use mrp_tables::limits::{MOST_DESKS, MOST_ENTRIES};
 use mrp_tables::{ScriptCall, ScriptRow};
 use std::alloc::Global;
 
-// The desk whose run is added to a script without one.
+/// The desk whose run is added to a script without one.
 pub const ADDED_DESK: u64 = 1;
 
-// A script's call, as the order book takes it: a run plans a snapshot.
+/// A script's call, as the order book takes it: a run asks for a snapshot.
 pub fn call_of(call: ScriptCall) -> Call
     ensures { result ≡ call_of call }
 {
@@ -39,15 +39,17 @@ pub fn call_of(call: ScriptCall) -> Call
     }
 }
 
-// Whether a script has a run.
+/// Whether a script has a run.
 pub fn has_run(script: &[ScriptRow]) -> bool
     ensures { result ≡ list_any (λ r. is_run (call_of r.call)) script.now }
 {
     script.iter().any(|row| matches!(row.call, ScriptCall::Run))
 }
 
-// Makes one more entry of a book that is not full.
-fn answer(alloc: Global, book: &mut Book, desk: u64, call: Call) -> Result<(), NoMemory>
+/// Makes one more entry of a book that is not full.
+///
+/// Errors: `NoMemory` where memory is refused.
+pub fn answer(alloc: Global, book: &mut Book, desk: u64, call: Call) -> Result<(), NoMemory>
     requires desk { IsInRange 1 MOST_DESKS desk }
     requires fits { Fits book.old.supply call }
     requires room { length book.old.entries < MOST_ENTRIES }

@@ -12,6 +12,11 @@ use Rattle.mrp_bill.specs.Shop.{Shop, IsShop}
 use Rattle.mrp_bill.proofs.Accepted.{codes-are, one-code}
 use Rattle.mrp_explode.specs.Levels.{AreLevels}
 
+-- a number that is less or greater is another
+pub apart : (a b : ℕ) → (a < b) ⊎ (b < a) → a ≢ b
+apart a b (inl low) same = absurd (omega (arith, low, same))
+apart a b (inr high) same = absurd (omega (arith, high, same))
+
 -- a parent's code is less than its component's
 pub code-rises : (lines : List BillLine) (p i m n : ℕ) → IsParent lines p i → IsCode lines p m → IsCode lines i n → m < n
 code-rises lines p i m n link above below = omega (arith, below.greatest (suc m) above.reached.0 (p, above.reached.1, link))
@@ -54,9 +59,6 @@ one-grouped lines count x at old new within coded appends before = record {
   where
     Of : ℕ → ℕ → Type 0
     Of code i = (i < count) × IsCode lines i code
-
-    apart : (a b : ℕ) → (a < b) ⊎ (b < a) → a ≢ b
-    apart a b o same = elim o [ inl low ↦ omega (arith, same, low) | inr high ↦ omega (arith, same, high) ]
 
     here : (code : ℕ) → (code ≡ at) ⊎ ((code < at) ⊎ (at < code)) → All (λ i. (i < count) × IsCode lines i code) (listed new code)
     here code (inl same) = subst (λ (c : ℕ). All (λ i. (i < count) × IsCode lines i c) (listed new c)) (sym same)

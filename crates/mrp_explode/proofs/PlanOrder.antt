@@ -1,5 +1,5 @@
 -- Items are planned in an order in which parents stand before their components.
-use Rattle.std.proofs.Common.{◌≡◌, ◌∙◌, ◌≢◌, ℕ, ◌+◌, ◌<◌, true, List, Option, Some, None, length, length-set, get_or, set, sym, ap, subst, inl, inr, refl, arith, get_or-set_same, get_or-set_other}
+use Rattle.std.proofs.Common.{◌≡◌, ◌∙◌, ℕ, ◌+◌, ◌<◌, true, List, Option, Some, None, length, length-set, get_or, set, sym, ap, subst, inl, inr, refl, arith, get_or-set_same, get_or-set_other}
 use Rattle.std.proofs.lemmas.Bool.{cases_order}
 use Rattle.std.proofs.lemmas.List.Elements.{filter_passes}
 use Rattle.std.specs.Prelude.{All, IsSome}
@@ -11,6 +11,7 @@ use Rattle.mrp_item.specs.Inputs.{Inputs, count}
 use Rattle.mrp_item.specs.Made.{item_from}
 use Rattle.mrp_item.specs.Places.{ItemOf}
 use Rattle.mrp_explode.specs.Finished.{AreOwn, Finishes}
+use Rattle.mrp_explode.proofs.LevelLists.{apart}
 
 set-own : (s : Inputs) (xs : List (Option ItemOf)) (item : ℕ) (o : ItemOf) → item < length xs → o ≡ item_from s item
     → ((i : ℕ) (p : ItemOf) → slice_index_or xs i None ≡ Some p → p ≡ item_from s i)
@@ -20,9 +21,7 @@ set-own s xs item o within own others i p e = elim (cases_order i item) [
       let here : slice_index_or (set xs item (Some o)) i None ≡ Some o = ap (λ k. slice_index_or (set xs item (Some o)) k None) same ∙ get_or-set_same xs item (Some o) None within in
       let outcome : o ≡ p = cc in
       sym outcome ∙ own ∙ ap (item_from s) (sym same)
-  | inr apart ↦
-      let other : i ≢ item = λ same. elim apart [ inl low ↦ absurd (omega (arith, same, low)) | inr high ↦ absurd (omega (arith, same, high)) ] in
-      others i p (sym (get_or-set_other xs item i (Some o) None other) ∙ e)
+  | inr other ↦ others i p (sym (get_or-set_other xs item i (Some o) None (apart i item other)) ∙ e)
 ]
 
 set-here : (xs : List (Option ItemOf)) (item : ℕ) (o : ItemOf) → item < length xs → IsSome (slice_index_or (set xs item (Some o)) item None)
@@ -31,9 +30,7 @@ set-here xs item o within = subst (λ (x : Option ItemOf). IsSome x) (sym (get_o
 set-others : (xs : List (Option ItemOf)) (item i : ℕ) (o : ItemOf) → item < length xs → IsSome (slice_index_or xs i None) → IsSome (slice_index_or (set xs item (Some o)) i None)
 set-others xs item i o within there = elim (cases_order i item) [
   | inl same ↦ subst (λ (k : ℕ). IsSome (slice_index_or (set xs item (Some o)) k None)) (sym same) (set-here xs item o within)
-  | inr apart ↦
-      let other : i ≢ item = λ same. elim apart [ inl low ↦ absurd (omega (arith, same, low)) | inr high ↦ absurd (omega (arith, same, high)) ] in
-      subst (λ (x : Option ItemOf). IsSome x) (sym (get_or-set_other xs item i (Some o) None other)) there
+  | inr other ↦ subst (λ (x : Option ItemOf). IsSome x) (sym (get_or-set_other xs item i (Some o) None (apart i item other))) there
 ]
 
 -- one more outcome is put in its place
@@ -72,7 +69,7 @@ pub one-more-done : (items : List ℕ) (k item : ℕ) (Was Is : ℕ → Type 0) 
     → (j : ℕ) → j < k + 1 → Is (get_or items j 0)
 one-more-done items k item Was Is same before here others j h = elim (cases_order j k) [
   | inl at ↦ subst (λ (n : ℕ). Is (get_or items n 0)) (sym at) (subst Is same here)
-  | inr apart ↦ elim apart [
+  | inr other ↦ elim other [
     | inl low ↦ others (get_or items j 0) (before j low)
     | inr high ↦ absurd (omega (arith, h, high))
   ]

@@ -1,11 +1,12 @@
 -- The orders of a week, as a loop over weeks finds them.
-use Rattle.std.proofs.Common.{◌≡◌, ◌∙◌, ℕ, zero, suc, ◌+◌, ◌-◌, ◌<◌, Bool, true, false, cond, List, [], ◌∷◌, ◌++◌, map, refl, sym, ap, arith}
+use Rattle.std.proofs.Common.{◌≡◌, ◌∙◌, ℕ, zero, suc, ◌+◌, ◌-◌, ◌<◌, ◌≤◌, max, Bool, true, false, cond, List, [], ◌∷◌, ◌++◌, map, refl, sym, ap, arith}
 use Rattle.std.specs.Prelude.{All, flat_map, nat_lt, sum_by}
 use Rattle.std.specs.Int.{IsInRange}
 use Rattle.std.proofs.lemmas.List.Elements.{All-append, All-cons, All-map, All-nil, All-weaker}
 use Rattle.std.proofs.lemmas.Simd.{map-map}
 use Rattle.mrp_qty.specs.Quantity.{greatest_quantity}
 use Rattle.mrp_phase.specs.Weeks.{in_week, weeks}
+use Rattle.mrp_phase.proofs.WeekRows.{flat_map-weeks_next, flat_map-weeks_suc}
 use Rattle.mrp_item.specs.declared.order.Order.{Order}
 use Rattle.mrp_item.specs.declared.order.OrderKind.TheVariants.{Firm, Planned}
 use Rattle.mrp_tables.specs.declared.rows.MasterRow.{MasterRow}
@@ -15,7 +16,7 @@ use Rattle.mrp_item.specs.Rows.{firm_rows}
 use Rattle.mrp_item.specs.Dues.{due_in, firm_dues}
 use Rattle.mrp_item.specs.Orders.{order_of, firm_orders, planned_order, orders_due, orders_of}
 use Rattle.mrp_item.proofs.DueRows.{due_in-firm}
-use Rattle.mrp_item.proofs.Starts.{orders_more, starts_rise, start}
+use Rattle.mrp_item.proofs.Starts.{starts_rise, start}
 
 firm_due : (s : Inputs) (i week : ℕ) (dues : List Due) → dues ≡ firm_dues s.tables.master i → map (order_of (item_at s i) Firm week) (due_in week dues) ≡ firm_orders s i week
 firm_due s i week dues is =
@@ -29,15 +30,12 @@ pub week_more : (s : Inputs) (i k : ℕ) (receipts : List ℕ) (dues : List Due)
     → flat_map (orders_due s i receipts) (weeks k) ++ (map (order_of item Firm (k + 1)) (due_in (k + 1) dues) ++ planned_order item (k + 1) before received)
     ≡ flat_map (orders_due s i receipts) (weeks (k + 1))
 week_more s i k receipts dues before received item here is was now =
-    let next : k + 1 ≡ suc k = omega arith in
     let back : in_week receipts (k + 1 - 1) ≡ in_week receipts k = ap (in_week receipts) (omega arith) in
     ap (λ x. flat_map (orders_due s i receipts) (weeks k) ++ (map (order_of x Firm (k + 1)) (due_in (k + 1) dues) ++ planned_order x (k + 1) before received)) here
     ∙ ap (λ n. flat_map (orders_due s i receipts) (weeks k) ++ (map (order_of (item_at s i) Firm (k + 1)) (due_in (k + 1) dues) ++ planned_order (item_at s i) (k + 1) n received)) (was ∙ sym back)
     ∙ ap (λ n. flat_map (orders_due s i receipts) (weeks k) ++ (map (order_of (item_at s i) Firm (k + 1)) (due_in (k + 1) dues) ++ planned_order (item_at s i) (k + 1) (in_week receipts (k + 1 - 1)) n)) now
     ∙ ap (λ xs. flat_map (orders_due s i receipts) (weeks k) ++ (xs ++ planned_order (item_at s i) (k + 1) (in_week receipts (k + 1 - 1)) (in_week receipts (k + 1)))) (firm_due s i (k + 1) dues is)
-    ∙ ap (λ n. flat_map (orders_due s i receipts) (weeks k) ++ orders_due s i receipts n) next
-    ∙ sym (orders_more (orders_due s i receipts) k)
-    ∙ ap (λ n. flat_map (orders_due s i receipts) (weeks n)) (sym next)
+    ∙ sym (flat_map-weeks_next (orders_due s i receipts) k)
 
 -- too much by a week is too much in all
 pub week_past : (s : Inputs) (i k : ℕ) (receipts : List ℕ) (list : List Order) → list ≡ flat_map (orders_due s i receipts) (weeks (k + 1)) → k < horizon s
@@ -62,17 +60,46 @@ due_here s i week receipts =
     by true = All-cons IsDue planned [] refl (All-nil IsDue)
     by false = All-nil IsDue
 
+-- what is within each week from 1 on of all that a week has is within the weeks of all that they have
+within-all : {X : Type 0} (of : X → ℕ) (f : ℕ → List X) → ((n : ℕ) → All (λ x. IsInRange 1 (suc n) (of x)) (f (suc n))) → (n : ℕ) → All (λ x. IsInRange 1 n (of x)) (flat_map f (weeks n))
+within-all of f each zero = All-nil (λ x. IsInRange 1 0 (of x))
+within-all {X} of f each (suc n) =
+    rw (flat_map-weeks_suc f n)
+    (All-append (IsWithin (suc n)) (flat_map f (weeks n)) (f (suc n))
+    (All-weaker (IsWithin n) (IsWithin (suc n)) (λ x is. (is.0, omega (arith, is.1))) (flat_map f (weeks n)) (within-all of f each n))
+    (each n))
+  where
+    IsWithin : ℕ → X → Type 0
+    IsWithin m x = IsInRange 1 m (of x)
+
 -- each order of an item is due in a week of the horizon
 pub due-within : (s : Inputs) (i : ℕ) (receipts : List ℕ) → All (λ (o : Order). IsInRange 1 (horizon s) o.due) (orders_of s i receipts)
-due-within s i receipts = up_to (horizon s)
-  where
-    IsWithin : ℕ → Order → Type 0
-    IsWithin n o = IsInRange 1 n o.due
+due-within s i receipts =
+    within-all (λ (o : Order). o.due) (orders_due s i receipts)
+    (λ n. All-weaker (λ (o : Order). o.due ≡ suc n) (λ (o : Order). IsInRange 1 (suc n) o.due) (λ o is. (omega (arith, is), omega (arith, is))) (orders_due s i receipts (suc n)) (due_here s i (suc n) receipts))
+    (horizon s)
 
-    up_to : (n : ℕ) → All (IsWithin n) (flat_map (orders_due s i receipts) (weeks n))
-    up_to zero = All-nil (IsWithin 0)
-    up_to (suc n) =
-        rw (orders_more (orders_due s i receipts) n)
-        (All-append (IsWithin (suc n)) (flat_map (orders_due s i receipts) (weeks n)) (orders_due s i receipts (suc n))
-        (All-weaker (IsWithin n) (IsWithin (suc n)) (λ o is. (is.0, omega (arith, is.1))) (flat_map (orders_due s i receipts) (weeks n)) (up_to n))
-        (All-weaker (λ (o : Order). o.due ≡ suc n) (IsWithin (suc n)) (λ o is. (omega arith, omega arith)) (orders_due s i receipts (suc n)) (due_here s i (suc n) receipts)))
+-- each order of a week is released by it
+released_here : (s : Inputs) (i week : ℕ) (receipts : List ℕ) → 1 ≤ week → All (λ (o : Order). IsInRange 1 week o.release) (orders_due s i receipts week)
+released_here s i week receipts from =
+    All-append IsReleased (firm_orders s i week) (planned_order (item_at s i) week (in_week receipts (week - 1)) (in_week receipts week))
+    (All-map IsReleased (λ (r : MasterRow). order_of (item_at s i) Firm week r.quantity) (firm_rows s i week) (λ k d h. within (item_at s i).lead))
+    (by (nat_lt (in_week receipts (week - 1)) (in_week receipts week)))
+  where
+    IsReleased : Order → Type 0
+    IsReleased o = IsInRange 1 week o.release
+
+    within : (lead : ℕ) → IsInRange 1 week (max 1 (week - lead))
+    within lead = (omega (arith, from), omega (arith, from))
+
+    planned : Order
+    planned = order_of (item_at s i) Planned week (in_week receipts week - in_week receipts (week - 1))
+
+    by : (b : Bool) → All IsReleased (cond b (planned ∷ []) [])
+    by true = All-cons IsReleased planned [] (within (item_at s i).lead) (All-nil IsReleased)
+    by false = All-nil IsReleased
+
+-- each order of an item is released in a week of the horizon
+pub release-within : (s : Inputs) (i : ℕ) (receipts : List ℕ) → All (λ (o : Order). IsInRange 1 (horizon s) o.release) (orders_of s i receipts)
+release-within s i receipts =
+    within-all (λ (o : Order). o.release) (orders_due s i receipts) (λ n. released_here s i (suc n) receipts (omega arith)) (horizon s)

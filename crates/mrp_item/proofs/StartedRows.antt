@@ -6,6 +6,7 @@ use Rattle.std.proofs.lemmas.List.{length-replicate}
 use Rattle.std.proofs.lemmas.List.Sums.{sum_by-cons, sum_by_more, sum_by_more_le}
 use Rattle.mrp_qty.specs.Quantity.{greatest_quantity}
 use Rattle.mrp_phase.specs.Weeks.{row, in_week}
+use Rattle.mrp_phase.proofs.KeptSums.{sum_by-kept}
 use Rattle.mrp_phase.proofs.WeekRows.{row_is, row_same, in_week_row, in_week_replicate}
 use Rattle.mrp_item.specs.declared.order.Order.{Order}
 use Rattle.mrp_item.specs.Dues.{with_more}
@@ -16,18 +17,7 @@ abbrev pub one_started : ℕ → Order → ℕ
 one_started week o = cond (eqb o.release week) o.start 0
 
 started_by : (orders : List Order) (week : ℕ) → started_in orders week ≡ sum_by (one_started week) orders
-started_by [] week = refl
-started_by (o ∷ orders) week = by (eqb o.release week) refl (started_by orders week)
-  where
-    start : Order → ℕ
-    start x = x.start
-
-    rest : List Order
-    rest = filter (λ x. eqb x.release week) orders
-
-    by : (b : Bool) → eqb o.release week ≡ b → sum_by start rest ≡ sum_by (one_started week) orders → sum_by start (cond b (o ∷ rest) rest) ≡ sum_by (one_started week) (o ∷ orders)
-    by true e more = omega (arith, more, sum_by-cons start o rest, sum_by-cons (one_started week) o orders, ap (λ b. cond b o.start 0) e)
-    by false e more = omega (arith, more, sum_by-cons (one_started week) o orders, ap (λ b. cond b o.start 0) e)
+started_by orders week = sum_by-kept (λ o. eqb o.release week) (λ (o : Order). o.start) orders
 
 pub started_none : (n : ℕ) → replicate n 0 ≡ row n (started_in [])
 started_none n = row_is (replicate n 0) (started_in []) n (length-replicate n 0) (λ week a b. in_week_replicate n week)

@@ -1,12 +1,11 @@
 -- What starts of orders, one order at a time.
-use Rattle.std.proofs.Common.{◌≡◌, ◌∙◌, ℕ, zero, suc, ◌+◌, ◌-◌, ◌<◌, ◌≤◌, Bool, true, false, cond, eqb, List, [], ◌∷◌, ◌++◌, length, take, map, get_or, refl, ap, arith, append-nil}
+use Rattle.std.proofs.Common.{◌≡◌, ℕ, zero, suc, ◌+◌, ◌-◌, ◌<◌, ◌≤◌, Bool, true, false, cond, eqb, List, [], ◌∷◌, ◌++◌, length, take, map, get_or, refl, ap, arith}
 use Rattle.std.specs.Prelude.{filter, flat_map, sum_by}
 use Rattle.std.proofs.lemmas.Bool.{eq-eqb}
 use Rattle.std.proofs.lemmas.List.Sums.{sum_by-cons, sum_by-append, sum_by_more_le}
-use Rattle.std.proofs.lemmas.List.Concat.{flat_map-append}
 use Rattle.mrp_qty.specs.Quantity.{greatest_quantity}
 use Rattle.mrp_phase.specs.Weeks.{weeks}
-use Rattle.mrp_phase.proofs.WeekRows.{weeks_more}
+use Rattle.mrp_phase.proofs.WeekRows.{flat_map-weeks_suc}
 use Rattle.mrp_item.specs.declared.order.Order.{Order}
 use Rattle.mrp_item.specs.declared.due.Due.{Due}
 use Rattle.mrp_item.specs.Dues.{due_in}
@@ -47,17 +46,13 @@ firm_past f week dues k d old h is same past =
       ap (λ b. cond b (f d.quantity).start 0) (eq-eqb d.week week same),
     )
 
--- orders week by week
-pub orders_more : (F : ℕ → List Order) (n : ℕ) → flat_map F (weeks (suc n)) ≡ flat_map F (weeks n) ++ F (suc n)
-orders_more F n = ap (flat_map F) (weeks_more n) ∙ flat_map-append F (weeks n) (suc n ∷ []) ∙ ap (λ (os : List Order). flat_map F (weeks n) ++ os) (append-nil (F (suc n)))
-
 starts_by : (F : ℕ → List Order) (m k : ℕ) → sum_by start (flat_map F (weeks m)) ≤ sum_by start (flat_map F (weeks (k + m)))
 starts_by F m zero =
     let e : 0 + m ≡ m = omega arith in
     rw e (omega arith)
 starts_by F m (suc k) =
     let e : suc k + m ≡ suc (k + m) = omega arith in
-    rw e (omega (arith, ap (sum_by start) (orders_more F (k + m)), sum_by-append start (flat_map F (weeks (k + m))) (F (suc (k + m))), starts_by F m k))
+    rw e (omega (arith, ap (sum_by start) (flat_map-weeks_suc F (k + m)), sum_by-append start (flat_map F (weeks (k + m))) (F (suc (k + m))), starts_by F m k))
 
 -- the starts of more weeks are no less
 pub starts_rise : (F : ℕ → List Order) (m n : ℕ) → m ≤ n → sum_by start (flat_map F (weeks m)) ≤ sum_by start (flat_map F (weeks n))

@@ -1,9 +1,8 @@
 -- What the tables and the bookings say of an item in a week.
-use Rattle.std.specs.Prelude.{ℕ, ◌==◌, ◌&&◌, Bool, true, false, if◌then◌else◌, List, filter, sum_by, max}
+use Rattle.std.specs.Prelude.{ℕ, ◌==◌, ◌&&◌, Bool, not, if◌then◌else◌, List, filter, sum_by, max}
 use Rattle.mrp_tables.specs.declared.rows.BillLine.{BillLine}
 use Rattle.mrp_tables.specs.declared.rows.Receipt.{Receipt}
 use Rattle.mrp_tables.specs.declared.rows.MasterKind.{MasterKind}
-use Rattle.mrp_tables.specs.declared.rows.MasterKind.TheVariants.{Firm, Forecast}
 use Rattle.mrp_tables.specs.declared.rows.MasterRow.{MasterRow}
 use Rattle.mrp_tables.specs.Master.{is_firm}
 use Rattle.mrp_master.specs.Supply.{on_hand_of}
@@ -12,9 +11,9 @@ use Rattle.mrp_phase.specs.Weeks.{row}
 use Rattle.mrp_net.specs.declared.stock.Stock.{Stock}
 use Rattle.mrp_item.specs.Inputs.{Inputs, horizon, item_at, is_master}
 
+-- a row that is not firm is a forecast
 abbrev pub is_forecast : MasterKind → Bool
-is_forecast Firm = false
-is_forecast Forecast = true
+is_forecast kind = not (is_firm kind)
 
 -- the firm rows of an item that are due in a week, in table order (Orlicky: master production schedule)
 abbrev pub firm_rows : Inputs → ℕ → ℕ → List MasterRow

@@ -10,17 +10,8 @@ use crate::due::Due;
 use crate::due_lists::{DueLists, ItemDue};
 use mrp_book::Booking;
 use mrp_qty::NoMemory;
-use mrp_tables::{MasterKind, MasterRow, Receipt};
+use mrp_tables::{MasterRow, Receipt};
 use std::alloc::Global;
-
-fn is_forecast_kind(kind: MasterKind) -> bool
-    ensures { result ≡ is_forecast kind }
-{
-    match kind {
-        MasterKind::Firm => false,
-        MasterKind::Forecast => true,
-    }
-}
 
 // What a row of the master schedule says.
 fn due_of_master(row: &MasterRow) -> ItemDue
@@ -83,7 +74,7 @@ fn forecasts(alloc: Global, rows: &[MasterRow]) -> Result<Vec<ItemDue>, NoMemory
 {
     let dues = rows
         .iter()
-        .filter(|row| is_forecast_kind(row.kind))
+        .filter(|row| !row.kind.is_firm())
         .map(|row| due_of_master(row))
         .collect(alloc)?;
     Ok(dues)

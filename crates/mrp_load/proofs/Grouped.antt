@@ -1,22 +1,22 @@
 -- Operations are put in the groups of their work centres.
-use Rattle.std.proofs.Common.{◌≡◌, ◌≢◌, ◌∙◌, ℕ, ◌+◌, ◌-◌, ◌<◌, Bool, true, false, cond, eqb, List, [], ◌∷◌, ◌++◌, length, take, map, get_or, set, refl, sym, ap, subst, arith}
+use Rattle.std.proofs.Common.{◌≡◌, ◌∙◌, ℕ, ◌+◌, ◌-◌, ◌<◌, Bool, cond, eqb, List, [], ◌∷◌, ◌++◌, length, take, map, get_or, sym, ap, subst, arith}
 use Rattle.std.specs.Prelude.{All, filter, Vec}
 use Rattle.std.specs.Int.{IsInRange}
 use Rattle.std.specs.declared.alloc.Global.{Global}
-use Rattle.std.proofs.lemmas.Bool.{eqb-true, eqb-false}
 use Rattle.std.proofs.lemmas.Grind.{get_or_default_zero}
 use Rattle.std.proofs.lemmas.Simd.{map-map}
-use Rattle.std.proofs.lemmas.List.{append-nil, get_or-map, get_or-set_other, get_or-set_same, length-map, length-set, map-set}
+use Rattle.std.proofs.lemmas.List.{get_or-map, length-map}
 use Rattle.std.proofs.lemmas.List.Elements.{All-filter, All-weaker, filter_more}
 use Rattle.std.proofs.lemmas.List.FromFn.{fill_by_all, get_or-map-range_with_len, length-map-range_with_len}
 use Rattle.std.proofs.lemmas.List.Sums.{length-filter, count_by-le-length}
+use Rattle.mrp_bill.proofs.Listed.{listed-appends, listed-read}
+use Rattle.mrp_bill.specs.Lists.{Appends, listed}
 use Rattle.mrp_tables.specs.Facts.{IsOperation}
 use Rattle.mrp_tables.specs.declared.rows.Operation.{Operation}
 use Rattle.mrp_phase.specs.Weeks.{in_week, row}
 use Rattle.mrp_phase.proofs.WeekRows.{in_week_at, in_week_row, length-row}
 use Rattle.mrp_item.specs.Inputs.{Inputs, horizon}
 use Rattle.mrp_load.specs.Bounds.{AreOperations}
-use Rattle.mrp_load.specs.Groups.{Appends, group_at}
 use Rattle.mrp_load.specs.Kept.{AreLoads}
 use Rattle.mrp_load.specs.Loads.{load, loads_by, operations_at}
 use Rattle.mrp_load.proofs.Summing.{loads_by-row}
@@ -24,51 +24,25 @@ use Rattle.mrp_load.proofs.Summing.{loads_by-row}
 abbrev pub items : Vec Operation Global → List Operation
 items group = group.items
 
--- a group as it is read
-pub group-read : (groups : List (Vec Operation Global)) (centre : ℕ) (d : Vec Operation Global) → centre < length groups → group_at groups centre ≡ (get_or groups centre d).items
-group-read groups centre d h = get_or-map items groups centre d [] h
-
--- a group that an operation was put at the end of
-pub appends-set : (groups : List (Vec Operation Global)) (operation : Operation) (old new : Vec Operation Global) → operation.centre < length groups
-    → old ≡ get_or groups operation.centre old → new.items ≡ old.items ++ operation ∷ [] → Appends groups (set groups operation.centre new) operation
-appends-set groups operation old new h read pushed =
-    let at : ℕ = operation.centre in
-    let there : at < length (map items groups) = omega (arith, h, length-map groups items) in
-    record {
-      size = length-set groups at new;
-      put = rw (map-set items groups at new) (get_or-set_same (map items groups) at new.items [] there)
-          ∙ pushed ∙ ap (λ xs. xs ++ operation ∷ []) (ap items read ∙ sym (group-read groups at old h));
-      others = λ centre other. rw (map-set items groups at new) (get_or-set_other (map items groups) at centre new.items [] other);
-    }
-
 -- the operations at a centre
 abbrev pub at_centre : ℕ → Operation → Bool
 at_centre centre operation = eqb operation.centre centre
 
 -- one more operation in its group, told of each group
-pub grouped-more : (operations : List Operation) (k : ℕ) (d : Operation) (old new : List (Vec Operation Global)) → k < length operations → Appends old new (get_or operations k d)
-    → ((centre : ℕ) → group_at old centre ≡ filter (at_centre centre) (take k operations))
-    → (centre : ℕ) → group_at new centre ≡ filter (at_centre centre) (take (k + 1) operations)
+pub grouped-more : (operations : List Operation) (k : ℕ) (d : Operation) (old new : List (Vec Operation Global)) → k < length operations
+    → Appends old new (get_or operations k d).centre (get_or operations k d)
+    → ((centre : ℕ) → listed old centre ≡ filter (at_centre centre) (take k operations))
+    → (centre : ℕ) → listed new centre ≡ filter (at_centre centre) (take (k + 1) operations)
 grouped-more operations k d old new h appends before centre =
-    by (eqb (get_or operations k d).centre centre) refl ∙ sym (filter_more (at_centre centre) operations k d h)
-  where
-    o : Operation
-    o = get_or operations k d
-
-    by : (b : Bool) → eqb o.centre centre ≡ b → group_at new centre ≡ filter (at_centre centre) (take k operations) ++ cond b (o ∷ []) []
-    by true e =
-        let same : o.centre ≡ centre = eqb-true o.centre centre e in
-        subst (λ (c : ℕ). group_at new c ≡ filter (at_centre c) (take k operations) ++ o ∷ []) same
-        (appends.put ∙ ap (λ xs. xs ++ o ∷ []) (before o.centre))
-    by false e =
-        let other : centre ≢ o.centre = λ same. eqb-false o.centre centre e (sym same) in
-        appends.others centre other ∙ before centre ∙ sym (append-nil (filter (at_centre centre) (take k operations)))
+    let o : Operation = get_or operations k d in
+    listed-appends old new o.centre o appends centre ∙ ap (λ (xs : List Operation). xs ++ cond (at_centre centre o) (o ∷ []) []) (before centre)
+    ∙ sym (filter_more (at_centre centre) operations k d h)
 
 -- each group has operations of the tables
 pub grouped-each : (s : Inputs) (operations : List Operation) (groups : List (Vec Operation Global)) → AreOperations s operations
-    → ((centre : ℕ) → group_at groups centre ≡ filter (at_centre centre) operations) → All (λ group. AreOperations s group.items) groups
+    → ((centre : ℕ) → listed groups centre ≡ filter (at_centre centre) operations) → All (λ group. AreOperations s group.items) groups
 grouped-each s operations groups are grouped = λ k d h.
-    let same : filter (at_centre k) operations ≡ (get_or groups k d).items = sym (grouped k) ∙ group-read groups k d h in
+    let same : filter (at_centre k) operations ≡ (get_or groups k d).items = sym (grouped k) ∙ listed-read groups k d h in
     subst (AreOperations s) same (record {
       each = All-filter (at_centre k) (IsOperation s.tables.items s.tables.centres) operations are.each;
       few = omega (arith, are.few, length-filter (at_centre k) operations, count_by-le-length (at_centre k) operations);
@@ -76,7 +50,7 @@ grouped-each s operations groups are grouped = λ k d h.
 
 -- rows that are made of the groups are the centres' loads
 pub loads-are : (s : Inputs) (groups : List (Vec Operation Global)) (rows : List (Vec ℕ Global)) → length groups ≡ length s.tables.centres
-    → ((centre : ℕ) → group_at groups centre ≡ operations_at s centre)
+    → ((centre : ℕ) → listed groups centre ≡ operations_at s centre)
     → map (λ loads. loads.items) rows ≡ map (λ group. loads_by s group.items) groups → AreLoads s rows
 loads-are s groups rows size grouped made =
     let row_of : List Operation → List ℕ = loads_by s in

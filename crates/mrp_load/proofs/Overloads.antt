@@ -1,20 +1,14 @@
 -- The overloads of the weeks and of the work centres so far.
-use Rattle.std.proofs.Common.{◌≡◌, ◌∙◌, ℕ, suc, ◌+◌, ◌<◌, ◌≤◌, Bool, cond, List, [], ◌∷◌, ◌++◌, sym, ap, arith, append-nil, append_assoc}
+use Rattle.std.proofs.Common.{◌≡◌, ◌∙◌, ℕ, ◌+◌, ◌<◌, ◌≤◌, Bool, cond, List, [], ◌∷◌, ◌++◌, sym, ap, append-nil, append_assoc}
 use Rattle.std.specs.Prelude.{flat_map}
 use Rattle.std.specs.List.{range_with_len}
 use Rattle.std.proofs.lemmas.Bool.{lt-ltb, le-ltb}
 use Rattle.std.proofs.lemmas.List.Concat.{flat_map-append}
 use Rattle.mrp_phase.specs.Weeks.{weeks}
-use Rattle.mrp_phase.proofs.WeekRows.{weeks_more}
+use Rattle.mrp_phase.proofs.WeekRows.{flat_map-weeks_next}
 use Rattle.mrp_item.specs.Inputs.{Inputs}
 use Rattle.mrp_item.proofs.OutcomeLists.{places-more}
 use Rattle.mrp_load.specs.Loads.{over, overload, overloads_at}
-
--- one more week
-weeks-more : {X : Type 0} (f : ℕ → List X) (k : ℕ) → flat_map f (weeks (k + 1)) ≡ flat_map f (weeks k) ++ f (k + 1)
-weeks-more {X} f k =
-    let next : k + 1 ≡ suc k = omega arith in
-    rw next (ap (flat_map f) (weeks_more k) ∙ flat_map-append f (weeks k) (suc k ∷ []) ∙ ap (λ (xs : List X). flat_map f (weeks k) ++ xs) (append-nil (f (suc k))))
 
 -- a week that is over
 pub over-more : (s : Inputs) (centre k : ℕ) (old all : List (ℕ × ℕ × ℕ)) → all ≡ old ++ flat_map (overload s centre) (weeks k) → 0 < over s centre (k + 1)
@@ -25,7 +19,7 @@ over-more s centre k old all so_far above =
     ap (λ xs. xs ++ (centre, k + 1, over s centre (k + 1)) ∷ []) so_far
     ∙ append_assoc old (flat_map (overload s centre) (weeks k)) ((centre, k + 1, over s centre (k + 1)) ∷ [])
     ∙ ap (λ xs. old ++ (flat_map (overload s centre) (weeks k) ++ xs)) (sym here)
-    ∙ ap (λ xs. old ++ xs) (sym (weeks-more (overload s centre) k))
+    ∙ ap (λ xs. old ++ xs) (sym (flat_map-weeks_next (overload s centre) k))
 
 -- a week that is not
 pub over-same : (s : Inputs) (centre k : ℕ) (old all : List (ℕ × ℕ × ℕ)) → all ≡ old ++ flat_map (overload s centre) (weeks k) → over s centre (k + 1) ≤ 0
@@ -36,7 +30,7 @@ over-same s centre k old all so_far none =
     so_far
     ∙ ap (λ xs. old ++ xs) (sym (append-nil (flat_map (overload s centre) (weeks k))))
     ∙ ap (λ xs. old ++ (flat_map (overload s centre) (weeks k) ++ xs)) (sym here)
-    ∙ ap (λ xs. old ++ xs) (sym (weeks-more (overload s centre) k))
+    ∙ ap (λ xs. old ++ xs) (sym (flat_map-weeks_next (overload s centre) k))
 
 -- one more work centre
 pub centre-more : (s : Inputs) (k : ℕ) (all new : List (ℕ × ℕ × ℕ)) → all ≡ flat_map (overloads_at s) (range_with_len 0 k) → new ≡ all ++ overloads_at s k

@@ -1,6 +1,6 @@
 -- What operations take, one order and one operation at a time.
 use Rattle.std.proofs.Common.{◌≡◌, ◌∙◌, ℕ, zero, suc, inl, inr, ◌+◌, ◌-◌, ◌*◌, ◌<◌, ◌≤◌, ◌^◌, Bool, true, false, cond, eqb, List, [], ◌∷◌, length, take, get_or, set, replicate, refl, sym, ap, arith}
-use Rattle.std.specs.Prelude.{filter, sum_by, slice_set, ◌⊎◌}
+use Rattle.std.specs.Prelude.{sum_by, slice_set, ◌⊎◌}
 use Rattle.std.specs.Int.{IsInRange}
 use Rattle.std.proofs.lemmas.Bool.{cases_order, eq-eqb}
 use Rattle.std.proofs.lemmas.Grind.{get_or_default_zero}
@@ -10,6 +10,7 @@ use Rattle.std.proofs.lemmas.List.Sums.{sum_by-cons, sum_by_more, sum_by_more_le
 use Rattle.mrp_qty.specs.Quantity.{greatest_quantity}
 use Rattle.mrp_tables.specs.declared.rows.Operation.{Operation}
 use Rattle.mrp_phase.specs.Weeks.{in_week, row}
+use Rattle.mrp_phase.proofs.KeptSums.{sum_by-kept}
 use Rattle.mrp_phase.proofs.WeekRows.{in_week_at, in_week_next, in_week_replicate, in_week_row, length-row, row_is, row_same, with_week_at}
 use Rattle.mrp_item.specs.declared.order.Order.{Order}
 use Rattle.mrp_item.specs.Dues.{with_more}
@@ -17,21 +18,6 @@ use Rattle.mrp_item.specs.Inputs.{Inputs, horizon}
 use Rattle.mrp_item.proofs.DueLemmas.{with_more_row}
 use Rattle.mrp_load.specs.Bounds.{AreOrders}
 use Rattle.mrp_load.specs.Loads.{load_by, loads_by, operation_load, operation_week, orders_in, standard_time}
-
--- a sum over what a test keeps is one over all, with 0 of the others
-sum_by-kept : {X : Type 0} (p : X → Bool) (f : X → ℕ) (xs : List X) → sum_by f (filter p xs) ≡ sum_by (λ x. cond (p x) (f x) 0) xs
-sum_by-kept p f [] = refl
-sum_by-kept {X} p f (x ∷ xs) = by (p x) refl (sum_by-kept p f xs)
-  where
-    rest : List X
-    rest = filter p xs
-
-    kept : X → ℕ
-    kept y = cond (p y) (f y) 0
-
-    by : (b : Bool) → p x ≡ b → sum_by f rest ≡ sum_by kept xs → sum_by f (cond b (x ∷ rest) rest) ≡ sum_by kept (x ∷ xs)
-    by true e more = omega (arith, more, sum_by-cons f x rest, sum_by-cons kept x xs, ap (λ b. cond b (f x) 0) e)
-    by false e more = omega (arith, more, sum_by-cons kept x xs, ap (λ b. cond b (f x) 0) e)
 
 -- what an order's operation takes in a week
 abbrev pub one_time : Operation → ℕ → Order → ℕ

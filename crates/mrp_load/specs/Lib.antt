@@ -1,4 +1,3 @@
 pub mod Loads
-pub mod Groups
 pub mod Bounds
 pub mod Kept

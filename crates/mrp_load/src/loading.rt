@@ -2,7 +2,7 @@
 
 ghost use Rattle.std.specs.Prelude.{◌≡◌, ℕ, All, IfOk, length};
 ghost use Rattle.mrp_load.specs.Bounds.{AreOperations};
-ghost use Rattle.mrp_load.specs.Groups.{group_at};
+ghost use Rattle.mrp_bill.specs.Lists.{listed};
 ghost use Rattle.mrp_load.specs.Kept.{AreLoads};
 ghost use Rattle.mrp_load.specs.Loads.{loads_by, operations_at};
 
@@ -27,7 +27,7 @@ fn load_rows(
     groups: &[Vec<Operation>],
 ) -> Result<Vec<Vec<u128>>, NoMemory>
     requires size { length groups.now ≡ length plan.now.inputs.tables.centres }
-    requires groups { (centre : ℕ) → group_at groups.now centre ≡ operations_at plan.now.inputs centre }
+    requires groups { (centre : ℕ) → listed groups.now centre ≡ operations_at plan.now.inputs centre }
     requires within { All (λ group. AreOperations plan.now.inputs group.items) groups.now }
     ensures { IfOk result (λ rows. AreLoads plan.now.inputs rows.items) }
 {

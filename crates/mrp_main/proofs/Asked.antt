@@ -13,7 +13,7 @@ use Rattle.clap.specs.declared.error.kind.ErrorKind.TheVariants.{OutOfMemory}
 use Rattle.mrp_main.specs.declared.command.Request.{Request}
 use Rattle.mrp_main.specs.declared.command.NoRequest.{NoRequest}
 use Rattle.mrp_main.specs.declared.command.NoRequest.TheVariants.{Help, Usage, NoMemory}
-use Rattle.mrp_main.specs.Words.{Asks, IsAnswer, IsAsAsked, IsOfKind, dir_among, folder_in, folder_of, mrp_command, refusals}
+use Rattle.mrp_main.specs.Words.{Asks, HasFolder, IsAnswer, IsAsAsked, IsOfKind, dir_among, mrp_command, refusals}
 
 -- the command is one whose refusals clap's definition gives
 pub is-plain : is_simple_and_free mrp_command ≡ true
@@ -38,7 +38,7 @@ dir-out rows o found is e = ap (option_and_then (first_of (codes "dir"))) (ap (o
 
 -- words that are taken ask for what clap finds in them
 pub asked-for : (words : List Text) (r : Result Request NoRequest) → refusals words ≡ [] → IfOk r (λ request. IsAsAsked (subcommand_of mrp_command words) request)
-    → IfOk r (λ request. folder_of request ≡ folder_in words) → IfErr r (λ none. none ≡ NoMemory) → Asks words r
+    → IfOk r (λ request. HasFolder (subcommand_of mrp_command words) request) → IfErr r (λ none. none ≡ NoMemory) → Asks words r
 asked-for words (Ok request) taken asked folder none = (taken, asked, folder)
 asked-for words (Err e) taken asked folder none = subst (λ (e : NoRequest). Asks words (Err e)) (sym none) tt
 

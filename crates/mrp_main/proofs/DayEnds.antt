@@ -13,8 +13,9 @@ use Rattle.mrp_engine.specs.Day.{IsRefused, IsTooLargeBy}
 use Rattle.mrp_engine.specs.Run.{HasNotFailed, HasPassedLimits, HasTakenAll, IsAfterReading, IsBeforeWriting, IsRead, IsReadWithin, TellsDayBy, WritesFrontBy}
 use Rattle.mrp_main.specs.declared.day.DayCommand.{DayCommand}
 use Rattle.mrp_main.specs.declared.ending.Ending.{Ending}
-use Rattle.mrp_main.specs.declared.ending.Ending.TheVariants.{Done, Refused, TooLarge, Usage, NoMemory, Read, Write}
-use Rattle.mrp_main.specs.Ends.{DayEnds, DayWrites, HasReadAll, InputWrites, IsEndOf, TellsFault, answering}
+use Rattle.mrp_main.specs.declared.ending.Ending.TheVariants.{Done, Refused, TooLarge, WrongShape, Wrong, NoRun, Usage, NoMemory, Read, Write}
+use Rattle.mrp_main.specs.Ends.{DayEnds, DayWrites, HasReadAll, InputWrites, IsEndOf, answering}
+use Rattle.mrp_main.specs.Refusal.{TellsFault}
 
 -- what a day leaves, by how it ended
 pub record IsLeftBy {R W X : Type 0} (command : DayCommand) (remaining : R → Option (List ℕ)) (contents : W → Option (List ℕ)) (input read : Told R) (output written : Told W) (day : Result X DayFault) : Type 0 where
@@ -39,6 +40,9 @@ refused-writes command remaining contents input read output written f (Refused t
 refused-writes command remaining contents input read output written f NoMemory left is = inl (left.unwritten tt)
 refused-writes command remaining contents input read output written f Done left is = absurd is
 refused-writes command remaining contents input read output written f (TooLarge name) left is = absurd is
+refused-writes command remaining contents input read output written f WrongShape left is = absurd is
+refused-writes command remaining contents input read output written f Wrong left is = absurd is
+refused-writes command remaining contents input read output written f NoRun left is = absurd is
 refused-writes command remaining contents input read output written f (Usage text) left is = absurd is
 refused-writes command remaining contents input read output written f Read left is = absurd is
 refused-writes command remaining contents input read output written f Write left is = absurd is
@@ -98,6 +102,9 @@ pub any-failure : {W : Type 0} (command : DayCommand) (contents : W → Option (
 any-failure command contents given ended failed output written Done ends = ends
 any-failure command contents given ended failed output written (Refused text) ends = ends
 any-failure command contents given ended failed output written (TooLarge name) ends = ends
+any-failure command contents given ended failed output written WrongShape ends = ends
+any-failure command contents given ended failed output written Wrong ends = ends
+any-failure command contents given ended failed output written NoRun ends = ends
 any-failure command contents given ended failed output written (Usage text) ends = ends
 any-failure command contents given ended failed output written NoMemory ends = any-front ends
 any-failure command contents given ended failed output written Read ends = (tt, ends.1)

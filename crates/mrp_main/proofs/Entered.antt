@@ -1,4 +1,4 @@
--- Words that clap takes enter one of the commands that make a day.
+-- Words that clap takes enter one of the commands.
 use Rattle.std.proofs.Common.{◌≡◌, ◌∙◌, ◌&&◌, ◌||◌, ◌⊎◌, inl, inr, Bool, true, false, not, cond, List, [], ◌∷◌, Option, Some, None, is_some, option_map, ap, codes, fold, refl, subst, sym, true≢false}
 use Rattle.std.specs.Prelude.{⊤}
 use Rattle.std.specs.Str.{bytes_eq}
@@ -11,8 +11,7 @@ use Rattle.clap.specs.Walk.{Held, Names, Outcome, Row, Rule, Step, Text, Waiting
 use Rattle.clap.specs.Lexer.{long_of, short_of}
 use Rattle.clap.specs.declared.error.kind.ErrorKind.{ErrorKind}
 use Rattle.clap.specs.declared.error.kind.ErrorKind.TheVariants as kind
-use Rattle.mrp_main.specs.Words.{Enters, mrp_command, refusals}
-use Rattle.mrp_main.specs.declared.day.DayCommand.{DayCommand}
+use Rattle.mrp_main.specs.Words.{IsEntered, mrp_command, refusals}
 use Rattle.mrp_main.specs.declared.day.DayCommand.TheVariants.{Plan, Live}
 
 some-kind : (k : ErrorKind) (ks : Kinds) → (k ∷ ks) ≡ [] → ⊥
@@ -128,12 +127,19 @@ one-is-wanted : (rows : List Row) (has : Bool) → check_fault (built mrp_comman
 one-is-wanted rows true fault = refl
 one-is-wanted rows false fault = absurd (some-kind kind.MissingSubcommand [] fault)
 
-first-two : (f : Shape → Text × List Row) (one two three : Shape) (is_one is_two is_three : Bool) → is_three ≡ false
-    → let found = option_map f (cond is_one (Some one) (cond is_two (Some two) (cond is_three (Some three) None))) in is_some found ≡ true → (found ≡ Some (f one)) ⊎ (found ≡ Some (f two))
-first-two f one two three true is_two is_three none some = inl refl
-first-two f one two three false true is_three none some = inr refl
-first-two f one two three false false true none some = absurd (true≢false none)
-first-two f one two three false false false none some = absurd (true≢false (sym some))
+-- one of four
+abbrev OneOf : Option (Text × List Row) → Text × List Row → Text × List Row → Text × List Row → Text × List Row → Type 0
+OneOf found one two three four = (found ≡ Some one) ⊎ ((found ≡ Some two) ⊎ ((found ≡ Some three) ⊎ (found ≡ Some four)))
+
+first-four : (f : Shape → Text × List Row) (one two three four five : Shape) (is_one is_two is_three is_four is_five : Bool) → is_five ≡ false
+    → let found = option_map f (cond is_one (Some one) (cond is_two (Some two) (cond is_three (Some three) (cond is_four (Some four) (cond is_five (Some five) None))))) in
+    is_some found ≡ true → OneOf found (f one) (f two) (f three) (f four)
+first-four f one two three four five true is_two is_three is_four is_five none some = inl refl
+first-four f one two three four five false true is_three is_four is_five none some = inr (inl refl)
+first-four f one two three four five false false true is_four is_five none some = inr (inr (inl refl))
+first-four f one two three four five false false false true is_five none some = inr (inr (inr refl))
+first-four f one two three four five false false false false true none some = absurd (true≢false none)
+first-four f one two three four five false false false false false none some = absurd (true≢false (sym some))
 
 -- a text that is not `help` is not answered to by it
 help-apart : (text : Text) (is : Bool) → bytes_eq text (codes "help") ≡ false → bytes_eq (codes "help") text ≡ is → is ≡ false
@@ -146,26 +152,29 @@ help-apart text true apart same =
 label-apart : (word name : Text) → bytes_eq name word ≡ false → answers_to word (name, []) ≡ false
 label-apart word name apart = subst (λ (b : Bool). (b || false) ≡ false) (sym apart) refl
 
--- of three subcommands, of which the last is `help`, one of the others was entered
-of-three : (a : App) (plan live help : Shape) (p : Text × List Text) → a.subs ≡ plan ∷ live ∷ help ∷ [] → label_of help ≡ (codes "help", []) → bytes_eq p.0 (codes "help") ≡ false
-    → is_some (entered a (Some p)) ≡ true → (entered a (Some p) ≡ Some (rows_at plan p.1)) ⊎ (entered a (Some p) ≡ Some (rows_at live p.1))
-of-three a plan live help p subs label apart =
+-- of five subcommands, of which the last is `help`, one of the others was entered
+of-five : (a : App) (plan live page check help : Shape) (p : Text × List Text) → a.subs ≡ plan ∷ live ∷ page ∷ check ∷ help ∷ [] → label_of help ≡ (codes "help", []) → bytes_eq p.0 (codes "help") ≡ false
+    → is_some (entered a (Some p)) ≡ true → OneOf (entered a (Some p)) (rows_at plan p.1) (rows_at live p.1) (rows_at page p.1) (rows_at check p.1)
+of-five a plan live page check help p subs label apart =
     let Found : List Shape → Option (Text × List Row) = λ xs. option_map (λ (s : Shape). rows_at s p.1) (find (λ (s : Shape). answers_to p.0 (label_of s)) xs) in
     let is_help : answers_to p.0 (label_of help) ≡ false =
     ap (answers_to p.0) label ∙ label-apart p.0 (codes "help") (help-apart p.0 (bytes_eq (codes "help") p.0) apart refl) in
-    subst (λ (xs : List Shape). is_some (Found xs) ≡ true → (Found xs ≡ Some (rows_at plan p.1)) ⊎ (Found xs ≡ Some (rows_at live p.1))) (sym subs)
-    (first-two (λ (s : Shape). rows_at s p.1) plan live help (answers_to p.0 (label_of plan)) (answers_to p.0 (label_of live)) (answers_to p.0 (label_of help)) is_help)
+    subst (λ (xs : List Shape). is_some (Found xs) ≡ true → OneOf (Found xs) (rows_at plan p.1) (rows_at live p.1) (rows_at page p.1) (rows_at check p.1)) (sym subs)
+    (first-four (λ (s : Shape). rows_at s p.1) plan live page check help (answers_to p.0 (label_of plan)) (answers_to p.0 (label_of live)) (answers_to p.0 (label_of page)) (answers_to p.0 (label_of check))
+    (answers_to p.0 (label_of help)) is_help)
 
-as-command : (found : Option (Text × List Row)) (plan live : List Row) → (found ≡ Some (codes "plan", plan)) ⊎ (found ≡ Some (codes "live", live)) → (command : DayCommand) × Enters found command
-as-command found plan live (inl e) = (Plan, (plan, e))
-as-command found plan live (inr e) = (Live, (live, e))
+as-command : (found : Option (Text × List Row)) (plan live page check : List Row) → OneOf found (codes "plan", plan) (codes "live", live) (codes "page", page) (codes "check", check) → IsEntered found
+as-command found plan live page check (inl e) = inl (inl (Plan, (plan, e)))
+as-command found plan live page check (inr (inl e)) = inl (inl (Live, (live, e)))
+as-command found plan live page check (inr (inr (inl e))) = inr (page, e)
+as-command found plan live page check (inr (inr (inr e))) = inl (inr (check, e))
 
-entered-one : (stop : Option (Text × List Text)) → NotAtHelp stop → is_some (entered (built mrp_command) stop) ≡ true → (command : DayCommand) × Enters (entered (built mrp_command) stop) command
+entered-one : (stop : Option (Text × List Text)) → NotAtHelp stop → is_some (entered (built mrp_command) stop) ≡ true → IsEntered (entered (built mrp_command) stop)
 entered-one None apart some = absurd (true≢false (sym some))
-entered-one (Some p) apart some = as-command (entered (built mrp_command) (Some p)) _ _ (of-three (built mrp_command) _ _ _ p refl refl apart some)
+entered-one (Some p) apart some = as-command (entered (built mrp_command) (Some p)) _ _ _ _ (of-five (built mrp_command) _ _ _ _ _ p refl refl apart some)
 
 -- words that are taken enter one of the commands
-pub enters-one : (words : List Text) → refusals words ≡ [] → (command : DayCommand) × Enters (subcommand_of mrp_command words) command
+pub enters-one : (words : List Text) → refusals words ≡ [] → IsEntered (subcommand_of mrp_command words)
 enters-one words none =
     let top : Shape = (built mrp_command).top in
     let names : Names = names_of (built mrp_command) in

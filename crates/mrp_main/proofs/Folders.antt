@@ -1,6 +1,6 @@
 -- The files of a folder, table by table.
-use Rattle.std.proofs.Common.{◌≡◌, ◌∙◌, ◌++◌, ◌+◌, ◌-◌, ◌<◌, [], ◌∷◌, ℕ, List, Option, Some, None, ap, arith, drop, get_or, length, map, refl, subst, sym, take}
-use Rattle.std.specs.List.{All, filter_map}
+use Rattle.std.proofs.Common.{◌≡◌, ◌∙◌, ◌++◌, ◌+◌, ◌-◌, ◌<◌, [], ◌∷◌, ℕ, List, Option, Some, None, ap, arith, drop, get_or, length, refl, subst, sym, take}
+use Rattle.std.specs.List.{filter_map}
 use Rattle.std.proofs.lemmas.List.{append-nil, drop_more, map-append, take-append-drop, take_more}
 use Rattle.std.proofs.lemmas.List.Elements.{All-append, All-cons, All-nil, filter_map-append}
 use Rattle.mrp_rows.specs.declared.fault.Table.{Table}

@@ -1,5 +1,5 @@
 -- How a command ends: what it leaves of its input and its output, and what its error stream is told (profile).
-use Rattle.std.specs.Prelude.{ℕ, ◌≡◌, ◌≢◌, ◌⊎◌, List, [], ◌∷◌, ◌++◌, Option, Some, None, Result, Ok, Err, ⊤, codes, map, string_bytes}
+use Rattle.std.specs.Prelude.{ℕ, ◌≡◌, ◌≢◌, ◌⊎◌, List, [], ◌∷◌, ◌++◌, Option, Some, None, Result, Ok, Err, ⊤, codes, string_bytes}
 use Rattle.std.specs.Io.KnownBytes.{IsAtEnd}
 use Rattle.mrp_rows.specs.FaultText.{text_of_fault}
 use Rattle.mrp_rows.specs.declared.fault.Fault.{Fault}
@@ -17,15 +17,19 @@ use Rattle.mrp_engine.specs.Run.{HasNotFailed, HasPassedLimits, HasTakenAll, IsR
 use Rattle.mrp_engine.specs.declared.fault.DayFault.{DayFault}
 use Rattle.mrp_engine.specs.declared.fault.DayFault.TheVariants as fault
 use Rattle.mrp_main.specs.declared.command.Request.{Request}
-use Rattle.mrp_main.specs.declared.command.Request.TheVariants.{Day}
+use Rattle.mrp_main.specs.declared.command.Request.TheVariants.{Check, Day, Page}
 use Rattle.mrp_main.specs.declared.day.DayCommand.{DayCommand}
 use Rattle.mrp_main.specs.declared.day.DayCommand.TheVariants.{Plan, Live}
 use Rattle.mrp_main.specs.declared.command.NoRequest.{NoRequest}
 use Rattle.mrp_main.specs.declared.command.NoRequest.TheVariants as none
 use Rattle.mrp_main.specs.declared.ending.Ending.{Ending}
-use Rattle.mrp_main.specs.declared.ending.Ending.TheVariants.{Done, Refused, TooLarge, Usage, NoMemory, Read, Write}
+use Rattle.mrp_main.specs.declared.ending.Ending.TheVariants.{Done, Refused, TooLarge, WrongShape, Wrong, NoRun, Usage, NoMemory, Read, Write}
+use Rattle.mrp_main.specs.declared.status.Status.TheVariants as status
 use Rattle.mrp_main.specs.Status.{code_of, status_of}
 use Rattle.mrp_main.specs.Folder.{IsReadFrom, Known, nothing_known}
+use Rattle.mrp_main.specs.PageEnds.{PageEnds}
+use Rattle.mrp_main.specs.Refusal.{TellsFault}
+use Rattle.mrp_main.specs.CheckEnds.{CheckEnds}
 use Rattle.mrp_main.specs.Words.{Asks}
 
 -- how a command has the script answered: by `plan` in row order, by `live` desk by desk
@@ -46,6 +50,9 @@ abbrev pub DayWrites : DayCommand → {W : Type 0} → (W → Option (List ℕ))
 DayWrites command contents given ended failed output written Done = (text : List ℕ) × TellsDayBy (answering command) given text × HasTakenAll contents output written text
 DayWrites command contents given ended failed output written (Refused text) = IsRefusedAs given (string_bytes text) × (written ≡ output)
 DayWrites command contents given ended failed output written (TooLarge name) = IsTooLargeAt command given name × (written ≡ output)
+DayWrites command contents given ended failed output written WrongShape = ⊥
+DayWrites command contents given ended failed output written Wrong = ⊥
+DayWrites command contents given ended failed output written NoRun = ⊥
 DayWrites command contents given ended failed output written (Usage text) = ⊥
 DayWrites command contents given ended failed output written NoMemory = (written ≡ output) ⊎ (ended × WritesFrontBy (answering command) contents given output written)
 DayWrites command contents given ended failed output written Read = failed × (written ≡ output)
@@ -61,6 +68,9 @@ abbrev pub HasReadAll : Ending → Type 0
 HasReadAll Done = ⊤
 HasReadAll (Refused text) = ⊤
 HasReadAll (TooLarge name) = ⊤
+HasReadAll WrongShape = ⊥
+HasReadAll Wrong = ⊥
+HasReadAll NoRun = ⊥
 HasReadAll (Usage text) = ⊥
 HasReadAll NoMemory = ⊥
 HasReadAll Read = ⊥
@@ -86,10 +96,13 @@ pub record FolderEnds {W : Type 0} (command : DayCommand) (known : Known) (folde
   pub is_read : IsReadFrom known folder read
   pub ends : BundleEnds command contents output written read end
 
--- how what is asked for ends: a folder's files leave the input as it was
+-- how what is asked for ends: a day of a folder's files leaves the input as it was, and a page is of the day that the input had left, as a check is; words ask for no check without a folder
 abbrev pub RequestEnds : Known → {R W : Type 0} → (R → Option (List ℕ)) → (W → Option (List ℕ)) → Told R → Told R → Told W → Told W → Request → Ending → Type 0
 RequestEnds known remaining contents input read output written (Day command workers None) end = DayEnds command remaining contents input read output written end
 RequestEnds known remaining contents input read output written (Day command workers (Some folder)) end = (read ≡ input) × FolderEnds command known (string_bytes folder) contents output written end
+RequestEnds known remaining contents input read output written (Page words) end = PageEnds words (remaining (inner_of input)) contents output written end
+RequestEnds known remaining contents input read output written (Check (Some folder)) end = CheckEnds known (string_bytes folder) remaining contents input read output written end
+RequestEnds known remaining contents input read output written (Check None) end = (read ≡ input) × (written ≡ output) × (status_of end ≡ status.Usage)
 
 -- how help ends: it was written, or a front of it
 abbrev pub HelpEnds : {W : Type 0} → (W → Option (List ℕ)) → Told W → Told W → List ℕ → Ending → Type 0
@@ -97,18 +110,12 @@ HelpEnds contents output written help Done = HasTakenWhole contents output writt
 HelpEnds contents output written help Write = HasGivenUp output written WRITE_TRIES × HasTakenFront contents output written help
 HelpEnds contents output written help _ = ⊥
 
--- how a command ends, by what its words ask for: what asks for no day leaves the input as it was
+-- how a command ends, by what its words ask for: what asks for nothing leaves the input as it was
 abbrev pub Ends : Known → {R W : Type 0} → (R → Option (List ℕ)) → (W → Option (List ℕ)) → Told R → Told R → Told W → Told W → Result Request NoRequest → Ending → Type 0
 Ends known remaining contents input read output written (Ok request) end = RequestEnds known remaining contents input read output written request end
 Ends known remaining contents input read output written (Err (none.Help text)) end = (read ≡ input) × HelpEnds contents output written (string_bytes text) end
 Ends known remaining contents input read output written (Err (none.Usage text)) end = (read ≡ input) × (written ≡ output) × (end ≡ Usage text)
 Ends known remaining contents input read output written (Err none.NoMemory) end = (read ≡ input) × (written ≡ output) × (end ≡ NoMemory)
-
--- the end of a refused bundle: the text of its fault takes memory
-abbrev pub TellsFault : Fault → Ending → Type 0
-TellsFault f (Refused text) = string_bytes text ≡ text_of_fault f
-TellsFault f NoMemory = ⊤
-TellsFault f _ = ⊥
 
 -- the end of a day that was not written whole
 abbrev pub IsEndOf : DayFault → Ending → Type 0
@@ -123,6 +130,9 @@ abbrev pub words_of : Ending → List ℕ
 words_of Done = []
 words_of (Refused text) = codes "refused: " ++ string_bytes text ++ 10 ∷ []
 words_of (TooLarge name) = codes "too large: " ++ name ++ 10 ∷ []
+words_of WrongShape = codes "wrong: shape" ++ 10 ∷ []
+words_of Wrong = []
+words_of NoRun = codes "no such run" ++ 10 ∷ []
 words_of (Usage text) = string_bytes text
 words_of NoMemory = codes "no memory" ++ 10 ∷ []
 words_of Read = codes "read failed" ++ 10 ∷ []

@@ -1,4 +1,7 @@
 pub mod Words
 pub mod Folder
 pub mod Status
+pub mod PageEnds
+pub mod Refusal
+pub mod CheckEnds
 pub mod Ends

@@ -1,5 +1,5 @@
 -- What the words of the command line ask for, as `clap` reads them (profile).
-use Rattle.std.specs.Prelude.{ℕ, ◌≡◌, ◌≢◌, ◌⊎◌, List, [], ◌∷◌, Option, Some, option_and_then, option_map, string_bytes, true, false, codes, Result, Ok, Err, ⊤}
+use Rattle.std.specs.Prelude.{ℕ, ◌≡◌, ◌≢◌, ◌⊎◌, ◌-◌, ◌^◌, List, [], ◌∷◌, Option, Some, None, option_and_then, option_map, string_bytes, true, false, codes, Result, Ok, Err, ⊤}
 use Rattle.std.specs.Int.{IsInRange}
 use Rattle.std.specs.Str.Parse.{digits_value, without_leading_plus}
 use Rattle.clap.specs.Walk.{Row, Rule, Text, first_of, one_of}
@@ -15,8 +15,9 @@ use Rattle.clap.specs.declared.error.kind.ErrorKind.{ErrorKind}
 use Rattle.clap.specs.declared.error.kind.ErrorKind.TheVariants.{DisplayHelp, DisplayVersion, OutOfMemory}
 use Rattle.mrp_engine.specs.declared.run.TheConstants.{MOST_WORKERS}
 use Rattle.mrp_main.specs.declared.command.Request.{Request}
-use Rattle.mrp_main.specs.declared.command.Request.TheVariants.{Day}
+use Rattle.mrp_main.specs.declared.command.Request.TheVariants.{Check, Day, Page}
 use Rattle.mrp_main.specs.declared.day.DayCommand.{DayCommand}
+use Rattle.mrp_main.specs.declared.page_words.PageWords.{PageWords}
 use Rattle.mrp_main.specs.declared.day.DayCommand.TheVariants.{Plan, Live}
 use Rattle.mrp_main.specs.declared.command.NoRequest.{NoRequest}
 use Rattle.mrp_main.specs.declared.command.NoRequest.TheVariants.{Help, Usage, NoMemory}
@@ -39,6 +40,35 @@ dir_rule = record (new_rule (codes "dir")) {
   value_names = 1;
 }
 
+-- the same, where it has to be there
+abbrev pub checked_rule : Rule
+checked_rule = record dir_rule { required = true }
+
+-- `--run K`, a number from 1
+abbrev pub run_rule : Rule
+run_rule = record (new_rule (codes "run")) {
+  long = Some (codes "run");
+  action = Some Set;
+  value_names = 1;
+  parser = Some (Unsigned 1 (2 ^ 64 - 1));
+}
+
+-- `--items A,B`, a text
+abbrev pub items_rule : Rule
+items_rule = record (new_rule (codes "items")) {
+  long = Some (codes "items");
+  action = Some Set;
+  value_names = 1;
+}
+
+-- `--title TEXT`, a text
+abbrev pub title_rule : Rule
+title_rule = record (new_rule (codes "title")) {
+  long = Some (codes "title");
+  action = Some Set;
+  value_names = 1;
+}
+
 -- the word of each command that makes a day
 abbrev pub word_of : DayCommand → Text
 word_of Plan = codes "plan"
@@ -52,6 +82,14 @@ IsDayWord word = (word ≡ word_of Plan) ⊎ (word ≡ word_of Live)
 abbrev pub day_app : DayCommand → App
 day_app command = with_rule (with_rule (new_app (word_of command)) workers_rule) dir_rule
 
+-- `page`: its word, and what it may be given
+abbrev pub page_app : App
+page_app = with_rule (with_rule (with_rule (new_app (codes "page")) run_rule) items_rule) title_rule
+
+-- `check`: its word, and what it has to be given
+abbrev pub check_app : App
+check_app = with_rule (new_app (codes "check")) checked_rule
+
 -- no argument of a command is one of its subcommands too
 abbrev pub HasNoGlobals : Command → Type 0
 HasNoGlobals command = (out-Command command).has_globals ≡ false
@@ -60,9 +98,13 @@ HasNoGlobals command = (out-Command command).has_globals ≡ false
 abbrev pub mrp_command : App
 mrp_command =
     with_subcommand (
+    with_subcommand (
+    with_subcommand (
     with_subcommand (on_top (λ s. record s { no_binary_name = true; subcommand_required = true }) (new_app (codes "mrp")))
     (day_app Plan).top)
-    (day_app Live).top
+    (day_app Live).top)
+    page_app.top)
+    check_app.top
 
 -- why clap may refuse the words; help is a refusal too, and words that are taken have none
 abbrev pub refusals : List Text → Kinds
@@ -91,14 +133,60 @@ AreWrong words = (kind : ErrorKind) × IsAmong kind (refusals words) × (IsAnswe
 -- 1 to `MOST_WORKERS` workers
 abbrev pub HasWorkers : Request → Type 0
 HasWorkers (Day command workers folder) = IsInRange 1 MOST_WORKERS workers
+HasWorkers (Page words) = ⊤
+HasWorkers (Check folder) = ⊤
 
--- the folder whose files are to be planned
-abbrev pub folder_of : Request → Option Text
-folder_of (Day command workers folder) = option_map string_bytes folder
+-- the folder whose files are to be planned, or that a day is to be checked beside, is the one that the words name
+abbrev pub HasFolder : Option (Text × List Row) → Request → Type 0
+HasFolder entered (Day command workers folder) = option_map string_bytes folder ≡ dir_among entered
+HasFolder entered (Page words) = ⊤
+HasFolder entered (Check folder) = option_map string_bytes folder ≡ dir_among entered
 
 -- the subcommand that words enter is this command
 abbrev pub Enters : Option (Text × List Row) → DayCommand → Type 0
 Enters entered command = (rows : List Row) × (entered ≡ Some (word_of command, rows))
+
+-- the subcommand that words enter is `page`, with these rows
+abbrev pub EntersPage : Option (Text × List Row) → List Row → Type 0
+EntersPage entered rows = entered ≡ Some (codes "page", rows)
+
+-- the subcommand that words enter is `check`, with these rows
+abbrev pub EntersCheck : Option (Text × List Row) → List Row → Type 0
+EntersCheck entered rows = entered ≡ Some (codes "check", rows)
+
+-- words enter `check`, or a command that makes a day
+abbrev pub EntersCheckOrDay : Option (Text × List Row) → Type 0
+EntersCheckOrDay entered = ((command : DayCommand) × Enters entered command) ⊎ ((rows : List Row) × EntersCheck entered rows)
+
+-- words enter one of the commands
+abbrev pub IsEntered : Option (Text × List Row) → Type 0
+IsEntered entered = EntersCheckOrDay entered ⊎ ((rows : List Row) × EntersPage entered rows)
+
+-- the run that rows name
+pub record IsRunIn (rows : List Row) (run : ℕ) : Type 0 where
+  pub text : Text
+  pub given : one_of (codes "run") rows ≡ Some text
+  pub number : IsUnsignedIn 1 (2 ^ 64 - 1) text
+  pub value : run ≡ digits_value 10 (without_leading_plus text)
+
+-- rows name this run, or none, these items and this title
+pub record ArePageRows (rows : List Row) (run : Option ℕ) (items title : Option Text) : Type 0 where
+  pub named : (number : ℕ) → IsRunIn rows number → run ≡ Some number
+  pub last : one_of (codes "run") rows ≡ None → run ≡ None
+  pub of_items : items ≡ first_of (codes "items") rows
+  pub titled : title ≡ first_of (codes "title") rows
+
+-- a page is asked for by what rows name
+abbrev pub HasPageWords : List Row → PageWords → Type 0
+HasPageWords rows words = ArePageRows rows words.run (option_map string_bytes words.items) (option_map string_bytes words.title)
+
+-- words ask for the page of this run, of these items and with this title
+abbrev pub AskForPage : List Text → Option ℕ → Option Text → Option Text → Type 0
+AskForPage words run items title = (rows : List Row) × EntersPage (subcommand_of mrp_command words) rows × ArePageRows rows run items title
+
+-- words ask for a check beside the files of this folder
+abbrev pub AskForCheck : List Text → Text → Type 0
+AskForCheck words folder = ((rows : List Row) × EntersCheck (subcommand_of mrp_command words) rows) × (folder_in words ≡ Some folder)
 
 -- the subcommand that words enter is by so many workers: by the number of `--workers`, or by the one that stands for it
 pub record IsBy (entered : Option (Text × List Row)) (workers : ℕ) : Type 0 where
@@ -114,9 +202,11 @@ pub record IsBy (entered : Option (Text × List Row)) (workers : ℕ) : Type 0 w
 abbrev pub AskFor : List Text → DayCommand → ℕ → Type 0
 AskFor words command workers = Enters (subcommand_of mrp_command words) command × IsBy (subcommand_of mrp_command words) workers
 
--- a request is for the command that words enter, and has the workers that are asked for
+-- a request is for the command that words enter, and has the workers, or the words of the page, that are asked for
 abbrev pub IsAsAsked : Option (Text × List Row) → Request → Type 0
 IsAsAsked entered (Day command workers folder) = Enters entered command × ((asked : ℕ) → IsBy entered asked → workers ≡ asked)
+IsAsAsked entered (Page words) = (rows : List Row) × EntersPage entered rows × HasPageWords rows words
+IsAsAsked entered (Check folder) = (rows : List Row) × EntersCheck entered rows
 
 -- what an error of clap's asks for, by its kind
 abbrev pub IsOfKind : ErrorKind → NoRequest → Type 0
@@ -126,7 +216,7 @@ IsOfKind kind NoMemory = kind ≡ OutOfMemory
 
 -- what the words ask for, or memory was refused
 abbrev pub Asks : List Text → Result Request NoRequest → Type 0
-Asks words (Ok request) = (refusals words ≡ []) × IsAsAsked (subcommand_of mrp_command words) request × (folder_of request ≡ folder_in words)
+Asks words (Ok request) = (refusals words ≡ []) × IsAsAsked (subcommand_of mrp_command words) request × HasFolder (subcommand_of mrp_command words) request
 Asks words (Err (Help text)) = AskForHelp words
 Asks words (Err (Usage text)) = AreWrong words
 Asks words (Err NoMemory) = ⊤

@@ -6,9 +6,11 @@ ghost use Rattle.clap.specs.Matches.{first_value, found_of};
 ghost use Rattle.clap.specs.Values.{kind_of};
 ghost use Rattle.clap.specs.Walk.{rule_of};
 ghost use Rattle.clap.specs.Simple.{app_of, subcommand_rows_of};
-ghost use Rattle.mrp_main.specs.Words.{Asks, Enters, HasNoGlobals, HasWorkers, IsAsAsked, IsBy, IsOfKind, day_app, dir_among, dir_rule, folder_of, mrp_command, workers_rule};
+ghost use Rattle.mrp_main.specs.Words.{Asks, Enters, EntersCheckOrDay, HasFolder, HasNoGlobals, HasWorkers, IsAsAsked, IsBy, IsEntered, IsOfKind, day_app, dir_among, dir_rule, mrp_command, workers_rule};
 
+use crate::check_words::check_command;
 use crate::day::DayCommand;
+use crate::page_words::{PageWords, page_command, page_words};
 use clap::builder::ValueParser;
 use clap::error::ErrorKind;
 use clap::{Arg, ArgAction, ArgMatches, Command, Error};
@@ -57,12 +59,14 @@ const ABOUT_WORKERS: &str =
 const ABOUT_DIR: &str =
     "A folder, whose files calendar.csv, items.csv and so on are planned in place of standard input";
 
-const EXAMPLE: &str = "Examples:
+pub(crate) const EXAMPLE: &str = "Examples:
   mrp plan < shop.bundle > shop.day
   mrp plan --dir shop > shop.day
   mrp live < shop.bundle > shop.day
+  mrp page < shop.day > shop.html
+  mrp check --dir shop < shop.day
 
-Exit status: 0 done, 1 refused, 2 usage, 3 no memory, 4 read or write failed.";
+Exit status: 0 done, 1 refused or wrong, 2 usage, 3 no memory, 4 read or write failed.";
 
 /// What the words ask for.
 #[derive(Drop)]
@@ -74,6 +78,11 @@ pub enum Request {
         workers: usize,
         folder: Option<String>,
     },
+    /// Make the page of the day that the input has.
+    Page(PageWords),
+    /// Check the day that the input has beside the files of the folder that is named. `clap` asks for
+    /// one.
+    Check(Option<String>),
 }
 
 /// Why words ask for nothing that can be done.
@@ -159,7 +168,9 @@ fn command<'a>(alloc: Global) -> Result<Command<'a>, AllocError>
         .no_binary_name(true)
         .subcommand_required(true)
         .subcommand(day_command(alloc, DayCommand::Plan)?)?
-        .subcommand(day_command(alloc, DayCommand::Live)?)
+        .subcommand(day_command(alloc, DayCommand::Live)?)?
+        .subcommand(page_command(alloc)?)?
+        .subcommand(check_command(alloc)?)
 }
 
 // Why clap gave no matches, as the text that it has for it.
@@ -221,12 +232,16 @@ fn workers_taken(matches: &ArgMatches<'_>) -> usize
     }
 }
 
-// What `--dir` is given in the matches of a subcommand.
-fn dir_in(alloc: Global, found: &ArgMatches<'_>) -> Result<Option<String>, AllocError>
-    ensures { IfOk result (λ folder. option_map string_bytes folder ≡ first_value (found_of found.now) (codes "dir")) }
+// The text that a word is given in the matches of a subcommand.
+pub(crate) fn text_in(
+    alloc: Global,
+    found: &ArgMatches<'_>,
+    word: &str,
+) -> Result<Option<String>, AllocError>
+    ensures { IfOk result (λ text. option_map string_bytes text ≡ first_value (found_of found.now) word.now) }
 {
-    match found.get_str("dir") {
-        Some(folder) => Ok(Some(String::from_str(alloc, folder)?)),
+    match found.get_str(word) {
+        Some(text) => Ok(Some(String::from_str(alloc, text)?)),
         None => Ok(None),
     }
 }
@@ -236,16 +251,16 @@ fn folder_named(alloc: Global, matches: &ArgMatches<'_>) -> Result<Option<String
     ensures { IfOk result (λ folder. option_map string_bytes folder ≡ dir_among (subcommand_rows_of matches.now)) }
 {
     match matches.subcommand() {
-        Some((_, found)) => dir_in(alloc, found),
+        Some((_, found)) => text_in(alloc, found, "dir"),
         None => Ok(None),
     }
 }
 
-fn request_of(alloc: Global, matches: &ArgMatches<'_>) -> Result<Request, NoRequest>
+fn day_request(alloc: Global, matches: &ArgMatches<'_>) -> Result<Request, NoRequest>
     requires { (command : DayCommand) × Enters (subcommand_rows_of matches.now) command }
     ensures workers { IfOk result HasWorkers }
     ensures asked { IfOk result (IsAsAsked (subcommand_rows_of matches.now)) }
-    ensures folder { IfOk result (λ request. folder_of request ≡ dir_among (subcommand_rows_of matches.now)) }
+    ensures folder { IfOk result (HasFolder (subcommand_rows_of matches.now)) }
     ensures memory { IfErr result (λ none. none ≡ NoRequest.NoMemory) }
 {
     let folder = folder_named(alloc, matches)?;
@@ -256,6 +271,32 @@ fn request_of(alloc: Global, matches: &ArgMatches<'_>) -> Result<Request, NoRequ
         workers,
         folder,
     })
+}
+
+fn check_or_day(alloc: Global, matches: &ArgMatches<'_>) -> Result<Request, NoRequest>
+    requires { EntersCheckOrDay (subcommand_rows_of matches.now) }
+    ensures workers { IfOk result HasWorkers }
+    ensures asked { IfOk result (IsAsAsked (subcommand_rows_of matches.now)) }
+    ensures folder { IfOk result (HasFolder (subcommand_rows_of matches.now)) }
+    ensures memory { IfErr result (λ none. none ≡ NoRequest.NoMemory) }
+{
+    match matches.subcommand_matches("check") {
+        Some(found) => Ok(Request::Check(text_in(alloc, found, "dir")?)),
+        None => day_request(alloc, matches),
+    }
+}
+
+fn request_of(alloc: Global, matches: &ArgMatches<'_>) -> Result<Request, NoRequest>
+    requires { IsEntered (subcommand_rows_of matches.now) }
+    ensures workers { IfOk result HasWorkers }
+    ensures asked { IfOk result (IsAsAsked (subcommand_rows_of matches.now)) }
+    ensures folder { IfOk result (HasFolder (subcommand_rows_of matches.now)) }
+    ensures memory { IfErr result (λ none. none ≡ NoRequest.NoMemory) }
+{
+    match matches.subcommand_matches("page") {
+        Some(found) => Ok(Request::Page(page_words(alloc, found)?)),
+        None => check_or_day(alloc, matches),
+    }
 }
 
 /// What the words behind the program's name ask for. It is `clap` that decides, here alone.

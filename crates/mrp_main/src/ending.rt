@@ -6,8 +6,9 @@ ghost use Rattle.mrp_engine.specs.Run.{HasTakenAll};
 
 use crate::status::Status;
 use mrp_engine::DayFault;
+use mrp_page::PageFault;
 use mrp_qty::NoMemory;
-use mrp_rows::{Name, Told, Tries, WRITE_TRIES, WriteFault, fault_text, write_text};
+use mrp_rows::{Name, ReadFault, Told, Tries, WRITE_TRIES, WriteFault, fault_text, write_text};
 use std::alloc::Global;
 use std::io::Write;
 
@@ -20,6 +21,12 @@ pub enum Ending {
     Refused(String),
     /// The plan of the item of this name gets too large.
     TooLarge(Name),
+    /// The text is no day.
+    WrongShape,
+    /// The day that was checked is wrong, as the output says.
+    Wrong,
+    /// The day has fewer runs than the one that is asked for.
+    NoRun,
     /// The words are wrong, as this text says.
     Usage(String),
     /// A growth of memory was refused.
@@ -39,8 +46,12 @@ fn write_whole<E: Write>(errors: &mut Told<E>, text: &[u8]) -> Result<(), WriteF
     write_text(errors, text, &mut Tries::new())
 }
 
-// Writes a line of two parts to the error stream.
-fn write_line<E: Write>(errors: &mut Told<E>, head: &[u8], rest: &[u8]) -> Result<(), WriteFault>
+// Writes a line of two parts.
+pub(crate) fn write_line<E: Write>(
+    errors: &mut Told<E>,
+    head: &[u8],
+    rest: &[u8],
+) -> Result<(), WriteFault>
     ensures whole { OnOk result (HasTakenAll E.contents errors.old errors.new (head.now ++ rest.now ++ 10 ∷ [])) }
     ensures front { OnErr result (HasTakenFront E.contents errors.old errors.new (head.now ++ rest.now ++ 10 ∷ [])) }
     ensures gave_up { OnErr result (HasGivenUp errors.old errors.new WRITE_TRIES) }
@@ -55,10 +66,12 @@ impl Ending {
     ghost use Rattle.mrp_report.specs.Written.{HasGivenUp, HasTakenFront};
     ghost use Rattle.mrp_engine.specs.Run.{HasTakenAll};
     ghost use Rattle.mrp_main.specs.Ends.{IsEndOf, words_of};
+    ghost use Rattle.mrp_main.specs.PageEnds.{end_of};
+    ghost use Rattle.mrp_main.specs.Refusal.{end_of_read};
     ghost use Rattle.mrp_main.specs.Status.{status_of};
 
     // A bundle was refused: its fault's text, or want of memory for it.
-    fn of_text(text: Result<String, NoMemory>) -> Ending
+    pub(crate) fn of_text(text: Result<String, NoMemory>) -> Ending
         ensures { MatchResult text (λ t. result ≡ Ending.Refused t) (λ _. result ≡ Ending.NoMemory) }
     {
         match text {
@@ -90,20 +103,47 @@ impl Ending {
         }
     }
 
+    /// How reading ended that gave nothing.
+    pub(crate) fn of_read(fault: ReadFault) -> Ending
+        ensures { result ≡ end_of_read fault }
+    {
+        match fault {
+            ReadFault::Read => Ending::Read,
+            ReadFault::NoMemory => Ending::NoMemory,
+        }
+    }
+
+    /// How a page ended.
+    pub fn of_page(page: Result<(), PageFault>) -> Ending
+        ensures { MatchResult page (λ _. result ≡ Ending.Done) (λ fault. result ≡ end_of fault) }
+    {
+        match page {
+            Ok(()) => Ending::Done,
+            Err(PageFault::Shape) => Ending::WrongShape,
+            Err(PageFault::NoRun) => Ending::NoRun,
+            Err(PageFault::NoMemory) => Ending::NoMemory,
+            Err(PageFault::Read) => Ending::Read,
+            Err(PageFault::Write) => Ending::Write,
+        }
+    }
+
     /// The exit status.
     pub fn status(&self) -> Status
         ensures { result ≡ status_of self.now }
     {
         match self {
             Ending::Done => Status::Done,
-            Ending::Refused(_) | Ending::TooLarge(_) => Status::Refused,
+            Ending::Refused(_) | Ending::TooLarge(_) | Ending::WrongShape | Ending::Wrong =>
+                Status::Refused,
+            Ending::NoRun => Status::Usage,
             Ending::Usage(_) => Status::Usage,
             Ending::NoMemory => Status::NoMemory,
             Ending::Read | Ending::Write => Status::Stream,
         }
     }
 
-    /// Says on the error stream how the command ended: nothing where it was done.
+    /// Says on the error stream how the command ended: nothing where it was done, or where the output
+    /// says it.
     ///
     /// Errors: where a write failed. A front was written then.
     pub fn tell<E: Write>(&self, errors: &mut Told<E>) -> Result<(), WriteFault>
@@ -112,9 +152,11 @@ impl Ending {
         ensures gave_up { OnErr result (HasGivenUp errors.old errors.new WRITE_TRIES) }
     {
         match self {
-            Ending::Done => Ok(()),
+            Ending::Done | Ending::Wrong => Ok(()),
             Ending::Refused(text) => write_line(errors, b"refused: ", text.as_bytes()),
             Ending::TooLarge(name) => write_line(errors, b"too large: ", name.as_bytes()),
+            Ending::WrongShape => write_line(errors, b"wrong: shape", b""),
+            Ending::NoRun => write_line(errors, b"no such run", b""),
             Ending::Usage(text) => write_whole(errors, text.as_bytes()),
             Ending::NoMemory => write_line(errors, b"no memory", b""),
             Ending::Read => write_line(errors, b"read failed", b""),

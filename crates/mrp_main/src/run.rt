@@ -7,10 +7,12 @@ ghost use Rattle.std.specs.Result.{ForOk};
 ghost use Rattle.mrp_main.specs.Ends.{BundleEnds, DayEnds, Ends, FolderEnds, HelpEnds, IsDone, RequestEnds};
 ghost use Rattle.mrp_main.specs.Words.{HasWorkers};
 
+use crate::check::check_day;
 use crate::command::{NoRequest, Request, read_words};
 use crate::day::DayCommand;
 use crate::ending::Ending;
 use crate::files::{FileStore, read_folder};
+use crate::page::make_page;
 use mrp_engine::{MOST_WORKERS, live_day, run_day};
 use mrp_rows::{ReadFault, Told, Tries, write_text};
 use std::alloc::Global;
@@ -110,6 +112,11 @@ fn answer<F: FileStore, R: Read, W: Write>(
                 make_day_of_folder(rt, alloc, files, command, workers, &folder, output)
             }
         },
+        Request::Page(words) => make_page(alloc, &words, input, output),
+        Request::Check(folder) => match folder {
+            Some(folder) => check_day(rt, alloc, files, &folder, input, output),
+            None => Ending::Usage(String::new(alloc)),
+        },
     }
 }
 
@@ -133,21 +140,30 @@ fn carry_out<F: FileStore, R: Read, W: Write>(
     }
 }
 
-/// Does what the words behind the program's name ask for, as `plan --workers 2` or `live`, over an
-/// input, an output and an error stream, and gives the exit status. With `--dir D` the files of the
-/// folder D are read in place of the input.
+/// Does what the words behind the program's name ask for, as `plan --workers 2`, `live`, `page` or
+/// `check --dir D`, over an input, an output and an error stream, and gives the exit status. A plan or a
+/// live day with `--dir D` is of the files of the folder D in place of the input.
 ///
-/// The status is 0 where it was done, 1 where the bundle was refused or its plan gets too large, 2
-/// for wrong words, 3 where memory was refused, and 4 where reading or writing failed. A line on the
-/// error stream says why; its failure does not change the status.
+/// The status is 0 where it was done, 1 where the bundle was refused or its plan gets too large, where
+/// the text that a page is asked for of is no day, or where a day was checked and is wrong, 2 for wrong
+/// words, also for a run that the day does not have, 3 where memory was refused, and 4 where reading or
+/// writing failed. A line on the error stream says why; its failure does not change the status.
 ///
 /// Words that ask for a plan have the script answered in row order, and words that ask for a live day
 /// desk by desk, which leaves open which desk comes first. At 0 such a day of what the input had left
 /// was written; at 1, and where reading failed, nothing was; at 3 and where writing failed, at most a
 /// front of such a day. Of a folder the same is said of the bundle that the files of this folder make:
 /// for each table one section with its file's bytes, or none. Which bytes files have no contract says.
-/// Words that ask for help have it written, and wrong words nothing. All but a day of the input leave
-/// it as it is.
+///
+/// Words that ask for a page have it drawn of the day that the input had left: at 0 the whole page was
+/// written; where writing failed, a front of it; else nothing.
+///
+/// Words that ask for a check have the day that the input had left checked beside the bundle of a folder's
+/// files: at 0 the line `right` was written, and it is a right day; at 1 the line of the first of its
+/// faults, or the bundle was refused and nothing was; where writing failed, a front of a line; else nothing.
+///
+/// Words that ask for help have it written, and wrong words nothing. All but a day, a page and a check of
+/// the input leave it as it is.
 pub fn run_words<S: AsStr, R: Read, W: Write, E: Write>(
     rt: &(impl Alloc + Files + Threads + Wait + Sync),
     alloc: Global,

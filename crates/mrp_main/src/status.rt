@@ -5,7 +5,7 @@
 pub enum Status {
     /// What was asked for was done.
     Done,
-    /// The bundle was refused, or its plan gets too large.
+    /// The bundle was refused, or its plan gets too large; or a text is no day, or no right one.
     Refused,
     /// The words were wrong.
     Usage,

@@ -13,6 +13,7 @@ use Rattle.mrp_tables.specs.declared.item.Item.{Item}
 use Rattle.mrp_tables.specs.declared.rows.StockRow.{StockRow}
 use Rattle.mrp_tables.specs.Facts.{AllDiffer, IsStockRow}
 use Rattle.mrp_tables.specs.Stock.{items_in_stock}
+use Rattle.mrp_phase.proofs.KeptSums.{sum_by-kept}
 use Rattle.mrp_master.specs.Supply.{on_hand_of}
 
 -- what a row adds to what is on hand of an item
@@ -20,13 +21,7 @@ abbrev pub added : ℕ → StockRow → ℕ
 added item row = cond (eqb row.item item) row.on_hand 0
 
 pub on_hand_is_sum : (rows : List StockRow) (item : ℕ) → on_hand_of rows item ≡ sum_by (added item) rows
-on_hand_is_sum [] item = refl
-on_hand_is_sum (r ∷ rows) item = by (eqb r.item item) refl (on_hand_is_sum rows item)
-  where
-    by : (b : Bool) → eqb r.item item ≡ b → on_hand_of rows item ≡ sum_by (added item) rows
-        → sum_by (λ (x : StockRow). x.on_hand) (cond b (r ∷ filter (λ x. eqb x.item item) rows) (filter (λ x. eqb x.item item) rows)) ≡ sum_by (added item) (r ∷ rows)
-    by true e more = omega (arith, more, sum_by-cons (λ (x : StockRow). x.on_hand) r (filter (λ x. eqb x.item item) rows), sum_by-cons (added item) r rows, ap (λ b. cond b r.on_hand 0) e)
-    by false e more = omega (arith, more, sum_by-cons (added item) r rows, ap (λ b. cond b r.on_hand 0) e)
+on_hand_is_sum rows item = sum_by-kept (λ row. eqb row.item item) (λ (row : StockRow). row.on_hand) rows
 
 -- one row more
 pub on_hand_more : (rows : List StockRow) (k : ℕ) (d : StockRow) (item : ℕ) → k < length rows

@@ -4,6 +4,7 @@ use Rattle.std.specs.Int.{int_min}
 use Rattle.mrp_qty.specs.Quantity.{greatest_quantity}
 use Rattle.mrp_phase.specs.Weeks.{sum_to}
 use Rattle.mrp_master.specs.declared.nodes.Node.{Node}
+use Rattle.mrp_master.specs.declared.nodes.TheConstants.{PLACES}
 use Rattle.mrp_master.specs.AtpRow.{AtpRow, IsAtpRow}
 
 -- a covered row of quantities, of some weeks
@@ -31,15 +32,15 @@ height node =
     else if nat_lt node 16 then 4
     else if nat_lt node 32 then 3
     else if nat_lt node 64 then 2
-    else if nat_lt node 128 then 1
+    else if nat_lt node PLACES then 1
     else 0
 
--- the week before those below a node, and the last of them: their places are 128, 129 and so on
+-- the week before those below a node, and the last of them: their places are PLACES, PLACES + 1 and so on
 unfoldable pub before : ℕ → ℕ
-before node = node * 2 ^ height node - 128
+before node = node * 2 ^ height node - PLACES
 
 unfoldable pub last : ℕ → ℕ
-last node = (node + 1) * 2 ^ height node - 128
+last node = (node + 1) * 2 ^ height node - PLACES
 
 -- a node of a row's tree: what the weeks below it change
 abbrev pub IsNode : AtpRow → ℕ → Node → Type 0

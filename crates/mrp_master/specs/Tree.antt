@@ -3,6 +3,7 @@ use Rattle.std.specs.Prelude.{ℕ, ◌≡◌, ◌≤◌, ◌<◌, ◌+◌, ◌-�
 use Rattle.std.specs.List.{slice_index_or}
 use Rattle.mrp_phase.specs.Weeks.{in_week}
 use Rattle.mrp_master.specs.declared.nodes.Node.{Node}
+use Rattle.mrp_master.specs.declared.nodes.TheConstants.{PLACES}
 use Rattle.mrp_master.specs.AtpRow.{AtpRow}
 use Rattle.mrp_master.specs.Nodes.{IsPromiseRow, joined}
 
@@ -21,7 +22,7 @@ place_node r week = record {
 
 -- a node by the two below it, or by its week
 abbrev pub made : AtpRow → List Node → ℕ → Node
-made r nodes n = if nat_lt n 128 then joined (node_at nodes (2 * n)) (node_at nodes (2 * n + 1)) else place_node r (n - 127)
+made r nodes n = if nat_lt n PLACES then joined (node_at nodes (2 * n)) (node_at nodes (2 * n + 1)) else place_node r (n - (PLACES - 1))
 
 pub record IsMade (r : AtpRow) (nodes : List Node) (n : ℕ) : Type 0 where
   pub is : node_at nodes n ≡ made r nodes n

@@ -1,10 +1,11 @@
 -- Each row that is kept is a record of the day.
-use Rattle.std.proofs.Common.{◌≡◌, ℕ, Bool, true, false, not, List, [], ◌∷◌, ◌++◌, Option, Some, None, get_or, length, ◌<◌, suc, arith, refl}
+use Rattle.std.proofs.Common.{◌≡◌, ℕ, Bool, true, false, not, List, [], ◌∷◌, Option, Some, None, get_or, length, ◌<◌, suc, arith, refl}
 use Rattle.std.specs.Prelude.{is_some, ◌&&◌}
 use Rattle.std.proofs.lemmas.List.Elements.{All-append, All-cons, All-nil, Contains-get_or}
 use Rattle.std.specs.List.{All, Contains}
-use Rattle.mrp_page.specs.Notes.{Noted, history_rows, is_history, is_shown, none_noted, noted, noted_from, notes_of, report_rows, rows_left, rows_taken}
+use Rattle.mrp_page.specs.Notes.{Noted, history_rows, is_shown, none_noted, noted, noted_from, notes_of, report_rows, rows_left, rows_taken}
 use Rattle.mrp_page.specs.Row.{Cells, RowView}
+use Rattle.mrp_page.specs.Section.{is_history}
 use Rattle.mrp_page.specs.Spot.{Names, after, begins_run}
 use Rattle.mrp_page.specs.declared.section.Section.{Section}
 use Rattle.mrp_page.specs.declared.spot.Spot.{Spot}
@@ -43,7 +44,7 @@ of-left records asked spot rows stand = by (not (is_some asked) && begins_run sp
 
 next : (items : Names) (asked : Option ℕ) (records : List Cells) (before : Noted) (cells : Cells) → AllStand records before → Contains records cells → AllStand records (noted items asked before cells)
 next items asked records before cells stand is =
-    let spot = after items before.spot cells in
+    let spot = after items before.spot before.last cells in
     record {
       history = All-append (Stands records) before.history (history_rows spot.takes cells) stand.history (of-history records spot.takes cells is);
       report = All-append (Stands records) (rows_left asked spot before.report) (report_rows asked spot cells) (of-left records asked spot before.report stand.report) (of-report records (is_shown asked spot.run) spot.takes cells is);

@@ -1,7 +1,15 @@
 pub mod ReadBack
 pub mod Pieces
-pub mod CellPlaces
 pub mod Records
 pub mod RowLists
 pub mod ShownCells
 pub mod KeptRows
+pub mod NameLines
+pub mod Made
+pub mod Known
+pub mod Links
+pub mod Columns
+pub mod NamesOnce
+pub mod KeptItems
+pub mod SectionRows
+pub mod ShownItems

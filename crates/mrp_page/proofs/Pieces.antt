@@ -2,7 +2,7 @@
 use Rattle.std.proofs.Common.{◌≡◌, ◌∙◌, ℕ, ◌+◌, ◌<◌, List, [], ◌∷◌, ◌++◌, length, take, get_or, map, refl, sym, ap}
 use Rattle.std.proofs.Math.Seq.{take-length}
 use Rattle.std.proofs.lemmas.List.{append-nil, flat_map_more, take_more}
-use Rattle.std.specs.List.{flat_map}
+use Rattle.std.specs.List.{flat_map, fold, sum_by}
 
 -- the text of the first k elements, behind what stands before
 abbrev pub so_far : {A B : Type 0} → List B → (A → List B) → List A → ℕ → List B
@@ -26,3 +26,11 @@ whole {A} {B} before text xs k all = ap (so_far before text xs) all ∙ ap (λ (
 pub flat_map-map : {A B C : Type 0} (text : B → List C) (view : A → B) (xs : List A) → flat_map (λ x. text (view x)) xs ≡ flat_map text (map view xs)
 flat_map-map text view [] = refl
 flat_map-map {A} {B} {C} text view (x ∷ xs) = ap (λ (t : List C). text (view x) ++ t) (flat_map-map text view xs)
+
+fold-map : {A B : Type 0} (f : B → ℕ) (view : A → B) (xs : List A) (n : ℕ) → fold (λ m x. m + f (view x)) n xs ≡ fold (λ m x. m + f x) n (map view xs)
+fold-map f view [] n = refl
+fold-map f view (x ∷ xs) n = fold-map f view xs (n + f (view x))
+
+-- a sum over what the elements of a list are seen as
+pub sum_by-map : {A B : Type 0} (f : B → ℕ) (view : A → B) (xs : List A) → sum_by (λ x. f (view x)) xs ≡ sum_by f (map view xs)
+sum_by-map f view xs = fold-map f view xs 0

@@ -1,15 +1,13 @@
 -- How what is kept follows the records that are read.
-use Rattle.std.proofs.Common.{◌≡◌, ◌∙◌, ℕ, Bool, true, false, List, [], ◌∷◌, ◌++◌, Option, Some, None, refl, sym, ap, inl}
-use Rattle.csv.specs.Reading.{Reached, ReadRecord, default_config, reader_config, reader_state, source_of, strip_bom}
+use Rattle.std.proofs.Common.{◌≡◌, ◌∙◌, ℕ, true, false, List, [], ◌∷◌, ◌++◌, Option, Some, refl, sym, ap}
+use Rattle.csv.specs.Reading.{Reached, ReadRecord, default_config, reader_state, source_of, strip_bom}
 use Rattle.csv.specs.declared.parser.State.TheVariants as st
 use Rattle.csv.specs.declared.reader.Reader.{Reader}
 use Rattle.csv.proofs.ReadFacts.{rows-end, rows-more}
 use Rattle.mrp_page.specs.Notes.{Noted, none_noted, noted, noted_from, notes_of}
-use Rattle.mrp_page.specs.Reading.{BeginsWith, HasRead, HasRecords, HasWrongFront, IsReading}
+use Rattle.mrp_page.specs.Reading.{HasRead, HasRecords, HasWrongFront, IsReading}
 use Rattle.mrp_page.specs.Row.{Cells}
-use Rattle.mrp_page.specs.Spot.{Names, is_wrong, place_after, place_from, place_of}
-use Rattle.mrp_page.specs.declared.spot.Place.{Place}
-use Rattle.mrp_page.specs.declared.spot.Place.TheVariants as place
+use Rattle.mrp_page.specs.Spot.{Names, is_wrong, place_from, place_of}
 
 -- with one more record
 pub noted-more : (items : Names) (asked : Option ℕ) (before : Noted) (records : List Cells) (cells : Cells) → noted_from items asked before (records ++ (cells ∷ [])) ≡ noted items asked (noted_from items asked before records) cells

@@ -1,9 +1,10 @@
 -- Rows that belong together, and what is found among them.
-use Rattle.std.proofs.Common.{◌≡◌, ◌∙◌, ◌+◌, ◌<◌, ◌≤◌, ℕ, Bool, true, false, not, cond, nat_lt, Option, Some, None, List, [], ◌∷◌, ◌++◌, length, take, drop, get_or, refl, sym, ap, add-one, arith, append_assoc, drop-cons, unwrap_or, Bor, map, min}
+use Rattle.std.proofs.Common.{◌≡◌, ◌∙◌, ◌+◌, ◌<◌, ◌≤◌, ℕ, Bool, true, false, not, nat_lt, Option, List, [], ◌∷◌, ◌++◌, length, take, drop, get_or, refl, sym, ap, add-one, arith, append_assoc, drop-cons, unwrap_or, Bor, map, min}
 use Rattle.std.proofs.lemmas.List.{append-nil, drop_all, take-map, take_min, take_more}
 use Rattle.std.proofs.lemmas.List.Sums.{prefix_len-le-length}
 use Rattle.std.proofs.lemmas.Bool.{ltb-false}
-use Rattle.std.specs.List.{before_first, fold, position, position_or_len}
+use Rattle.std.specs.Prelude.{◌||◌}
+use Rattle.std.specs.List.{before_first, fold, list_any, position, position_or_len}
 use Rattle.std.specs.Option.{IfSome}
 use Rattle.mrp_page.specs.Row.{RowView, cell_at}
 use Rattle.mrp_page.specs.Rows.{last_name, leader_rows, leaders, stretch}
@@ -39,13 +40,13 @@ fold_next f v xs k x d within is = rw (drop-cons xs k d within, is, add-one) ref
 pub fold_end : {A X : Type 0} (f : A → X → A) (v : A) (xs : List X) (k : ℕ) → k ≡ length xs → fold f v (drop k xs) ≡ v
 fold_end f v xs k all = rw (drop_all k xs (omega arith)) refl
 
-leaders-more : (previous : List ℕ) (rows : List RowView) (r : RowView) → leaders previous (rows ++ (r ∷ [])) ≡ leaders previous rows ++ leader_rows (last_name previous rows) r
+pub leaders-more : (previous : List ℕ) (rows : List RowView) (r : RowView) → leaders previous (rows ++ (r ∷ [])) ≡ leaders previous rows ++ leader_rows (last_name previous rows) r
 unfolding leaders last_name
 leaders-more previous [] r = append-nil (leader_rows previous r)
 leaders-more previous (x ∷ rows) r =
     ap (λ (t : List RowView). leader_rows previous x ++ t) (leaders-more (cell_at x 0) rows r) ∙ sym (append_assoc (leader_rows previous x) (leaders (cell_at x 0) rows) (leader_rows (last_name (cell_at x 0) rows) r))
 
-last-more : (previous : List ℕ) (rows : List RowView) (r : RowView) → last_name previous (rows ++ (r ∷ [])) ≡ cell_at r 0
+pub last-more : (previous : List ℕ) (rows : List RowView) (r : RowView) → last_name previous (rows ++ (r ∷ [])) ≡ cell_at r 0
 unfolding last_name
 last-more previous [] r = refl
 last-more previous (x ∷ rows) r = last-more (cell_at x 0) rows r
@@ -67,3 +68,8 @@ last_next rows k r d name within is named = named ∙ sym (ap (last_name []) (on
 pub first-rows : (rows front : List (Bor RowView)) (most count : ℕ) → count ≡ min most (length rows) → front ≡ take count rows → map (λ r. r.now) front ≡ take most (map (λ r. r.now) rows)
 first-rows rows front most count is front_is =
     ap (λ (rs : List (Bor RowView)). map (λ (r : Bor RowView). r.now) rs) (front_is ∙ ap (λ (n : ℕ). take n rows) is ∙ take_min most rows) ∙ sym (take-map (λ (r : Bor RowView). r.now) most rows)
+
+-- one of what some things are seen as passes
+pub any-map : {A B : Type 0} (p : B → Bool) (view : A → B) (xs : List A) → list_any (λ x. p (view x)) xs ≡ list_any p (map view xs)
+any-map p view [] = refl
+any-map p view (x ∷ xs) = ap (λ (b : Bool). p (view x) || b) (any-map p view xs)

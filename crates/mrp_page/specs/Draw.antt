@@ -1,11 +1,15 @@
 -- The parts of a page.
-use Rattle.std.specs.Prelude.{ℕ, Bool, List, [], ◌++◌, ◌==◌, length, codes, flat_map, if◌then◌else◌}
-use Rattle.mrp_page.specs.Frame.{frame_of}
+use Rattle.std.specs.Prelude.{ℕ, Bool, List, [], ◌∷◌, ◌++◌, ◌==◌, ◌&&◌, ◌||◌, ◌-◌, not, length, codes, flat_map, if◌then◌else◌}
+use Rattle.std.specs.List.{list_any}
+use Rattle.mrp_page.specs.declared.counts.Counts.{Counts}
+use Rattle.mrp_page.specs.Escaped.{escaped}
+use Rattle.mrp_page.specs.Frame.{count_row, frame_of}
+use Rattle.mrp_page.specs.Html.{is_zero}
 use Rattle.mrp_page.specs.ItemRows.{ItemLists}
-use Rattle.mrp_page.specs.Layout.{available_label, balance_chart, balance_label, bar, bars_end, booked_label, capacity_label, centre_head, centres_open, entry, firm_label, grid_end, gross_label, history_end, history_open, item_head, item_tasks_end, item_tasks_open, list_end, load_chart, load_label, order, orders_open, over_label, peg, pegs_open, planned_label, point, points_end, record_head, scheduled_label, section_end, starts_label, task, todo_end, todo_open, week, weeks_end}
-use Rattle.mrp_page.specs.Row.{RowView, cell_at}
-use Rattle.mrp_page.specs.Rows.{rows_named}
-use Rattle.mrp_page.specs.Template.{Drawn, numbers_html, row_html, rows_html, rows_with}
+use Rattle.mrp_page.specs.Layout.{available_label, balance_chart, balance_label, bar, bars_end, booked_label, capacity_label, centre_head, centres_open, entry, firm_label, grid_end, gross_label, history_end, history_open, item_head, item_tasks_end, item_tasks_open, link_end, link_middle, link_open, list_end, load_chart, load_label, more, no_promises, no_record, order, orders_open, other_words, over_label, peg, pegs_open, planned_label, point, points_end, record_head, scheduled_label, section_end, starts_label, task_head, task_words, todo_end, todo_open, week, weeks_end}
+use Rattle.mrp_page.specs.Row.{RowView, cell_at, is_of}
+use Rattle.mrp_page.specs.Rows.{greatest, rows_named}
+use Rattle.mrp_page.specs.Template.{Drawn, has_word, numbers_html, row_html, rows_html}
 
 -- rows between two pieces of markup
 unfoldable pub table_html : List ℕ → List Drawn → List RowView → List ℕ → List ℕ
@@ -21,26 +25,84 @@ measure_html label column rows =
     ++ (numbers_html column rows
     ++ codes "</tr>\n")
 
+-- a name that leads to its item, which stands on the same page
+unfoldable pub link_html : List ℕ → List ℕ
+link_html name =
+    link_open
+    ++ (escaped name
+    ++ (link_middle
+    ++ (escaped name
+    ++ link_end)))
+
+-- an item is among those of these rows
+abbrev pub has_item : List RowView → List ℕ → Bool
+has_item shown name = list_any (is_of name) shown
+
+-- the name of an item, which leads to it where it is among those that are shown
+unfoldable pub item_name_html : List RowView → List ℕ → List ℕ
+item_name_html shown name =
+    if has_item shown name then link_html name else escaped name
+
+-- a message in such words
+unfoldable pub task_html : List RowView → List Drawn → RowView → List ℕ
+task_html shown words message =
+    row_html task_head message
+    ++ (item_name_html shown (cell_at message 0)
+    ++ row_html words message)
+
+-- a message in plain words, where it has this word
+abbrev pub task_if : List RowView → List ℕ → RowView → List ℕ
+task_if shown word message = if has_word 3 word message then task_html shown task_words message else []
+
+-- the messages that have this word
+unfoldable pub tasks_with : List RowView → List ℕ → List RowView → List ℕ
+tasks_with shown word messages = flat_map (task_if shown word) messages
+
+-- a message has one of the words that a page says more plainly
+abbrev pub is_plain : RowView → Bool
+is_plain message = has_word 3 (codes "PAST-DUE") message || (has_word 3 (codes "RELEASE") message || (has_word 3 (codes "IN") message || (has_word 3 (codes "OUT") message || has_word 3 (codes "CANCEL") message)))
+
+-- a message as it stands, where it has another word
+abbrev pub other_if : List RowView → RowView → List ℕ
+other_if shown message = if is_plain message then [] else task_html shown other_words message
+
+-- the messages that have another word
+unfoldable pub other_tasks : List RowView → List RowView → List ℕ
+other_tasks shown messages = flat_map (other_if shown) messages
+
 -- the messages, the most urgent first
-unfoldable pub tasks_html : List RowView → List ℕ
-tasks_html messages =
-    rows_with 3 (codes "PAST-DUE") task messages
-    ++ (rows_with 3 (codes "RELEASE") task messages
-    ++ (rows_with 3 (codes "IN") task messages
-    ++ (rows_with 3 (codes "OUT") task messages
-    ++ rows_with 3 (codes "CANCEL") task messages)))
+unfoldable pub tasks_html : List RowView → List RowView → List ℕ
+tasks_html shown messages =
+    tasks_with shown (codes "PAST-DUE") messages
+    ++ (tasks_with shown (codes "RELEASE") messages
+    ++ (tasks_with shown (codes "IN") messages
+    ++ (tasks_with shown (codes "OUT") messages
+    ++ (tasks_with shown (codes "CANCEL") messages
+    ++ other_tasks shown messages))))
 
 -- messages between two pieces of markup
-unfoldable pub task_table : List ℕ → List RowView → List ℕ → List ℕ
-task_table front messages back =
+unfoldable pub task_table : List ℕ → List RowView → List RowView → List ℕ → List ℕ
+task_table front shown messages back =
     front
-    ++ (tasks_html messages
+    ++ (tasks_html shown messages
     ++ back)
 
+-- how much more there is that is not shown: nothing where that is all
+unfoldable pub more_html : ℕ → List ℕ → List ℕ → List ℕ
+more_html count one many =
+    if count == 0 then [] else row_html more (count_row count one many)
+
+-- how many more messages there are
+unfoldable pub todo_back : ℕ → List ℕ
+todo_back missed =
+    more_html missed (codes "message is") (codes "messages are")
+    ++ section_end
+
 -- what is to be done
-unfoldable pub todo_html : List RowView → List ℕ
-todo_html messages =
-    task_table todo_open messages todo_end
+unfoldable pub todo_html : List RowView → List RowView → ℕ → List ℕ
+todo_html shown messages missed =
+    task_table todo_open shown messages todo_end
+    ++ todo_back missed
 
 -- the weeks of a table
 unfoldable pub weeks_html : List RowView → List ℕ
@@ -70,7 +132,7 @@ loads_html rows =
 -- a work centre by its rows
 unfoldable pub centre_rows_html : List ℕ → List RowView → List ℕ
 centre_rows_html name rows =
-    grid_html centre_head load_chart (frame_of name rows 2 3) rows
+    grid_html centre_head load_chart (frame_of name rows 2 3 (codes "1.000")) rows
     ++ (bars_html rows
     ++ loads_html rows)
 
@@ -84,21 +146,26 @@ unfoldable pub each_centre : List RowView → List RowView → List ℕ
 each_centre loads leaders =
     flat_map (centre_html loads) leaders
 
--- the section of the work centres
-unfoldable pub centres_html : List RowView → List RowView → List ℕ
-centres_html loads leaders =
+-- the section of the work centres, and of how many more weeks there are loads
+unfoldable pub centres_html : List RowView → List RowView → ℕ → List ℕ
+centres_html loads leaders missed =
     centres_open
     ++ (each_centre loads leaders
-    ++ section_end)
+    ++ (more_html missed (codes "week of a work centre is") (codes "weeks of work centres are")
+    ++ section_end))
 
 -- there is no row
 abbrev pub has_none : List RowView → Bool
 has_none rows = length rows == 0
 
+-- a plan has a firm schedule
+abbrev pub has_firm : List RowView → Bool
+has_firm plan = not (is_zero (greatest 4 (codes "0") plan))
+
 -- what is to come in: the firm schedule of a master item, the scheduled receipts of another
 unfoldable pub supplies_html : List RowView → List RowView → List ℕ
 supplies_html plan promises =
-    if has_none promises then measure_html scheduled_label 3 plan
+    if has_none promises && not (has_firm plan) then measure_html scheduled_label 3 plan
     else measure_html firm_label 4 plan
 
 -- what is booked of a master item, and what can still be promised
@@ -120,7 +187,7 @@ points_html plan =
 -- the balances of an item as a line
 unfoldable pub balance_html : List ℕ → List RowView → List ℕ
 balance_html name plan =
-    grid_html record_head balance_chart (frame_of name plan 7 7) plan
+    grid_html record_head balance_chart (frame_of name plan 7 7 (codes "1")) plan
     ++ points_html plan
 
 -- what is planned of an item, and the balance that is left
@@ -155,10 +222,10 @@ unfoldable pub pegs_html : List RowView → List ℕ
 pegs_html pegs =
     table_html pegs_open peg pegs list_end
 
--- the messages of an item
-unfoldable pub item_tasks : List RowView → List ℕ
-item_tasks messages =
-    task_table item_tasks_open messages item_tasks_end
+-- the messages of an item, of which this is a row
+unfoldable pub item_tasks : RowView → List RowView → List ℕ
+item_tasks leader messages =
+    task_table item_tasks_open (leader ∷ []) messages item_tasks_end
 
 -- what stands behind an item's record
 unfoldable pub item_lists_html : ItemLists → List ℕ → List ℕ
@@ -167,30 +234,70 @@ item_lists_html rows name =
     ++ (pegs_html (rows_named name rows.pegs)
     ++ section_end)
 
+-- the record of an item, or that it is not kept
+unfoldable pub record_or_none : List ℕ → List RowView → List RowView → List ℕ
+record_or_none name plan promises =
+    if has_none plan then no_record else record_html name plan promises
+
 -- the record of an item, by its name
 unfoldable pub named_record : ItemLists → List ℕ → List ℕ
 named_record rows name =
-    record_html name (rows_named name rows.plan) (rows_named name rows.promises)
+    record_or_none name (rows_named name rows.plan) (rows_named name rows.promises)
 
--- the messages of an item, by its name
-unfoldable pub named_tasks : ItemLists → List ℕ → List ℕ
-named_tasks rows name =
-    item_tasks (rows_named name rows.messages)
+-- the messages of an item, by a row of it
+unfoldable pub named_tasks : ItemLists → RowView → List ℕ
+named_tasks rows leader =
+    item_tasks leader (rows_named (cell_at leader 0) rows.messages)
 
--- an item, by a row of it
-unfoldable pub item_html : ItemLists → RowView → List ℕ
-item_html rows leader =
+-- that an item with a record may have promises that are not kept, where so many are not
+abbrev pub promises_note : List RowView → List RowView → ℕ → List ℕ
+promises_note plan promises missed =
+    if (missed == 0) || (has_none plan || not (has_none promises)) then [] else no_promises
+
+-- what is said of an item's promises, by its name
+unfoldable pub named_note : ItemLists → ℕ → List ℕ → List ℕ
+named_note rows missed name =
+    promises_note (rows_named name rows.plan) (rows_named name rows.promises) missed
+
+-- an item, by a row of it, where so many rows of promises are not kept
+unfoldable pub item_html : ItemLists → ℕ → RowView → List ℕ
+item_html rows missed leader =
     row_html item_head leader
-    ++ (named_tasks rows (cell_at leader 0)
+    ++ (named_tasks rows leader
     ++ (named_record rows (cell_at leader 0)
-    ++ item_lists_html rows (cell_at leader 0)))
+    ++ (named_note rows missed (cell_at leader 0)
+    ++ item_lists_html rows (cell_at leader 0))))
 
 -- items, by a row of each
-unfoldable pub items_html : ItemLists → List RowView → List ℕ
-items_html rows leaders =
-    flat_map (item_html rows) leaders
+unfoldable pub items_html : ItemLists → ℕ → List RowView → List ℕ
+items_html rows missed leaders =
+    flat_map (item_html rows missed) leaders
 
--- the history, folded away
-unfoldable pub history_html : List RowView → List ℕ
-history_html history =
-    table_html history_open entry history history_end
+-- of how many more weeks there are records and promises
+unfoldable pub more_weeks : Counts → List ℕ
+more_weeks counts =
+    more_html counts.plan (codes "week of a record is") (codes "weeks of records are")
+    ++ more_html counts.promises (codes "week of promises is") (codes "weeks of promises are")
+
+-- how many more orders and pegs there are
+unfoldable pub more_lists : Counts → List ℕ
+more_lists counts =
+    more_html counts.orders (codes "order is") (codes "orders are")
+    ++ more_html counts.pegs (codes "peg is") (codes "pegs are")
+
+-- how many more rows of items there are that are not kept
+unfoldable pub more_rows : Counts → List ℕ
+more_rows counts = more_weeks counts ++ more_lists counts
+
+-- how many more items there are than these, and rows of items that are not kept
+unfoldable pub more_items : Counts → List RowView → List ℕ
+more_items counts shown =
+    more_html (counts.items - length shown) (codes "item is") (codes "items are")
+    ++ more_rows counts
+
+-- the history, folded away, and how many more entries it has
+unfoldable pub history_html : List RowView → ℕ → List ℕ
+history_html history missed =
+    table_html history_open entry history grid_end
+    ++ (more_html missed (codes "entry is") (codes "entries are")
+    ++ history_end)

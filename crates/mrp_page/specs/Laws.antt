@@ -1,24 +1,28 @@
 -- What a row shows.
-use Rattle.std.specs.Prelude.{ℕ, List, [], ◌∷◌, ◌++◌, codes, flat_map, if◌then◌else◌}
+use Rattle.std.specs.Prelude.{ℕ, List, [], ◌∷◌, codes, flat_map}
+use Rattle.mrp_page.specs.Draw.{link_html}
 use Rattle.mrp_page.specs.Escaped.{escaped}
 use Rattle.mrp_page.specs.Html.{number_tag}
 use Rattle.mrp_page.specs.Row.{RowView, cell_at}
 use Rattle.mrp_page.specs.Template.{Drawn, Mark, Number, Text, Where, has_word, markup_if}
 
--- a piece of a page: markup, which is no text of a day, or a text
+-- a piece of a page: markup, which is no text of a day, a text, or a name that leads to its item
 pub data Piece : Type 0 where
   Markup : List ℕ → Piece
   Escaped : List ℕ → Piece
+  Link : List ℕ → Piece
 
 -- markup as it is, a text escaped
 abbrev pub piece_html : Piece → List ℕ
 piece_html (Markup markup) = markup
 piece_html (Escaped text) = escaped text
+piece_html (Link name) = link_html name
 
 -- the text of a piece
 abbrev pub text_of : Piece → List (List ℕ)
 text_of (Markup markup) = []
 text_of (Escaped text) = text ∷ []
+text_of (Link name) = name ∷ []
 
 -- the texts that pieces show
 unfoldable pub shown : List Piece → List (List ℕ)

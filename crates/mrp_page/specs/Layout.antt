@@ -4,7 +4,7 @@ use Rattle.mrp_page.specs.Template.{Drawn, Mark, Number, Text, Where}
 
 -- the style sheet
 unfoldable pub style : List ℕ
-style = codes "*{box-sizing:border-box}\nbody{font:15px/1.45 system-ui,sans-serif;max-width:72rem;margin:0 auto;padding:1rem 1.2rem 3rem;color:#1d2733;background:#fff}\nh1{font-size:1.5rem;margin:.4rem 0 0}\nh2{font-size:1.15rem;margin:0 0 .4rem}\nheader p,caption,.grid thead th,.list thead th{color:#566472}\nheader p{margin:.1rem 0 1rem}\nheader b{color:#1d2733}\nsection{border-top:1px solid #dde3ea;padding:1rem 0}\ntable{border-collapse:collapse;font-variant-numeric:tabular-nums}\ncaption{text-align:left;padding:.2rem 0}\nth{font-weight:400;text-align:left}\na{color:#2b6cb0}\n.scroll{overflow-x:auto;margin:.3rem 0 .6rem}\n.todo th,.todo td{padding:.12rem 1rem .12rem 0;vertical-align:top}\n.todo td{border-left:4px solid #cbd5e0;padding-left:.6rem}\n.todo .late td{border-color:#c53030}\n.todo .release td{border-color:#2f855a}\n.todo .in td{border-color:#b7791f}\n.todo .out td{border-color:#2b6cb0}\n.todo tbody:empty::after{content:\"Nothing to do\"}\n.grid th:first-child{position:sticky;left:0;z-index:1;background:#fff;padding-right:1rem;white-space:nowrap}\n.grid td,.grid thead th+th{min-width:3.4rem;padding:.1rem .4rem .1rem 0;text-align:right}\n.grid thead th{border-bottom:1px solid #dde3ea}\n.grid .strong th,.grid .strong td{font-weight:600}\n.z{color:#98a5b2}\n.grid .over td:not(.z){color:#b32626;font-weight:600}\n.grid .over td:not(.z)::before{content:\"+\"}\n.grid .chart td{padding:.3rem 0}\nsvg{display:block;width:100%;height:4.2rem;overflow:visible}\npolyline{fill:none;stroke:#2b6cb0;stroke-width:2;vector-effect:non-scaling-stroke}\nrect.load{fill:#7fb0e3}\nrect.over{fill:#c53030}\npath{stroke:#1d2733;stroke-width:2;vector-effect:non-scaling-stroke}\nsummary{cursor:pointer}\n.list{margin:.3rem 0 .8rem}\n.list th,.list td{padding:.1rem 1.2rem .1rem 0;text-align:right}\n.list .t,.list th[scope=row]{text-align:left}\n@media (max-width:30rem){body{padding:.6rem}.grid th:first-child{white-space:normal;max-width:8.5rem}}\n@media print{body{max-width:none;font-size:11px}.scroll{overflow:visible}section{break-inside:avoid}}\n"
+style = codes "*{box-sizing:border-box}\nbody{font:15px/1.45 system-ui,sans-serif;max-width:72rem;margin:0 auto;padding:1rem 1.2rem 3rem;color:#1d2733;background:#fff}\nh1{font-size:1.5rem;margin:.4rem 0 0}\nh2{font-size:1.15rem;margin:0 0 .4rem}\nheader p,caption,thead th{color:#566472}\nheader p{margin:.1rem 0 1rem}\nheader b{color:#1d2733}\nsection{border-top:1px solid #dde3ea;padding:1rem 0}\ntable{border-collapse:collapse;font-variant-numeric:tabular-nums}\ncaption{text-align:left;padding:.2rem 0}\ncaption span{position:sticky;left:0}\nth{font-weight:400;text-align:left}\nh1,h2,caption,th,td{white-space:pre-wrap}\nh1,h2{overflow-wrap:anywhere}\na{color:#2b6cb0}\n.scroll{overflow-x:auto;margin:.3rem 0 .6rem}\n.todo th,.todo td{padding:.12rem 1rem .12rem 0;vertical-align:top}\n.todo td{border-left:4px solid #cbd5e0;padding-left:.6rem}\n.todo thead th+th{padding-left:calc(.6rem + 4px)}\n.todo:has(tbody:empty) thead{display:none}\n.todo .late td{border-color:#c53030}\n.todo .release td{border-color:#2f855a}\n.todo .in td{border-color:#b7791f}\n.todo .out td{border-color:#2b6cb0}\n.todo tbody:empty::after{content:\"Nothing to do\"}\n.grid th:first-child{position:sticky;left:0;z-index:1;background:#fff;padding-right:1rem;white-space:nowrap}\n.grid td,.grid thead th+th{min-width:4rem;padding:.1rem .4rem .1rem 0;text-align:right}\n.loads td,.loads thead th+th{min-width:6.6rem}\n.grid thead th{border-bottom:1px solid #dde3ea}\n.grid .strong th,.grid .strong td{font-weight:600}\n.z{color:#98a5b2}\n.grid .over td:not(.z){color:#b32626;font-weight:600}\n.grid .over td:not(.z)::before{content:\"+\"}\n.grid .chart td{padding:.3rem 0}\nsvg{display:block;width:100%;height:4.2rem;overflow:visible}\npolyline{fill:none;stroke:#2b6cb0;stroke-width:2;vector-effect:non-scaling-stroke}\n.load{fill:#7fb0e3}\n.above{fill:#c53030}\n.most{stroke:#1d2733;stroke-width:2;vector-effect:non-scaling-stroke}\nsummary{cursor:pointer}\n.list{margin:.3rem 0 .8rem}\n.list th,.list td{padding:.1rem 1.2rem .1rem 0;text-align:right}\n.list .t,.list th[scope=row]{text-align:left}\n.list tbody:empty::after{content:\"None on this page\"}\n.more{margin:.3rem 0;color:#566472}\n@media (max-width:30rem){body{padding:.6rem}.todo th{max-width:9rem;overflow-wrap:break-word}.grid{font-size:.9rem}.grid th:first-child{white-space:normal;min-width:6.5rem;max-width:8.5rem;padding-right:.5rem}}\n@media print{@page{size:landscape;margin:1cm}body{max-width:none;font-size:11px;padding:0;background:#fff}a{color:inherit;text-decoration:none}.scroll{overflow:visible}h2,caption,summary,.item .todo{break-after:avoid}tr,.item .todo{break-inside:avoid}.grid,.grid caption,.grid thead,.grid tbody,.grid tr{display:block}.grid{font-size:8px;line-height:1.2;break-inside:avoid}.grid tr{position:relative;padding-left:14em}.grid th:first-child{position:absolute;left:0;min-width:0;padding:.05rem 0;border:0}.grid thead tr{border-bottom:1px solid #dde3ea}.grid tbody tr+tr{border-top:1px solid #eef1f4}.grid td,.grid thead th+th{display:inline-block;min-width:4.4em;padding:.05rem 0;border:0}.grid.loads td,.grid.loads thead th+th{min-width:6.6em}.grid tr.chart td{display:block;width:100%;width:min(100%,calc(attr(colspan type(<number>))*4.4em))}.grid.loads tr.chart td{width:min(100%,calc(attr(colspan type(<number>))*6.6em))}summary{list-style:none}details::details-content{content-visibility:visible;block-size:auto}.load,.above,.todo td{print-color-adjust:exact}}\n"
 
 -- what stands before the style sheet: the title
 unfoldable pub page_top : List Drawn
@@ -13,33 +13,38 @@ page_top =
     Text 0 ∷
     Mark (codes "</title>\n<style>\n") ∷ []
 
--- the head of a page: the title, the entry that the plan stands at, the bookings that stand there, the weeks
+-- the head of a page: the title, the entry that the plan stands at, the bookings that stand there, the weeks, the items
 unfoldable pub page_head : List Drawn
 page_head =
     Mark (codes "</style>\n</head>\n<body>\n<header>\n<h1>") ∷
     Text 0 ∷
     Mark (codes "</h1>\n<p>Plan at entry <b>") ∷
     Text 1 ∷
-    Mark (codes "</b> of the history, with <b>") ∷
+    Mark (codes "</b> of the history; bookings standing: <b>") ∷
     Text 2 ∷
-    Mark (codes "</b> bookings standing, over <b>") ∷
+    Mark (codes "</b>; weeks: <b>") ∷
     Text 3 ∷
-    Mark (codes "</b> weeks</p>\n</header>\n<main>\n") ∷ []
+    Mark (codes "</b>; items: <b>") ∷
+    Text 4 ∷
+    Mark (codes "</b>") ∷
+    Where 4 (codes "0") (codes " (the plan has none that was asked for)") ∷
+    Mark (codes "</p>\n</header>\n<main>\n") ∷ []
 
--- a message, in plain words, which leads to its item
-unfoldable pub task : List Drawn
-task =
+-- what a message begins with
+unfoldable pub task_head : List Drawn
+task_head =
     Mark (codes "<tr class=\"") ∷
     Where 3 (codes "PAST-DUE") (codes "late") ∷
     Where 3 (codes "RELEASE") (codes "release") ∷
     Where 3 (codes "IN") (codes "in") ∷
     Where 3 (codes "OUT") (codes "out") ∷
     Where 3 (codes "CANCEL") (codes "cancel") ∷
-    Mark (codes "\"><th scope=row><a href=\"#i-") ∷
-    Text 0 ∷
-    Mark (codes "\">") ∷
-    Text 0 ∷
-    Mark (codes "</a></th><td>") ∷
+    Mark (codes "\"><th scope=row>") ∷ []
+
+-- a message in plain words, behind the name of its item
+unfoldable pub task_words : List Drawn
+task_words =
+    Mark (codes "</th><td>") ∷
     Where 3 (codes "PAST-DUE") (codes "Past due, start now: ") ∷
     Where 3 (codes "RELEASE") (codes "Release now: ") ∷
     Where 3 (codes "IN") (codes "Bring in: ") ∷
@@ -53,6 +58,31 @@ task =
     Where 3 (codes "PAST-DUE") (codes ", weeks late: ") ∷
     Text 4 ∷
     Mark (codes "</td></tr>\n") ∷ []
+
+-- a message whose word stands as it is, behind the name of its item
+unfoldable pub other_words : List Drawn
+other_words =
+    Mark (codes "</th><td>") ∷
+    Text 3 ∷
+    Mark (codes ": ") ∷
+    Text 1 ∷
+    Mark (codes " ") ∷
+    Text 2 ∷
+    Mark (codes " ") ∷
+    Text 4 ∷
+    Mark (codes "</td></tr>\n") ∷ []
+
+-- what a link to an item begins with, before the name that it leads to
+unfoldable pub link_open : List ℕ
+link_open = codes "<a href=\"#i-"
+
+-- before the name that is shown
+unfoldable pub link_middle : List ℕ
+link_middle = codes "\">"
+
+-- and what it ends with
+unfoldable pub link_end : List ℕ
+link_end = codes "</a>"
 
 -- a week of a heading
 unfoldable pub week : List Drawn
@@ -123,9 +153,9 @@ peg =
 -- the heading of a work centre, of its name
 unfoldable pub centre_head : List Drawn
 centre_head =
-    Mark (codes "<div class=scroll><table class=grid>\n<caption>") ∷
+    Mark (codes "<div class=scroll><table class=\"grid loads\">\n<caption><span>") ∷
     Text 0 ∷
-    Mark (codes "</caption>\n<thead><tr><th scope=col>Week</th>") ∷ []
+    Mark (codes ", in minutes</span></caption>\n<thead><tr><th scope=col>Week</th>") ∷ []
 
 -- the frame of loads, of the name, the weeks and the greatest number
 unfoldable pub load_chart : List Drawn
@@ -145,17 +175,19 @@ load_chart =
 -- the load of a week, with what is over, and its capacity
 unfoldable pub bar : List Drawn
 bar =
-    Mark (codes "<rect class=\"load\" x=\"") ∷
+    Mark (codes "<path class=load d=\"M") ∷
     Text 1 ∷
-    Mark (codes "\" width=\".8\" height=\"") ∷
+    Mark (codes " 0v") ∷
     Text 2 ∷
-    Mark (codes "\"/><rect class=\"over\" x=\"") ∷
+    Mark (codes "h.8V0z\"/><path class=above d=\"M") ∷
     Text 1 ∷
-    Mark (codes "\" y=\"") ∷
+    Mark (codes " ") ∷
     Text 3 ∷
-    Mark (codes "\" width=\".8\" height=\"") ∷
+    Mark (codes "v") ∷
     Text 4 ∷
-    Mark (codes "\"/><path d=\"M") ∷
+    Mark (codes "h.8V") ∷
+    Text 3 ∷
+    Mark (codes "z\"/><path class=most d=\"M") ∷
     Text 1 ∷
     Mark (codes " ") ∷
     Text 3 ∷
@@ -173,9 +205,9 @@ item_head =
 -- the heading of an item's time-phased record, of its name
 unfoldable pub record_head : List Drawn
 record_head =
-    Mark (codes "<div class=scroll><table class=grid>\n<caption>Time-phased record of ") ∷
+    Mark (codes "<div class=scroll><table class=grid>\n<caption><span>Time-phased record of ") ∷
     Text 0 ∷
-    Mark (codes "</caption>\n<thead><tr><th scope=col>Week</th>") ∷ []
+    Mark (codes "</span></caption>\n<thead><tr><th scope=col>Week</th>") ∷ []
 
 -- the frame of balances, of the name, the weeks and the greatest number
 unfoldable pub balance_chart : List Drawn
@@ -206,11 +238,11 @@ todo_open = codes "<section id=todo>\n<h2>To do</h2>\n<table class=todo><thead><
 
 -- and what it ends with
 unfoldable pub todo_end : List ℕ
-todo_end = codes "</tbody></table>\n</section>\n"
+todo_end = codes "</tbody></table>\n"
 
 -- what an item's messages begin with
 unfoldable pub item_tasks_open : List ℕ
-item_tasks_open = codes "<table class=todo><tbody>"
+item_tasks_open = codes "<table class=todo><thead><tr><th scope=col>Item</th><th scope=col>What to do</th></tr></thead>\n<tbody>"
 
 -- and what they end with
 unfoldable pub item_tasks_end : List ℕ
@@ -296,13 +328,30 @@ pegs_open = codes "<details><summary>Where it goes (pegs)</summary><div class=sc
 unfoldable pub list_end : List ℕ
 list_end = codes "</tbody></table></div></details>\n"
 
+-- how much more there is that is not shown, of its number and its words
+unfoldable pub more : List Drawn
+more =
+    Mark (codes "<p class=more>and ") ∷
+    Text 0 ∷
+    Mark (codes " more ") ∷
+    Text 1 ∷
+    Mark (codes " not shown</p>\n") ∷ []
+
+-- what is said of an item whose record is not kept
+unfoldable pub no_record : List ℕ
+no_record = codes "<p class=more>No record here: this item stands behind the first ones, which a page has room for. The option <code>--items</code> shows it.</p>\n"
+
+-- what is said of an item that may have promises, where these are not kept
+unfoldable pub no_promises : List ℕ
+no_promises = codes "<p class=more>If this is a master item, its rows of what is booked and available to promise stand behind those that a page has room for. The option <code>--items</code> shows them.</p>\n"
+
 -- what the history begins with
 unfoldable pub history_open : List ℕ
 history_open = codes "<section id=history>\n<details><summary>History of the order book</summary><div class=scroll><table class=list><thead><tr><th class=t scope=col>Entry</th><th scope=col>Desk</th><th class=t scope=col>Call</th><th class=t scope=col>Item</th><th scope=col>Week</th><th scope=col>Quantity</th><th scope=col>Number</th><th class=t scope=col>Reply</th><th scope=col>Value</th></tr></thead>\n<tbody>"
 
 -- and what it ends with
 unfoldable pub history_end : List ℕ
-history_end = codes "</tbody></table></div></details>\n</section>\n"
+history_end = codes "</details>\n</section>\n"
 
 -- what a page ends with
 unfoldable pub page_end : List ℕ

@@ -1,28 +1,31 @@
 -- What is kept of a day while it is read.
-use Rattle.std.specs.Prelude.{ℕ, Bool, true, false, ◌&&◌, ◌==◌, ◌++◌, List, [], ◌∷◌, Option, Some, None, is_some, not, nat_le, if◌then◌else◌}
+use Rattle.std.specs.Prelude.{ℕ, Bool, true, ◌&&◌, ◌||◌, ◌==◌, ◌++◌, List, [], ◌∷◌, Option, Some, None, is_some, not, nat_le, if◌then◌else◌}
 use Rattle.mrp_page.specs.declared.section.Section.{Section}
 use Rattle.mrp_page.specs.declared.section.Section.TheVariants as s
+use Rattle.mrp_page.specs.declared.counts.Counts.{Counts}
+use Rattle.mrp_page.specs.declared.spot.Place.{Place}
+use Rattle.mrp_page.specs.declared.spot.Place.TheVariants as place
 use Rattle.mrp_page.specs.declared.spot.Spot.{Spot}
+use Rattle.mrp_page.specs.Counts.{none_counted}
 use Rattle.mrp_page.specs.Row.{Cells, RowView}
+use Rattle.mrp_page.specs.Section.{is_history}
 use Rattle.mrp_page.specs.Spot.{Names, after, begins_run, start}
 
--- where the last record stands, and the rows that were taken
+-- where the last record stands, that record, the rows that were taken, and how many were not
 pub record Noted : Type 0 where
   pub spot : Spot
+  pub last : Cells
   pub history : List RowView
   pub report : List RowView
+  pub counts : Counts
 
 abbrev pub none_noted : Noted
-none_noted = record { spot = start; history = []; report = [] }
+none_noted = record { spot = start; last = []; history = []; report = []; counts = none_counted }
 
 -- a run is the one that is asked for: by its number, or the last so far
 abbrev pub is_shown : Option ℕ → ℕ → Bool
 is_shown None run = true
 is_shown (Some number) run = number == run
-
-abbrev pub is_history : Section → Bool
-is_history s.History = true
-is_history _ = false
 
 -- the row of the history that a record is, if it is one
 abbrev pub history_rows : Option Section → Cells → List RowView
@@ -41,16 +44,39 @@ report_rows asked spot cells = rows_taken (is_shown asked spot.run) spot.takes c
 abbrev pub rows_left : Option ℕ → Spot → List RowView → List RowView
 rows_left asked spot rows = if not (is_some asked) && begins_run spot.place then [] else rows
 
+-- what is counted of a section at a spot in it
+abbrev pub counts_of : Section → Spot → Counts → Counts
+counts_of s.History spot counts = record counts { history = spot.missed }
+counts_of s.Run spot counts = counts
+counts_of s.Promises spot counts = record counts { promises = spot.missed }
+counts_of s.Plan spot counts = record counts { plan = spot.missed; items = spot.items }
+counts_of s.Orders spot counts = record counts { orders = spot.missed }
+counts_of s.Pegs spot counts = record counts { pegs = spot.missed }
+counts_of s.Messages spot counts = record counts { messages = spot.missed }
+counts_of s.Loads spot counts = record counts { loads = spot.missed }
+
+-- the same, where the section is the history or of the run that is shown
+abbrev pub counts_if : Bool → Section → Spot → Counts → Counts
+counts_if holds section spot counts = if holds then counts_of section spot counts else counts
+
+-- what is counted at a place: a section's counts begin anew at its header
+abbrev pub counts_at : Option ℕ → Spot → Place → Counts → Counts
+counts_at asked spot (place.Header section) counts = counts_if (is_history section || is_shown asked spot.run) section spot counts
+counts_at asked spot (place.Row section) counts = counts_if (is_history section || is_shown asked spot.run) section spot counts
+counts_at asked spot _ counts = counts
+
 abbrev pub noted_at : Option ℕ → Spot → Noted → Cells → Noted
 noted_at asked spot before cells = record {
   spot = spot;
+  last = cells;
   history = before.history ++ history_rows spot.takes cells;
   report = rows_left asked spot before.report ++ report_rows asked spot cells;
+  counts = counts_at asked spot spot.place before.counts;
 }
 
 -- with one more record
 abbrev pub noted : Names → Option ℕ → Noted → Cells → Noted
-noted items asked before cells = noted_at asked (after items before.spot cells) before cells
+noted items asked before cells = noted_at asked (after items before.spot before.last cells) before cells
 
 -- with these records behind it
 unfoldable pub noted_from : Names → Option ℕ → Noted → List Cells → Noted

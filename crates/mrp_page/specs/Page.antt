@@ -1,6 +1,7 @@
 -- A page, of what was kept of a day.
-use Rattle.std.specs.Prelude.{ℕ, Bool, true, false, ◌==◌, ◌++◌, not, List, [], ◌∷◌, flat_map, take, if◌then◌else◌}
-use Rattle.mrp_page.specs.Draw.{centres_html, has_none, history_html, items_html, todo_html}
+use Rattle.std.specs.Prelude.{ℕ, Bool, ◌++◌, not, List, [], ◌∷◌, flat_map, take, if◌then◌else◌}
+use Rattle.mrp_page.specs.declared.counts.Counts.{Counts}
+use Rattle.mrp_page.specs.Draw.{centres_html, has_none, history_html, items_html, more_items, todo_html}
 use Rattle.mrp_page.specs.Frame.{heading}
 use Rattle.mrp_page.specs.ItemRows.{ItemLists, item_lists}
 use Rattle.mrp_page.specs.Layout.{page_end, page_head, page_top, style}
@@ -9,6 +10,7 @@ use Rattle.mrp_page.specs.Row.{RowView, cell_at}
 use Rattle.mrp_page.specs.Rows.{leaders, rows_in, rows_named}
 use Rattle.mrp_page.specs.Template.{row_html}
 use Rattle.mrp_page.specs.declared.section.Section.TheVariants as s
+use Rattle.mrp_page.specs.Unshown.{unshown}
 
 -- the head of a page
 unfoldable pub head_html : RowView → List ℕ
@@ -18,41 +20,42 @@ head_html heading = row_html page_top heading ++ (style ++ row_html page_head he
 abbrev pub is_told : List RowView → RowView → Bool
 is_told messages row = not (has_none (rows_named (cell_at row 0) messages))
 
-abbrev pub rows_if : Bool → RowView → List RowView
-rows_if holds row = if holds then row ∷ [] else []
+-- a row whose item has no messages
+abbrev pub untold_rows : List RowView → RowView → List RowView
+untold_rows messages row = if is_told messages row then [] else row ∷ []
 
-abbrev pub same_bool : Bool → Bool → Bool
-same_bool true b = b
-same_bool false b = not b
-
--- a row whose item has messages, or one whose item has none
-abbrev pub told_rows : List RowView → Bool → RowView → List RowView
-told_rows messages told row = rows_if (same_bool told (is_told messages row)) row
-
--- the rows whose items have messages, and then the others
+-- the first rows of the items with messages, and then those of the others in the plan
 unfoldable pub told_first : List RowView → List RowView → List RowView
-told_first messages leaders = flat_map (told_rows messages true) leaders ++ flat_map (told_rows messages false) leaders
-
--- the work centres
-unfoldable pub load_section : List RowView → List ℕ
-load_section loads = centres_html loads (leaders [] loads)
+told_first messages plan = leaders [] messages ++ flat_map (untold_rows messages) (leaders [] plan)
 
 -- the items that a page has room for: 200 at most, those with messages first
-unfoldable pub item_section : ItemLists → List ℕ
-item_section rows = items_html rows (take 200 (told_first rows.messages (leaders [] rows.plan)))
+unfoldable pub shown_items : ItemLists → List RowView
+shown_items rows = take 200 (told_first rows.messages rows.plan)
+
+-- the work centres
+unfoldable pub load_section : List RowView → ℕ → List ℕ
+load_section loads missed = centres_html loads (leaders [] loads) missed
+
+-- items, and how many more there are
+unfoldable pub items_of : ItemLists → Counts → List RowView → List ℕ
+items_of rows counts shown = items_html rows counts.promises shown ++ more_items (unshown rows shown counts) shown
 
 -- the items, the history and the end of a page
-unfoldable pub rest_html : ItemLists → List RowView → List ℕ
-rest_html rows history = item_section rows ++ (history_html history ++ page_end)
+unfoldable pub rest_html : ItemLists → Counts → List RowView → List RowView → List ℕ
+rest_html rows counts shown history = items_of rows counts shown ++ (history_html history counts.history ++ page_end)
 
--- the head of a page, of its title and the sections `run` and `plan`
-unfoldable pub top_html : List ℕ → List RowView → List RowView → List ℕ
-top_html title run plan = head_html (heading title run plan)
+-- the head of a page, of its title, the report, and the number of items
+unfoldable pub top_html : List ℕ → List RowView → ℕ → List ℕ
+top_html title report items = head_html (heading title report items)
+
+-- a page that shows these items
+unfoldable pub page_of : List ℕ → Noted → List RowView → List ℕ
+page_of title notes shown =
+    top_html title notes.report notes.counts.items
+    ++ (todo_html shown (rows_in s.Messages notes.report) notes.counts.messages
+    ++ (load_section (rows_in s.Loads notes.report) notes.counts.loads
+    ++ rest_html (item_lists notes.report) notes.counts shown notes.history))
 
 -- a page
 unfoldable pub page_html : List ℕ → Noted → List ℕ
-page_html title notes =
-    top_html title (rows_in s.Run notes.report) (rows_in s.Plan notes.report)
-    ++ (todo_html (rows_in s.Messages notes.report)
-    ++ (load_section (rows_in s.Loads notes.report)
-    ++ rest_html (item_lists notes.report) notes.history))
+page_html title notes = page_of title notes (shown_items (item_lists notes.report))

@@ -1,7 +1,8 @@
 -- How a day is read, record by record.
-use Rattle.std.specs.Prelude.{ℕ, Bool, ◌≡◌, ◌⊎◌, List, Option, Some, None, true, false}
-use Rattle.csv.specs.Machine.{next_record}
+use Rattle.std.specs.Prelude.{ℕ, Bool, ◌≡◌, ◌⊎◌, List, Option, Some, true, false}
 use Rattle.csv.specs.Reading.{AreRecords, Reached, Ready, default_config, is_flexible, reader_config, reader_state, reader_trim, source_of, strip_bom}
+use Rattle.csv.specs.declared.error.ErrorKind.{ErrorKind}
+use Rattle.csv.specs.declared.error.ErrorKind.TheVariants as kind
 use Rattle.csv.specs.declared.parser.State.{State}
 use Rattle.csv.specs.declared.parser.State.TheVariants as st
 use Rattle.csv.specs.declared.reader.Reader.{Reader}
@@ -18,6 +19,11 @@ pub record IsReading {R : Type 0} (reader : Reader R) : Type 0 where
   pub trim : reader_trim reader ≡ trim.None
   pub flexible : is_flexible reader ≡ true
   pub ready : Ready reader
+
+-- how an error of a reader of records is told: that memory was refused, or that the reader underneath failed
+abbrev pub told_as : ErrorKind → PageFault
+told_as kind.OutOfMemory = fault.NoMemory
+told_as _ = fault.Read
 
 -- a reader that failed, or memory that was refused
 abbrev pub is_read_fault : PageFault → Bool
@@ -56,9 +62,9 @@ HasWrongFront text = (records : List Cells) × BeginsWith text records × (is_wr
 abbrev pub IsNoDay : List ℕ → Type 0
 IsNoDay text = HasWrongFront text ⊎ HasRecords text (λ records. is_end (place_of records) ≡ false)
 
--- a text has fewer runs than that which is asked for
+-- a text is a day, and has fewer runs than that which is asked for
 abbrev pub LacksRun : Names → Option ℕ → List ℕ → Type 0
-LacksRun items asked text = HasRecords text (λ records. has_run asked (notes_of items asked records).spot.run ≡ false)
+LacksRun items asked text = HasRecords text (λ records. (is_end (place_of records) ≡ true) × (has_run asked (notes_of items asked records).spot.run ≡ false))
 
 -- a text is a day, and this is kept of it
 pub record IsDayOf (items : Names) (asked : Option ℕ) (records : List Cells) (notes : Noted) : Type 0 where

@@ -47,6 +47,38 @@ room_of s.Pegs = 20800
 room_of s.Messages = 20800
 room_of s.Loads = 20800
 
+-- of how many items, or work centres, rows are kept even where its room is full
+abbrev pub items_of : Section → ℕ
+items_of s.History = 0
+items_of s.Run = 0
+items_of s.Promises = 200
+items_of s.Plan = 200
+items_of s.Orders = 0
+items_of s.Pegs = 0
+items_of s.Messages = 200
+items_of s.Loads = 200
+
+-- whether an item, or a work centre, has a row for each week there: these are kept together
+abbrev pub is_by_weeks : Section → Bool
+is_by_weeks s.History = false
+is_by_weeks s.Run = false
+is_by_weeks s.Promises = true
+is_by_weeks s.Plan = true
+is_by_weeks s.Orders = false
+is_by_weeks s.Pegs = false
+is_by_weeks s.Messages = false
+is_by_weeks s.Loads = true
+
+-- whether it is the history
+abbrev pub is_history : Section → Bool
+is_history s.History = true
+is_history _ = false
+
+-- whether it is the plan
+abbrev pub is_plan : Section → Bool
+is_plan s.Plan = true
+is_plan _ = false
+
 -- whether its rows are of items
 abbrev pub is_of_items : Section → Bool
 is_of_items s.History = false

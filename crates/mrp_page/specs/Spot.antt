@@ -1,5 +1,5 @@
 -- Where the records of a day stand.
-use Rattle.std.specs.Prelude.{ℕ, Bool, true, false, ◌+◌, ◌-◌, ◌^◌, ◌==◌, ◌&&◌, ◌||◌, not, min, nat_lt, nat_eq, List, [], ◌∷◌, Option, Some, None, is_some, length, if◌then◌else◌, slice_index_or}
+use Rattle.std.specs.Prelude.{ℕ, Bool, true, false, ◌+◌, ◌-◌, ◌^◌, ◌==◌, ◌&&◌, ◌||◌, not, min, nat_lt, nat_eq, List, [], ◌∷◌, Option, Some, None, is_some, length, codes, if◌then◌else◌, slice_index_or}
 use Rattle.std.specs.List.{list_any}
 use Rattle.std.proofs.Common.{Bor}
 use Rattle.std.specs.Cmp.Lexicographic.{pointwise}
@@ -9,7 +9,7 @@ use Rattle.mrp_page.specs.declared.spot.Place.{Place}
 use Rattle.mrp_page.specs.declared.spot.Place.TheVariants as place
 use Rattle.mrp_page.specs.declared.spot.Spot.{Spot}
 use Rattle.mrp_page.specs.Row.{Cells, same_text}
-use Rattle.mrp_page.specs.Section.{columns_of, is_of_items, line_of, next_of, room_of}
+use Rattle.mrp_page.specs.Section.{columns_of, is_by_weeks, is_of_items, is_plan, items_of, line_of, next_of, room_of}
 
 -- a record's cells are these
 abbrev pub same_cells : Cells → Cells → Bool
@@ -45,13 +45,19 @@ wants items section cells =
     if (length items == 0) || not (is_of_items section) then true
     else is_among items (slice_index_or cells 0 [])
 
--- the section as whose row a record is taken, with so many taken before it
-abbrev pub takes_at : Names → ℕ → Place → Cells → Option Section
-takes_at items taken (place.Row section) cells = if nat_lt taken (room_of section) && wants items section cells then Some section else None
-takes_at items taken place.Front cells = None
-takes_at items taken (place.Line section) cells = None
-takes_at items taken (place.Header section) cells = None
-takes_at items taken place.Wrong cells = None
+-- whether a record is a row that a page is to show
+abbrev pub is_wanted : Names → Place → Cells → Bool
+is_wanted items (place.Row section) cells = wants items section cells
+is_wanted items _ cells = false
+
+-- a plan's row says that an order starts in its week
+abbrev pub starts_order : Section → Cells → Bool
+starts_order section cells = is_plan section && not (same_text (slice_index_or cells 6 []) (codes "0"))
+
+-- the same, of a record
+abbrev pub starts_at : Place → Cells → Bool
+starts_at (place.Row section) cells = starts_order section cells
+starts_at _ cells = false
 
 abbrev pub is_run : Section → Bool
 is_run s.Run = true
@@ -82,28 +88,65 @@ is_row _ = false
 
 -- before the first record
 abbrev pub start : Spot
-start = record { place = place.Front; run = 0; taken = 0; takes = None }
+start = record { place = place.Front; run = 0; taken = 0; missed = 0; items = 0; urgent = 0; takes = None }
 
 -- how many runs have begun at a place; the count stays at its greatest value
 abbrev pub run_at : ℕ → Place → ℕ
 run_at run here = if begins_run here then min (run + 1) (2 ^ 64 - 1) else run
 
--- how many rows of the section were taken
-abbrev pub taken_at : ℕ → Option Section → Place → ℕ
-taken_at taken takes here = if is_row here then min (taken + (if is_some takes then 1 else 0)) (2 ^ 32 - 1) else 0
+-- a count of rows, with one more where this holds; it begins anew where no row stands, and stays at its greatest value
+abbrev pub counted : Bool → ℕ → Bool → ℕ
+counted row count more = if row then min (count + (if more then 1 else 0)) (2 ^ 64 - 1) else 0
 
--- where a record stands of which this is the place, behind a spot
-abbrev pub spot_at : Names → Spot → Place → Cells → Spot
-spot_at items spot here cells = record {
+-- a record is not of the item, or the work centre, of a row before it
+abbrev pub leads : Spot → Cells → Cells → Bool
+leads spot last cells = not (is_row spot.place && same_text (slice_index_or last 0 []) (slice_index_or cells 0 []))
+
+-- a page has room for a row of a section behind a spot: while the section has room, of the first items, of the first items
+-- with an order that starts in their first week, and for the other weeks of an item that it has begun with
+abbrev pub has_room : Section → Spot → Bool → Bool → Bool
+has_room section spot leads urgent =
+    nat_lt spot.taken (room_of section)
+    || (if leads then nat_lt spot.items (items_of section) || (urgent && nat_lt spot.urgent 200)
+    else is_by_weeks section && is_some spot.takes)
+
+-- the same, of a record
+abbrev pub room_at : Place → Spot → Bool → Bool → Bool
+room_at (place.Row section) spot leads urgent = has_room section spot leads urgent
+room_at _ spot leads urgent = false
+
+-- the section of a row that is taken
+abbrev pub section_if : Bool → Place → Option Section
+section_if true (place.Row section) = Some section
+section_if _ _ = None
+
+-- behind a spot, with a row that is taken or missed
+abbrev pub spot_with : Spot → Place → Bool → Bool → Bool → Bool → Spot
+spot_with spot here wanted leads urgent takes = record {
   place = here;
   run = run_at spot.run here;
-  taken = taken_at spot.taken (takes_at items spot.taken here cells) here;
-  takes = takes_at items spot.taken here cells;
+  taken = counted (is_row here) spot.taken takes;
+  missed = counted (is_row here) spot.missed (wanted && not takes);
+  items = counted (is_row here) spot.items leads;
+  urgent = counted (is_row here) spot.urgent urgent;
+  takes = section_if takes here;
 }
 
+-- behind a spot, with a row that leads those of an item or does not
+abbrev pub spot_of : Spot → Place → Bool → Bool → Bool → Spot
+spot_of spot here wanted leads urgent = spot_with spot here wanted leads urgent (wanted && room_at here spot leads urgent)
+
+-- behind a spot, with a row that is wanted or is not
+abbrev pub spot_where : Spot → Place → Bool → Bool → Cells → Spot
+spot_where spot here wanted leads cells = spot_of spot here wanted leads (leads && starts_at here cells)
+
+-- where a record stands of which this is the place, behind a spot and a record
+abbrev pub spot_at : Names → Spot → Place → Cells → Cells → Spot
+spot_at items spot here last cells = spot_where spot here (is_wanted items here cells) (is_wanted items here cells && leads spot last cells) cells
+
 -- where the next record stands
-abbrev pub after : Names → Spot → Cells → Spot
-after items spot cells = spot_at items spot (place_after spot.place cells) cells
+abbrev pub after : Names → Spot → Cells → Cells → Spot
+after items spot last cells = spot_at items spot (place_after spot.place cells) last cells
 
 -- what the last of these records is, behind another
 unfoldable pub place_from : Place → List Cells → Place

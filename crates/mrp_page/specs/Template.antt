@@ -42,14 +42,6 @@ row_html parts row = flat_map (part_html row) parts
 unfoldable pub rows_html : List Drawn → List RowView → List ℕ
 rows_html parts rows = flat_map (row_html parts) rows
 
--- a row that has this word in a column
-abbrev pub row_if : ℕ → List ℕ → List Drawn → RowView → List ℕ
-row_if column word parts row = if has_word column word row then row_html parts row else []
-
--- the rows that have this word in a column, one behind the other
-unfoldable pub rows_with : ℕ → List ℕ → List Drawn → List RowView → List ℕ
-rows_with column word parts rows = flat_map (row_if column word parts) rows
-
 -- the number in a column
 abbrev pub number_at : ℕ → RowView → List ℕ
 number_at column row = number_html (cell_at row column)

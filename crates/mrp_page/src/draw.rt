@@ -1,22 +1,26 @@
 //! The parts of a page, one after the other.
 
 ghost use Rattle.std.specs.Prelude.{◌≡◌, ◌++◌, OnOk, map};
-ghost use Rattle.mrp_page.specs.Draw.{balance_html, bars_html, booked_html, centre_html, centre_rows_html, centres_html, each_centre, grid_html, history_html, item_html, item_lists_html, item_tasks, items_html, loads_html, measure_html, named_record, named_tasks, orders_html, pegs_html, planned_html, points_html, promised_html, record_html, record_rows, supplies_html, table_html, task_table, tasks_html, todo_html, weeks_html};
+ghost use Rattle.mrp_page.specs.Draw.{balance_html, bars_html, booked_html, centre_html, centre_rows_html, centres_html, each_centre, grid_html, has_firm, has_item, history_html, is_plain, item_html, item_lists_html, item_name_html, item_tasks, items_html, link_html, loads_html, measure_html, more_html, more_items, more_lists, more_rows, more_weeks, named_note, named_record, named_tasks, orders_html, other_if, other_tasks, pegs_html, planned_html, points_html, promised_html, promises_note, record_html, record_or_none, record_rows, supplies_html, table_html, task_html, task_if, task_table, tasks_html, tasks_with, todo_back, todo_html, weeks_html};
+ghost use Rattle.std.specs.List.{list_any};
+ghost use Rattle.mrp_page.specs.Row.{is_of};
 ghost use Rattle.mrp_page.specs.Template.{drawn_of};
 
-use crate::frame::frame_of;
-use crate::html::Html;
+use crate::counts::Counts;
+use crate::frame::{count_row, frame_of};
+use crate::html::{Html, is_zero};
 use crate::item_rows::ItemRows;
 use crate::layout::{
     available_label, balance_chart, balance_label, bar, bars_end, booked_label, capacity_label,
     centre_head, centres_open, entry, firm_label, grid_end, gross_label, history_end, history_open,
-    item_head, item_tasks_end, item_tasks_open, list_end, load_chart, load_label, order,
-    orders_open, over_label, peg, pegs_open, planned_label, point, points_end, record_head,
-    scheduled_label, section_end, starts_label, task, todo_end, todo_open, week, weeks_end,
+    item_head, item_tasks_end, item_tasks_open, link_end, link_middle, link_open, list_end,
+    load_chart, load_label, more, no_promises, no_record, order, orders_open, other_words,
+    over_label, peg, pegs_open, planned_label, point, points_end, record_head, scheduled_label,
+    section_end, starts_label, task_head, task_words, todo_end, todo_open, week, weeks_end,
 };
 use crate::row::Row;
-use crate::rows::rows_named;
-use crate::template::{Part, put_numbers, put_row, put_rows, put_rows_with};
+use crate::rows::{greatest, rows_named};
+use crate::template::{Part, has_word, put_numbers, put_row, put_rows};
 use mrp_qty::NoMemory;
 use std::alloc::Global;
 
@@ -46,16 +50,125 @@ fn put_measure(page: &mut Html, label: &[u8], column: usize, rows: &[Row]) -> Re
     page.markup(b"</tr>\n")
 }
 
+// Adds a name that leads to its item, which stands on the same page.
+#[tactic(auto, unfolding(crate::specs::Draw::link_html))]
+fn put_link(page: &mut Html, name: &[u8]) -> Result<(), NoMemory>
+    ensures { OnOk result (page.new ≡ page.old ++ link_html name.now) }
+{
+    page.markup(link_open())?;
+    page.text(name)?;
+    page.markup(link_middle())?;
+    page.text(name)?;
+    page.markup(link_end())
+}
+
+// Whether one of these rows is of an item.
+fn is_one_of(shown: &[&Row], name: &[u8]) -> bool
+    ensures { result ≡ list_any (λ r. is_of name.now r.now) shown.now }
+{
+    shown.iter().any(|row| row.is_of(name))
+}
+
+// Whether an item is among those of these rows.
+fn has_item(shown: &[&Row], name: &[u8]) -> bool
+    ensures { result ≡ has_item (map (λ r. r.now) shown.now) name.now }
+{
+    is_one_of(shown, name)
+}
+
+// Adds the name of an item, which leads to it where it is among those that are shown.
+#[tactic(auto, unfolding(crate::specs::Draw::item_name_html))]
+fn put_item_name(page: &mut Html, shown: &[&Row], name: &[u8]) -> Result<(), NoMemory>
+    ensures { OnOk result (page.new ≡ page.old ++ item_name_html (map (λ r. r.now) shown.now) name.now) }
+{
+    if has_item(shown, name) {
+        put_link(page, name)
+    } else {
+        page.text(name)
+    }
+}
+
+// Adds a message in such words.
+#[tactic(auto, unfolding(crate::specs::Draw::task_html))]
+fn put_task(page: &mut Html, shown: &[&Row], words: &[Part], message: &Row) -> Result<(), NoMemory>
+    ensures { OnOk result (page.new ≡ page.old ++ task_html (map (λ r. r.now) shown.now) (map drawn_of words.now) message.now) }
+{
+    put_row(page, task_head(), message)?;
+    put_item_name(page, shown, message.name())?;
+    put_row(page, words, message)
+}
+
+// Adds a message in plain words, where it has this word.
+fn put_task_if(page: &mut Html, shown: &[&Row], word: &[u8], message: &Row) -> Result<(), NoMemory>
+    ensures { OnOk result (page.new ≡ page.old ++ task_if (map (λ r. r.now) shown.now) word.now message.now) }
+{
+    if has_word(3, word, message) {
+        put_task(page, shown, task_words(), message)
+    } else {
+        Ok(())
+    }
+}
+
+// Adds the messages that have this word.
+#[tactic(auto, unfolding(crate::specs::Draw::tasks_with))]
+fn put_tasks_with(
+    page: &mut Html,
+    shown: &[&Row],
+    word: &[u8],
+    messages: &[Row],
+) -> Result<(), NoMemory>
+    ensures { OnOk result (page.new ≡ page.old ++ tasks_with (map (λ r. r.now) shown.now) word.now messages.now) }
+{
+    for message in messages {
+        put_task_if(page, shown, word, message)?;
+    }
+    Ok(())
+}
+
+// Whether a message has one of the words that a page says more plainly.
+fn is_plain(message: &Row) -> bool
+    ensures { result ≡ is_plain message.now }
+{
+    has_word(3, b"PAST-DUE", message)
+        || has_word(3, b"RELEASE", message)
+        || has_word(3, b"IN", message)
+        || has_word(3, b"OUT", message)
+        || has_word(3, b"CANCEL", message)
+}
+
+// Adds a message as it stands, where it has another word.
+fn put_other_if(page: &mut Html, shown: &[&Row], message: &Row) -> Result<(), NoMemory>
+    ensures { OnOk result (page.new ≡ page.old ++ other_if (map (λ r. r.now) shown.now) message.now) }
+{
+    if is_plain(message) {
+        Ok(())
+    } else {
+        put_task(page, shown, other_words(), message)
+    }
+}
+
+// Adds the messages that have another word.
+#[tactic(auto, unfolding(crate::specs::Draw::other_tasks))]
+fn put_other_tasks(page: &mut Html, shown: &[&Row], messages: &[Row]) -> Result<(), NoMemory>
+    ensures { OnOk result (page.new ≡ page.old ++ other_tasks (map (λ r. r.now) shown.now) messages.now) }
+{
+    for message in messages {
+        put_other_if(page, shown, message)?;
+    }
+    Ok(())
+}
+
 // Adds the messages, the most urgent first.
 #[tactic(auto, unfolding(crate::specs::Draw::tasks_html))]
-fn put_tasks(page: &mut Html, messages: &[Row]) -> Result<(), NoMemory>
-    ensures { OnOk result (page.new ≡ page.old ++ tasks_html messages.now) }
+fn put_tasks(page: &mut Html, shown: &[&Row], messages: &[Row]) -> Result<(), NoMemory>
+    ensures { OnOk result (page.new ≡ page.old ++ tasks_html (map (λ r. r.now) shown.now) messages.now) }
 {
-    put_rows_with(page, 3, b"PAST-DUE", task(), messages)?;
-    put_rows_with(page, 3, b"RELEASE", task(), messages)?;
-    put_rows_with(page, 3, b"IN", task(), messages)?;
-    put_rows_with(page, 3, b"OUT", task(), messages)?;
-    put_rows_with(page, 3, b"CANCEL", task(), messages)
+    put_tasks_with(page, shown, b"PAST-DUE", messages)?;
+    put_tasks_with(page, shown, b"RELEASE", messages)?;
+    put_tasks_with(page, shown, b"IN", messages)?;
+    put_tasks_with(page, shown, b"OUT", messages)?;
+    put_tasks_with(page, shown, b"CANCEL", messages)?;
+    put_other_tasks(page, shown, messages)
 }
 
 // Adds messages between two pieces of markup.
@@ -63,22 +176,57 @@ fn put_tasks(page: &mut Html, messages: &[Row]) -> Result<(), NoMemory>
 fn put_task_table(
     page: &mut Html,
     front: &[u8],
+    shown: &[&Row],
     messages: &[Row],
     back: &[u8],
 ) -> Result<(), NoMemory>
-    ensures { OnOk result (page.new ≡ page.old ++ task_table front.now messages.now back.now) }
+    ensures { OnOk result (page.new ≡ page.old ++ task_table front.now (map (λ r. r.now) shown.now) messages.now back.now) }
 {
     page.markup(front)?;
-    put_tasks(page, messages)?;
+    put_tasks(page, shown, messages)?;
     page.markup(back)
 }
 
-// Adds what is to be done.
-#[tactic(auto, unfolding(crate::specs::Draw::todo_html))]
-pub(crate) fn put_todo(page: &mut Html, messages: &[Row]) -> Result<(), NoMemory>
-    ensures { OnOk result (page.new ≡ page.old ++ todo_html messages.now) }
+// Adds how much more there is that is not shown: nothing where that is all.
+#[tactic(auto, unfolding(crate::specs::Draw::more_html))]
+fn put_more(
+    alloc: Global,
+    page: &mut Html,
+    count: u64,
+    one: &[u8],
+    many: &[u8],
+) -> Result<(), NoMemory>
+    ensures { OnOk result (page.new ≡ page.old ++ more_html count one.now many.now) }
 {
-    put_task_table(page, todo_open(), messages, todo_end())
+    if count == 0 {
+        return Ok(());
+    }
+    let row = count_row(alloc, count, one, many)?;
+    put_row(page, more(), &row)
+}
+
+// Adds how many more messages there are.
+#[tactic(auto, unfolding(crate::specs::Draw::todo_back))]
+fn put_todo_back(alloc: Global, page: &mut Html, missed: u64) -> Result<(), NoMemory>
+    ensures { OnOk result (page.new ≡ page.old ++ todo_back missed) }
+{
+    put_more(alloc, page, missed, b"message is", b"messages are")?;
+    page.markup(section_end())
+}
+
+// Adds what is to be done: the messages, each with a way to its item where it is shown.
+#[tactic(auto, unfolding(crate::specs::Draw::todo_html))]
+pub(crate) fn put_todo(
+    alloc: Global,
+    page: &mut Html,
+    shown: &[&Row],
+    messages: &[Row],
+    missed: u64,
+) -> Result<(), NoMemory>
+    ensures { OnOk result (page.new ≡ page.old ++ todo_html (map (λ r. r.now) shown.now) messages.now missed) }
+{
+    put_task_table(page, todo_open(), shown, messages, todo_end())?;
+    put_todo_back(alloc, page, missed)
 }
 
 // Adds the weeks of a table.
@@ -134,7 +282,7 @@ fn put_centre_rows(
 ) -> Result<(), NoMemory>
     ensures { OnOk result (page.new ≡ page.old ++ centre_rows_html name.now rows.now) }
 {
-    let frame = frame_of(alloc, name, rows, 2, 3)?;
+    let frame = frame_of(alloc, name, rows, 2, 3, b"1.000")?;
     put_grid(page, centre_head(), load_chart(), &frame, rows)?;
     put_bars(page, rows)?;
     put_loads(page, rows)
@@ -164,19 +312,34 @@ fn put_each_centre(
     Ok(())
 }
 
-// Adds the section of the work centres.
+// Adds the section of the work centres, and of how many more weeks there are loads.
 #[tactic(auto, unfolding(crate::specs::Draw::centres_html))]
 pub(crate) fn put_centres(
     alloc: Global,
     page: &mut Html,
     loads: &[Row],
     leaders: &[&Row],
+    missed: u64,
 ) -> Result<(), NoMemory>
-    ensures { OnOk result (page.new ≡ page.old ++ centres_html loads.now (map (λ r. r.now) leaders.now)) }
+    ensures { OnOk result (page.new ≡ page.old ++ centres_html loads.now (map (λ r. r.now) leaders.now) missed) }
 {
     page.markup(centres_open())?;
     put_each_centre(alloc, page, loads, leaders)?;
+    put_more(
+        alloc,
+        page,
+        missed,
+        b"week of a work centre is",
+        b"weeks of work centres are",
+    )?;
     page.markup(section_end())
+}
+
+// Whether a plan has a firm schedule.
+fn has_firm(plan: &[Row]) -> bool
+    ensures { result ≡ has_firm plan.now }
+{
+    !is_zero(greatest(plan, 4, b"0"))
 }
 
 // Adds what is to come in: the firm schedule of a master item, the scheduled receipts of another.
@@ -184,7 +347,7 @@ pub(crate) fn put_centres(
 fn put_supplies(page: &mut Html, plan: &[Row], promises: &[Row]) -> Result<(), NoMemory>
     ensures { OnOk result (page.new ≡ page.old ++ supplies_html plan.now promises.now) }
 {
-    if promises.is_empty() {
+    if promises.is_empty() && !has_firm(plan) {
         put_measure(page, scheduled_label(), 3, plan)
     } else {
         put_measure(page, firm_label(), 4, plan)
@@ -225,7 +388,7 @@ fn put_points(page: &mut Html, plan: &[Row]) -> Result<(), NoMemory>
 fn put_balance(alloc: Global, page: &mut Html, name: &[u8], plan: &[Row]) -> Result<(), NoMemory>
     ensures { OnOk result (page.new ≡ page.old ++ balance_html name.now plan.now) }
 {
-    let frame = frame_of(alloc, name, plan, 7, 7)?;
+    let frame = frame_of(alloc, name, plan, 7, 7, b"1")?;
     put_grid(page, record_head(), balance_chart(), &frame, plan)?;
     put_points(page, plan)
 }
@@ -283,12 +446,18 @@ fn put_pegs(page: &mut Html, pegs: &[Row]) -> Result<(), NoMemory>
     put_table(page, pegs_open(), peg(), pegs, list_end())
 }
 
-// Adds the messages of an item.
+// Adds the messages of an item, of which this is a row.
 #[tactic(auto, unfolding(crate::specs::Draw::item_tasks))]
-fn put_item_tasks(page: &mut Html, messages: &[Row]) -> Result<(), NoMemory>
-    ensures { OnOk result (page.new ≡ page.old ++ item_tasks messages.now) }
+fn put_item_tasks(page: &mut Html, leader: &Row, messages: &[Row]) -> Result<(), NoMemory>
+    ensures { OnOk result (page.new ≡ page.old ++ item_tasks leader.now messages.now) }
 {
-    put_task_table(page, item_tasks_open(), messages, item_tasks_end())
+    put_task_table(
+        page,
+        item_tasks_open(),
+        &[leader],
+        messages,
+        item_tasks_end(),
+    )
 }
 
 // Adds what stands behind an item's record.
@@ -301,6 +470,24 @@ fn put_item_lists(page: &mut Html, rows: &ItemRows<'_>, name: &[u8]) -> Result<(
     page.markup(section_end())
 }
 
+// Adds the record of an item, or that it is not kept.
+#[tactic(auto, unfolding(crate::specs::Draw::record_or_none))]
+fn put_record_or_none(
+    alloc: Global,
+    page: &mut Html,
+    name: &[u8],
+    plan: &[Row],
+    promises: &[Row],
+) -> Result<(), NoMemory>
+    ensures { OnOk result (page.new ≡ page.old ++ record_or_none name.now plan.now promises.now) }
+{
+    if plan.is_empty() {
+        page.markup(no_record())
+    } else {
+        put_record(alloc, page, name, plan, promises)
+    }
+}
+
 // Adds the record of an item, by its name.
 #[tactic(auto, unfolding(crate::specs::Draw::named_record))]
 fn put_named_record(
@@ -311,7 +498,7 @@ fn put_named_record(
 ) -> Result<(), NoMemory>
     ensures { OnOk result (page.new ≡ page.old ++ named_record rows.now name.now) }
 {
-    put_record(
+    put_record_or_none(
         alloc,
         page,
         name,
@@ -320,28 +507,60 @@ fn put_named_record(
     )
 }
 
-// Adds the messages of an item, by its name.
+// Adds the messages of an item, by a row of it.
 #[tactic(auto, unfolding(crate::specs::Draw::named_tasks))]
-fn put_named_tasks(page: &mut Html, rows: &ItemRows<'_>, name: &[u8]) -> Result<(), NoMemory>
-    ensures { OnOk result (page.new ≡ page.old ++ named_tasks rows.now name.now) }
+fn put_named_tasks(page: &mut Html, rows: &ItemRows<'_>, leader: &Row) -> Result<(), NoMemory>
+    ensures { OnOk result (page.new ≡ page.old ++ named_tasks rows.now leader.now) }
 {
-    put_item_tasks(page, rows_named(rows.messages(), name))
+    put_item_tasks(page, leader, rows_named(rows.messages(), leader.name()))
 }
 
-// Adds an item.
+// Adds that an item with a record may have promises that are not kept, where so many are not.
+fn put_promises_note(
+    page: &mut Html,
+    plan: &[Row],
+    promises: &[Row],
+    missed: u64,
+) -> Result<(), NoMemory>
+    ensures { OnOk result (page.new ≡ page.old ++ promises_note plan.now promises.now missed) }
+{
+    if missed == 0 || plan.is_empty() || !promises.is_empty() {
+        Ok(())
+    } else {
+        page.markup(no_promises())
+    }
+}
+
+// Adds what is said of an item's promises, by its name.
+#[tactic(auto, unfolding(crate::specs::Draw::named_note))]
+fn put_named_note(
+    page: &mut Html,
+    rows: &ItemRows<'_>,
+    missed: u64,
+    name: &[u8],
+) -> Result<(), NoMemory>
+    ensures { OnOk result (page.new ≡ page.old ++ named_note rows.now missed name.now) }
+{
+    let plan = rows_named(rows.plan(), name);
+    put_promises_note(page, plan, rows_named(rows.promises(), name), missed)
+}
+
+// Adds an item, where so many rows of promises are not kept.
 #[tactic(auto, unfolding(crate::specs::Draw::item_html))]
 fn put_item(
     alloc: Global,
     page: &mut Html,
     rows: &ItemRows<'_>,
+    missed: u64,
     leader: &Row,
 ) -> Result<(), NoMemory>
-    ensures { OnOk result (page.new ≡ page.old ++ item_html rows.now leader.now) }
+    ensures { OnOk result (page.new ≡ page.old ++ item_html rows.now missed leader.now) }
 {
     let name = leader.name();
     put_row(page, item_head(), leader)?;
-    put_named_tasks(page, rows, name)?;
+    put_named_tasks(page, rows, leader)?;
     put_named_record(alloc, page, rows, name)?;
+    put_named_note(page, rows, missed, name)?;
     put_item_lists(page, rows, name)
 }
 
@@ -350,20 +569,82 @@ pub(crate) fn put_items(
     alloc: Global,
     page: &mut Html,
     rows: &ItemRows<'_>,
+    missed: u64,
     leaders: &[&Row],
 ) -> Result<(), NoMemory>
-    ensures { OnOk result (page.new ≡ page.old ++ items_html rows.now (map (λ r. r.now) leaders.now)) }
+    ensures { OnOk result (page.new ≡ page.old ++ items_html rows.now missed (map (λ r. r.now) leaders.now)) }
 {
     for leader in leaders {
-        put_item(alloc, page, rows, *leader)?;
+        put_item(alloc, page, rows, missed, *leader)?;
     }
     Ok(())
 }
 
-// Adds the history, folded away.
-#[tactic(auto, unfolding(crate::specs::Draw::history_html))]
-pub(crate) fn put_history(page: &mut Html, history: &[Row]) -> Result<(), NoMemory>
-    ensures { OnOk result (page.new ≡ page.old ++ history_html history.now) }
+// Adds of how many more weeks there are records and promises.
+#[tactic(auto, unfolding(crate::specs::Draw::more_weeks))]
+fn put_more_weeks(alloc: Global, page: &mut Html, counts: Counts) -> Result<(), NoMemory>
+    ensures { OnOk result (page.new ≡ page.old ++ more_weeks counts) }
 {
-    put_table(page, history_open(), entry(), history, history_end())
+    put_more(
+        alloc,
+        page,
+        counts.plan,
+        b"week of a record is",
+        b"weeks of records are",
+    )?;
+    put_more(
+        alloc,
+        page,
+        counts.promises,
+        b"week of promises is",
+        b"weeks of promises are",
+    )
+}
+
+// Adds how many more orders and pegs there are.
+#[tactic(auto, unfolding(crate::specs::Draw::more_lists))]
+fn put_more_lists(alloc: Global, page: &mut Html, counts: Counts) -> Result<(), NoMemory>
+    ensures { OnOk result (page.new ≡ page.old ++ more_lists counts) }
+{
+    put_more(alloc, page, counts.orders, b"order is", b"orders are")?;
+    put_more(alloc, page, counts.pegs, b"peg is", b"pegs are")
+}
+
+// Adds how many more rows of items there are that are not kept.
+#[tactic(auto, unfolding(crate::specs::Draw::more_rows))]
+fn put_more_rows(alloc: Global, page: &mut Html, counts: Counts) -> Result<(), NoMemory>
+    ensures { OnOk result (page.new ≡ page.old ++ more_rows counts) }
+{
+    put_more_weeks(alloc, page, counts)?;
+    put_more_lists(alloc, page, counts)
+}
+
+// Adds how many more items there are than these, and rows of items that are not kept.
+#[tactic(auto, unfolding(crate::specs::Draw::more_items))]
+pub(crate) fn put_more_items(
+    alloc: Global,
+    page: &mut Html,
+    counts: Counts,
+    shown: &[&Row],
+) -> Result<(), NoMemory>
+    ensures { OnOk result (page.new ≡ page.old ++ more_items counts (map (λ r. r.now) shown.now)) }
+{
+    let missed = counts.items.saturating_sub(shown.len() as u64);
+    put_more(alloc, page, missed, b"item is", b"items are")?;
+    put_more_rows(alloc, page, counts)
+}
+
+// Adds the history, folded away, and how many more entries it has.
+#[tactic(auto, unfolding(crate::specs::Draw::history_html))]
+pub(crate) fn put_history(
+    alloc: Global,
+    page: &mut Html,
+    history: &[Row],
+    missed: u64,
+) -> Result<(), NoMemory>
+    ensures { OnOk result (page.new ≡ page.old ++ history_html history.now missed) }
+{
+    put_table(page, history_open(), entry(), history, grid_end())?;
+    put_more(alloc, page, missed, b"entry is", b"entries are")?;
+    page.markup(history_end())
 }

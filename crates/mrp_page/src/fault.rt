@@ -1,7 +1,8 @@
 //! Why no page was made.
 
 ghost use Rattle.std.specs.Prelude.{◌≡◌, true};
-ghost use Rattle.mrp_page.specs.Reading.{is_read_fault};
+ghost use Rattle.csv.specs.Reading.{error_kind};
+ghost use Rattle.mrp_page.specs.Reading.{is_read_fault, told_as};
 
 use csv::ErrorKind;
 use mrp_qty::NoMemory;
@@ -52,7 +53,8 @@ impl From<WriteFault> for PageFault {
 
 // A reader of records failed: memory was refused, or the reader underneath failed.
 pub(crate) fn read_fault(error: &csv::Error) -> PageFault
-    ensures { is_read_fault result ≡ true }
+    ensures kind { result ≡ told_as (error_kind error.now) }
+    ensures fault { is_read_fault result ≡ true }
 {
     match error.kind() {
         ErrorKind::OutOfMemory => PageFault::NoMemory,

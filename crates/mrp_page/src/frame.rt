@@ -1,13 +1,13 @@
 //! Rows that a page is made of beside those of the day: what its tables and pictures are framed by.
 
 ghost use Rattle.std.specs.Prelude.{◌≡◌, IfOk};
-ghost use Rattle.mrp_page.specs.Frame.{frame, frame_of, heading};
+ghost use Rattle.mrp_page.specs.Frame.{count_row, frame, frame_of, heading, last_week};
 
 use crate::row::Row;
-use crate::rows::greatest;
+use crate::rows::{greatest, rows_in};
 use crate::section::Section;
 use csv::ByteRecord;
-use mrp_qty::NoMemory;
+use mrp_qty::{NoMemory, number_text};
 use std::alloc::Global;
 
 // The name, the weeks and the greatest number of a table.
@@ -18,32 +18,63 @@ fn frame<'x>(alloc: Global, name: &'x [u8], weeks: &'x [u8], top: &'x [u8]) -> R
     Ok(Row::new(Section::Run, cells))
 }
 
-// The frame of the rows of an item or a work centre, with the greatest number of two columns.
+// The frame of the rows of an item or a work centre, with the greatest number of two columns, and at
+// least this one.
 pub(crate) fn frame_of<'x>(
     alloc: Global,
     name: &'x [u8],
     rows: &'x [Row],
     column: usize,
     other: usize,
+    least: &'x [u8],
 ) -> Result<Row, NoMemory>
-    ensures { IfOk result (λ row. row ≡ frame_of name.now rows.now column other) }
+    ensures { IfOk result (λ row. row ≡ frame_of name.now rows.now column other least.now) }
 {
-    let top = greatest(rows, other, greatest(rows, column, b"1"));
+    let top = greatest(rows, other, greatest(rows, column, least));
     frame(alloc, name, greatest(rows, 1, b"1"), top)
 }
 
-// The title of a page, the entry that its plan stands at, the bookings there, and the weeks.
+// The last week that a report tells of, in its plan or its loads.
+fn last_week(report: &[Row]) -> &[u8]
+    ensures { result.now ≡ last_week report.now }
+{
+    let planned = greatest(rows_in(report, Section::Plan), 1, b"0");
+    greatest(rows_in(report, Section::Loads), 1, planned)
+}
+
+// The title of a page, the entry that its plan stands at, the bookings there, the weeks, and the number
+// of items.
 pub(crate) fn heading<'x>(
     alloc: Global,
     title: &'x [u8],
-    run: &'x [Row],
-    plan: &'x [Row],
+    report: &'x [Row],
+    items: u64,
 ) -> Result<Row, NoMemory>
-    ensures { IfOk result (λ row. row ≡ heading title.now run.now plan.now) }
+    ensures { IfOk result (λ row. row ≡ heading title.now report.now items) }
 {
+    let digits = number_text(alloc, items)?;
+    let run = rows_in(report, Section::Run);
     let front = greatest(run, 0, b"0");
     let standing = greatest(run, 1, b"0");
-    let weeks = greatest(plan, 1, b"1");
-    let cells = ByteRecord::from_fields(alloc, &[title, front, standing, weeks])?;
+    let weeks = last_week(report);
+    let cells = ByteRecord::from_fields(
+        alloc,
+        &[title, front, standing, weeks, digits.as_bytes()],
+    )?;
+    Ok(Row::new(Section::Run, cells))
+}
+
+// A count of what is not shown, and what that is: of one, or of more.
+pub(crate) fn count_row<'x>(
+    alloc: Global,
+    count: u64,
+    one: &'x [u8],
+    more: &'x [u8],
+) -> Result<Row, NoMemory>
+    ensures { IfOk result (λ row. row ≡ count_row count one.now more.now) }
+{
+    let digits = number_text(alloc, count)?;
+    let words = if count == 1 { one } else { more };
+    let cells = ByteRecord::from_fields(alloc, &[digits.as_bytes(), words])?;
     Ok(Row::new(Section::Run, cells))
 }

@@ -24,7 +24,7 @@ impl Model for Html {
 }
 
 // Whether a number is zero, with three decimals or without.
-fn is_zero(text: &[u8]) -> bool
+pub(crate) fn is_zero(text: &[u8]) -> bool
     ensures { result ≡ is_zero text.now }
 {
     text == b"0".as_slice() || text == b"0.000".as_slice()

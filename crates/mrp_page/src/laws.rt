@@ -1,12 +1,22 @@
 //! What follows from the definitions alone, each law the contract of a function that does nothing.
 
-ghost use Rattle.std.specs.Prelude.{◌≡◌, ◌++◌, ◌⊎◌, ℕ, All, Contains, List, Option, [], ◌∷◌, codes, flat_map};
+ghost use Rattle.std.specs.Prelude.{◌≡◌, ◌++◌, ◌-◌, ◌⊎◌, ℕ, All, Contains, List, Option, [], ◌∷◌, codes, flat_map, length};
+ghost use Rattle.mrp_page.specs.Columns.{column};
+ghost use Rattle.mrp_page.specs.Draw.{booked_html, item_html, items_html, link_html, loads_html, measure_html, more_html, named_record, planned_html, promised_html, record_or_none, record_rows, supplies_html};
+ghost use Rattle.mrp_page.specs.Escaped.{escaped};
+ghost use Rattle.mrp_page.specs.ItemRows.{ItemLists, item_lists};
+ghost use Rattle.mrp_page.specs.Known.{IsKnown, IsMadeOf, names_shown};
 ghost use Rattle.mrp_page.specs.Laws.{piece_html, pieces, shown};
+ghost use Rattle.mrp_page.specs.Layout.{available_label, balance_label, booked_label, capacity_label, firm_label, grid_end, gross_label, load_label, over_label, planned_label, scheduled_label, starts_label};
 ghost use Rattle.mrp_page.specs.Notes.{Noted, notes_of};
-ghost use Rattle.mrp_page.specs.Page.{page_html};
-ghost use Rattle.mrp_page.specs.Row.{Cells, RowView};
+ghost use Rattle.mrp_page.specs.Page.{page_html, shown_items};
+ghost use Rattle.mrp_page.specs.Reading.{IsDayOf};
+ghost use Rattle.mrp_page.specs.Row.{Cells, RowView, cell_at};
+ghost use Rattle.mrp_page.specs.Rows.{rows_in, rows_named};
+ghost use Rattle.mrp_page.specs.Shown.{IsByItems, items_of_plan, items_to_show, run_shown};
 ghost use Rattle.mrp_page.specs.Spot.{Names};
 ghost use Rattle.mrp_page.specs.Template.{Drawn, row_html};
+ghost use Rattle.mrp_page.specs.declared.section.Section.TheVariants as section;
 
 /// A page begins and ends as a whole one.
 pub fn pages_are_whole()
@@ -24,4 +34,39 @@ pub fn rows_show_their_cells()
 pub fn kept_rows_stand_in_the_day()
     ensures history { (items : Names) (asked : Option ℕ) (records : List Cells) → All (λ r. Contains records r.cells) (notes_of items asked records).history }
     ensures report { (items : Names) (asked : Option ℕ) (records : List Cells) → All (λ r. Contains records r.cells) (notes_of items asked records).report }
+{}
+
+/// A page is made of its own words, in which no day has a say, and of texts, escaped, that are known:
+/// each is its title, a cell of a record of the day, the number of items or of what is not shown, or a word
+/// of that.
+/// No other words lead anywhere but names of items that are shown, each to its item.
+pub fn pages_show_what_is_known()
+    ensures { (title : List ℕ) (items : Names) (asked : Option ℕ) (records : List Cells) → IsMadeOf (IsKnown title records (notes_of items asked records)) (Contains (names_shown (notes_of items asked records))) (page_html title (notes_of items asked records)) }
+{}
+
+/// A record shows an item's rows of the sections `plan` and `promises`, and the numbers beside each label
+/// of it, and of a work centre's table, are those of the column that the day has a name for.
+pub fn labels_stand_beside_their_columns()
+    ensures record { (report : List RowView) (name : List ℕ) → named_record (item_lists report) name ≡ record_or_none name (rows_named name (rows_in section.Plan report)) (rows_named name (rows_in section.Promises report)) }
+    ensures needs { (plan promises : List RowView) → record_rows plan promises ≡ measure_html gross_label (column section.Plan (codes "gross")) plan ++ (supplies_html plan promises ++ (planned_html plan ++ promised_html promises)) }
+    ensures supplies { (plan promises : List RowView) → (supplies_html plan promises ≡ measure_html scheduled_label (column section.Plan (codes "open")) plan) ⊎ (supplies_html plan promises ≡ measure_html firm_label (column section.Plan (codes "firm")) plan) }
+    ensures planned { (plan : List RowView) → planned_html plan ≡ measure_html planned_label (column section.Plan (codes "planned")) plan ++ (measure_html starts_label (column section.Plan (codes "start")) plan ++ measure_html balance_label (column section.Plan (codes "balance")) plan) }
+    ensures booked { (promises : List RowView) → booked_html promises ≡ measure_html booked_label (column section.Promises (codes "booked")) promises ++ measure_html available_label (column section.Promises (codes "available")) promises }
+    ensures loads { (rows : List RowView) → loads_html rows ≡ measure_html load_label (column section.Loads (codes "load")) rows ++ (measure_html capacity_label (column section.Loads (codes "capacity")) rows ++ (measure_html over_label (column section.Loads (codes "over")) rows ++ grid_end)) }
+{}
+
+/// A name that leads to an item leads to where that item's part of the page begins.
+pub fn links_lead_to_items()
+    ensures link { (name : List ℕ) → link_html name ≡ codes "<a href=\"#i-" ++ (escaped name ++ (codes "\">" ++ (escaped name ++ codes "</a>"))) }
+    ensures item { (rows : ItemLists) (missed : ℕ) (leader : RowView) → (rest : List ℕ) × (item_html rows missed leader ≡ codes "<section class=item id=\"i-" ++ (escaped (cell_at leader 0) ++ (codes "\">" ++ rest))) }
+{}
+
+/// Which items a page shows, of a day in which the rows of each item stand together: 200 at most, those
+/// with messages first, in the order of the messages, and then the others in the order of the plan; where
+/// items are named, of these alone. They stand on the page in this order, and behind them how many more
+/// there are of those that it could have shown.
+pub fn first_items_with_messages()
+    ensures shown { (items : Names) (asked : Option ℕ) (records : List Cells) (notes : Noted) → IsDayOf items asked records notes → IsByItems records → names_shown notes ≡ items_to_show items (run_shown asked records) records }
+    ensures count { (items : Names) (asked : Option ℕ) (records : List Cells) (notes : Noted) → IsDayOf items asked records notes → IsByItems records → notes.counts.items ≡ length (items_of_plan items (run_shown asked records) records) }
+    ensures page { (title : List ℕ) (notes : Noted) → (front : List ℕ) × (back : List ℕ) × (page_html title notes ≡ front ++ (items_html (item_lists notes.report) notes.counts.promises (shown_items (item_lists notes.report)) ++ (more_html (notes.counts.items - length (shown_items (item_lists notes.report))) (codes "item is") (codes "items are") ++ back))) }
 {}

@@ -2,7 +2,7 @@
 
 ghost use Rattle.std.specs.Prelude.{◌≡◌, map};
 ghost use Rattle.mrp_page.specs.Template.{drawn_of};
-ghost use Rattle.mrp_page.specs.Layout.{available_label, balance_chart, balance_label, bar, bars_end, booked_label, capacity_label, centre_head, centres_open, entry, firm_label, grid_end, gross_label, history_end, history_open, item_head, item_tasks_end, item_tasks_open, list_end, load_chart, load_label, order, orders_open, over_label, page_end, page_head, page_top, peg, pegs_open, planned_label, point, points_end, record_head, scheduled_label, section_end, starts_label, task, todo_end, todo_open, week, weeks_end, style};
+ghost use Rattle.mrp_page.specs.Layout.{available_label, balance_chart, balance_label, bar, bars_end, booked_label, capacity_label, centre_head, centres_open, entry, firm_label, grid_end, gross_label, history_end, history_open, item_head, item_tasks_end, item_tasks_open, link_end, link_middle, link_open, list_end, load_chart, load_label, more, no_promises, no_record, order, orders_open, other_words, over_label, page_end, page_head, page_top, peg, pegs_open, planned_label, point, points_end, record_head, scheduled_label, section_end, starts_label, task_head, task_words, todo_end, todo_open, week, weeks_end, style};
 
 use crate::template::Part;
 
@@ -11,7 +11,7 @@ use crate::template::Part;
 pub(crate) fn style() -> &'static [u8]
     ensures { result.now ≡ style }
 {
-    b"*{box-sizing:border-box}\nbody{font:15px/1.45 system-ui,sans-serif;max-width:72rem;margin:0 auto;padding:1rem 1.2rem 3rem;color:#1d2733;background:#fff}\nh1{font-size:1.5rem;margin:.4rem 0 0}\nh2{font-size:1.15rem;margin:0 0 .4rem}\nheader p,caption,.grid thead th,.list thead th{color:#566472}\nheader p{margin:.1rem 0 1rem}\nheader b{color:#1d2733}\nsection{border-top:1px solid #dde3ea;padding:1rem 0}\ntable{border-collapse:collapse;font-variant-numeric:tabular-nums}\ncaption{text-align:left;padding:.2rem 0}\nth{font-weight:400;text-align:left}\na{color:#2b6cb0}\n.scroll{overflow-x:auto;margin:.3rem 0 .6rem}\n.todo th,.todo td{padding:.12rem 1rem .12rem 0;vertical-align:top}\n.todo td{border-left:4px solid #cbd5e0;padding-left:.6rem}\n.todo .late td{border-color:#c53030}\n.todo .release td{border-color:#2f855a}\n.todo .in td{border-color:#b7791f}\n.todo .out td{border-color:#2b6cb0}\n.todo tbody:empty::after{content:\"Nothing to do\"}\n.grid th:first-child{position:sticky;left:0;z-index:1;background:#fff;padding-right:1rem;white-space:nowrap}\n.grid td,.grid thead th+th{min-width:3.4rem;padding:.1rem .4rem .1rem 0;text-align:right}\n.grid thead th{border-bottom:1px solid #dde3ea}\n.grid .strong th,.grid .strong td{font-weight:600}\n.z{color:#98a5b2}\n.grid .over td:not(.z){color:#b32626;font-weight:600}\n.grid .over td:not(.z)::before{content:\"+\"}\n.grid .chart td{padding:.3rem 0}\nsvg{display:block;width:100%;height:4.2rem;overflow:visible}\npolyline{fill:none;stroke:#2b6cb0;stroke-width:2;vector-effect:non-scaling-stroke}\nrect.load{fill:#7fb0e3}\nrect.over{fill:#c53030}\npath{stroke:#1d2733;stroke-width:2;vector-effect:non-scaling-stroke}\nsummary{cursor:pointer}\n.list{margin:.3rem 0 .8rem}\n.list th,.list td{padding:.1rem 1.2rem .1rem 0;text-align:right}\n.list .t,.list th[scope=row]{text-align:left}\n@media (max-width:30rem){body{padding:.6rem}.grid th:first-child{white-space:normal;max-width:8.5rem}}\n@media print{body{max-width:none;font-size:11px}.scroll{overflow:visible}section{break-inside:avoid}}\n"
+    b"*{box-sizing:border-box}\nbody{font:15px/1.45 system-ui,sans-serif;max-width:72rem;margin:0 auto;padding:1rem 1.2rem 3rem;color:#1d2733;background:#fff}\nh1{font-size:1.5rem;margin:.4rem 0 0}\nh2{font-size:1.15rem;margin:0 0 .4rem}\nheader p,caption,thead th{color:#566472}\nheader p{margin:.1rem 0 1rem}\nheader b{color:#1d2733}\nsection{border-top:1px solid #dde3ea;padding:1rem 0}\ntable{border-collapse:collapse;font-variant-numeric:tabular-nums}\ncaption{text-align:left;padding:.2rem 0}\ncaption span{position:sticky;left:0}\nth{font-weight:400;text-align:left}\nh1,h2,caption,th,td{white-space:pre-wrap}\nh1,h2{overflow-wrap:anywhere}\na{color:#2b6cb0}\n.scroll{overflow-x:auto;margin:.3rem 0 .6rem}\n.todo th,.todo td{padding:.12rem 1rem .12rem 0;vertical-align:top}\n.todo td{border-left:4px solid #cbd5e0;padding-left:.6rem}\n.todo thead th+th{padding-left:calc(.6rem + 4px)}\n.todo:has(tbody:empty) thead{display:none}\n.todo .late td{border-color:#c53030}\n.todo .release td{border-color:#2f855a}\n.todo .in td{border-color:#b7791f}\n.todo .out td{border-color:#2b6cb0}\n.todo tbody:empty::after{content:\"Nothing to do\"}\n.grid th:first-child{position:sticky;left:0;z-index:1;background:#fff;padding-right:1rem;white-space:nowrap}\n.grid td,.grid thead th+th{min-width:4rem;padding:.1rem .4rem .1rem 0;text-align:right}\n.loads td,.loads thead th+th{min-width:6.6rem}\n.grid thead th{border-bottom:1px solid #dde3ea}\n.grid .strong th,.grid .strong td{font-weight:600}\n.z{color:#98a5b2}\n.grid .over td:not(.z){color:#b32626;font-weight:600}\n.grid .over td:not(.z)::before{content:\"+\"}\n.grid .chart td{padding:.3rem 0}\nsvg{display:block;width:100%;height:4.2rem;overflow:visible}\npolyline{fill:none;stroke:#2b6cb0;stroke-width:2;vector-effect:non-scaling-stroke}\n.load{fill:#7fb0e3}\n.above{fill:#c53030}\n.most{stroke:#1d2733;stroke-width:2;vector-effect:non-scaling-stroke}\nsummary{cursor:pointer}\n.list{margin:.3rem 0 .8rem}\n.list th,.list td{padding:.1rem 1.2rem .1rem 0;text-align:right}\n.list .t,.list th[scope=row]{text-align:left}\n.list tbody:empty::after{content:\"None on this page\"}\n.more{margin:.3rem 0;color:#566472}\n@media (max-width:30rem){body{padding:.6rem}.todo th{max-width:9rem;overflow-wrap:break-word}.grid{font-size:.9rem}.grid th:first-child{white-space:normal;min-width:6.5rem;max-width:8.5rem;padding-right:.5rem}}\n@media print{@page{size:landscape;margin:1cm}body{max-width:none;font-size:11px;padding:0;background:#fff}a{color:inherit;text-decoration:none}.scroll{overflow:visible}h2,caption,summary,.item .todo{break-after:avoid}tr,.item .todo{break-inside:avoid}.grid,.grid caption,.grid thead,.grid tbody,.grid tr{display:block}.grid{font-size:8px;line-height:1.2;break-inside:avoid}.grid tr{position:relative;padding-left:14em}.grid th:first-child{position:absolute;left:0;min-width:0;padding:.05rem 0;border:0}.grid thead tr{border-bottom:1px solid #dde3ea}.grid tbody tr+tr{border-top:1px solid #eef1f4}.grid td,.grid thead th+th{display:inline-block;min-width:4.4em;padding:.05rem 0;border:0}.grid.loads td,.grid.loads thead th+th{min-width:6.6em}.grid tr.chart td{display:block;width:100%;width:min(100%,calc(attr(colspan type(<number>))*4.4em))}.grid.loads tr.chart td{width:min(100%,calc(attr(colspan type(<number>))*6.6em))}summary{list-style:none}details::details-content{content-visibility:visible;block-size:auto}.load,.above,.todo td{print-color-adjust:exact}}\n"
 }
 
 // What stands before the style sheet: the title.
@@ -28,7 +28,7 @@ pub(crate) fn page_top() -> &'static [Part]
     ]
 }
 
-// The head of a page: the title, the entry that the plan stands at, the bookings that stand there, the weeks.
+// The head of a page: the title, the entry that the plan stands at, the bookings that stand there, the weeks, the items.
 #[tactic(auto, unfolding(crate::specs::Layout::page_head))]
 pub(crate) fn page_head() -> &'static [Part]
     ensures { map drawn_of result.now ≡ page_head }
@@ -38,18 +38,22 @@ pub(crate) fn page_head() -> &'static [Part]
         Part::Cell(0),
         Part::Markup(b"</h1>\n<p>Plan at entry <b>"),
         Part::Cell(1),
-        Part::Markup(b"</b> of the history, with <b>"),
+        Part::Markup(b"</b> of the history; bookings standing: <b>"),
         Part::Cell(2),
-        Part::Markup(b"</b> bookings standing, over <b>"),
+        Part::Markup(b"</b>; weeks: <b>"),
         Part::Cell(3),
-        Part::Markup(b"</b> weeks</p>\n</header>\n<main>\n"),
+        Part::Markup(b"</b>; items: <b>"),
+        Part::Cell(4),
+        Part::Markup(b"</b>"),
+        Part::If(4, b"0", b" (the plan has none that was asked for)"),
+        Part::Markup(b"</p>\n</header>\n<main>\n"),
     ]
 }
 
-// A message, in plain words, which leads to its item.
-#[tactic(auto, unfolding(crate::specs::Layout::task))]
-pub(crate) fn task() -> &'static [Part]
-    ensures { map drawn_of result.now ≡ task }
+// What a message begins with.
+#[tactic(auto, unfolding(crate::specs::Layout::task_head))]
+pub(crate) fn task_head() -> &'static [Part]
+    ensures { map drawn_of result.now ≡ task_head }
 {
     &[
         Part::Markup(b"<tr class=\""),
@@ -58,11 +62,17 @@ pub(crate) fn task() -> &'static [Part]
         Part::If(3, b"IN", b"in"),
         Part::If(3, b"OUT", b"out"),
         Part::If(3, b"CANCEL", b"cancel"),
-        Part::Markup(b"\"><th scope=row><a href=\"#i-"),
-        Part::Cell(0),
-        Part::Markup(b"\">"),
-        Part::Cell(0),
-        Part::Markup(b"</a></th><td>"),
+        Part::Markup(b"\"><th scope=row>"),
+    ]
+}
+
+// A message in plain words, behind the name of its item.
+#[tactic(auto, unfolding(crate::specs::Layout::task_words))]
+pub(crate) fn task_words() -> &'static [Part]
+    ensures { map drawn_of result.now ≡ task_words }
+{
+    &[
+        Part::Markup(b"</th><td>"),
         Part::If(3, b"PAST-DUE", b"Past due, start now: "),
         Part::If(3, b"RELEASE", b"Release now: "),
         Part::If(3, b"IN", b"Bring in: "),
@@ -77,6 +87,48 @@ pub(crate) fn task() -> &'static [Part]
         Part::Cell(4),
         Part::Markup(b"</td></tr>\n"),
     ]
+}
+
+// A message whose word stands as it is, behind the name of its item.
+#[tactic(auto, unfolding(crate::specs::Layout::other_words))]
+pub(crate) fn other_words() -> &'static [Part]
+    ensures { map drawn_of result.now ≡ other_words }
+{
+    &[
+        Part::Markup(b"</th><td>"),
+        Part::Cell(3),
+        Part::Markup(b": "),
+        Part::Cell(1),
+        Part::Markup(b" "),
+        Part::Cell(2),
+        Part::Markup(b" "),
+        Part::Cell(4),
+        Part::Markup(b"</td></tr>\n"),
+    ]
+}
+
+// What a link to an item begins with, before the name that it leads to.
+#[tactic(auto, unfolding(crate::specs::Layout::link_open))]
+pub(crate) fn link_open() -> &'static [u8]
+    ensures { result.now ≡ link_open }
+{
+    b"<a href=\"#i-"
+}
+
+// Before the name that is shown.
+#[tactic(auto, unfolding(crate::specs::Layout::link_middle))]
+pub(crate) fn link_middle() -> &'static [u8]
+    ensures { result.now ≡ link_middle }
+{
+    b"\">"
+}
+
+// And what it ends with.
+#[tactic(auto, unfolding(crate::specs::Layout::link_end))]
+pub(crate) fn link_end() -> &'static [u8]
+    ensures { result.now ≡ link_end }
+{
+    b"</a>"
 }
 
 // A week of a heading.
@@ -171,9 +223,9 @@ pub(crate) fn centre_head() -> &'static [Part]
     ensures { map drawn_of result.now ≡ centre_head }
 {
     &[
-        Part::Markup(b"<div class=scroll><table class=grid>\n<caption>"),
+        Part::Markup(b"<div class=scroll><table class=\"grid loads\">\n<caption><span>"),
         Part::Cell(0),
-        Part::Markup(b"</caption>\n<thead><tr><th scope=col>Week</th>"),
+        Part::Markup(b", in minutes</span></caption>\n<thead><tr><th scope=col>Week</th>"),
     ]
 }
 
@@ -205,17 +257,19 @@ pub(crate) fn bar() -> &'static [Part]
     ensures { map drawn_of result.now ≡ bar }
 {
     &[
-        Part::Markup(b"<rect class=\"load\" x=\""),
+        Part::Markup(b"<path class=load d=\"M"),
         Part::Cell(1),
-        Part::Markup(b"\" width=\".8\" height=\""),
+        Part::Markup(b" 0v"),
         Part::Cell(2),
-        Part::Markup(b"\"/><rect class=\"over\" x=\""),
+        Part::Markup(b"h.8V0z\"/><path class=above d=\"M"),
         Part::Cell(1),
-        Part::Markup(b"\" y=\""),
+        Part::Markup(b" "),
         Part::Cell(3),
-        Part::Markup(b"\" width=\".8\" height=\""),
+        Part::Markup(b"v"),
         Part::Cell(4),
-        Part::Markup(b"\"/><path d=\"M"),
+        Part::Markup(b"h.8V"),
+        Part::Cell(3),
+        Part::Markup(b"z\"/><path class=most d=\"M"),
         Part::Cell(1),
         Part::Markup(b" "),
         Part::Cell(3),
@@ -243,9 +297,11 @@ pub(crate) fn record_head() -> &'static [Part]
     ensures { map drawn_of result.now ≡ record_head }
 {
     &[
-        Part::Markup(b"<div class=scroll><table class=grid>\n<caption>Time-phased record of "),
+        Part::Markup(
+            b"<div class=scroll><table class=grid>\n<caption><span>Time-phased record of ",
+        ),
         Part::Cell(0),
-        Part::Markup(b"</caption>\n<thead><tr><th scope=col>Week</th>"),
+        Part::Markup(b"</span></caption>\n<thead><tr><th scope=col>Week</th>"),
     ]
 }
 
@@ -295,7 +351,7 @@ pub(crate) fn todo_open() -> &'static [u8]
 pub(crate) fn todo_end() -> &'static [u8]
     ensures { result.now ≡ todo_end }
 {
-    b"</tbody></table>\n</section>\n"
+    b"</tbody></table>\n"
 }
 
 // What an item's messages begin with.
@@ -303,7 +359,7 @@ pub(crate) fn todo_end() -> &'static [u8]
 pub(crate) fn item_tasks_open() -> &'static [u8]
     ensures { result.now ≡ item_tasks_open }
 {
-    b"<table class=todo><tbody>"
+    b"<table class=todo><thead><tr><th scope=col>Item</th><th scope=col>What to do</th></tr></thead>\n<tbody>"
 }
 
 // And what they end with.
@@ -474,6 +530,36 @@ pub(crate) fn list_end() -> &'static [u8]
     b"</tbody></table></div></details>\n"
 }
 
+// How much more there is that is not shown, of its number and its words.
+#[tactic(auto, unfolding(crate::specs::Layout::more))]
+pub(crate) fn more() -> &'static [Part]
+    ensures { map drawn_of result.now ≡ more }
+{
+    &[
+        Part::Markup(b"<p class=more>and "),
+        Part::Cell(0),
+        Part::Markup(b" more "),
+        Part::Cell(1),
+        Part::Markup(b" not shown</p>\n"),
+    ]
+}
+
+// What is said of an item whose record is not kept.
+#[tactic(auto, unfolding(crate::specs::Layout::no_record))]
+pub(crate) fn no_record() -> &'static [u8]
+    ensures { result.now ≡ no_record }
+{
+    b"<p class=more>No record here: this item stands behind the first ones, which a page has room for. The option <code>--items</code> shows it.</p>\n"
+}
+
+// What is said of an item that may have promises, where these are not kept.
+#[tactic(auto, unfolding(crate::specs::Layout::no_promises))]
+pub(crate) fn no_promises() -> &'static [u8]
+    ensures { result.now ≡ no_promises }
+{
+    b"<p class=more>If this is a master item, its rows of what is booked and available to promise stand behind those that a page has room for. The option <code>--items</code> shows them.</p>\n"
+}
+
 // What the history begins with.
 #[tactic(auto, unfolding(crate::specs::Layout::history_open))]
 pub(crate) fn history_open() -> &'static [u8]
@@ -487,7 +573,7 @@ pub(crate) fn history_open() -> &'static [u8]
 pub(crate) fn history_end() -> &'static [u8]
     ensures { result.now ≡ history_end }
 {
-    b"</tbody></table></div></details>\n</section>\n"
+    b"</details>\n</section>\n"
 }
 
 // What a page ends with.

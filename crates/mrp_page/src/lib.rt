@@ -2,6 +2,7 @@
 #![tactic(auto)]
 
 mod cells;
+mod counts;
 mod draw;
 mod escape;
 mod fault;
@@ -10,6 +11,7 @@ mod html;
 mod item_rows;
 pub mod laws;
 mod layout;
+mod names;
 mod notes;
 mod page;
 mod read;
@@ -17,9 +19,12 @@ mod row;
 mod rows;
 mod section;
 mod spot;
+mod steady;
 mod template;
+mod unshown;
 mod write;
 
 pub use escape::{escaped_texts_read_back, put_escaped};
 pub use fault::PageFault;
+pub use names::ItemNames;
 pub use write::{PageOptions, write_page};

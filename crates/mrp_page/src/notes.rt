@@ -2,31 +2,36 @@
 
 ghost use Rattle.std.specs.Prelude.{◌≡◌, ◌++◌, ◌∷◌, [], OnOk};
 ghost use Rattle.csv.specs.Records.{fields_of};
-ghost use Rattle.mrp_page.specs.Notes.{history_rows, is_shown, none_noted, noted, report_rows};
+ghost use Rattle.mrp_page.specs.Notes.{counts_at, history_rows, is_shown, none_noted, noted, report_rows};
 
+use crate::counts::Counts;
 use crate::row::Row;
 use crate::section::Section;
-use crate::spot::Spot;
+use crate::spot::{Place, Spot};
 use csv::ByteRecord;
 use mrp_qty::NoMemory;
 use std::alloc::Global;
 use std::marker::Model;
+use std::mem;
 
-// Where the record stands that was read last, the rows of the history, and those of the report of
-// the run that is shown.
+// The record that was read last and where it stands, the rows of the history, those of the report of
+// the run that is shown, and how many of either are not kept.
 #[derive(Drop)]
 pub(crate) struct Notes {
     spot: Spot,
+    last: ByteRecord,
     history: Vec<Row>,
     report: Vec<Row>,
+    counts: Counts,
 }
 
 impl Model for Notes {
+    ghost use Rattle.csv.specs.Records.{fields_of};
     ghost use Rattle.mrp_page.specs.Notes.{Noted};
 
     ghost Value = { Noted };
 
-    ghost view = { λ n. record { spot = n.spot; history = n.history.items; report = n.report.items } };
+    ghost view = { λ n. record { spot = n.spot; last = fields_of n.last; history = n.history.items; report = n.report.items; counts = n.counts } };
 }
 
 // Adds a row with a copy of these cells.
@@ -79,6 +84,19 @@ fn note_report(
     }
 }
 
+// Counts the rows of a section that are not kept, where it is the history or of the run that is shown.
+fn note_counts(counts: &mut Counts, asked: Option<u64>, spot: Spot)
+    ensures { counts.new ≡ counts_at asked spot spot.place counts.old }
+{
+    match spot.place {
+        Place::Header(section) | Place::Row(section)
+            if section.is_history() || is_shown(asked, spot.run) => {
+            counts.note(section, spot);
+        }
+        _ => {}
+    }
+}
+
 impl Notes {
     // Before the first record.
     pub(crate) fn new(alloc: Global) -> Notes
@@ -86,8 +104,10 @@ impl Notes {
     {
         Notes {
             spot: Spot::start(),
+            last: ByteRecord::new(alloc),
             history: Vec::new(alloc),
             report: Vec::new(alloc),
+            counts: Counts::none(),
         }
     }
 
@@ -109,23 +129,32 @@ impl Notes {
         self.report.as_slice()
     }
 
+    pub(crate) fn counts(&self) -> Counts
+        ensures { result ≡ self.now.counts }
+    {
+        self.counts
+    }
+
     // Takes the next record: its row, where the page has room for it. Where the last run is asked
-    // for, the rows of a run are let go of when the next one begins.
+    // for, the rows of a run are let go of when the next one begins. A record is given back to be
+    // read into.
     pub(crate) fn note(
         &mut self,
         items: &[&[u8]],
         asked: Option<u64>,
-        cells: &ByteRecord,
+        cells: &mut ByteRecord,
     ) -> Result<(), NoMemory>
-        ensures { OnOk result (self.new ≡ noted items.now asked self.old (fields_of cells.now)) }
+        ensures { OnOk result (self.new ≡ noted items.now asked self.old (fields_of cells.old)) }
     {
-        let spot = self.spot.after(items, cells);
+        let spot = self.spot.after(items, &self.last, cells);
         if asked.is_none() && spot.begins_run() {
             self.report.clear();
         }
         note_history(&mut self.history, spot.takes, cells)?;
         note_report(&mut self.report, asked, spot, cells)?;
+        note_counts(&mut self.counts, asked, spot);
         self.spot = spot;
+        mem::swap(&mut self.last, cells);
         Ok(())
     }
 }

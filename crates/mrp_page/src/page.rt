@@ -1,9 +1,10 @@
 //! A page, drawn of what was kept of a day.
 
 ghost use Rattle.std.specs.Prelude.{◌≡◌, ◌++◌, IfOk, OnOk, flat_map, map, take};
-ghost use Rattle.mrp_page.specs.Page.{head_html, is_told, item_section, load_section, page_html, rest_html, rows_if, same_bool, told_first, told_rows, top_html};
+ghost use Rattle.mrp_page.specs.Page.{head_html, is_told, items_of, load_section, page_html, page_of, rest_html, told_first, top_html, untold_rows};
 
-use crate::draw::{put_centres, put_history, put_items, put_todo};
+use crate::counts::Counts;
+use crate::draw::{put_centres, put_history, put_items, put_more_items, put_todo};
 use crate::frame::heading;
 use crate::html::Html;
 use crate::item_rows::ItemRows;
@@ -11,13 +12,11 @@ use crate::layout::{page_end, page_head, page_top, style};
 use crate::notes::Notes;
 use crate::row::Row;
 use crate::rows::{leaders, rows_in, rows_named};
-use crate::section::Section;
+use crate::section::{MOST_ITEMS, Section};
 use crate::template::put_row;
+use crate::unshown::unshown;
 use mrp_qty::NoMemory;
 use std::alloc::Global;
-
-// How many items a page shows.
-const MOST_ITEMS: usize = 200;
 
 // Adds the head of a page.
 #[tactic(auto, unfolding(crate::specs::Page::head_html))]
@@ -36,80 +35,85 @@ fn is_told(messages: &[Row], row: &Row) -> bool
     !rows_named(messages, row.name()).is_empty()
 }
 
-// Whether both hold, or neither.
-fn same(told: bool, holds: bool) -> bool
-    ensures { result ≡ same_bool told holds }
+// Adds a row where its item has no messages.
+fn add_if_untold<'a>(
+    rows: &mut Vec<&'a Row>,
+    row: &'a Row,
+    messages: &[Row],
+) -> Result<(), NoMemory>
+    ensures { OnOk result (map (λ r. r.now) rows.new.items ≡ map (λ r. r.now) rows.old.items ++ untold_rows messages.now row.now) }
 {
-    if told { holds } else { !holds }
-}
-
-// Adds a row where this holds.
-fn add_if<'a>(rows: &mut Vec<&'a Row>, row: &'a Row, holds: bool) -> Result<(), NoMemory>
-    ensures { OnOk result (map (λ r. r.now) rows.new.items ≡ map (λ r. r.now) rows.old.items ++ rows_if holds row.now) }
-{
-    if holds {
+    if !is_told(messages, row) {
         rows.push(row)?;
     }
     Ok(())
 }
 
-// Adds the rows whose items have messages, or those of the others.
-fn add_told<'a>(
+// Adds the rows whose items have no messages.
+fn add_untold<'a>(
     rows: &mut Vec<&'a Row>,
     leaders: &[&'a Row],
     messages: &[Row],
-    told: bool,
 ) -> Result<(), NoMemory>
-    ensures { OnOk result (map (λ r. r.now) rows.new.items ≡ map (λ r. r.now) rows.old.items ++ flat_map (told_rows messages.now told) (map (λ r. r.now) leaders.now)) }
+    ensures { OnOk result (map (λ r. r.now) rows.new.items ≡ map (λ r. r.now) rows.old.items ++ flat_map (untold_rows messages.now) (map (λ r. r.now) leaders.now)) }
 {
     for leader in leaders {
-        let holds = is_told(messages, *leader);
-        add_if(rows, *leader, same(told, holds))?;
+        add_if_untold(rows, *leader, messages)?;
     }
     Ok(())
 }
 
-// The rows whose items have messages, and then the others.
+// The first rows of the items with messages, and then those of the others in the plan.
 #[tactic(auto, unfolding(crate::specs::Page::told_first))]
 fn told_first<'a>(
     alloc: Global,
-    leaders: &[&'a Row],
-    messages: &[Row],
+    messages: &'a [Row],
+    plan: &'a [Row],
 ) -> Result<Vec<&'a Row>, NoMemory>
-    ensures { IfOk result (λ rows. map (λ r. r.now) rows.items ≡ told_first messages.now (map (λ r. r.now) leaders.now)) }
+    ensures { IfOk result (λ rows. map (λ r. r.now) rows.items ≡ told_first messages.now plan.now) }
 {
-    let mut rows = Vec::new(alloc);
-    add_told(&mut rows, leaders, messages, true)?;
-    add_told(&mut rows, leaders, messages, false)?;
+    let mut rows = leaders(alloc, messages)?;
+    let planned = leaders(alloc, plan)?;
+    add_untold(&mut rows, planned.as_slice(), messages)?;
     Ok(rows)
 }
 
 // Adds the work centres.
 #[tactic(auto, unfolding(crate::specs::Page::load_section))]
-fn put_load_section(alloc: Global, page: &mut Html, loads: &[Row]) -> Result<(), NoMemory>
-    ensures { OnOk result (page.new ≡ page.old ++ load_section loads.now) }
+fn put_load_section(
+    alloc: Global,
+    page: &mut Html,
+    loads: &[Row],
+    missed: u64,
+) -> Result<(), NoMemory>
+    ensures { OnOk result (page.new ≡ page.old ++ load_section loads.now missed) }
 {
     let centres = leaders(alloc, loads)?;
-    put_centres(alloc, page, loads, centres.as_slice())
+    put_centres(alloc, page, loads, centres.as_slice(), missed)
 }
 
 // The first of these rows, as many as a page has room for.
 fn first_rows<'a, 'b>(rows: &'b [&'a Row]) -> &'b [&'a Row]
     ensures { map (λ r. r.now) result.now ≡ take 200 (map (λ r. r.now) rows.now) }
 {
-    let count = MOST_ITEMS.min(rows.len());
+    let count = (MOST_ITEMS as usize).min(rows.len());
     let (first, _) = rows.split_at(count);
     first
 }
 
-// Adds the items that a page has room for.
-#[tactic(auto, unfolding(crate::specs::Page::item_section))]
-fn put_item_section(alloc: Global, page: &mut Html, rows: &ItemRows<'_>) -> Result<(), NoMemory>
-    ensures { OnOk result (page.new ≡ page.old ++ item_section rows.now) }
+// Adds items, and how many more there are.
+#[tactic(auto, unfolding(crate::specs::Page::items_of))]
+fn put_items_of(
+    alloc: Global,
+    page: &mut Html,
+    rows: &ItemRows<'_>,
+    counts: Counts,
+    shown: &[&Row],
+) -> Result<(), NoMemory>
+    ensures { OnOk result (page.new ≡ page.old ++ items_of rows.now counts (map (λ r. r.now) shown.now)) }
 {
-    let items = leaders(alloc, rows.plan())?;
-    let shown = told_first(alloc, items.as_slice(), rows.messages())?;
-    put_items(alloc, page, rows, first_rows(shown.as_slice()))
+    put_items(alloc, page, rows, counts.promises, shown)?;
+    put_more_items(alloc, page, unshown(rows, shown, counts), shown)
 }
 
 // Adds what is said of the items, and the history.
@@ -118,12 +122,14 @@ fn put_rest(
     alloc: Global,
     page: &mut Html,
     rows: &ItemRows<'_>,
+    counts: Counts,
+    shown: &[&Row],
     history: &[Row],
 ) -> Result<(), NoMemory>
-    ensures { OnOk result (page.new ≡ page.old ++ rest_html rows.now history.now) }
+    ensures { OnOk result (page.new ≡ page.old ++ rest_html rows.now counts (map (λ r. r.now) shown.now) history.now) }
 {
-    put_item_section(alloc, page, rows)?;
-    put_history(page, history)?;
+    put_items_of(alloc, page, rows, counts, shown)?;
+    put_history(alloc, page, history, counts.history)?;
     page.markup(page_end())
 }
 
@@ -133,19 +139,39 @@ fn put_top(
     alloc: Global,
     page: &mut Html,
     title: &[u8],
-    run: &[Row],
-    plan: &[Row],
+    report: &[Row],
+    items: u64,
 ) -> Result<(), NoMemory>
-    ensures { OnOk result (page.new ≡ page.old ++ top_html title.now run.now plan.now) }
+    ensures { OnOk result (page.new ≡ page.old ++ top_html title.now report.now items) }
 {
-    let heading = heading(alloc, title, run, plan)?;
+    let heading = heading(alloc, title, report, items)?;
     put_head(page, &heading)
+}
+
+// Adds a page that shows these items.
+#[tactic(auto, unfolding(crate::specs::Page::page_of))]
+fn put_page_of(
+    alloc: Global,
+    page: &mut Html,
+    title: &[u8],
+    notes: &Notes,
+    shown: &[&Row],
+) -> Result<(), NoMemory>
+    ensures { OnOk result (page.new ≡ page.old ++ page_of title.now notes.now (map (λ r. r.now) shown.now)) }
+{
+    let report = notes.report();
+    let rows = ItemRows::of(report);
+    let counts = notes.counts();
+    put_top(alloc, page, title, report, counts.items)?;
+    put_todo(alloc, page, shown, rows.messages(), counts.messages)?;
+    put_load_section(alloc, page, rows_in(report, Section::Loads), counts.loads)?;
+    put_rest(alloc, page, &rows, counts, shown, notes.history())
 }
 
 // Adds a page.
 //
 // Errors: where a growth of memory was refused.
-#[tactic(auto, unfolding(crate::specs::Page::page_html))]
+#[tactic(auto, unfolding(crate::specs::Page::page_html, crate::specs::Page::shown_items))]
 pub(crate) fn put_page(
     alloc: Global,
     page: &mut Html,
@@ -154,16 +180,7 @@ pub(crate) fn put_page(
 ) -> Result<(), NoMemory>
     ensures { OnOk result (page.new ≡ page.old ++ page_html title.now notes.now) }
 {
-    let report = notes.report();
-    let rows = ItemRows::of(report);
-    put_top(
-        alloc,
-        page,
-        title,
-        rows_in(report, Section::Run),
-        rows.plan(),
-    )?;
-    put_todo(page, rows.messages())?;
-    put_load_section(alloc, page, rows_in(report, Section::Loads))?;
-    put_rest(alloc, page, &rows, notes.history())
+    let rows = ItemRows::of(notes.report());
+    let items = told_first(alloc, rows.messages(), rows.plan())?;
+    put_page_of(alloc, page, title, notes, first_rows(items.as_slice()))
 }

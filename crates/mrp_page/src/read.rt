@@ -13,7 +13,10 @@ use std::alloc::Global;
 use std::io::Read;
 
 // Reads the next record over the one before it; false at the end.
-fn read_cells<R: Read>(reader: &mut Reader<R>, cells: &mut ByteRecord) -> Result<bool, PageFault>
+pub(crate) fn read_cells<R: Read>(
+    reader: &mut Reader<R>,
+    cells: &mut ByteRecord,
+) -> Result<bool, PageFault>
     requires { IsReading reader.old }
     ensures reads { IfOk result (λ found. ReadRecord R.remaining reader.old reader.new found (fields_of cells.new)) }
     ensures reading { OnOk result (IsReading reader.new) }
@@ -48,7 +51,7 @@ fn read_notes<R: Read + Drop>(
         if !read_cells(&mut reader, &mut cells)? {
             return Ok(notes);
         }
-        notes.note(items, asked, &cells)?;
+        notes.note(items, asked, &mut cells)?;
         if notes.spot().is_wrong() {
             return Err(PageFault::Shape);
         }

@@ -1,7 +1,10 @@
 //! The sections of a day.
 
 ghost use Rattle.std.specs.Prelude.{◌≡◌, map};
-ghost use Rattle.mrp_page.specs.Section.{columns_of, is_of_items, line_of, next_of, place_of, room_of, same_section};
+ghost use Rattle.mrp_page.specs.Section.{columns_of, is_by_weeks, is_history, is_of_items, is_plan, items_of, line_of, next_of, place_of, room_of, same_section};
+
+// How many items a page shows.
+pub(crate) const MOST_ITEMS: u64 = 200;
 
 // A section of a day.
 #[derive(Clone, Copy, Debug, PartialEq, Eq)]
@@ -74,7 +77,7 @@ impl Section {
     }
 
     // How many of its rows are kept: of items or work centres those of 200 over 104 weeks.
-    pub(crate) fn room(self) -> u32
+    pub(crate) fn room(self) -> u64
         ensures { result ≡ room_of self }
     {
         match self {
@@ -82,6 +85,37 @@ impl Section {
             Section::Run => 1,
             _ => 20_800,
         }
+    }
+
+    // Of how many items, or work centres, rows are kept even where its room is full.
+    pub(crate) fn items(self) -> u64
+        ensures { result ≡ items_of self }
+    {
+        match self {
+            Section::Promises | Section::Plan | Section::Messages | Section::Loads => MOST_ITEMS,
+            _ => 0,
+        }
+    }
+
+    // Whether an item, or a work centre, has a row for each week there.
+    pub(crate) fn is_by_weeks(self) -> bool
+        ensures { result ≡ is_by_weeks self }
+    {
+        matches!(self, Section::Promises | Section::Plan | Section::Loads)
+    }
+
+    // Whether it is the plan.
+    pub(crate) fn is_plan(self) -> bool
+        ensures { result ≡ is_plan self }
+    {
+        matches!(self, Section::Plan)
+    }
+
+    // Whether it is the history.
+    pub(crate) fn is_history(self) -> bool
+        ensures { result ≡ is_history self }
+    {
+        matches!(self, Section::History)
     }
 
     // Its place among the sections.

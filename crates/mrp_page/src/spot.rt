@@ -2,10 +2,10 @@
 
 ghost use Rattle.std.specs.Prelude.{◌≡◌};
 ghost use Rattle.csv.specs.Records.{fields_of};
-ghost use Rattle.mrp_page.specs.Spot.{after, begun, begins_run, inside, is_among, is_end, is_wrong, place_after, start, takes_at, wants};
+ghost use Rattle.mrp_page.specs.Spot.{after, begun, begins_run, counted, has_room, inside, is_among, is_end, is_row, is_wanted, is_wrong, leads, place_after, room_at, run_at, section_if, start, starts_at, wants};
 
 use crate::cells::{are_texts, cell_of};
-use crate::section::Section;
+use crate::section::{MOST_ITEMS, Section};
 use csv::ByteRecord;
 
 // What a record is in a day.
@@ -30,7 +30,13 @@ pub(crate) struct Spot {
     // How many runs have begun.
     pub(crate) run: u64,
     // How many rows of the section were taken.
-    pub(crate) taken: u32,
+    pub(crate) taken: u64,
+    // How many of its rows that a page is to show were not.
+    pub(crate) missed: u64,
+    // How many items, or work centres, have begun in it.
+    pub(crate) items: u64,
+    // How many of these have an order that starts in their first week.
+    pub(crate) urgent: u64,
     // The section as whose row the record is taken.
     pub(crate) takes: Option<Section>,
 }
@@ -75,6 +81,13 @@ fn wants(items: &[&[u8]], section: Section, cells: &ByteRecord) -> bool
 }
 
 impl Place {
+    // Whether it is that of a row.
+    fn is_row(self) -> bool
+        ensures { result ≡ is_row self }
+    {
+        matches!(self, Place::Row(_))
+    }
+
     // What the record behind it is.
     fn after(self, cells: &ByteRecord) -> Place
         ensures { result ≡ place_after self (fields_of cells.now) }
@@ -95,19 +108,44 @@ impl Place {
     }
 }
 
-// The section as whose row a record is taken, with so many taken before it.
-fn takes(items: &[&[u8]], taken: u32, place: Place, cells: &ByteRecord) -> Option<Section>
-    ensures { result ≡ takes_at items.now taken place (fields_of cells.now) }
+// Whether a record is a row that a page is to show.
+fn is_wanted(items: &[&[u8]], place: Place, cells: &ByteRecord) -> bool
+    ensures { result ≡ is_wanted items.now place (fields_of cells.now) }
 {
     match place {
-        Place::Row(section) => {
-            if taken < section.room() && wants(items, section, cells) {
-                Some(section)
-            } else {
-                None
-            }
-        }
+        Place::Row(section) => wants(items, section, cells),
+        _ => false,
+    }
+}
+
+// Whether a row of a plan says that an order starts in its week.
+fn starts_at(place: Place, cells: &ByteRecord) -> bool
+    ensures { result ≡ starts_at place (fields_of cells.now) }
+{
+    match place {
+        Place::Row(section) => section.is_plan() && cell_of(cells, 6) != b"0".as_slice(),
+        _ => false,
+    }
+}
+
+// The section of a row that is taken.
+fn section_if(takes: bool, place: Place) -> Option<Section>
+    ensures { result ≡ section_if takes place }
+{
+    match place {
+        Place::Row(section) if takes => Some(section),
         _ => None,
+    }
+}
+
+// A count of rows, with one more where this holds. It begins anew where no row stands.
+fn counted(row: bool, count: u64, more: bool) -> u64
+    ensures { result ≡ counted row count more }
+{
+    if row {
+        count.saturating_add(u64::from(more))
+    } else {
+        0
     }
 }
 
@@ -120,6 +158,9 @@ impl Spot {
             place: Place::Front,
             run: 0,
             taken: 0,
+            missed: 0,
+            items: 0,
+            urgent: 0,
             takes: None,
         }
     }
@@ -148,25 +189,67 @@ impl Spot {
         )
     }
 
-    // Where the next record stands.
-    pub(crate) fn after(self, items: &[&[u8]], cells: &ByteRecord) -> Spot
-        ensures { result ≡ after items.now self (fields_of cells.now) }
+    // Whether a record is not of the item, or the work centre, of a row before it.
+    fn leads(self, last: &ByteRecord, cells: &ByteRecord) -> bool
+        ensures { result ≡ leads self (fields_of last.now) (fields_of cells.now) }
     {
-        let place = self.place.after(cells);
-        let takes = takes(items, self.taken, place, cells);
-        let run = match place {
+        !(self.place.is_row() && cell_of(last, 0) == cell_of(cells, 0))
+    }
+
+    // Whether a page has room for a row of a section: while the section has room, of the first
+    // items, of the first items with an order that starts in their first week, and for the other
+    // weeks of an item that it has begun with.
+    fn has_room(self, section: Section, leads: bool, urgent: bool) -> bool
+        ensures { result ≡ has_room section self leads urgent }
+    {
+        if self.taken < section.room() {
+            return true;
+        }
+        if leads {
+            self.items < section.items() || urgent && self.urgent < MOST_ITEMS
+        } else {
+            section.is_by_weeks() && self.takes.is_some()
+        }
+    }
+
+    // The same, of a record.
+    fn room_at(self, place: Place, leads: bool, urgent: bool) -> bool
+        ensures { result ≡ room_at place self leads urgent }
+    {
+        match place {
+            Place::Row(section) => self.has_room(section, leads, urgent),
+            _ => false,
+        }
+    }
+
+    // How many runs have begun at the next place.
+    fn run_at(self, place: Place) -> u64
+        ensures { result ≡ run_at self.run place }
+    {
+        match place {
             Place::Line(Section::Run) => self.run.saturating_add(1),
             _ => self.run,
-        };
-        let taken = match place {
-            Place::Row(_) => self.taken.saturating_add(u32::from(takes.is_some())),
-            _ => 0,
-        };
+        }
+    }
+
+    // Where the next record stands, behind the last one.
+    pub(crate) fn after(self, items: &[&[u8]], last: &ByteRecord, cells: &ByteRecord) -> Spot
+        ensures { result ≡ after items.now self (fields_of last.now) (fields_of cells.now) }
+    {
+        let place = self.place.after(cells);
+        let row = place.is_row();
+        let wanted = is_wanted(items, place, cells);
+        let leads = wanted && self.leads(last, cells);
+        let urgent = leads && starts_at(place, cells);
+        let takes = wanted && self.room_at(place, leads, urgent);
         Spot {
             place,
-            run,
-            taken,
-            takes,
+            run: self.run_at(place),
+            taken: counted(row, self.taken, takes),
+            missed: counted(row, self.missed, wanted && !takes),
+            items: counted(row, self.items, leads),
+            urgent: counted(row, self.urgent, urgent),
+            takes: section_if(takes, place),
         }
     }
 }

@@ -1,7 +1,7 @@
 //! What rows are drawn as.
 
 ghost use Rattle.std.specs.Prelude.{◌≡◌, ◌++◌, OnOk, map};
-ghost use Rattle.mrp_page.specs.Template.{drawn_of, has_word, markup_if, numbers_html, part_html, row_html, row_if, rows_html, rows_with};
+ghost use Rattle.mrp_page.specs.Template.{drawn_of, has_word, markup_if, numbers_html, part_html, row_html, rows_html};
 
 use crate::html::Html;
 use crate::row::Row;
@@ -21,7 +21,7 @@ pub(crate) enum Part {
 }
 
 // Whether a row has this word in a column.
-fn has_word(column: usize, word: &[u8], row: &Row) -> bool
+pub(crate) fn has_word(column: usize, word: &[u8], row: &Row) -> bool
     ensures { result ≡ has_word column word.now row.now }
 {
     row.cell(column) == word
@@ -63,40 +63,6 @@ pub(crate) fn put_rows(page: &mut Html, parts: &[Part], rows: &[Row]) -> Result<
 {
     for row in rows {
         put_row(page, parts, row)?;
-    }
-    Ok(())
-}
-
-// Adds a row if it has this word in a column.
-fn put_row_with(
-    page: &mut Html,
-    column: usize,
-    word: &[u8],
-    parts: &[Part],
-    row: &Row,
-) -> Result<(), NoMemory>
-    ensures { OnOk result (page.new ≡ page.old ++ row_if column word.now (map drawn_of parts.now) row.now) }
-{
-    if has_word(column, word, row) {
-        put_row(page, parts, row)
-    } else {
-        Ok(())
-    }
-}
-
-// Adds the rows that have this word in a column.
-#[tactic(auto, unfolding(crate::specs::Template::rows_with))]
-pub(crate) fn put_rows_with(
-    page: &mut Html,
-    column: usize,
-    word: &[u8],
-    parts: &[Part],
-    rows: &[Row],
-) -> Result<(), NoMemory>
-    ensures { OnOk result (page.new ≡ page.old ++ rows_with column word.now (map drawn_of parts.now) rows.now) }
-{
-    for row in rows {
-        put_row_with(page, column, word, parts, row)?;
     }
     Ok(())
 }

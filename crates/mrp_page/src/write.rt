@@ -1,6 +1,6 @@
 //! The page of a day.
 
-ghost use Rattle.std.specs.Prelude.{◌≡◌, ◌+◌, ◌⊎◌, ℕ, List, Err, IfErr, IfOk, OnOk, Some, false};
+ghost use Rattle.std.specs.Prelude.{◌≡◌, ◌≤◌, ◌+◌, ◌⊎◌, ℕ, List, Err, IfErr, IfOk, OnOk, Some, false};
 ghost use Rattle.std.specs.Io.KnownBytes.{Appends};
 ghost use Rattle.mrp_page.specs.Reading.{IsNoDay, LacksRun, is_write_fault};
 ghost use Rattle.mrp_page.specs.Written.{HasPage, IsPageOf};
@@ -11,7 +11,8 @@ use crate::fault::PageFault;
 use crate::html::Html;
 use crate::page::put_page;
 use crate::read::read_day;
-use mrp_rows::{Told, Tries, WRITE_TRIES, write_text};
+use crate::steady::Steady;
+use mrp_rows::{READ_CALLS, Told, Tries, WRITE_TRIES, write_text};
 use std::alloc::Global;
 use std::io::{Read, Write};
 
@@ -22,7 +23,7 @@ pub struct PageOptions<'a> {
     pub title: &'a [u8],
     /// The run whose report is shown, counted from 1; the last where none is named.
     pub run: Option<u64>,
-    /// The names of the items that are shown; all that there is room for where none is named.
+    /// The names of the items that are shown, all where none is named: the first 200 of them, those with messages first.
     pub items: &'a [&'a [u8]],
 }
 
@@ -45,25 +46,33 @@ fn page_of<R: Read + Drop>(
 
 /// Writes the page of a day: one file of HTML, which fetches nothing and runs nothing.
 ///
-/// The day is read once, record by record. Nothing is written before all of it was read.
+/// The day is read once, record by record, within 100,000,000 calls of `read`; an interrupted read is
+/// tried again and counts as a call. Nothing is written before all of it was read.
 ///
 /// Errors, with nothing written: `Shape` where the text is no day, `NoRun` where it has fewer runs
-/// than the one that is asked for, `Read` where the reader failed, `NoMemory`. `Write` where a write
-/// failed, or was interrupted more than 1,000,000 times: a front of the page was written then.
-pub fn write_page<R: Read + Drop, W: Write>(
+/// than the one that is asked for, `Read` where the reader failed or needed more calls, `NoMemory`.
+/// `Write` where a write failed, or was interrupted more than 1,000,000 times: a front of the page was
+/// written then.
+pub fn write_page<R: Read, W: Write>(
     alloc: Global,
-    input: R,
+    input: &mut Told<R>,
     options: &PageOptions<'_>,
     writer: &mut Told<W>,
 ) -> Result<(), PageFault>
-    ensures whole { OnOk result ((text : List ℕ) → R.remaining input ≡ Some text → IsPageOf options.now.title.now options.now.items.now options.now.run text (λ page. Appends (W.contents (inner_of writer.old)) (W.contents (inner_of writer.new)) page)) }
-    ensures wrong { result ≡ Err PageFault.Shape → (text : List ℕ) → R.remaining input ≡ Some text → IsNoDay text }
-    ensures run { result ≡ Err PageFault.NoRun → (text : List ℕ) → R.remaining input ≡ Some text → LacksRun options.now.items.now options.now.run text }
+    ensures whole { OnOk result ((text : List ℕ) → R.remaining (inner_of input.old) ≡ Some text → IsPageOf options.now.title.now options.now.items.now options.now.run text (λ page. Appends (W.contents (inner_of writer.old)) (W.contents (inner_of writer.new)) page)) }
+    ensures unfailed { OnOk result (failures_of writer.new ≡ failures_of writer.old) }
+    ensures interrupted { OnOk result (interrupted_of writer.new ≤ interrupted_of writer.old + WRITE_TRIES) }
+    ensures wrong { result ≡ Err PageFault.Shape → (text : List ℕ) → R.remaining (inner_of input.old) ≡ Some text → IsNoDay text }
+    ensures run { result ≡ Err PageFault.NoRun → (text : List ℕ) → R.remaining (inner_of input.old) ≡ Some text → LacksRun options.now.items.now options.now.run text }
     ensures untouched { IfErr result (λ fault. is_write_fault fault ≡ false → writer.new ≡ writer.old) }
     ensures refused { result ≡ Err PageFault.Write → HasRisenBy 1 (failures_of writer.old) (failures_of writer.new) ⊎ HasRisenBy (WRITE_TRIES + 1) (interrupted_of writer.old) (interrupted_of writer.new) }
-    ensures front { result ≡ Err PageFault.Write → (text : List ℕ) → R.remaining input ≡ Some text → IsPageOf options.now.title.now options.now.items.now options.now.run text (λ page. WritesFront (W.contents (inner_of writer.old)) (W.contents (inner_of writer.new)) page) }
+    ensures front { result ≡ Err PageFault.Write → (text : List ℕ) → R.remaining (inner_of input.old) ≡ Some text → IsPageOf options.now.title.now options.now.items.now options.now.run text (λ page. WritesFront (W.contents (inner_of writer.old)) (W.contents (inner_of writer.new)) page) }
 {
-    let page = page_of(alloc, input, options)?;
+    let steady = Steady {
+        reader: input,
+        calls_left: READ_CALLS,
+    };
+    let page = page_of(alloc, steady, options)?;
     write_text(writer, page.as_bytes(), &mut Tries::new())?;
     Ok(())
 }

@@ -4,7 +4,7 @@ use Rattle.std.specs.Prelude.{All, Contains, filter, if◌then◌else◌, nat_lt
 use Rattle.std.specs.List.{enumerate_from, list_any}
 use Rattle.std.specs.Int.{IsInRange}
 use Rattle.std.proofs.lemmas.Bool.{and_parts}
-use Rattle.std.proofs.lemmas.List.Elements.{Contains-append_cases, Contains-append_right}
+use Rattle.std.proofs.lemmas.List.Elements.{All-contains, Contains-append_cases, Contains-append_right}
 use Rattle.std.proofs.lemmas.List.FromFn.{get_or-enumerate_from, get_or-range_with_len, length-enumerate_from, length-range_with_len}
 use Rattle.std.proofs.lemmas.List.Sums.{get_or-le-sum_by}
 use Rattle.mrp_tables.specs.Master.{is_firm}
@@ -39,9 +39,6 @@ use Rattle.mrp_peg.proofs.Members.{here, in_filter, in_flat_map, in_map, nothing
 use Rattle.mrp_peg.proofs.Orders.{to_source}
 use Rattle.mrp_peg.proofs.Own.{all_due, orders-own, own}
 use Rattle.mrp_peg.proofs.Served.{IsOwnNeed, are_served, before, need_item, own_need, place_in}
-
-all_at : {X : Type 0} (P : X → Type 0) (xs : List X) (x : X) → All P xs → Contains xs x → P x
-all_at P xs x all (k, within, is) = subst P is (all k x within)
 
 to_map : {X Y : Type 0} (f : X → Y) (xs : List X) (x : X) → Contains xs x → Contains (map f xs) (f x)
 to_map f [] x inside = absurd (nothing x inside)
@@ -86,7 +83,7 @@ order_pieces s i receipts o rows inside =
     by week (inl has) =
         let (r, listed, is) = in_map (λ (r : MasterRow). order_of (item_at s i) Firm week r.quantity) (firm_rows s i week) o has in
         let (row, passes) = in_filter (λ (r : MasterRow). (r.item == i) && (r.week == week) && is_firm r.kind) s.tables.master r listed in
-        let some : 0 < r.quantity = all_at (λ (x : MasterRow). 0 < x.quantity) s.tables.master r rows row in
+        let some : 0 < r.quantity = All-contains (λ (x : MasterRow). 0 < x.quantity) s.tables.master r rows row in
         let same : r.quantity ≡ o.quantity = ap (λ (x : Order). x.quantity) is in
         omega (arith, some, same)
     by week (inr has) = planned week (in_week receipts (week - 1)) (in_week receipts week) (nat_lt (in_week receipts (week - 1)) (in_week receipts week)) refl has
@@ -99,7 +96,7 @@ order_is s code ranked rows i o inside = by (outcome_of s i) refl
     by (Planned plan) is =
         let mine : IsOwn s i = own s i code plan ranked is in (
           order_pieces s i (receipts_of s i (own_gross s i)) o rows (subst (λ (os : List Order). Contains os o) (orders-own s i mine) inside),
-          all_at (λ (x : Order). IsInRange 1 (horizon s) x.due) (plan_in (outcome_of s i)).orders o (all_due s i mine) inside,
+          All-contains (λ (x : Order). IsInRange 1 (horizon s) x.due) (plan_in (outcome_of s i)).orders o (all_due s i mine) inside,
         )
     by Over is = absurd (nothing o (subst (λ (out : Outcome). Contains (plan_in out).orders o) is inside))
     by Blocked is = absurd (nothing o (subst (λ (out : Outcome). Contains (plan_in out).orders o) is inside))

@@ -6,7 +6,7 @@ use Rattle.std.proofs.lemmas.Bool.{eqb-true, eqb-false, eq-eqb, ne_eqb}
 use Rattle.std.proofs.lemmas.List.{map-append, append-nil}
 use Rattle.std.proofs.lemmas.List.Elements.{All-append, filter-append}
 use Rattle.std.proofs.lemmas.List.Sums.{sum_by-cons, sum_by-append}
-use Rattle.mrp_peg.proofs.Weekly.{other_weeks}
+use Rattle.mrp_item.proofs.ByKeys.{parts_above}
 use Rattle.mrp_peg.specs.Weekly.{by_weeks, AreWithin}
 
 pub filter-flat_map : {X Y : Type 0} (p : Y → Bool) (f : X → List Y) (xs : List X) → filter p (flat_map f xs) ≡ flat_map (λ x. filter p (f x)) xs
@@ -20,10 +20,6 @@ map-flat_map g f (x ∷ xs) = map-append g (f x) (flat_map f xs) ∙ ap (λ l. m
 pub same_flat_map : {X Y : Type 0} (f g : X → List Y) → ((x : X) → f x ≡ g x) → (xs : List X) → flat_map f xs ≡ flat_map g xs
 same_flat_map f g same [] = refl
 same_flat_map f g same (x ∷ xs) = ap (λ l. l ++ flat_map f xs) (same x) ∙ ap (λ l. g x ++ l) (same_flat_map f g same xs)
-
-pub same_map : {X Y : Type 0} (f g : X → Y) → ((x : X) → f x ≡ g x) → (xs : List X) → map f xs ≡ map g xs
-same_map f g same [] = refl
-same_map f g same (x ∷ xs) = ap (λ y. y ∷ map f xs) (same x) ∙ ap (λ l. g x ∷ l) (same_map f g same xs)
 
 -- every row is of the week
 abbrev pub AreOf : {Y : Type 0} → (Y → ℕ) → ℕ → List Y → Type 0
@@ -111,7 +107,8 @@ sum_more {X} f week first (suc count) x rows low high =
         ≡ f x + (sum_by f (filter (λ y. week y == first) rows) + sum_by f (by_weeks week (range_with_len (first + 1) count) rows))
     by true e later =
         let same : week x ≡ first = eqb-true (week x) first e in
-        omega (arith, sum_by-cons f x (filter (λ y. week y == first) rows), ap (sum_by f) (other_weeks week (first + 1) count x rows (omega (arith, same))))
+        let others : by_weeks week (range_with_len (first + 1) count) (x ∷ rows) ≡ by_weeks week (range_with_len (first + 1) count) rows = parts_above week (first + 1) count x rows (omega (arith, same)) in
+        omega (arith, sum_by-cons f x (filter (λ y. week y == first) rows), ap (sum_by f) others)
     by false e later = omega (arith, later (above_other (week x) first (eqb-false (week x) first e) low))
 
 no_sum : {X : Type 0} (f : X → ℕ) (week : X → ℕ) (first count : ℕ) → sum_by f (by_weeks {X = X} week (range_with_len first count) []) ≡ 0

@@ -1,13 +1,11 @@
 -- One more step of the loops that list requirements and supplies.
-use Rattle.std.proofs.Common.{◌≡◌, ◌∙◌, ℕ, zero, suc, ◌+◌, ◌-◌, ◌<◌, List, [], ◌∷◌, ◌++◌, cond, length, take, map, set, get_or, refl, sym, ap, arith, append_assoc}
+use Rattle.std.proofs.Common.{◌≡◌, ◌∙◌, ℕ, zero, suc, ◌+◌, ◌-◌, ◌<◌, List, [], ◌∷◌, ◌++◌, cond, length, take, set, get_or, refl, sym, ap, arith, append_assoc}
 use Rattle.std.specs.Prelude.{flat_map}
 use Rattle.std.specs.Int.{IsInRange}
 use Rattle.std.specs.List.{enumerate_from}
 use Rattle.std.proofs.lemmas.Bool.{eq-eqb, ne_eqb}
-use Rattle.std.proofs.lemmas.List.{map-append, append-nil}
-use Rattle.std.proofs.lemmas.List.Concat.{flat_map-append}
 use Rattle.mrp_phase.specs.Weeks.{in_week, row, weeks, with_week}
-use Rattle.mrp_phase.proofs.WeekRows.{in_week_at, in_week_next, in_week_row, length-row, row_is, weeks_more, with_week-row, with_week_at}
+use Rattle.mrp_phase.proofs.WeekRows.{flat_map-weeks_next, in_week_at, in_week_next, in_week_row, length-row, row_is, with_week-row, with_week_at}
 use Rattle.mrp_item.specs.declared.due.Due.{Due}
 use Rattle.mrp_item.specs.declared.order.Order.{Order}
 use Rattle.mrp_item.specs.Dues.{due_sum}
@@ -27,24 +25,10 @@ numbered_more n (suc k) (o ∷ orders) d h =
     ∙ ap (λ l. (n, o) ∷ l) (numbered_more (n + 1) k orders d (omega (arith, h)))
     ∙ ap (λ j. (n, o) ∷ (enumerate_from (n + 1) (take k orders) ++ (j, get_or orders k d) ∷ [])) number
 
-pub pushed_order : {Y : Type 0} (f : ℕ × Order → Y) (old so_far now : List Y) (k : ℕ) (orders : List Order) (o : Order) → k < length orders → o ≡ get_or orders k o → so_far ≡ old ++ map f (enumerate_from 1 (take k orders))
-    → now ≡ so_far ++ f ((k + 1, o)) ∷ [] → now ≡ old ++ map f (enumerate_from 1 (take (k + 1) orders))
-pushed_order f old so_far now k orders o h at is told =
-    told ∙ ap (λ l. l ++ f ((k + 1, o)) ∷ []) is
-    ∙ ap (λ (x : Order). (old ++ map f (enumerate_from 1 (take k orders))) ++ f ((k + 1, x)) ∷ []) at
-    ∙ append_assoc old (map f (enumerate_from 1 (take k orders))) (f ((k + 1, get_or orders k o)) ∷ [])
-    ∙ ap (λ l. old ++ l) (sym (map-append f (enumerate_from 1 (take k orders)) ((k + 1, get_or orders k o) ∷ [])))
-    ∙ ap (λ l. old ++ map f l) (sym (numbered_more 1 k orders o h))
-
 -- the rows of one more week
 pub pushed_week : {Y : Type 0} (f : ℕ → List Y) (old so_far now : List Y) (k : ℕ) → so_far ≡ old ++ flat_map f (weeks k) → now ≡ so_far ++ f (k + 1) → now ≡ old ++ flat_map f (weeks (k + 1))
 pushed_week f old so_far now k is told =
-    let one : k + 1 ≡ suc k = omega arith in
-    told ∙ ap (λ l. l ++ f (k + 1)) is ∙ append_assoc old (flat_map f (weeks k)) (f (k + 1))
-    ∙ ap (λ l. old ++ (flat_map f (weeks k) ++ l)) (ap f one ∙ sym (append-nil (f (suc k))))
-    ∙ ap (λ l. old ++ l) (sym (flat_map-append f (weeks k) (suc k ∷ [])))
-    ∙ ap (λ ws. old ++ flat_map f ws) (sym (weeks_more k))
-    ∙ ap (λ j. old ++ flat_map f (weeks j)) (sym one)
+    told ∙ ap (λ l. l ++ f (k + 1)) is ∙ append_assoc old (flat_map f (weeks k)) (f (k + 1)) ∙ ap (λ l. old ++ l) (sym (flat_map-weeks_next f k))
 
 pub default_any : (xs : List ℕ) (k d e : ℕ) → k < length xs → get_or xs k d ≡ get_or xs k e
 default_any [] k d e h = absurd (omega (arith, h))

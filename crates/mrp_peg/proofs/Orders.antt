@@ -21,9 +21,6 @@ one_order a b e =
     let second = eqb-true a.1 b.1 parts.1 in
     λ k. (first k, second k)
 
-pub own_order : (a : ℕ × ℕ) → same_order a a ≡ true
-own_order a = and_from (a.0 == a.0) (a.1 == a.1) (eq-eqb a.0 a.0 refl) (eq-eqb a.1 a.1 refl)
-
 pub one_cause : (c d : Cause) → same_cause c d ≡ true → c ≡ d
 one_cause (cause.Booking i m) (cause.Booking j n) e =
     let parts = and_parts (i == j) (m == n) e in

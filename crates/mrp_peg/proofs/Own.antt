@@ -1,26 +1,22 @@
 -- What a planned item's plan is, and that its sums are within the greatest quantity.
-use Rattle.std.proofs.Common.{◌≡◌, ◌∙◌, ℕ, zero, suc, max, [], ◌∷◌, ◌+◌, ◌-◌, ◌<◌, ◌≤◌, Bool, true, false, cond, Option, Some, None, Ok, List, map, length, refl, sym, ap, subst, arith}
+use Rattle.std.proofs.Common.{◌≡◌, ◌∙◌, ℕ, ◌+◌, ◌<◌, ◌≤◌, Bool, true, false, Option, Some, None, Ok, List, map, length, refl, sym, ap, subst, arith}
 use Rattle.std.specs.Prelude.{◌||◌, nat_lt, sum, sum_by, All}
 use Rattle.std.specs.List.{list_all}
 use Rattle.std.specs.Int.{IsInRange}
 use Rattle.std.proofs.lemmas.Bool.{ltb-false}
-use Rattle.std.proofs.lemmas.List.Elements.{All-append, All-map}
 use Rattle.mrp_qty.specs.Quantity.{greatest_quantity}
 use Rattle.mrp_bill.specs.Bill.{parents_of}
 use Rattle.mrp_phase.specs.Weeks.{in_week, sum_to}
 use Rattle.mrp_phase.proofs.WeekRows.{length-row, sum_to_whole}
 use Rattle.mrp_item.specs.declared.order.Order.{Order}
-use Rattle.mrp_item.specs.Inputs.{Inputs, count, horizon, item_at, places}
-use Rattle.mrp_item.specs.Rows.{firm_rows, stock_of}
-use Rattle.mrp_item.specs.declared.order.OrderKind.TheVariants.{Firm, Planned as Made}
-use Rattle.mrp_tables.specs.declared.rows.MasterRow.{MasterRow}
-use Rattle.mrp_item.specs.Orders.{firm_orders, order_of, orders_due, orders_of, planned_order}
+use Rattle.mrp_item.specs.Inputs.{Inputs, count, horizon, places}
+use Rattle.mrp_item.specs.Rows.{stock_of}
+use Rattle.mrp_item.specs.Orders.{orders_of}
 use Rattle.mrp_item.specs.Own.{own_gross}
 use Rattle.mrp_peg.specs.Own.{IsOwn}
-use Rattle.mrp_peg.proofs.Lists.{All-weeks}
 use Rattle.mrp_item.specs.Plan.{HasParents, IsRanked, ItemPlan, Outcome, Planned, Over, Blocked, first_over, gross_in, is_planned, is_too_large, item_plan, outcome_of, plan_in, plan_of, plan_unless, receipts_of}
 use Rattle.mrp_item.proofs.Outcomes.{all-planned, outcome_of-unfolds}
-use Rattle.mrp_item.proofs.OrderWeeks.{due-within}
+use Rattle.mrp_item.proofs.OrderWeeks.{due-within, release-within}
 use Rattle.mrp_item.proofs.PlannedRows.{stepped}
 
 pub own : (s : Inputs) (i : ℕ) (code : ℕ → ℕ) (plan : ItemPlan) → IsRanked s code → outcome_of s i ≡ Planned plan → IsOwn s i
@@ -58,28 +54,6 @@ orders-own s i is = ap (λ (p : ItemPlan). p.orders) is.plan
 pub gross-own : (s : Inputs) (i : ℕ) → IsOwn s i → (plan_in (outcome_of s i)).gross ≡ own_gross s i
 gross-own s i is = ap (λ (p : ItemPlan). p.gross) is.plan
 
-release_at : (s : Inputs) (i : ℕ) (receipts : List ℕ) (w n : ℕ) → 1 ≤ w → w ≤ n → All (λ (o : Order). IsInRange 1 n o.release) (orders_due s i receipts w)
-release_at s i receipts w n low high =
-    All-append IsReleased (firm_orders s i w) (planned_order (item_at s i) w (in_week receipts (w - 1)) (in_week receipts w))
-    (All-map IsReleased (λ (r : MasterRow). order_of (item_at s i) Firm w r.quantity) (firm_rows s i w) (λ k d h. within (item_at s i).lead))
-    (by (nat_lt (in_week receipts (w - 1)) (in_week receipts w)))
-  where
-    IsReleased : Order → Type 0
-    IsReleased o = IsInRange 1 n o.release
-
-    within : (lead : ℕ) → IsInRange 1 n (max 1 (w - lead))
-    within lead = (omega arith, omega arith)
-
-    by : (b : Bool) → All IsReleased (cond b (order_of (item_at s i) Made w (in_week receipts w - in_week receipts (w - 1)) ∷ []) [])
-    by true zero d h = within (item_at s i).lead
-    by true (suc k) d h = absurd (omega (arith, h))
-    by false k d h = absurd (omega (arith, h))
-
--- each order of an item is released in a week of the horizon
-pub released : (s : Inputs) (i : ℕ) (receipts : List ℕ) → All (λ (o : Order). IsInRange 1 (horizon s) o.release) (orders_of s i receipts)
-released s i receipts =
-    All-weeks (λ (o : Order). IsInRange 1 (horizon s) o.release) (orders_due s i receipts) 1 (horizon s) (λ w low high. release_at s i receipts w (horizon s) low (omega (arith, high)))
-
 -- each order of any item of the plan is released in a week of the horizon
 pub all_released : (s : Inputs) (code : ℕ → ℕ) → IsRanked s code → (i : ℕ) → All (λ (o : Order). IsInRange 1 (horizon s) o.release) (plan_in (outcome_of s i)).orders
 all_released s code ranked i = by (outcome_of s i) refl
@@ -88,7 +62,7 @@ all_released s code ranked i = by (outcome_of s i) refl
     AreReleased os = All (λ (o : Order). IsInRange 1 (horizon s) o.release) os
 
     by : (o : Outcome) → outcome_of s i ≡ o → All (λ (o : Order). IsInRange 1 (horizon s) o.release) (plan_in o).orders
-    by (Planned plan) e k d h = subst AreReleased (sym (ap (λ o. (plan_in o).orders) (sym e) ∙ orders-own s i (own s i code plan ranked e))) (released s i (receipts_of s i (own_gross s i))) k d h
+    by (Planned plan) e k d h = subst AreReleased (sym (ap (λ o. (plan_in o).orders) (sym e) ∙ orders-own s i (own s i code plan ranked e))) (release-within s i (receipts_of s i (own_gross s i))) k d h
     by Over e k d h = absurd (omega (arith, h))
     by Blocked e k d h = absurd (omega (arith, h))
 

@@ -3,6 +3,7 @@ use Rattle.std.proofs.Common.{◌≡◌, ◌∙◌, ℕ, ◌+◌, ◌-◌, ◌�
 use Rattle.std.specs.Prelude.{nat_lt, map, filter, sum_by}
 use Rattle.std.proofs.lemmas.List.Sums.{sum_by-cons, sum_by-append}
 use Rattle.std.proofs.lemmas.Bool.{ltb-false}
+use Rattle.mrp_phase.proofs.KeptSums.{sum_by-kept}
 use Rattle.mrp_peg.specs.Units.{Amount, Span, Match, spans_from, spans, total, shared, left_over, is_positive, match_of, surplus_of, pairs, matches, is_for}
 
 -- the units that a requirement shares with a row of supplies
@@ -24,17 +25,6 @@ shared_column {A = A} supply n (a ∷ row) =
     ∙ omega (arith, shared_column supply (n + a.quantity) row, sum_by-cons (λ (x : Amount A). x.quantity) a row)
 
 -- a list's sum is its positive ones'
-abbrev pub sum_if : {X : Type 0} → (X → Bool) → (X → ℕ) → List X → ℕ
-sum_if test f xs = sum_by (λ x. cond (test x) (f x) 0) xs
-
-pub sum_by-filter : {X : Type 0} (test : X → Bool) (f : X → ℕ) (xs : List X) → sum_by f (filter test xs) ≡ sum_if test f xs
-sum_by-filter test f [] = refl
-sum_by-filter {X} test f (x ∷ xs) = by (test x) (sum_by-filter test f xs) ∙ sym (sum_by-cons (λ y. cond (test y) (f y) 0) x xs)
-  where
-    by : (b : Bool) → sum_by f (filter test xs) ≡ sum_if test f xs → sum_by f (cond b (x ∷ filter test xs) (filter test xs)) ≡ cond b (f x) 0 + sum_if test f xs
-    by true e = sum_by-cons f x (filter test xs) ∙ ap (λ n. f x + n) e
-    by false e = omega (arith, e)
-
 pub positive_ones : {A B : Type 0} (f : Match A B → ℕ) → ((m : Match A B) → m.quantity ≡ 0 → f m ≡ 0) → (ms : List (Match A B)) → sum_by f (filter is_positive ms) ≡ sum_by f ms
 positive_ones f none [] = refl
 positive_ones f none (m ∷ ms) = by (nat_lt 0 m.quantity) refl (positive_ones f none ms) ∙ sym (sum_by-cons f m ms)
@@ -94,6 +84,11 @@ pub sum_by-cond : {X : Type 0} (b : Bool) (f : X → ℕ) (xs : List X) → sum_
 sum_by-cond true f xs = refl
 sum_by-cond false f xs = sum_by-none xs
 
+-- nothing is nothing, whether it counts or not
+pub zero_cond : (b : Bool) (q : ℕ) → q ≡ 0 → cond b q 0 ≡ 0
+zero_cond true q e = e
+zero_cond false q e = refl
+
 -- the lengths of the spans that pass are the quantities that pass
 span_lengths : {A : Type 0} (test : A → Bool) (n : ℕ) (row : List (Amount A))
     → sum_by (λ s. cond (test s.of) (s.past - s.first) 0) (spans_from n row) ≡ sum_by (λ a. cond (test a.of) a.quantity 0) row
@@ -124,17 +119,13 @@ pub supplied : {A B : Type 0} (test : B → Bool) (needs : List (Amount A)) (sup
     → sum_by (λ m. m.quantity) (filter (λ m. test m.supply) (matches needs supplies)) ≡ sum_by (λ a. a.quantity) (filter (λ a. test a.of) supplies)
 supplied {A} {B} test needs supplies =
     let f : Match A B → ℕ = λ m. cond (test m.supply) m.quantity 0 in
-    sum_by-filter (λ (m : Match A B). test m.supply) (λ m. m.quantity) (matches needs supplies)
-    ∙ weights f (λ m e. by (test m.supply) m.quantity e) needs supplies
+    sum_by-kept (λ (m : Match A B). test m.supply) (λ m. m.quantity) (matches needs supplies)
+    ∙ weights f (λ m e. zero_cond (test m.supply) m.quantity e) needs supplies
     ∙ ap (λ n. n + sum_by (λ supply. f (surplus_of (total needs) supply)) (spans supplies)) (sum_by-swap (λ need supply. f (match_of need supply)) (spans needs) (spans supplies))
     ∙ sym (sum_by-add (λ supply. sum_by (λ need. f (match_of need supply)) (spans needs)) (λ supply. f (surplus_of (total needs) supply)) (spans supplies))
     ∙ sum_by-agree (λ supply. sum_by (λ need. f (match_of need supply)) (spans needs) + f (surplus_of (total needs) supply)) (λ supply. cond (test supply.of) (supply.past - supply.first) 0) (whole_supply test needs) (spans supplies)
     ∙ span_lengths test 0 supplies
-    ∙ sym (sum_by-filter (λ (a : Amount B). test a.of) (λ a. a.quantity) supplies)
-  where
-    by : (b : Bool) (q : ℕ) → q ≡ 0 → cond b q 0 ≡ 0
-    by true q e = e
-    by false q e = refl
+    ∙ sym (sum_by-kept (λ (a : Amount B). test a.of) (λ a. a.quantity) supplies)
 
 -- the matches of the requirements that pass have exactly their units that are supplied
 pub required : {A B : Type 0} (test : A → Bool) (needs : List (Amount A)) (supplies : List (Amount B))
@@ -142,17 +133,13 @@ pub required : {A B : Type 0} (test : A → Bool) (needs : List (Amount A)) (sup
     ≡ sum_by (λ n. min n.past (total supplies) - n.first) (filter (λ n. test n.of) (spans needs))
 required {A} {B} test needs supplies =
     let f : Match A B → ℕ = λ m. cond (is_for test m.need) m.quantity 0 in
-    sum_by-filter (λ (m : Match A B). is_for test m.need) (λ m. m.quantity) (matches needs supplies)
-    ∙ weights f (λ m e. by (is_for test m.need) m.quantity e) needs supplies
+    sum_by-kept (λ (m : Match A B). is_for test m.need) (λ m. m.quantity) (matches needs supplies)
+    ∙ weights f (λ m e. zero_cond (is_for test m.need) m.quantity e) needs supplies
     ∙ ap (λ n. sum_by (λ need. sum_by (λ supply. f (match_of need supply)) (spans supplies)) (spans needs) + n) (sum_by-none (spans supplies))
     ∙ plain (sum_by (λ need. sum_by (λ supply. f (match_of need supply)) (spans supplies)) (spans needs))
     ∙ sum_by-agree (λ need. sum_by (λ supply. f (match_of need supply)) (spans supplies)) (λ need. cond (test need.of) (min need.past (total supplies) - need.first) 0) one (spans needs)
-    ∙ sym (sum_by-filter (λ (n : Span A). test n.of) (λ n. min n.past (total supplies) - n.first) (spans needs))
+    ∙ sym (sum_by-kept (λ (n : Span A). test n.of) (λ n. min n.past (total supplies) - n.first) (spans needs))
   where
-    by : (b : Bool) (q : ℕ) → q ≡ 0 → cond b q 0 ≡ 0
-    by true q e = e
-    by false q e = refl
-
     plain : (n : ℕ) → n + 0 ≡ n
     plain n = omega arith
 
@@ -181,6 +168,6 @@ pub covered : {A B : Type 0} (test : A → Bool) (needs : List (Amount A)) (supp
     → sum_by (λ m. m.quantity) (filter (λ m. is_for test m.need) (matches needs supplies)) ≡ sum_by (λ a. a.quantity) (filter (λ a. test a.of) needs)
 covered {A} {B} test needs supplies enough =
     required test needs supplies
-    ∙ sum_by-filter (λ (n : Span A). test n.of) (λ n. min n.past (total supplies) - n.first) (spans needs)
+    ∙ sum_by-kept (λ (n : Span A). test n.of) (λ n. min n.past (total supplies) - n.first) (spans needs)
     ∙ supplied_units test (total supplies) 0 needs (omega arith)
-    ∙ sym (sum_by-filter (λ (a : Amount A). test a.of) (λ a. a.quantity) needs)
+    ∙ sym (sum_by-kept (λ (a : Amount A). test a.of) (λ a. a.quantity) needs)

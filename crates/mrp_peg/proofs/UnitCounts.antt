@@ -4,8 +4,9 @@ use Rattle.std.specs.Prelude.{nat_lt, ◌&&◌, filter, sum_by, count_by, replic
 use Rattle.std.specs.List.{range_with_len}
 use Rattle.std.proofs.lemmas.List.Sums.{sum_by-cons}
 use Rattle.std.proofs.lemmas.Bool.{ltb-true, ltb-false}
+use Rattle.mrp_phase.proofs.KeptSums.{sum_by-kept}
 use Rattle.mrp_peg.specs.Units.{Amount, Span, Match, spans_from, spans, total, shared, match_of, matches, is_for, units, serves}
-use Rattle.mrp_peg.proofs.Sums.{sum_by-filter, sum_by-add, sum_by-none, sum_by-agree, sum_by-cond, weights}
+use Rattle.mrp_peg.proofs.Sums.{sum_by-add, sum_by-none, sum_by-agree, sum_by-cond, weights, zero_cond}
 
 own_unit : {A : Type 0} (q k : ℕ) (x : A) (rest : List A) → k < q → slice_get (replicate q x ++ rest) k ≡ Some x
 own_unit zero k x rest within = absurd (omega arith)
@@ -20,10 +21,6 @@ later_unit (suc q) zero x rest past = absurd (omega arith)
 later_unit (suc q) (suc k) x rest past =
     let e : k - q ≡ suc k - suc q = omega arith in
     later_unit q k x rest (omega arith) ∙ ap (slice_get rest) e
-
-zero_cond : (b : Bool) (q : ℕ) → q ≡ 0 → cond b q 0 ≡ 0
-zero_cond true q e = e
-zero_cond false q e = refl
 
 -- the numbers from first on, without past, that a span has
 abbrev common : {B : Type 0} → ℕ → ℕ → Span B → ℕ
@@ -150,7 +147,7 @@ pub matched_units : {A B : Type 0} (test : A → Bool) (other : B → Bool) (nee
     → sum_by (λ m. m.quantity) (filter (λ m. is_for test m.need && other m.supply) (matches needs supplies)) ≡ count_by (serves test other (units needs) (units supplies)) (range_with_len 0 (total needs))
 matched_units {A} {B} test other needs supplies =
     let f : Match A B → ℕ = λ m. cond (is_for test m.need && other m.supply) m.quantity 0 in
-    sum_by-filter (λ (m : Match A B). is_for test m.need && other m.supply) (λ m. m.quantity) (matches needs supplies)
+    sum_by-kept (λ (m : Match A B). is_for test m.need && other m.supply) (λ m. m.quantity) (matches needs supplies)
     ∙ weights f (λ m e. zero_cond (is_for test m.need && other m.supply) m.quantity e) needs supplies
     ∙ ap (λ n. sum_by (λ need. sum_by (λ supply. f (match_of need supply)) (spans supplies)) (spans needs) + n) (sum_by-none (spans supplies))
     ∙ plain (sum_by (λ need. sum_by (λ supply. f (match_of need supply)) (spans supplies)) (spans needs))

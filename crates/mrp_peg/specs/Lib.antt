@@ -2,6 +2,7 @@ pub mod Units
 pub mod Matching
 pub mod Weekly
 pub mod Pegging
+pub mod Left
 pub mod Rows
 pub mod Own
 pub mod Causes

@@ -1,5 +1,5 @@
 -- What the program's rows of requirements and supplies are.
-use Rattle.std.specs.Prelude.{ℕ, List, map, drop, [], ◌∷◌}
+use Rattle.std.specs.Prelude.{ℕ, List, map}
 use Rattle.mrp_peg.specs.declared.peg.Need.{Need}
 use Rattle.mrp_item.specs.declared.supplies.Supplied.{Supplied}
 use Rattle.mrp_item.specs.declared.supplies.Supply.{Supply}
@@ -18,17 +18,6 @@ amount_offered x = record { of = x.source; quantity = x.quantity }
 
 abbrev pub amounts_offered : List Supply → List (Amount Supplied)
 amounts_offered supplies = map amount_offered supplies
-
--- the pieces of the first, and 0 if there is none
-abbrev pub first_quantity : {A : Type 0} → List (Amount A) → ℕ
-first_quantity [] = 0
-first_quantity (a ∷ row) = a.quantity
-
-abbrev pub wanted_from : List Wanted → ℕ → ℕ
-wanted_from needs place = first_quantity (amounts_wanted (drop place needs))
-
-abbrev pub offered_from : List Supply → ℕ → ℕ
-offered_from supplies place = first_quantity (amounts_offered (drop place supplies))
 
 -- a match of an item's requirements and supplies, as a peg
 abbrev pub peg_of : ℕ → Match Need Supplied → Peg

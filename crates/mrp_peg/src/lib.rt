@@ -4,16 +4,22 @@
 mod demand;
 pub mod laws;
 mod matching;
+mod needs_left;
+mod next_orders;
 mod ordering;
 mod parents;
+mod part;
 mod peg;
+mod peg_walk;
 mod pegging;
 mod sourcing;
+mod supplies_left;
 mod tracing;
 mod walking;
 
 pub use mrp_item::Supplied;
 pub use peg::{Cause, Need, NeedKind, Peg};
+pub use peg_walk::PegWalk;
 pub use pegging::{item_pegs, pegs};
 pub use sourcing::sources;
 pub use tracing::trace;

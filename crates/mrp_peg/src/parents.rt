@@ -1,47 +1,23 @@
 //! What the orders of parents ask of an item.
 
-ghost use Rattle.std.specs.Prelude.{◌≡◌, ◌≤◌, ◌<◌, ◌+◌, ◌*◌, ◌++◌, false, length, map, All, IfOk, OnOk};
+ghost use Rattle.std.specs.Prelude.{◌≡◌, ◌==◌, ◌≤◌, ◌<◌, ◌+◌, ◌*◌, ◌++◌, ℕ, true, false, filter, length, map, nat_lt, All, IfOk, IsTrue, OnOk};
+ghost use Rattle.std.specs.List.Sorted.{IsNonDecreasingBy, IsPartitionPoint};
 ghost use Rattle.mrp_qty.specs.Quantity.{greatest_quantity};
 ghost use Rattle.mrp_item.specs.Inputs.{count, horizon, is_master};
 ghost use Rattle.mrp_bill.specs.Bill.{line_at};
 ghost use Rattle.mrp_peg.specs.Own.{IsOwn};
-ghost use Rattle.mrp_peg.specs.Weekly.{AreWithin};
-ghost use Rattle.std.specs.List.{enumerate_from};
+ghost use Rattle.mrp_phase.specs.Weeks.{weeks};
+ghost use Rattle.mrp_peg.specs.Weekly.{AreWithin, by_weeks};
+ghost use Rattle.std.specs.List.{enumerate_from, slice_index_or};
 ghost use Rattle.mrp_peg.specs.Rows.{all_wanted, order_wanted, parents_wanted};
 
 use crate::matching::Wanted;
+use crate::next_orders::NextOrders;
 use crate::peg::{Need, NeedKind};
 use mrp_item::{Inputs, Order, Plan};
 use mrp_qty::NoMemory;
 use mrp_tables::BillLine;
 use std::alloc::Global;
-
-// Adds what each order of a parent asks by a bill line, of which so many pieces go into one.
-fn add_line(
-    needs: &mut Vec<Wanted>,
-    item: usize,
-    line: usize,
-    per: u64,
-    orders: &[Order],
-) -> Result<(), NoMemory>
-    requires { All (λ order. order.start * per ≤ greatest_quantity) orders.now }
-    ensures { OnOk result (needs.new.items ≡ needs.old.items ++ map (order_wanted item line per) (enumerate_from 1 orders.now)) }
-{
-    for (place, order) in orders.iter().enumerate() {
-        let kind = NeedKind::Parent {
-            line,
-            order: place + 1,
-        };
-        let need = Need {
-            item,
-            week: order.release,
-            kind,
-        };
-        let quantity = order.start.times(per).unwrap();
-        needs.push(Wanted { need, quantity })?;
-    }
-    Ok(())
-}
 
 // The line at a place of the bill table.
 pub fn line_of(bills: &[BillLine], place: usize) -> BillLine
@@ -51,22 +27,126 @@ pub fn line_of(bills: &[BillLine], place: usize) -> BillLine
     bills[place]
 }
 
-// What parents ask of an item that is no master item, by bill record and then by order.
+// Whether the orders in front of a place are released before a week.
+fn are_before(orders: &[Order], week: u16, place: usize) -> bool
+    requires rising { IsNonDecreasingBy (λ order. order.release) orders.now }
+    requires within { place ≤ length orders.now }
+    ensures { IsTrue result → (k : ℕ) (d : _) → k < place → nat_lt (slice_index_or orders.now k d).release week ≡ true }
+{
+    place == 0 || orders[place - 1].release < week
+}
+
+// Whether the orders from a place on are released in a week or later.
+fn are_behind(orders: &[Order], week: u16, place: usize) -> bool
+    requires { IsNonDecreasingBy (λ order. order.release) orders.now }
+    ensures { IsTrue result → (k : ℕ) (d : _) → place ≤ k → k < length orders.now → nat_lt (slice_index_or orders.now k d).release week ≡ false }
+{
+    place >= orders.len() || orders[place].release >= week
+}
+
+// Whether the orders that are released in a week or later begin at a place.
+fn begins_at(orders: &[Order], week: u16, place: usize) -> bool
+    requires { IsNonDecreasingBy (λ order. order.release) orders.now }
+    ensures within { IsTrue result → place ≤ length orders.now }
+    ensures begins { IsTrue result → IsPartitionPoint (λ order. nat_lt order.release week ≡ true) (λ order. nat_lt order.release week ≡ false) orders.now place }
+{
+    place <= orders.len() && are_before(orders, week, place) && are_behind(orders, week, place)
+}
+
+// Where the orders that are released in a week or later begin. They most likely do at a place that is looked at first.
+fn first_released(orders: &[Order], week: u16, likely: usize) -> usize
+    requires { IsNonDecreasingBy (λ order. order.release) orders.now }
+    ensures within { result ≤ length orders.now }
+    ensures begins { IsPartitionPoint (λ order. nat_lt order.release week ≡ true) (λ order. nat_lt order.release week ≡ false) orders.now result }
+{
+    if begins_at(orders, week, likely) {
+        return likely;
+    }
+    orders.partition_point(|order| order.release < week)
+}
+
+// What an order of a parent asks by a bill line, of which so many pieces go into one.
+fn asked_by(item: usize, line: usize, per: u64, number: usize, order: &Order) -> Wanted
+    requires { order.now.start * per ≤ greatest_quantity }
+    ensures { result ≡ order_wanted item line per (number, order.now) }
+{
+    let kind = NeedKind::Parent {
+        line,
+        order: number,
+    };
+    let need = Need {
+        item,
+        week: order.release,
+        kind,
+    };
+    let quantity = order.start.times(per).unwrap();
+    Wanted { need, quantity }
+}
+
+// Adds what the orders of a parent that are released in a week ask by a bill line, and tells the place behind them. A
+// place tells where to look for them first.
+fn add_released(
+    needs: &mut Vec<Wanted>,
+    item: usize,
+    line: usize,
+    per: u64,
+    orders: &[Order],
+    week: u16,
+    likely: usize,
+) -> Result<usize, NoMemory>
+    requires rising { IsNonDecreasingBy (λ order. order.release) orders.now }
+    requires small { All (λ order. order.start * per ≤ greatest_quantity) orders.now }
+    ensures { OnOk result (needs.new.items ≡ needs.old.items ++ filter (λ wanted. wanted.need.week == week) (map (order_wanted item line per) (enumerate_from 1 orders.now))) }
+{
+    let mut place = first_released(orders, week, likely);
+    while place < orders.len() && orders[place].release == week {
+        needs.push(asked_by(item, line, per, place + 1, &orders[place]))?;
+        place += 1;
+    }
+    Ok(place)
+}
+
+// Adds what parents ask in a week of an item that is no master item, by bill record and then by
+// order. Weeks that are asked for in turn are found the faster.
+pub fn asked_in(
+    plan: &Plan,
+    item: usize,
+    week: u16,
+    next: &mut NextOrders,
+    needs: &mut Vec<Wanted>,
+) -> Result<(), NoMemory>
+    requires item { item < count plan.now.inputs }
+    requires part { is_master plan.now.inputs item ≡ false }
+    requires own { IsOwn plan.now.inputs item }
+    requires within { AreWithin (λ wanted. wanted.need.week) 1 (horizon plan.now.inputs) (all_wanted plan.now.inputs item) }
+    ensures { OnOk result (needs.new.items ≡ needs.old.items ++ filter (λ wanted. wanted.need.week == week) (parents_wanted plan.now.inputs item)) }
+{
+    let inputs: &Inputs = plan.inputs();
+    let shop = inputs.shop();
+    let bills = shop.tables().bills();
+    for (at, place) in shop.lines_to(item).iter().enumerate() {
+        let line = line_of(bills, *place);
+        let orders = plan.orders(line.parent);
+        let likely = next.place(at);
+        let behind = add_released(needs, item, *place + 1, line.per, orders, week, likely)?;
+        next.set(at, behind);
+    }
+    Ok(())
+}
+
+// What parents ask of an item that is no master item, week by week.
 pub fn parents_of(alloc: Global, plan: &Plan, item: usize) -> Result<Vec<Wanted>, NoMemory>
     requires item { item < count plan.now.inputs }
     requires part { is_master plan.now.inputs item ≡ false }
     requires own { IsOwn plan.now.inputs item }
     requires within { AreWithin (λ wanted. wanted.need.week) 1 (horizon plan.now.inputs) (all_wanted plan.now.inputs item) }
-    ensures { IfOk result (λ needs. needs.items ≡ parents_wanted plan.now.inputs item) }
+    ensures { IfOk result (λ needs. needs.items ≡ by_weeks (λ wanted. wanted.need.week) (weeks (horizon plan.now.inputs)) (parents_wanted plan.now.inputs item)) }
 {
     let inputs: &Inputs = plan.inputs();
-    let shop = inputs.shop();
-    let bills = shop.tables().bills();
+    let mut next = NextOrders::of(alloc, inputs.shop().lines_to(item).len())?;
     let mut needs = Vec::new(alloc);
-    for place in shop.lines_to(item) {
-        let line = line_of(bills, *place);
-        let orders = plan.orders(line.parent);
-        add_line(&mut needs, item, *place + 1, line.per, orders)?;
+    for place in 0..inputs.weeks() {
+        asked_in(plan, item, place + 1, &mut next, &mut needs)?;
     }
     Ok(needs)
 }

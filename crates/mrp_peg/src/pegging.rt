@@ -6,22 +6,24 @@ ghost use Rattle.mrp_item.specs.Limits.{IsSized};
 ghost use Rattle.mrp_peg.specs.Laws.{AddUpToRequirements, AddUpToSupplies};
 ghost use Rattle.mrp_peg.specs.Units.{total};
 ghost use Rattle.mrp_peg.specs.Own.{IsOwn};
-ghost use Rattle.mrp_peg.specs.Weekly.{AreWithin};
+ghost use Rattle.mrp_phase.specs.Weeks.{weeks};
+ghost use Rattle.mrp_peg.specs.Weekly.{AreWithin, by_weeks};
 ghost use Rattle.mrp_peg.specs.Matching.{amounts_wanted};
 ghost use Rattle.mrp_peg.specs.Pegging.{pegs_for, pegs_of, plan_pegs, requirements, supplies};
 ghost use Rattle.mrp_peg.specs.Rows.{all_wanted};
 
 use crate::demand::demand_of;
-use crate::matching::{Wanted, matched};
+use crate::matching::Wanted;
 use crate::ordering::sort_needs;
 use crate::parents::parents_of;
 use crate::peg::Peg;
+use crate::peg_walk::PegWalk;
 use mrp_item::{Inputs, Plan};
 use mrp_qty::NoMemory;
 use std::alloc::Global;
 
 // Whether the master schedule plans an item.
-fn is_master_item(inputs: &Inputs, item: usize) -> bool
+pub fn is_master_item(inputs: &Inputs, item: usize) -> bool
     requires { item < count inputs.now }
     ensures class { result ≡ is_master inputs.now item }
     ensures sized { IsSized (item_at inputs.now item).lot }
@@ -29,27 +31,28 @@ fn is_master_item(inputs: &Inputs, item: usize) -> bool
     inputs.entry(item).class.is_master()
 }
 
-// The requirements of an item, in no order of weeks.
+// The requirements of an item as rows in order of weeks.
 fn listed_needs(alloc: Global, plan: &Plan, item: usize) -> Result<Vec<Wanted>, NoMemory>
     requires item { item < count plan.now.inputs }
     requires own { IsOwn plan.now.inputs item }
     requires within { AreWithin (λ wanted. wanted.need.week) 1 (horizon plan.now.inputs) (all_wanted plan.now.inputs item) }
-    ensures needs { IfOk result (λ needs. needs.items ≡ all_wanted plan.now.inputs item) }
+    ensures needs { IfOk result (λ needs. needs.items ≡ by_weeks (λ wanted. wanted.need.week) (weeks (horizon plan.now.inputs)) (all_wanted plan.now.inputs item)) }
     ensures sized { IsSized (item_at plan.now.inputs item).lot }
 {
     let inputs: &Inputs = plan.inputs();
     if is_master_item(inputs, item) {
         let demand = plan.item(item).gross();
-        demand_of(
+        let mut needs = demand_of(
             alloc,
             item,
             inputs.weeks(),
             demand.as_slice(),
             inputs.bookings(item),
-        )
-    } else {
-        parents_of(alloc, plan, item)
+        )?;
+        sort_needs(&mut needs)?;
+        return Ok(needs);
     }
+    parents_of(alloc, plan, item)
 }
 
 // The requirements of an item, in order. The item's supplies cover them.
@@ -62,9 +65,7 @@ pub fn needs_of(alloc: Global, plan: &Plan, item: usize) -> Result<Vec<Wanted>, 
     // Codes rank the items, and what is booked is due in weeks of the horizon.
     let _ranked = inputs.shop();
     let _booked = inputs.snapshot();
-    let mut needs = listed_needs(alloc, plan, item)?;
-    sort_needs(&mut needs)?;
-    Ok(needs)
+    listed_needs(alloc, plan, item)
 }
 
 /// The pegs of an item, by its place, in order of requirement and supply, surplus last (Orlicky:
@@ -79,9 +80,12 @@ pub fn item_pegs(alloc: Global, plan: &Plan, item: usize) -> Result<Vec<Peg>, No
     ensures requirements { IfOk result (λ pegs. AddUpToRequirements plan.now.inputs item pegs.items) }
     ensures supplies { IfOk result (λ pegs. AddUpToSupplies plan.now.inputs item pegs.items) }
 {
-    let needs = needs_of(alloc, plan, item)?;
-    let supplies = plan.item(item).supplies(alloc)?;
-    matched(alloc, item, &needs, &supplies)
+    let mut walk = PegWalk::of(alloc, plan, item)?;
+    let mut pegs = Vec::new(alloc);
+    while let Some(peg) = walk.next()? {
+        pegs.push(peg)?;
+    }
+    Ok(pegs)
 }
 
 /// The pegs of all items, in table order. The pegs of each requirement add up to it, and those of

@@ -1,1 +1,2 @@
+pub mod KeptSums
 pub mod WeekRows

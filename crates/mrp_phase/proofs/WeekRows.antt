@@ -1,7 +1,8 @@
 -- Rows that grow by a week.
-use Rattle.std.proofs.Common.{◌≡◌, ◌∙◌, ℕ, zero, suc, ◌+◌, ◌<◌, ◌≤◌, max, List, [], ◌∷◌, ◌++◌, refl, ap, sym, arith, take, length, get_or, set, take_all, ◌-◌, ◌≢◌, get_or-set_same, get_or-set_other, length-set, ext_get_or, Bool, true, false, eqb, add-one}
-use Rattle.std.specs.Prelude.{sum, map, fold, replicate}
+use Rattle.std.proofs.Common.{◌≡◌, ◌∙◌, ℕ, zero, suc, ◌+◌, ◌<◌, ◌≤◌, max, List, [], ◌∷◌, ◌++◌, refl, ap, sym, arith, take, length, get_or, set, take_all, ◌-◌, ◌≢◌, get_or-set_same, get_or-set_other, length-set, ext_get_or, Bool, true, false, eqb, add-one, append-nil}
+use Rattle.std.specs.Prelude.{flat_map, sum, map, fold, replicate}
 use Rattle.std.specs.List.{range_with_len}
+use Rattle.std.proofs.lemmas.List.Concat.{flat_map-append}
 use Rattle.std.proofs.lemmas.List.FromFn.{map-range_with_len_more, get_or-map-range_with_len, length-map-range_with_len}
 use Rattle.std.proofs.lemmas.List.Sums.{fold_push, sum_by-cons}
 use Rattle.std.proofs.lemmas.Bool.{eqb-true, eqb-false}
@@ -14,6 +15,14 @@ row_none f = refl
 pub row_more : {V : Type 0} (f : ℕ → V) (n : ℕ) → row (n + 1) f ≡ row n f ++ f (n + 1) ∷ []
 unfolding row
 row_more f n = map-range_with_len_more f 1 n (n + 1) (omega arith)
+
+-- rows that agree in each week are one
+pub row_same : {V : Type 0} (f g : ℕ → V) (n : ℕ) → ((t : ℕ) → 0 < t → t ≤ n → f t ≡ g t) → row n f ≡ row n g
+row_same f g zero same = row_none f ∙ sym (row_none g)
+row_same {V} f g (suc n) same =
+    let next : suc n ≡ n + 1 = omega arith in
+    rw next (row_more f n ∙ ap (λ (xs : List V). xs ++ f (n + 1) ∷ []) (row_same f g n (λ t a b. same t a (omega arith)))
+    ∙ ap (λ (v : V). row n g ++ v ∷ []) (same (n + 1) (omega arith) (omega arith)) ∙ sym (row_more g n))
 
 pub length-row : {V : Type 0} (f : ℕ → V) (n : ℕ) → length (row n f) ≡ n
 unfolding row
@@ -81,6 +90,13 @@ weeks_more horizon =
     let next : 1 + horizon ≡ suc horizon = omega arith in
     range_more 1 horizon ∙ ap (λ (week : ℕ). weeks horizon ++ week ∷ []) next
 
+-- what is listed week by week, of one more week
+pub flat_map-weeks_suc : {Y : Type 0} (f : ℕ → List Y) (n : ℕ) → flat_map f (weeks (suc n)) ≡ flat_map f (weeks n) ++ f (suc n)
+flat_map-weeks_suc {Y} f n = ap (flat_map f) (weeks_more n) ∙ flat_map-append f (weeks n) (suc n ∷ []) ∙ ap (λ (ys : List Y). flat_map f (weeks n) ++ ys) (append-nil (f (suc n)))
+
+pub flat_map-weeks_next : {Y : Type 0} (f : ℕ → List Y) (n : ℕ) → flat_map f (weeks (n + 1)) ≡ flat_map f (weeks n) ++ f (n + 1)
+flat_map-weeks_next f n = rw (add-one n) (flat_map-weeks_suc f n)
+
 pub sum_to_suc : (xs : List ℕ) (t : ℕ) → sum_to xs (suc t) ≡ sum_to xs t + in_week xs (suc t)
 sum_to_suc xs t = ap (sum_to xs) (sym (add-one t)) ∙ sum_to_next xs t ∙ ap (λ n. sum_to xs t + in_week xs n) (add-one t)
 
@@ -119,12 +135,6 @@ greatest_rises f s t h =
 pub greatest_above : (f : ℕ → ℕ) (t : ℕ) → 0 < t → f t ≤ greatest_to f t
 greatest_above f zero a = absurd (omega arith)
 greatest_above f (suc t) a = omega (arith, greatest_suc f t)
-
--- it is at most what all are at most
-pub greatest_within : (f : ℕ → ℕ) (bound t : ℕ) → ((s : ℕ) → 0 < s → s ≤ t → f s ≤ bound) → greatest_to f t ≤ bound
-greatest_within f bound zero each = omega (arith, greatest_none f)
-greatest_within f bound (suc t) each =
-    omega (arith, greatest_suc f t, each (suc t) (omega arith) (omega arith), greatest_within f bound t (λ s a b. each s a (omega arith)))
 
 -- a row of equal quantities
 pub in_week_replicate : (n t : ℕ) → in_week (replicate n 0) t ≡ 0
@@ -168,9 +178,6 @@ pub row_is : (xs : List ℕ) (f : ℕ → ℕ) (n : ℕ) → length xs ≡ n →
 row_is xs f n e each =
     ext_get_or 0 xs (row n f) (e ∙ sym (length-row f n))
     (λ i h. sym (in_week_next xs i) ∙ each (i + 1) (omega arith) (omega arith) ∙ sym (in_week_row f n (i + 1) (omega arith) (omega arith)) ∙ in_week_next (row n f) i)
-
-pub row_same : (f g : ℕ → ℕ) (n : ℕ) → ((t : ℕ) → 0 < t → t ≤ n → f t ≡ g t) → row n f ≡ row n g
-row_same f g n each = row_is (row n f) g n (length-row f n) (λ t a b. in_week_row f n t a b ∙ each t a b)
 
 -- no week of a row has more than the row adds up to
 pub sum-row_above : (f : ℕ → ℕ) (n t : ℕ) → 0 < t → t ≤ n → f t ≤ sum (row n f)

@@ -1,10 +1,11 @@
 -- Quantities: whole pieces, up to a greatest one (profile).
 use Rattle.std.specs.Prelude.{ℕ, ◌*◌, ◌-◌, if◌then◌else◌, nat_le, Option, Some, None}
 use Rattle.std.specs.Int.{div_ceil}
+use Rattle.mrp_qty.specs.declared.quantity.TheConstants.{GREATEST_QUANTITY}
 
 -- the greatest quantity, in pieces
 abbrev pub greatest_quantity : ℕ
-greatest_quantity = 1000000000000000
+greatest_quantity = GREATEST_QUANTITY
 
 -- a number as a quantity, where it is one
 abbrev pub quantity_of : ℕ → Option ℕ

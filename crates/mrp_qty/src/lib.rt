@@ -10,4 +10,4 @@ mod quantity;
 pub use memory::NoMemory;
 pub use minutes::{Milli, minutes_text};
 pub use number::{NumberFault, number_text, read_number};
-pub use quantity::{MOST_SCRAP, Qty};
+pub use quantity::{GREATEST_QUANTITY, MOST_SCRAP, Qty};

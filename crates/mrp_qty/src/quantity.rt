@@ -8,9 +8,10 @@ use std::marker::Model;
 /// The most scrap in a thousand.
 pub const MOST_SCRAP: u64 = 900;
 
-const GREATEST: u64 = 1_000_000_000_000_000;
+/// The greatest quantity, in pieces (profile).
+pub const GREATEST_QUANTITY: u64 = 1_000_000_000_000_000;
 
-/// A quantity in whole pieces, from 0 to 10^15 (profile).
+/// A quantity in whole pieces, from 0 to `GREATEST_QUANTITY`.
 #[derive(Clone, Copy, Debug, PartialEq, Eq, PartialOrd, Ord)]
 pub struct Qty {
     pieces: u64,
@@ -30,11 +31,11 @@ impl Model for Qty {
 }
 
 impl Qty {
-    /// A number of pieces as a quantity; None past 10^15.
+    /// A number of pieces as a quantity; None past `GREATEST_QUANTITY`.
     pub fn new(pieces: u64) -> Option<Qty>
         ensures { result ≡ quantity_of pieces }
     {
-        if pieces <= GREATEST {
+        if pieces <= GREATEST_QUANTITY {
             Some(Qty { pieces })
         } else {
             None
@@ -49,14 +50,14 @@ impl Qty {
         self.pieces
     }
 
-    /// The sum; None past 10^15.
+    /// The sum; None past `GREATEST_QUANTITY`.
     pub fn add(self, other: Qty) -> Option<Qty>
         ensures { result ≡ quantity_of (self + other) }
     {
         Qty::new(self.value() + other.value())
     }
 
-    /// This quantity for each of `per` pieces; None past 10^15.
+    /// This quantity for each of `per` pieces; None past `GREATEST_QUANTITY`.
     pub fn times(self, per: u64) -> Option<Qty>
         ensures { result ≡ quantity_of (self * per) }
     {
@@ -65,7 +66,7 @@ impl Qty {
     }
 
     /// What has to start so that this quantity is left after a scrap of so many per thousand, at
-    /// most `MOST_SCRAP` (Orlicky: scrap allowance; profile: rounded up); None past 10^15.
+    /// most `MOST_SCRAP` (Orlicky: scrap allowance; profile: rounded up); None past `GREATEST_QUANTITY`.
     pub fn start_for(self, scrap: u64) -> Option<Qty>
         requires { scrap ≤ MOST_SCRAP }
         ensures { result ≡ quantity_of (start_of scrap self) }
@@ -74,7 +75,7 @@ impl Qty {
     }
 
     /// The least multiple of a size, at least 1, that is no less than this quantity (Orlicky: fixed
-    /// order quantity; profile for several at once); None past 10^15.
+    /// order quantity; profile for several at once); None past `GREATEST_QUANTITY`.
     pub fn up_to_multiple(self, size: u64) -> Option<Qty>
         requires { 0 < size }
         ensures { result ≡ quantity_of (multiple_of size self) }

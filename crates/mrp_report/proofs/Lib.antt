@@ -15,6 +15,7 @@ pub mod HistoryTexts
 pub mod SectionTexts
 pub mod ChunkTexts
 pub mod PlacesWritten
+pub mod PegsWritten
 pub mod PromiseSums
 pub mod PromiseBookings
 pub mod PromiseSheets

@@ -1,17 +1,16 @@
 -- The rows of a planned item are those of its sheet.
-use Rattle.std.proofs.Common.{◌≡◌, ◌∙◌, ℕ, zero, suc, ◌+◌, ◌-◌, ◌<◌, ◌≤◌, Bool, true, false, List, [], ◌∷◌, ◌++◌, length, get_or, sym, ap, arith}
+use Rattle.std.proofs.Common.{◌≡◌, ◌∙◌, ℕ, ◌+◌, ◌-◌, ◌<◌, ◌≤◌, List, length, get_or, sym, ap, arith}
 use Rattle.std.proofs.lemmas.List.{get_or_default}
 use Rattle.std.specs.Prelude.{if◌then◌else◌}
-use Rattle.std.specs.List.{flat_map, list_all}
+use Rattle.std.specs.List.{flat_map}
 use Rattle.mrp_phase.specs.Weeks.{row, in_week, sum_to}
-use Rattle.mrp_phase.proofs.WeekRows.{row_none, row_more, in_week_row, length-row}
-use Rattle.mrp_bill.specs.Bill.{parents_of}
+use Rattle.mrp_phase.proofs.WeekRows.{row_same, in_week_row, length-row}
 use Rattle.mrp_item.specs.Inputs.{Inputs, count, horizon, is_master, item_at}
 use Rattle.mrp_item.specs.Rows.{on_hand, scheduled_in}
 use Rattle.mrp_item.specs.Orders.{started_in}
+use Rattle.mrp_item.specs.Plan.{ItemPlan, Planned, outcome_of}
+use Rattle.mrp_item.proofs.PlannedRows.{planned_rows, step_of}
 use Rattle.mrp_tables.specs.declared.item.Item.{Item}
-use Rattle.mrp_item.specs.Recursion.{value_to}
-use Rattle.mrp_item.specs.Plan.{Outcome, Planned, Over, Blocked, ItemPlan, plan_in, is_planned, is_too_large, judged, item_plan, gross_in, outcome_of, outcome_step}
 use Rattle.mrp_report.specs.declared.plan.PlanRow.{PlanRow}
 use Rattle.mrp_report.specs.declared.sheet.Sheet.{Sheet}
 use Rattle.mrp_report.specs.PlanRows.{plan_row}
@@ -19,41 +18,8 @@ use Rattle.mrp_report.specs.PlanText.{week_text}
 use Rattle.mrp_report.specs.ReportText.{item_text}
 use Rattle.mrp_report.specs.Sheet.{IsSheet, sheet_row}
 
--- a plan that is not too large is the one that was judged
-judged-plan : (b : Bool) (p plan : ItemPlan) → (if b then Over else Planned p) ≡ Planned plan → p ≡ plan
-judged-plan true p plan e = absurd (cc)
-judged-plan false p plan e = ap plan_in e
-
-stepped-plan : (b : Bool) (s : Inputs) (i : ℕ) (p plan : ItemPlan) → (if b then judged s i p else Blocked) ≡ Planned plan → p ≡ plan
-stepped-plan true s i p plan e = judged-plan (is_too_large s i p) p plan e
-stepped-plan false s i p plan e = absurd (cc)
-
--- a planned item's plan is made of its gross requirements, week by week
-pub planned-plan : (s : Inputs) (i : ℕ) (plan : ItemPlan) → outcome_of s i ≡ Planned plan
-    → (gross : ℕ → ℕ) × (plan ≡ item_plan s i (row (horizon s) gross))
-planned-plan s i plan e =
-    let above : ℕ → Outcome = value_to (outcome_step s) Blocked (count s) in
-    let gross : ℕ → ℕ = gross_in s i above in
-    let e' : outcome_step s i above ≡ Planned plan = unfold outcome_of in unfold value_to in e in
-    (gross, sym (stepped-plan (list_all (λ p. is_planned (above p)) (parents_of s.tables.bills (count s) i)) s i (item_plan s i (row (horizon s) gross)) plan e'))
-
-pub planned-gross : (s : Inputs) (i : ℕ) (plan : ItemPlan) → outcome_of s i ≡ Planned plan → length plan.gross ≡ horizon s
-planned-gross s i plan e =
-    let (gross, same) = planned-plan s i plan e in
-    ap (λ (p : ItemPlan). length p.gross) same ∙ length-row gross (horizon s)
-
-pub planned-receipts : (s : Inputs) (i : ℕ) (plan : ItemPlan) → outcome_of s i ≡ Planned plan → length plan.receipts ≡ horizon s
-planned-receipts s i plan e =
-    let (gross, same) = planned-plan s i plan e in
-    ap (λ (p : ItemPlan). length p.receipts) same ∙ length-row _ (horizon s)
-
--- rows that agree in each week are one
-pub row_same : {V : Type 0} (f g : ℕ → V) (n : ℕ) → ((t : ℕ) → 0 < t → t ≤ n → f t ≡ g t) → row n f ≡ row n g
-row_same f g zero same = row_none f ∙ sym (row_none g)
-row_same {V} f g (suc n) same =
-    let next : suc n ≡ n + 1 = omega arith in
-    rw next (row_more f n ∙ ap (λ (xs : List V). xs ++ f (n + 1) ∷ []) (row_same f g n (λ t a b. same t a (omega arith)))
-    ∙ ap (λ (v : V). row n g ++ v ∷ []) (same (n + 1) (omega arith) (omega arith)) ∙ sym (row_more g n))
+planned-receipts : (s : Inputs) (i : ℕ) (plan : ItemPlan) → outcome_of s i ≡ Planned plan → length plan.receipts ≡ horizon s
+planned-receipts s i plan e = ap (λ (p : ItemPlan). length p.receipts) (sym (step_of s i plan e).same) ∙ length-row _ (horizon s)
 
 -- a sheet that has what the plan has
 pub record IsSheetOf (sheet : Sheet) (s : Inputs) (i : ℕ) (plan : ItemPlan) : Type 0 where
@@ -68,7 +34,7 @@ pub record IsSheetOf (sheet : Sheet) (s : Inputs) (i : ℕ) (plan : ItemPlan) : 
 pub is-sheet : (sheet : Sheet) (s : Inputs) (i : ℕ) (plan : ItemPlan) → IsSheetOf sheet s i plan → outcome_of s i ≡ Planned plan → horizon s ≤ 104 → IsSheet sheet
 is-sheet sheet s i plan same e few = record {
   few = omega (arith, same.weeks_are, few);
-  gross = ap (length {A = ℕ}) same.gross_is ∙ planned-gross s i plan e ∙ sym same.weeks_are;
+  gross = ap (length {A = ℕ}) same.gross_is ∙ (planned_rows s i plan e).weeks ∙ sym same.weeks_are;
   scheduled = ap (length {A = ℕ}) same.scheduled_is ∙ length-row (scheduled_in s i) (horizon s) ∙ sym same.weeks_are;
   received = ap (length {A = ℕ}) same.received_is ∙ planned-receipts s i plan e ∙ sym same.weeks_are;
   started = ap (length {A = ℕ}) same.started_is ∙ length-row (started_in plan.orders) (horizon s) ∙ sym same.weeks_are;

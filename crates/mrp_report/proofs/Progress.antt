@@ -2,7 +2,7 @@
 use Rattle.std.proofs.Common.{◌≡◌, ◌∙◌, ℕ, ◌+◌, ◌-◌, ◌≤◌, List, [], ◌++◌, take, length, Option, Some, None, sym, ap, subst, inl, inr, refl, arith, append_assoc}
 use Rattle.std.proofs.Math.Seq.{take-append_seam, take-append-add}
 use Rattle.std.proofs.lemmas.List.{append-nil, take-append-le, length-append}
-use Rattle.std.specs.Prelude.{Result, Ok, Err, OnOk, OnErr}
+use Rattle.std.specs.Prelude.{Result, Ok, Err, OnErr}
 use Rattle.std.specs.Io.KnownBytes.{Appends}
 use Rattle.mrp_rows.specs.declared.told.Told.{Told}
 use Rattle.mrp_rows.specs.Told.{inner_of, failures_of, interrupted_of, HasRisenBy}
@@ -167,15 +167,7 @@ written-whole {W} contents start now then tries fewer page text w less p = (
       (taken-both contents start now then w.passed page (1000000 - tries) (tries - fewer) w.taken p),
 )
 
--- what holds holds at an error, and what follows follows there
+-- what holds holds at an error
 pub on-err : {T E P : Type 0} (r : Result T E) → P → OnErr r P
 on-err (Ok x) p = tt
 on-err (Err e) p = p
-
-pub on-err-then : {T E P Q : Type 0} (r : Result T E) → (P → Q) → OnErr r P → OnErr r Q
-on-err-then (Ok x) f p = tt
-on-err-then (Err e) f p = f p
-
-pub on-ok-then : {T E P Q : Type 0} (r : Result T E) → (P → Q) → OnOk r P → OnOk r Q
-on-ok-then (Ok x) f p = f p
-on-ok-then (Err e) f p = tt

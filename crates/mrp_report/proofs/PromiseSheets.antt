@@ -3,7 +3,7 @@ use Rattle.std.proofs.Common.{◌≡◌, ◌∙◌, ℕ, ◌-◌, ◌≤◌, ◌
 use Rattle.std.specs.Prelude.{IsTrue, if◌then◌else◌, sum_by}
 use Rattle.std.specs.List.{flat_map}
 use Rattle.mrp_phase.specs.Weeks.{in_week, row}
-use Rattle.mrp_phase.proofs.WeekRows.{in_week_row, length-row}
+use Rattle.mrp_phase.proofs.WeekRows.{in_week_row, length-row, row_same}
 use Rattle.mrp_master.specs.Supply.{IsSupply, least_from, supply_of, uncommitted}
 use Rattle.mrp_master.specs.AtpRow.{AtpRow, IsAtpRow, bucket, buckets_to, due_in, opening}
 use Rattle.mrp_master.proofs.ItemRows.{booked_to, firm_from_first, is_row, supplied_to}
@@ -18,7 +18,6 @@ use Rattle.mrp_report.specs.PromiseRows.{available, promise_row, promises_of}
 use Rattle.mrp_report.specs.PromiseSheet.{IsPromiseSheet, sheet_promise}
 use Rattle.mrp_report.specs.PromiseText.{promise_text}
 use Rattle.mrp_report.specs.ReportText.{promised_text}
-use Rattle.mrp_report.proofs.PlanSheets.{row_same}
 use Rattle.mrp_report.proofs.PromiseSums.{available-left, least-from-same, uncommitted_in}
 use Rattle.mrp_report.proofs.PromiseBookings.{booked-is, is-master}
 

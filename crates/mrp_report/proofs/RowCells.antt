@@ -1,6 +1,5 @@
 -- A row, as its cells are added.
-use Rattle.std.proofs.Common.{◌≡◌, ◌∙◌, ℕ, ◌+◌, ◌<◌, ◌≤◌, List, [], ◌∷◌, ◌++◌, length, take, get_or, map, Bor, Result, Ok, Err, refl, sym, ap, arith, append_assoc, length-take-le}
-use Rattle.std.specs.Prelude.{OnOk}
+use Rattle.std.proofs.Common.{◌≡◌, ◌∙◌, ℕ, ◌+◌, ◌<◌, ◌≤◌, List, [], ◌∷◌, ◌++◌, length, take, get_or, map, Bor, refl, sym, ap, arith, append_assoc, length-take-le}
 use Rattle.std.proofs.lemmas.List.{append-nil, get_or-map, length-map, take_all, take_more}
 use Rattle.csv.proofs.WriteFacts.{fields-snoc}
 use Rattle.csv.specs.Writing.{default_writer, fields_text, is_blank, row_body}
@@ -58,7 +57,3 @@ added_end page now next bs k all two begun adds =
     adds ∙ ap (λ (t : List ℕ). t ++ 10 ∷ []) (begun ∙ ap (λ (xs : List (List ℕ)). page ++ body xs) (take_all k (texts bs) (omega arith)))
     ∙ append_assoc page (body (texts bs)) (10 ∷ [])
     ∙ ap (λ (t : List ℕ). page ++ t) (body_whole (texts bs) (omega arith))
-
-pub on_ok : {T E P Q : Type 0} (r : Result T E) → OnOk r P → (P → Q) → OnOk r Q
-on_ok (Ok x) h f = f h
-on_ok (Err e) h f = tt

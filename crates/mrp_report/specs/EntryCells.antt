@@ -2,11 +2,11 @@
 use Rattle.std.specs.Prelude.{ℕ, List, [], ◌∷◌}
 use Rattle.mrp_report.specs.declared.history.Called.{Called}
 use Rattle.mrp_report.specs.declared.history.Replied.{Replied}
-use Rattle.mrp_report.specs.Cells.{number_cell}
+use Rattle.mrp_report.specs.CellOf.{cell_of}
 use Rattle.mrp_report.specs.WordText.{word_text}
 
 abbrev pub called_cells : Called → List (List ℕ)
-called_cells c = word_text c.word ∷ c.item.now ∷ number_cell c.week ∷ number_cell c.quantity ∷ number_cell c.number ∷ []
+called_cells c = word_text c.word ∷ cell_of c.item ∷ cell_of c.week ∷ cell_of c.quantity ∷ cell_of c.number ∷ []
 
 abbrev pub replied_cells : Replied → List (List ℕ)
-replied_cells r = word_text r.word ∷ number_cell r.value ∷ []
+replied_cells r = word_text r.word ∷ cell_of r.value ∷ []

@@ -2,7 +2,7 @@ pub mod Section
 pub mod Cells
 pub mod ReceiptNames
 pub mod SourceText
-pub mod Which
+pub mod CellOf
 pub mod RunText
 pub mod PromiseText
 pub mod PromiseRows
@@ -11,6 +11,7 @@ pub mod PlanText
 pub mod OrderText
 pub mod PegText
 pub mod PegCells
+pub mod PegRows
 pub mod MessageText
 pub mod LoadText
 pub mod LoadRows

@@ -24,9 +24,9 @@ impl Chunks<'_> {
         from.saturating_add(places).min(self.count())
     }
 
-    // Whether there is more than one.
+    // Whether there is more than one, and a page has room for each.
     pub(crate) fn are_many(&self) -> bool {
-        self.size < self.count()
+        self.fits && self.size < self.count()
     }
 
     // How many chunks there are from a place on. Each has some places.

@@ -1,14 +1,13 @@
 //! The section `history`: what the order book was asked, and what it replied.
 
-ghost use Rattle.std.specs.Prelude.{◌≡◌, ◌++◌, [], ◌∷◌, Err, None, OnOk, OnErr, decimal};
+ghost use Rattle.std.specs.Prelude.{◌≡◌, ◌++◌, ◌∷◌, Err, OnOk, OnErr, decimal};
 ghost use Rattle.mrp_master.specs.Supply.{supply_of};
 ghost use Rattle.mrp_report.specs.HistoryText.{call_cells, entry_text, history_head, history_text, reply_cells};
 ghost use Rattle.mrp_report.specs.EntryCells.{called_cells, replied_cells};
 ghost use Rattle.mrp_report.specs.Section.{row};
 ghost use Rattle.mrp_report.specs.Written.{HasGivenUp, HasGoneOn, HasTakenFront, HasTakenWhole};
 
-use crate::cells::{put_first_number, put_some};
-use crate::csv_name::CsvName;
+use crate::cells::{Cell, put_first_number};
 use crate::fault::ReportFault;
 use crate::line::Line;
 use crate::number::put_number;
@@ -42,36 +41,34 @@ fn history_section(page: &mut Page) -> Result<(), NoMemory>
     page.section(b"[history]", &header)
 }
 
-// What a row has of a call. An absent number is an empty cell.
+// What a row has of a call.
 #[derive(Clone, Copy)]
 struct Called<'a> {
     word: Word,
-    item: &'a CsvName,
-    week: Option<u64>,
-    quantity: Option<u64>,
-    number: Option<u64>,
+    item: Cell<'a>,
+    week: Cell<'a>,
+    quantity: Cell<'a>,
+    number: Cell<'a>,
 }
 
 // What a row has of a reply.
 #[derive(Clone, Copy)]
-struct Replied {
+struct Replied<'a> {
     word: Word,
-    value: Option<u64>,
+    value: Cell<'a>,
 }
 
 impl<'a> Called<'a> {
     // A call of this word alone.
-    fn word(names: &'a ShopNames<'_>, word: Word) -> Called<'a>
-        ensures word { result.word ≡ word }
-        ensures item { result.item.now ≡ [] }
-        ensures numbers { (result.week ≡ None) × (result.quantity ≡ None) × (result.number ≡ None) }
+    fn word(word: Word) -> Called<'a>
+        ensures { result ≡ record { word = word; item = Cell.Empty; week = Cell.Empty; quantity = Cell.Empty; number = Cell.Empty } }
     {
         Called {
             word,
-            item: names.no_name(),
-            week: None,
-            quantity: None,
-            number: None,
+            item: Cell::Empty,
+            week: Cell::Empty,
+            quantity: Cell::Empty,
+            number: Cell::Empty,
         }
     }
 
@@ -80,46 +77,46 @@ impl<'a> Called<'a> {
     {
         match call {
             Call::Book(line) => Called {
-                item: names.item(line.item),
-                week: Some(u64::from(line.week)),
-                quantity: Some(line.quantity.value()),
-                ..Called::word(names, Word::Book)
+                item: Cell::Name(names.item(line.item)),
+                week: Cell::Number(u64::from(line.week)),
+                quantity: Cell::Number(line.quantity.value()),
+                ..Called::word(Word::Book)
             },
             Call::Cancel(number) => Called {
-                number: Some(*number),
-                ..Called::word(names, Word::CancelBooking)
+                number: Cell::Number(*number),
+                ..Called::word(Word::CancelBooking)
             },
             Call::Ask(spot) => Called {
-                item: names.item(spot.item),
-                week: Some(u64::from(spot.week)),
-                ..Called::word(names, Word::Ask)
+                item: Cell::Name(names.item(spot.item)),
+                week: Cell::Number(u64::from(spot.week)),
+                ..Called::word(Word::Ask)
             },
             Call::When(wish) => Called {
-                item: names.item(wish.item),
-                quantity: Some(wish.quantity.value()),
-                ..Called::word(names, Word::When)
+                item: Cell::Name(names.item(wish.item)),
+                quantity: Cell::Number(wish.quantity.value()),
+                ..Called::word(Word::When)
             },
-            Call::Snapshot => Called::word(names, Word::Run),
-            Call::Front => Called::word(names, Word::Front),
+            Call::Snapshot => Called::word(Word::Run),
+            Call::Front => Called::word(Word::Front),
         }
     }
 }
 
-impl Replied {
-    fn of(reply: &Reply) -> Replied
+impl<'a> Replied<'a> {
+    fn of(reply: &Reply) -> Replied<'a>
         ensures { replied_cells result ≡ reply_cells reply.now }
     {
         let (word, value) = match reply {
-            Reply::Booked(number) => (Word::Booked, Some(*number)),
-            Reply::Short(available) => (Word::Short, Some(available.value())),
-            Reply::Cancelled => (Word::Cancelled, None),
-            Reply::NotStanding => (Word::NotStanding, None),
-            Reply::NotYours => (Word::NotYours, None),
-            Reply::Available(available) => (Word::Available, Some(available.value())),
-            Reply::Week(week) => (Word::Week, Some(u64::from(*week))),
-            Reply::NoWeek => (Word::NoWeek, None),
-            Reply::Taken(snapshot) => (Word::Front, Some(snapshot.front())),
-            Reply::Front(number) => (Word::Front, Some(*number)),
+            Reply::Booked(number) => (Word::Booked, Cell::Number(*number)),
+            Reply::Short(available) => (Word::Short, Cell::Number(available.value())),
+            Reply::Cancelled => (Word::Cancelled, Cell::Empty),
+            Reply::NotStanding => (Word::NotStanding, Cell::Empty),
+            Reply::NotYours => (Word::NotYours, Cell::Empty),
+            Reply::Available(available) => (Word::Available, Cell::Number(available.value())),
+            Reply::Week(week) => (Word::Week, Cell::Number(u64::from(*week))),
+            Reply::NoWeek => (Word::NoWeek, Cell::Empty),
+            Reply::Taken(snapshot) => (Word::Front, Cell::Number(snapshot.front())),
+            Reply::Front(number) => (Word::Front, Cell::Number(*number)),
         };
         Replied { word, value }
     }
@@ -131,7 +128,7 @@ struct EntryLine<'a> {
     number: u64,
     desk: u64,
     called: Called<'a>,
-    replied: Replied,
+    replied: Replied<'a>,
 }
 
 impl Line for EntryLine<'_> {
@@ -141,12 +138,12 @@ impl Line for EntryLine<'_> {
         let end = put_first_number(text, at, self.number);
         let end = put_number(text, end, self.desk);
         let end = put_word(text, end, self.called.word);
-        let end = self.called.item.put_next(text, end);
-        let end = put_some(text, end, self.called.week);
-        let end = put_some(text, end, self.called.quantity);
-        let end = put_some(text, end, self.called.number);
+        let end = self.called.item.put(text, end);
+        let end = self.called.week.put(text, end);
+        let end = self.called.quantity.put(text, end);
+        let end = self.called.number.put(text, end);
         let end = put_word(text, end, self.replied.word);
-        let end = put_some(text, end, self.replied.value);
+        let end = self.replied.value.put(text, end);
         put_byte(text, end, b'\n')
     }
 }

@@ -8,6 +8,7 @@ mod csv_name;
 mod cut;
 mod fault;
 mod history;
+mod in_turn;
 mod item;
 pub mod laws;
 mod line;
@@ -37,4 +38,5 @@ mod word;
 
 pub use fault::ReportFault;
 pub use history::write_history;
+pub use quoting::is_quoted_text;
 pub use report::{MOST_WORKERS, write_report};

@@ -3,12 +3,15 @@
 ghost use Rattle.std.specs.Prelude.{ℕ, List, ◌+◌, ◌≤◌, length};
 ghost use Rattle.mrp_report.specs.Put.{IsPut};
 
-// A row that is never longer than 512 bytes.
+// No row is longer, in bytes.
+pub(crate) const ROOM: usize = 512;
+
+// A row that is put on a page in one piece.
 pub(crate) trait Line {
     ghost csv: { Self → List ℕ };
 
     // Puts the row, and tells where it ends.
     fn put(&self, text: &mut [u8], at: usize) -> usize
-        requires { at + 512 ≤ length text.old }
+        requires { at + ROOM ≤ length text.old }
         ensures { IsPut text.old text.new at (csv self.now) result };
 }

@@ -3,7 +3,7 @@
 ghost use Rattle.std.specs.Prelude.{◌≡◌, ◌++◌, OnOk};
 ghost use Rattle.mrp_report.specs.LoadText.{load_text, loads_head};
 
-use crate::cells::put_cell;
+use crate::cells::put_text;
 use crate::csv_name::CsvName;
 use crate::line::Line;
 use crate::minutes::TimeBuffer;
@@ -52,9 +52,9 @@ impl Line for LoadLine<'_> {
         let mut over = TimeBuffer::new();
         let end = self.name.put_first(text, at);
         let end = put_number(text, end, u64::from(self.row.week));
-        let end = put_cell(text, end, load.format(self.row.load));
-        let end = put_cell(text, end, capacity.format(self.row.capacity));
-        let end = put_cell(text, end, over.format(self.row.over));
+        let end = put_text(text, end, load.format(self.row.load));
+        let end = put_text(text, end, capacity.format(self.row.capacity));
+        let end = put_text(text, end, over.format(self.row.over));
         put_byte(text, end, b'\n')
     }
 }

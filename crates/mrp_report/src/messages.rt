@@ -1,19 +1,19 @@
 //! The section `messages`.
 
 ghost use Rattle.std.specs.Prelude.{◌≡◌, [], ◌∷◌, ◌++◌, OnOk, flat_map};
+ghost use Rattle.mrp_report.specs.CellOf.{cell_of};
 ghost use Rattle.mrp_report.specs.Cells.{number_cell};
 ghost use Rattle.mrp_report.specs.MessageText.{advice_value, advice_word, message_text, messages_head};
 ghost use Rattle.mrp_report.specs.Section.{row};
-ghost use Rattle.mrp_report.specs.Which.{which_cell};
 ghost use Rattle.mrp_report.specs.WordText.{word_text};
 
-use crate::cells::put_some;
+use crate::cells::Cell;
 use crate::csv_name::CsvName;
 use crate::line::Line;
 use crate::page::Page;
 use crate::put::put_byte;
 use crate::shop_names::ShopNames;
-use crate::source::{Which, put_which, source_word, which_supply};
+use crate::source::{source_cell, source_word};
 use crate::word::{Word, put_word};
 use mrp_item::Order;
 use mrp_notes::{Advice, Message};
@@ -42,14 +42,14 @@ fn advice_word(advice: Advice) -> Word
 }
 
 // The weeks that a supply is late, or the week in which it is needed.
-fn advice_value(advice: Advice) -> Option<u64>
-    ensures { result ≡ advice_value advice }
+fn advice_value<'a>(advice: Advice) -> Cell<'a>
+    ensures { cell_of result ≡ number_cell (advice_value advice) }
 {
     match advice {
         Advice::PastDue(week) | Advice::Earlier(week) | Advice::Later(week) => {
-            Some(u64::from(week))
+            Cell::Number(u64::from(week))
         }
-        Advice::Release | Advice::Cancel => None,
+        Advice::Release | Advice::Cancel => Cell::Empty,
     }
 }
 
@@ -58,20 +58,20 @@ fn advice_value(advice: Advice) -> Option<u64>
 struct MessageLine<'a> {
     name: &'a CsvName,
     supply: Word,
-    which: Which,
+    source: Cell<'a>,
     advice: Word,
-    value: Option<u64>,
+    value: Cell<'a>,
 }
 
 impl Line for MessageLine<'_> {
-    ghost csv = { λ line. row (line.name.now ∷ word_text line.supply ∷ which_cell line.which ∷ word_text line.advice ∷ number_cell line.value ∷ []) };
+    ghost csv = { λ line. row (line.name.now ∷ word_text line.supply ∷ cell_of line.source ∷ word_text line.advice ∷ cell_of line.value ∷ []) };
 
     fn put(&self, text: &mut [u8], at: usize) -> usize {
         let end = self.name.put_first(text, at);
         let end = put_word(text, end, self.supply);
-        let end = put_which(text, end, self.which);
+        let end = self.source.put(text, end);
         let end = put_word(text, end, self.advice);
-        let end = put_some(text, end, self.value);
+        let end = self.value.put(text, end);
         put_byte(text, end, b'\n')
     }
 }
@@ -89,7 +89,7 @@ fn message_row(
     page.line(&MessageLine {
         name,
         supply: source_word(message.supply, orders),
-        which: which_supply(message.supply, names),
+        source: source_cell(message.supply, names),
         advice: advice_word(message.advice),
         value: advice_value(message.advice),
     })

@@ -7,7 +7,7 @@ ghost use Rattle.mrp_report.specs.Section.{row, section_head};
 ghost use Rattle.mrp_report.specs.Written.{HasTaken, HasTakenFront, HasGivenUp, HasGoneOn, PassesOn};
 
 use crate::fault::ReportFault;
-use crate::line::Line;
+use crate::line::{Line, ROOM};
 use crate::quoting::is_quoted_text;
 use mrp_qty::NoMemory;
 use mrp_rows::{Told, Tries, write_text};
@@ -17,9 +17,6 @@ use std::marker::Model;
 
 // How many bytes a page may hold before it is handed to the writer.
 const FULL: usize = 65_536;
-
-// No line is longer.
-const ROOM: usize = 512;
 
 /// Rows of csv text, one after the other, seen as that text.
 ///
@@ -47,7 +44,7 @@ fn make_room(bytes: &mut Vec<u8>, end: usize) -> Result<(), AllocError>
     requires { end ≤ vec_len bytes.old }
     ensures same { take end bytes.new.items ≡ take end bytes.old.items }
     ensures within { end ≤ vec_len bytes.new }
-    ensures room { OnOk result (end + 512 ≤ vec_len bytes.new) }
+    ensures room { OnOk result (end + ROOM ≤ vec_len bytes.new) }
 {
     if bytes.len() - end < ROOM {
         grow(bytes)?;
@@ -59,7 +56,7 @@ fn make_room(bytes: &mut Vec<u8>, end: usize) -> Result<(), AllocError>
 fn grow(bytes: &mut Vec<u8>) -> Result<(), AllocError>
     ensures same { take (vec_len bytes.old) bytes.new.items ≡ bytes.old.items }
     ensures within { vec_len bytes.old ≤ vec_len bytes.new }
-    ensures room { OnOk result (vec_len bytes.new ≡ vec_len bytes.old + 512) }
+    ensures room { OnOk result (vec_len bytes.new ≡ vec_len bytes.old + ROOM) }
 {
     bytes.extend_from_slice(&[0; ROOM])
 }

@@ -1,24 +1,29 @@
 //! The section `pegs`.
 
-ghost use Rattle.std.specs.Prelude.{◌≡◌, [], ◌∷◌, ◌++◌, OnOk, decimal, flat_map};
+ghost use Rattle.std.specs.Prelude.{◌≡◌, ◌<◌, [], ◌∷◌, ◌++◌, IfOk, IsTrue, OnOk, decimal, false};
+ghost use Rattle.mrp_report.specs.CellOf.{cell_of};
 ghost use Rattle.mrp_report.specs.PegText.{need_cells, peg_text, pegs_head};
+ghost use Rattle.mrp_item.specs.Inputs.{count};
+ghost use Rattle.mrp_item.specs.Plan.{outcome_of, plan_in};
+ghost use Rattle.mrp_report.specs.PegRows.{IsAdded, count_left, rows_left};
+ghost use Rattle.mrp_report.specs.ReportText.{pegged_text};
 ghost use Rattle.mrp_report.specs.PegCells.{needed_cells};
 ghost use Rattle.mrp_report.specs.Section.{row};
-ghost use Rattle.mrp_report.specs.Which.{which_cell};
 ghost use Rattle.mrp_report.specs.WordText.{word_text};
 
-use crate::cells::put_some;
+use crate::cells::Cell;
 use crate::csv_name::CsvName;
 use crate::line::Line;
 use crate::number::put_number;
 use crate::page::Page;
 use crate::put::put_byte;
 use crate::shop_names::ShopNames;
-use crate::source::{Which, put_which, source_word, which_supply};
+use crate::source::{source_cell, source_word};
 use crate::word::{Word, put_word};
-use mrp_item::Order;
-use mrp_peg::{Need, NeedKind, Peg};
+use mrp_item::{Order, Plan};
+use mrp_peg::{Need, NeedKind, Peg, PegWalk};
 use mrp_qty::NoMemory;
+use std::alloc::Global;
 
 // Adds the line and the header of the section.
 #[tactic(auto, unfolding(csv::specs::Writing::fields_text, csv::specs::Writing::is_blank))]
@@ -39,14 +44,14 @@ pub(crate) fn pegs_section(page: &mut Page) -> Result<(), NoMemory>
     page.section(b"[pegs]", &header)
 }
 
-// What a row has of a requirement, or of surplus. An absent number is an empty cell.
+// What a row has of a requirement, or of surplus.
 #[derive(Clone, Copy)]
 struct Needed<'a> {
-    week: Option<u64>,
+    week: Cell<'a>,
     need: Word,
-    number: Option<u64>,
-    parent: &'a CsvName,
-    line: Option<u64>,
+    number: Cell<'a>,
+    parent: Cell<'a>,
+    line: Cell<'a>,
 }
 
 impl<'a> Needed<'a> {
@@ -55,35 +60,35 @@ impl<'a> Needed<'a> {
     {
         let Some(need) = need else {
             return Needed {
-                week: None,
+                week: Cell::Empty,
                 need: Word::Surplus,
-                number: None,
-                parent: names.no_name(),
-                line: None,
+                number: Cell::Empty,
+                parent: Cell::Empty,
+                line: Cell::Empty,
             };
         };
-        let week = Some(u64::from(need.week));
+        let week = Cell::Number(u64::from(need.week));
         match need.kind {
             NeedKind::Booking(number) => Needed {
                 week,
                 need: Word::Booking,
-                number: Some(number),
-                parent: names.no_name(),
-                line: None,
+                number: Cell::Number(number),
+                parent: Cell::Empty,
+                line: Cell::Empty,
             },
             NeedKind::Forecast => Needed {
                 week,
                 need: Word::Forecast,
-                number: None,
-                parent: names.no_name(),
-                line: None,
+                number: Cell::Empty,
+                parent: Cell::Empty,
+                line: Cell::Empty,
             },
             NeedKind::Parent { line, order } => Needed {
                 week,
                 need: Word::Parent,
-                number: Some(order as u64),
-                parent: names.parent(line),
-                line: Some(line as u64),
+                number: Cell::Number(order as u64),
+                parent: Cell::Name(names.parent(line)),
+                line: Cell::Number(line as u64),
             },
         }
     }
@@ -95,23 +100,23 @@ struct PegLine<'a> {
     name: &'a CsvName,
     needed: Needed<'a>,
     supply: Word,
-    which: Which,
+    source: Cell<'a>,
     quantity: u64,
 }
 
 impl Line for PegLine<'_> {
-    ghost csv = { λ line. row (line.name.now ∷ (needed_cells line.needed ++ (word_text line.supply ∷ which_cell line.which ∷ decimal line.quantity ∷ []))) };
+    ghost csv = { λ line. row (line.name.now ∷ (needed_cells line.needed ++ (word_text line.supply ∷ cell_of line.source ∷ decimal line.quantity ∷ []))) };
 
     #[inline(always)]
     fn put(&self, text: &mut [u8], at: usize) -> usize {
         let end = self.name.put_first(text, at);
-        let end = put_some(text, end, self.needed.week);
+        let end = self.needed.week.put(text, end);
         let end = put_word(text, end, self.needed.need);
-        let end = put_some(text, end, self.needed.number);
-        let end = self.needed.parent.put_next(text, end);
-        let end = put_some(text, end, self.needed.line);
+        let end = self.needed.number.put(text, end);
+        let end = self.needed.parent.put(text, end);
+        let end = self.needed.line.put(text, end);
         let end = put_word(text, end, self.supply);
-        let end = put_which(text, end, self.which);
+        let end = self.source.put(text, end);
         let end = put_number(text, end, self.quantity);
         put_byte(text, end, b'\n')
     }
@@ -131,23 +136,68 @@ fn peg_row(
         name,
         needed: Needed::of(names, peg.need),
         supply: source_word(peg.supply, orders),
-        which: which_supply(peg.supply, names),
+        source: source_cell(peg.supply, names),
         quantity: peg.quantity.value(),
     })
 }
 
-// Adds an item's pegs.
-pub(crate) fn peg_rows(
-    page: &mut Page,
-    names: &ShopNames<'_>,
-    name: &CsvName,
-    orders: &[Order],
-    pegs: &[Peg],
-) -> Result<(), NoMemory>
-    ensures { OnOk result (page.new ≡ page.old ++ flat_map (peg_text names.now.tables.now name.now orders.now) pegs.now) }
-{
-    for peg in pegs {
-        peg_row(page, names, name, orders, peg)?;
+// The pegs of an item that are still to be put on a page.
+#[derive(Drop)]
+pub(crate) struct PegRows<'a> {
+    walk: PegWalk<'a>,
+    names: &'a ShopNames<'a>,
+    name: &'a CsvName,
+    orders: &'a [Order],
+}
+
+impl<'a> PegRows<'a> {
+    // All pegs of an item.
+    pub(crate) fn of(
+        alloc: Global,
+        plan: &'a Plan,
+        names: &'a ShopNames<'a>,
+        item: usize,
+    ) -> Result<PegRows<'a>, NoMemory>
+        requires names { names.now.tables.now ≡ plan.now.inputs.tables }
+        requires within { item < count plan.now.inputs }
+        ensures { IfOk result (λ rows. rows_left rows ≡ pegged_text plan.now.inputs item (plan_in (outcome_of plan.now.inputs item))) }
+    {
+        let walk = PegWalk::of(alloc, plan, item)?;
+        Ok(PegRows {
+            walk,
+            names,
+            name: names.item(item),
+            orders: plan.orders(item),
+        })
     }
+
+    // Adds the next peg; whether there was one.
+    pub(crate) fn add_next(&mut self, page: &mut Page) -> Result<bool, NoMemory>
+        ensures added { IfOk result (λ more. IsTrue more → IsAdded page.old page.new (rows_left self.old) (rows_left self.new)) }
+        ensures fewer { IfOk result (λ more. IsTrue more → count_left self.new < count_left self.old) }
+        ensures all { IfOk result (λ more. more ≡ false → (rows_left self.old ≡ []) × (page.new ≡ page.old)) }
+    {
+        let Some(peg) = self.walk.next()? else {
+            return Ok(false);
+        };
+        peg_row(page, self.names, self.name, self.orders, &peg)?;
+        Ok(true)
+    }
+}
+
+// Adds an item's pegs.
+pub(crate) fn pegged_rows(
+    alloc: Global,
+    page: &mut Page,
+    plan: &Plan,
+    names: &ShopNames<'_>,
+    item: usize,
+) -> Result<(), NoMemory>
+    requires names { names.now.tables.now ≡ plan.now.inputs.tables }
+    requires within { item < count plan.now.inputs }
+    ensures { OnOk result (page.new ≡ page.old ++ pegged_text plan.now.inputs item (plan_in (outcome_of plan.now.inputs item))) }
+{
+    let mut rows = PegRows::of(alloc, plan, names, item)?;
+    while rows.add_next(page)? {}
     Ok(())
 }

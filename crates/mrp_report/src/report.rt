@@ -9,6 +9,7 @@ ghost use Rattle.mrp_report.specs.Written.{HasGivenUp, HasGoneOn, HasTakenFront,
 
 use crate::cut::Chunks;
 use crate::fault::ReportFault;
+use crate::in_turn::write_in_turn;
 use crate::page::Page;
 use crate::readings::Readings;
 use crate::run::run_section;
@@ -31,27 +32,6 @@ fn write_run(page: &mut Page, plan: &Plan) -> Result<(), NoMemory>
 {
     let snapshot = plan.inputs().snapshot();
     run_section(page, snapshot.front(), snapshot.standing().len() as u64)
-}
-
-// Adds the rows of a section one after the other, and hands full pages over.
-fn write_in_turn<W: Write>(
-    alloc: Global,
-    chunks: &Chunks<'_>,
-    page: &mut Page,
-    writer: &mut Told<W>,
-    tries: &mut Tries,
-) -> Result<(), ReportFault>
-    ensures passed { OnOk result (PassesOn W.contents writer.old writer.new (page.old ++ rows_in chunks.now) page.new (tries.old - tries.new)) }
-    ensures tries { tries.new ≤ tries.old }
-    ensures front { OnErr result (HasTakenFront W.contents writer.old writer.new (page.old ++ rows_in chunks.now)) }
-    ensures refused { result ≡ Err ReportFault.Write → HasGivenUp writer.old writer.new tries.old }
-    ensures memory { result ≡ Err ReportFault.NoMemory → HasGoneOn writer.old writer.new tries.old }
-{
-    for place in 0..chunks.count() {
-        chunks.section.add(alloc, page, chunks.readings, place)?;
-        page.pass_on(writer, tries)?;
-    }
-    Ok(())
 }
 
 // Writes what stands on the page, and the rows of a section behind it, in chunks that are made side

@@ -1,9 +1,7 @@
 //! The sections of a report that go over the items or the work centres.
 
 ghost use Rattle.std.specs.Prelude.{◌≡◌, ◌<◌, ◌++◌, OnOk};
-ghost use Rattle.mrp_item.specs.Inputs.{count};
-ghost use Rattle.mrp_report.specs.ReportText.{ordered_text, pegged_text, told_text};
-ghost use Rattle.mrp_item.specs.Plan.{outcome_of, plan_in};
+ghost use Rattle.mrp_report.specs.ReportText.{ordered_text, told_text};
 ghost use Rattle.mrp_report.specs.Sections.{count_in, head_of, rows_of};
 
 use crate::centre::centre_rows;
@@ -12,7 +10,7 @@ use crate::loads::loads_section;
 use crate::messages::{message_rows, messages_section};
 use crate::orders::{order_rows, orders_section};
 use crate::page::Page;
-use crate::pegs::{peg_rows, pegs_section};
+use crate::pegs::{pegged_rows, pegs_section};
 use crate::plan::plan_section;
 use crate::promise_item::item_promises;
 use crate::promises::promises_section;
@@ -20,7 +18,6 @@ use crate::readings::Readings;
 use crate::shop_names::ShopNames;
 use mrp_item::{Plan, Planned};
 use mrp_notes::item_messages;
-use mrp_peg::item_pegs;
 use mrp_qty::NoMemory;
 use std::alloc::Global;
 
@@ -51,29 +48,6 @@ fn ordered_rows(page: &mut Page, names: &ShopNames<'_>, planned: &Planned) -> Re
     ensures { OnOk result (page.new ≡ page.old ++ ordered_text planned.now.inputs planned.now.item planned.now.plan) }
 {
     order_rows(page, names.item(planned.item()), planned.orders())
-}
-
-// Adds an item's rows of the section `pegs`.
-fn pegged_rows(
-    alloc: Global,
-    page: &mut Page,
-    plan: &Plan,
-    names: &ShopNames<'_>,
-    item: usize,
-) -> Result<(), NoMemory>
-    requires names { names.now.tables.now ≡ plan.now.inputs.tables }
-    requires within { item < count plan.now.inputs }
-    ensures { OnOk result (page.new ≡ page.old ++ pegged_text plan.now.inputs item (plan_in (outcome_of plan.now.inputs item))) }
-{
-    let planned = plan.item(item);
-    let pegs = item_pegs(alloc, plan, item)?;
-    peg_rows(
-        page,
-        names,
-        names.item(item),
-        planned.orders(),
-        pegs.as_slice(),
-    )
 }
 
 // Adds an item's rows of the section `messages`.

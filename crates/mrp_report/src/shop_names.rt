@@ -1,23 +1,22 @@
 //! What a shop's tables call items, open receipts and parents.
 
-ghost use Rattle.std.specs.Prelude.{◌≡◌, ◌<◌, ℕ, [], All, IfOk, map};
+ghost use Rattle.std.specs.Prelude.{◌≡◌, ◌<◌, ℕ, [], All, IfOk, None, map, replicate};
 ghost use Rattle.mrp_report.specs.Cells.{name_at, parent_name};
-ghost use Rattle.mrp_report.specs.ReceiptNames.{AreNamesOf, order_of};
+ghost use Rattle.mrp_report.specs.ReceiptNames.{AreNamesOf, receipt_name};
 
 use crate::csv_name::CsvName;
 use mrp_qty::NoMemory;
-use mrp_rows::Name;
 use mrp_tables::{Item, Receipt, Tables};
 use std::alloc::Global;
 
-// A shop's tables, with the items' names as cells, and the names of the open receipts' orders by
+// A shop's tables, with the names of the items and of the open receipts' orders as cells, these by
 // the numbers of their records.
 #[derive(Drop)]
 pub(crate) struct ShopNames<'a> {
     pub tables: &'a Tables,
     items: Vec<CsvName>,
     no_name: CsvName,
-    receipts: Vec<Option<Name>>,
+    receipts: Vec<Option<CsvName>>,
     ghost named: { items.items ≡ map (λ item. item.name) tables.now.items },
     ghost empty: { no_name ≡ [] },
     ghost known: { AreNamesOf receipts.items tables.now.receipts },
@@ -34,15 +33,26 @@ fn past_all(receipts: &[Receipt]) -> usize
     past
 }
 
+// No name at each of so many numbers.
+fn no_names(alloc: Global, count: usize) -> Result<Vec<Option<CsvName>>, NoMemory>
+    ensures { IfOk result (λ names. names.items ≡ replicate count None) }
+{
+    let mut names = Vec::with_capacity(alloc, count)?;
+    for _ in 0..count {
+        names.push(None)?;
+    }
+    Ok(names)
+}
+
 // The names of the receipts' orders, each at the number of its record.
-fn receipt_names(alloc: Global, receipts: &[Receipt]) -> Result<Vec<Option<Name>>, NoMemory>
+fn receipt_names(alloc: Global, receipts: &[Receipt]) -> Result<Vec<Option<CsvName>>, NoMemory>
     ensures { IfOk result (λ names. AreNamesOf names.items receipts.now) }
 {
-    let mut names = vec![in alloc; None; past_all(receipts)]?;
+    let mut names = no_names(alloc, past_all(receipts))?;
     for receipt in receipts {
         let place = receipt.number as usize;
         if names[place].is_none() {
-            names[place] = Some(receipt.order);
+            names[place] = Some(CsvName::of(&receipt.order));
         }
     }
     Ok(names)
@@ -92,20 +102,14 @@ impl<'a> ShopNames<'a> {
         }
     }
 
-    // The empty cell in place of a name.
-    pub(crate) fn no_name(&self) -> &CsvName
-        ensures { result.now ≡ [] }
-    {
-        &self.no_name
-    }
-
-    // The name of the order of an open receipt, by the number of its record.
-    pub(crate) fn receipt(&self, number: u64) -> Option<Name>
-        ensures { result ≡ order_of self.now.tables.now.receipts number }
+    // The name of the order of an open receipt, by the number of its record; no name where there is
+    // none.
+    pub(crate) fn receipt(&self, number: u64) -> &CsvName
+        ensures { result.now ≡ receipt_name self.now.tables.now number }
     {
         match self.receipts.get(number as usize) {
-            Some(name) => *name,
-            None => None,
+            Some(Some(name)) => name,
+            _ => &self.no_name,
         }
     }
 }

@@ -1,20 +1,15 @@
 //! The cells that tell which supply a row speaks of.
 
-ghost use Rattle.std.specs.Prelude.{◌≡◌, ◌+◌, ◌≤◌, length};
-ghost use Rattle.mrp_report.specs.CsvCells.{next_cell};
-ghost use Rattle.mrp_report.specs.Put.{IsPut};
+ghost use Rattle.std.specs.Prelude.{◌≡◌};
+ghost use Rattle.mrp_report.specs.CellOf.{cell_of};
 ghost use Rattle.mrp_report.specs.SourceText.{source_name, source_word};
-ghost use Rattle.mrp_report.specs.Which.{which_cell};
 ghost use Rattle.mrp_report.specs.WordText.{word_text};
 
-use crate::cells::put_none;
-use crate::csv_name::CsvName;
-use crate::number::put_number;
+use crate::cells::Cell;
 use crate::orders::kind_word;
 use crate::shop_names::ShopNames;
 use crate::word::Word;
 use mrp_item::{Order, Supplied};
-use mrp_rows::Name;
 
 // The word for a supply of an item with these orders.
 pub(crate) fn source_word(supply: Supplied, orders: &[Order]) -> Word
@@ -30,38 +25,13 @@ pub(crate) fn source_word(supply: Supplied, orders: &[Order]) -> Word
     }
 }
 
-// Which supply it is.
-pub(crate) fn which_supply(supply: Supplied, names: &ShopNames<'_>) -> Which
-    ensures { which_cell result ≡ source_name names.now.tables.now supply }
+// The cell that tells which supply it is: the name of a receipt's order, or an order's number.
+pub(crate) fn source_cell<'a>(supply: Supplied, names: &'a ShopNames<'_>) -> Cell<'a>
+    ensures { cell_of result ≡ source_name names.now.tables.now supply }
 {
     match supply {
-        Supplied::Stock => Which::Nothing,
-        Supplied::Receipt(number) => match names.receipt(number) {
-            Some(name) => Which::Name(name),
-            None => Which::Nothing,
-        },
-        Supplied::Order(number) => Which::Number(number),
-    }
-}
-
-// Which supply a row speaks of: the name of a receipt's order, or an order's number.
-#[derive(Clone, Copy)]
-pub(crate) enum Which {
-    Nothing,
-    Name(Name),
-    Number(usize),
-}
-
-// Puts the cell that tells which supply a row speaks of, with the comma before it.
-#[inline(always)]
-pub(crate) fn put_which(text: &mut [u8], at: usize, which: Which) -> usize
-    requires { at + 67 ≤ length text.old }
-    ensures put { IsPut text.old text.new at (next_cell (which_cell which)) result }
-    ensures near { result ≤ at + 67 }
-{
-    match which {
-        Which::Nothing => put_none(text, at),
-        Which::Name(name) => CsvName::of(&name).put_next(text, at),
-        Which::Number(number) => put_number(text, at, number as u64),
+        Supplied::Stock => Cell::Empty,
+        Supplied::Receipt(number) => Cell::Name(names.receipt(number)),
+        Supplied::Order(number) => Cell::Number(number as u64),
     }
 }

@@ -1,15 +1,14 @@
 -- A record's cell by its place.
-use Rattle.std.proofs.Common.{◌≡◌, ◌<◌, ℕ, zero, suc, List, [], ◌∷◌, length, get_or, refl, arith, Option, Some, None, Bor, unwrap_or}
+use Rattle.std.proofs.Common.{◌≡◌, ℕ, zero, suc, List, [], ◌∷◌, get_or, Option, Some, None, Bor, unwrap_or}
 use Rattle.std.specs.Prelude.{option_map}
 use Rattle.csv.specs.Records.{field_at}
 
-pub field_at-within : (cells : List (List ℕ)) (i : ℕ) → i < length cells → field_at cells i ≡ Some (get_or cells i [])
+-- the cell at a place, or none
+pub cell-or : (o : Option (Bor (List ℕ))) (d : Bor (List ℕ)) (cells : List (List ℕ)) (i : ℕ) → option_map (λ s. s.now) o ≡ field_at cells i → d.now ≡ [] → (unwrap_or o d).now ≡ get_or cells i []
 unfolding field_at
-field_at-within [] i lt = absurd (omega arith)
-field_at-within (c ∷ cells) zero lt = refl
-field_at-within (c ∷ cells) (suc i) lt = field_at-within cells i (omega arith)
-
--- the text behind a reference that there is
-pub unwrap_or-some : (o : Option (Bor (List ℕ))) (d : Bor (List ℕ)) (x : List ℕ) → option_map (λ s. s.now) o ≡ Some x → (unwrap_or o d).now ≡ x
-unwrap_or-some None d x e = absurd cc
-unwrap_or-some (Some s) d x e = cc
+cell-or None d [] i e is = is
+cell-or (Some s) d [] i e is = absurd cc
+cell-or None d (c ∷ cells) zero e is = absurd cc
+cell-or (Some s) d (c ∷ cells) zero e is = cc
+cell-or None d (c ∷ cells) (suc i) e is = cell-or None d cells i e is
+cell-or (Some s) d (c ∷ cells) (suc i) e is = cell-or (Some s) d cells i e is

@@ -1,4 +1,4 @@
-mod CellPlaces
+pub mod CellPlaces
 mod CsvRecords
 mod CsvSteps
 mod DigitCells
@@ -10,4 +10,4 @@ pub mod SplitPlaces
 pub mod SplitTexts
 pub mod StreamFronts
 pub mod TextLaws
-mod WordPlaces
+pub mod WordPlaces

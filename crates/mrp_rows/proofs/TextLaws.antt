@@ -75,9 +75,10 @@ are-placed texts n (s ∷ ss) final nine e =
 same-ok : {A : Type 0} (x y : A) (r : Result A Fault) → r ≡ Ok x → r ≡ Ok y → x ≡ y
 same-ok x y r p q = cc
 
-after : {A B : Type 0} (r : Result A Fault) (f : A → Result B Fault) (y : B) → (r >>= f) ≡ Ok y → (x : A) × (r ≡ Ok x) × (f x ≡ Ok y)
-after (Ok x) f y e = (x, refl, e)
-after (Err g) f y e = absurd (cc)
+-- a step of a reading that is whole
+pub whole_step : {A B : Type 0} (r : Result A Fault) (f : A → Result B Fault) (y : B) → (r >>= f) ≡ Ok y → (x : A) × (r ≡ Ok x) × (f x ≡ Ok y)
+whole_step (Ok x) f y e = (x, refl, e)
+whole_step (Err g) f y e = absurd (cc)
 
 chosen : (final : Texts) (x0 x1 x2 x3 x4 x5 x6 x7 x8 : List ℕ)
     → text_at final t.Calendar ≡ Ok x0 → text_at final t.Items ≡ Ok x1 → text_at final t.Centres ≡ Ok x2 → text_at final t.Stock ≡ Ok x3 → text_at final t.Receipts ≡ Ok x4
@@ -97,15 +98,15 @@ chosen final x0 x1 x2 x3 x4 x5 x6 x7 x8 p0 p1 p2 p3 p4 p5 p6 p7 p8 t.Bundle lt =
 in-place : (final : Texts) (texts : List (List ℕ)) → all_texts final ≡ Ok texts → (table : Table) → table_index table < 9 → text_at final table ≡ Ok (text_in texts table)
 unfolding all_texts
 in-place final texts e table lt =
-    let p0 = after (text_at final t.Calendar) _ texts e in
-    let p1 = after (text_at final t.Items) _ texts p0.2 in
-    let p2 = after (text_at final t.Centres) _ texts p1.2 in
-    let p3 = after (text_at final t.Stock) _ texts p2.2 in
-    let p4 = after (text_at final t.Receipts) _ texts p3.2 in
-    let p5 = after (text_at final t.Bills) _ texts p4.2 in
-    let p6 = after (text_at final t.Routings) _ texts p5.2 in
-    let p7 = after (text_at final t.Master) _ texts p6.2 in
-    let p8 = after (text_at final t.Script) _ texts p7.2 in
+    let p0 = whole_step (text_at final t.Calendar) _ texts e in
+    let p1 = whole_step (text_at final t.Items) _ texts p0.2 in
+    let p2 = whole_step (text_at final t.Centres) _ texts p1.2 in
+    let p3 = whole_step (text_at final t.Stock) _ texts p2.2 in
+    let p4 = whole_step (text_at final t.Receipts) _ texts p3.2 in
+    let p5 = whole_step (text_at final t.Bills) _ texts p4.2 in
+    let p6 = whole_step (text_at final t.Routings) _ texts p5.2 in
+    let p7 = whole_step (text_at final t.Master) _ texts p6.2 in
+    let p8 = whole_step (text_at final t.Script) _ texts p7.2 in
     let same : p0.0 ∷ p1.0 ∷ p2.0 ∷ p3.0 ∷ p4.0 ∷ p5.0 ∷ p6.0 ∷ p7.0 ∷ p8.0 ∷ [] ≡ texts = same-ok _ _ _ refl p8.2 in
     subst (λ x. text_at final table ≡ Ok (text_in x table)) same
     (chosen final p0.0 p1.0 p2.0 p3.0 p4.0 p5.0 p6.0 p7.0 p8.0 p0.1 p1.1 p2.1 p3.1 p4.1 p5.1 p6.1 p7.1 p8.1 table lt)
@@ -125,6 +126,6 @@ texts-of-sections bytes texts e = by (list_all ends_line (sections_in (without_m
   where
     by : (b : Bool) → (if b then put_all no_texts 0 (sections_in (without_mark bytes)).1 >>= all_texts else Err text_before_section) ≡ Ok texts → AreTextsOf texts (sections_in (without_mark bytes)).1
     by true h =
-        let p = after (put_all no_texts 0 (sections_in (without_mark bytes)).1) all_texts texts h in
+        let p = whole_step (put_all no_texts 0 (sections_in (without_mark bytes)).1) all_texts texts h in
         are-texts p.0 texts (sections_in (without_mark bytes)).1 p.2 (are-placed no_texts 0 (sections_in (without_mark bytes)).1 p.0 refl p.1)
     by false h = absurd (cc)

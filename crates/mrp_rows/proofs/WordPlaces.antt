@@ -17,11 +17,11 @@ pub pointwise-drop : {A B : Type 0} (E : A → B → Bool) (xs : List A) (ys : L
     → pointwise E (drop i xs) (drop i ys) ≡ (E (get_or xs i a) (get_or ys i b) && pointwise E (drop (i + 1) xs) (drop (i + 1) ys))
 pointwise-drop E xs ys i a b in_xs in_ys = rw (drop-cons xs i a in_xs, drop-cons ys i b in_ys, add-one) refl
 
--- a record's next cell against the next name
-pub header-drop : (cells : List (List ℕ)) (names : List (Bor (List ℕ))) (i : ℕ) (d : Bor (List ℕ)) (cell name : List ℕ) (differs same : Bool)
+-- a record's next cell against the next text
+pub texts-drop : (cells : List (List ℕ)) (names : List (Bor (List ℕ))) (i : ℕ) (d : Bor (List ℕ)) (cell name : List ℕ) (differs same : Bool)
     → length cells ≡ length names → i < length names → cell ≡ get_or cells i [] → name ≡ (get_or names i d).now → differs ≡ not (pointwise nat_eq cell name) → differs ≡ not same
     → pointwise (pointwise nat_eq) (drop i cells) (drop i (map (λ n. n.now) names)) ≡ (same && pointwise (pointwise nat_eq) (drop (i + 1) cells) (drop (i + 1) (map (λ n. n.now) names)))
-header-drop cells names i d cell name differs same long within cell_is name_is told is =
+texts-drop cells names i d cell name differs same long within cell_is name_is told is =
     let in_cells : i < length cells = rw long within in
     let in_names : i < length (map (λ (n : Bor (List ℕ)). n.now) names) = rw (length-map names (λ (n : Bor (List ℕ)). n.now)) within in
     let name_at = name_is ∙ sym (get_or-map (λ (n : Bor (List ℕ)). n.now) names i d [] within) in

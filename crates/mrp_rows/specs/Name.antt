@@ -1,6 +1,7 @@
--- Names (profile): 1 to 32 bytes of printable ASCII, no space at either end, and not a bracket first.
+-- Names (profile): 1 to `LONGEST_NAME` bytes of printable ASCII, no space at either end, and not a bracket first.
 use Rattle.std.specs.Prelude.{ℕ, ◌==◌, ◌&&◌, ◌-◌, Bool, not, nat_le, if◌then◌else◌, List, length, slice_index, Option, Some, None}
 use Rattle.std.specs.List.{list_all}
+use Rattle.mrp_rows.specs.declared.name.TheConstants.{LONGEST_NAME}
 
 -- a byte from the space to the tilde
 abbrev pub is_printable : ℕ → Bool
@@ -13,7 +14,7 @@ has_name_ends first last = not (first == 32) && not (last == 32) && not (first =
 -- a text is a name
 abbrev pub is_name : List ℕ → Bool
 is_name text =
-    nat_le 1 (length text) && nat_le (length text) 32 && list_all is_printable text
+    nat_le 1 (length text) && nat_le (length text) LONGEST_NAME && list_all is_printable text
     && has_name_ends (slice_index text 0) (slice_index text (length text - 1))
 
 -- a text as a name, where it is one

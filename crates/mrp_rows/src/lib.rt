@@ -20,7 +20,7 @@ pub use cursor::Cursor;
 pub use fault::{Fault, Table};
 pub use fault_texts::fault_text;
 pub use join::join_bundle;
-pub use name::Name;
+pub use name::{LONGEST_NAME, Name};
 pub use row::Row;
 pub use streams::{
     GREATEST_BUNDLE, READ_CALLS, ReadFault, Tries, WRITE_TRIES, WriteFault, read_bundle,

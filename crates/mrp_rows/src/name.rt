@@ -13,13 +13,14 @@ use std::fmt;
 use std::hash::{Hash, Hasher};
 use std::marker::Model;
 
-const LONGEST: usize = 32;
+/// The most bytes that a name has (profile).
+pub const LONGEST_NAME: usize = 32;
 
-/// A name: 1 to 32 bytes of printable ASCII, with no space at either end, that do not begin with
+/// A name: 1 to `LONGEST_NAME` bytes of printable ASCII, with no space at either end, that do not begin with
 /// `[` (profile). Names are compared byte for byte.
 #[derive(Clone, Copy)]
 pub struct Name {
-    bytes: [u8; 32],
+    bytes: [u8; LONGEST_NAME],
     len: u8,
 }
 
@@ -87,7 +88,7 @@ impl Name {
         if !is_name_text(text) {
             return None;
         }
-        let mut bytes = [0; 32];
+        let mut bytes = [0; LONGEST_NAME];
         for (i, byte) in text.iter().enumerate() {
             bytes[i] = *byte;
         }
@@ -109,9 +110,9 @@ impl Name {
 
 fn is_name_text(text: &[u8]) -> bool
     ensures is { result ≡ is_name text.now }
-    ensures short { IsTrue result → length text.now ≤ 32 }
+    ensures short { IsTrue result → length text.now ≤ LONGEST_NAME }
 {
-    if text.is_empty() || text.len() > LONGEST {
+    if text.is_empty() || text.len() > LONGEST_NAME {
         return false;
     }
     is_printable_text(text) && has_good_ends(text[0], text[text.len() - 1])

@@ -2,10 +2,10 @@
 use Rattle.std.proofs.Common.{◌≡◌, ℕ, List, Result, Ok, refl, subst}
 use Rattle.mrp_rows.specs.declared.fault.Fault.{Fault}
 use Rattle.mrp_rows.specs.declared.fault.Table.TheVariants as t
+use Rattle.mrp_rows.proofs.TextLaws.{whole_step}
 use Rattle.mrp_tables.specs.Laws.{AreOfTheirTexts}
 use Rattle.mrp_tables.specs.Readers.{table_in}
 use Rattle.mrp_tables.specs.Tables.{Tables, tables_in}
-use Rattle.mrp_tables.proofs.RowLaws.{whole_step}
 
 same_whole : (a b : Tables) (r : Result Tables Fault) → r ≡ Ok a → r ≡ Ok b → a ≡ b
 same_whole a b r is e = cc

@@ -5,9 +5,10 @@ use Rattle.mrp_rows.specs.declared.fault.Fault.{Fault}
 use Rattle.mrp_rows.specs.declared.fault.Table.{Table}
 use Rattle.mrp_rows.specs.Left.{Cells, Left}
 use Rattle.mrp_rows.specs.Next.{memory_fault, next_number}
+use Rattle.mrp_rows.proofs.TextLaws.{whole_step}
 use Rattle.mrp_tables.specs.Laws.{read_one}
 use Rattle.mrp_tables.specs.Reading.{Adds, IsRefusedBehind, NextAdmitted, Reads, admitted, number_behind, rows_from}
-use Rattle.mrp_tables.proofs.RowLaws.{Records, bind_assoc, whole_step}
+use Rattle.mrp_tables.proofs.RowLaws.{Records, bind_assoc}
 
 -- a table is read, but for the records that a cursor has left
 pub record IsLeft {X : Type 0} (read : Reads X) (t : Table) (before : List X) (c : Left) (total : Result (List X) Fault) : Type 0 where

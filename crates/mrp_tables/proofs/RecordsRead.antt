@@ -11,6 +11,7 @@ use Rattle.mrp_rows.specs.declared.fault.Fault.{Fault}
 use Rattle.mrp_rows.specs.declared.faults.TheConstants as faults
 use Rattle.mrp_rows.specs.Cell.{blame, cell_at, date_cell, fault_at, name_of, number_cell, or_code, word_of}
 use Rattle.mrp_rows.specs.Left.{Cells}
+use Rattle.mrp_rows.proofs.TextLaws.{whole_step}
 use Rattle.mrp_tables.specs.declared.limits.TheConstants as limits
 use Rattle.mrp_tables.specs.declared.item.Item.{Item}
 use Rattle.mrp_tables.specs.declared.item.LotRule.TheVariants.{Fixed, LotForLot, Period}
@@ -36,7 +37,6 @@ use Rattle.mrp_tables.specs.Routings.{operation_beside, routing_cells, routing_c
 use Rattle.mrp_tables.specs.Script.{ask_cells, book_cells, call_at, cancel_cells, mastered, script_row, spot_of, when_cells}
 use Rattle.mrp_tables.specs.Stock.{stock_cells}
 use Rattle.mrp_tables.proofs.CellsRead.{centre-there, in_range, in_week, master-there, named, same_value, there, unless}
-use Rattle.mrp_tables.proofs.RowLaws.{whole_step}
 
 pub is_bill_line : (items : List Item) (r : Cells) (line : BillLine) → bill_row items r ≡ Ok line → IsBillLine items line
 unfolding bill_row

@@ -13,6 +13,7 @@ use Rattle.mrp_rows.specs.Cell.{fault_at}
 use Rattle.mrp_rows.specs.Columns.{width_of}
 use Rattle.mrp_rows.specs.Left.{Cells}
 use Rattle.mrp_rows.specs.Next.{next_number, opened}
+use Rattle.mrp_rows.proofs.TextLaws.{whole_step}
 use Rattle.mrp_tables.specs.declared.limits.TheConstants as limits
 use Rattle.mrp_tables.specs.declared.item.Item.{Item}
 use Rattle.mrp_tables.specs.declared.rows.Receipt.{Receipt}
@@ -23,7 +24,6 @@ use Rattle.mrp_tables.specs.Receipts.{orders_of, receipt_row, receipts_that_coun
 use Rattle.mrp_tables.proofs.CellsRead.{past_check, same_value, where_so}
 use Rattle.mrp_tables.proofs.Counting.{limit_number}
 use Rattle.mrp_tables.proofs.RecordsRead.{is_placed}
-use Rattle.mrp_tables.proofs.RowLaws.{whole_step}
 
 -- a record is admitted as it is, within its table's limit
 admitted_as : (r c : Cells) → admitted r ≡ Ok c → (is_past (record_limit r.table) r.number ≡ false) × (r ≡ c)

@@ -72,11 +72,6 @@ pub bind_assoc : {A B C : Type 0} (r : Result A Fault) (f : A → Result B Fault
 bind_assoc (Ok a) f g = refl
 bind_assoc (Err e) f g = refl
 
--- a step of a reading that is whole
-pub whole_step : {X Y : Type 0} (x : Result X Fault) (next : X → Result Y Fault) (y : Y) → (x >>= next) ≡ Ok y → (a : X) × (x ≡ Ok a) × (next a ≡ Ok y)
-whole_step (Ok a) next y e = (a, refl, e)
-whole_step (Err f) next y e = absurd cc
-
 in_turn : {X : Type 0} (read : Reads X) (table : Table) (done : Records) (before : List X) (number : ℕ) (left : Records)
     → number ≡ number_at (length done) → AreReadFrom read table done before → AreReadInTurn read table (done ++ left) (rows_from read table before number left)
 unfolding rows_from

@@ -15,6 +15,7 @@ use Rattle.mrp_rows.specs.declared.fault.Table.{Table}
 use Rattle.mrp_rows.specs.declared.fault.Table.TheVariants as t
 use Rattle.mrp_rows.specs.Left.{Cells}
 use Rattle.mrp_rows.specs.Next.{next_number, opened}
+use Rattle.mrp_rows.proofs.TextLaws.{whole_step}
 use Rattle.mrp_tables.specs.declared.limits.TheConstants as limits
 use Rattle.mrp_tables.specs.declared.item.Item.{Item}
 use Rattle.mrp_tables.specs.declared.rows.Centre.{Centre}
@@ -42,7 +43,6 @@ use Rattle.mrp_tables.proofs.Distinct.{grown_field, same_operation_equiv, same_o
 use Rattle.mrp_tables.proofs.Kept.{kept, kept-count, kept_orders, kept_receipts, kept_receipts-count}
 use Rattle.mrp_tables.proofs.RecordsRead.{is_bill_line, is_centre, is_item, is_master_row, is_placed, is_routed, is_script_row, is_stock_row}
 use Rattle.mrp_tables.proofs.Rising.{receipts_rise}
-use Rattle.mrp_tables.proofs.RowLaws.{whole_step}
 use Rattle.mrp_tables.proofs.Stocked.{more_items}
 use Rattle.mrp_tables.proofs.TellingTables.{told_at_its_table}
 

@@ -1,5 +1,5 @@
 -- What holds of every table's rows, and of the tables of every bundle.
-use Rattle.std.specs.Prelude.{ℕ, ◌≡◌, ◌≢◌, ◌⊎◌, ◌<◌, true, false, ◌+◌, min, List, [], ◌∷◌, length, map, take, slice_index_or, IfErr, Result, Ok, Err}
+use Rattle.std.specs.Prelude.{ℕ, ◌≡◌, ◌≢◌, ◌⊎◌, ◌<◌, true, false, List, [], ◌∷◌, length, map, take, slice_index_or, IfErr, Result, Ok, Err}
 use Rattle.mrp_qty.specs.Reading.{◌>>=◌}
 use Rattle.mrp_cal.specs.Calendar.{ShopCalendar}
 use Rattle.mrp_rows.specs.declared.fault.Fault.{Fault}
@@ -9,7 +9,7 @@ use Rattle.mrp_rows.specs.declared.fault.Table.TheVariants as t
 use Rattle.mrp_rows.specs.Columns.{width_of}
 use Rattle.mrp_rows.specs.Left.{Cells, Left}
 use Rattle.mrp_rows.specs.Cell.{fault_at}
-use Rattle.mrp_rows.specs.Next.{opened}
+use Rattle.mrp_rows.specs.Next.{next_number, opened}
 use Rattle.mrp_rows.specs.Tables.{table_index}
 use Rattle.mrp_tables.specs.declared.item.Item.{Item}
 use Rattle.mrp_tables.specs.declared.rows.Centre.{Centre}
@@ -29,7 +29,7 @@ use Rattle.mrp_tables.specs.Tables.{AreTables, Tables, tables_in}
 
 -- the number of the record at a place, counted from 0
 abbrev pub number_at : ℕ → ℕ
-number_at place = min (place + 1) 4294967295
+number_at place = next_number place
 
 -- the record at a place of a table's records
 abbrev pub record_at : Table → List (List (List ℕ)) → ℕ → Cells

@@ -6,6 +6,7 @@ mod calendar;
 mod cells;
 mod centres;
 mod item;
+mod item_rows;
 mod items;
 pub mod laws;
 pub mod limits;

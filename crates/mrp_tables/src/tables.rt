@@ -2,17 +2,12 @@
 
 ghost use Rattle.mrp_tables.specs.declared.limits.TheConstants.{MOST_CENTRES, MOST_ITEMS, MOST_OPERATIONS, MOST_ROWS};
 
-use crate::bills::Bills;
 use crate::calendar::Entries;
 use crate::centres::Centres;
 use crate::item::Item;
+use crate::item_rows::ItemRows;
 use crate::items::Items;
-use crate::master::Master;
-use crate::receipts::Receipts;
-use crate::routings::Routings;
 use crate::rows::{BillLine, Centre, MasterRow, Operation, Receipt, ScriptRow, StockRow};
-use crate::script::Script;
-use crate::stock::Stock;
 use mrp_cal::Calendar;
 use mrp_rows::{Fault, Name, Sections};
 use std::alloc::Global;
@@ -88,12 +83,15 @@ impl Tables {
         let calendar = Entries::read(alloc, sections)?;
         let items = Items::read(alloc, sections)?;
         let centres = Centres::read(alloc, sections)?;
-        let stock = Stock::read(alloc, sections, &items)?;
-        let receipts = Receipts::read(alloc, sections, &calendar, &items)?;
-        let bills = Bills::read(alloc, sections, &items)?;
-        let routings = Routings::read(alloc, sections, &items, &centres)?;
-        let master = Master::read(alloc, sections, &calendar, &items)?;
-        let script = Script::read(alloc, sections, &calendar, &items)?;
+        let rows = ItemRows::read(alloc, sections, &calendar, &items, &centres)?;
+        let ItemRows {
+            stock,
+            receipts,
+            bills,
+            routings,
+            master,
+            script,
+        } = rows;
         Ok(Tables {
             calendar,
             items,

@@ -1,5 +1,5 @@
 -- All seats in one place, and the take that then wins.
-use Rattle.std.proofs.Common.{◌≡◌, ℕ, ◌≤◌, List, [], ◌∷◌, ◌++◌, length, sym, refl, ap, ◌∙◌, subst, arith, inl, inr, ⊎_elim, All}
+use Rattle.std.proofs.Common.{◌≡◌, ℕ, ◌≤◌, List, [], ◌∷◌, ◌++◌, sym, refl, ap, ◌∙◌, subst, arith, inl, inr, ⊎_elim, All}
 use Rattle.mrp_turn.specs.declared.log.Entry.{Entry}
 use Rattle.mrp_turn.specs.declared.log.Held.{Held}
 use Rattle.mrp_turn.specs.declared.views.About.{About}
@@ -71,10 +71,6 @@ module _ {O C R : Type 0} where
 
   pub first_rest : (turn : TurnId O) (all rest : List (Seated O C R)) (x : Seated O C R) → all ≡ rest ++ x ∷ [] → Each (λ s. s.turn ≡ turn) all → (x.turn ≡ turn) × Each (λ s. s.turn ≡ turn) rest
   first_rest turn all rest x e h = let k = subst (Each (λ (s : Seated O C R). s.turn ≡ turn)) e h in ((Each-right (λ s. s.turn ≡ turn) rest (x ∷ []) k).0, Each-left (λ s. s.turn ≡ turn) rest (x ∷ []) k)
-
-pub empty : {A : Type 0} (l : List A) → length l ≡ 0 → l ≡ []
-empty [] h = refl
-empty (x ∷ xs) h = absurd (omega arith)
 
 module _ {O C R : Type 0} where
   last_first : (rest : List (Seated O C R)) (first x : Seated O C R) → Has (rest ++ first ∷ []) x → Has (first ∷ rest) x

@@ -1,8 +1,9 @@
 -- Each step keeps the rule.
-use Rattle.std.proofs.Common.{◌≡◌, ◌≢◌, ℕ, ◌+◌, ◌<◌, ◌≤◌, ◌⊎◌, Bool, true, false, List, [], ◌∷◌, ◌++◌, get_or, set, max, sym, refl, ap, ◌∙◌, subst, ⊎_elim, inl, inr, arith, Option, Some, length-set, get_or-set_same, vec_capacity, true≢false}
+use Rattle.std.proofs.Common.{◌≡◌, ◌≢◌, ℕ, ◌+◌, ◌<◌, ◌≤◌, ◌⊎◌, true, false, List, [], ◌∷◌, ◌++◌, get_or, set, max, sym, refl, ap, ◌∙◌, subst, ⊎_elim, inl, inr, arith, Option, Some, length-set, get_or-set_same, vec_capacity, true≢false}
 use mathlib.Core.Logic.{dite}
 use mathlib.Core.Option.{none, some, some-injective}
 use native.Mathlib.Decide.{ℕ_discrete, dec_le}
+use Rattle.std.proofs.lemmas.Bool.{false_from_ne_true}
 use lib.ListN.{get_elem?}
 use lib.Seq.{set-get_or}
 use Rattle.atomic_table.specs.Table.{State, step, keeps, takes, gives, Allows, Splits, Joins, opening}
@@ -37,10 +38,6 @@ module _ {O S C R : Type 0} (opens : O → S → Type 0) (answers : O → S → 
   abbrev number_of : V → ℕ
   number_of Spent = 0
   number_of (Live s) = s.own.number
-
-  not_true : (b : Bool) → (b ≡ true → ⊥) → b ≡ false
-  not_true true h = absurd (h refl)
-  not_true false h = refl
 
   le_or_lt : (m n : ℕ) → (m ≤ n) ⊎ (n < m)
   le_or_lt m n = dite (dec_le m n) inl (λ h. inr (omega (arith, h)))
@@ -228,7 +225,7 @@ module _ {O S C R : Type 0} (opens : O → S → Type 0) (answers : O → S → 
               held = held;
               at_home = set_here st.homes 0 (some (Some held)) (omega arith);
               stores = record { log_is = refl; state_is = refl; room = subst (λ (k : About O). k.room ≤ vec_capacity held.log) about room };
-              idle = stays (λ (v : V). is_holder v ≡ false) st.views id w refl (λ j v ne e. not_true (is_holder v) (λ t. ne (b.no_other j v e t ∙ sym h.0)));
+              idle = stays (λ (v : V). is_holder v ≡ false) st.views id w refl (λ j v ne e. false_from_ne_true (is_holder v) (λ t. ne (b.no_other j v e t ∙ sym h.0)));
             },
           );
         },

@@ -15,6 +15,7 @@ use std::alloc::{AllocError, Global};
 use std::hint::spin_loop;
 use std::marker::Model;
 use std::sync::Wait;
+use std::time::Duration;
 
 /// The most seats of a turn.
 pub const MOST_SEATS: u64 = 64;
@@ -25,11 +26,12 @@ const FREE: u64 = 0;
 // The word while a seat has the slot.
 const TAKEN: u64 = 1;
 
-// The word while a seat has the slot and threads may sleep until it is given back.
-const AWAITED: u64 = 2;
-
 // How often a thread that finds the slot taken looks again before it sleeps.
-const LOOKS: u32 = 100;
+const LOOKS: u32 = 10;
+
+// How many microseconds a thread sleeps for that found the slot taken. Nobody wakes it: that takes longer than most
+// calls, and would have a thread switched to at each call.
+const PAUSE: u64 = 200;
 
 /// Why a turn was not made.
 #[derive(Debug, Drop, Clone, Copy, PartialEq, Eq)]
@@ -164,18 +166,17 @@ impl<O: Object> Turn<O> {
         Ok(seats)
     }
 
-    // Takes the slot and the value in it, if no seat has it. The word becomes at least `mark`, also where one has.
-    fn try_take(&self, place: &mut Place<O>, mark: u64) -> Option<Held<O::State, O::Call, O::Reply>>
+    // Takes the slot and the value in it, if no seat has it.
+    fn try_take(&self, place: &mut Place<O>) -> Option<Held<O::State, O::Call, O::Reply>>
         requires turn { place.old.table_id ≡ self.now.table }
         requires idle { IsIdle self.now.about place.old.me }
-        requires mark { 1 ≤ mark }
         ensures same { place.new.table_id ≡ place.old.table_id }
         ensures taken { MatchOption result
             (Lost O.opens O.answers place.old.me place.new.me)
             (λ held. Taken O.opens O.answers place.old.me held place.new.me) }
     {
         let shared = &self.table.shared;
-        let found = shared.fetch_max::<Take<O>>(place, 0, mark);
+        let found = shared.fetch_max::<Take<O>>(place, 0, TAKEN);
         if found != FREE {
             return None;
         }
@@ -189,28 +190,19 @@ impl<O: Object> Turn<O> {
         ensures same { place.new.table_id ≡ place.old.table_id }
         ensures taken { Taken O.opens O.answers place.old.me result place.new.me }
     {
-        if let Some(held) = self.try_take(place, TAKEN) {
-            return held;
-        }
-        let mut mark = if self.looks_free(place) {
-            TAKEN
-        } else {
-            AWAITED
-        };
+        let pause = Duration::from_micros(PAUSE);
         for _ in rt.forever() {
-            if let Some(held) = self.try_take(place, mark) {
+            if let Some(held) = self.try_take(place) {
                 return held;
             }
-            // A thread that has slept leaves the mark, since others may sleep still.
-            mark = AWAITED;
-            self.table.shared.park(rt, 0, AWAITED as u32);
-            let _ = self.looks_free(place);
+            if !self.looks_free(place) {
+                self.table.shared.park_timeout(rt, 0, TAKEN as u32, pause);
+            }
         }
         unreachable!()
     }
 
-    // Looks for a short while whether the slot was given back. Where others sleep for it, this thread does not look again.
-    // A look leaves the seat as it is.
+    // Looks for a short while whether the slot was given back. A look leaves the seat as it is.
     fn looks_free(&self, place: &mut Place<O>) -> bool
         requires turn { place.old.table_id ≡ self.now.table }
         requires idle { IsIdle self.now.about place.old.me }
@@ -218,15 +210,15 @@ impl<O: Object> Turn<O> {
     {
         for _ in 0..LOOKS {
             let found = self.table.shared.load::<Look<O>>(place, 0);
-            if found != TAKEN {
-                return found == FREE;
+            if found == FREE {
+                return true;
             }
             spin_loop();
         }
         false
     }
 
-    // Puts the value back and gives the slot back. Where threads may sleep for it, it wakes one.
+    // Puts the value back and gives the slot back.
     fn give(&self, place: &mut Place<O>, held: Held<O::State, O::Call, O::Reply>)
         requires turn { place.old.table_id ≡ self.now.table }
         requires holds { MayGiveFrom O.opens O.answers place.old.me held }
@@ -235,10 +227,7 @@ impl<O: Object> Turn<O> {
     {
         let shared = &self.table.shared;
         drop(shared.exchange(place, 0, Some(held)));
-        let found = shared.swap::<Give>(place, 0, FREE);
-        if found == AWAITED {
-            shared.wake_one(0);
-        }
+        let _found = shared.swap::<Give>(place, 0, FREE);
     }
 
     // One call of the seat at this place, which may keep notes.
@@ -329,7 +318,7 @@ impl<O: Object> Turn<O> {
         };
         let mut place = self.gather(first, seats);
         // No other seat is left that could have the slot.
-        let Some(Held { state, log }) = self.try_take(&mut place, TAKEN) else {
+        let Some(Held { state, log }) = self.try_take(&mut place) else {
             unreachable!()
         };
         let Turn { table, about: _ } = self;

@@ -219,7 +219,7 @@ fn is_usage(rt: &impl Abort, left: &Left, line: &str) {
 }
 
 // Wrong words, and the first line that is told of them.
-const WRONG: [(&[&str], &str); 15] = [
+const WRONG: [(&[&str], &str); 20] = [
     (
         &[],
         "error: 'mrp' requires a subcommand but one was not provided",
@@ -261,6 +261,23 @@ const WRONG: [(&[&str], &str); 15] = [
         &["live", "--workers", "0"],
         "error: invalid value '0' for '--workers <N>': 0 is not in 1..=64",
     ),
+    (&["page", "more"], "error: unexpected argument 'more' found"),
+    (
+        &["page", "--dir", "shop"],
+        "error: unexpected argument '--dir' found",
+    ),
+    (
+        &["page", "--run", "0"],
+        "error: invalid value '0' for '--run <K>': 0 is not in 1..18446744073709551615",
+    ),
+    (
+        &["check"],
+        "error: the following required arguments were not provided:",
+    ),
+    (
+        &["check", "--dir", "shop", "--workers", "2"],
+        "error: unexpected argument '--workers' found",
+    ),
     (
         &["--workers", "2"],
         "error: unexpected argument '--workers' found",
@@ -288,13 +305,17 @@ fn is_help(rt: &impl Abort, left: &Left) {
 
 #[test]
 fn help_is_written_to_the_output(rt: HostRuntime) {
-    const ASKED: [&[&str]; 6] = [
+    const ASKED: [&[&str]; 10] = [
         &["--help"],
         &["plan", "--help"],
         &["live", "--help"],
+        &["page", "--help"],
+        &["check", "--help"],
         &["help"],
         &["help", "plan"],
         &["help", "live"],
+        &["help", "page"],
+        &["help", "check"],
     ];
     for words in ASKED {
         let left = left_by(&rt, rt.alloc(), words, Streams::of(""));

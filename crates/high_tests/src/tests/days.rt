@@ -1,5 +1,6 @@
 //! Days, by a call of the library.
 
+use super::audits::SCRIPT;
 use super::texts::{LOTS_HISTORY, LOTS_REPORT};
 use super::{made, same};
 use mrp_engine::{DayFault, run_day};
@@ -25,14 +26,7 @@ fn day_of<R: Alloc + Abort + Threads + Sync>(
 #[test]
 fn a_day_has_its_history_and_its_report(rt: HostRuntime) {
     let shop = Records {
-        script: "\
-1,book,BIKE,2025-01-20,12,\n\
-1,book,BIKE,2025-02-03,25,\n\
-2,ask,BIKE,2025-01-06,,\n\
-2,book,BIKE,2025-01-13,15,\n\
-2,book,BIKE,2025-01-06,10,\n\
-1,ask,BIKE,2025-01-20,,\n\
-1,run,,,,\n",
+        script: SCRIPT,
         ..bicycles_in_lots()
     };
     let bundle = made(&rt, shop.bundle(rt.alloc()));

@@ -1,6 +1,7 @@
 //! Live days. With several desks there are many right ones of a bundle, so a day is looked at by what
 //! all of them have.
 
+use super::audits::SCRIPT;
 use super::commands::{Left, Streams, has_ended, left_by};
 use super::{made, same};
 use mrp_engine::answer_by_desks;
@@ -15,7 +16,7 @@ use std::sync::atomic::{AtomicU64, Ordering};
 use std::test::Fail;
 use std::thread::Threads;
 
-// A morning at two desks.
+// A morning at two desks, without the run behind it.
 const MORNING: &str = "\
 1,book,BIKE,2025-01-20,12,\n\
 1,book,BIKE,2025-02-03,25,\n\
@@ -23,16 +24,6 @@ const MORNING: &str = "\
 2,book,BIKE,2025-01-13,15,\n\
 2,book,BIKE,2025-01-06,10,\n\
 1,ask,BIKE,2025-01-20,,\n";
-
-// The same with a run of the first desk.
-const MORNING_AND_RUN: &str = "\
-1,book,BIKE,2025-01-20,12,\n\
-1,book,BIKE,2025-02-03,25,\n\
-2,ask,BIKE,2025-01-06,,\n\
-2,book,BIKE,2025-01-13,15,\n\
-2,book,BIKE,2025-01-06,10,\n\
-1,ask,BIKE,2025-01-20,,\n\
-1,run,,,,\n";
 
 // The calls of the first desk, with its run, and of the second: what stands between a row's desk and
 // its reply.
@@ -137,7 +128,7 @@ fn morning_by<R: Alloc + Abort + Eprint + Files + Threads + Wait + Sync>(
 #[test]
 fn each_desk_makes_its_calls_in_order(rt: HostRuntime) {
     for _ in 0..8 {
-        let left = morning_by(&rt, rt.alloc(), MORNING_AND_RUN);
+        let left = morning_by(&rt, rt.alloc(), SCRIPT);
         is_morning(&rt, rt.alloc(), &left);
         drop(left);
     }
@@ -171,63 +162,122 @@ fn nothing_is_written_where_a_run_of_a_live_day_gets_too_large(rt: HostRuntime) 
     drop((left, bundle));
 }
 
-// A gate that lets the first desk pass only once the second has come to it. It gives up at some time, and
-// then says so.
+// Calls of two desks in turn.
+const IN_TURN: &str = "1,ask,BIKE,2025-01-06,,\n2,ask,BIKE,2025-01-06,,\n";
+
+// A script of so many turns of two desks.
+fn turns(alloc: Global, count: usize) -> Result<String, Fail> {
+    let mut script = String::new(alloc);
+    for _ in 0..count {
+        script.push_str(IN_TURN)?;
+    }
+    Ok(script)
+}
+
+// The day of two desks whose records stand in turn, as a command makes it.
+fn turns_by<R: Alloc + Abort + Eprint + Files + Threads + Wait + Sync>(
+    rt: &R,
+    alloc: Global,
+    command: &str,
+) -> Left {
+    let script = made(rt, turns(alloc, 400));
+    let shop = Records {
+        script: script.as_str(),
+        ..bicycles_in_lots()
+    };
+    let bundle = made(rt, shop.bundle(alloc));
+    let left = left_by(rt, alloc, &[command], Streams::of(&bundle));
+    same(rt, left.status, 0);
+    drop((bundle, script));
+    left
+}
+
+// Row order needs every one of 800 calls to be made in turn, which no two threads do.
+#[test]
+fn a_live_day_is_not_made_in_row_order(rt: HostRuntime) {
+    let plan = turns_by(&rt, rt.alloc(), "plan");
+    let live = turns_by(&rt, rt.alloc(), "live");
+    same(&rt, plan.output.len(), live.output.len());
+    same(&rt, plan.output.as_str() == live.output.as_str(), false);
+    drop((plan, live));
+}
+
+// A gate at which two desks wait for one another, and that counts who comes. The first desk's first call
+// waits until the second desk comes twice, so that it has made an entry, and the second desk's third call
+// until the first desk does. No order of one desk after the other gets through. Who waits gives up at some
+// time, and then says so.
 #[derive(Drop)]
-struct SecondFirst {
+struct EachWaits {
+    first_came: AtomicU64,
     second_came: AtomicU64,
     given_up: AtomicU64,
 }
 
 const MOST_TURNS: u64 = 10_000_000;
 
-impl SecondFirst {
-    // Waits for the second desk; whether it came.
-    fn has_come(&self) -> bool {
-        for _ in 0..MOST_TURNS {
-            if self.second_came.load(Ordering::SeqCst) > 0 {
-                return true;
-            }
+// Waits for a desk to come twice; whether it did.
+fn comes_twice(came: &AtomicU64) -> bool {
+    for _ in 0..MOST_TURNS {
+        if came.load(Ordering::SeqCst) > 1 {
+            return true;
         }
-        false
     }
+    false
 }
 
-impl Gate for SecondFirst {
-    fn pass<R: Wait>(&self, _rt: &R, desk: usize) {
-        if desk == 2 {
-            self.second_came.store(1, Ordering::SeqCst);
-        } else if !self.has_come() {
+impl EachWaits {
+    // Counts a desk that comes. The call behind so many of its own waits for the other desk.
+    fn come(&self, own: &AtomicU64, behind: u64, other: &AtomicU64) {
+        let before = own.fetch_add(1, Ordering::SeqCst);
+        if before == behind && !comes_twice(other) {
             self.given_up.store(1, Ordering::SeqCst);
         }
     }
 }
 
-// How many entries desks have made that had to pass a gate.
+impl Gate for EachWaits {
+    fn pass<R: Wait>(&self, _rt: &R, desk: usize) {
+        if desk == 1 {
+            self.come(&self.first_came, 0, &self.second_came);
+        } else {
+            self.come(&self.second_came, 2, &self.first_came);
+        }
+    }
+}
+
+// How many entries desks have made that had to pass a gate, and how many of them in front of the first
+// desk's first.
 fn entries_behind<R: Abort + Eprint + Threads + Wait + Sync>(
     rt: &R,
     alloc: Global,
     script: &str,
-    gate: &SecondFirst,
-) -> usize {
+    gate: &EachWaits,
+) -> (usize, usize) {
     let shop = Records {
         script,
         ..bicycles_in_lots()
     };
     let shop = made(rt, shop.shop(alloc));
     let (shop, history) = answer_by_desks(rt, alloc, shop, gate).expect(rt, "memory");
-    let count = history.entries().len();
+    let entries = history.entries();
+    let count = entries.len();
+    let front = entries.iter().take_while(|entry| entry.who != 1).count();
     drop((shop, history));
-    count
+    (count, front)
 }
 
+// Each call passes the gate once.
 #[test]
-fn a_desk_that_waits_for_another_does_not_hold_it(rt: HostRuntime) {
-    let gate = SecondFirst {
+fn desks_make_their_calls_at_the_same_time(rt: HostRuntime) {
+    let gate = EachWaits {
+        first_came: AtomicU64::new(0),
         second_came: AtomicU64::new(0),
         given_up: AtomicU64::new(0),
     };
-    let count = entries_behind(&rt, rt.alloc(), MORNING_AND_RUN, &gate);
+    let (count, front) = entries_behind(&rt, rt.alloc(), SCRIPT, &gate);
     same(&rt, count, 7);
+    same(&rt, front == 1 || front == 2, true);
     same(&rt, gate.given_up.load(Ordering::SeqCst), 0);
+    same(&rt, gate.first_came.load(Ordering::SeqCst), 4);
+    same(&rt, gate.second_came.load(Ordering::SeqCst), 3);
 }

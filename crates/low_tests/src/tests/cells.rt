@@ -4,7 +4,7 @@ ghost use Rattle.std.specs.Prelude.{◌≡◌, length};
 
 use super::cursors::{next_row, stock_of};
 use super::same;
-use mrp_rows::{Cursor, Fault, Name, Row, Table, split_bundle};
+use mrp_rows::{Cursor, Fault, Name, Row, Table, faults, split_bundle};
 use std::alloc::Global;
 use std::process::Abort;
 
@@ -43,28 +43,28 @@ fn row_of(rt: &impl Abort, alloc: Global, cell: &[u8]) -> Row
 
 // The refusals of the record.
 const NOT_A_NAME: Fault = Fault {
-    code: 7,
+    code: faults::NAME,
     table: Table::Stock,
     row: 2,
 };
 
 const NOT_A_NUMBER: Fault = Fault {
-    code: 8,
+    code: faults::NUMBER,
     ..NOT_A_NAME
 };
 
 const NOT_A_DATE: Fault = Fault {
-    code: 9,
+    code: faults::DATE,
     ..NOT_A_NAME
 };
 
 const NOT_A_WORD: Fault = Fault {
-    code: 10,
+    code: faults::WORD,
     ..NOT_A_NAME
 };
 
 const OUT_OF_RANGE: Fault = Fault {
-    code: 11,
+    code: faults::RANGE,
     ..NOT_A_NAME
 };
 
@@ -241,13 +241,13 @@ fn dates_are_days_of_the_calendar(rt: HostRuntime) {
 #[test]
 fn a_refusal_names_the_record(rt: HostRuntime) {
     const UNKNOWN: Fault = Fault {
-        code: 13,
+        code: faults::UNKNOWN_ITEM,
         ..NOT_A_NAME
     };
     let row = row_of(&rt, rt.alloc(), b"BIKE");
     same(&rt, row.cell(1), b"BIKE".as_slice());
     same(&rt, row.number(0, 0, 9), Ok(2));
     same(&rt, row.number(1, 0, 9), Err(NOT_A_NUMBER));
-    same(&rt, row.fault(13), UNKNOWN);
+    same(&rt, row.fault(faults::UNKNOWN_ITEM), UNKNOWN);
     drop(row);
 }

@@ -1,7 +1,7 @@
 //! Records of a table, one after the other.
 
 use super::{one_of_nine, same};
-use mrp_rows::{Cursor, Fault, Row, Table, split_bundle};
+use mrp_rows::{Cursor, Fault, Row, Table, faults, split_bundle};
 use std::alloc::Global;
 use std::process::Abort;
 
@@ -135,7 +135,7 @@ fn other_headers_are_refused(rt: HostRuntime) {
         b"item,on_hand\nBIKE,10\n",
     ];
     const FAULT: Fault = Fault {
-        code: 5,
+        code: faults::HEADER,
         table: Table::Stock,
         row: 0,
     };
@@ -199,7 +199,7 @@ const UNEVEN: &[(&[u8], &[&[&[u8]]], u32)] = &[
 // The fault of a record with another count of cells.
 fn uneven(table: Table, row: u32) -> Result<(), Fault> {
     Err(Fault {
-        code: 6,
+        code: faults::COLUMNS,
         table,
         row,
     })

@@ -20,7 +20,7 @@ pub unreachable-requires : goal.unreachable-requires
 unreachable-requires c =
     let t = c.args.office.about.object.tables in
     let h = c.close-history.result.entries in
-    let wide = all-wide c.args.office.about.seats t.script c.requires.rows c.requires.enough.1 c.requires.enough.0 in
+    let wide = all-wide c.args.office.about.seats t.script c.requires.rows c.requires.count.all c.requires.count.some in
     let adds = run-adds (script_of t) in
     let rows = length-map {B = ℕ × Call} t.script record_of in
     let few = c.requires.few in
@@ -32,7 +32,7 @@ pub returns-in-Ok-clause-answers : goal.returns-in-Ok-clause-answers
 returns-in-Ok-clause-answers c =
     let t = c.args.office.about.object.tables in
     let h = c.close-history.result.entries in
-    let wide = all-wide c.args.office.about.seats t.script c.requires.rows c.requires.enough.1 c.requires.enough.0 in
+    let wide = all-wide c.args.office.about.seats t.script c.requires.rows c.requires.count.all c.requires.count.some in
     let served = subst (λ (r : End). OnOk r (All (λ d. asked d.mine ≡ asked_by d.number (with_run (script_of t))) c.args.desks.items)) c.in-Ok.is c.requires.served.served in
     record {
       legal = subst (λ (s : Supply). IsLegal s h) c.close-history.ensures.supply c.close-history.ensures.legal;

@@ -1,7 +1,12 @@
-use Rattle.std.proofs.Common.{◌≤◌, take}
-use Rattle.std.specs.Prelude.{All}
+use Rattle.std.proofs.Common.{◌≡◌, ◌≤◌, ◌⊎◌, take}
+use Rattle.std.specs.Prelude.{All, Any}
 use Rattle.mrp_tables.specs.declared.limits.TheConstants.{MOST_DESKS}
 use Rattle.mrp_engine.proofs.desks.count_of.Given as goal
 
 abbrev pub invariant-loop-row : goal.invariant-loop-row
-invariant-loop-row l = (1 ≤ l.count) × (l.count ≤ MOST_DESKS) × All (λ row. row.desk ≤ l.count) (take l.row-index l.script)
+invariant-loop-row l = record {
+  some : 1 ≤ l.count;
+  most : l.count ≤ MOST_DESKS;
+  all : All (λ row. row.desk ≤ l.count) (take l.row-index l.script);
+  least : (l.count ≡ 1) ⊎ Any (λ row. row.desk ≡ l.count) l.script;
+}

@@ -1,16 +1,55 @@
-use Rattle.std.proofs.Common.{arith, map}
+use Rattle.std.proofs.Common.{◌≡◌, List, Vec, ap, arith, length, map, subst, sym}
+use Rattle.std.specs.Prelude.{All}
+use Rattle.std.specs.declared.alloc.Global.{Global}
+use Rattle.mrp_book.specs.declared.call.Call.{Call}
+use Rattle.mrp_book.specs.History.{Fits}
+use Rattle.mrp_desk.specs.Offices.{supply_at}
+use Rattle.mrp_engine.specs.DeskCalls.{AreCallsOf, calls_at}
 use Rattle.mrp_engine.specs.Script.{record_of}
-use Rattle.mrp_engine.proofs.DeskLists.{if-parted-desks, if-parted-served}
+use Rattle.mrp_engine.proofs.DeskCalls.{lists-fit}
+use Rattle.mrp_engine.proofs.DeskLists.{followed-each, if-parted-desks, if-parted-served}
 use Rattle.mrp_engine.proofs.desks.serve_script.Goals as goal
+
+pub calls_by_desk-requires : goal.calls_by_desk-requires
+calls_by_desk-requires g c = λ k d within.
+    let count = c.requires.desks.count in
+    let most = c.requires.count.all k d within in
+    (c.requires.rows k d within, omega (arith, count, most, c.args.desks.ok.0))
+
+pub serve_all-requires-clause-lists : goal.serve_all-requires-clause-lists
+serve_all-requires-clause-lists g c = λ κs alive k d within.
+    let number = c.requires.desks.numbers k d within in
+    let long : length c.as_slice.result.now ≡ length c.in_ok-lists.lists.items = ap (length {A = Vec Call Global}) c.as_slice.ensures.value in
+    let size = c.in_ok-lists.ensures.size in
+    let count = c.len.ensures in
+    (omega (arith, number), omega (arith, number, within, long, size, count, c.args.desks.ok.0))
+
+pub serve_all-requires-clause-fits : goal.serve_all-requires-clause-fits
+serve_all-requires-clause-fits g c = λ κs alive place.
+    let supply = supply_at c.args.office.now in
+    subst (λ (lists : List (Vec Call Global)). All (Fits supply) (calls_at lists place)) (sym c.as_slice.ensures.value)
+    (lists-fit supply c.args.script.now c.in_ok-lists.lists.items c.in_ok-lists.ensures.calls c.requires.fits place)
 
 pub returns-clause-desks : goal.returns-clause-desks
 returns-clause-desks g c =
-    if-parted-desks c.args.office.now (map record_of c.args.script.now) c.args.desks.items c.in_ok-serve_all.field-0.items c.requires.desks c.requires.new
-    (let now = c.in_ok-serve_all.ensures.count in omega (arith, now, c.args.desks.ok.0, c.in_ok-serve_all.field-0.ok.0))
-    (λ k d s within. c.in_ok-serve_all.ensures.each k d s (omega (arith, within, c.args.desks.ok.0))) c.parted.result c.parted.ensures.desks
+    let records = map record_of c.args.script.now in
+    let desks = c.args.desks.items in
+    let all = c.in_ok-all.all.items in
+    let count = c.in_ok-all.ensures.count in
+    let calls = subst (AreCallsOf records) (sym c.as_slice.ensures.value) c.in_ok-lists.ensures.calls in
+    if-parted-desks c.args.office.now records desks all c.requires.desks c.requires.new (omega (arith, count, c.args.desks.ok.0, c.in_ok-all.all.ok.0))
+    (followed-each c.args.office.now (supply_at c.args.office.now) records c.as_slice.result.now desks all c.requires.desks calls
+    (λ k d s within. c.in_ok-all.ensures.each k d s (omega (arith, within, c.args.desks.ok.0))))
+    c.parted.result c.parted.ensures.desks
 
 pub returns-clause-served : goal.returns-clause-served
 returns-clause-served g c =
-    if-parted-served c.args.office.now (map record_of c.args.script.now) c.args.desks.items c.in_ok-serve_all.field-0.items c.requires.desks c.requires.new
-    (let now = c.in_ok-serve_all.ensures.count in omega (arith, now, c.args.desks.ok.0, c.in_ok-serve_all.field-0.ok.0))
-    (λ k d s within. c.in_ok-serve_all.ensures.each k d s (omega (arith, within, c.args.desks.ok.0))) c.parted.result c.parted.ensures.desks c.parted.ensures.end
+    let records = map record_of c.args.script.now in
+    let desks = c.args.desks.items in
+    let all = c.in_ok-all.all.items in
+    let count = c.in_ok-all.ensures.count in
+    let calls = subst (AreCallsOf records) (sym c.as_slice.ensures.value) c.in_ok-lists.ensures.calls in
+    if-parted-served c.args.office.now records desks all c.requires.desks c.requires.new (omega (arith, count, c.args.desks.ok.0, c.in_ok-all.all.ok.0))
+    (followed-each c.args.office.now (supply_at c.args.office.now) records c.as_slice.result.now desks all c.requires.desks calls
+    (λ k d s within. c.in_ok-all.ensures.each k d s (omega (arith, within, c.args.desks.ok.0))))
+    c.parted.result c.parted.ensures.desks c.parted.ensures.end

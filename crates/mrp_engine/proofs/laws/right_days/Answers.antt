@@ -1,4 +1,4 @@
-use Rattle.mrp_engine.proofs.RightDays.{day-right, in-order, live-right}
+use Rattle.mrp_engine.proofs.RightDays.{by-words, day-right, from-script, in-order, live-right}
 use Rattle.mrp_engine.proofs.ScriptLaws.{books-within, plans-what-stood, stays-covered}
 use Rattle.mrp_engine.proofs.laws.right_days.Goals as goal
 
@@ -10,6 +10,12 @@ returns-clause-day c = day-right
 
 pub returns-clause-live : goal.returns-clause-live
 returns-clause-live c = live-right
+
+pub returns-clause-from_script : goal.returns-clause-from_script
+returns-clause-from_script c = from-script
+
+pub returns-clause-by_words : goal.returns-clause-by_words
+returns-clause-by_words c = by-words
 
 pub returns-clause-what_stood : goal.returns-clause-what_stood
 returns-clause-what_stood c = λ tables h answers. plans-what-stood tables h answers.legal

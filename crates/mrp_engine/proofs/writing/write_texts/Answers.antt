@@ -1,13 +1,13 @@
 use Rattle.std.proofs.Common.{◌≡◌, ◌∙◌, ℕ, List, ◌++◌, Result, Err, ap, rules, subst, sym}
 use Rattle.std.specs.Prelude.{IfErr}
 use Rattle.std.specs.List.{flat_map}
+use Rattle.std.proofs.lemmas.Result.{on_err_weaker, on_ok_weaker}
 use Rattle.mrp_bill.specs.Shop.{Shop}
 use Rattle.mrp_item.specs.Inputs.{Inputs}
 use Rattle.mrp_report.specs.HistoryText.{history_text}
 use Rattle.mrp_report.specs.ReportText.{report_text}
 use Rattle.mrp_report.specs.Written.{HasTakenFront}
 use Rattle.mrp_report.specs.declared.fault.ReportFault.{ReportFault}
-use Rattle.mrp_report.proofs.Progress.{on-err-then, on-ok-then}
 use Rattle.mrp_engine.specs.Day.{runs_of}
 use Rattle.mrp_engine.specs.Fault.{writing_fault}
 use Rattle.mrp_engine.specs.Planned.{inputs_of_plans}
@@ -53,7 +53,7 @@ returns-clause-whole g c =
     let mid = c.write_history.new.writer in
     let new = c.write_reports.new.writer in
     let text = history g c in
-    on-ok-then c.write_reports.result
+    on_ok_weaker c.write_reports.result
     (λ (taken : HasTakenAll contents mid new (flat_map report_text (inputs_of_plans c.deref-2.result.now))).
     subst (λ (from : List Inputs). HasTakenAll contents old new (text ++ flat_map report_text from)) (runs g c)
     (all-both contents old mid new text (flat_map report_text (inputs_of_plans c.deref-2.result.now)) (first g c) taken))
@@ -66,7 +66,7 @@ returns-clause-front g c =
     let mid = c.write_history.new.writer in
     let new = c.write_reports.new.writer in
     let text = history g c in
-    on-err-then c.write_reports.result
+    on_err_weaker c.write_reports.result
     (λ (front : HasTakenFront contents mid new (flat_map report_text (inputs_of_plans c.deref-2.result.now))).
     subst (λ (from : List Inputs). HasTakenFront contents old new (text ++ flat_map report_text from)) (runs g c)
     (front-then contents old mid new text (flat_map report_text (inputs_of_plans c.deref-2.result.now)) (first g c) front))

@@ -21,7 +21,7 @@ append-requires c =
 pub loop-item-preserved : goal.loop-item-preserved
 loop-item-preserved c =
     let rows = ap (length {A = Item}) (c.items-count.ensures.rows ∙ ap (λ (t : Tables). t.items) c.tables.ensures.value) in
-    one-grouped c.args.shop.now.tables.bills (length c.args.shop.now.tables.items) c.loop-item.item c.code.result c.loop-item.levels.items c.append.new.levels.items
+    one-grouped c.args.shop.now.tables.bills (length c.args.shop.now.tables.items) c.loop-item.item c.code.result c.loop-item.levels.items c.append.new.lists.items
     (omega (arith, c.loop-item-test.true, rows)) c.code.ensures c.in_ok-append.ensures c.loop-item.invariant
 
 pub returns : goal.returns

@@ -6,7 +6,7 @@ use Rattle.mrp_load.proofs.grouping.operations_by_centre.Goals as goal
 pub loop-operation-preserved : goal.loop-operation-preserved
 loop-operation-preserved c = record {
   size = c.in_ok-append.ensures.size ∙ c.loop-operation.invariant.size;
-  grouped = grouped-more c.args.operations.now c.loop-operation.operation-index _ c.loop-operation.groups.items c.append.new.groups.items
+  grouped = grouped-more c.args.operations.now c.loop-operation.operation-index _ c.loop-operation.groups.items c.append.new.lists.items
       c.loop-operation-test.true c.in_ok-append.ensures c.loop-operation.invariant.grouped;
 }
 

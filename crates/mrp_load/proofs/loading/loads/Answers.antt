@@ -7,7 +7,7 @@ use Rattle.mrp_tables.specs.declared.rows.Centre.{Centre}
 use Rattle.mrp_tables.specs.declared.rows.Operation.{Operation}
 use Rattle.mrp_item.specs.Inputs.{Inputs}
 use Rattle.mrp_load.specs.Bounds.{AreOperations}
-use Rattle.mrp_load.specs.Groups.{group_at}
+use Rattle.mrp_bill.specs.Lists.{listed}
 use Rattle.mrp_load.proofs.Grouped.{at_centre, centres-within, grouped-each}
 use Rattle.mrp_load.proofs.loading.loads.Goals as goal
 
@@ -31,7 +31,7 @@ pub load_rows-requires-clause-groups : goal.load_rows-requires-clause-groups
 load_rows-requires-clause-groups g c κs live = λ centre.
     let s = c.args.plan.now.inputs in
     let tables : c.tables-tables.result.now ≡ s.tables = c.tables-tables.ensures.value ∙ c.shop.ensures.tables ∙ ap (λ (x : Inputs). x.tables) (c.deref.ensures ∙ c.inputs.ensures.inputs) in
-    ap (λ (gs : List (Vec Operation Global)). group_at gs centre) c.deref-2.ensures.value ∙ c.in_ok-groups.ensures.groups centre
+    ap (λ (gs : List (Vec Operation Global)). listed gs centre) c.deref-2.ensures.value ∙ c.in_ok-groups.ensures.groups centre
     ∙ ap (filter (at_centre centre)) (c.routings.ensures.rows ∙ ap (λ (t : Tables). t.routings) tables)
 
 pub load_rows-requires-clause-within : goal.load_rows-requires-clause-within

@@ -12,4 +12,6 @@ returns c =
     ap app_of_fields c.subcommand_required.ensures ∙ ap (λ (f : Command-F Command). app_of_fields (record f { subcommand_required = true })) c.no_binary_name.ensures
     ∙ ap (λ (a : App). on_top (λ s. record s { no_binary_name = true; subcommand_required = true }) a) top_before in
     let planned = c.in_ok-subcommand.ensures.shape c.in_ok-day_command.ensures.local ∙ ap₂ with_subcommand top_is (ap (λ (a : App). a.top) c.in_ok-day_command.ensures.app) in
-    IfOk-weaker c.subcommand-2.result _ _ (λ r h. h.shape c.in_ok-day_command-2.ensures.local ∙ ap₂ with_subcommand planned (ap (λ (a : App). a.top) c.in_ok-day_command-2.ensures.app)) c.subcommand-2.ensures
+    let lived = c.in_ok-subcommand-2.ensures.shape c.in_ok-day_command-2.ensures.local ∙ ap₂ with_subcommand planned (ap (λ (a : App). a.top) c.in_ok-day_command-2.ensures.app) in
+    let drawn = c.in_ok-subcommand-3.ensures.shape c.in_ok-page_command.ensures.local ∙ ap₂ with_subcommand lived (ap (λ (a : App). a.top) c.in_ok-page_command.ensures.app) in
+    IfOk-weaker c.subcommand-4.result _ _ (λ r h. h.shape c.in_ok-check_command.ensures.local ∙ ap₂ with_subcommand drawn (ap (λ (a : App). a.top) c.in_ok-check_command.ensures.app)) c.subcommand-4.ensures

@@ -13,10 +13,10 @@ rows_in found = rows_of (found_of found.1.now)
 
 pub returns-in-Some : goal.returns-in-Some
 returns-in-Some c =
-    IfOk-weaker c.dir_in.result _ _
+    IfOk-weaker c.text_in.result _ _
     (λ folder is. is ∙ first_value-rows (found_of c.in-Some.found.now) (codes "dir")
     ∙ dir-in rows_in c.subcommand.result _ (subcommand_rows_of c.args.matches.now) c.in-Some.is c.subcommand.ensures.rows)
-    c.dir_in.ensures
+    c.text_in.ensures
 
 pub returns-in-None : goal.returns-in-None
 returns-in-None c = dir-out rows_in c.subcommand.result (subcommand_rows_of c.args.matches.now) c.in-None.is c.subcommand.ensures.rows

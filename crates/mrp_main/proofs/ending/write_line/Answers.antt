@@ -1,6 +1,7 @@
 use Rattle.std.proofs.Common.{ℕ, List, ◌++◌, ◌∷◌, []}
+use Rattle.std.proofs.lemmas.Result.{on_err_weaker, on_ok_weaker}
 use Rattle.mrp_report.specs.Written.{HasTakenFront}
-use Rattle.mrp_report.proofs.Progress.{on-err, on-err-then, on-ok-then}
+use Rattle.mrp_report.proofs.Progress.{on-err}
 use Rattle.mrp_engine.specs.Run.{HasTakenAll}
 use Rattle.mrp_engine.proofs.DayWritten.{all-both, front-of-more, front-then}
 use Rattle.mrp_main.proofs.ending.write_line.Goals as goal
@@ -28,7 +29,7 @@ returns-clause-whole g c =
     let now = c.write_whole-3.new.errors in
     let feed : List ℕ = 10 ∷ [] in
     let both = all-both contents c.args.errors.now c.write_whole.new.errors told c.args.head.now c.args.rest.now c.in_ok-write_whole.ensures.whole c.in_ok-write_whole-2.ensures.whole in
-    on-ok-then c.write_whole-3.result
+    on_ok_weaker c.write_whole-3.result
     (λ (taken : HasTakenAll contents told now feed). all-both contents c.args.errors.now told now (c.args.head.now ++ c.args.rest.now) feed both taken)
     c.write_whole-3.ensures.whole
 
@@ -39,6 +40,6 @@ returns-clause-front g c =
     let now = c.write_whole-3.new.errors in
     let feed : List ℕ = 10 ∷ [] in
     let both = all-both contents c.args.errors.now c.write_whole.new.errors told c.args.head.now c.args.rest.now c.in_ok-write_whole.ensures.whole c.in_ok-write_whole-2.ensures.whole in
-    on-err-then c.write_whole-3.result
+    on_err_weaker c.write_whole-3.result
     (λ (front : HasTakenFront contents told now feed). front-then contents c.args.errors.now told now (c.args.head.now ++ c.args.rest.now) feed both front)
     c.write_whole-3.ensures.front

@@ -1,6 +1,6 @@
 use Rattle.std.proofs.Common.{◌∙◌, sym, true, false}
 use Rattle.csv.specs.Records.{fields_of}
-use Rattle.mrp_page.proofs.CellPlaces.{texts-drop}
+use Rattle.mrp_rows.proofs.WordPlaces.{texts-drop}
 use Rattle.mrp_page.proofs.cells.are_texts.Goals as goal
 
 pub returns-then-ne : goal.returns-then-ne

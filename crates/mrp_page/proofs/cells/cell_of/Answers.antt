@@ -1,6 +1,6 @@
 use Rattle.std.proofs.Common.{refl}
 use Rattle.csv.specs.Records.{fields_of}
-use Rattle.mrp_page.proofs.CellPlaces.{cell-or}
+use Rattle.mrp_rows.proofs.CellPlaces.{cell-or}
 use Rattle.mrp_page.proofs.cells.cell_of.Goals as goal
 
 pub returns : goal.returns

@@ -1,4 +1,4 @@
-use Rattle.std.proofs.Common.{◌≡◌, ◌∙◌, ◌++◌, ℕ, List, Bor, ap, arith, length, map}
+use Rattle.std.proofs.Common.{◌≡◌, ◌∙◌, ◌++◌, Bor, ap, arith, length}
 use Rattle.mrp_page.specs.Draw.{centre_html, each_centre}
 use Rattle.mrp_page.specs.Row.{RowView}
 use Rattle.mrp_page.proofs.Pieces.{flat_map-map, whole}

@@ -1,4 +1,4 @@
-use Rattle.std.proofs.Common.{◌≡◌, map}
+use Rattle.std.proofs.Common.{◌≡◌}
 use Rattle.mrp_page.specs.Draw.{centre_html}
 use Rattle.mrp_page.proofs.Pieces.{so_far}
 use Rattle.mrp_page.proofs.draw.put_each_centre.Given as goal

@@ -1,4 +1,4 @@
-use Rattle.std.proofs.Common.{◌≡◌, ◌∙◌, ◌++◌, ℕ, List, Bor, ap, arith, length, map}
+use Rattle.std.proofs.Common.{◌≡◌, ◌∙◌, ◌++◌, Bor, ap, arith, length}
 use Rattle.mrp_page.specs.Draw.{item_html, items_html}
 use Rattle.mrp_page.specs.Row.{RowView}
 use Rattle.mrp_page.proofs.Pieces.{flat_map-map, whole}
@@ -8,5 +8,5 @@ pub returns : goal.returns
 unfolding items_html
 returns c =
     let all : c.loop-leader.leader-index ≡ length c.args.leaders.now = omega arith in
-    c.loop-leader.invariant ∙ whole c.args.page.now (λ (r : Bor RowView). item_html c.args.rows.now r.now) c.args.leaders.now c.loop-leader.leader-index all
-    ∙ ap (λ t. c.args.page.now ++ t) (flat_map-map (item_html c.args.rows.now) (λ (r : Bor RowView). r.now) c.args.leaders.now)
+    c.loop-leader.invariant ∙ whole c.args.page.now (λ (r : Bor RowView). item_html c.args.rows.now c.args.missed r.now) c.args.leaders.now c.loop-leader.leader-index all
+    ∙ ap (λ t. c.args.page.now ++ t) (flat_map-map (item_html c.args.rows.now c.args.missed) (λ (r : Bor RowView). r.now) c.args.leaders.now)

@@ -29,10 +29,14 @@ returns-then-not-is_end-clause-wrong g c shape text known =
 pub returns-then-not-has_run-clause-run : goal.returns-then-not-has_run-clause-run
 returns-then-not-has_run-clause-run g c none text known =
     let (records, are, kept) = c.in_ok-notes.ensures.noted text known in
-    let lacks : c.has_run.result ≡ false = first_of (search (c.if-not-has_run.true), search (is-false, c.if-not-has_run.true), grind (arith, c.if-not-has_run.true)) in (
+    let lacks : c.has_run.result ≡ false = first_of (search (c.if-not-has_run.true), search (is-false, c.if-not-has_run.true), grind (arith, c.if-not-has_run.true)) in
+    let ends : c.is_end.result ≡ true = first_of (search (c.if-not-is_end.false), search (is-true, c.if-not-is_end.false), grind (arith, c.if-not-is_end.false)) in (
       records,
       are,
-      ap (λ (n : Noted). has_run c.args.asked n.spot.run) (sym kept) ∙ ap (λ (s : Spot). has_run c.args.asked s.run) (sym c.spot-spot.ensures) ∙ sym c.has_run.ensures ∙ lacks,
+      (
+        ap is_end (sym (kept-place c.args.items.now c.args.asked c.in_ok-notes.notes records kept)) ∙ ap (λ (s : Spot). is_end s.place) (sym c.spot-spot.ensures) ∙ sym c.is_end.ensures ∙ ends,
+        ap (λ (n : Noted). has_run c.args.asked n.spot.run) (sym kept) ∙ ap (λ (s : Spot). has_run c.args.asked s.run) (sym c.spot-spot.ensures) ∙ sym c.has_run.ensures ∙ lacks,
+      ),
     )
 
 pub returns-clause-kept : goal.returns-clause-kept

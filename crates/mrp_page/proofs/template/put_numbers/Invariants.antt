@@ -1,4 +1,4 @@
-use Rattle.std.proofs.Common.{◌≡◌, map}
+use Rattle.std.proofs.Common.{◌≡◌}
 use Rattle.mrp_page.specs.Template.{number_at}
 use Rattle.mrp_page.proofs.Pieces.{so_far}
 use Rattle.mrp_page.proofs.template.put_numbers.Given as goal

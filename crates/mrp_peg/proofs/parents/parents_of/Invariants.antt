@@ -1,7 +1,8 @@
-use Rattle.std.proofs.Common.{◌≡◌, take}
-use Rattle.std.specs.Prelude.{flat_map}
-use Rattle.mrp_peg.specs.Rows.{line_wanted}
+use Rattle.std.proofs.Common.{◌≡◌}
+use Rattle.mrp_phase.specs.Weeks.{weeks}
+use Rattle.mrp_peg.specs.Rows.{parents_wanted}
+use Rattle.mrp_peg.specs.Weekly.{by_weeks}
 use Rattle.mrp_peg.proofs.parents.parents_of.Given as goal
 
 abbrev pub invariant-loop-place : goal.invariant-loop-place
-invariant-loop-place l = l.needs.items ≡ flat_map (line_wanted l.plan.inputs l.item) (take l.place-index l.place-items)
+invariant-loop-place l = l.needs.items ≡ by_weeks (λ wanted. wanted.need.week) (weeks l.place) (parents_wanted l.plan.inputs l.item)

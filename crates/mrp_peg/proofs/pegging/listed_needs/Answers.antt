@@ -9,7 +9,8 @@ use Rattle.mrp_item.specs.Limits.{IsSized}
 use Rattle.mrp_item.specs.Places.{PlannedItem}
 use Rattle.mrp_item.specs.Plan.{outcome_of, plan_in}
 use Rattle.mrp_peg.specs.declared.matching.Wanted.{Wanted}
-use Rattle.mrp_peg.specs.Rows.{beyond, booking_wanted, demand_wanted, forecast_wanted, parents_wanted}
+use Rattle.mrp_peg.specs.Weekly.{AreWithin, by_weeks}
+use Rattle.mrp_peg.specs.Rows.{all_wanted, beyond, booking_wanted, demand_wanted, forecast_wanted, parents_wanted}
 use Rattle.mrp_peg.proofs.Listed.{bookings_within}
 use Rattle.mrp_peg.proofs.Own.{gross-length}
 use Rattle.mrp_peg.proofs.pegging.listed_needs.Goals as goal
@@ -56,22 +57,23 @@ returns-then-is_master_item-clause-needs c =
     ∙ ap (λ n. F (booking_dues s.standing i) (plan_in (outcome_of s i)).gross n c.weeks.result) size
     ∙ ap (λ m. F (booking_dues s.standing i) (plan_in (outcome_of s i)).gross (horizon s) m) horizon_is
     ∙ sym (ap (λ b. cond b (demand_wanted s i) (parents_wanted s i)) master) in
-    let Q : List Wanted → Type 0 = λ l. IfOk c.demand_of.result (λ needs. needs.items ≡ l) in
-    subst Q whole c.demand_of.ensures
+    let needs : c.in_ok-needs.needs.items ≡ all_wanted s i = c.in_ok-needs.ensures ∙ whole in
+    let W : List Wanted → Type 0 = λ l. AreWithin (λ (w : Wanted). w.need.week) 1 (horizon s) l in
+    c.in_ok-sort_needs.ensures 1 (horizon s) (subst W (sym needs) c.requires.within) ∙ ap (by_weeks (λ (w : Wanted). w.need.week) (weeks (horizon s))) needs
 
-pub returns-else-is_master_item-clause-needs : goal.returns-else-is_master_item-clause-needs
-returns-else-is_master_item-clause-needs c =
+pub returns-clause-needs : goal.returns-clause-needs
+returns-clause-needs c =
     let s = c.args.plan.now.inputs in
     let i = c.args.item in
     let e : c.deref-inputs.result.now ≡ s = c.deref-inputs.ensures ∙ c.inputs.ensures.inputs in
     let part : is_master s i ≡ false = sym (ap (λ (y : Inputs). is_master y i) e) ∙ sym c.is_master_item.ensures.class ∙ c.if-is_master_item.false in
     let Q : List Wanted → Type 0 = λ l. IfOk c.parents_of.result (λ needs. needs.items ≡ l) in
-    subst Q (sym (ap (λ b. cond b (demand_wanted s i) (parents_wanted s i)) part)) c.parents_of.ensures
+    subst Q (ap (by_weeks (λ (w : Wanted). w.need.week) (weeks (horizon s))) (sym (ap (λ b. cond b (demand_wanted s i) (parents_wanted s i)) part))) c.parents_of.ensures
 
 pub returns-then-is_master_item-clause-sized : goal.returns-then-is_master_item-clause-sized
 returns-then-is_master_item-clause-sized c =
     subst (λ (y : Inputs). IsSized (item_at y c.args.item).lot) (c.deref-inputs.ensures ∙ c.inputs.ensures.inputs) c.is_master_item.ensures.sized
 
-pub returns-else-is_master_item-clause-sized : goal.returns-else-is_master_item-clause-sized
-returns-else-is_master_item-clause-sized c =
+pub returns-clause-sized : goal.returns-clause-sized
+returns-clause-sized c =
     subst (λ (y : Inputs). IsSized (item_at y c.args.item).lot) (c.deref-inputs.ensures ∙ c.inputs.ensures.inputs) c.is_master_item.ensures.sized

@@ -1,14 +1,13 @@
-use Rattle.std.proofs.Common.{◌≡◌, ◌∙◌, List, sym, ap, subst}
+use Rattle.std.proofs.Common.{◌≡◌, ◌∙◌, ap, subst}
 use Rattle.std.specs.Prelude.{slice_index}
+use Rattle.std.proofs.lemmas.Result.{IfOk-weaker}
 use Rattle.mrp_master.specs.Supply.{supply_of}
 use Rattle.mrp_book.specs.Booked.{AreBooked}
-use Rattle.mrp_phase.specs.Weeks.{weeks}
-use Rattle.mrp_item.specs.Inputs.{Inputs, horizon}
+use Rattle.mrp_item.specs.Inputs.{Inputs}
 use Rattle.mrp_item.specs.Plan.{HasParents, IsRanked}
-use Rattle.mrp_peg.specs.declared.matching.Wanted.{Wanted}
 use Rattle.mrp_peg.specs.Matching.{amounts_wanted}
-use Rattle.mrp_peg.specs.Weekly.{AreWithin, by_weeks}
 use Rattle.mrp_peg.proofs.Covered.{covered_item}
+use Rattle.mrp_peg.proofs.Dropped.{always_ok}
 use Rattle.mrp_peg.proofs.Listed.{requirements_are, wanted_within}
 use Rattle.mrp_peg.proofs.Own.{own-of_all}
 use Rattle.mrp_peg.proofs.pegging.needs_of.Goals as goal
@@ -38,13 +37,8 @@ returns-clause-needs c =
     let code = slice_index c.shop-ranked.result.now.codes in
     let e : c.deref-inputs.result.now ≡ s = c.deref-inputs.ensures ∙ c.inputs.ensures.inputs in
     let R : Inputs → Type 0 = λ x. IsRanked x code in
-    let B : Inputs → Type 0 = λ x. AreBooked (supply_of x.tables) x.standing in
-    let ranked = subst R e c.shop-ranked.ensures.ranked in
-    let within = wanted_within s i code ranked (subst B e c.snapshot-booked.ensures.booked) in
-    let W : List Wanted → Type 0 = λ l. AreWithin (λ (w : Wanted). w.need.week) 1 (horizon s) l in
-    let sorted = c.in_ok-sort_needs.ensures 1 (horizon s) (subst W (sym c.in_ok-needs.ensures.needs) within) in
-    ap amounts_wanted (sorted ∙ ap (by_weeks (λ (w : Wanted). w.need.week) (weeks (horizon s))) c.in_ok-needs.ensures.needs)
-    ∙ requirements_are s i (own-of_all s i code c.args.plan.now.plans ranked (subst HasParents e c.shop-ranked.ensures.parents) c.inputs.ensures.plan c.requires)
+    let are = requirements_are s i (own-of_all s i code c.args.plan.now.plans (subst R e c.shop-ranked.ensures.ranked) (subst HasParents e c.shop-ranked.ensures.parents) c.inputs.ensures.plan c.requires) in
+    IfOk-weaker c.listed_needs.result _ _ (λ needs told. ap amounts_wanted told ∙ are) c.listed_needs.ensures.needs
 
 pub returns-clause-covered : goal.returns-clause-covered
 returns-clause-covered c =
@@ -53,4 +47,5 @@ returns-clause-covered c =
     let code = slice_index c.shop-ranked.result.now.codes in
     let e : c.deref-inputs.result.now ≡ s = c.deref-inputs.ensures ∙ c.inputs.ensures.inputs in
     let R : Inputs → Type 0 = λ x. IsRanked x code in
-    covered_item s i (own-of_all s i code c.args.plan.now.plans (subst R e c.shop-ranked.ensures.ranked) (subst HasParents e c.shop-ranked.ensures.parents) c.inputs.ensures.plan c.requires) c.in_ok-needs.ensures.sized
+    always_ok c.listed_needs.result
+    (covered_item s i (own-of_all s i code c.args.plan.now.plans (subst R e c.shop-ranked.ensures.ranked) (subst HasParents e c.shop-ranked.ensures.parents) c.inputs.ensures.plan c.requires) c.listed_needs.ensures.sized)

@@ -1,11 +1,12 @@
 use Rattle.std.proofs.Common.{◌≡◌, ◌∙◌, ◌+◌, ◌++◌, ℕ, List, [], ap, sym, subst, refl, arith, rules, length}
 use Rattle.std.proofs.lemmas.List.{append-nil}
+use Rattle.std.proofs.lemmas.Result.{on_err_weaker, on_ok_weaker}
 use Rattle.mrp_turn.specs.declared.log.Entry.{Entry}
 use Rattle.mrp_book.specs.declared.call.Call.{Call}
 use Rattle.mrp_book.specs.declared.reply.Reply.{Reply}
 use Rattle.mrp_report.specs.HistoryText.{history_head, history_text}
 use Rattle.mrp_report.proofs.HistoryTexts.{so_far, so_far-none, to-come, whole, entry-written}
-use Rattle.mrp_report.proofs.Progress.{IsWritten, written-none, written-passed, written-whole, front-now, front-then, gone-on, gone-on-then, on-err, on-err-then, on-ok-then}
+use Rattle.mrp_report.proofs.Progress.{IsWritten, written-none, written-passed, written-whole, front-now, front-then, gone-on, gone-on-then, on-err}
 use Rattle.mrp_report.proofs.history.write_history.Given as given
 use Rattle.mrp_report.proofs.history.write_history.Goals as goal
 use Rattle.mrp_report.proofs.history.write_history.Goals.{After-loop-place, In_ok-entry_row}
@@ -73,7 +74,7 @@ returns-clause-whole g c =
     let t = c.args.shop.now.tables in
     let h = c.args.history.now.entries in
     let done = written g (goal.at.returns-clause-whole g c).After-loop-place in
-    on-ok-then c.hand_over.result
+    on_ok_weaker c.hand_over.result
     (written-whole g.W.Write.contents c.args.writer.now c.loop-place.writer c.hand_over.new.writer c.loop-place.tries c.hand_over.new.tries c.loop-place.page (history_text t h) done c.hand_over.ensures.tries)
     c.hand_over.ensures.whole
 
@@ -82,7 +83,7 @@ returns-clause-front g c =
     let t = c.args.shop.now.tables in
     let h = c.args.history.now.entries in
     let done = written g (goal.at.returns-clause-front g c).After-loop-place in
-    on-err-then c.hand_over.result
+    on_err_weaker c.hand_over.result
     (front-then g.W.Write.contents c.args.writer.now c.loop-place.writer c.hand_over.new.writer 1000000 c.loop-place.tries c.loop-place.page (history_text t h) [] (history_text t h) done (sym (append-nil (history_text t h))))
     c.hand_over.ensures.front
 

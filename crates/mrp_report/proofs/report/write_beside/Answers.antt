@@ -1,9 +1,10 @@
 use Rattle.std.proofs.Common.{◌++◌, ◌-◌, [], List, ℕ, sym, subst, refl}
 use Rattle.std.proofs.lemmas.List.{append-nil}
+use Rattle.std.proofs.lemmas.Result.{on_err_weaker, on_ok_weaker}
 use Rattle.mrp_report.specs.Chunks.{rows_in}
 use Rattle.mrp_report.specs.Written.{PassesOn}
 use Rattle.mrp_report.proofs.PlacesWritten.{written-page}
-use Rattle.mrp_report.proofs.Progress.{front-then, given-up, gone-on-then, on-err, on-err-then, on-ok-then, passes-on, written-next, written-none, written-taken}
+use Rattle.mrp_report.proofs.Progress.{front-then, given-up, gone-on-then, on-err, passes-on, written-next, written-none, written-taken}
 use Rattle.mrp_report.proofs.report.write_beside.Goals as goal
 
 pub returns-in_err-hand_over-clause-front : goal.returns-in_err-hand_over-clause-front
@@ -16,7 +17,7 @@ returns-in_err-hand_over-clause-front g c =
 pub returns-clause-passed : goal.returns-clause-passed
 returns-clause-passed g c =
     let text : List ℕ = c.args.page.now ++ rows_in c.args.chunks.now in
-    on-ok-then c.write_waves.result
+    on_ok_weaker c.write_waves.result
     (λ taken. subst (λ (left : List ℕ). PassesOn g.W.Write.contents c.args.writer.now c.write_waves.new.writer text left (c.args.tries.now - c.write_waves.new.tries)) (sym c.in_ok-hand_over.ensures.empty)
     (passes-on g.W.Write.contents c.args.writer.now c.write_waves.new.writer c.args.tries.now c.write_waves.new.tries [] text
     (written-taken g.W.Write.contents c.args.writer.now c.hand_over.new.writer c.write_waves.new.writer c.args.tries.now c.hand_over.new.tries c.write_waves.new.tries (rows_in c.args.chunks.now) text (written-next g.W.Write.contents c.args.writer.now c.hand_over.new.writer c.args.tries.now c.hand_over.new.tries c.args.page.now (rows_in c.args.chunks.now)
@@ -27,7 +28,7 @@ returns-clause-passed g c =
 pub returns-clause-front : goal.returns-clause-front
 returns-clause-front g c =
     let text : List ℕ = c.args.page.now ++ rows_in c.args.chunks.now in
-    on-err-then c.write_waves.result
+    on_err_weaker c.write_waves.result
     (front-then g.W.Write.contents c.args.writer.now c.hand_over.new.writer c.write_waves.new.writer c.args.tries.now c.hand_over.new.tries (rows_in c.args.chunks.now) text [] text (written-next g.W.Write.contents c.args.writer.now c.hand_over.new.writer c.args.tries.now c.hand_over.new.tries c.args.page.now (rows_in c.args.chunks.now)
     (written-page g.W.Write.contents c.args.writer.now c.hand_over.new.writer c.args.tries.now c.hand_over.new.tries c.args.page.now c.in_ok-hand_over.ensures.tries c.in_ok-hand_over.ensures.whole)) (sym (append-nil text)))
     c.write_waves.ensures.front

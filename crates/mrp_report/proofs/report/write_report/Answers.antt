@@ -1,5 +1,6 @@
 use Rattle.std.proofs.Common.{◌≡◌, ◌∙◌, ◌+◌, ◌-◌, ◌++◌, ℕ, List, [], length, get_or, ap, sym, subst, refl, arith, rules}
 use Rattle.std.proofs.lemmas.List.{append-nil}
+use Rattle.std.proofs.lemmas.Result.{on_err_weaker, on_ok_weaker}
 use Rattle.mrp_item.specs.Places.{WholePlan}
 use Rattle.mrp_report.specs.ReportText.{report_text}
 use Rattle.mrp_report.specs.RunText.{run_text}
@@ -10,7 +11,7 @@ use Rattle.mrp_report.specs.declared.section.Section.TheVariants as section
 use Rattle.mrp_report.proofs.ChunkTexts.{text-is}
 use Rattle.mrp_report.proofs.ListTexts.{so_far, so_far-none, to-come, whole}
 use Rattle.mrp_report.proofs.ListWritten.{next-passed, next-written}
-use Rattle.mrp_report.proofs.Progress.{IsWritten, front-now, front-then, on-err, on-err-then, given-up, gone-on-then, on-ok-then, written-none, written-whole}
+use Rattle.mrp_report.proofs.Progress.{IsWritten, front-now, front-then, on-err, given-up, gone-on-then, written-none, written-whole}
 use Rattle.mrp_report.proofs.SectionTexts.{in_order, report-is}
 use Rattle.mrp_report.proofs.report.write_report.Goals as goal
 
@@ -69,7 +70,7 @@ returns-clause-whole g c =
     let written : IsWritten g.W.Write.contents c.args.writer.now c.loop-section.writer 1000000 c.loop-section.tries c.loop-section.page (report_text s) =
     subst (λ (t : List ℕ). IsWritten g.W.Write.contents c.args.writer.now c.loop-section.writer 1000000 c.loop-section.tries c.loop-section.page t)
     (whole run (section_text s) in_order c.loop-section.section-index all ∙ sym (report-is s)) c.loop-section.invariant in
-    on-ok-then c.hand_over.result
+    on_ok_weaker c.hand_over.result
     (written-whole g.W.Write.contents c.args.writer.now c.loop-section.writer c.hand_over.new.writer c.loop-section.tries c.hand_over.new.tries c.loop-section.page (report_text s) written c.hand_over.ensures.tries)
     c.hand_over.ensures.whole
 
@@ -81,7 +82,7 @@ returns-clause-front g c =
     let written : IsWritten g.W.Write.contents c.args.writer.now c.loop-section.writer 1000000 c.loop-section.tries c.loop-section.page (report_text s) =
     subst (λ (t : List ℕ). IsWritten g.W.Write.contents c.args.writer.now c.loop-section.writer 1000000 c.loop-section.tries c.loop-section.page t)
     (whole run (section_text s) in_order c.loop-section.section-index all ∙ sym (report-is s)) c.loop-section.invariant in
-    on-err-then c.hand_over.result
+    on_err_weaker c.hand_over.result
     (front-then g.W.Write.contents c.args.writer.now c.loop-section.writer c.hand_over.new.writer 1000000 c.loop-section.tries c.loop-section.page (report_text s) [] (report_text s) written
     (sym (append-nil (report_text s))))
     c.hand_over.ensures.front

@@ -18,7 +18,7 @@ loop-receipt-preserved c =
     let more : take k rows ++ x ∷ [] ≡ take (k + 1) rows = ap (λ (r : Receipt). take k rows ++ r ∷ []) c.receipt-item.is ∙ sym (take_more rows k x c.loop-receipt-test.true) in
     elim c.if-is_none.branch [
       | then-is_none w ↦
-          let put : c.if-is_none.names.items ≡ set names x.number (Some x.order) = ap (λ v. v.items) w.names-is in
+          let put : c.if-is_none.names.items ≡ set names x.number (Some x.order) = ap (λ v. v.items) w.names-is ∙ ap (λ (name : List ℕ). set names x.number (Some name)) w.of.ensures in
           let free : is_some (get_or names x.number None) ≡ false = sym (ap (λ (o : Option (List ℕ)). is_some o) read) ∙ w.if-is_none.ensures in (
             λ j d within. omega (arith, c.loop-receipt.invariant.0 j d within, ap (length {A = Option (List ℕ)}) put, length-set names x.number (Some x.order)),
             λ number. ap (λ (ns : List (Option (List ℕ))). get_or ns number None) put

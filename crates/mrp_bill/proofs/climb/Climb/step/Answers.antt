@@ -1,15 +1,16 @@
 use Rattle.std.proofs.Common.{◌≡◌, ◌<◌, ◌-◌, ℕ, suc, length, get_or, subst, ◌∙◌, arith}
+use Rattle.std.proofs.lemmas.Result.{on_ok_weaker}
 use Rattle.mrp_bill.specs.declared.climb.Stage.TheVariants.{New, Placed}
 use Rattle.mrp_bill.specs.Climb.{stage_at}
 use Rattle.mrp_bill.specs.Lists.{IsListed}
-use Rattle.mrp_bill.proofs.Climbs.{on_ok, climb-place, climb-visit, climb-passes, climb-closes, climb-close, top-inside, left-is, left-fits, parent-is, work-visit, stage-read}
+use Rattle.mrp_bill.proofs.Climbs.{climb-place, climb-visit, climb-passes, climb-closes, climb-close, top-inside, left-is, left-fits, parent-is, work-visit, stage-read}
 use Rattle.mrp_bill.proofs.climb.Climb.step.Goals as goal
 
 pub returns-then-left-eq0-clause-climb : goal.returns-then-left-eq0-clause-climb
 returns-then-left-eq0-clause-climb c =
     let inside = top-inside c.args.parents.now c.args.self.now c.args.item c.requires.climb c.requires.some c.requires.top in
     let left = left-is c.args.parents.now c.args.self.now c.args.item c.index-left.result.now c.requires.climb inside c.index-left.ensures in
-    on_ok c.place.result c.place.ensures (λ placed. climb-place c.args.parents.now c.args.self.now _ c.args.item c.requires.climb placed c.requires.some c.requires.top (left ∙ c.if-left-eq0.true) c.requires.within)
+    on_ok_weaker c.place.result (λ placed. climb-place c.args.parents.now c.args.self.now _ c.args.item c.requires.climb placed c.requires.some c.requires.top (left ∙ c.if-left-eq0.true) c.requires.within) c.place.ensures
 
 pub index-parent-requires : goal.index-parent-requires
 index-parent-requires c =
@@ -37,8 +38,9 @@ returns-in-New-clause-climb c =
     let parent = parent-is c.args.parents.now c.args.item (c.index-left.result.now - 1) c.index-parent.result.now c.index-parents-item.result inside c.index-parents-item.is (omega arith) c.index-parent.ensures in
     let within : c.index-parent.result.now < length c.args.self.now.stages.items = omega (arith, c.requires.within _ _ parent.1, c.requires.climb.size) in
     let new : stage_at c.args.self.now.stages.items c.index-parent.result.now ≡ New = stage-read c.args.self.now.stages.items c.index-parent.result.now c.index.result.now within c.index.ensures ∙ c.in-New.is in
-    on_ok c.visit.result c.visit.ensures (λ opens. climb-visit c.args.parents.now c.args.self.now _ c.index-parent.result.now c.requires.climb opens within new
+    on_ok_weaker c.visit.result (λ opens. climb-visit c.args.parents.now c.args.self.now _ c.index-parent.result.now c.requires.climb opens within new
     (λ _. subst (λ (x : ℕ). IsListed c.args.parents.now c.index-parent.result.now x) c.requires.top parent.1))
+    c.visit.ensures
 
 pub returns-in-New-clause-nearer : goal.returns-in-New-clause-nearer
 returns-in-New-clause-nearer c =
@@ -47,7 +49,7 @@ returns-in-New-clause-nearer c =
     let parent = parent-is c.args.parents.now c.args.item (c.index-left.result.now - 1) c.index-parent.result.now c.index-parents-item.result inside c.index-parents-item.is (omega arith) c.index-parent.ensures in
     let within : c.index-parent.result.now < length c.args.self.now.stages.items = omega (arith, c.requires.within _ _ parent.1, c.requires.climb.size) in
     let new : stage_at c.args.self.now.stages.items c.index-parent.result.now ≡ New = stage-read c.args.self.now.stages.items c.index-parent.result.now c.index.result.now within c.index.ensures ∙ c.in-New.is in
-    on_ok c.visit.result c.visit.ensures (λ opens. work-visit c.args.self.now _ c.index-parent.result.now opens within new)
+    on_ok_weaker c.visit.result (λ opens. work-visit c.args.self.now _ c.index-parent.result.now opens within new) c.visit.ensures
 
 pub returns-in-Open-clause-climb : goal.returns-in-Open-clause-climb
 returns-in-Open-clause-climb c =

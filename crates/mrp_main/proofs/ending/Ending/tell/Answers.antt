@@ -24,3 +24,23 @@ pub returns-in-Write-clause-whole : goal.returns-in-Write-clause-whole
 returns-in-Write-clause-whole g c =
     subst (λ (t : List ℕ). OnOk c.write_line-in-Write.result (HasTakenAll g.E.Write.contents c.args.errors.now c.write_line-in-Write.new.errors t)) (sym (ap words_of c.in-Write.is))
     c.write_line-in-Write.ensures.whole
+
+pub returns-in-WrongShape-clause-whole : goal.returns-in-WrongShape-clause-whole
+returns-in-WrongShape-clause-whole g c =
+    subst (λ (t : List ℕ). OnOk c.write_line-in-WrongShape.result (HasTakenAll g.E.Write.contents c.args.errors.now c.write_line-in-WrongShape.new.errors t)) (sym (ap words_of c.in-WrongShape.is))
+    c.write_line-in-WrongShape.ensures.whole
+
+pub returns-in-WrongShape-clause-front : goal.returns-in-WrongShape-clause-front
+returns-in-WrongShape-clause-front g c =
+    subst (λ (t : List ℕ). OnErr c.write_line-in-WrongShape.result (HasTakenFront g.E.Write.contents c.args.errors.now c.write_line-in-WrongShape.new.errors t)) (sym (ap words_of c.in-WrongShape.is))
+    c.write_line-in-WrongShape.ensures.front
+
+pub returns-in-NoRun-clause-whole : goal.returns-in-NoRun-clause-whole
+returns-in-NoRun-clause-whole g c =
+    subst (λ (t : List ℕ). OnOk c.write_line-in-NoRun.result (HasTakenAll g.E.Write.contents c.args.errors.now c.write_line-in-NoRun.new.errors t)) (sym (ap words_of c.in-NoRun.is))
+    c.write_line-in-NoRun.ensures.whole
+
+pub returns-in-NoRun-clause-front : goal.returns-in-NoRun-clause-front
+returns-in-NoRun-clause-front g c =
+    subst (λ (t : List ℕ). OnErr c.write_line-in-NoRun.result (HasTakenFront g.E.Write.contents c.args.errors.now c.write_line-in-NoRun.new.errors t)) (sym (ap words_of c.in-NoRun.is))
+    c.write_line-in-NoRun.ensures.front

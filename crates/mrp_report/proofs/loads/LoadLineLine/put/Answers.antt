@@ -7,9 +7,9 @@ pub returns : goal.returns
 returns c =
     let r = c.args.self.now.row.now in
     let week = rw c.from.ensures at c.put_number-end.ensures.put in
-    let load = rw c.format.ensures.text at c.put_cell-end.ensures.put in
-    let capacity = rw c.format-2.ensures.text at c.put_cell-end-2.ensures.put in
-    let over = rw c.format-3.ensures.text at c.put_cell-end-3.ensures.put in
+    let load = rw c.format.ensures.text at c.put_text-end.ensures.put in
+    let capacity = rw c.format-2.ensures.text at c.put_text-end-2.ensures.put in
+    let over = rw c.format-3.ensures.text at c.put_text-end-3.ensures.put in
     line_end
     (line_next (minutes_text_of r.over)
     (line_next (minutes_text_of r.capacity)

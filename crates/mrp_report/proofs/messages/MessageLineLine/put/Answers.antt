@@ -1,5 +1,4 @@
-use Rattle.mrp_report.specs.Cells.{number_cell}
-use Rattle.mrp_report.specs.Which.{which_cell}
+use Rattle.mrp_report.specs.CellOf.{cell_of}
 use Rattle.mrp_report.specs.WordText.{word_text}
 use Rattle.mrp_report.proofs.Lines.{line_end, line_first, line_next}
 use Rattle.mrp_report.proofs.messages.MessageLineLine.put.Goals as goal
@@ -8,13 +7,13 @@ pub returns : goal.returns
 returns c =
     let line = c.args.self.now in
     line_end
-    (line_next (number_cell line.value)
+    (line_next (cell_of line.value)
     (line_next (word_text line.advice)
-    (line_next (which_cell line.which)
+    (line_next (cell_of line.source)
     (line_next (word_text line.supply)
     (line_first c.args.self.now.name.now c.put_first-end.ensures.put)
     c.put_word-end.ensures.put)
-    c.put_which-end.ensures.put)
+    c.put-end.ensures.put)
     c.put_word-end-2.ensures.put)
-    c.put_some-end.ensures.put)
+    c.put-end-2.ensures.put)
     c.put_byte.ensures

@@ -1,5 +1,6 @@
 use Rattle.std.proofs.Common.{arith}
-use Rattle.mrp_report.proofs.RowCells.{added_end, added_first, added_next, on_ok}
+use Rattle.std.proofs.lemmas.Result.{on_ok_weaker}
+use Rattle.mrp_report.proofs.RowCells.{added_end, added_first, added_next}
 use Rattle.mrp_report.proofs.page.Page.row.Goals as goal
 
 pub loop-place-init : goal.loop-place-init
@@ -11,5 +12,6 @@ loop-place-preserved c =
 
 pub returns : goal.returns
 returns c =
-    on_ok c.add.result c.add.ensures
+    on_ok_weaker c.add.result
     (λ adds. added_end c.args.self.now c.loop-place.self c.add.new.self c.args.cells.now c.loop-place.place (omega arith) c.requires c.loop-place.invariant adds)
+    c.add.ensures

@@ -1,6 +1,5 @@
 use Rattle.std.proofs.Common.{decimal}
-use Rattle.mrp_report.specs.Cells.{number_cell}
-use Rattle.mrp_report.specs.Which.{which_cell}
+use Rattle.mrp_report.specs.CellOf.{cell_of}
 use Rattle.mrp_report.specs.WordText.{word_text}
 use Rattle.mrp_report.proofs.Lines.{line_end, line_first, line_next}
 use Rattle.mrp_report.proofs.pegs.PegLineLine.put.Goals as goal
@@ -10,20 +9,20 @@ returns c =
     let line = c.args.self.now in
     line_end
     (line_next (decimal line.quantity)
-    (line_next (which_cell line.which)
+    (line_next (cell_of line.source)
     (line_next (word_text line.supply)
-    (line_next (number_cell line.needed.line)
-    (line_next (line.needed.parent.now)
-    (line_next (number_cell line.needed.number)
+    (line_next (cell_of line.needed.line)
+    (line_next (cell_of line.needed.parent)
+    (line_next (cell_of line.needed.number)
     (line_next (word_text line.needed.need)
-    (line_next (number_cell line.needed.week)
+    (line_next (cell_of line.needed.week)
     (line_first c.args.self.now.name.now c.put_first-end.ensures.put)
-    c.put_some-end.ensures.put)
+    c.put-end.ensures.put)
     c.put_word-end.ensures.put)
-    c.put_some-end-2.ensures.put)
-    c.put_next-end.ensures.put)
-    c.put_some-end-3.ensures.put)
+    c.put-end-2.ensures.put)
+    c.put-end-3.ensures.put)
+    c.put-end-4.ensures.put)
     c.put_word-end-2.ensures.put)
-    c.put_which-end.ensures.put)
+    c.put-end-5.ensures.put)
     c.put_number-end.ensures.put)
     c.put_byte.ensures

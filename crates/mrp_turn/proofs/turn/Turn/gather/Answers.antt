@@ -1,9 +1,10 @@
 use Rattle.std.proofs.Common.{◌≡◌, ◌++◌, ◌∷◌, [], List, sym, ap, ◌∙◌, refl, arith, subst, append-nil, append_assoc}
+use Rattle.std.proofs.lemmas.List.{nil_from_length}
 use Rattle.mrp_turn.specs.Rule.{account, alone}
 use Rattle.mrp_turn.specs.Seen.{Seated}
 use Rattle.mrp_turn.specs.Calls.{StandsFor}
 use Rattle.mrp_turn.proofs.Keeps.{joins}
-use Rattle.mrp_turn.proofs.Gathers.{begins, gathers, moved, empty}
+use Rattle.mrp_turn.proofs.Gathers.{begins, gathers, moved}
 use Rattle.mrp_turn.proofs.turn.Turn.gather.Goals as goal
 
 pub loop-next-init : goal.loop-next-init
@@ -39,6 +40,6 @@ loop-next-preserved g c =
 
 pub returns-clause-all : goal.returns-clause-all
 returns-clause-all g c = let stands = c.loop-next.invariant.stands in
-    let none : c.loop-next.others.items ≡ [] = empty c.loop-next.others.items (omega (arith, c.loop-next.others.ok.0, c.in_default.ensures.cases.0)) in
+    let none : c.loop-next.others.items ≡ [] = nil_from_length c.loop-next.others.items (omega (arith, c.loop-next.others.ok.0, c.in_default.ensures.cases.0)) in
     let all : c.args.others.items ≡ stands.0 = stands.1 ∙ ap (λ l. l ++ stands.0) none in
     subst (λ (l : List (Seated g.row.O.Denot g.row.O-Call.Denot g.row.O-Reply.Denot)). StandsFor c.args.self.now.about (c.args.first ∷ l) c.loop-next.place.me) (sym all) stands.2

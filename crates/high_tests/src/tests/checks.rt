@@ -1,0 +1,179 @@
+//! The check of a day beside a folder, over an input, an output and an error stream.
+
+use super::audits::{EXCHANGED, SCRIPT, text_of};
+use super::commands::{Left, Streams, has_ended, left_by};
+use super::made;
+use super::streams::Turn;
+use super::texts::{LOTS_HISTORY, LOTS_REPORT};
+use sample_shops::bicycles_in_lots;
+use std::alloc::Global;
+use std::fs;
+use std::fs::File;
+use std::io::{Eprint, Write};
+use std::process::Abort;
+use std::rt::Files;
+use std::sync::Wait;
+use std::test::Fail;
+use std::thread::Threads;
+
+const CHECK: &[&str] = &["check", "--dir", "out/lots"];
+
+fn make_file(files: &impl Files, path: &str, head: &str, rows: &str) -> Result<(), Fail> {
+    let mut file = File::create(files, path)?;
+    file.write_all(head.as_bytes())?;
+    file.write_all(rows.as_bytes())?;
+    Ok(())
+}
+
+// The files of a folder of the bicycles in lots, whose script has the calls of two desks: each with its
+// header and its records.
+fn files_of_lots<'a>() -> [(&'a str, &'a str, &'a str); 9] {
+    let shop = bicycles_in_lots();
+    [
+        ("out/lots/calendar.csv", "key,value\n", shop.calendar),
+        (
+            "out/lots/items.csv",
+            "item,class,lead,scrap,lot,size,safety\n",
+            shop.items,
+        ),
+        ("out/lots/centres.csv", "centre,minutes\n", shop.centres),
+        ("out/lots/stock.csv", "item,onhand\n", shop.stock),
+        (
+            "out/lots/receipts.csv",
+            "item,order,date,quantity\n",
+            shop.receipts,
+        ),
+        ("out/lots/bills.csv", "parent,component,per\n", shop.bills),
+        (
+            "out/lots/routings.csv",
+            "item,op,centre,setup,run,offset\n",
+            shop.routings,
+        ),
+        (
+            "out/lots/master.csv",
+            "item,row,date,quantity\n",
+            shop.master,
+        ),
+        (
+            "out/lots/script.csv",
+            "desk,call,item,date,quantity,number\n",
+            SCRIPT,
+        ),
+    ]
+}
+
+// Makes that folder, which may be there from an earlier run.
+fn make_folder(files: &impl Files) -> Result<(), Fail> {
+    let _ = fs::create_dir(files, "out");
+    let _ = fs::create_dir(files, "out/lots");
+    for (path, head, rows) in files_of_lots() {
+        make_file(files, path, head, rows)?;
+    }
+    Ok(())
+}
+
+// What the check of a day of these pieces leaves.
+fn checked<R: Alloc + Abort + Eprint + Files + Threads + Wait + Sync>(
+    rt: &R,
+    alloc: Global,
+    pieces: &[&str],
+) -> Left {
+    made(rt, make_folder(rt));
+    let day = text_of(rt, alloc, pieces);
+    let left = left_by(rt, alloc, CHECK, Streams::of(&day));
+    drop(day);
+    left
+}
+
+// What the check of the right day with the first place of this text changed leaves.
+fn checked_changed<R: Alloc + Abort + Eprint + Files + Threads + Wait + Sync>(
+    rt: &R,
+    alloc: Global,
+    old: &str,
+    new: &str,
+) -> Left {
+    if let Some((front, back)) = LOTS_HISTORY.split_once(old) {
+        return checked(rt, alloc, &[front, new, back, LOTS_REPORT]);
+    }
+    match LOTS_REPORT.split_once(old) {
+        Some((front, back)) => checked(rt, alloc, &[LOTS_HISTORY, front, new, back]),
+        None => rt.panic("the day has no such place"),
+    }
+}
+
+#[test]
+fn a_right_day_is_said_to_be_right(rt: HostRuntime) {
+    let left = checked(&rt, rt.alloc(), &[LOTS_HISTORY, LOTS_REPORT]);
+    has_ended(&rt, &left, 0, "right\n", "");
+    drop(left);
+}
+
+#[test]
+fn the_first_fault_of_a_wrong_day_is_said(rt: HostRuntime) {
+    const CHANGED: [(&str, &str, &str); 6] = [
+        ("[history]\n", "", "wrong: shape\n"),
+        ("short,10", "booked,4", "wrong: history 4\n"),
+        ("7,1,run", "7,2,run", "wrong: desk 1\n"),
+        (
+            "BIKE,1,10,0,0,0,8,0\n",
+            "BIKE,1,10,0,0,0,9,0\n",
+            "wrong: report 1\n",
+        ),
+        ("WHEEL,1,planned", "WHEEL,1,firm", "wrong: report 1\n"),
+        ("[pegs]\n", "", "wrong: report 1\n"),
+    ];
+    for (old, new, line) in CHANGED {
+        let left = checked_changed(&rt, rt.alloc(), old, new);
+        has_ended(&rt, &left, 1, line, "");
+        drop(left);
+    }
+}
+
+#[test]
+fn a_line_more_and_entries_exchanged_are_said(rt: HostRuntime) {
+    let more = checked(&rt, rt.alloc(), &[LOTS_HISTORY, LOTS_REPORT, "[run]\n"]);
+    has_ended(&rt, &more, 1, "wrong: report 2\n", "");
+    drop(more);
+    let exchanged = checked(&rt, rt.alloc(), &[EXCHANGED, LOTS_REPORT]);
+    has_ended(&rt, &exchanged, 1, "wrong: desk 2\n", "");
+    drop(exchanged);
+    let none = checked(&rt, rt.alloc(), &[]);
+    has_ended(&rt, &none, 1, "wrong: shape\n", "");
+    drop(none);
+}
+
+#[test]
+fn a_folder_that_is_missing_is_refused(rt: HostRuntime) {
+    let words = ["check", "--dir", "nowhere"];
+    let left = left_by(&rt, rt.alloc(), &words, Streams::of(LOTS_HISTORY));
+    let refused = "refused: 4 missing-section calendar 0\n";
+    has_ended(&rt, &left, 1, "", refused);
+    drop(left);
+}
+
+#[test]
+fn streams_that_fail_end_a_check(rt: HostRuntime) {
+    made(&rt, make_folder(&rt));
+    let unread = Streams {
+        reads: &[Turn::Moves(100), Turn::Fails],
+        ..Streams::of(LOTS_HISTORY)
+    };
+    let left = left_by(&rt, rt.alloc(), CHECK, unread);
+    has_ended(&rt, &left, 4, "", "read failed\n");
+    drop(left);
+    let unwritten = Streams {
+        writes: &[Turn::Moves(7), Turn::Fails],
+        ..Streams::of(LOTS_HISTORY)
+    };
+    let left = left_by(&rt, rt.alloc(), CHECK, unwritten);
+    has_ended(&rt, &left, 4, "wrong: ", "write failed\n");
+    drop(left);
+    let slow = Streams {
+        reads: &[Turn::Interrupts, Turn::Moves(7)],
+        writes: &[Turn::Moves(7), Turn::Interrupts, Turn::Moves(1)],
+        ..Streams::of(LOTS_HISTORY)
+    };
+    let left = left_by(&rt, rt.alloc(), CHECK, slow);
+    has_ended(&rt, &left, 1, "wrong: report 1\n", "");
+    drop(left);
+}

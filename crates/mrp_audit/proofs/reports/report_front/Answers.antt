@@ -1,0 +1,13 @@
+use Rattle.std.proofs.Common.{◌∙◌, subst}
+use Rattle.mrp_report.specs.ReportText.{report_text}
+use Rattle.mrp_audit.specs.Comparing.{Compared, TellsAgreement}
+use Rattle.mrp_audit.proofs.Comparisons.{report-compared}
+use Rattle.mrp_audit.proofs.reports.report_front.Goals as goal
+
+pub returns : goal.returns
+returns g c =
+    let old = c.new-writer.result.inner in
+    let new = c.write_report-written.new.writer.inner in
+    let tells : TellsAgreement new c.agreement.result = subst (λ (x : Compared). TellsAgreement x c.agreement.result) c.into_inner.ensures c.agreement.ensures in
+    report-compared old new c.args.text.now (report_text c.args.plan.now.inputs) c.write_report-written.result c.agreement.result c.front_by.result (c.new-writer.ensures.inner ∙ c.new.ensures)
+    c.write_report-written.ensures.whole c.write_report-written.ensures.front (λ p. p.2.bytes) (λ q. (q.0, q.2)) tells c.front_by.ensures

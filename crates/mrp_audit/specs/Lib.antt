@@ -1,0 +1,9 @@
+pub mod Claims
+pub mod Comparing
+pub mod Kept
+pub mod Parts
+pub mod NextPlaces
+pub mod Reading
+pub mod Replays
+pub mod Shape
+pub mod Verdict

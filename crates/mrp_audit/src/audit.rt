@@ -1,0 +1,150 @@
+//! A day beside its bundle.
+
+ghost use Rattle.std.specs.Prelude.{◌≡◌, Result, ⊤};
+ghost use Rattle.mrp_engine.specs.RightDay.{IsRightDay};
+ghost use Rattle.mrp_master.specs.Supply.{supply_of};
+ghost use Rattle.mrp_engine.specs.Day.{runs_of};
+ghost use Rattle.mrp_audit.specs.Parts.{ComparesHistory, ComparesReports, IsInputFault, IsOfOpening, OpensShop};
+ghost use Rattle.mrp_audit.specs.Kept.{KeepsLimits};
+ghost use Rattle.mrp_audit.specs.Verdict.{IsVerdict, Judges, JudgesText, Passes};
+
+use crate::desks::check_desks;
+use crate::fault::AuditFault;
+use crate::history::history_of;
+use crate::replay::find_history;
+use crate::reports::check_reports;
+use crate::script::script_calls;
+use crate::shape::read_history;
+use mrp_bill::Shop;
+use mrp_book::History;
+use mrp_engine::{DayFault, open_shop};
+use mrp_item::ShopRows;
+use mrp_tables::Tables;
+use std::alloc::Global;
+use std::sync::Arc;
+use std::thread::Threads;
+
+// What a bundle is told for, by why its shop was not opened.
+fn input_fault(fault: DayFault) -> AuditFault
+    requires { IsOfOpening fault }
+    ensures { IsInputFault fault result }
+{
+    match fault {
+        DayFault::Refused(fault) => AuditFault::Input(fault),
+        DayFault::NoMemory => AuditFault::NoMemory,
+        DayFault::TooLarge(_) | DayFault::Read | DayFault::Write => unreachable!(),
+    }
+}
+
+// The shop of a bundle.
+fn shop_of(alloc: Global, bundle: &[u8]) -> Result<Shop, AuditFault>
+    ensures { OpensShop bundle.now result }
+{
+    match open_shop(alloc, bundle) {
+        Ok(shop) => Ok(shop),
+        Err(fault) => Err(input_fault(fault)),
+    }
+}
+
+// Compares a text with the reports of a history's runs.
+fn check_runs(
+    rt: &(impl Alloc + Threads + Sync),
+    alloc: Global,
+    shop: Shop,
+    history: &History,
+    text: &[u8],
+) -> Result<(), AuditFault>
+    requires { history.now.supply ≡ supply_of shop.tables }
+    ensures { ComparesReports (runs_of shop.tables history.now.entries) text.now result }
+{
+    let rows = ShopRows::of(alloc, Arc::new(alloc, shop)?)?;
+    check_reports(rt, alloc, &rows, history, text)
+}
+
+// Compares a history with the script of its shop, and a text with the reports of its runs.
+fn check_history(
+    rt: &(impl Alloc + Threads + Sync),
+    alloc: Global,
+    shop: Shop,
+    history: &History,
+    text: &[u8],
+) -> Result<(), AuditFault>
+    requires { history.now.supply ≡ supply_of shop.tables }
+    ensures { ComparesHistory shop.tables history.now.entries text.now result }
+{
+    let tables = shop.tables();
+    // Its records are of desks from 1 to 64.
+    let _rows = tables.script();
+    let script = script_calls(alloc, tables)?;
+    check_desks(alloc, history.entries(), &script)?;
+    check_runs(rt, alloc, shop, history, text)
+}
+
+// What accepted tables keep is told by their readers.
+fn keep_limits(tables: &Tables)
+    ensures { KeepsLimits tables.now }
+{
+    let _items = tables.items();
+    let _weeks = tables.calendar().weeks();
+    let _script = tables.script();
+    let _stock = tables.stock();
+    let _master = tables.master();
+}
+
+// Reads what a text claims, and compares it with what a shop's days are.
+fn check_claims(
+    rt: &(impl Alloc + Threads + Sync),
+    alloc: Global,
+    shop: Shop,
+    text: &[u8],
+) -> Result<(), AuditFault>
+    ensures { JudgesText shop.tables text.now result }
+{
+    let given = read_history(alloc, &shop, text)?;
+    let history = history_of(alloc, &shop, &given.claims)?;
+    let (_, reports) = text.split_at(given.len);
+    check_history(rt, alloc, shop, &history, reports)
+}
+
+// Compares a text with what a shop's days are. The records of a day that answers the script are not read: their history is
+// found faster another way.
+fn check_text(
+    rt: &(impl Alloc + Threads + Sync),
+    alloc: Global,
+    shop: Shop,
+    text: &[u8],
+) -> Result<(), AuditFault>
+    requires { KeepsLimits shop.tables }
+    ensures { JudgesText shop.tables text.now result }
+{
+    let Some((history, len)) = find_history(alloc, &shop, text)? else {
+        return check_claims(rt, alloc, shop, text);
+    };
+    let (_, reports) = text.split_at(len);
+    check_runs(rt, alloc, shop, &history, reports)
+}
+
+/// Whether a text is a right day of a bundle: it is the text of a legal history in which each desk's
+/// entries are its script records in order, and then of the report of each run in whose plan no item
+/// gets too large.
+///
+/// A right day is answered Ok, unless memory is refused. Reports are compared as they are made, and none is
+/// held.
+///
+/// Errors: the first of `Input` with the bundle's first fault, the loop last; `Shape`; `HistoryNotLegal`;
+/// `DeskRows`; `ReportDiffers`; and `NoMemory` where memory is refused.
+pub fn check(
+    rt: &(impl Alloc + Threads + Sync),
+    alloc: Global,
+    input: &[u8],
+    output: &[u8],
+) -> Result<(), AuditFault>
+    ensures verdict { Judges input.now output.now result }
+    ensures right { IsRightDay input.now output.now → Passes result }
+    // Nothing else could be found of them.
+    ensures one { (other : Result ⊤ AuditFault) → Judges input.now output.now other → IsVerdict result → IsVerdict other → result ≡ other }
+{
+    let shop = shop_of(alloc, input)?;
+    keep_limits(shop.tables());
+    check_text(rt, alloc, shop, output)
+}

@@ -1,0 +1,21 @@
+//! The checker of a day: whether a text is a right day of a bundle, and where it is not.
+#![tactic(auto)]
+
+mod audit;
+mod call;
+mod cell;
+mod claim;
+mod comparing;
+mod desks;
+mod fault;
+mod following;
+mod history;
+mod record;
+mod replay;
+mod reports;
+mod script;
+mod shape;
+mod spelling;
+
+pub use audit::check;
+pub use fault::AuditFault;

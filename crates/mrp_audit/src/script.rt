@@ -1,0 +1,28 @@
+//! What the desks of a shop are to call.
+
+ghost use Rattle.std.specs.Prelude.{◌≡◌, IfOk};
+ghost use Rattle.mrp_engine.specs.Script.{script_of, with_run};
+
+use mrp_book::Call;
+use mrp_engine::{ADDED_DESK, call_of, has_run};
+use mrp_qty::NoMemory;
+use mrp_tables::Tables;
+use std::alloc::Global;
+
+/// What the records of a shop's script call, each with its desk, in order. A script without a run is
+/// taken with one more record at its end, a run of desk 1.
+///
+/// Errors: `NoMemory` where memory is refused.
+pub(crate) fn script_calls(alloc: Global, tables: &Tables) -> Result<Vec<(u64, Call)>, NoMemory>
+    ensures { IfOk result (λ calls. calls.items ≡ with_run (script_of tables.now)) }
+{
+    let script = tables.script();
+    let mut calls = Vec::with_capacity(alloc, script.len())?;
+    for row in script {
+        calls.push((row.desk, call_of(row.call)))?;
+    }
+    if !has_run(script) {
+        calls.push((ADDED_DESK, Call::Snapshot))?;
+    }
+    Ok(calls)
+}

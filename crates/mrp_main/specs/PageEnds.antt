@@ -1,0 +1,62 @@
+-- How the page of a day ends (profile).
+use Rattle.std.specs.Prelude.{ℕ, ◌≡◌, List, [], Option, Some, None, codes, map, option_map, string_bytes}
+use Rattle.std.specs.Io.KnownBytes.{Appends}
+use Rattle.mrp_rows.specs.declared.told.Told.{Told}
+use Rattle.mrp_rows.specs.declared.streams.TheConstants.{WRITE_TRIES}
+use Rattle.mrp_rows.specs.Streams.{WritesFront}
+use Rattle.mrp_rows.specs.Told.{inner_of}
+use Rattle.mrp_report.specs.Written.{HasGivenUp, HasGoneOn}
+use Rattle.mrp_page.specs.Names.{names_of}
+use Rattle.mrp_page.specs.Reading.{IsNoDay, LacksRun}
+use Rattle.mrp_page.specs.Spot.{Names}
+use Rattle.mrp_page.specs.Written.{IsPageOf}
+use Rattle.mrp_page.specs.declared.fault.PageFault.{PageFault}
+use Rattle.mrp_page.specs.declared.fault.PageFault.TheVariants as fault
+use Rattle.mrp_main.specs.declared.page_words.PageWords.{PageWords}
+use Rattle.mrp_main.specs.declared.ending.Ending.{Ending}
+use Rattle.mrp_main.specs.declared.ending.Ending.TheVariants.{Done, Refused, TooLarge, WrongShape, Wrong, NoRun, Usage, NoMemory, Read, Write}
+
+-- the names of a line; none where there is no line
+abbrev pub names_in : Option (List ℕ) → List (List ℕ)
+names_in None = []
+names_in (Some line) = names_of line
+
+-- a title, or `Plan` where there is none
+abbrev pub title_of : Option (List ℕ) → List ℕ
+title_of None = codes "Plan"
+title_of (Some title) = title
+
+-- these are the names that a page is asked for
+abbrev pub AreAsked : PageWords → Names → Type 0
+AreAsked words names = map (λ name. name.now) names ≡ names_in (option_map string_bytes words.items)
+
+-- a text is a day, and this holds of the page that is asked for of it
+abbrev pub IsPageBy : PageWords → List ℕ → (List ℕ → Type 0) → Type 0
+IsPageBy words text P = (names : Names) × AreAsked words names × IsPageOf (title_of (option_map string_bytes words.title)) names words.run text P
+
+-- a text has fewer runs than that which is asked for
+abbrev pub LacksRunBy : PageWords → List ℕ → Type 0
+LacksRunBy words text = (names : Names) × AreAsked words names × LacksRun names words.run text
+
+-- how a page of what was given ends: it was written, or a front of it, or nothing
+abbrev pub PageEnds : PageWords → Option (List ℕ) → {W : Type 0} → (W → Option (List ℕ)) → Told W → Told W → Ending → Type 0
+PageEnds words given contents output written Done =
+    HasGoneOn output written WRITE_TRIES × ((text : List ℕ) → given ≡ Some text → IsPageBy words text (λ page. Appends (contents (inner_of output)) (contents (inner_of written)) page))
+PageEnds words given contents output written WrongShape = (written ≡ output) × ((text : List ℕ) → given ≡ Some text → IsNoDay text)
+PageEnds words given contents output written NoRun = (written ≡ output) × ((text : List ℕ) → given ≡ Some text → LacksRunBy words text)
+PageEnds words given contents output written NoMemory = written ≡ output
+PageEnds words given contents output written Read = written ≡ output
+PageEnds words given contents output written Write =
+    HasGivenUp output written WRITE_TRIES × ((text : List ℕ) → given ≡ Some text → IsPageBy words text (λ page. WritesFront (contents (inner_of output)) (contents (inner_of written)) page))
+PageEnds words given contents output written (Refused text) = ⊥
+PageEnds words given contents output written (TooLarge name) = ⊥
+PageEnds words given contents output written (Usage text) = ⊥
+PageEnds words given contents output written Wrong = ⊥
+
+-- the end of a page that was not written whole
+abbrev pub end_of : PageFault → Ending
+end_of fault.Shape = WrongShape
+end_of fault.NoRun = NoRun
+end_of fault.NoMemory = NoMemory
+end_of fault.Read = Read
+end_of fault.Write = Write

@@ -1,0 +1,19 @@
+-- How a bundle that was refused or not read is told (profile).
+use Rattle.std.specs.Prelude.{◌≡◌, ⊤, string_bytes}
+use Rattle.mrp_rows.specs.FaultText.{text_of_fault}
+use Rattle.mrp_rows.specs.declared.fault.Fault.{Fault}
+use Rattle.mrp_rows.specs.declared.streams.ReadFault.{ReadFault}
+use Rattle.mrp_rows.specs.declared.streams.ReadFault.TheVariants as read
+use Rattle.mrp_main.specs.declared.ending.Ending.{Ending}
+use Rattle.mrp_main.specs.declared.ending.Ending.TheVariants.{Refused, NoMemory, Read}
+
+-- the end of a refused bundle: the text of its fault takes memory
+abbrev pub TellsFault : Fault → Ending → Type 0
+TellsFault f (Refused text) = string_bytes text ≡ text_of_fault f
+TellsFault f NoMemory = ⊤
+TellsFault f _ = ⊥
+
+-- the end of reading that gave nothing
+abbrev pub end_of_read : ReadFault → Ending
+end_of_read read.Read = Read
+end_of_read read.NoMemory = NoMemory

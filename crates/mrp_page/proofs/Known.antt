@@ -1,0 +1,39 @@
+-- What a page shows is known.
+use Rattle.std.proofs.Common.{◌⊎◌, ◌<◌, ◌≤◌, ℕ, List, [], Option, get_or, length, map, refl, sym, subst, arith, inl, inr}
+use Rattle.std.proofs.lemmas.Bool.{cases_lt}
+use Rattle.std.proofs.lemmas.List.{get_or-map, get_or_past, length-map}
+use Rattle.std.proofs.lemmas.List.Elements.{All-contains_itself, Contains-get_or}
+use Rattle.std.specs.List.{All, Contains}
+use Rattle.mrp_page.specs.Known.{IsKnown, IsMadeOf, count_texts, names_shown, small_words}
+use Rattle.mrp_page.specs.ItemRows.{item_lists}
+use Rattle.mrp_page.specs.Notes.{Noted, notes_of}
+use Rattle.mrp_page.specs.Page.{page_html, shown_items}
+use Rattle.mrp_page.specs.Row.{Cells, RowView, cell_at}
+use Rattle.mrp_page.specs.Spot.{Names}
+use Rattle.mrp_page.proofs.KeptRows.{history-stands, report-stands}
+use Rattle.mrp_page.proofs.Made.{page}
+
+nothing : Contains small_words []
+unfolding small_words
+nothing = (0, omega arith, refl)
+
+known-cell : (title : List ℕ) (records : List Cells) (notes : Noted) (r : RowView) → Contains records r.cells → (column : ℕ) → IsKnown title records notes (cell_at r column)
+known-cell title records notes r has column = by (cases_lt column (length r.cells))
+  where
+    by : (column < length r.cells) ⊎ (length r.cells ≤ column) → IsKnown title records notes (cell_at r column)
+    by (inl within) = inr (inl (r.cells, has, Contains-get_or r.cells column [] within))
+    by (inr past) = subst (λ (t : List ℕ). IsKnown title records notes t) (sym (get_or_past r.cells column [] past)) (inr (inr (inr nothing)))
+
+shown-names : (rows : List RowView) → All (λ r. Contains (map (λ r. cell_at r 0) rows) (cell_at r 0)) rows
+shown-names rows = λ k d within.
+    let long : k < length (map (λ (r : RowView). cell_at r 0) rows) = rw (length-map rows (λ (r : RowView). cell_at r 0)) within in
+    subst (λ (t : List ℕ). Contains (map (λ (r : RowView). cell_at r 0) rows) t) (get_or-map (λ (r : RowView). cell_at r 0) rows k d [] within) (Contains-get_or (map (λ (r : RowView). cell_at r 0) rows) k [] long)
+
+pub shows-known : (title : List ℕ) (items : Names) (asked : Option ℕ) (records : List Cells) → IsMadeOf (IsKnown title records (notes_of items asked records)) (Contains (names_shown (notes_of items asked records))) (page_html title (notes_of items asked records))
+shows-known title items asked records =
+    let notes : Noted = notes_of items asked records in
+    page (λ (t : List ℕ). IsKnown title records notes t) (Contains (names_shown notes)) (λ w is. inr (inr (inr is))) title notes (inl refl)
+    (λ k d within. known-cell title records notes (get_or notes.history k d) (history-stands items asked records k d within))
+    (λ k d within. known-cell title records notes (get_or notes.report k d) (report-stands items asked records k d within))
+    (λ k d within. inr (inr (inl (All-contains_itself (count_texts notes) k d within))))
+    (shown-names (shown_items (item_lists notes.report)))

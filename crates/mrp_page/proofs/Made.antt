@@ -1,0 +1,655 @@
+-- Pages are made of their own words and of texts that are known.
+use Rattle.std.proofs.Common.{◌≡◌, ◌∙◌, ◌⊎◌, ◌-◌, ◌<◌, ◌≤◌, ℕ, zero, suc, Bool, true, false, List, [], ◌∷◌, ◌++◌, codes, decimal, drop, get_or, length, refl, sym, ap, subst, arith, inl, inr, not}
+use Rattle.std.specs.Prelude.{if◌then◌else◌, ◌==◌, ◌&&◌, ◌||◌, nat_lt}
+use Rattle.std.proofs.lemmas.Bool.{cases_lt}
+use Rattle.std.proofs.lemmas.List.{append-nil, get_or_past}
+use Rattle.std.proofs.lemmas.List.Concat.{flat_map-append}
+use Rattle.std.proofs.lemmas.List.Folds.{Any-from_list_any}
+use Rattle.std.proofs.lemmas.Slice.Eq.{bytes_eq-Decides}
+use Rattle.std.proofs.lemmas.List.Elements.{All-append, All-cons, All-contains, All-contains_itself, All-drop, All-nil, All-take, Contains-append_left, Contains-append_right}
+use Rattle.std.specs.List.{All, Contains, flat_map, position_or_len}
+use Rattle.mrp_page.specs.Draw.{balance_html, bars_html, booked_html, centre_html, centre_rows_html, centres_html, each_centre, grid_html, has_firm, has_item, has_none, history_html, is_plain, item_html, item_lists_html, item_name_html, item_tasks, items_html, link_html, loads_html, measure_html, more_html, more_items, more_lists, more_rows, more_weeks, named_note, named_record, named_tasks, orders_html, other_if, other_tasks, pegs_html, planned_html, points_html, promised_html, promises_note, record_html, record_or_none, record_rows, supplies_html, table_html, task_html, task_if, task_table, tasks_html, tasks_with, todo_back, todo_html, weeks_html}
+use Rattle.mrp_page.specs.Escaped.{escaped}
+use Rattle.mrp_page.specs.Frame.{count_row, frame_of, heading, last_week}
+use Rattle.mrp_page.specs.Html.{is_zero, number_html, number_tag}
+use Rattle.mrp_page.specs.ItemRows.{ItemLists, item_lists}
+use Rattle.mrp_page.specs.Known.{IsMadeOf, IsPieceOf, count_texts, layouts, marks_of, own_words, plain, small_words}
+use Rattle.mrp_page.specs.Laws.{Escaped, Link, Markup, piece_html}
+use Rattle.mrp_page.specs.Layout.{available_label, balance_chart, balance_label, bar, bars_end, booked_label, capacity_label, centre_head, centres_open, entry, firm_label, grid_end, gross_label, history_end, history_open, item_head, item_tasks_end, item_tasks_open, list_end, load_chart, load_label, more, no_promises, no_record, order, orders_open, other_words, over_label, page_end, page_head, page_top, peg, pegs_open, planned_label, point, points_end, record_head, scheduled_label, section_end, starts_label, style, task_head, task_words, todo_end, todo_open, week, weeks_end}
+use Rattle.mrp_page.specs.Notes.{Noted}
+use Rattle.mrp_page.specs.Page.{head_html, is_told, items_of, load_section, page_html, page_of, rest_html, shown_items, told_first, top_html, untold_rows}
+use Rattle.mrp_page.specs.Row.{Cells, RowView, cell_at, is_in, is_of}
+use Rattle.mrp_page.specs.Rows.{greatest, higher, leader_rows, leaders, rank, rows_in, rows_named, stretch}
+use Rattle.mrp_page.specs.Template.{Drawn, Mark, Number, Text, Where, has_word, number_at, numbers_html, part_html, row_html, rows_html}
+use Rattle.mrp_page.specs.declared.counts.Counts.{Counts}
+use Rattle.mrp_page.specs.declared.section.Section.{Section}
+use Rattle.mrp_page.specs.declared.section.Section.TheVariants as s
+use Rattle.mrp_page.specs.Unshown.{unshown}
+
+-- what one of the parts has, all of them have
+pub contains-flat : {X A : Type 0} (f : X → List A) (xs : List X) (x : X) (y : A) (k : ℕ) → k < length xs → get_or xs k x ≡ x → Contains (f x) y → Contains (flat_map f xs) y
+contains-flat f [] x y k within is has = absurd (omega (arith, within))
+contains-flat {X} {A} f (z ∷ xs) x y zero within is has = Contains-append_left (f z) (flat_map f xs) y (subst (λ (t : X). Contains (f t) y) (sym is) has)
+contains-flat f (z ∷ xs) x y (suc k) within is has = Contains-append_right (f z) (flat_map f xs) y (contains-flat f xs x y k (omega (arith, within)) is has)
+
+pub all-flat : {X Y : Type 0} (P : X → Type 0) (Q : Y → Type 0) (f : X → List Y) → ((x : X) → P x → All Q (f x)) → (xs : List X) → All P xs → All Q (flat_map f xs)
+all-flat P Q f each [] all = All-nil Q
+all-flat P Q f each (x ∷ xs) all = All-append Q (f x) (flat_map f xs) (each x (all 0 x (omega arith))) (all-flat P Q f each xs (λ k d within. all (suc k) d (omega arith)))
+
+-- the markup of a part is the page's own
+abbrev IsOwn : Drawn → Type 0
+IsOwn part = All (Contains own_words) (marks_of part)
+
+own-mark : (parts : List Drawn) (part : Drawn) (mark : List ℕ) → Contains layouts parts → Contains parts part → Contains (marks_of part) mark → Contains own_words mark
+unfolding own_words
+own-mark parts part mark laid has is =
+    Contains-append_right plain (flat_map (flat_map marks_of) layouts) mark
+    (contains-flat (flat_map marks_of) layouts parts mark laid.0 laid.1 laid.2 (contains-flat marks_of parts part mark has.0 has.1 has.2 is))
+
+own-parts : (parts : List Drawn) → Contains layouts parts → All IsOwn parts
+own-parts parts laid = λ k d within.
+    let has : Contains parts (get_or parts k d) = All-contains_itself parts k d within in
+    λ i m inside. own-mark parts (get_or parts k d) (get_or (marks_of (get_or parts k d)) i m) laid has (All-contains_itself (marks_of (get_or parts k d)) i m inside)
+
+own : (m : List ℕ) (k : ℕ) → k < length plain → get_or plain k m ≡ m → Contains own_words m
+unfolding own_words
+own m k within is = Contains-append_left plain (flat_map (flat_map marks_of) layouts) m (k, within, is)
+
+laid-page_top : Contains layouts page_top
+unfolding layouts
+laid-page_top = (0, omega arith, refl)
+
+laid-page_head : Contains layouts page_head
+unfolding layouts
+laid-page_head = (1, omega arith, refl)
+
+laid-task_head : Contains layouts task_head
+unfolding layouts
+laid-task_head = (2, omega arith, refl)
+
+laid-task_words : Contains layouts task_words
+unfolding layouts
+laid-task_words = (3, omega arith, refl)
+
+laid-week : Contains layouts week
+unfolding layouts
+laid-week = (4, omega arith, refl)
+
+laid-entry : Contains layouts entry
+unfolding layouts
+laid-entry = (5, omega arith, refl)
+
+laid-order : Contains layouts order
+unfolding layouts
+laid-order = (6, omega arith, refl)
+
+laid-peg : Contains layouts peg
+unfolding layouts
+laid-peg = (7, omega arith, refl)
+
+laid-centre_head : Contains layouts centre_head
+unfolding layouts
+laid-centre_head = (8, omega arith, refl)
+
+laid-load_chart : Contains layouts load_chart
+unfolding layouts
+laid-load_chart = (9, omega arith, refl)
+
+laid-bar : Contains layouts bar
+unfolding layouts
+laid-bar = (10, omega arith, refl)
+
+laid-item_head : Contains layouts item_head
+unfolding layouts
+laid-item_head = (11, omega arith, refl)
+
+laid-record_head : Contains layouts record_head
+unfolding layouts
+laid-record_head = (12, omega arith, refl)
+
+laid-balance_chart : Contains layouts balance_chart
+unfolding layouts
+laid-balance_chart = (13, omega arith, refl)
+
+laid-point : Contains layouts point
+unfolding layouts
+laid-point = (14, omega arith, refl)
+
+laid-more : Contains layouts more
+unfolding layouts
+laid-more = (15, omega arith, refl)
+
+laid-other_words : Contains layouts other_words
+unfolding layouts
+laid-other_words = (16, omega arith, refl)
+
+own-style : Contains own_words style
+unfolding plain
+own-style = own style 0 (omega arith) refl
+
+own-todo_open : Contains own_words todo_open
+unfolding plain
+own-todo_open = own todo_open 1 (omega arith) refl
+
+own-todo_end : Contains own_words todo_end
+unfolding plain
+own-todo_end = own todo_end 2 (omega arith) refl
+
+own-item_tasks_open : Contains own_words item_tasks_open
+unfolding plain
+own-item_tasks_open = own item_tasks_open 3 (omega arith) refl
+
+own-item_tasks_end : Contains own_words item_tasks_end
+unfolding plain
+own-item_tasks_end = own item_tasks_end 4 (omega arith) refl
+
+own-weeks_end : Contains own_words weeks_end
+unfolding plain
+own-weeks_end = own weeks_end 5 (omega arith) refl
+
+own-bars_end : Contains own_words bars_end
+unfolding plain
+own-bars_end = own bars_end 6 (omega arith) refl
+
+own-points_end : Contains own_words points_end
+unfolding plain
+own-points_end = own points_end 7 (omega arith) refl
+
+own-load_label : Contains own_words load_label
+unfolding plain
+own-load_label = own load_label 8 (omega arith) refl
+
+own-capacity_label : Contains own_words capacity_label
+unfolding plain
+own-capacity_label = own capacity_label 9 (omega arith) refl
+
+own-over_label : Contains own_words over_label
+unfolding plain
+own-over_label = own over_label 10 (omega arith) refl
+
+own-grid_end : Contains own_words grid_end
+unfolding plain
+own-grid_end = own grid_end 11 (omega arith) refl
+
+own-centres_open : Contains own_words centres_open
+unfolding plain
+own-centres_open = own centres_open 12 (omega arith) refl
+
+own-section_end : Contains own_words section_end
+unfolding plain
+own-section_end = own section_end 13 (omega arith) refl
+
+own-scheduled_label : Contains own_words scheduled_label
+unfolding plain
+own-scheduled_label = own scheduled_label 14 (omega arith) refl
+
+own-firm_label : Contains own_words firm_label
+unfolding plain
+own-firm_label = own firm_label 15 (omega arith) refl
+
+own-booked_label : Contains own_words booked_label
+unfolding plain
+own-booked_label = own booked_label 16 (omega arith) refl
+
+own-available_label : Contains own_words available_label
+unfolding plain
+own-available_label = own available_label 17 (omega arith) refl
+
+own-gross_label : Contains own_words gross_label
+unfolding plain
+own-gross_label = own gross_label 18 (omega arith) refl
+
+own-planned_label : Contains own_words planned_label
+unfolding plain
+own-planned_label = own planned_label 19 (omega arith) refl
+
+own-starts_label : Contains own_words starts_label
+unfolding plain
+own-starts_label = own starts_label 20 (omega arith) refl
+
+own-balance_label : Contains own_words balance_label
+unfolding plain
+own-balance_label = own balance_label 21 (omega arith) refl
+
+own-orders_open : Contains own_words orders_open
+unfolding plain
+own-orders_open = own orders_open 22 (omega arith) refl
+
+own-pegs_open : Contains own_words pegs_open
+unfolding plain
+own-pegs_open = own pegs_open 23 (omega arith) refl
+
+own-list_end : Contains own_words list_end
+unfolding plain
+own-list_end = own list_end 24 (omega arith) refl
+
+own-no_record : Contains own_words no_record
+unfolding plain
+own-no_record = own no_record 25 (omega arith) refl
+
+own-history_open : Contains own_words history_open
+unfolding plain
+own-history_open = own history_open 26 (omega arith) refl
+
+own-history_end : Contains own_words history_end
+unfolding plain
+own-history_end = own history_end 27 (omega arith) refl
+
+own-page_end : Contains own_words page_end
+unfolding plain
+own-page_end = own page_end 28 (omega arith) refl
+
+own-none : Contains own_words ([])
+unfolding plain
+own-none = own ([]) 29 (omega arith) refl
+
+own-cell : Contains own_words (codes "<td>")
+unfolding plain
+own-cell = own (codes "<td>") 30 (omega arith) refl
+
+own-zero : Contains own_words (codes "<td class=z>")
+unfolding plain
+own-zero = own (codes "<td class=z>") 31 (omega arith) refl
+
+own-cell-end : Contains own_words (codes "</td>")
+unfolding plain
+own-cell-end = own (codes "</td>") 32 (omega arith) refl
+
+own-row-end : Contains own_words (codes "</tr>\n")
+unfolding plain
+own-row-end = own (codes "</tr>\n") 33 (omega arith) refl
+
+own-no_promises : Contains own_words no_promises
+unfolding plain
+own-no_promises = own no_promises 34 (omega arith) refl
+
+-- where some rows are, each of them stands among all
+module _ {X : Type 0} (P : X → Type 0) where
+  pub all-stretch : (p : X → Bool) (xs : List X) → All P xs → All P (stretch p xs)
+  all-stretch p xs all = All-take P (position_or_len (λ x. not (p x)) (drop (position_or_len p xs) xs)) (drop (position_or_len p xs) xs) (All-drop P (position_or_len p xs) xs all)
+
+  pub all-if : (b : Bool) (x : X) → P x → All P (if b then [] else x ∷ [])
+  all-if true x is = All-nil P
+  all-if false x is = All-cons P x [] is (All-nil P)
+
+module _ (P : RowView → Type 0) where
+  pub all-in : (section : Section) (rows : List RowView) → All P rows → All P (rows_in section rows)
+  unfolding rows_in
+  all-in section rows all = all-stretch P (is_in section) rows all
+
+  pub all-named : (name : List ℕ) (rows : List RowView) → All P rows → All P (rows_named name rows)
+  unfolding rows_named
+  all-named name rows all = all-stretch P (is_of name) rows all
+
+  pub all-leaders : (previous : List ℕ) (rows : List RowView) → All P rows → All P (leaders previous rows)
+  unfolding leaders
+  all-leaders previous [] all = All-nil P
+  all-leaders previous (r ∷ rows) all =
+      All-append P (leader_rows previous r) (leaders (cell_at r 0) rows) (all-if P (is_of previous r) r (all 0 r (omega arith))) (all-leaders (cell_at r 0) rows (λ k d within. all (suc k) d (omega arith)))
+
+  pub all-told : (messages plan : List RowView) → All P messages → All P plan → All P (told_first messages plan)
+  unfolding told_first
+  all-told messages plan of-messages of-plan =
+      All-append P (leaders [] messages) (flat_map (untold_rows messages) (leaders [] plan)) (all-leaders [] messages of-messages)
+      (all-flat P P (untold_rows messages) (λ r is. all-if P (is_told messages r) r is) (leaders [] plan) (all-leaders [] plan of-plan))
+
+  pub all-shown : (rows : ItemLists) → All P rows.messages → All P rows.plan → All P (shown_items rows)
+  unfolding shown_items
+  all-shown rows of-messages of-plan = All-take P 200 (told_first rows.messages rows.plan) (all-told rows.messages rows.plan of-messages of-plan)
+
+-- an item that is among those of some rows is the item of one of them
+named-item : (shown : List RowView) (name : List ℕ) → has_item shown name ≡ true → (r : RowView) × Contains shown r × (cell_at r 0 ≡ name)
+named-item shown name has =
+    let (k, r, within, at, is) = Any-from_list_any (is_of name) shown has in
+    (r, (k, within, at), (bytes_eq-Decides (cell_at r 0) name).0 is)
+
+module _ (K L : List ℕ → Type 0) (words : (w : List ℕ) → Contains small_words w → K w) where
+  none : IsMadeOf K L []
+  none = ([], All-nil (IsPieceOf K L), refl)
+
+  mark : (m : List ℕ) → Contains own_words m → IsMadeOf K L m
+  mark m is = (Markup m ∷ [], All-cons (IsPieceOf K L) (Markup m) [] is (All-nil (IsPieceOf K L)), sym (append-nil m))
+
+  text : (t : List ℕ) → K t → IsMadeOf K L (escaped t)
+  text t known = (Escaped t ∷ [], All-cons (IsPieceOf K L) (Escaped t) [] known (All-nil (IsPieceOf K L)), sym (append-nil (escaped t)))
+
+  join : (a b : List ℕ) → IsMadeOf K L a → IsMadeOf K L b → IsMadeOf K L (a ++ b)
+  join a b x y = (
+    x.0 ++ y.0,
+    All-append (IsPieceOf K L) x.0 y.0 x.1 y.1,
+    ap (λ (t : List ℕ). t ++ b) x.2 ∙ ap (λ (t : List ℕ). flat_map piece_html x.0 ++ t) y.2 ∙ sym (flat_map-append piece_html x.0 y.0),
+  )
+
+  each : {X : Type 0} (P : X → Type 0) (f : X → List ℕ) → ((x : X) → P x → IsMadeOf K L (f x)) → (xs : List X) → All P xs → IsMadeOf K L (flat_map f xs)
+  each P f made [] all = none
+  each P f made (x ∷ xs) all = join (f x) (flat_map f xs) (made x (all 0 x (omega arith))) (each P f made xs (λ k d within. all (suc k) d (omega arith)))
+
+  either : (b : Bool) (x y : List ℕ) → IsMadeOf K L x → IsMadeOf K L y → IsMadeOf K L (if b then x else y)
+  either true x y of-x of-y = of-x
+  either false x y of-x of-y = of-y
+
+  small : (w : List ℕ) (k : ℕ) → k < length small_words → get_or small_words k w ≡ w → K w
+  small w k within is = words w (k, within, is)
+
+  nothing : K []
+  unfolding small_words
+  nothing = small [] 0 (omega arith) refl
+
+  nought : K (codes "0")
+  unfolding small_words
+  nought = small (codes "0") 1 (omega arith) refl
+
+  unit : K (codes "1")
+  unfolding small_words
+  unit = small (codes "1") 2 (omega arith) refl
+
+  unit-minute : K (codes "1.000")
+  unfolding small_words
+  unit-minute = small (codes "1.000") 19 (omega arith) refl
+
+  knows : (section : Section) (cells : Cells) → All K cells → (column : ℕ) → K (cell_at (record { section = section; cells = cells }) column)
+  knows section cells all column = by (cases_lt column (length cells))
+    where
+      by : (column < length cells) ⊎ (length cells ≤ column) → K (cell_at (record { section = section; cells = cells }) column)
+      by (inl within) = all column [] within
+      by (inr past) = subst K (sym (get_or_past cells column [] past)) nothing
+
+  number-tag : (b : Bool) → IsMadeOf K L (if b then codes "<td class=z>" else codes "<td>")
+  number-tag b = either b (codes "<td class=z>") (codes "<td>") (mark (codes "<td class=z>") own-zero) (mark (codes "<td>") own-cell)
+
+  number : (t : List ℕ) → K t → IsMadeOf K L (number_html t)
+  number t known = join (number_tag t) (escaped t ++ codes "</td>") (number-tag (is_zero t)) (join (escaped t) (codes "</td>") (text t known) (mark (codes "</td>") own-cell-end))
+
+  part : (r : RowView) (p : Drawn) → ((column : ℕ) → K (cell_at r column)) → IsOwn p → IsMadeOf K L (part_html r p)
+  part r (Mark m) known is = mark m (is 0 m (omega arith))
+  part r (Where column word m) known is = either (has_word column word r) m [] (mark m (is 0 m (omega arith))) none
+  part r (Text column) known is = text (cell_at r column) (known column)
+  part r (Number column) known is = number (cell_at r column) (known column)
+
+  row : (parts : List Drawn) (r : RowView) → Contains layouts parts → ((column : ℕ) → K (cell_at r column)) → IsMadeOf K L (row_html parts r)
+  unfolding row_html
+  row parts r laid known = each IsOwn (part_html r) (λ p is. part r p known is) parts (own-parts parts laid)
+
+  rows : (parts : List Drawn) (rs : List RowView) → Contains layouts parts → All (λ (r : RowView). (column : ℕ) → K (cell_at r column)) rs → IsMadeOf K L (rows_html parts rs)
+  unfolding rows_html
+  rows parts rs laid all = each (λ (r : RowView). (column : ℕ) → K (cell_at r column)) (row_html parts) (λ r known. row parts r laid known) rs all
+
+  numbers : (column : ℕ) (rs : List RowView) → All (λ (r : RowView). (column : ℕ) → K (cell_at r column)) rs → IsMadeOf K L (numbers_html column rs)
+  unfolding numbers_html
+  numbers column rs all = each (λ (r : RowView). (column : ℕ) → K (cell_at r column)) (number_at column) (λ r known. number (cell_at r column) (known column)) rs all
+
+  table : (front : List ℕ) (parts : List Drawn) (rs : List RowView) (back : List ℕ) → Contains own_words front → Contains layouts parts → All (λ (r : RowView). (column : ℕ) → K (cell_at r column)) rs → Contains own_words back → IsMadeOf K L (table_html front parts rs back)
+  unfolding table_html
+  table front parts rs back of-front laid all of-back = join front (rows_html parts rs ++ back) (mark front of-front) (join (rows_html parts rs) back (rows parts rs laid all) (mark back of-back))
+
+  measure : (label : List ℕ) (column : ℕ) (rs : List RowView) → Contains own_words label → All (λ (r : RowView). (column : ℕ) → K (cell_at r column)) rs → IsMadeOf K L (measure_html label column rs)
+  unfolding measure_html
+  measure label column rs is all = join label (numbers_html column rs ++ codes "</tr>\n") (mark label is) (join (numbers_html column rs) (codes "</tr>\n") (numbers column rs all) (mark (codes "</tr>\n") own-row-end))
+
+  link : (name : List ℕ) → L name → IsMadeOf K L (link_html name)
+  link name leads = (Link name ∷ [], All-cons (IsPieceOf K L) (Link name) [] leads (All-nil (IsPieceOf K L)), sym (append-nil (link_html name)))
+
+  item-name : (shown : List RowView) (name : List ℕ) → All (λ (r : RowView). L (cell_at r 0)) shown → K name → IsMadeOf K L (item_name_html shown name)
+  unfolding item_name_html
+  item-name shown name led known = by (has_item shown name) refl
+    where
+      by : (b : Bool) → has_item shown name ≡ b → IsMadeOf K L (if b then link_html name else escaped name)
+      by true has = link name (subst L (named-item shown name has).2 (All-contains (λ (r : RowView). L (cell_at r 0)) shown (named-item shown name has).0 led (named-item shown name has).1))
+      by false has = text name known
+
+  task : (shown : List RowView) (says : List Drawn) (r : RowView) → Contains layouts says → All (λ (r : RowView). L (cell_at r 0)) shown → ((column : ℕ) → K (cell_at r column)) → IsMadeOf K L (task_html shown says r)
+  unfolding task_html
+  task shown says r laid led known =
+      join (row_html task_head r) (item_name_html shown (cell_at r 0) ++ row_html says r) (row task_head r laid-task_head known)
+      (join (item_name_html shown (cell_at r 0)) (row_html says r) (item-name shown (cell_at r 0) led (known 0)) (row says r laid known))
+
+  tasks-word : (shown : List RowView) (word : List ℕ) (ms : List RowView) → All (λ (r : RowView). L (cell_at r 0)) shown → All (λ (r : RowView). (column : ℕ) → K (cell_at r column)) ms → IsMadeOf K L (tasks_with shown word ms)
+  unfolding tasks_with
+  tasks-word shown word ms led all = each (λ (r : RowView). (column : ℕ) → K (cell_at r column)) (task_if shown word) (λ r known. either (has_word 3 word r) (task_html shown task_words r) [] (task shown task_words r laid-task_words led known) none) ms all
+
+  tasks-other : (shown ms : List RowView) → All (λ (r : RowView). L (cell_at r 0)) shown → All (λ (r : RowView). (column : ℕ) → K (cell_at r column)) ms → IsMadeOf K L (other_tasks shown ms)
+  unfolding other_tasks
+  tasks-other shown ms led all = each (λ (r : RowView). (column : ℕ) → K (cell_at r column)) (other_if shown) (λ r known. either (is_plain r) [] (task_html shown other_words r) none (task shown other_words r laid-other_words led known)) ms all
+
+  tasks : (shown ms : List RowView) → All (λ (r : RowView). L (cell_at r 0)) shown → All (λ (r : RowView). (column : ℕ) → K (cell_at r column)) ms → IsMadeOf K L (tasks_html shown ms)
+  unfolding tasks_html
+  tasks shown ms led all =
+      let of : (word : List ℕ) → IsMadeOf K L (tasks_with shown word ms) = λ word. tasks-word shown word ms led all in
+      let late : List ℕ = tasks_with shown (codes "PAST-DUE") ms in
+      let release : List ℕ = tasks_with shown (codes "RELEASE") ms in
+      let sooner : List ℕ = tasks_with shown (codes "IN") ms in
+      let later : List ℕ = tasks_with shown (codes "OUT") ms in
+      let cancel : List ℕ = tasks_with shown (codes "CANCEL") ms in
+      let other : List ℕ = other_tasks shown ms in
+      join late (release ++ (sooner ++ (later ++ (cancel ++ other)))) (of (codes "PAST-DUE"))
+      (join release (sooner ++ (later ++ (cancel ++ other))) (of (codes "RELEASE"))
+      (join sooner (later ++ (cancel ++ other)) (of (codes "IN")) (join later (cancel ++ other) (of (codes "OUT")) (join cancel other (of (codes "CANCEL")) (tasks-other shown ms led all)))))
+
+  told : (front : List ℕ) (shown ms : List RowView) (back : List ℕ) → Contains own_words front → All (λ (r : RowView). L (cell_at r 0)) shown → All (λ (r : RowView). (column : ℕ) → K (cell_at r column)) ms → Contains own_words back → IsMadeOf K L (task_table front shown ms back)
+  unfolding task_table
+  told front shown ms back of-front led all of-back = join front (tasks_html shown ms ++ back) (mark front of-front) (join (tasks_html shown ms) back (tasks shown ms led all) (mark back of-back))
+
+  counted : (count : ℕ) (one many : List ℕ) → K (decimal count) → K one → K many → (column : ℕ) → K (cell_at (count_row count one many) column)
+  counted count one many of-count of-one of-many = knows s.Run (decimal count ∷ (if count == 1 then one else many) ∷ [])
+      (All-cons K (decimal count) ((if count == 1 then one else many) ∷ []) of-count (All-cons K (if count == 1 then one else many) [] (by (count == 1)) (All-nil K)))
+    where
+      by : (b : Bool) → K (if b then one else many)
+      by true = of-one
+      by false = of-many
+
+  further : (count : ℕ) (one many : List ℕ) → K (decimal count) → K one → K many → IsMadeOf K L (more_html count one many)
+  unfolding more_html
+  further count one many of-count of-one of-many = either (count == 0) [] (row_html more (count_row count one many)) none (row more (count_row count one many) laid-more (counted count one many of-count of-one of-many))
+
+  todo-back : (missed : ℕ) → K (decimal missed) → IsMadeOf K L (todo_back missed)
+  unfolding todo_back small_words
+  todo-back missed known = (join (more_html missed (codes "message is") (codes "messages are")) section_end (further missed (codes "message is") (codes "messages are") known (small (codes "message is") 3 (omega arith) refl) (small (codes "messages are") 4 (omega arith) refl)) (mark section_end own-section_end))
+
+  todo : (shown ms : List RowView) (missed : ℕ) → All (λ (r : RowView). L (cell_at r 0)) shown → All (λ (r : RowView). (column : ℕ) → K (cell_at r column)) ms → K (decimal missed) → IsMadeOf K L (todo_html shown ms missed)
+  unfolding todo_html
+  todo shown ms missed led all known = join (task_table todo_open shown ms todo_end) (todo_back missed) (told todo_open shown ms todo_end own-todo_open led all own-todo_end) (todo-back missed known)
+
+  weeks : (rs : List RowView) → All (λ (r : RowView). (column : ℕ) → K (cell_at r column)) rs → IsMadeOf K L (weeks_html rs)
+  unfolding weeks_html
+  weeks rs all = table [] week rs weeks_end own-none laid-week all own-weeks_end
+
+  grid : (head chart : List Drawn) (r : RowView) (rs : List RowView) → Contains layouts head → Contains layouts chart → ((column : ℕ) → K (cell_at r column)) → All (λ (r : RowView). (column : ℕ) → K (cell_at r column)) rs → IsMadeOf K L (grid_html head chart r rs)
+  unfolding grid_html
+  grid head chart r rs of-head of-chart known all = (join (row_html head r) ((weeks_html rs) ++ (row_html chart r)) (row head r of-head known) (join (weeks_html rs) (row_html chart r) (weeks rs all) (row chart r of-chart known)))
+
+  bars : (rs : List RowView) → All (λ (r : RowView). (column : ℕ) → K (cell_at r column)) rs → IsMadeOf K L (bars_html rs)
+  unfolding bars_html
+  bars rs all = table [] bar rs bars_end own-none laid-bar all own-bars_end
+
+  loads : (rs : List RowView) → All (λ (r : RowView). (column : ℕ) → K (cell_at r column)) rs → IsMadeOf K L (loads_html rs)
+  unfolding loads_html
+  loads rs all = (join (measure_html load_label 2 rs) ((measure_html capacity_label 3 rs) ++ ((measure_html over_label 4 rs) ++ grid_end)) (measure load_label 2 rs own-load_label all) (join (measure_html capacity_label 3 rs) ((measure_html over_label 4 rs) ++ grid_end) (measure capacity_label 3 rs own-capacity_label all) (join (measure_html over_label 4 rs) grid_end (measure over_label 4 rs own-over_label all) (mark grid_end own-grid_end))))
+
+  top-known : (column : ℕ) (least : List ℕ) (rs : List RowView) → K least → All (λ (r : RowView). (column : ℕ) → K (cell_at r column)) rs → K (greatest column least rs)
+  unfolding greatest
+  top-known column least [] known all = known
+  top-known column least (r ∷ rs) known all = top-known column (higher least (cell_at r column)) rs (by (nat_lt (rank least) (rank (cell_at r column)))) (λ k d within. all (suc k) d (omega arith))
+    where
+      by : (b : Bool) → K (if b then cell_at r column else least)
+      by true = all 0 r (omega arith) column
+      by false = known
+
+  framed : (name : List ℕ) (rs : List RowView) (a b : ℕ) (least : List ℕ) → K name → K least → All (λ (r : RowView). (column : ℕ) → K (cell_at r column)) rs → (column : ℕ) → K (cell_at (frame_of name rs a b least) column)
+  framed name rs a b least known of-least all =
+      let weeks : List ℕ = greatest 1 (codes "1") rs in
+      let top : List ℕ = greatest b (greatest a least rs) rs in
+      knows s.Run (name ∷ weeks ∷ top ∷ []) (All-cons K name (weeks ∷ top ∷ []) known (All-cons K weeks (top ∷ []) (top-known 1 (codes "1") rs unit all)
+      (All-cons K top [] (top-known b (greatest a least rs) rs (top-known a least rs of-least all) all) (All-nil K))))
+
+  centre-rows : (name : List ℕ) (rs : List RowView) → K name → All (λ (r : RowView). (column : ℕ) → K (cell_at r column)) rs → IsMadeOf K L (centre_rows_html name rs)
+  unfolding centre_rows_html
+  centre-rows name rs known all = (join (grid_html centre_head load_chart (frame_of name rs 2 3 (codes "1.000")) rs) ((bars_html rs) ++ (loads_html rs)) (grid centre_head load_chart (frame_of name rs 2 3 (codes "1.000")) rs laid-centre_head laid-load_chart (framed name rs 2 3 (codes "1.000") known unit-minute all) all) (join (bars_html rs) (loads_html rs) (bars rs all) (loads rs all)))
+
+  centre : (ls : List RowView) (r : RowView) → All (λ (r : RowView). (column : ℕ) → K (cell_at r column)) ls → ((column : ℕ) → K (cell_at r column)) → IsMadeOf K L (centre_html ls r)
+  unfolding centre_html
+  centre ls r all known = centre-rows (cell_at r 0) (rows_named (cell_at r 0) ls) (known 0) (all-named (λ (r : RowView). (column : ℕ) → K (cell_at r column)) (cell_at r 0) ls all)
+
+  each-centre : (ls rs : List RowView) → All (λ (r : RowView). (column : ℕ) → K (cell_at r column)) ls → All (λ (r : RowView). (column : ℕ) → K (cell_at r column)) rs → IsMadeOf K L (each_centre ls rs)
+  unfolding each_centre
+  each-centre ls rs all leads = each (λ (r : RowView). (column : ℕ) → K (cell_at r column)) (centre_html ls) (λ r known. centre ls r all known) rs leads
+
+  centres : (ls rs : List RowView) (missed : ℕ) → All (λ (r : RowView). (column : ℕ) → K (cell_at r column)) ls → All (λ (r : RowView). (column : ℕ) → K (cell_at r column)) rs → K (decimal missed) → IsMadeOf K L (centres_html ls rs missed)
+  unfolding centres_html small_words
+  centres ls rs missed all leads known = (join centres_open ((each_centre ls rs) ++ ((more_html missed (codes "week of a work centre is") (codes "weeks of work centres are")) ++ section_end)) (mark centres_open own-centres_open) (join (each_centre ls rs) ((more_html missed (codes "week of a work centre is") (codes "weeks of work centres are")) ++ section_end) (each-centre ls rs all leads) (join (more_html missed (codes "week of a work centre is") (codes "weeks of work centres are")) section_end (further missed (codes "week of a work centre is") (codes "weeks of work centres are") known (small (codes "week of a work centre is") 5 (omega arith) refl) (small (codes "weeks of work centres are") 6 (omega arith) refl)) (mark section_end own-section_end))))
+
+  supplies : (plan promises : List RowView) → All (λ (r : RowView). (column : ℕ) → K (cell_at r column)) plan → All (λ (r : RowView). (column : ℕ) → K (cell_at r column)) promises → IsMadeOf K L (supplies_html plan promises)
+  unfolding supplies_html
+  supplies plan promises of-plan of-promises = either (has_none promises && not (has_firm plan)) (measure_html scheduled_label 3 plan) (measure_html firm_label 4 plan) (measure scheduled_label 3 plan own-scheduled_label of-plan) (measure firm_label 4 plan own-firm_label of-plan)
+
+  booked : (rs : List RowView) → All (λ (r : RowView). (column : ℕ) → K (cell_at r column)) rs → IsMadeOf K L (booked_html rs)
+  unfolding booked_html
+  booked rs all = (join (measure_html booked_label 3 rs) (measure_html available_label 5 rs) (measure booked_label 3 rs own-booked_label all) (measure available_label 5 rs own-available_label all))
+
+  promised : (rs : List RowView) → All (λ (r : RowView). (column : ℕ) → K (cell_at r column)) rs → IsMadeOf K L (promised_html rs)
+  unfolding promised_html
+  promised rs all = either (has_none rs) [] (booked_html rs) none (booked rs all)
+
+  points : (rs : List RowView) → All (λ (r : RowView). (column : ℕ) → K (cell_at r column)) rs → IsMadeOf K L (points_html rs)
+  unfolding points_html
+  points rs all = table [] point rs points_end own-none laid-point all own-points_end
+
+  balance : (name : List ℕ) (rs : List RowView) → K name → All (λ (r : RowView). (column : ℕ) → K (cell_at r column)) rs → IsMadeOf K L (balance_html name rs)
+  unfolding balance_html
+  balance name rs known all = (join (grid_html record_head balance_chart (frame_of name rs 7 7 (codes "1")) rs) (points_html rs) (grid record_head balance_chart (frame_of name rs 7 7 (codes "1")) rs laid-record_head laid-balance_chart (framed name rs 7 7 (codes "1") known unit all) all) (points rs all))
+
+  planned : (rs : List RowView) → All (λ (r : RowView). (column : ℕ) → K (cell_at r column)) rs → IsMadeOf K L (planned_html rs)
+  unfolding planned_html
+  planned rs all = (join (measure_html planned_label 5 rs) ((measure_html starts_label 6 rs) ++ (measure_html balance_label 7 rs)) (measure planned_label 5 rs own-planned_label all) (join (measure_html starts_label 6 rs) (measure_html balance_label 7 rs) (measure starts_label 6 rs own-starts_label all) (measure balance_label 7 rs own-balance_label all)))
+
+  record-rows : (plan promises : List RowView) → All (λ (r : RowView). (column : ℕ) → K (cell_at r column)) plan → All (λ (r : RowView). (column : ℕ) → K (cell_at r column)) promises → IsMadeOf K L (record_rows plan promises)
+  unfolding record_rows
+  record-rows plan promises of-plan of-promises = (join (measure_html gross_label 2 plan) ((supplies_html plan promises) ++ ((planned_html plan) ++ (promised_html promises))) (measure gross_label 2 plan own-gross_label of-plan) (join (supplies_html plan promises) ((planned_html plan) ++ (promised_html promises)) (supplies plan promises of-plan of-promises) (join (planned_html plan) (promised_html promises) (planned plan of-plan) (promised promises of-promises))))
+
+  phased : (name : List ℕ) (plan promises : List RowView) → K name → All (λ (r : RowView). (column : ℕ) → K (cell_at r column)) plan → All (λ (r : RowView). (column : ℕ) → K (cell_at r column)) promises → IsMadeOf K L (record_html name plan promises)
+  unfolding record_html
+  phased name plan promises known of-plan of-promises = (join (balance_html name plan) ((record_rows plan promises) ++ grid_end) (balance name plan known of-plan) (join (record_rows plan promises) grid_end (record-rows plan promises of-plan of-promises) (mark grid_end own-grid_end)))
+
+  record-or-none : (name : List ℕ) (plan promises : List RowView) → K name → All (λ (r : RowView). (column : ℕ) → K (cell_at r column)) plan → All (λ (r : RowView). (column : ℕ) → K (cell_at r column)) promises → IsMadeOf K L (record_or_none name plan promises)
+  unfolding record_or_none
+  record-or-none name plan promises known of-plan of-promises = either (has_none plan) no_record (record_html name plan promises) (mark no_record own-no_record) (phased name plan promises known of-plan of-promises)
+
+  orders : (rs : List RowView) → All (λ (r : RowView). (column : ℕ) → K (cell_at r column)) rs → IsMadeOf K L (orders_html rs)
+  unfolding orders_html
+  orders rs all = table orders_open order rs list_end own-orders_open laid-order all own-list_end
+
+  pegs : (rs : List RowView) → All (λ (r : RowView). (column : ℕ) → K (cell_at r column)) rs → IsMadeOf K L (pegs_html rs)
+  unfolding pegs_html
+  pegs rs all = table pegs_open peg rs list_end own-pegs_open laid-peg all own-list_end
+
+  record AllKnown (rows : ItemLists) : Type 0 where
+    promises : All (λ (r : RowView). (column : ℕ) → K (cell_at r column)) rows.promises
+    plan : All (λ (r : RowView). (column : ℕ) → K (cell_at r column)) rows.plan
+    orders : All (λ (r : RowView). (column : ℕ) → K (cell_at r column)) rows.orders
+    pegs : All (λ (r : RowView). (column : ℕ) → K (cell_at r column)) rows.pegs
+    messages : All (λ (r : RowView). (column : ℕ) → K (cell_at r column)) rows.messages
+
+  item-lists : (rows : ItemLists) (name : List ℕ) → AllKnown rows → IsMadeOf K L (item_lists_html rows name)
+  unfolding item_lists_html
+  item-lists rows name all = (join (orders_html (rows_named name rows.orders)) ((pegs_html (rows_named name rows.pegs)) ++ section_end) (orders (rows_named name rows.orders) (all-named (λ (r : RowView). (column : ℕ) → K (cell_at r column)) name rows.orders all.orders)) (join (pegs_html (rows_named name rows.pegs)) section_end (pegs (rows_named name rows.pegs) (all-named (λ (r : RowView). (column : ℕ) → K (cell_at r column)) name rows.pegs all.pegs)) (mark section_end own-section_end)))
+
+  record-named : (rows : ItemLists) (name : List ℕ) → AllKnown rows → K name → IsMadeOf K L (named_record rows name)
+  unfolding named_record
+  record-named rows name all known = record-or-none name (rows_named name rows.plan) (rows_named name rows.promises) known (all-named (λ (r : RowView). (column : ℕ) → K (cell_at r column)) name rows.plan all.plan) (all-named (λ (r : RowView). (column : ℕ) → K (cell_at r column)) name rows.promises all.promises)
+
+  tasks-named : (rows : ItemLists) (r : RowView) → AllKnown rows → L (cell_at r 0) → IsMadeOf K L (named_tasks rows r)
+  unfolding named_tasks item_tasks
+  tasks-named rows r all leads =
+      told item_tasks_open (r ∷ []) (rows_named (cell_at r 0) rows.messages) item_tasks_end own-item_tasks_open (All-cons (λ (r : RowView). L (cell_at r 0)) r [] leads (All-nil (λ (r : RowView). L (cell_at r 0))))
+      (all-named (λ (r : RowView). (column : ℕ) → K (cell_at r column)) (cell_at r 0) rows.messages all.messages) own-item_tasks_end
+
+  noted : (rows : ItemLists) (missed : ℕ) (name : List ℕ) → IsMadeOf K L (named_note rows missed name)
+  unfolding named_note
+  noted rows missed name = either ((missed == 0) || (has_none (rows_named name rows.plan) || not (has_none (rows_named name rows.promises)))) [] no_promises none (mark no_promises own-no_promises)
+
+  item : (rows : ItemLists) (missed : ℕ) (r : RowView) → AllKnown rows → ((column : ℕ) → K (cell_at r column)) → L (cell_at r 0) → IsMadeOf K L (item_html rows missed r)
+  unfolding item_html
+  item rows missed r all known leads =
+      let name : List ℕ = cell_at r 0 in
+      let told-of : List ℕ = named_tasks rows r in
+      let recorded : List ℕ = named_record rows name in
+      let note : List ℕ = named_note rows missed name in
+      let listed : List ℕ = item_lists_html rows name in
+      join (row_html item_head r) (told-of ++ (recorded ++ (note ++ listed))) (row item_head r laid-item_head known)
+      (join told-of (recorded ++ (note ++ listed)) (tasks-named rows r all leads)
+      (join recorded (note ++ listed) (record-named rows name all (known 0)) (join note listed (noted rows missed name) (item-lists rows name all))))
+
+  items : (rows : ItemLists) (missed : ℕ) (rs : List RowView) → AllKnown rows → All (λ (r : RowView). (column : ℕ) → K (cell_at r column)) rs → All (λ (r : RowView). L (cell_at r 0)) rs → IsMadeOf K L (items_html rows missed rs)
+  unfolding items_html
+  items rows missed rs all leads led =
+      each (λ (r : RowView). ((column : ℕ) → K (cell_at r column)) × L (cell_at r 0)) (item_html rows missed) (λ r known. item rows missed r all known.0 known.1) rs (λ k d within. (leads k d within, led k d within))
+
+  more-weeks : (counts : Counts) → K (decimal counts.plan) → K (decimal counts.promises) → IsMadeOf K L (more_weeks counts)
+  unfolding more_weeks small_words
+  more-weeks counts a b = (join (more_html counts.plan (codes "week of a record is") (codes "weeks of records are")) (more_html counts.promises (codes "week of promises is") (codes "weeks of promises are")) (further counts.plan (codes "week of a record is") (codes "weeks of records are") a (small (codes "week of a record is") 9 (omega arith) refl) (small (codes "weeks of records are") 10 (omega arith) refl)) (further counts.promises (codes "week of promises is") (codes "weeks of promises are") b (small (codes "week of promises is") 11 (omega arith) refl) (small (codes "weeks of promises are") 12 (omega arith) refl)))
+
+  more-lists : (counts : Counts) → K (decimal counts.orders) → K (decimal counts.pegs) → IsMadeOf K L (more_lists counts)
+  unfolding more_lists small_words
+  more-lists counts a b = (join (more_html counts.orders (codes "order is") (codes "orders are")) (more_html counts.pegs (codes "peg is") (codes "pegs are")) (further counts.orders (codes "order is") (codes "orders are") a (small (codes "order is") 13 (omega arith) refl) (small (codes "orders are") 14 (omega arith) refl)) (further counts.pegs (codes "peg is") (codes "pegs are") b (small (codes "peg is") 15 (omega arith) refl) (small (codes "pegs are") 16 (omega arith) refl)))
+
+  more-items : (counts : Counts) (shown : List RowView) → K (decimal (counts.items - length shown)) → K (decimal counts.plan) → K (decimal counts.promises) → K (decimal counts.orders) → K (decimal counts.pegs) → IsMadeOf K L (more_items counts shown)
+  unfolding more_items more_rows small_words
+  more-items counts shown n a b c d = (join (more_html (counts.items - length shown) (codes "item is") (codes "items are")) (more_rows counts) (further (counts.items - length shown) (codes "item is") (codes "items are") n (small (codes "item is") 7 (omega arith) refl) (small (codes "items are") 8 (omega arith) refl)) (join (more_weeks counts) (more_lists counts) (more-weeks counts a b) (more-lists counts c d)))
+
+  history : (rs : List RowView) (missed : ℕ) → All (λ (r : RowView). (column : ℕ) → K (cell_at r column)) rs → K (decimal missed) → IsMadeOf K L (history_html rs missed)
+  unfolding history_html small_words
+  history rs missed all known = (join (table_html history_open entry rs grid_end) ((more_html missed (codes "entry is") (codes "entries are")) ++ history_end) (table history_open entry rs grid_end own-history_open laid-entry all own-grid_end) (join (more_html missed (codes "entry is") (codes "entries are")) history_end (further missed (codes "entry is") (codes "entries are") known (small (codes "entry is") 17 (omega arith) refl) (small (codes "entries are") 18 (omega arith) refl)) (mark history_end own-history_end)))
+
+  head : (r : RowView) → ((column : ℕ) → K (cell_at r column)) → IsMadeOf K L (head_html r)
+  unfolding head_html
+  head r known = (join (row_html page_top r) (style ++ (row_html page_head r)) (row page_top r laid-page_top known) (join style (row_html page_head r) (mark style own-style) (row page_head r laid-page_head known)))
+
+  weeks-known : (report : List RowView) → All (λ (r : RowView). (column : ℕ) → K (cell_at r column)) report → K (last_week report)
+  weeks-known report all =
+      let of-in : (section : Section) → All (λ (r : RowView). (column : ℕ) → K (cell_at r column)) (rows_in section report) = λ section. all-in (λ (r : RowView). (column : ℕ) → K (cell_at r column)) section report all in
+      top-known 1 (greatest 1 (codes "0") (rows_in s.Plan report)) (rows_in s.Loads report) (top-known 1 (codes "0") (rows_in s.Plan report) nought (of-in s.Plan)) (of-in s.Loads)
+
+  headed : (title : List ℕ) (report : List RowView) (number : ℕ) → K title → K (decimal number) → All (λ (r : RowView). (column : ℕ) → K (cell_at r column)) report → (column : ℕ) → K (cell_at (heading title report number) column)
+  headed title report number known of-number all =
+      let run : List RowView = rows_in s.Run report in
+      let of-run : All (λ (r : RowView). (column : ℕ) → K (cell_at r column)) run = all-in (λ (r : RowView). (column : ℕ) → K (cell_at r column)) s.Run report all in
+      let a : List ℕ = greatest 0 (codes "0") run in
+      let b : List ℕ = greatest 1 (codes "0") run in
+      let c : List ℕ = last_week report in
+      knows s.Run (title ∷ a ∷ b ∷ c ∷ decimal number ∷ []) (All-cons K title (a ∷ b ∷ c ∷ decimal number ∷ []) known (All-cons K a (b ∷ c ∷ decimal number ∷ []) (top-known 0 (codes "0") run nought of-run)
+      (All-cons K b (c ∷ decimal number ∷ []) (top-known 1 (codes "0") run nought of-run) (All-cons K c (decimal number ∷ []) (weeks-known report all) (All-cons K (decimal number) [] of-number (All-nil K))))))
+
+  all-lists : (report : List RowView) → All (λ (r : RowView). (column : ℕ) → K (cell_at r column)) report → AllKnown (item_lists report)
+  all-lists report all = record {
+    promises = all-in (λ (r : RowView). (column : ℕ) → K (cell_at r column)) s.Promises report all;
+    plan = all-in (λ (r : RowView). (column : ℕ) → K (cell_at r column)) s.Plan report all;
+    orders = all-in (λ (r : RowView). (column : ℕ) → K (cell_at r column)) s.Orders report all;
+    pegs = all-in (λ (r : RowView). (column : ℕ) → K (cell_at r column)) s.Pegs report all;
+    messages = all-in (λ (r : RowView). (column : ℕ) → K (cell_at r column)) s.Messages report all;
+  }
+
+  pub page : (title : List ℕ) (notes : Noted) → K title → All (λ (r : RowView). (column : ℕ) → K (cell_at r column)) notes.history → All (λ (r : RowView). (column : ℕ) → K (cell_at r column)) notes.report → All K (count_texts notes)
+      → All (λ (r : RowView). L (cell_at r 0)) (shown_items (item_lists notes.report)) → IsMadeOf K L (page_html title notes)
+  unfolding page_html page_of top_html load_section rest_html items_of
+  page title notes known entries all counts led =
+      let count : (k : ℕ) → k < 9 → K (get_or (count_texts notes) k []) = λ k within. counts k [] (omega (arith, within)) in
+      let lists : ItemLists = item_lists notes.report in
+      let of-lists : AllKnown lists = all-lists notes.report all in
+      let shown : List RowView = shown_items lists in
+      let of-shown : All (λ (r : RowView). (column : ℕ) → K (cell_at r column)) shown = all-shown (λ (r : RowView). (column : ℕ) → K (cell_at r column)) lists of-lists.messages of-lists.plan in
+      let loaded : List RowView = rows_in s.Loads notes.report in
+      let of-loaded : All (λ (r : RowView). (column : ℕ) → K (cell_at r column)) loaded = all-in (λ (r : RowView). (column : ℕ) → K (cell_at r column)) s.Loads notes.report all in
+      let top : List ℕ = head_html (heading title notes.report notes.counts.items) in
+      let todos : List ℕ = todo_html shown lists.messages notes.counts.messages in
+      let centred : List ℕ = centres_html loaded (leaders [] loaded) notes.counts.loads in
+      let listed : List ℕ = items_html lists notes.counts.promises shown ++ more_items (unshown lists shown notes.counts) shown in
+      let past : List ℕ = history_html notes.history notes.counts.history in
+      join top (todos ++ (centred ++ (listed ++ (past ++ page_end))))
+      (head (heading title notes.report notes.counts.items) (headed title notes.report notes.counts.items known (count 8 (omega arith)) all))
+      (join todos (centred ++ (listed ++ (past ++ page_end)))
+      (todo shown lists.messages notes.counts.messages led of-lists.messages (count 0 (omega arith)))
+      (join centred (listed ++ (past ++ page_end))
+      (centres loaded (leaders [] loaded) notes.counts.loads of-loaded (all-leaders (λ (r : RowView). (column : ℕ) → K (cell_at r column)) [] loaded of-loaded) (count 1 (omega arith)))
+      (join listed (past ++ page_end)
+      (join (items_html lists notes.counts.promises shown) (more_items (unshown lists shown notes.counts) shown) (items lists notes.counts.promises shown of-lists of-shown led)
+      (more-items (unshown lists shown notes.counts) shown (count 2 (omega arith)) (count 3 (omega arith)) (count 4 (omega arith)) (count 5 (omega arith)) (count 6 (omega arith))))
+      (join past page_end (history notes.history notes.counts.history entries (count 7 (omega arith))) (mark page_end own-page_end)))))

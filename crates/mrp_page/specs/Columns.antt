@@ -1,0 +1,10 @@
+-- The columns of a day, by their names.
+use Rattle.std.specs.Prelude.{ℕ, List}
+use Rattle.std.specs.List.{position_or_len}
+use Rattle.mrp_page.specs.Row.{same_text}
+use Rattle.mrp_page.specs.Section.{columns_of}
+use Rattle.mrp_page.specs.declared.section.Section.{Section}
+
+-- the place of a section's column
+abbrev pub column : Section → List ℕ → ℕ
+column section name = position_or_len (same_text name) (columns_of section)

@@ -1,0 +1,64 @@
+-- What is left of an item's requirements, supplies and pegs while they are matched.
+use Rattle.std.specs.Prelude.{ℕ, ◌≡◌, ◌+◌, ◌-◌, ◌++◌, List, [], ◌∷◌, Option, Some, None, map, drop, flat_map, nat_lt, if◌then◌else◌, slice_get}
+use Rattle.std.specs.List.{range_with_len}
+use Rattle.mrp_item.specs.Inputs.{Inputs, horizon}
+use Rattle.mrp_item.specs.declared.supplies.Supplied.{Supplied}
+use Rattle.mrp_peg.specs.declared.matching.Offered.{Offered}
+use Rattle.mrp_peg.specs.declared.needs_left.NeedsLeft.{NeedsLeft}
+use Rattle.mrp_peg.specs.declared.part.Part.{Part}
+use Rattle.mrp_peg.specs.declared.peg.Need.{Need}
+use Rattle.mrp_peg.specs.declared.peg.Peg.{Peg}
+use Rattle.mrp_peg.specs.declared.supplies_left.SuppliesLeft.{SuppliesLeft}
+use Rattle.mrp_peg.specs.declared.peg_walk.PegWalk.{PegWalk}
+use Rattle.mrp_peg.specs.Matching.{amounts_offered, amounts_wanted, peg_of}
+use Rattle.mrp_peg.specs.Pegging.{needs_in}
+use Rattle.mrp_peg.specs.Units.{Amount, matches}
+
+-- a row of which the first has so many units less
+abbrev pub cut : {A : Type 0} → ℕ → List (Amount A) → List (Amount A)
+cut taken [] = []
+cut taken (a ∷ row) = record { of = a.of; quantity = a.quantity - taken } ∷ row
+
+-- the supplies that are left
+abbrev pub offered_left : SuppliesLeft → List (Amount Supplied)
+offered_left s = amounts_offered (drop s.place s.supplies.items)
+
+-- the requirements of the weeks after one
+abbrev pub required_after : Inputs → ℕ → ℕ → List (Amount Need)
+required_after s i week = flat_map (needs_in s i) (range_with_len (week + 1) (horizon s - week))
+
+abbrev pub to_come : Option Part → ℕ → List (Amount Need)
+to_come None week = []
+to_come (Some part) week = required_after part.plan.now.inputs part.item week
+
+-- the requirements that are left and listed
+abbrev pub listed_left : NeedsLeft → List (Amount Need)
+listed_left n = amounts_wanted (drop n.place n.needs.items)
+
+-- the requirements that are left: those that are listed, and those of the weeks to come
+abbrev pub wanted_left : NeedsLeft → List (Amount Need)
+wanted_left n = listed_left n ++ to_come n.part n.week
+
+-- the first requirement that is left is listed, if there is one
+abbrev pub IsFilled : NeedsLeft → Type 0
+IsFilled n = slice_get (wanted_left n) 0 ≡ slice_get (listed_left n) 0
+
+-- the pegs of these requirements and supplies of an item
+abbrev pub pegs_between : ℕ → List (Amount Need) → List (Amount Supplied) → List Peg
+pegs_between item needs supplies = map (peg_of item) (matches needs supplies)
+
+-- the pegs that are still to come
+abbrev pub pegs_left : PegWalk → List Peg
+pegs_left w = pegs_between w.item (wanted_left w.needs) (offered_left w.supplies)
+
+-- a peg, where it has pieces
+abbrev pub shown : Peg → List Peg
+shown peg = if nat_lt 0 peg.quantity then peg ∷ [] else []
+
+-- the next of some pegs, and what is left behind it; none where there is none, and none is left then
+abbrev pub IsNext : List Peg → Option Peg → List Peg → Type 0
+IsNext pegs (Some peg) left = pegs ≡ peg ∷ left
+IsNext pegs None left = (pegs ≡ []) × (left ≡ [])
+
+abbrev pub amount_of_offer : Offered → Amount Supplied
+amount_of_offer o = record { of = o.source; quantity = o.quantity }
