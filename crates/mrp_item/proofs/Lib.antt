@@ -14,6 +14,7 @@ pub mod ReceiptRows
 pub mod OwnPlan
 pub mod Firsts
 pub mod Results
+pub mod Gathered
 pub mod PlannedItems
 pub mod Fuel
 pub mod ShopLemmas

@@ -1,5 +1,4 @@
 pub mod PlannedOrders
 pub mod Summing
 pub mod Grouped
-pub mod Gathered
 pub mod Overloads

@@ -3,10 +3,11 @@ use Rattle.std.specs.Prelude.{IfOk, Vec, ℕ}
 use Rattle.std.specs.List.{AllZip}
 use Rattle.std.specs.declared.alloc.Global.{Global}
 use Rattle.rayon.proofs.ListFacts.{IfOk-then}
+use Rattle.rayon.proofs.ToStd.{slice-AllZip}
 use Rattle.mrp_tables.specs.declared.rows.Operation.{Operation}
 use Rattle.mrp_item.specs.declared.plan.Plan.{Plan}
+use Rattle.mrp_item.proofs.Gathered.{gathered}
 use Rattle.mrp_load.specs.Loads.{loads_by}
-use Rattle.mrp_load.proofs.Gathered.{gathered}
 use Rattle.mrp_load.proofs.Grouped.{loads-are}
 use Rattle.mrp_load.proofs.loading.load_rows.Goals as goal
 
@@ -20,5 +21,6 @@ returns g c =
     subst (λ (p : Bor Plan). AllZip (λ (z : Bor (Vec Operation Global)) r. IfOk r (λ (y : Vec ℕ Global). y.items ≡ loads_by p.now.inputs z.now.items)) refs results) captured each in
     let made : Vec Operation Global → List ℕ = λ group. loads_by s group.items in
     let loads : Vec ℕ Global → List ℕ = λ v. v.items in
-    IfOk-then c.in_ok-collect.field-0 _ _ (gathered loads made c.args.groups.now refs results c.in_ok-collect.field-0 (shown ∙ slice) own all)
+    let each-group = slice-AllZip refs c.args.groups.now (shown ∙ slice) (λ group r. IfOk r (λ v. loads v ≡ made group)) results own in
+    IfOk-then c.in_ok-collect.field-0 _ _ (gathered loads made c.args.groups.now results c.in_ok-collect.field-0 each-group all)
     (λ v h. loads-are s c.args.groups.now v.items c.requires.size c.requires.groups h)
