@@ -8,7 +8,7 @@ use Rattle.std.proofs.lemmas.List.Folds.{Any-from_list_any}
 use Rattle.std.proofs.lemmas.Slice.Eq.{bytes_eq-Decides}
 use Rattle.std.proofs.lemmas.List.Elements.{All-append, All-cons, All-contains, All-contains_itself, All-drop, All-nil, All-take, Contains-append_left, Contains-append_right}
 use Rattle.std.specs.List.{All, Contains, flat_map, position_or_len}
-use Rattle.mrp_page.specs.Draw.{balance_html, bars_html, booked_html, centre_html, centre_rows_html, centres_html, each_centre, grid_html, has_firm, has_item, has_none, history_html, is_plain, item_html, item_lists_html, item_name_html, item_tasks, items_html, link_html, loads_html, measure_html, more_html, more_items, more_lists, more_rows, more_weeks, named_note, named_record, named_tasks, orders_html, other_if, other_tasks, pegs_html, planned_html, points_html, promised_html, promises_note, record_html, record_or_none, record_rows, supplies_html, table_html, task_html, task_if, task_table, tasks_html, tasks_with, todo_back, todo_html, weeks_html}
+use Rattle.mrp_page.specs.Draw.{balance_html, bars_html, booked_html, centre_html, centre_rows_html, centres_html, each_centre, grid_html, has_firm, has_item, has_none, history_html, is_plain, item_html, item_lists_html, item_name_html, item_tasks, items_html, link_html, loads_html, measure_html, more_html, more_items, more_lists, more_rows, more_weeks, named_note, named_record, named_tasks, orders_html, other_if, other_tasks, pegs_html, planned_html, points_html, promised_html, record_html, record_or_none, record_rows, supplies_html, table_html, task_html, task_if, task_table, tasks_html, tasks_with, todo_back, todo_html, weeks_html}
 use Rattle.mrp_page.specs.Escaped.{escaped}
 use Rattle.mrp_page.specs.Frame.{count_row, frame_of, heading, last_week}
 use Rattle.mrp_page.specs.Html.{is_zero, number_html, number_tag}
@@ -443,7 +443,7 @@ module _ (K L : List ℕ → Type 0) (words : (w : List ℕ) → Contains small_
 
   todo-back : (missed : ℕ) → K (decimal missed) → IsMadeOf K L (todo_back missed)
   unfolding todo_back small_words
-  todo-back missed known = (join (more_html missed (codes "message is") (codes "messages are")) section_end (further missed (codes "message is") (codes "messages are") known (small (codes "message is") 3 (omega arith) refl) (small (codes "messages are") 4 (omega arith) refl)) (mark section_end own-section_end))
+  todo-back missed known = (join (more_html missed (codes "message, perhaps an urgent one, is") (codes "messages, urgent ones perhaps among them, are")) section_end (further missed (codes "message, perhaps an urgent one, is") (codes "messages, urgent ones perhaps among them, are") known (small (codes "message, perhaps an urgent one, is") 3 (omega arith) refl) (small (codes "messages, urgent ones perhaps among them, are") 4 (omega arith) refl)) (mark section_end own-section_end))
 
   todo : (shown ms : List RowView) (missed : ℕ) → All (λ (r : RowView). L (cell_at r 0)) shown → All (λ (r : RowView). (column : ℕ) → K (cell_at r column)) ms → K (decimal missed) → IsMadeOf K L (todo_html shown ms missed)
   unfolding todo_html

@@ -92,10 +92,10 @@ unfoldable pub more_html : ℕ → List ℕ → List ℕ → List ℕ
 more_html count one many =
     if count == 0 then [] else row_html more (count_row count one many)
 
--- how many more messages there are
+-- how many more messages there are: these are in no order of urgency
 unfoldable pub todo_back : ℕ → List ℕ
 todo_back missed =
-    more_html missed (codes "message is") (codes "messages are")
+    more_html missed (codes "message, perhaps an urgent one, is") (codes "messages, urgent ones perhaps among them, are")
     ++ section_end
 
 -- what is to be done

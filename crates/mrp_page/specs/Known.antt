@@ -60,7 +60,7 @@ count_texts notes =
 
 -- texts that a page shows where no row has one: of a table without rows, and what is counted
 unfoldable pub small_words : List (List ℕ)
-small_words = [] ∷ codes "0" ∷ codes "1" ∷ codes "message is" ∷ codes "messages are" ∷ codes "week of a work centre is" ∷ codes "weeks of work centres are" ∷ codes "item is" ∷ codes "items are" ∷ codes "week of a record is" ∷ codes "weeks of records are" ∷ codes "week of promises is" ∷ codes "weeks of promises are" ∷ codes "order is" ∷ codes "orders are" ∷ codes "peg is" ∷ codes "pegs are" ∷ codes "entry is" ∷ codes "entries are" ∷ codes "1.000" ∷ []
+small_words = [] ∷ codes "0" ∷ codes "1" ∷ codes "message, perhaps an urgent one, is" ∷ codes "messages, urgent ones perhaps among them, are" ∷ codes "week of a work centre is" ∷ codes "weeks of work centres are" ∷ codes "item is" ∷ codes "items are" ∷ codes "week of a record is" ∷ codes "weeks of records are" ∷ codes "week of promises is" ∷ codes "weeks of promises are" ∷ codes "order is" ∷ codes "orders are" ∷ codes "peg is" ∷ codes "pegs are" ∷ codes "entry is" ∷ codes "entries are" ∷ codes "1.000" ∷ []
 
 -- a text is the title, a cell of a record, a number of what is not shown or of the items, or one of those words
 abbrev pub IsKnown : List ℕ → List Cells → Noted → List ℕ → Type 0

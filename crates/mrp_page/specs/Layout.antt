@@ -4,7 +4,7 @@ use Rattle.mrp_page.specs.Template.{Drawn, Mark, Number, Text, Where}
 
 -- the style sheet
 unfoldable pub style : List ℕ
-style = codes "*{box-sizing:border-box}\nbody{font:15px/1.45 system-ui,sans-serif;max-width:72rem;margin:0 auto;padding:1rem 1.2rem 3rem;color:#1d2733;background:#fff}\nh1{font-size:1.5rem;margin:.4rem 0 0}\nh2{font-size:1.15rem;margin:0 0 .4rem}\nheader p,caption,thead th{color:#566472}\nheader p{margin:.1rem 0 1rem}\nheader b{color:#1d2733}\nsection{border-top:1px solid #dde3ea;padding:1rem 0}\ntable{border-collapse:collapse;font-variant-numeric:tabular-nums}\ncaption{text-align:left;padding:.2rem 0}\ncaption span{position:sticky;left:0}\nth{font-weight:400;text-align:left}\nh1,h2,caption,th,td{white-space:pre-wrap}\nh1,h2{overflow-wrap:anywhere}\na{color:#2b6cb0}\n.scroll{overflow-x:auto;margin:.3rem 0 .6rem}\n.todo th,.todo td{padding:.12rem 1rem .12rem 0;vertical-align:top}\n.todo td{border-left:4px solid #cbd5e0;padding-left:.6rem}\n.todo thead th+th{padding-left:calc(.6rem + 4px)}\n.todo:has(tbody:empty) thead{display:none}\n.todo .late td{border-color:#c53030}\n.todo .release td{border-color:#2f855a}\n.todo .in td{border-color:#b7791f}\n.todo .out td{border-color:#2b6cb0}\n.todo tbody:empty::after{content:\"Nothing to do\"}\n.grid th:first-child{position:sticky;left:0;z-index:1;background:#fff;padding-right:1rem;white-space:nowrap}\n.grid td,.grid thead th+th{min-width:4rem;padding:.1rem .4rem .1rem 0;text-align:right}\n.loads td,.loads thead th+th{min-width:6.6rem}\n.grid thead th{border-bottom:1px solid #dde3ea}\n.grid .strong th,.grid .strong td{font-weight:600}\n.z{color:#98a5b2}\n.grid .over td:not(.z){color:#b32626;font-weight:600}\n.grid .over td:not(.z)::before{content:\"+\"}\n.grid .chart td{padding:.3rem 0}\nsvg{display:block;width:100%;height:4.2rem;overflow:visible}\npolyline{fill:none;stroke:#2b6cb0;stroke-width:2;vector-effect:non-scaling-stroke}\n.load{fill:#7fb0e3}\n.above{fill:#c53030}\n.most{stroke:#1d2733;stroke-width:2;vector-effect:non-scaling-stroke}\nsummary{cursor:pointer}\n.list{margin:.3rem 0 .8rem}\n.list th,.list td{padding:.1rem 1.2rem .1rem 0;text-align:right}\n.list .t,.list th[scope=row]{text-align:left}\n.list tbody:empty::after{content:\"None on this page\"}\n.more{margin:.3rem 0;color:#566472}\n@media (max-width:30rem){body{padding:.6rem}.todo th{max-width:9rem;overflow-wrap:break-word}.grid{font-size:.9rem}.grid th:first-child{white-space:normal;min-width:6.5rem;max-width:8.5rem;padding-right:.5rem}}\n@media print{@page{size:landscape;margin:1cm}body{max-width:none;font-size:11px;padding:0;background:#fff}a{color:inherit;text-decoration:none}.scroll{overflow:visible}h2,caption,summary,.item .todo{break-after:avoid}tr,.item .todo{break-inside:avoid}.grid,.grid caption,.grid thead,.grid tbody,.grid tr{display:block}.grid{font-size:8px;line-height:1.2;break-inside:avoid}.grid tr{position:relative;padding-left:14em}.grid th:first-child{position:absolute;left:0;min-width:0;padding:.05rem 0;border:0}.grid thead tr{border-bottom:1px solid #dde3ea}.grid tbody tr+tr{border-top:1px solid #eef1f4}.grid td,.grid thead th+th{display:inline-block;min-width:4.4em;padding:.05rem 0;border:0}.grid.loads td,.grid.loads thead th+th{min-width:6.6em}.grid tr.chart td{display:block;width:100%;width:min(100%,calc(attr(colspan type(<number>))*4.4em))}.grid.loads tr.chart td{width:min(100%,calc(attr(colspan type(<number>))*6.6em))}summary{list-style:none}details::details-content{content-visibility:visible;block-size:auto}.load,.above,.todo td{print-color-adjust:exact}}\n"
+style = codes "*{box-sizing:border-box}\nbody{font:15px/1.45 system-ui,sans-serif;max-width:72rem;margin:0 auto;padding:1rem 1.2rem 3rem;color:#1d2733;background:#fff}\nh1{font-size:1.5rem;margin:.4rem 0 0}\nh2{font-size:1.15rem;margin:0 0 .4rem}\nheader p,caption,thead th{color:#566472}\nheader p{margin:.1rem 0 1rem}\nheader b{color:#1d2733}\nsection{border-top:1px solid #dde3ea;padding:1rem 0}\ntable{border-collapse:collapse;font-variant-numeric:tabular-nums}\ncaption{text-align:left;padding:.2rem 0}\ncaption span{position:sticky;left:0}\nth{font-weight:400;text-align:left}\nh1,h2,caption,th,td{white-space:pre-wrap}\nh1,h2{overflow-wrap:anywhere}\na{color:#2b6cb0}\n.scroll{overflow-x:auto;margin:.3rem 0 .6rem}\n.todo th,.todo td{padding:.12rem 1rem .12rem 0;vertical-align:top}\n.todo td{border-left:4px solid #cbd5e0;padding-left:.6rem}\n.todo thead th+th{padding-left:calc(.6rem + 4px)}\n.todo:has(tbody:empty) thead{display:none}\n.todo .late td{border-color:#c53030}\n.todo .release td{border-color:#2f855a}\n.todo .in td{border-color:#b7791f}\n.todo .out td{border-color:#2b6cb0}\n.todo tbody:empty::after{content:\"Nothing to do\"}\n.item .todo th:first-child{display:none}\n.item .todo thead th{padding-left:0}\n.grid th:first-child{position:sticky;left:0;z-index:1;background:#fff;padding-right:1rem;white-space:nowrap}\n.grid td,.grid thead th+th{min-width:5rem;padding:.1rem .4rem .1rem 0;text-align:right}\n.loads td,.loads thead th+th{min-width:7rem}\n.grid thead th{border-bottom:1px solid #dde3ea}\n.grid .strong th,.grid .strong td:not(.z){font-weight:600}\n.z{color:#6b7785}\n.grid .over td:not(.z){color:#b32626;font-weight:600}\n.grid .over td:not(.z)::before{content:\"+\"}\n.grid .chart td{padding:.3rem 0}\nsvg{display:block;width:100%;height:4.2rem;overflow:visible}\npolyline{fill:none;stroke:#2b6cb0;stroke-width:2;vector-effect:non-scaling-stroke}\n.load{fill:#7fb0e3}\n.above{fill:#c53030}\n.most{stroke:#1d2733;stroke-width:2;vector-effect:non-scaling-stroke}\nsummary{cursor:pointer}\n.list{margin:.3rem 0 .8rem}\n.list th,.list td{padding:.1rem 1.2rem .1rem 0;text-align:right}\n.list .t,.list th[scope=row]{text-align:left}\n.list tbody:empty::after{content:\"None on this page\"}\n.more{margin:.3rem 0;color:#566472}\nmain:has(>.more) .item details .scroll::after{content:\"Orders and pegs that are not on this page are counted behind the items.\";color:#566472}\n@media (max-width:30rem){body{padding:.6rem}.todo th{min-width:5.5rem;max-width:9rem;overflow-wrap:break-word}.grid{font-size:.9rem}.grid:not(.loads) td,.grid:not(.loads) thead th+th{min-width:4.4rem}.grid th:first-child{white-space:normal;min-width:6.5rem;max-width:8.5rem;padding-right:.5rem}}\n@media print{@page{size:landscape;margin:1cm}body{max-width:none;font-size:11px;padding:0;background:#fff}a{color:inherit;text-decoration:none}.scroll{overflow:visible}h2,caption,summary,.item .todo{break-after:avoid}tr,.item .todo{break-inside:avoid}.grid,.grid caption,.grid thead,.grid tbody,.grid tr{display:block}.grid{font:8px/1.2 Arial,sans-serif;break-inside:avoid}.grid tr{position:relative;padding-left:14em}.grid th:first-child{position:absolute;left:0;min-width:0;padding:.05rem 0;border:0}.grid thead tr{border-bottom:1px solid #dde3ea}.grid tbody tr+tr{border-top:1px solid #eef1f4}.grid td,.grid thead th+th{display:inline-block;vertical-align:top;width:4.4em;min-width:0;padding:.05rem 0 .05rem .2em;border:0;overflow-wrap:anywhere}.grid.loads td,.grid.loads thead th+th{width:6.6em}.grid tr.chart td{display:block;padding:.05rem 0;width:100%;width:min(100%,calc(attr(colspan type(<number>))*4.4em))}.grid.loads tr.chart td{width:min(100%,calc(attr(colspan type(<number>))*6.6em))}summary{list-style:none}details::details-content{content-visibility:visible;block-size:auto}.load,.above,.todo td{print-color-adjust:exact}}\n"
 
 -- what stands before the style sheet: the title
 unfoldable pub page_top : List Drawn
@@ -132,7 +132,7 @@ unfoldable pub peg : List Drawn
 peg =
     Mark (codes "<tr>") ∷
     Number 1 ∷
-    Mark (codes "<td class=t>") ∷
+    Mark (codes "<th scope=row>") ∷
     Where 2 (codes "booking") (codes "booking ") ∷
     Where 2 (codes "forecast") (codes "forecast") ∷
     Where 2 (codes "parent") (codes "order ") ∷
@@ -142,7 +142,7 @@ peg =
     Text 4 ∷
     Where 2 (codes "parent") (codes ", bill line ") ∷
     Text 5 ∷
-    Mark (codes "</td><td class=t>") ∷
+    Mark (codes "</th><td class=t>") ∷
     Text 6 ∷
     Mark (codes " ") ∷
     Text 7 ∷
@@ -153,7 +153,9 @@ peg =
 -- the heading of a work centre, of its name
 unfoldable pub centre_head : List Drawn
 centre_head =
-    Mark (codes "<div class=scroll><table class=\"grid loads\">\n<caption><span>") ∷
+    Mark (codes "<div class=scroll tabindex=0 role=region aria-label=\"Load and capacity of ") ∷
+    Text 0 ∷
+    Mark (codes ", week by week\"><table class=\"grid loads\">\n<caption><span>") ∷
     Text 0 ∷
     Mark (codes ", in minutes</span></caption>\n<thead><tr><th scope=col>Week</th>") ∷ []
 
@@ -205,7 +207,9 @@ item_head =
 -- the heading of an item's time-phased record, of its name
 unfoldable pub record_head : List Drawn
 record_head =
-    Mark (codes "<div class=scroll><table class=grid>\n<caption><span>Time-phased record of ") ∷
+    Mark (codes "<div class=scroll tabindex=0 role=region aria-label=\"Record of ") ∷
+    Text 0 ∷
+    Mark (codes ", week by week\"><table class=grid>\n<caption><span>Time-phased record of ") ∷
     Text 0 ∷
     Mark (codes "</span></caption>\n<thead><tr><th scope=col>Week</th>") ∷ []
 
@@ -234,7 +238,7 @@ point =
 
 -- what the section of what is to be done begins with
 unfoldable pub todo_open : List ℕ
-todo_open = codes "<section id=todo>\n<h2>To do</h2>\n<table class=todo><thead><tr><th scope=col>Item</th><th scope=col>What to do</th></tr></thead>\n<tbody>"
+todo_open = codes "<section id=todo>\n<h2>To do</h2>\n<table class=todo aria-label=\"What to do\"><thead><tr><th scope=col>Item</th><th scope=col>What to do</th></tr></thead>\n<tbody>"
 
 -- and what it ends with
 unfoldable pub todo_end : List ℕ
@@ -242,7 +246,7 @@ todo_end = codes "</tbody></table>\n"
 
 -- what an item's messages begin with
 unfoldable pub item_tasks_open : List ℕ
-item_tasks_open = codes "<table class=todo><thead><tr><th scope=col>Item</th><th scope=col>What to do</th></tr></thead>\n<tbody>"
+item_tasks_open = codes "<table class=todo aria-label=\"What to do for this item\"><thead><tr><th scope=col>Item</th><th scope=col>What to do</th></tr></thead>\n<tbody>"
 
 -- and what they end with
 unfoldable pub item_tasks_end : List ℕ
@@ -318,11 +322,11 @@ balance_label = codes "<tr class=strong><th scope=row>Projected available balanc
 
 -- what the orders of an item begin with
 unfoldable pub orders_open : List ℕ
-orders_open = codes "<details><summary>Orders</summary><div class=scroll><table class=list><thead><tr><th class=t scope=col>Order</th><th class=t scope=col>Kind</th><th scope=col>Due week</th><th scope=col>Quantity</th><th scope=col>Starts</th><th scope=col>Release week</th><th scope=col>Weeks late</th></tr></thead>\n<tbody>"
+orders_open = codes "<details><summary>Orders</summary><div class=scroll tabindex=0 role=region aria-label=Orders><table class=list>\n<caption><span>Firm and planned orders</span></caption>\n<thead><tr><th class=t scope=col>Order</th><th class=t scope=col>Kind</th><th scope=col>Due week</th><th scope=col>Quantity</th><th scope=col>Starts</th><th scope=col>Release week</th><th scope=col>Weeks late</th></tr></thead>\n<tbody>"
 
 -- what the pegs of an item begin with
 unfoldable pub pegs_open : List ℕ
-pegs_open = codes "<details><summary>Where it goes (pegs)</summary><div class=scroll><table class=list><thead><tr><th scope=col>Week</th><th class=t scope=col>Requirement</th><th class=t scope=col>Supply</th><th scope=col>Pieces</th></tr></thead>\n<tbody>"
+pegs_open = codes "<details><summary>Where it goes (pegs)</summary><div class=scroll tabindex=0 role=region aria-label=Pegs><table class=list>\n<caption><span>Which supply serves which requirement</span></caption>\n<thead><tr><th scope=col>Week</th><th class=t scope=col>Requirement</th><th class=t scope=col>Supply</th><th scope=col>Pieces</th></tr></thead>\n<tbody>"
 
 -- what these end with
 unfoldable pub list_end : List ℕ
@@ -347,7 +351,7 @@ no_promises = codes "<p class=more>If this is a master item, its rows of what is
 
 -- what the history begins with
 unfoldable pub history_open : List ℕ
-history_open = codes "<section id=history>\n<details><summary>History of the order book</summary><div class=scroll><table class=list><thead><tr><th class=t scope=col>Entry</th><th scope=col>Desk</th><th class=t scope=col>Call</th><th class=t scope=col>Item</th><th scope=col>Week</th><th scope=col>Quantity</th><th scope=col>Number</th><th class=t scope=col>Reply</th><th scope=col>Value</th></tr></thead>\n<tbody>"
+history_open = codes "<section id=history>\n<details><summary>History of the order book</summary><div class=scroll tabindex=0 role=region aria-label=\"History of the order book\"><table class=list>\n<caption><span>The calls of the desks and their replies</span></caption>\n<thead><tr><th class=t scope=col>Entry</th><th scope=col>Desk</th><th class=t scope=col>Call</th><th class=t scope=col>Item</th><th scope=col>Week</th><th scope=col>Quantity</th><th scope=col>Number</th><th class=t scope=col>Reply</th><th scope=col>Value</th></tr></thead>\n<tbody>"
 
 -- and what it ends with
 unfoldable pub history_end : List ℕ

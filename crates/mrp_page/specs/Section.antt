@@ -36,14 +36,15 @@ next_of s.Pegs = s.Messages
 next_of s.Messages = s.Loads
 next_of s.Loads = s.Run
 
--- how many of its rows a page has room for: of items and work centres those of 200 over 104 weeks
+-- how many of its rows a page has room for: of items and work centres those of 200 over 104 weeks, and 300 pegs of each of
+-- 200 items
 abbrev pub room_of : Section → ℕ
 room_of s.History = 1000
 room_of s.Run = 1
 room_of s.Promises = 20800
 room_of s.Plan = 20800
 room_of s.Orders = 20800
-room_of s.Pegs = 20800
+room_of s.Pegs = 60000
 room_of s.Messages = 20800
 room_of s.Loads = 20800
 

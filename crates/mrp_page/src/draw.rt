@@ -205,12 +205,18 @@ fn put_more(
     put_row(page, more(), &row)
 }
 
-// Adds how many more messages there are.
+// Adds how many more messages there are: these are in no order of urgency.
 #[tactic(auto, unfolding(crate::specs::Draw::todo_back))]
 fn put_todo_back(alloc: Global, page: &mut Html, missed: u64) -> Result<(), NoMemory>
     ensures { OnOk result (page.new ≡ page.old ++ todo_back missed) }
 {
-    put_more(alloc, page, missed, b"message is", b"messages are")?;
+    put_more(
+        alloc,
+        page,
+        missed,
+        b"message, perhaps an urgent one, is",
+        b"messages, urgent ones perhaps among them, are",
+    )?;
     page.markup(section_end())
 }
 

@@ -11,7 +11,7 @@ use crate::template::Part;
 pub(crate) fn style() -> &'static [u8]
     ensures { result.now ≡ style }
 {
-    b"*{box-sizing:border-box}\nbody{font:15px/1.45 system-ui,sans-serif;max-width:72rem;margin:0 auto;padding:1rem 1.2rem 3rem;color:#1d2733;background:#fff}\nh1{font-size:1.5rem;margin:.4rem 0 0}\nh2{font-size:1.15rem;margin:0 0 .4rem}\nheader p,caption,thead th{color:#566472}\nheader p{margin:.1rem 0 1rem}\nheader b{color:#1d2733}\nsection{border-top:1px solid #dde3ea;padding:1rem 0}\ntable{border-collapse:collapse;font-variant-numeric:tabular-nums}\ncaption{text-align:left;padding:.2rem 0}\ncaption span{position:sticky;left:0}\nth{font-weight:400;text-align:left}\nh1,h2,caption,th,td{white-space:pre-wrap}\nh1,h2{overflow-wrap:anywhere}\na{color:#2b6cb0}\n.scroll{overflow-x:auto;margin:.3rem 0 .6rem}\n.todo th,.todo td{padding:.12rem 1rem .12rem 0;vertical-align:top}\n.todo td{border-left:4px solid #cbd5e0;padding-left:.6rem}\n.todo thead th+th{padding-left:calc(.6rem + 4px)}\n.todo:has(tbody:empty) thead{display:none}\n.todo .late td{border-color:#c53030}\n.todo .release td{border-color:#2f855a}\n.todo .in td{border-color:#b7791f}\n.todo .out td{border-color:#2b6cb0}\n.todo tbody:empty::after{content:\"Nothing to do\"}\n.grid th:first-child{position:sticky;left:0;z-index:1;background:#fff;padding-right:1rem;white-space:nowrap}\n.grid td,.grid thead th+th{min-width:4rem;padding:.1rem .4rem .1rem 0;text-align:right}\n.loads td,.loads thead th+th{min-width:6.6rem}\n.grid thead th{border-bottom:1px solid #dde3ea}\n.grid .strong th,.grid .strong td{font-weight:600}\n.z{color:#98a5b2}\n.grid .over td:not(.z){color:#b32626;font-weight:600}\n.grid .over td:not(.z)::before{content:\"+\"}\n.grid .chart td{padding:.3rem 0}\nsvg{display:block;width:100%;height:4.2rem;overflow:visible}\npolyline{fill:none;stroke:#2b6cb0;stroke-width:2;vector-effect:non-scaling-stroke}\n.load{fill:#7fb0e3}\n.above{fill:#c53030}\n.most{stroke:#1d2733;stroke-width:2;vector-effect:non-scaling-stroke}\nsummary{cursor:pointer}\n.list{margin:.3rem 0 .8rem}\n.list th,.list td{padding:.1rem 1.2rem .1rem 0;text-align:right}\n.list .t,.list th[scope=row]{text-align:left}\n.list tbody:empty::after{content:\"None on this page\"}\n.more{margin:.3rem 0;color:#566472}\n@media (max-width:30rem){body{padding:.6rem}.todo th{max-width:9rem;overflow-wrap:break-word}.grid{font-size:.9rem}.grid th:first-child{white-space:normal;min-width:6.5rem;max-width:8.5rem;padding-right:.5rem}}\n@media print{@page{size:landscape;margin:1cm}body{max-width:none;font-size:11px;padding:0;background:#fff}a{color:inherit;text-decoration:none}.scroll{overflow:visible}h2,caption,summary,.item .todo{break-after:avoid}tr,.item .todo{break-inside:avoid}.grid,.grid caption,.grid thead,.grid tbody,.grid tr{display:block}.grid{font-size:8px;line-height:1.2;break-inside:avoid}.grid tr{position:relative;padding-left:14em}.grid th:first-child{position:absolute;left:0;min-width:0;padding:.05rem 0;border:0}.grid thead tr{border-bottom:1px solid #dde3ea}.grid tbody tr+tr{border-top:1px solid #eef1f4}.grid td,.grid thead th+th{display:inline-block;min-width:4.4em;padding:.05rem 0;border:0}.grid.loads td,.grid.loads thead th+th{min-width:6.6em}.grid tr.chart td{display:block;width:100%;width:min(100%,calc(attr(colspan type(<number>))*4.4em))}.grid.loads tr.chart td{width:min(100%,calc(attr(colspan type(<number>))*6.6em))}summary{list-style:none}details::details-content{content-visibility:visible;block-size:auto}.load,.above,.todo td{print-color-adjust:exact}}\n"
+    b"*{box-sizing:border-box}\nbody{font:15px/1.45 system-ui,sans-serif;max-width:72rem;margin:0 auto;padding:1rem 1.2rem 3rem;color:#1d2733;background:#fff}\nh1{font-size:1.5rem;margin:.4rem 0 0}\nh2{font-size:1.15rem;margin:0 0 .4rem}\nheader p,caption,thead th{color:#566472}\nheader p{margin:.1rem 0 1rem}\nheader b{color:#1d2733}\nsection{border-top:1px solid #dde3ea;padding:1rem 0}\ntable{border-collapse:collapse;font-variant-numeric:tabular-nums}\ncaption{text-align:left;padding:.2rem 0}\ncaption span{position:sticky;left:0}\nth{font-weight:400;text-align:left}\nh1,h2,caption,th,td{white-space:pre-wrap}\nh1,h2{overflow-wrap:anywhere}\na{color:#2b6cb0}\n.scroll{overflow-x:auto;margin:.3rem 0 .6rem}\n.todo th,.todo td{padding:.12rem 1rem .12rem 0;vertical-align:top}\n.todo td{border-left:4px solid #cbd5e0;padding-left:.6rem}\n.todo thead th+th{padding-left:calc(.6rem + 4px)}\n.todo:has(tbody:empty) thead{display:none}\n.todo .late td{border-color:#c53030}\n.todo .release td{border-color:#2f855a}\n.todo .in td{border-color:#b7791f}\n.todo .out td{border-color:#2b6cb0}\n.todo tbody:empty::after{content:\"Nothing to do\"}\n.item .todo th:first-child{display:none}\n.item .todo thead th{padding-left:0}\n.grid th:first-child{position:sticky;left:0;z-index:1;background:#fff;padding-right:1rem;white-space:nowrap}\n.grid td,.grid thead th+th{min-width:5rem;padding:.1rem .4rem .1rem 0;text-align:right}\n.loads td,.loads thead th+th{min-width:7rem}\n.grid thead th{border-bottom:1px solid #dde3ea}\n.grid .strong th,.grid .strong td:not(.z){font-weight:600}\n.z{color:#6b7785}\n.grid .over td:not(.z){color:#b32626;font-weight:600}\n.grid .over td:not(.z)::before{content:\"+\"}\n.grid .chart td{padding:.3rem 0}\nsvg{display:block;width:100%;height:4.2rem;overflow:visible}\npolyline{fill:none;stroke:#2b6cb0;stroke-width:2;vector-effect:non-scaling-stroke}\n.load{fill:#7fb0e3}\n.above{fill:#c53030}\n.most{stroke:#1d2733;stroke-width:2;vector-effect:non-scaling-stroke}\nsummary{cursor:pointer}\n.list{margin:.3rem 0 .8rem}\n.list th,.list td{padding:.1rem 1.2rem .1rem 0;text-align:right}\n.list .t,.list th[scope=row]{text-align:left}\n.list tbody:empty::after{content:\"None on this page\"}\n.more{margin:.3rem 0;color:#566472}\nmain:has(>.more) .item details .scroll::after{content:\"Orders and pegs that are not on this page are counted behind the items.\";color:#566472}\n@media (max-width:30rem){body{padding:.6rem}.todo th{min-width:5.5rem;max-width:9rem;overflow-wrap:break-word}.grid{font-size:.9rem}.grid:not(.loads) td,.grid:not(.loads) thead th+th{min-width:4.4rem}.grid th:first-child{white-space:normal;min-width:6.5rem;max-width:8.5rem;padding-right:.5rem}}\n@media print{@page{size:landscape;margin:1cm}body{max-width:none;font-size:11px;padding:0;background:#fff}a{color:inherit;text-decoration:none}.scroll{overflow:visible}h2,caption,summary,.item .todo{break-after:avoid}tr,.item .todo{break-inside:avoid}.grid,.grid caption,.grid thead,.grid tbody,.grid tr{display:block}.grid{font:8px/1.2 Arial,sans-serif;break-inside:avoid}.grid tr{position:relative;padding-left:14em}.grid th:first-child{position:absolute;left:0;min-width:0;padding:.05rem 0;border:0}.grid thead tr{border-bottom:1px solid #dde3ea}.grid tbody tr+tr{border-top:1px solid #eef1f4}.grid td,.grid thead th+th{display:inline-block;vertical-align:top;width:4.4em;min-width:0;padding:.05rem 0 .05rem .2em;border:0;overflow-wrap:anywhere}.grid.loads td,.grid.loads thead th+th{width:6.6em}.grid tr.chart td{display:block;padding:.05rem 0;width:100%;width:min(100%,calc(attr(colspan type(<number>))*4.4em))}.grid.loads tr.chart td{width:min(100%,calc(attr(colspan type(<number>))*6.6em))}summary{list-style:none}details::details-content{content-visibility:visible;block-size:auto}.load,.above,.todo td{print-color-adjust:exact}}\n"
 }
 
 // What stands before the style sheet: the title.
@@ -197,7 +197,7 @@ pub(crate) fn peg() -> &'static [Part]
     &[
         Part::Markup(b"<tr>"),
         Part::Number(1),
-        Part::Markup(b"<td class=t>"),
+        Part::Markup(b"<th scope=row>"),
         Part::If(2, b"booking", b"booking "),
         Part::If(2, b"forecast", b"forecast"),
         Part::If(2, b"parent", b"order "),
@@ -207,7 +207,7 @@ pub(crate) fn peg() -> &'static [Part]
         Part::Cell(4),
         Part::If(2, b"parent", b", bill line "),
         Part::Cell(5),
-        Part::Markup(b"</td><td class=t>"),
+        Part::Markup(b"</th><td class=t>"),
         Part::Cell(6),
         Part::Markup(b" "),
         Part::Cell(7),
@@ -223,7 +223,11 @@ pub(crate) fn centre_head() -> &'static [Part]
     ensures { map drawn_of result.now ≡ centre_head }
 {
     &[
-        Part::Markup(b"<div class=scroll><table class=\"grid loads\">\n<caption><span>"),
+        Part::Markup(
+            b"<div class=scroll tabindex=0 role=region aria-label=\"Load and capacity of ",
+        ),
+        Part::Cell(0),
+        Part::Markup(b", week by week\"><table class=\"grid loads\">\n<caption><span>"),
         Part::Cell(0),
         Part::Markup(b", in minutes</span></caption>\n<thead><tr><th scope=col>Week</th>"),
     ]
@@ -297,9 +301,9 @@ pub(crate) fn record_head() -> &'static [Part]
     ensures { map drawn_of result.now ≡ record_head }
 {
     &[
-        Part::Markup(
-            b"<div class=scroll><table class=grid>\n<caption><span>Time-phased record of ",
-        ),
+        Part::Markup(b"<div class=scroll tabindex=0 role=region aria-label=\"Record of "),
+        Part::Cell(0),
+        Part::Markup(b", week by week\"><table class=grid>\n<caption><span>Time-phased record of "),
         Part::Cell(0),
         Part::Markup(b"</span></caption>\n<thead><tr><th scope=col>Week</th>"),
     ]
@@ -343,7 +347,7 @@ pub(crate) fn point() -> &'static [Part]
 pub(crate) fn todo_open() -> &'static [u8]
     ensures { result.now ≡ todo_open }
 {
-    b"<section id=todo>\n<h2>To do</h2>\n<table class=todo><thead><tr><th scope=col>Item</th><th scope=col>What to do</th></tr></thead>\n<tbody>"
+    b"<section id=todo>\n<h2>To do</h2>\n<table class=todo aria-label=\"What to do\"><thead><tr><th scope=col>Item</th><th scope=col>What to do</th></tr></thead>\n<tbody>"
 }
 
 // And what it ends with.
@@ -359,7 +363,7 @@ pub(crate) fn todo_end() -> &'static [u8]
 pub(crate) fn item_tasks_open() -> &'static [u8]
     ensures { result.now ≡ item_tasks_open }
 {
-    b"<table class=todo><thead><tr><th scope=col>Item</th><th scope=col>What to do</th></tr></thead>\n<tbody>"
+    b"<table class=todo aria-label=\"What to do for this item\"><thead><tr><th scope=col>Item</th><th scope=col>What to do</th></tr></thead>\n<tbody>"
 }
 
 // And what they end with.
@@ -511,7 +515,7 @@ pub(crate) fn balance_label() -> &'static [u8]
 pub(crate) fn orders_open() -> &'static [u8]
     ensures { result.now ≡ orders_open }
 {
-    b"<details><summary>Orders</summary><div class=scroll><table class=list><thead><tr><th class=t scope=col>Order</th><th class=t scope=col>Kind</th><th scope=col>Due week</th><th scope=col>Quantity</th><th scope=col>Starts</th><th scope=col>Release week</th><th scope=col>Weeks late</th></tr></thead>\n<tbody>"
+    b"<details><summary>Orders</summary><div class=scroll tabindex=0 role=region aria-label=Orders><table class=list>\n<caption><span>Firm and planned orders</span></caption>\n<thead><tr><th class=t scope=col>Order</th><th class=t scope=col>Kind</th><th scope=col>Due week</th><th scope=col>Quantity</th><th scope=col>Starts</th><th scope=col>Release week</th><th scope=col>Weeks late</th></tr></thead>\n<tbody>"
 }
 
 // What the pegs of an item begin with.
@@ -519,7 +523,7 @@ pub(crate) fn orders_open() -> &'static [u8]
 pub(crate) fn pegs_open() -> &'static [u8]
     ensures { result.now ≡ pegs_open }
 {
-    b"<details><summary>Where it goes (pegs)</summary><div class=scroll><table class=list><thead><tr><th scope=col>Week</th><th class=t scope=col>Requirement</th><th class=t scope=col>Supply</th><th scope=col>Pieces</th></tr></thead>\n<tbody>"
+    b"<details><summary>Where it goes (pegs)</summary><div class=scroll tabindex=0 role=region aria-label=Pegs><table class=list>\n<caption><span>Which supply serves which requirement</span></caption>\n<thead><tr><th scope=col>Week</th><th class=t scope=col>Requirement</th><th class=t scope=col>Supply</th><th scope=col>Pieces</th></tr></thead>\n<tbody>"
 }
 
 // What these end with.
@@ -565,7 +569,7 @@ pub(crate) fn no_promises() -> &'static [u8]
 pub(crate) fn history_open() -> &'static [u8]
     ensures { result.now ≡ history_open }
 {
-    b"<section id=history>\n<details><summary>History of the order book</summary><div class=scroll><table class=list><thead><tr><th class=t scope=col>Entry</th><th scope=col>Desk</th><th class=t scope=col>Call</th><th class=t scope=col>Item</th><th scope=col>Week</th><th scope=col>Quantity</th><th scope=col>Number</th><th class=t scope=col>Reply</th><th scope=col>Value</th></tr></thead>\n<tbody>"
+    b"<section id=history>\n<details><summary>History of the order book</summary><div class=scroll tabindex=0 role=region aria-label=\"History of the order book\"><table class=list>\n<caption><span>The calls of the desks and their replies</span></caption>\n<thead><tr><th class=t scope=col>Entry</th><th scope=col>Desk</th><th class=t scope=col>Call</th><th class=t scope=col>Item</th><th scope=col>Week</th><th scope=col>Quantity</th><th scope=col>Number</th><th class=t scope=col>Reply</th><th scope=col>Value</th></tr></thead>\n<tbody>"
 }
 
 // And what it ends with.

@@ -76,13 +76,15 @@ impl Section {
         }
     }
 
-    // How many of its rows are kept: of items or work centres those of 200 over 104 weeks.
+    // How many of its rows are kept: of items or work centres those of 200 over 104 weeks, and 300 pegs
+    // of each of 200 items.
     pub(crate) fn room(self) -> u64
         ensures { result ≡ room_of self }
     {
         match self {
             Section::History => 1_000,
             Section::Run => 1,
+            Section::Pegs => 60_000,
             _ => 20_800,
         }
     }
