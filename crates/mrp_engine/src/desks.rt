@@ -1,5 +1,6 @@
 //! The history that desks make beside one another.
 
+ghost use Rattle.std.specs.Thread.{IsSync};
 ghost use Rattle.std.specs.Prelude.{◌≡◌, ◌<◌, ◌≤◌, ◌+◌, ◌-◌, All, [], ℕ, Err, IfOk, Ok, OnErr, length, map, slice_index_or, vec_len};
 ghost use Rattle.mrp_book.specs.declared.refused.Refused.TheVariants as refused;
 ghost use Rattle.mrp_book.specs.History.{Fits};
@@ -54,13 +55,37 @@ fn open(alloc: Global, shop: Shop) -> Result<(Office, Vec<Desk>), NoMemory>
     }
 }
 
-// Has each desk make the calls of its list, in a thread of its own where one can be started.
+// Calls f with a job in a new thread, or last where none can be made, and g in this one.
+fn beside<
+    R: Threads,
+    J: Send + Drop,
+    X: Send,
+    Y,
+    F: FnOnce(J) -> X + Send + Drop,
+    G: FnOnce() -> Y,
+>(rt: &R, job: J, f: F, g: G) -> (X, Y)
+    requires job { F.pre f job }
+    requires rest { G.pre g }
+    ensures job { F.post f job result.0 }
+    ensures rest { G.post g result.1 }
+{
+    let there = move || -> X
+        requires { F.pre f job }
+        ensures { F.post f job result }
+    { f(job) };
+    thread::join(rt, there, g)
+}
+
+// Has each desk make the calls of its list, in a thread of its own. Where one can't be started, this
+// thread makes the calls of that desk once the desks before it have ended.
+#[cycle(desks)]
 fn serve_all<R: Threads + Wait + Sync, G: Gate + Sync>(
     rt: &R,
+    alloc: Global,
     office: &Office,
     lists: &[Vec<Call>],
     gate: &G,
-    desks: Vec<Desk>,
+    mut desks: Vec<Desk>,
 ) -> Result<Vec<Served>, AllocError>
     requires office { All (λ d. d.turn ≡ office.now) desks.items }
     requires lists { All (λ d. (1 ≤ d.number) × (d.number ≤ length lists.now)) desks.items }
@@ -70,18 +95,26 @@ fn serve_all<R: Threads + Wait + Sync, G: Gate + Sync>(
         → HasServed (supply_at office.now) (calls_at lists.now ((slice_index_or desks.items k d).number - 1)) (slice_index_or desks.items k d)
         (slice_index_or all.items k s).end (slice_index_or all.items k s).desk) }
 {
-    thread::map_vec(
-        rt,
-        desks,
-        &|desk: Desk| -> Served
-            requires { (desk.turn ≡ office.now) × (1 ≤ desk.number) × (desk.number ≤ length lists.now)
-                × ((place : ℕ) → All (Fits (supply_at office.now)) (calls_at lists.now place)) }
-            ensures { HasServed (supply_at office.entry.now) (calls_at lists.entry.now (desk.number - 1)) desk result.end result.desk }
-        {
-            let calls = list_of(lists, desk.number());
-            serve(rt, office, calls, gate, desk)
-        },
-    )
+    let Some(desk) = desks.pop() else {
+        return Ok(Vec::new(alloc));
+    };
+    let make_all = move |desk: Desk| -> Served
+        requires { (desk.turn ≡ office.now) × (1 ≤ desk.number) × (desk.number ≤ length lists.now)
+            × ((place : ℕ) → All (Fits (supply_at office.now)) (calls_at lists.now place)) }
+        ensures { HasServed (supply_at office.entry.now) (calls_at lists.entry.now (desk.number - 1)) desk result.end result.desk }
+    { serve(rt, office, list_of(lists, desk.number()), gate, desk) };
+    let others = move || -> Result<Vec<Served>, AllocError>
+        requires { IsSync R.row × IsSync G.row × All (λ d. d.turn ≡ office.now) desks.items
+            × All (λ d. (1 ≤ d.number) × (d.number ≤ length lists.now)) desks.items
+            × ((place : ℕ) → All (Fits (supply_at office.now)) (calls_at lists.now place)) }
+        ensures { IfOk result (λ all. (vec_len all ≡ vec_len desks) × ((k : ℕ) (d : Desk) (s : _) → k < vec_len desks
+            → HasServed (supply_at office.entry.now) (calls_at lists.entry.now ((slice_index_or desks.items k d).number - 1)) (slice_index_or desks.items k d)
+            (slice_index_or all.items k s).end (slice_index_or all.items k s).desk)) }
+    { serve_all(rt, alloc, office, lists, gate, desks) };
+    let (served, all) = beside(rt, desk, make_all, others);
+    let mut all = all?;
+    all.push(served)?;
+    Ok(all)
 }
 
 // The desks, and how their calls ended: as those of the first that was refused one.
@@ -119,7 +152,7 @@ fn serve_script<R: Threads + Wait + Sync, G: Gate + Sync>(
     ensures served { IfOk result (λ r. HaveServed (map record_of script.now) r.0.items r.1) }
 {
     let lists = calls_by_desk(alloc, script, desks.len())?;
-    let all = serve_all(rt, office, lists.as_slice(), gate, desks)?;
+    let all = serve_all(rt, alloc, office, lists.as_slice(), gate, desks)?;
     parted(alloc, all)
 }
 
