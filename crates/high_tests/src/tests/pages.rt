@@ -215,7 +215,7 @@ fn rows_that_a_page_has_no_room_for_are_counted(rt: HostRuntime) {
         &rt,
         &left,
         "and 20700 more items are not shown",
-        "messages are not shown",
+        "more messages",
     );
     is_page(&rt, &left, "No record here", "entries are not shown");
     drop(left);
