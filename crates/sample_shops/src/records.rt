@@ -11,8 +11,7 @@ use std::alloc::Global;
 use std::sync::Arc;
 use std::test::Fail;
 
-/// The records of the tables in which sample shops differ, each with its line end. The tables
-/// `centres` and `routings` have none.
+/// The records of a shop's tables, each with its line end.
 #[derive(Clone, Copy)]
 pub struct Records<'a> {
     /// The calendar.

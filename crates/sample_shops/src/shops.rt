@@ -43,6 +43,15 @@ pub fn bicycles_in_lots() -> Records<'static> {
     }
 }
 
+/// The same, and its frames are welded at a work centre.
+pub fn bicycles_welded() -> Records<'static> {
+    Records {
+        centres: "WELD,20\n",
+        routings: "FRAME,10,WELD,30,2500,0\n",
+        ..bicycles_in_lots()
+    }
+}
+
 /// Six calls of two desks about bicycles: three are booked, as 1, 2 and 5.
 pub fn morning() -> &'static [(u64, Asked)] {
     &[

@@ -1,10 +1,10 @@
 //! The checker of a day.
 
-use super::texts::{LOTS_HISTORY, LOTS_REPORT};
+use super::texts::{LOTS_HISTORY, LOTS_REPORT, WELD_LOADS};
 use super::{made, same};
 use mrp_audit::{AuditFault, check};
 use mrp_rows::{Fault, Table, faults};
-use sample_shops::{Records, bicycles_in_lots, tower};
+use sample_shops::{Records, bicycles_welded, tower};
 use std::alloc::Global;
 use std::io::Eprint;
 use std::process::Abort;
@@ -33,6 +33,9 @@ pub fn text_of(rt: &impl Abort, alloc: Global, pieces: &[&str]) -> String {
     text
 }
 
+// The day of the bicycles with these calls, whose frames are welded.
+pub const DAY: &[&str] = &[LOTS_HISTORY, LOTS_REPORT, WELD_LOADS];
+
 // What is found of the bicycles with these calls and a text of such pieces.
 fn found<R: Alloc + Abort + Eprint + Threads + Sync>(
     rt: &R,
@@ -42,7 +45,7 @@ fn found<R: Alloc + Abort + Eprint + Threads + Sync>(
 ) -> Result<(), AuditFault> {
     let shop = Records {
         script,
-        ..bicycles_in_lots()
+        ..bicycles_welded()
     };
     let bundle = made(rt, shop.bundle(alloc));
     let text = text_of(rt, alloc, pieces);
@@ -56,13 +59,13 @@ fn found_changed<R: Alloc + Abort + Eprint + Threads + Sync>(
     old: &str,
     new: &str,
 ) -> Result<(), AuditFault> {
-    if let Some((front, back)) = LOTS_HISTORY.split_once(old) {
-        return found(rt, alloc, SCRIPT, &[front, new, back, LOTS_REPORT]);
-    }
-    match LOTS_REPORT.split_once(old) {
-        Some((front, back)) => found(rt, alloc, SCRIPT, &[LOTS_HISTORY, front, new, back]),
-        None => rt.panic("the day has no such place"),
-    }
+    let day = text_of(rt, alloc, DAY);
+    let Some((front, back)) = day.split_once(old) else {
+        rt.panic("the day has no such place")
+    };
+    let got = found(rt, alloc, SCRIPT, &[front, new, back]);
+    drop(day);
+    got
 }
 
 // The words of a fault.
@@ -89,8 +92,7 @@ fn is_wrong<R: Alloc + Abort + Eprint + Threads + Sync>(
 
 #[test]
 fn a_right_day_is_right(rt: HostRuntime) {
-    let day = [LOTS_HISTORY, LOTS_REPORT];
-    same(&rt, found(&rt, rt.alloc(), SCRIPT, &day), Ok(()));
+    same(&rt, found(&rt, rt.alloc(), SCRIPT, DAY), Ok(()));
 }
 
 #[test]
@@ -141,6 +143,7 @@ fn a_changed_report_is_told(rt: HostRuntime) {
         ("BIKE,1,0,10,0,0\n", "BIKE,1,0,10,0,1\n"),
         ("BIKE,1,10,0,0,0,8,0\n", "BIKE,1,10,0,0,0,9,0\n"),
         ("\n[pegs]", "[pegs]"),
+        ("WELD,1,175.000", "WELD,1,175.001"),
     ];
     for case in CASES {
         let got = found_changed(&rt, rt.alloc(), case.0, case.1);
@@ -157,8 +160,7 @@ fn desks_may_stand_in_another_order(rt: HostRuntime) {
 1,book,BIKE,2025-01-20,12,\n\
 1,book,BIKE,2025-02-03,25,\n\
 1,ask,BIKE,2025-01-20,,\n";
-    let day = [LOTS_HISTORY, LOTS_REPORT];
-    same(&rt, found(&rt, rt.alloc(), BY_DESK, &day), Ok(()));
+    same(&rt, found(&rt, rt.alloc(), BY_DESK, DAY), Ok(()));
 }
 
 // The history of these calls with two entries of desk 2 exchanged.
@@ -175,17 +177,18 @@ entry,desk,call,item,week,quantity,number,reply,value\n\
 
 #[test]
 fn two_entries_of_one_desk_may_not_be_exchanged(rt: HostRuntime) {
-    let got = found(&rt, rt.alloc(), SCRIPT, &[EXCHANGED, LOTS_REPORT]);
+    let day = [EXCHANGED, LOTS_REPORT, WELD_LOADS];
+    let got = found(&rt, rt.alloc(), SCRIPT, &day);
     same(&rt, got, Err(AuditFault::DeskRows { desk: 2 }));
 }
 
 #[test]
 fn what_is_too_much_or_too_little_is_told(rt: HostRuntime) {
-    let day = [LOTS_HISTORY, LOTS_REPORT, "x"];
+    let day = [LOTS_HISTORY, LOTS_REPORT, WELD_LOADS, "x"];
     let more = found(&rt, rt.alloc(), SCRIPT, &day);
     same(&rt, more, Err(AuditFault::ReportDiffers { run: 2 }));
-    let cut = LOTS_REPORT.strip_suffix("\n").unwrap_or("");
-    let less = found(&rt, rt.alloc(), SCRIPT, &[LOTS_HISTORY, cut]);
+    let cut = WELD_LOADS.strip_suffix("\n").unwrap_or("");
+    let less = found(&rt, rt.alloc(), SCRIPT, &[LOTS_HISTORY, LOTS_REPORT, cut]);
     same(&rt, less, Err(AuditFault::ReportDiffers { run: 1 }));
     let none = found(&rt, rt.alloc(), SCRIPT, &[LOTS_HISTORY]);
     same(&rt, none, Err(AuditFault::ReportDiffers { run: 1 }));
@@ -271,7 +274,7 @@ fn with_letter(alloc: Global, day: &str, place: usize, other: char) -> Result<St
 
 #[test]
 fn each_digit_that_is_another_is_told(rt: HostRuntime) {
-    let day = text_of(&rt, rt.alloc(), &[LOTS_HISTORY, LOTS_REPORT]);
+    let day = text_of(&rt, rt.alloc(), DAY);
     let mut told = TOLD_OF_DIGITS.iter();
     for (place, letter) in day.chars().enumerate() {
         if let Some(other) = other_digit(letter) {
@@ -327,7 +330,7 @@ fn told_twice(place: usize, lines: usize) -> &'static str {
 
 #[test]
 fn each_line_that_is_missing_or_stands_twice_is_told(rt: HostRuntime) {
-    let day = text_of(&rt, rt.alloc(), &[LOTS_HISTORY, LOTS_REPORT]);
+    let day = text_of(&rt, rt.alloc(), DAY);
     let lines = day.lines().count();
     for place in 0..lines {
         let less = made(&rt, with_line(rt.alloc(), &day, place, 0));

@@ -1,11 +1,11 @@
 //! The check of a day beside a folder, over an input, an output and an error stream.
 
-use super::audits::{EXCHANGED, SCRIPT, text_of};
+use super::audits::{DAY, EXCHANGED, SCRIPT, text_of};
 use super::commands::{Left, Streams, has_ended, left_by};
 use super::made;
 use super::streams::Turn;
-use super::texts::{LOTS_HISTORY, LOTS_REPORT};
-use sample_shops::bicycles_in_lots;
+use super::texts::{LOTS_HISTORY, LOTS_REPORT, WELD_LOADS};
+use sample_shops::bicycles_welded;
 use std::alloc::Global;
 use std::fs;
 use std::fs::File;
@@ -25,10 +25,10 @@ fn make_file(files: &impl Files, path: &str, head: &str, rows: &str) -> Result<(
     Ok(())
 }
 
-// The files of a folder of the bicycles in lots, whose script has the calls of two desks: each with its
+// The files of a folder of the bicycles whose frames are welded, and whose script has the calls of two desks: each with its
 // header and its records.
 fn files_of_lots<'a>() -> [(&'a str, &'a str, &'a str); 9] {
-    let shop = bicycles_in_lots();
+    let shop = bicycles_welded();
     [
         ("out/lots/calendar.csv", "key,value\n", shop.calendar),
         (
@@ -92,25 +92,25 @@ fn checked_changed<R: Alloc + Abort + Eprint + Files + Threads + Wait + Sync>(
     old: &str,
     new: &str,
 ) -> Left {
-    if let Some((front, back)) = LOTS_HISTORY.split_once(old) {
-        return checked(rt, alloc, &[front, new, back, LOTS_REPORT]);
-    }
-    match LOTS_REPORT.split_once(old) {
-        Some((front, back)) => checked(rt, alloc, &[LOTS_HISTORY, front, new, back]),
-        None => rt.panic("the day has no such place"),
-    }
+    let day = text_of(rt, alloc, DAY);
+    let Some((front, back)) = day.split_once(old) else {
+        rt.panic("the day has no such place")
+    };
+    let left = checked(rt, alloc, &[front, new, back]);
+    drop(day);
+    left
 }
 
 #[test]
 fn a_right_day_is_said_to_be_right(rt: HostRuntime) {
-    let left = checked(&rt, rt.alloc(), &[LOTS_HISTORY, LOTS_REPORT]);
+    let left = checked(&rt, rt.alloc(), DAY);
     has_ended(&rt, &left, 0, "right\n", "");
     drop(left);
 }
 
 #[test]
 fn the_first_fault_of_a_wrong_day_is_said(rt: HostRuntime) {
-    const CHANGED: [(&str, &str, &str); 6] = [
+    const CHANGED: [(&str, &str, &str); 7] = [
         ("[history]\n", "", "wrong: shape\n"),
         ("short,10", "booked,4", "wrong: history 4\n"),
         ("7,1,run", "7,2,run", "wrong: desk 1\n"),
@@ -121,6 +121,7 @@ fn the_first_fault_of_a_wrong_day_is_said(rt: HostRuntime) {
         ),
         ("WHEEL,1,planned", "WHEEL,1,firm", "wrong: report 1\n"),
         ("[pegs]\n", "", "wrong: report 1\n"),
+        ("WELD,3,0.000,80", "WELD,3,0.000,90", "wrong: report 1\n"),
     ];
     for (old, new, line) in CHANGED {
         let left = checked_changed(&rt, rt.alloc(), old, new);
@@ -131,10 +132,12 @@ fn the_first_fault_of_a_wrong_day_is_said(rt: HostRuntime) {
 
 #[test]
 fn a_line_more_and_entries_exchanged_are_said(rt: HostRuntime) {
-    let more = checked(&rt, rt.alloc(), &[LOTS_HISTORY, LOTS_REPORT, "[run]\n"]);
+    let day = [LOTS_HISTORY, LOTS_REPORT, WELD_LOADS, "[run]\n"];
+    let more = checked(&rt, rt.alloc(), &day);
     has_ended(&rt, &more, 1, "wrong: report 2\n", "");
     drop(more);
-    let exchanged = checked(&rt, rt.alloc(), &[EXCHANGED, LOTS_REPORT]);
+    let day = [EXCHANGED, LOTS_REPORT, WELD_LOADS];
+    let exchanged = checked(&rt, rt.alloc(), &day);
     has_ended(&rt, &exchanged, 1, "wrong: desk 2\n", "");
     drop(exchanged);
     let none = checked(&rt, rt.alloc(), &[]);

@@ -171,3 +171,68 @@ fn a_run_that_was_given_up_hands_nothing_out(rt: HostRuntime) {
     steps_after_giving_up(&rt, rt.alloc(), &mut core);
     drop(core);
 }
+
+// What the events of the first test are answered, all together.
+const WORKED: &[Told] = &[
+    ("started", 1, 1),
+    ("item", 0, 0),
+    ("not-yet", 0, 0),
+    ("booked", 2, 2),
+    ("stored", 0, 0),
+    ("item", 1, 0),
+    ("item", 2, 0),
+    NOTHING,
+    ("stored", 0, 0),
+    ("stored", 0, 0),
+    ("bytes", 0, 0),
+    NOTHING,
+];
+
+// What a core of the shop answers to these events.
+fn answers_of_core<R: Alloc + Abort + Threads + Sync>(
+    rt: &R,
+    alloc: Global,
+    shop: Shop,
+    booking: Call,
+) -> Vec<Answer>
+    requires { FitsShop shop.tables (Event.Call 2 booking) }
+{
+    let events = [
+        Event::Start(1),
+        Event::Take(1, 1),
+        Event::Take(1, 2),
+        Event::Call(2, booking),
+        Event::Finish(1, 1),
+        Event::Take(1, 1),
+        Event::Take(1, 2),
+        Event::Write(1),
+        Event::Finish(1, 1),
+        Event::Finish(1, 2),
+        Event::Write(1),
+        Event::Write(2),
+    ];
+    Core::run(rt, alloc, shop, &events).expect(rt, "memory")
+}
+
+// Fails unless an answer is so; bytes are the report of the bicycles.
+fn is_answer(rt: &impl Abort, answer: &Answer, want: Told) {
+    match answer {
+        Answer::Bytes(bytes) => {
+            same(rt, want.0, "bytes");
+            same(rt, bytes.as_slice(), BICYCLE_REPORT.as_bytes());
+        }
+        _ => same(rt, told(answer), want),
+    }
+}
+
+#[test]
+fn a_list_of_events_is_answered_as_one_by_one(rt: HostRuntime) {
+    let shop = made(&rt, bicycles().shop(rt.alloc()));
+    let booking = made(&rt, Asked::Book(3, 12).call(&shop));
+    let answers = answers_of_core(&rt, rt.alloc(), shop, booking);
+    same(&rt, answers.len(), WORKED.len());
+    for (answer, want) in answers.iter().zip(WORKED) {
+        is_answer(&rt, answer, *want);
+    }
+    drop(answers);
+}

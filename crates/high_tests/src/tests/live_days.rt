@@ -4,6 +4,7 @@
 use super::audits::SCRIPT;
 use super::commands::{Left, Streams, has_ended, left_by};
 use super::{made, same};
+use mrp_audit::check;
 use mrp_engine::answer_by_desks;
 use mrp_explode::Gate;
 use sample_shops::{Records, bicycles_in_lots, tower};
@@ -108,7 +109,7 @@ fn is_morning<R: Abort + Eprint>(rt: &R, alloc: Global, left: &Left) {
     drop((first, second, sections));
 }
 
-// What the bicycles leave after these calls, by eight workers.
+// What the bicycles leave after these calls, by eight workers; the checker finds it right.
 fn morning_by<R: Alloc + Abort + Eprint + Files + Threads + Wait + Sync>(
     rt: &R,
     alloc: Global,
@@ -121,6 +122,8 @@ fn morning_by<R: Alloc + Abort + Eprint + Files + Threads + Wait + Sync>(
     let bundle = made(rt, shop.bundle(alloc));
     let words = ["live", "--workers", "8"];
     let left = left_by(rt, alloc, &words, Streams::of(&bundle));
+    let found = check(rt, alloc, bundle.as_bytes(), left.output.as_bytes());
+    same(rt, found, Ok(()));
     drop(bundle);
     left
 }

@@ -156,6 +156,15 @@ WHEEL,planned,1,PAST-DUE,1\n\
 [loads]\n\
 centre,week,load,capacity,over\n";
 
+// What the report has besides where the frames are welded: the loads.
+pub const WELD_LOADS: &str = "\
+WELD,1,175.000,100.000,75.000\n\
+WELD,2,0.000,100.000,0.000\n\
+WELD,3,0.000,80.000,0.000\n\
+WELD,4,0.000,100.000,0.000\n\
+WELD,5,0.000,100.000,0.000\n\
+WELD,6,0.000,100.000,0.000\n";
+
 // The report of a run over the bicycles with screws at three levels.
 pub const SCREW_REPORT: &str = "\
 [run]\n\
