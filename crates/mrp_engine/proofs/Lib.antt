@@ -16,6 +16,9 @@ pub mod DeskCounts
 mod DeskRecords
 mod DeskCalls
 mod Parting
+mod OneByOne
+mod Duties
+mod Crossing
 mod DeskLists
 pub mod DeskHistories
 pub mod RightDays

@@ -14,3 +14,4 @@ pub mod KeptRun
 pub mod KeptCore
 pub mod DeskCalls
 pub mod Desks
+pub mod Begun

@@ -1,20 +1,19 @@
 //! The history that desks make beside one another.
 
-ghost use Rattle.std.specs.Thread.{IsSync};
-ghost use Rattle.std.specs.Prelude.{◌≡◌, ◌<◌, ◌≤◌, ◌+◌, ◌-◌, All, [], ℕ, Err, IfOk, Ok, OnErr, length, map, slice_index_or, vec_len};
+ghost use Rattle.std.specs.Prelude.{◌≡◌, ◌<◌, ◌≤◌, ◌+◌, All, [], Err, IfOk, Ok, OnErr, length, map};
 ghost use Rattle.mrp_book.specs.declared.refused.Refused.TheVariants as refused;
 ghost use Rattle.mrp_book.specs.History.{Fits};
 ghost use Rattle.mrp_master.specs.Supply.{supply_of};
 ghost use Rattle.mrp_tables.specs.declared.limits.TheConstants.{MOST_DESKS, MOST_ENTRIES};
 ghost use Rattle.mrp_desk.specs.Offices.{Desk, supply_at};
-ghost use Rattle.mrp_engine.specs.DeskCalls.{calls_at};
-ghost use Rattle.mrp_engine.specs.Desks.{AreDesksOf, EndAs, HasServed, HaveServed, IsDeskCount};
+ghost use Rattle.mrp_engine.specs.Desks.{AreDesksOf, EndAs, HaveServed, IsDeskCount};
 ghost use Rattle.mrp_engine.specs.RightDay.{AnswersDesks};
 ghost use Rattle.mrp_engine.specs.Script.{call_of, record_of, script_of, with_run};
 
-use crate::desk_calls::{calls_by_desk, list_of};
+use crate::desk_calls::calls_by_desk;
 use crate::script::{ADDED_DESK, has_run};
-use crate::serving::{Served, make, serve};
+use crate::serving::{Served, make};
+use crate::threads::serve_all;
 use mrp_bill::Shop;
 use mrp_book::{Call, History, Refused};
 use mrp_desk::{Desk, Office, OfficeFault};
@@ -22,9 +21,8 @@ use mrp_explode::Gate;
 use mrp_qty::NoMemory;
 use mrp_tables::ScriptRow;
 use mrp_tables::limits::MOST_DESKS;
-use std::alloc::{AllocError, Global};
+use std::alloc::Global;
 use std::sync::{Arc, Wait};
-use std::thread;
 use std::thread::Threads;
 
 // How many desks a script has: its greatest desk number, and at least the desk of an added run.
@@ -40,7 +38,7 @@ fn count_of(script: &[ScriptRow]) -> u64
     count
 }
 
-// An office of a shop, with a desk for each that its script has.
+// An office of a shop, with desks from 1 to the greatest number in its script.
 fn open(alloc: Global, shop: Shop) -> Result<(Office, Vec<Desk>), NoMemory>
     ensures shop { IfOk result (λ r. r.0.about.object ≡ shop) }
     ensures desks { IfOk result (λ r. AreDesksOf r.0 r.1.items) }
@@ -53,68 +51,6 @@ fn open(alloc: Global, shop: Shop) -> Result<(Office, Vec<Desk>), NoMemory>
         Err(OfficeFault::NoMemory) => Err(NoMemory),
         Err(OfficeFault::Desks) => unreachable!(),
     }
-}
-
-// Calls f with a job in a new thread, or last where none can be made, and g in this one.
-fn beside<
-    R: Threads,
-    J: Send + Drop,
-    X: Send,
-    Y,
-    F: FnOnce(J) -> X + Send + Drop,
-    G: FnOnce() -> Y,
->(rt: &R, job: J, f: F, g: G) -> (X, Y)
-    requires job { F.pre f job }
-    requires rest { G.pre g }
-    ensures job { F.post f job result.0 }
-    ensures rest { G.post g result.1 }
-{
-    let there = move || -> X
-        requires { F.pre f job }
-        ensures { F.post f job result }
-    { f(job) };
-    thread::join(rt, there, g)
-}
-
-// Has each desk make the calls of its list, in a thread of its own. Where one can't be started, this
-// thread makes the calls of that desk once the desks before it have ended.
-#[cycle(desks)]
-fn serve_all<R: Threads + Wait + Sync, G: Gate + Sync>(
-    rt: &R,
-    alloc: Global,
-    office: &Office,
-    lists: &[Vec<Call>],
-    gate: &G,
-    mut desks: Vec<Desk>,
-) -> Result<Vec<Served>, AllocError>
-    requires office { All (λ d. d.turn ≡ office.now) desks.items }
-    requires lists { All (λ d. (1 ≤ d.number) × (d.number ≤ length lists.now)) desks.items }
-    requires fits { (place : ℕ) → All (Fits (supply_at office.now)) (calls_at lists.now place) }
-    ensures count { IfOk result (λ all. vec_len all ≡ vec_len desks) }
-    ensures each { IfOk result (λ all. (k : ℕ) (d : Desk) (s : _) → k < vec_len desks
-        → HasServed (supply_at office.now) (calls_at lists.now ((slice_index_or desks.items k d).number - 1)) (slice_index_or desks.items k d)
-        (slice_index_or all.items k s).end (slice_index_or all.items k s).desk) }
-{
-    let Some(desk) = desks.pop() else {
-        return Ok(Vec::new(alloc));
-    };
-    let make_all = move |desk: Desk| -> Served
-        requires { (desk.turn ≡ office.now) × (1 ≤ desk.number) × (desk.number ≤ length lists.now)
-            × ((place : ℕ) → All (Fits (supply_at office.now)) (calls_at lists.now place)) }
-        ensures { HasServed (supply_at office.entry.now) (calls_at lists.entry.now (desk.number - 1)) desk result.end result.desk }
-    { serve(rt, office, list_of(lists, desk.number()), gate, desk) };
-    let others = move || -> Result<Vec<Served>, AllocError>
-        requires { IsSync R.row × IsSync G.row × All (λ d. d.turn ≡ office.now) desks.items
-            × All (λ d. (1 ≤ d.number) × (d.number ≤ length lists.now)) desks.items
-            × ((place : ℕ) → All (Fits (supply_at office.now)) (calls_at lists.now place)) }
-        ensures { IfOk result (λ all. (vec_len all ≡ vec_len desks) × ((k : ℕ) (d : Desk) (s : _) → k < vec_len desks
-            → HasServed (supply_at office.entry.now) (calls_at lists.entry.now ((slice_index_or desks.items k d).number - 1)) (slice_index_or desks.items k d)
-            (slice_index_or all.items k s).end (slice_index_or all.items k s).desk)) }
-    { serve_all(rt, alloc, office, lists, gate, desks) };
-    let (served, all) = beside(rt, desk, make_all, others);
-    let mut all = all?;
-    all.push(served)?;
-    Ok(all)
 }
 
 // The desks, and how their calls ended: as those of the first that was refused one.
@@ -196,8 +132,9 @@ fn close(office: Office, desks: Vec<Desk>, end: Result<(), Refused>) -> Result<H
 }
 
 /// The history that a shop's desks make, each in a thread of its own where one can be started: it
-/// makes the calls of its records in order and passes the gate before each, by its number. A script
-/// without a run is taken with one more call, a run of desk 1, after all others.
+/// makes the calls of its records in order and passes the gate before each, by its number. Desks
+/// without a thread make theirs in the caller's, one after the other, once all that have one have
+/// ended. A script without a run is taken with one more call, a run of desk 1, after all others.
 ///
 /// Errors: `NoMemory` where memory is refused.
 pub fn answer_by_desks<R: Threads + Wait + Sync, G: Gate + Sync>(

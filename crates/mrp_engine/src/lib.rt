@@ -18,6 +18,7 @@ mod script;
 mod serving;
 mod started;
 mod steps;
+mod threads;
 mod writing;
 
 pub use desks::answer_by_desks;

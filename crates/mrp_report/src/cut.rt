@@ -6,11 +6,8 @@ use crate::readings::Readings;
 use crate::section::Section;
 use mrp_bill::Shop;
 
-// About how many rows a chunk has: a megabyte of text, which is worth a thread.
-const ROWS: usize = 32_768;
-
-// About how many pegs of an item there are for a week, where items have many parents.
-const PEGS: usize = 16;
+// About how many rows a chunk has: some megabytes of text, beside which starting its thread is nothing.
+const ROWS: usize = 65_536;
 
 // The most pegs that a chunk may have: some 20 megabytes of text.
 const MOST_PEGS: usize = 524_288;
@@ -22,6 +19,12 @@ fn most_lines(shop: &Shop) -> usize {
         most = shop.lines_to(item).len().max(most);
     }
     most
+}
+
+// About how many pegs an item has for a week: one for each bill line that it is the component of, and one more.
+fn pegs_of_a_week(shop: &Shop) -> usize {
+    let tables = shop.tables();
+    tables.bills().len() / tables.items().len().max(1) + 1
 }
 
 // A section's rows, cut into chunks of so many places each. Where even a chunk of one place may have more rows than a
@@ -44,8 +47,12 @@ impl<'a> Chunks<'a> {
         let weeks = usize::from(inputs.weeks());
         let (rows, places) = match section {
             Section::Pegs => {
-                let most = most_lines(inputs.shop()).saturating_mul(weeks);
-                (weeks.saturating_mul(PEGS), MOST_PEGS / most.max(1))
+                let shop = inputs.shop();
+                let most = most_lines(shop).saturating_mul(weeks);
+                (
+                    weeks.saturating_mul(pegs_of_a_week(shop)),
+                    MOST_PEGS / most.max(1),
+                )
             }
             _ => (weeks, ROWS),
         };

@@ -1,0 +1,53 @@
+-- Work is taken from the front of a list, and what comes of it is put at the end of another.
+use Rattle.std.proofs.Common.{◌≡◌, ◌∙◌, ◌<◌, ◌≤◌, ◌+◌, ◌++◌, ℕ, List, [], ◌∷◌, length, get_or, ap, arith, inl, inr, refl, subst, sym}
+use Rattle.std.proofs.lemmas.Bool.{cases_lt}
+use Rattle.std.proofs.lemmas.List.{append-nil, append_assoc, get_or_append_left, get_or_push, length_push}
+
+-- some of the elements are done, the others are left; each that is done stands to what came of it as R says
+pub record AreDone {X Y : Type 0} (R : X → Y → Type 0) (all rest : List X) (ends : List Y) : Type 0 where
+  pub done : List X
+  pub left : all ≡ done ++ rest
+  pub count : length ends ≡ length done
+  pub each : (k : ℕ) (x : X) (y : Y) → k < length done → R (get_or done k x) (get_or ends k y)
+
+-- nothing is done yet
+pub none-done : {X Y : Type 0} (R : X → Y → Type 0) (all rest : List X) (ends : List Y) → rest ≡ all → ends ≡ [] → AreDone R all rest ends
+none-done R all rest ends same none = record { done = []; left = sym same; count = ap length none; each = λ k x y within. absurd (omega (arith, within)) }
+
+-- one more is done
+pub one-done : {X Y : Type 0} (R : X → Y → Type 0) (all rest left : List X) (ends now : List Y) (x : X) (y : Y) → AreDone R all rest ends → rest ≡ x ∷ left → now ≡ ends ++ y ∷ [] → R x y → AreDone R all left now
+one-done R all rest left ends now x y before is adds fits = record {
+  done = before.done ++ x ∷ [];
+  left = before.left ∙ ap (λ r. before.done ++ r) is ∙ sym (append_assoc before.done (x ∷ []) left);
+  count = ap length adds ∙ length_push ends y ∙ ap (λ n. n + 1) before.count ∙ sym (length_push before.done x);
+  each = λ k d e within. elim (cases_lt k (length before.done)) [
+    | inl below ↦
+        let same = before.count in
+        let one = get_or_append_left before.done (x ∷ []) d k below in
+        let other = ap (λ l. get_or l k e) adds ∙ get_or_append_left ends (y ∷ []) e k (omega (arith, below, same)) in
+        subst (λ b. R (get_or (before.done ++ x ∷ []) k d) b) (sym other) (subst (λ a. R a (get_or ends k e)) (sym one) (before.each k d e below))
+    | inr past ↦
+        let long = length_push before.done x in
+        let at : length before.done ≡ k = omega (arith, past, within, long) in
+        let one = get_or_push before.done x d k at in
+        let other = ap (λ l. get_or l k e) adds ∙ get_or_push ends y e k (before.count ∙ at) in
+        subst (λ b. R (get_or (before.done ++ x ∷ []) k d) b) (sym other) (subst (λ a. R a y) (sym one) fits)
+  ];
+}
+
+-- what was room for all that is left and done is so with one more done
+pub room-left : {X Y : Type 0} (rest left : List X) (ends now : List Y) (x : X) (y : Y) (room more : ℕ) → rest ≡ x ∷ left → now ≡ ends ++ y ∷ [] → more ≡ room → length rest + length ends ≤ room → length left + length now ≤ more
+room-left rest left ends now x y room more is adds same within =
+    let less = ap length is in
+    let longer = ap length adds ∙ length_push ends y in
+    omega (arith, less, longer, same, within)
+
+none-left : {X : Type 0} (rest : List X) → length rest ≡ 0 → rest ≡ []
+none-left [] none = refl
+none-left (x ∷ rest) none = absurd (omega (arith, none))
+
+-- all are done
+pub all-done : {X Y : Type 0} (R : X → Y → Type 0) (all rest : List X) (ends : List Y) → AreDone R all rest ends → length rest ≡ 0 → (length ends ≡ length all) × ((k : ℕ) (x : X) (y : Y) → k < length all → R (get_or all k x) (get_or ends k y))
+all-done R all rest ends before none =
+    let whole : before.done ≡ all = sym (before.left ∙ ap (λ r. before.done ++ r) (none-left rest none) ∙ append-nil before.done) in
+    (before.count ∙ ap length whole, subst (λ xs. (k : ℕ) (x : _) (y : _) → k < length xs → R (get_or xs k x) (get_or ends k y)) whole before.each)

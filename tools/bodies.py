@@ -1,0 +1,149 @@
+"""The functions of a crate and their bodies, as far as the layout that `rt fmt` gives tells them.
+
+tools/edits rests on it only for what it then tries: a text that comes out wrong is refused by the compiler's front."""
+
+import glob
+import os
+import re
+from dataclasses import dataclass
+
+HEAD = re.compile(r"( *)(?:pub(?:\([a-z]+\))? )?(?:unsafe )?fn (\w+)")
+OWNER = re.compile(r"(?:impl|(?:pub(?:\([a-z]+\))? )?trait)\b")
+
+
+@dataclass
+class Body:
+    """A function, by the numbers of its lines: the first of what stands right above its head, the head, the first of its
+    body and that behind its body; and the line that begins the block it stands in, or nothing."""
+
+    name: str
+    indent: str
+    first: int
+    head: int
+    begin: int
+    end: int
+    owner: str
+    above: str
+
+    def has_its_place(self):
+        """Whether its name or its place means something: a method of a trait, a member of a cycle of calls, `main`."""
+        is_of_trait = " for " in self.owner or re.search(r"\btrait\b", self.owner)
+        return bool(is_of_trait or "#[cycle" in self.above or self.name == "main")
+
+
+def bodies(lines):
+    """The functions with bodies in a file's lines."""
+    for at, line in enumerate(lines):
+        head = HEAD.match(line)
+        if not head:
+            continue
+        indent = head[1]
+        end = next((it for it in range(at, len(lines)) if lines[it] == f"{indent}}}"), at)
+        opens = re.compile(rf"{indent}(\S.* )?\{{$")
+        begin = next((it + 1 for it in range(at, end) if opens.match(lines[it])), end)
+        if begin >= end:
+            continue
+        first = at
+        while first and lines[first - 1].startswith(indent) and not re.match(r"\s*(\}|$)", lines[first - 1]):
+            first -= 1
+        owner = next((it for it in reversed(lines[:first]) if OWNER.match(it)), "") if indent else ""
+        yield Body(head[2], indent, first, at, begin, end, owner, "\n".join(lines[first:at]))
+
+
+def body_at(lines, number):
+    """The function in whose body this line lies, or None."""
+    return next((it for it in reversed([*bodies(lines)]) if it.begin <= number < it.end), None)
+
+
+# ---- the paths of functions, and which calls which
+
+ITEM = re.compile(r"(?m)^impl\b(.*)\{$|^(\}$)|^( {4})?(?:pub(?:\([a-z]+\))? )?(?:const )?(?:unsafe )?fn (\w+)")
+CALL = re.compile(r"(?:(\w+)::|(\.))?(\w+)\(")
+
+
+def module_of(file):
+    """The parts of the path below the crate of what a file of src/ has."""
+    parts = file.removesuffix(".rt").split("/")[1:]
+    return [] if parts in (["lib"], ["main"]) else parts
+
+
+def files_of(folder):
+    """The files of a crate's code, by their paths below its folder."""
+    return sorted(os.path.relpath(path, folder) for path in glob.glob(f"{folder}/src/**/*.rt", recursive=True))
+
+
+def owner_of(head):
+    """How the prover calls the block of an impl: its type's name, and behind it that of its trait."""
+    was = None
+    while was != head:
+        head, was = re.sub(r"<[^<>]*>", "", head), head
+    of, _, owner = re.sub(r" where .*", "", head).strip().rpartition(" for ")
+    return owner.rpartition("::")[2].strip() + of.rpartition("::")[2].strip()
+
+
+def texts_of_functions(crate):
+    """The functions of a crate's files, by their paths, and the text of each."""
+    for file in files_of(crate.folder):
+        parts, owner = [crate.name, *module_of(file)], ""
+        text = open(f"{crate.folder}/{file}", encoding="utf-8").read()
+        items = [*ITEM.finditer(text)]
+        for item, end in zip(items, [*(it.start() for it in items[1:]), len(text)]):
+            impl, _, indent, name = item.groups()
+            if name and bool(indent) == bool(owner):
+                yield "::".join([*parts, *([owner] if owner else []), name]), text[item.end() : end]
+            elif not name:
+                owner = owner_of(impl or "")
+
+
+def standing_on(crate):
+    """For each function those of its crate on which it stands: which it calls, or which these call, and so on."""
+    texts = dict(texts_of_functions(crate))
+    named = {}
+    for path in texts:
+        named.setdefault(path.rpartition("::")[2], []).append(path)
+    calls = {}
+    for path, text in texts.items():
+        owner = path.split("::")[-2]
+        found = {(owner if of == "Self" else of, dot, name) for of, dot, name in CALL.findall(text)}
+        calls[path] = {
+            other
+            for of, dot, name in found
+            for other in named.get(name, ())
+            if other != path and (other.split("::")[-2].startswith(of) if of else bool(dot) == other.split("::")[-2][:1].isupper())
+        }
+    return {path: found_below(path, calls) for path in texts}
+
+
+def found_below(name, calls):
+    """The functions that this one calls, and that those call, and so on."""
+    found, left = set(), [name]
+    while left:
+        more = calls.get(left.pop(), set()) - found
+        found |= more
+        left += more
+    return found
+
+
+# ---- functions without their bodies
+
+def path_of(file, text, body):
+    """The parts of a function's path below the crate, where its place tells them, or None."""
+    if not body.indent:
+        return [*module_of(file), body.name]
+    is_generic, owner = body.owner.startswith("impl<"), owner_of(body.owner.removeprefix("impl").rstrip(" {"))
+    is_here = re.search(rf"(?m)^(pub(\([a-z]+\))? )?(struct|enum) {re.escape(owner)}\b", text)
+    # (the methods for one argument of a type alone have another path)
+    if not body.owner.startswith("impl") or not is_here or "<" in body.owner and not is_generic and not "<'" in body.owner:
+        return None
+    return [*module_of(file), owner, body.name]
+
+
+def emptied(file, text, spares):
+    """A file's text with no bodies but of those functions that are spared, and the paths of the functions that have none."""
+    lines, paths = text.split("\n"), []
+    for body in reversed([*bodies(lines)]):
+        path = None if body.has_its_place() or spares(body) else path_of(file, text, body)
+        if path:
+            lines[body.begin : body.end] = [f"{body.indent}    loop {{}}"]
+            paths.append(path)
+    return "\n".join(lines), paths
