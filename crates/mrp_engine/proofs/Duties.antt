@@ -7,12 +7,11 @@ use Rattle.std.specs.Global.{Vec}
 use Rattle.mrp_bill.specs.Shop.{Shop}
 use Rattle.mrp_turn.specs.Seen.{TurnId}
 use Rattle.mrp_book.specs.declared.call.Call.{Call}
-use Rattle.mrp_desk.specs.Offices.{Desk, supply_at}
+use Rattle.mrp_desk.specs.Offices.{Desk}
 use Rattle.mrp_engine.specs.declared.serving.Served.{Served}
 use Rattle.mrp_engine.specs.declared.threads.Duty.{Duty}
 use Rattle.mrp_engine.specs.DeskCalls.{calls_at}
-use Rattle.mrp_engine.specs.Desks.{HasServed}
-use Rattle.mrp_engine.specs.Begun.{EndsAs, GivesWhat, IsDone}
+use Rattle.mrp_engine.specs.Begun.{EndsAs, GivesWhat, IsDone, Serves}
 
 -- an element of a list that has a place
 pub some-of : {X : Type 0} (xs : List X) (k : ℕ) → k < length xs → X
@@ -20,10 +19,6 @@ some-of [] k within = absurd (omega (arith, within))
 some-of (x ∷ xs) k within = x
 
 module _ (office : TurnId Shop) (lists : List (Vec Call)) where
-  -- a desk has made the calls of its list, or was refused one of them
-  abbrev pub Serves : Desk → Served → Type 0
-  Serves d s = HasServed (supply_at office) (calls_at lists (d.number - 1)) d {U = Unit {0}} s.end s.desk
-
   -- work is a desk's: its office, the calls of its list, and the desk
   abbrev pub IsWorkOf : {R G : Type 0} → Desk → Bor R × Bor (TurnId Shop) × Bor (List Call) × Bor G × Desk → Type 0
   IsWorkOf d work = (work.1.now ≡ office) × (work.2.now ≡ calls_at lists (d.number - 1)) × (work.4 ≡ d)
@@ -31,12 +26,12 @@ module _ (office : TurnId Shop) (lists : List (Vec Call)) where
   module _ {F : Type 0} (IsOf : Desk → F → Type 0) where
     -- the work of a desk is begun: its thread promises it, or it is left
     abbrev pub IsBegun : Desk → Result (PromisedHandle Served Duty) (SpawnError F) → Type 0
-    IsBegun d (Ok handle) = (s : Served) → IsDone handle.promise s → Serves d s
+    IsBegun d (Ok handle) = (s : Served) → IsDone handle.promise s → Serves office lists d s
     IsBegun d (Err left) = IsOf d left.value
 
     -- it is begun as what was asked for tells
     pub begun-as : (d : Desk) (b : Result (PromisedHandle Served Duty) (SpawnError F)) (duty : Duty) (work : F) → IfOk b (λ handle. handle.promise ≡ duty) → IfErr b (λ left. left.value ≡ work)
-        → ((s : Served) → IsDone duty s → Serves d s) → IsOf d work → IsBegun d b
+        → ((s : Served) → IsDone duty s → Serves office lists d s) → IsOf d work → IsBegun d b
     begun-as d (Ok handle) duty work promised back does is = λ s done. does s (subst (λ (p : Duty). IsDone p s) promised done)
     begun-as d (Err left) duty work promised back does is = subst (IsOf d) (sym back) is
 
@@ -49,7 +44,7 @@ module _ (office : TurnId Shop) (lists : List (Vec Call)) where
 
     -- what comes of it serves the desk
     pub serves-all : (Gives : F → Served → Type 0) (d : Desk) (b : Result (PromisedHandle Served Duty) (SpawnError F)) (e : Result Served (SpawnError F)) (s : Served) → IsBegun d b → EndsAs b e
-        → GivesWhat Gives e s → ((work : F) → IsOf d work → Gives work s → Serves d s) → Serves d s
-    serves-all Gives d (Ok handle) (Ok done) s begun ends gives does = subst (Serves d) (sym gives) (begun done ends)
+        → GivesWhat Gives e s → ((work : F) → IsOf d work → Gives work s → Serves office lists d s) → Serves office lists d s
+    serves-all Gives d (Ok handle) (Ok done) s begun ends gives does = subst (Serves office lists d) (sym gives) (begun done ends)
     serves-all Gives d (Ok handle) (Err left) s begun ends gives does = absurd ends
     serves-all Gives d (Err left) e s begun ends gives does = does left.value begun (subst (λ x. GivesWhat Gives x s) ends gives)

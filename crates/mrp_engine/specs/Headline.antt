@@ -89,7 +89,7 @@ pub record Headline (tables : Tables) (steps : List Step) : Type 0 where
       → IsPlannable (run_inputs (core_of tables steps) run) × (bytes.items ≡ report_text (run_inputs (core_of tables steps) run))
   pub refused : (before : List Step) (run : ℕ) (name : List ℕ) → WasAnswered steps before (event.Write run) (answer.TooLarge name)
       → IsRefusedBy (run_inputs (core_of tables steps) run) name
-  -- the log of each run's board is legal: an item is handed out where its parents are stored, and stored by the worker that holds it
+  -- the log of each run's board is legal: an item is handed out where its parents are stored, and stored by the worker that it was handed to
   pub boards : (run : ℕ) → IsStarted (core_of tables steps) run → IsLegalBoard (run_inputs (core_of tables steps) run) (log_at (core_of tables steps) run)
   -- no accepted booking exceeded what was then available to promise
   pub within : (before after : History) (desk number : ℕ) (l : Line)

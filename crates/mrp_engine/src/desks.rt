@@ -134,7 +134,8 @@ fn close(office: Office, desks: Vec<Desk>, end: Result<(), Refused>) -> Result<H
 /// The history that a shop's desks make, each in a thread of its own where one can be started: it
 /// makes the calls of its records in order and passes the gate before each, by its number. Desks
 /// without a thread make theirs in the caller's, one after the other, once all that have one have
-/// ended. A script without a run is taken with one more call, a run of desk 1, after all others.
+/// ended. A script without a run is taken with one more call, a run of desk 1, after all others,
+/// which passes no gate.
 ///
 /// Errors: `NoMemory` where memory is refused.
 pub fn answer_by_desks<R: Threads + Wait + Sync, G: Gate + Sync>(

@@ -1,11 +1,10 @@
 //! Desks that make their calls beside one another, each in a thread of its own where one can be started.
 
-ghost use Rattle.std.specs.Prelude.{◌≡◌, ◌<◌, ◌≤◌, ◌-◌, All, [], ℕ, IfErr, IfOk, length, slice_index_or, vec_capacity, vec_len};
+ghost use Rattle.std.specs.Prelude.{◌≡◌, ◌<◌, ◌≤◌, All, [], ℕ, IfErr, IfOk, length, slice_index_or, vec_capacity};
 ghost use Rattle.mrp_book.specs.History.{Fits};
-ghost use Rattle.mrp_desk.specs.Offices.{Desk, supply_at};
-ghost use Rattle.mrp_engine.specs.DeskCalls.{calls_at};
+ghost use Rattle.mrp_desk.specs.Offices.{supply_at};
 ghost use Rattle.mrp_engine.specs.Desks.{HasServed};
-ghost use Rattle.mrp_engine.specs.Begun.{EndsAs, GivesWhat};
+ghost use Rattle.mrp_engine.specs.Begun.{EachServes, EndsAs, GivesWhat, HaveLists};
 
 use crate::desk_calls::list_of;
 use crate::serving::{Served, serve};
@@ -85,13 +84,8 @@ fn serve_in<'a, E, R: Threads + Wait + Sync, G: Gate + Sync>(
     gate: &'a G,
     desks: Vec<Desk>,
 ) -> Result<Vec<Served>, AllocError>
-    requires office { All (λ d. d.turn ≡ office.now) desks.items }
-    requires lists { All (λ d. (1 ≤ d.number) × (d.number ≤ length lists.now)) desks.items }
-    requires fits { (place : ℕ) → All (Fits (supply_at office.now)) (calls_at lists.now place) }
-    ensures count { IfOk result (λ all. vec_len all ≡ vec_len desks) }
-    ensures each { IfOk result (λ all. (k : ℕ) (d : Desk) (s : _) → k < vec_len desks
-        → HasServed (supply_at office.now) (calls_at lists.now ((slice_index_or desks.items k d).number - 1)) (slice_index_or desks.items k d)
-        (slice_index_or all.items k s).end (slice_index_or all.items k s).desk) }
+    requires lists { HaveLists office.now lists.now desks.items }
+    ensures served { IfOk result (λ all. EachServes office.now lists.now desks.items all.items) }
 {
     let mut begun = Vec::with_capacity(alloc, desks.len())?;
     let ended = Vec::with_capacity(alloc, desks.len())?;
@@ -125,24 +119,15 @@ pub fn serve_all<'a, R: Threads + Wait + Sync, G: Gate + Sync>(
     gate: &'a G,
     desks: Vec<Desk>,
 ) -> Result<Vec<Served>, AllocError>
-    requires office { All (λ d. d.turn ≡ office.now) desks.items }
-    requires lists { All (λ d. (1 ≤ d.number) × (d.number ≤ length lists.now)) desks.items }
-    requires fits { (place : ℕ) → All (Fits (supply_at office.now)) (calls_at lists.now place) }
-    ensures count { IfOk result (λ all. vec_len all ≡ vec_len desks) }
-    ensures each { IfOk result (λ all. (k : ℕ) (d : Desk) (s : _) → k < vec_len desks
-        → HasServed (supply_at office.now) (calls_at lists.now ((slice_index_or desks.items k d).number - 1)) (slice_index_or desks.items k d)
-        (slice_index_or all.items k s).end (slice_index_or all.items k s).desk) }
+    requires lists { HaveLists office.now lists.now desks.items }
+    ensures served { IfOk result (λ all. EachServes office.now lists.now desks.items all.items) }
 {
     thread::scope(
         thread::scope_env(),
         rt,
         move |scope| -> Result<Vec<Served>, AllocError>
-            requires { All (λ d. d.turn ≡ office.now) desks.items
-                × All (λ d. (1 ≤ d.number) × (d.number ≤ length lists.now)) desks.items
-                × ((place : ℕ) → All (Fits (supply_at office.now)) (calls_at lists.now place)) }
-            ensures { IfOk result (λ all. (vec_len all ≡ vec_len desks) × ((k : ℕ) (d : Desk) (s : _) → k < vec_len desks
-                → HasServed (supply_at office.entry.now) (calls_at lists.entry.now ((slice_index_or desks.items k d).number - 1)) (slice_index_or desks.items k d)
-                (slice_index_or all.items k s).end (slice_index_or all.items k s).desk)) }
+            requires { HaveLists office.now lists.now desks.items }
+            ensures { IfOk result (λ all. EachServes office.entry.now lists.entry.now desks.items all.items) }
         { serve_in(scope, rt, alloc, office, lists, gate, desks) },
     )
 }

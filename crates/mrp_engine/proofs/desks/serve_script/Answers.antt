@@ -16,30 +16,31 @@ calls_by_desk-requires g c = λ k d within.
     let most = c.requires.count.all k d within in
     (c.requires.rows k d within, omega (arith, count, most, c.args.desks.ok.0))
 
-pub serve_all-requires-clause-lists : goal.serve_all-requires-clause-lists
-serve_all-requires-clause-lists g c = λ κs alive k d within.
-    let number = c.requires.desks.numbers k d within in
+pub serve_all-requires : goal.serve_all-requires
+serve_all-requires g c = λ κs alive.
+    let supply = supply_at c.args.office.now in
     let long : length c.as_slice.result.now ≡ length c.in_ok-lists.lists.items = ap (length {A = Vec Call Global}) c.as_slice.ensures.value in
     let size = c.in_ok-lists.ensures.size in
-    let count = c.len.ensures in
-    (omega (arith, number), omega (arith, number, within, long, size, count, c.args.desks.ok.0))
-
-pub serve_all-requires-clause-fits : goal.serve_all-requires-clause-fits
-serve_all-requires-clause-fits g c = λ κs alive place.
-    let supply = supply_at c.args.office.now in
-    subst (λ (lists : List (Vec Call Global)). All (Fits supply) (calls_at lists place)) (sym c.as_slice.ensures.value)
-    (lists-fit supply c.args.script.now c.in_ok-lists.lists.items c.in_ok-lists.ensures.calls c.requires.fits place)
+    let count = c.len.ensures in record {
+      office = c.requires.desks.of_office;
+      lists = λ k d within.
+        let number = c.requires.desks.numbers k d within in
+        (omega (arith, number), omega (arith, number, within, long, size, count, c.args.desks.ok.0));
+      fits = λ place.
+        subst (λ (lists : List (Vec Call Global)). All (Fits supply) (calls_at lists place)) (sym c.as_slice.ensures.value)
+        (lists-fit supply c.args.script.now c.in_ok-lists.lists.items c.in_ok-lists.ensures.calls c.requires.fits place);
+    }
 
 pub returns-clause-desks : goal.returns-clause-desks
 returns-clause-desks g c =
     let records = map record_of c.args.script.now in
     let desks = c.args.desks.items in
     let all = c.in_ok-all.all.items in
-    let count = c.in_ok-all.ensures.count in
+    let served = c.in_ok-all.ensures in
     let calls = subst (AreCallsOf records) (sym c.as_slice.ensures.value) c.in_ok-lists.ensures.calls in
-    if-parted-desks c.args.office.now records desks all c.requires.desks c.requires.new (omega (arith, count, c.args.desks.ok.0, c.in_ok-all.all.ok.0))
+    if-parted-desks c.args.office.now records desks all c.requires.desks c.requires.new served.count
     (followed-each c.args.office.now (supply_at c.args.office.now) records c.as_slice.result.now desks all c.requires.desks calls
-    (λ k d s within. c.in_ok-all.ensures.each k d s (omega (arith, within, c.args.desks.ok.0))))
+    served.each)
     c.parted.result c.parted.ensures.desks
 
 pub returns-clause-served : goal.returns-clause-served
@@ -47,9 +48,9 @@ returns-clause-served g c =
     let records = map record_of c.args.script.now in
     let desks = c.args.desks.items in
     let all = c.in_ok-all.all.items in
-    let count = c.in_ok-all.ensures.count in
+    let served = c.in_ok-all.ensures in
     let calls = subst (AreCallsOf records) (sym c.as_slice.ensures.value) c.in_ok-lists.ensures.calls in
-    if-parted-served c.args.office.now records desks all c.requires.desks c.requires.new (omega (arith, count, c.args.desks.ok.0, c.in_ok-all.all.ok.0))
+    if-parted-served c.args.office.now records desks all c.requires.desks c.requires.new served.count
     (followed-each c.args.office.now (supply_at c.args.office.now) records c.as_slice.result.now desks all c.requires.desks calls
-    (λ k d s within. c.in_ok-all.ensures.each k d s (omega (arith, within, c.args.desks.ok.0))))
+    served.each)
     c.parted.result c.parted.ensures.desks c.parted.ensures.end

@@ -56,12 +56,12 @@ do_left-requires-clause-left g c k e within =
     let at = slice_index_or desks k d in
     left-can office lists (IsWorkOf office lists) _ at (slice_index_or c.loop-desk.begun.items k b) (slice_index_or c.join_all.result.items k e)
     (begun.1 k d b here) (c.join_all.ensures.each k b e low) (λ work of. (
-      ap (λ (x : Desk). x.turn) of.2 ∙ c.requires.office k d here ∙ sym of.0,
-      subst (λ o. All (Fits (supply_at o)) work.2.now) (sym of.0) (subst (λ (xs : List Call). All (Fits (supply_at office)) xs) (sym of.1) (c.requires.fits (at.number - 1))),
+      ap (λ (x : Desk). x.turn) of.2 ∙ c.requires.lists.office k d here ∙ sym of.0,
+      subst (λ o. All (Fits (supply_at o)) work.2.now) (sym of.0) (subst (λ (xs : List Call). All (Fits (supply_at office)) xs) (sym of.1) (c.requires.lists.fits (at.number - 1))),
     ))
 
-pub returns-clause-each : goal.returns-clause-each
-returns-clause-each g c k d s within =
+pub returns-clause-served : goal.returns-clause-served
+returns-clause-served g c =
     let office = c.args.office.now in
     let lists = c.args.lists.now in
     let desks = c.args.desks.items in
@@ -70,28 +70,19 @@ returns-clause-each g c k d s within =
     let begun = all-done (IsBegun office lists (IsWorkOf office lists)) desks rest.items c.loop-desk.begun.items c.loop-desk.invariant.0 (omega (arith, none, rest.ok.0)) in
     let count = begun.0 in
     let ended = c.join_all.ensures.count in
-    let here : k < length desks = omega (arith, within, c.args.desks.ok.0) in
-    let low : k < length c.loop-desk.begun.items = omega (arith, here, count) in
-    let b = some-of c.loop-desk.begun.items k low in
-    let e = some-of c.join_all.result.items k (omega (arith, low, ended)) in
-    let at = slice_index_or desks k d in
-    let served = slice_index_or c.do_left.result.items k s in
-    serves-all office lists (IsWorkOf office lists) _ at (slice_index_or c.loop-desk.begun.items k b) (slice_index_or c.join_all.result.items k e) served
-    (begun.1 k d b here) (c.join_all.ensures.each k b e low) (c.do_left.ensures.each k e s (omega (arith, low, ended)))
-    (λ work of gives.
-    let own : HasServed (supply_at work.1.now) work.2.now work.4 {U = Unit {0}} served.end served.desk = search rules in
-    let at_office = subst (λ o. HasServed (supply_at o) work.2.now work.4 {U = Unit {0}} served.end served.desk) of.0 own in
-    let of_list = subst (λ (xs : List Call). HasServed (supply_at office) xs work.4 {U = Unit {0}} served.end served.desk) of.1 at_office in
-    subst (λ (x : Desk). HasServed (supply_at office) (calls_at lists (at.number - 1)) x {U = Unit {0}} served.end served.desk) of.2 of_list)
-
-pub returns-clause-count : goal.returns-clause-count
-returns-clause-count g c =
-    let office = c.args.office.now in
-    let lists = c.args.lists.now in
-    let rest = c.loop-desk.desk-iterator.rest in
-    let none = c.in-None.ensures.steps.0 in
-    let begun = all-done (IsBegun office lists (IsWorkOf office lists)) c.args.desks.items rest.items c.loop-desk.begun.items c.loop-desk.invariant.0 (omega (arith, none, rest.ok.0)) in
-    let count = begun.0 in
-    let ended = c.join_all.ensures.count in
-    let done = c.do_left.ensures.count in
-    omega (arith, count, ended, done, c.args.desks.ok.0, c.do_left.result.ok.0)
+    let done = c.do_left.ensures.count in record {
+      count = omega (arith, count, ended, done);
+      each = λ k d s here.
+        let low : k < length c.loop-desk.begun.items = omega (arith, here, count) in
+        let b = some-of c.loop-desk.begun.items k low in
+        let e = some-of c.join_all.result.items k (omega (arith, low, ended)) in
+        let at = slice_index_or desks k d in
+        let served = slice_index_or c.do_left.result.items k s in
+        serves-all office lists (IsWorkOf office lists) _ at (slice_index_or c.loop-desk.begun.items k b) (slice_index_or c.join_all.result.items k e) served
+        (begun.1 k d b here) (c.join_all.ensures.each k b e low) (c.do_left.ensures.each k e s (omega (arith, low, ended)))
+        (λ work of gives.
+        let own : HasServed (supply_at work.1.now) work.2.now work.4 {U = Unit {0}} served.end served.desk = search rules in
+        let at_office = subst (λ o. HasServed (supply_at o) work.2.now work.4 {U = Unit {0}} served.end served.desk) of.0 own in
+        let of_list = subst (λ (xs : List Call). HasServed (supply_at office) xs work.4 {U = Unit {0}} served.end served.desk) of.1 at_office in
+        subst (λ (x : Desk). HasServed (supply_at office) (calls_at lists (at.number - 1)) x {U = Unit {0}} served.end served.desk) of.2 of_list);
+    }
