@@ -4,11 +4,11 @@ ghost use Rattle.std.specs.Prelude.{◌≡◌, ◌↔◌, IsTrue, IsNone, string
 
 use std::alloc::{AllocError, Global};
 
-/// How a run ends: its exit status, the day that it writes, and the words of its error stream.
+/// How a run ends: its exit status, what it writes, and the words of its error stream.
 #[derive(Drop)]
 pub struct Ending {
     pub status: u8,
-    pub day: String,
+    pub output: String,
     pub words: String,
 }
 
@@ -73,28 +73,28 @@ impl Ending {
     /// Whether a run has ended exactly as it is wanted to.
     pub fn is(&self, wanted: &Ending) -> bool
         ensures { IsTrue result ↔ (self.now.status ≡ wanted.now.status)
-            × (string_bytes self.now.day ≡ string_bytes wanted.now.day)
+            × (string_bytes self.now.output ≡ string_bytes wanted.now.output)
             × (string_bytes self.now.words ≡ string_bytes wanted.now.words) }
     {
-        self.status == wanted.status && self.day == wanted.day && self.words == wanted.words
+        self.status == wanted.status && self.output == wanted.output && self.words == wanted.words
     }
 
     /// Whether desks that make their calls beside one another can end in no other way: one made all
     /// calls, or the bundle has a fault.
     pub fn is_of_any_order(&self) -> bool {
         match self.status {
-            0 => is_of_one_desk(&self.day),
+            0 => is_of_one_desk(&self.output),
             _ => self.words.as_str().starts_with("refused: "),
         }
     }
 
-    /// Tells what is other than it is wanted: the status, and the first other line of the day and of the words.
+    /// Tells what is other than it is wanted: the status, and the first other line of the output and of the words.
     pub fn told_beside(&self, alloc: Global, wanted: &Ending) -> Result<String, AllocError> {
         let mut told = String::new(alloc);
         if self.status != wanted.status {
             write!(told, "; status {}, and not {}", self.status, wanted.status)?;
         }
-        tell_line(&mut told, "day", &self.day, &wanted.day)?;
+        tell_line(&mut told, "output", &self.output, &wanted.output)?;
         tell_line(&mut told, "words", &self.words, &wanted.words)?;
         Ok(told)
     }

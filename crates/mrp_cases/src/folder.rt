@@ -1,6 +1,7 @@
 //! The folder of cases that the program is run in: of each case the file NAME.bundle, or the folder
 //! NAME.files with its tables, and beside it either NAME.day, the day that planning it writes, or
-//! NAME.said, the words with which it is refused.
+//! NAME.said, the words with which it is refused; and of each day that is drawn the file NAME.drawn,
+//! and beside it NAME.html, its page.
 
 use crate::ending::Ending;
 use std::alloc::Global;
@@ -13,21 +14,26 @@ pub const FILES: &str = ".files";
 
 const BUNDLE: &str = ".bundle";
 
+const DRAWN: &str = ".drawn";
+
+// The ends of the names of what stands beside a case, or a day that is drawn.
+const ANSWERS: [&str; 3] = [".day", ".said", ".html"];
+
 /// What stands in the folder.
 #[derive(Drop)]
 pub struct Folder {
     /// The names of the cases, in order.
     pub cases: Vec<String>,
-    /// How many days and refusals there are.
+    /// The names of the days that are drawn, in order.
+    pub drawn: Vec<String>,
+    /// How many days, refusals and pages there are.
     pub answers: usize,
 }
 
-// Adds the case that a file or a folder of this name is of, if there is one.
-fn add_case(alloc: Global, cases: &mut Vec<String>, file: &str) -> io::Result<()> {
-    for end in [BUNDLE, FILES] {
-        if let Some(name) = file.strip_suffix(end) {
-            cases.push(String::from_str(alloc, name)?)?;
-        }
+// Adds the name of a file or a folder, without its end, where it has that end.
+fn add_named(alloc: Global, names: &mut Vec<String>, file: &str, end: &str) -> io::Result<()> {
+    if let Some(name) = file.strip_suffix(end) {
+        names.push(String::from_str(alloc, name)?)?;
     }
     Ok(())
 }
@@ -35,18 +41,27 @@ fn add_case(alloc: Global, cases: &mut Vec<String>, file: &str) -> io::Result<()
 impl Folder {
     /// Reads the folder.
     pub fn read<R: Files + AllocGlobal + Clone + Drop>(rt: &R) -> io::Result<Folder> {
-        let mut cases = Vec::new(rt.alloc());
+        let alloc = rt.alloc();
+        let mut cases = Vec::new(alloc);
+        let mut drawn = Vec::new(alloc);
         let mut answers = 0usize;
         for entry in fs::read_dir(rt, ".")? {
             let entry = entry?;
             let file = entry.file_name();
-            add_case(rt.alloc(), &mut cases, file)?;
-            if file.ends_with(".day") || file.ends_with(".said") {
+            add_named(alloc, &mut cases, file, BUNDLE)?;
+            add_named(alloc, &mut cases, file, FILES)?;
+            add_named(alloc, &mut drawn, file, DRAWN)?;
+            if ANSWERS.iter().any(|end| file.ends_with(*end)) {
                 answers = answers.saturating_add(1);
             }
         }
         cases.sort()?;
-        Ok(Folder { cases, answers })
+        drawn.sort()?;
+        Ok(Folder {
+            cases,
+            drawn,
+            answers,
+        })
     }
 }
 
@@ -74,10 +89,10 @@ fn answer_of<R: Files + AllocGlobal>(rt: &R, name: &str, kind: &str) -> io::Resu
 /// has neither.
 pub fn wanted_of<R: Files + AllocGlobal>(rt: &R, name: &str) -> io::Result<Option<Ending>> {
     let nothing = String::new(rt.alloc());
-    if let Some(day) = answer_of(rt, name, "day")? {
+    if let Some(output) = answer_of(rt, name, "day")? {
         return Ok(Some(Ending {
             status: 0,
-            day,
+            output,
             words: nothing,
         }));
     }
@@ -86,7 +101,22 @@ pub fn wanted_of<R: Files + AllocGlobal>(rt: &R, name: &str) -> io::Result<Optio
     };
     Ok(Some(Ending {
         status: 1,
-        day: nothing,
+        output: nothing,
         words,
+    }))
+}
+
+/// A day that is drawn.
+pub fn drawn_day<R: Files + AllocGlobal>(rt: &R, name: &str) -> io::Result<Vec<u8>> {
+    let file = format!(in rt.alloc(); "{name}{DRAWN}")?;
+    fs::read(rt, &file)
+}
+
+/// How drawing a day has to end: its page is written. None where it has no page.
+pub fn wanted_page<R: Files + AllocGlobal>(rt: &R, name: &str) -> io::Result<Option<Ending>> {
+    Ok(answer_of(rt, name, "html")?.map(|output| Ending {
+        status: 0,
+        output,
+        words: String::new(rt.alloc()),
     }))
 }

@@ -1,14 +1,15 @@
 //! Plans each bundle and each folder of tables of the folder that it is run in, as `mrp plan` does, and as
 //! `mrp live` does where that can end in one way alone. Tells of each that does not end as the file beside it
 //! says: with its day written, or refused with its words. Each day that is made is checked beside its tables
-//! too, and has to be found right.
+//! too, and has to be found right. Draws each day that is to be drawn, as `mrp page` does, and compares it
+//! with the page beside it.
 #![tactic(auto)]
 
 mod ending;
 mod folder;
 
 use self::ending::Ending;
-use self::folder::{FILES, Folder, bundle_of, wanted_of};
+use self::folder::{FILES, Folder, bundle_of, drawn_day, wanted_of, wanted_page};
 use mrp_audit::check;
 use mrp_main::run_words;
 use mrp_rows::Told;
@@ -43,7 +44,7 @@ fn ended(
     let status = run_words(rt, alloc, words, &mut input, &mut output, &mut errors);
     Ok(Ending {
         status,
-        day: text_of(output.into_inner())?,
+        output: text_of(output.into_inner())?,
         words: text_of(errors.into_inner())?,
     })
 }
@@ -61,14 +62,14 @@ fn ended_by<R: Files + AllocGlobal + Threads + Wait + Sync>(
     ended(rt, rt.alloc(), &[command, "--dir", folder.as_str()], b"")
 }
 
-// Whether a command ends over a case as it must. Where it does not, a line tells how it ended.
-fn is_right_by<R: Files + AllocGlobal + Print + Threads + Wait + Sync>(
+// Whether a command has ended over a case as it must. Where it has not, a line tells how it ended.
+fn is_as_wanted<R: AllocGlobal + Print>(
     rt: &R,
     command: &str,
     name: &str,
+    ended: &Ending,
     wanted: &Ending,
 ) -> io::Result<bool> {
-    let ended = ended_by(rt, command, name)?;
     if ended.is(wanted) {
         return Ok(true);
     }
@@ -91,7 +92,7 @@ fn said_of<R: Files + AllocGlobal + Threads + Wait + Sync>(
     }
     let folder = format!(in rt.alloc(); "{name}{FILES}")?;
     let words = ["check", "--dir", folder.as_str()];
-    Ok(ended(rt, rt.alloc(), &words, day.as_bytes())?.day)
+    Ok(ended(rt, rt.alloc(), &words, day.as_bytes())?.output)
 }
 
 // Whether a case's day is found right, if it has one. Where it is not, a line tells what is said of it.
@@ -103,7 +104,7 @@ fn is_found_right<R: Files + AllocGlobal + Print + Threads + Wait + Sync>(
     if wanted.status > 0 {
         return Ok(true);
     }
-    let said = said_of(rt, name, &wanted.day)?;
+    let said = said_of(rt, name, &wanted.output)?;
     if said.as_str() == RIGHT {
         return Ok(true);
     }
@@ -130,17 +131,47 @@ fn compare<R: Files + AllocGlobal + Print + Threads + Wait + Sync>(
         println!(rt; "{name} is not as it must be; no day and no words stand beside it")?;
         return Ok(Verdict::Wrong);
     };
-    if !is_right_by(rt, "plan", name, &wanted)? || !is_found_right(rt, name, &wanted)? {
+    let planned = ended_by(rt, "plan", name)?;
+    if !is_as_wanted(rt, "plan", name, &planned, &wanted)? || !is_found_right(rt, name, &wanted)? {
         return Ok(Verdict::Wrong);
     }
     if !wanted.is_of_any_order() {
         return Ok(Verdict::Planned);
     }
-    if is_right_by(rt, "live", name, &wanted)? {
+    let lived = ended_by(rt, "live", name)?;
+    if is_as_wanted(rt, "live", name, &lived, &wanted)? {
         Ok(Verdict::Live)
     } else {
         Ok(Verdict::Wrong)
     }
+}
+
+// Whether the page of a day is the one that stands beside it.
+fn is_drawn_right<R: Files + AllocGlobal + Print + Threads + Wait + Sync>(
+    rt: &R,
+    name: &str,
+) -> io::Result<bool> {
+    let Some(wanted) = wanted_page(rt, name)? else {
+        println!(rt; "{name} is not as it must be; no page stands beside it")?;
+        return Ok(false);
+    };
+    let day = drawn_day(rt, name)?;
+    let drawn = ended(rt, rt.alloc(), &["page", "--title", name], &day)?;
+    is_as_wanted(rt, "page", name, &drawn, &wanted)
+}
+
+// How many of the pages are not as they must be.
+fn count_wrong_pages<R: Files + AllocGlobal + Print + Threads + Wait + Sync>(
+    rt: &R,
+    names: &[String],
+) -> io::Result<usize> {
+    let mut wrong = 0usize;
+    for name in names {
+        if !is_drawn_right(rt, name)? {
+            wrong = wrong.saturating_add(1);
+        }
+    }
+    Ok(wrong)
 }
 
 // How many of the cases do not end as they must, and how many were made live as well.
@@ -171,22 +202,33 @@ fn count_verdicts<R: Files + AllocGlobal + Print + Threads + Wait + Sync>(
 fn are_right<R: Files + AllocGlobal + Print + Threads + Wait + Sync + Clone + Drop>(
     rt: &R,
 ) -> io::Result<bool> {
-    let Folder { cases, answers } = Folder::read(rt)?;
-    let count = cases.len();
+    let Folder {
+        cases,
+        drawn,
+        answers,
+    } = Folder::read(rt)?;
+    let (count, pages) = (cases.len(), drawn.len());
     if count == 0 {
         println!(rt; "no case is in this folder")?;
         return Ok(false);
     }
     let (wrong, live) = count_verdicts(rt, &cases)?;
-    if wrong > 0 {
-        println!(rt; "{wrong} of {count} cases are not as they must be")?;
+    let wrong_pages = count_wrong_pages(rt, &drawn)?;
+    if wrong > 0 || wrong_pages > 0 {
+        println!(rt;
+            "{wrong} of {count} cases and {wrong_pages} of {pages} pages are not as they must be"
+        )?;
         return Ok(false);
     }
-    if answers != count {
-        println!(rt; "{answers} days and refusals for {count} cases")?;
+    if answers != count.saturating_add(pages) {
+        println!(rt;
+            "{answers} days, refusals and pages for {count} cases and {pages} days that are drawn"
+        )?;
         return Ok(false);
     }
-    println!(rt; "{count} cases as they must be, {live} of them as live days too")?;
+    println!(rt;
+        "{count} cases as they must be, {live} of them as live days too, and {pages} pages"
+    )?;
     Ok(true)
 }
 

@@ -24,11 +24,11 @@ serve_all-requires g c = λ κs alive.
     let count = c.len.ensures in record {
       office = c.requires.desks.of_office;
       lists = λ k d within.
-        let number = c.requires.desks.numbers k d within in
-        (omega (arith, number), omega (arith, number, within, long, size, count, c.args.desks.ok.0));
+          let number = c.requires.desks.numbers k d within in
+          (omega (arith, number), omega (arith, number, within, long, size, count, c.args.desks.ok.0));
       fits = λ place.
-        subst (λ (lists : List (Vec Call Global)). All (Fits supply) (calls_at lists place)) (sym c.as_slice.ensures.value)
-        (lists-fit supply c.args.script.now c.in_ok-lists.lists.items c.in_ok-lists.ensures.calls c.requires.fits place);
+          subst (λ (lists : List (Vec Call Global)). All (Fits supply) (calls_at lists place)) (sym c.as_slice.ensures.value)
+          (lists-fit supply c.args.script.now c.in_ok-lists.lists.items c.in_ok-lists.ensures.calls c.requires.fits place);
     }
 
 pub returns-clause-desks : goal.returns-clause-desks

@@ -73,16 +73,16 @@ returns-clause-served g c =
     let done = c.do_left.ensures.count in record {
       count = omega (arith, count, ended, done);
       each = λ k d s here.
-        let low : k < length c.loop-desk.begun.items = omega (arith, here, count) in
-        let b = some-of c.loop-desk.begun.items k low in
-        let e = some-of c.join_all.result.items k (omega (arith, low, ended)) in
-        let at = slice_index_or desks k d in
-        let served = slice_index_or c.do_left.result.items k s in
-        serves-all office lists (IsWorkOf office lists) _ at (slice_index_or c.loop-desk.begun.items k b) (slice_index_or c.join_all.result.items k e) served
-        (begun.1 k d b here) (c.join_all.ensures.each k b e low) (c.do_left.ensures.each k e s (omega (arith, low, ended)))
-        (λ work of gives.
-        let own : HasServed (supply_at work.1.now) work.2.now work.4 {U = Unit {0}} served.end served.desk = search rules in
-        let at_office = subst (λ o. HasServed (supply_at o) work.2.now work.4 {U = Unit {0}} served.end served.desk) of.0 own in
-        let of_list = subst (λ (xs : List Call). HasServed (supply_at office) xs work.4 {U = Unit {0}} served.end served.desk) of.1 at_office in
-        subst (λ (x : Desk). HasServed (supply_at office) (calls_at lists (at.number - 1)) x {U = Unit {0}} served.end served.desk) of.2 of_list);
+          let low : k < length c.loop-desk.begun.items = omega (arith, here, count) in
+          let b = some-of c.loop-desk.begun.items k low in
+          let e = some-of c.join_all.result.items k (omega (arith, low, ended)) in
+          let at = slice_index_or desks k d in
+          let served = slice_index_or c.do_left.result.items k s in
+          serves-all office lists (IsWorkOf office lists) _ at (slice_index_or c.loop-desk.begun.items k b) (slice_index_or c.join_all.result.items k e) served
+          (begun.1 k d b here) (c.join_all.ensures.each k b e low) (c.do_left.ensures.each k e s (omega (arith, low, ended)))
+          (λ work of gives.
+          let own : HasServed (supply_at work.1.now) work.2.now work.4 {U = Unit {0}} served.end served.desk = search rules in
+          let at_office = subst (λ o. HasServed (supply_at o) work.2.now work.4 {U = Unit {0}} served.end served.desk) of.0 own in
+          let of_list = subst (λ (xs : List Call). HasServed (supply_at office) xs work.4 {U = Unit {0}} served.end served.desk) of.1 at_office in
+          subst (λ (x : Desk). HasServed (supply_at office) (calls_at lists (at.number - 1)) x {U = Unit {0}} served.end served.desk) of.2 of_list);
     }
