@@ -36,6 +36,7 @@ impl Counts {
 fn walk_table(cursor: &mut Cursor<'_>, counts: &mut Counts) -> Result<(), Fault> {
     while let Some(row) = cursor.next()? {
         counts.add(&row);
+        cursor.reuse(row);
     }
     Ok(())
 }

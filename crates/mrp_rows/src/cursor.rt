@@ -28,6 +28,8 @@ pub struct Cursor<'a> {
     columns: usize,
     number: u32,
     done: bool,
+    // A record that was given back, to read the next one into.
+    spare: Option<ByteRecord>,
 }
 
 impl<'a> Model for Cursor<'a> {
@@ -59,6 +61,7 @@ impl<'a> Cursor<'a> {
             columns: columns(table).len(),
             number: 0,
             done: false,
+            spare: None,
         }
     }
 
@@ -116,6 +119,13 @@ impl<'a> Cursor<'a> {
         Ok(Some(row))
     }
 
+    /// Takes a record back, to read the next one into its memory: else that takes its own.
+    pub fn reuse(&mut self, row: Row)
+        ensures { self.new ≡ self.old }
+    {
+        self.spare = Some(row.into_cells());
+    }
+
     // The next record, whatever its cells.
     fn take_next(&mut self) -> Result<Option<Row>, Fault>
         ensures { TakesNext self.old result self.new }
@@ -123,7 +133,8 @@ impl<'a> Cursor<'a> {
         if self.done {
             return Ok(None);
         }
-        match read_cells(self.alloc, &mut self.reader, self.columns) {
+        let spare = self.spare.take();
+        match read_cells(self.alloc, &mut self.reader, self.columns, spare) {
             Ok(Some(cells)) => {
                 let number = self.number;
                 self.number = number.saturating_add(1);
@@ -159,16 +170,21 @@ fn headed(table: Table, first: &Option<Row>) -> Result<(), Fault>
     }
 }
 
-// The cells of a reader's next record, or None at the end.
+// The cells of a reader's next record, or None at the end, in the memory of a spare one where there is one.
 fn read_cells(
     alloc: Global,
     reader: &mut Reader<&[u8]>,
     columns: usize,
+    spare: Option<ByteRecord>,
 ) -> Result<Option<ByteRecord>, NoMemory>
     requires { IsReading reader.old }
     ensures { ReadsCells reader.old result reader.new }
 {
-    let Ok(mut cells) = ByteRecord::with_capacity(alloc, USUAL_LENGTH, columns) else {
+    let room = match spare {
+        Some(cells) => Ok(cells),
+        None => ByteRecord::with_capacity(alloc, USUAL_LENGTH, columns),
+    };
+    let Ok(mut cells) = room else {
         return Err(NoMemory);
     };
     match reader.read_byte_record(&mut cells) {

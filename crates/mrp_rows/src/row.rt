@@ -47,6 +47,13 @@ impl Row {
         }
     }
 
+    // Its cells.
+    pub(crate) fn into_cells(self) -> ByteRecord
+        ensures { fields_of result ≡ self.cells }
+    {
+        self.cells
+    }
+
     /// The table that it stands in.
     pub fn table(&self) -> Table
         ensures { result ≡ self.now.table }

@@ -95,6 +95,7 @@ pub(crate) fn gather<G: TableRows>(cursor: &mut Cursor<'_>, mut gathered: G) -> 
 {
     while let Some(row) = next_record(cursor)? {
         gathered.add(&row)?;
+        cursor.reuse(row);
     }
     Ok(gathered)
 }

@@ -44,7 +44,7 @@ fn come(rt: &impl Abort, cursor: &mut Cursor<'_>, records: &[&[&[u8]]], end: Res
     for place in 0..records.len() {
         let row = next_row(rt, cursor);
         is_row(rt, &row, place + 1, records[place]);
-        drop(row);
+        cursor.reuse(row);
     }
     same(rt, end_of(rt, cursor), end);
     same(rt, end_of(rt, cursor), Ok(()));
