@@ -1,6 +1,6 @@
-use Rattle.std.proofs.Common.{◌∙◌, refl}
+use Rattle.std.proofs.Common.{◌∙◌, Ok, Some, refl, subst, sym}
 use Rattle.std.proofs.lemmas.Result.{err_from_is_err_and}
-use Rattle.mrp_tables.specs.Reading.{rows_from}
+use Rattle.mrp_tables.specs.Reading.{NextAdmitted, rows_from}
 use Rattle.mrp_tables.proofs.Gathering.{adds, adds_done, begun, refuses, stops, ends}
 use Rattle.mrp_tables.proofs.reading.gather.Goals as goal
 
@@ -29,14 +29,15 @@ loop-gathered-preserved g c =
     let at = c.args.cursor.now in
     let reads = g.G.TableRows.reads c.args.gathered in
     let rows = g.G.TableRows.rows in
-    let next = rw c.in-Some.is at c.in_ok-row.ensures.next in
+    let found = rw c.in-Some.is at c.in_ok-row.ensures.next in
+    let next = subst (λ now. NextAdmitted c.loop-gathered.cursor (Ok (Some c.in-Some.row)) now) (sym c.reuse.ensures) found in
     let added = rw c.loop-gathered.invariant.same at c.in_ok-add.ensures.added in
     record {
       same = c.in_ok-add.ensures.same ∙ c.loop-gathered.invariant.same;
       beside = c.in_ok-add.ensures.beside ∙ c.loop-gathered.invariant.beside;
-      left = adds reads at.table (rows c.loop-gathered.gathered) (rows c.add.new.self) c.loop-gathered.cursor c.next_record.new.cursor c.in-Some.row
+      left = adds reads at.table (rows c.loop-gathered.gathered) (rows c.add.new.self) c.loop-gathered.cursor c.reuse.new.self c.in-Some.row
           (rows_from reads at.table (rows c.args.gathered) at.number at.left) tt c.loop-gathered.invariant.left next added;
-      done = adds_done reads at.table (rows c.args.gathered) at.number at.left (rows c.loop-gathered.gathered) (rows c.add.new.self) c.loop-gathered.cursor c.next_record.new.cursor c.in-Some.row tt
+      done = adds_done reads at.table (rows c.args.gathered) at.number at.left (rows c.loop-gathered.gathered) (rows c.add.new.self) c.loop-gathered.cursor c.reuse.new.self c.in-Some.row tt
           c.loop-gathered.invariant.left.table c.loop-gathered.invariant.done next added;
       takes = c.loop-gathered.invariant.takes;
     }
