@@ -15,8 +15,8 @@ use Rattle.mrp_engine.specs.Desks.{HasServed}
 
 -- desks of an office can make the calls of lists: each has a list, and all calls are of the office's shop
 pub record HaveLists (office : TurnId Shop) (lists : List (Vec Call)) (desks : List Desk) : Type 0 where
-  pub office : All (λ d. d.turn ≡ office) desks
-  pub lists : All (λ d. (1 ≤ d.number) × (d.number ≤ length lists)) desks
+  pub of_office : All (λ d. d.turn ≡ office) desks
+  pub listed : All (λ d. (1 ≤ d.number) × (d.number ≤ length lists)) desks
   pub fits : (place : ℕ) → All (Fits (supply_at office)) (calls_at lists place)
 
 -- a desk has made the calls of its list in order, or was refused one of them

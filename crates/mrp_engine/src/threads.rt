@@ -85,7 +85,7 @@ fn serve_in<'a, E, R: Threads + Wait + Sync, G: Gate + Sync>(
     desks: Vec<Desk>,
 ) -> Result<Vec<Served>, AllocError>
     requires lists { HaveLists office.now lists.now desks.items }
-    ensures served { IfOk result (λ all. EachServes office.now lists.now desks.items all.items) }
+    ensures { IfOk result (λ all. EachServes office.now lists.now desks.items all.items) }
 {
     let mut begun = Vec::with_capacity(alloc, desks.len())?;
     let ended = Vec::with_capacity(alloc, desks.len())?;
@@ -120,7 +120,7 @@ pub fn serve_all<'a, R: Threads + Wait + Sync, G: Gate + Sync>(
     desks: Vec<Desk>,
 ) -> Result<Vec<Served>, AllocError>
     requires lists { HaveLists office.now lists.now desks.items }
-    ensures served { IfOk result (λ all. EachServes office.now lists.now desks.items all.items) }
+    ensures { IfOk result (λ all. EachServes office.now lists.now desks.items all.items) }
 {
     thread::scope(
         thread::scope_env(),

@@ -16,14 +16,14 @@ calls_by_desk-requires g c = λ k d within.
     let most = c.requires.count.all k d within in
     (c.requires.rows k d within, omega (arith, count, most, c.args.desks.ok.0))
 
-pub serve_all-requires : goal.serve_all-requires
-serve_all-requires g c = λ κs alive.
+pub serve_all-requires-clause-lists : goal.serve_all-requires-clause-lists
+serve_all-requires-clause-lists g c = λ κs alive.
     let supply = supply_at c.args.office.now in
     let long : length c.as_slice.result.now ≡ length c.in_ok-lists.lists.items = ap (length {A = Vec Call Global}) c.as_slice.ensures.value in
     let size = c.in_ok-lists.ensures.size in
     let count = c.len.ensures in record {
-      office = c.requires.desks.of_office;
-      lists = λ k d within.
+      of_office = c.requires.desks.of_office;
+      listed = λ k d within.
           let number = c.requires.desks.numbers k d within in
           (omega (arith, number), omega (arith, number, within, long, size, count, c.args.desks.ok.0));
       fits = λ place.

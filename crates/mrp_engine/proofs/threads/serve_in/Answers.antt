@@ -56,12 +56,12 @@ do_left-requires-clause-left g c k e within =
     let at = slice_index_or desks k d in
     left-can office lists (IsWorkOf office lists) _ at (slice_index_or c.loop-desk.begun.items k b) (slice_index_or c.join_all.result.items k e)
     (begun.1 k d b here) (c.join_all.ensures.each k b e low) (λ work of. (
-      ap (λ (x : Desk). x.turn) of.2 ∙ c.requires.lists.office k d here ∙ sym of.0,
+      ap (λ (x : Desk). x.turn) of.2 ∙ c.requires.lists.of_office k d here ∙ sym of.0,
       subst (λ o. All (Fits (supply_at o)) work.2.now) (sym of.0) (subst (λ (xs : List Call). All (Fits (supply_at office)) xs) (sym of.1) (c.requires.lists.fits (at.number - 1))),
     ))
 
-pub returns-clause-served : goal.returns-clause-served
-returns-clause-served g c =
+pub returns : goal.returns
+returns g c =
     let office = c.args.office.now in
     let lists = c.args.lists.now in
     let desks = c.args.desks.items in
