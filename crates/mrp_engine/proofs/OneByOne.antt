@@ -4,18 +4,14 @@ use Rattle.std.proofs.lemmas.Bool.{cases_lt}
 use Rattle.std.proofs.lemmas.List.{append-nil, append_assoc, get_or_append_left, get_or_push, length_push}
 
 -- some of the elements are done, the others are left; each that is done stands to what came of it as R says
-pub record AreDone {X Y : Type 0} (R : X → Y → Type 0) (all rest : List X) (ends : List Y) : Type 0 where
+pub record AreDoneInTurn {X Y : Type 0} (R : X → Y → Type 0) (all rest : List X) (ends : List Y) : Type 0 where
   pub done : List X
   pub left : all ≡ done ++ rest
   pub count : length ends ≡ length done
   pub each : (k : ℕ) (x : X) (y : Y) → k < length done → R (get_or done k x) (get_or ends k y)
 
--- nothing is done yet
-pub none-done : {X Y : Type 0} (R : X → Y → Type 0) (all rest : List X) (ends : List Y) → rest ≡ all → ends ≡ [] → AreDone R all rest ends
-none-done R all rest ends same none = record { done = []; left = sym same; count = ap length none; each = λ k x y within. absurd (omega (arith, within)) }
-
 -- one more is done
-pub one-done : {X Y : Type 0} (R : X → Y → Type 0) (all rest left : List X) (ends now : List Y) (x : X) (y : Y) → AreDone R all rest ends → rest ≡ x ∷ left → now ≡ ends ++ y ∷ [] → R x y → AreDone R all left now
+pub one-done : {X Y : Type 0} (R : X → Y → Type 0) (all rest left : List X) (ends now : List Y) (x : X) (y : Y) → AreDoneInTurn R all rest ends → rest ≡ x ∷ left → now ≡ ends ++ y ∷ [] → R x y → AreDoneInTurn R all left now
 one-done R all rest left ends now x y before is adds fits = record {
   done = before.done ++ x ∷ [];
   left = before.left ∙ ap (λ r. before.done ++ r) is ∙ sym (append_assoc before.done (x ∷ []) left);
@@ -47,7 +43,7 @@ none-left [] none = refl
 none-left (x ∷ rest) none = absurd (omega (arith, none))
 
 -- all are done
-pub all-done : {X Y : Type 0} (R : X → Y → Type 0) (all rest : List X) (ends : List Y) → AreDone R all rest ends → length rest ≡ 0 → (length ends ≡ length all) × ((k : ℕ) (x : X) (y : Y) → k < length all → R (get_or all k x) (get_or ends k y))
+pub all-done : {X Y : Type 0} (R : X → Y → Type 0) (all rest : List X) (ends : List Y) → AreDoneInTurn R all rest ends → length rest ≡ 0 → (length ends ≡ length all) × ((k : ℕ) (x : X) (y : Y) → k < length all → R (get_or all k x) (get_or ends k y))
 all-done R all rest ends before none =
     let whole : before.done ≡ all = sym (before.left ∙ ap (λ r. before.done ++ r) (none-left rest none) ∙ append-nil before.done) in
     (before.count ∙ ap length whole, subst (λ xs. (k : ℕ) (x : _) (y : _) → k < length xs → R (get_or xs k x) (get_or ends k y)) whole before.each)

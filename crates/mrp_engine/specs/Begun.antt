@@ -1,4 +1,4 @@
--- The work of desks: what they have to make their calls for, how it is begun, and how it ends (profile).
+-- The work of desks: what it rests on, how it is begun, and how it ends (profile).
 use Rattle.std.specs.Prelude.{◌≡◌, ◌<◌, ◌≤◌, ◌-◌, ℕ, All, List, Result, Ok, Err, length, slice_index_or}
 use Rattle.std.specs.declared.thread.PromisedHandle.{PromisedHandle}
 use Rattle.std.specs.declared.thread.SpawnError.{SpawnError}

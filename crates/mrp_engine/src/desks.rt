@@ -38,7 +38,7 @@ fn count_of(script: &[ScriptRow]) -> u64
     count
 }
 
-// An office of a shop, with desks from 1 to the greatest number in its script.
+// An office of a shop, with as many desks as its script has (`count_of`).
 fn open(alloc: Global, shop: Shop) -> Result<(Office, Vec<Desk>), NoMemory>
     ensures shop { IfOk result (λ r. r.0.about.object ≡ shop) }
     ensures desks { IfOk result (λ r. AreDesksOf r.0 r.1.items) }

@@ -4,7 +4,7 @@ ghost use Rattle.std.specs.Prelude.{◌≡◌, ◌<◌, ◌≤◌, All, [], ℕ,
 ghost use Rattle.mrp_book.specs.History.{Fits};
 ghost use Rattle.mrp_desk.specs.Offices.{supply_at};
 ghost use Rattle.mrp_engine.specs.Desks.{HasServed};
-ghost use Rattle.mrp_engine.specs.Begun.{EachServes, EndsAs, GivesWhat, HaveLists};
+ghost use Rattle.mrp_engine.specs.Begun.{EachServes, EndsAs, GivesWhat, HaveLists, IsDone};
 
 use crate::desk_calls::list_of;
 use crate::serving::{Served, serve};
@@ -26,7 +26,7 @@ struct Duty<'a> {
 }
 
 impl<'a> Promise<Served> for Duty<'a> {
-    ghost kept_by = { λ d s. HasServed (supply_at d.office.now) d.calls.now d.desk.value s.end s.desk };
+    ghost kept_by = { IsDone };
 }
 
 // The work of a desk that was begun: by its thread, or left where none could be started.
@@ -73,8 +73,9 @@ fn do_left<F: FnOnce() -> Served + Drop>(ended: Vec<Ended<F>>, mut all: Vec<Serv
     all
 }
 
-// Has each desk make the calls of its list in a thread of the scope. All room is made before the first
-// thread is asked for, so that none is left for want of memory.
+// Has each desk make the calls of its list: in a thread of the scope, or here, once all threads have ended,
+// where none can be started. Room for all is made before the first thread is asked for, so no thread is left
+// running for want of memory.
 fn serve_in<'a, E, R: Threads + Wait + Sync, G: Gate + Sync>(
     scope: &Scope<'a, E>,
     rt: &'a R,
@@ -101,16 +102,16 @@ fn serve_in<'a, E, R: Threads + Wait + Sync, G: Gate + Sync>(
             requires { (desk.turn ≡ office.now) × All (Fits (supply_at office.now)) calls.now }
             ensures { HasServed (supply_at office.entry.now) calls.entry.now desk result.end result.desk }
         { serve(rt, office, calls, gate, desk) };
-        let work: Begun<_> = scope.spawn_with(duty, work);
-        begun.push_reserved(work);
+        let one: Begun<_> = scope.spawn_with(duty, work);
+        begun.push_reserved(one);
     }
     Ok(do_left(join_all(rt, begun, ended), all))
 }
 
-/// Has each desk make the calls of its list, in a thread of its own. Where none can be started, this
-/// thread makes the calls of that desk once all desks that have a thread have ended.
+/// Has each desk make the calls of its list, in a thread of its own. Where none can be started for a
+/// desk, this thread makes its calls, once all desks that have a thread have ended.
 ///
-/// Errors: before any desk begins, where memory is refused.
+/// Errors: `AllocError` where memory is refused; then no desk has begun.
 pub fn serve_all<'a, R: Threads + Wait + Sync, G: Gate + Sync>(
     rt: &'a R,
     alloc: Global,

@@ -14,24 +14,24 @@ use Rattle.mrp_engine.proofs.OneByOne.{all-done, one-done, room-left}
 use Rattle.mrp_engine.proofs.Duties.{IsBegun, IsWorkOf, begun-as, left-can, serves-all, some-of}
 use Rattle.mrp_engine.proofs.threads.serve_in.Goals as goal
 
-pub spawn_with-work-requires-send-F : goal.spawn_with-work-requires-send-F
-spawn_with-work-requires-send-F g c κs within = search (desk-send, office-sync, call-sync, sendable, crosses) depth 40
+pub spawn_with-one-requires-send-F : goal.spawn_with-one-requires-send-F
+spawn_with-one-requires-send-F g c κs within = search (desk-send, office-sync, call-sync, sendable, crosses) depth 40
 
-pub spawn_with-work-requires-send-T : goal.spawn_with-work-requires-send-T
+pub spawn_with-one-requires-send-T : goal.spawn_with-one-requires-send-T
 unfolding entry
-spawn_with-work-requires-send-T g c κs within = first_of (search rules, search (sendable, crosses) depth 40)
+spawn_with-one-requires-send-T g c κs within = first_of (search rules, search (sendable, crosses) depth 40)
 
 pub loop-desk-preserved : goal.loop-desk-preserved
 loop-desk-preserved g c =
     let office = c.args.office.now in
     let lists = c.args.lists.now in
     let d = c.in-Some.desk in
-    let begun = c.spawn_with-work.result in
+    let begun = c.spawn_with-one.result in
     let calls = c.list_of-calls.ensures ∙ ap (λ n. calls_at lists (n - 1)) c.number.ensures in
     let does = λ (s : Served) (done : HasServed (supply_at office) c.list_of-calls.result.now c.of.result.value {U = Unit {0}} s.end s.desk).
     subst (λ (x : Desk). HasServed (supply_at office) (calls_at lists (d.number - 1)) x {U = Unit {0}} s.end s.desk) c.of.ensures
     (subst (λ (xs : List Call). HasServed (supply_at office) xs c.of.result.value {U = Unit {0}} s.end s.desk) calls done) in
-    let is_begun = begun-as office lists (IsWorkOf office lists) d begun _ _ c.spawn_with-work.ensures.ok c.spawn_with-work.ensures.err does (refl, calls, refl) in
+    let is_begun = begun-as office lists (IsWorkOf office lists) d begun _ _ c.spawn_with-one.ensures.ok c.spawn_with-one.ensures.err does (refl, calls, refl) in
     let is = c.in-Some.ensures.steps.0 in
     let more = c.push_reserved.ensures.items in (
       one-done (IsBegun office lists (IsWorkOf office lists)) c.args.desks.items c.loop-desk.desk-iterator.rest.items c.next.new.self.rest.items c.loop-desk.begun.items c.push_reserved.new.self.items d begun
