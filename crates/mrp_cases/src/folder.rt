@@ -16,8 +16,14 @@ const BUNDLE: &str = ".bundle";
 
 const DRAWN: &str = ".drawn";
 
+const DAY: &str = ".day";
+
+const SAID: &str = ".said";
+
+const PAGE: &str = ".html";
+
 // The ends of the names of what stands beside a case, or a day that is drawn.
-const ANSWERS: [&str; 3] = [".day", ".said", ".html"];
+const ANSWERS: [&str; 3] = [DAY, SAID, PAGE];
 
 /// What stands in the folder.
 #[derive(Drop)]
@@ -75,9 +81,9 @@ pub fn bundle_of<R: Files + AllocGlobal>(rt: &R, name: &str) -> io::Result<Optio
     }
 }
 
-// What stands beside a case in the file of this kind, if there is one.
-fn answer_of<R: Files + AllocGlobal>(rt: &R, name: &str, kind: &str) -> io::Result<Option<String>> {
-    let file = format!(in rt.alloc(); "{name}.{kind}")?;
+// What stands beside a case, or a day that is drawn, in the file with this end, if there is one.
+fn answer_of<R: Files + AllocGlobal>(rt: &R, name: &str, end: &str) -> io::Result<Option<String>> {
+    let file = format!(in rt.alloc(); "{name}{end}")?;
     match fs::read_to_string(rt, &file) {
         Ok(text) => Ok(Some(text)),
         Err(error) if error.kind() == ErrorKind::NotFound => Ok(None),
@@ -89,14 +95,14 @@ fn answer_of<R: Files + AllocGlobal>(rt: &R, name: &str, kind: &str) -> io::Resu
 /// has neither.
 pub fn wanted_of<R: Files + AllocGlobal>(rt: &R, name: &str) -> io::Result<Option<Ending>> {
     let nothing = String::new(rt.alloc());
-    if let Some(output) = answer_of(rt, name, "day")? {
+    if let Some(output) = answer_of(rt, name, DAY)? {
         return Ok(Some(Ending {
             status: 0,
             output,
             words: nothing,
         }));
     }
-    let Some(words) = answer_of(rt, name, "said")? else {
+    let Some(words) = answer_of(rt, name, SAID)? else {
         return Ok(None);
     };
     Ok(Some(Ending {
@@ -114,7 +120,7 @@ pub fn drawn_day<R: Files + AllocGlobal>(rt: &R, name: &str) -> io::Result<Vec<u
 
 /// How drawing a day has to end: its page is written. None where it has no page.
 pub fn wanted_page<R: Files + AllocGlobal>(rt: &R, name: &str) -> io::Result<Option<Ending>> {
-    Ok(answer_of(rt, name, "html")?.map(|output| Ending {
+    Ok(answer_of(rt, name, PAGE)?.map(|output| Ending {
         status: 0,
         output,
         words: String::new(rt.alloc()),

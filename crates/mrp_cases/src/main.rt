@@ -167,7 +167,14 @@ fn count_wrong_pages<R: Files + AllocGlobal + Print + Threads + Wait + Sync>(
 ) -> io::Result<usize> {
     let mut wrong = 0usize;
     for name in names {
-        if !is_drawn_right(rt, name)? {
+        let is_right = match is_drawn_right(rt, name) {
+            Ok(is_right) => is_right,
+            Err(error) => {
+                println!(rt; "{name} could not be looked at; {error}")?;
+                false
+            }
+        };
+        if !is_right {
             wrong = wrong.saturating_add(1);
         }
     }
@@ -198,7 +205,8 @@ fn count_verdicts<R: Files + AllocGlobal + Print + Threads + Wait + Sync>(
     Ok((wrong, live))
 }
 
-// Whether there are cases in the folder, each ends as it must, and each day and refusal belongs to one.
+// Whether there are cases in the folder, each case and each page is as it must be, and each day, refusal
+// and page belongs to one.
 fn are_right<R: Files + AllocGlobal + Print + Threads + Wait + Sync + Clone + Drop>(
     rt: &R,
 ) -> io::Result<bool> {
