@@ -1,6 +1,7 @@
 """The functions of a crate and their bodies, as far as the layout that `rt fmt` gives tells them.
 
-tools/edits rests on it only for what it then tries: a text that comes out wrong is refused by the compiler's front."""
+tools/edits rests on it for what it tries together, and for whether an edit lies in the body that it names. A text that comes
+out wrong is not believed."""
 
 import glob
 import os
@@ -25,8 +26,8 @@ class Body:
     owner: str
     above: str
 
-    def has_its_place(self):
-        """Whether its name or its place means something: a method of a trait, a member of a cycle of calls, `main`."""
+    def is_bound_to_its_name(self):
+        """Whether it can have no copy and has to keep its body: a method of a trait, a member of a cycle of calls, `main`."""
         is_of_trait = " for " in self.owner or re.search(r"\btrait\b", self.owner)
         return bool(is_of_trait or "#[cycle" in self.above or self.name == "main")
 
@@ -142,7 +143,7 @@ def emptied(file, text, spares):
     """A file's text with no bodies but of those functions that are spared, and the paths of the functions that have none."""
     lines, paths = text.split("\n"), []
     for body in reversed([*bodies(lines)]):
-        path = None if body.has_its_place() or spares(body) else path_of(file, text, body)
+        path = None if body.is_bound_to_its_name() or spares(body) else path_of(file, text, body)
         if path:
             lines[body.begin : body.end] = [f"{body.indent}    loop {{}}"]
             paths.append(path)
