@@ -58,7 +58,6 @@ def body_at(lines, number):
 
 # ---- the paths of functions, and which calls which
 
-ITEM = re.compile(r"(?m)^impl\b(.*)\{$|^(\}$)|^( {4})?(?:pub(?:\([a-z]+\))? )?(?:const )?(?:unsafe )?fn (\w+)")
 CALL = re.compile(r"(?:(\w+)::|(\.))?(\w+)\(")
 
 
@@ -82,18 +81,20 @@ def owner_of(head):
     return owner.rpartition("::")[2].strip() + of.rpartition("::")[2].strip()
 
 
+def parts_of(file, body):
+    """The parts of a function's path below the crate: its module's, the block's that it stands in, its name."""
+    owner = [owner_of(body.owner.removeprefix("impl").rstrip(" {"))] if body.indent else []
+    return [*module_of(file), *owner, body.name]
+
+
 def texts_of_functions(crate):
-    """The functions of a crate's files, by their paths, and the text of each."""
+    """The functions of a crate's files but those of traits' own, by their paths, and the text of each."""
     for file in files_of(crate.folder):
-        parts, owner = [crate.name, *module_of(file)], ""
-        text = open(f"{crate.folder}/{file}", encoding="utf-8").read()
-        items = [*ITEM.finditer(text)]
-        for item, end in zip(items, [*(it.start() for it in items[1:]), len(text)]):
-            impl, _, indent, name = item.groups()
-            if name and bool(indent) == bool(owner):
-                yield "::".join([*parts, *([owner] if owner else []), name]), text[item.end() : end]
-            elif not name:
-                owner = owner_of(impl or "")
+        with open(f"{crate.folder}/{file}", encoding="utf-8") as held:
+            lines = held.read().split("\n")
+        for body in bodies(lines):
+            if not body.indent or body.owner.startswith("impl"):
+                yield "::".join([crate.name, *parts_of(file, body)]), "\n".join(lines[body.begin : body.end])
 
 
 def standing_on(crate):
@@ -130,13 +131,13 @@ def found_below(name, calls):
 def path_of(file, text, body):
     """The parts of a function's path below the crate, where its place tells them, or None."""
     if not body.indent:
-        return [*module_of(file), body.name]
-    is_generic, owner = body.owner.startswith("impl<"), owner_of(body.owner.removeprefix("impl").rstrip(" {"))
+        return parts_of(file, body)
+    is_generic, owner = body.owner.startswith("impl<"), parts_of(file, body)[-2]
     is_here = re.search(rf"(?m)^(pub(\([a-z]+\))? )?(struct|enum) {re.escape(owner)}\b", text)
     # (the methods for one argument of a type alone have another path)
     if not body.owner.startswith("impl") or not is_here or "<" in body.owner and not is_generic and not "<'" in body.owner:
         return None
-    return [*module_of(file), owner, body.name]
+    return parts_of(file, body)
 
 
 def emptied(file, text, spares):
