@@ -21,7 +21,8 @@ fn most_lines(shop: &Shop) -> usize {
     most
 }
 
-// About how many pegs an item has for a week: one for each bill line that it is the component of, and one more.
+// About how many pegs an item has for a week: one for each bill line that it is the component of, on the average, and one
+// more.
 fn pegs_of_a_week(shop: &Shop) -> usize {
     let tables = shop.tables();
     tables.bills().len() / tables.items().len().max(1) + 1

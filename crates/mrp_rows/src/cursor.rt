@@ -119,7 +119,7 @@ impl<'a> Cursor<'a> {
         Ok(Some(row))
     }
 
-    /// Takes a record back, to read the next one into its memory: else that takes its own.
+    /// Takes a record back: the next one is read into its memory. Where none is given back, the next takes memory of its own.
     pub fn reuse(&mut self, row: Row)
         ensures { self.new ≡ self.old }
     {
