@@ -58,9 +58,6 @@ def body_at(lines, number):
 
 # ---- the paths of functions, and which calls which
 
-CALL = re.compile(r"(?:(\w+)::|(\.))?(\w+)\(")
-
-
 def module_of(file):
     """The parts of the path below the crate of what a file of src/ has."""
     parts = file.removesuffix(".rt").split("/")[1:]
@@ -85,35 +82,6 @@ def parts_of(file, body):
     """The parts of a function's path below the crate: its module's, the block's that it stands in, its name."""
     owner = [owner_of(body.owner.removeprefix("impl").rstrip(" {"))] if body.indent else []
     return [*module_of(file), *owner, body.name]
-
-
-def texts_of_functions(crate):
-    """The functions of a crate's files but those of traits' own, by their paths, and the text of each."""
-    for file in files_of(crate.folder):
-        with open(f"{crate.folder}/{file}", encoding="utf-8") as held:
-            lines = held.read().split("\n")
-        for body in bodies(lines):
-            if not body.indent or body.owner.startswith("impl"):
-                yield "::".join([crate.name, *parts_of(file, body)]), "\n".join(lines[body.begin : body.end])
-
-
-def standing_on(crate):
-    """For each function those of its crate on which it stands: which it calls, or which these call, and so on."""
-    texts = dict(texts_of_functions(crate))
-    named = {}
-    for path in texts:
-        named.setdefault(path.rpartition("::")[2], []).append(path)
-    calls = {}
-    for path, text in texts.items():
-        owner = path.split("::")[-2]
-        found = {(owner if of == "Self" else of, dot, name) for of, dot, name in CALL.findall(text)}
-        calls[path] = {
-            other
-            for of, dot, name in found
-            for other in named.get(name, ())
-            if other != path and (other.split("::")[-2].startswith(of) if of else bool(dot) == other.split("::")[-2][:1].isupper())
-        }
-    return {path: found_below(path, calls) for path in texts}
 
 
 def found_below(name, calls):
