@@ -5,7 +5,7 @@ use Rattle.std.proofs.lemmas.List.{append-nil, drop_more, map-append, take-appen
 use Rattle.std.proofs.lemmas.List.Elements.{All-append, All-cons, All-nil, filter_map-append}
 use Rattle.mrp_rows.specs.declared.fault.Table.{Table}
 use Rattle.mrp_rows.specs.Joined.{Part}
-use Rattle.mrp_rows.specs.declared.streams.TheConstants.{GREATEST_BUNDLE}
+use Rattle.mrp_main.specs.declared.files.TheConstants.{MOST_OF_FILES}
 use Rattle.mrp_main.specs.Folder.{AreFilesOf, AreParts, HasTooMuch, IsAt, IsTooLongAt, Kept, Known, all_tables, bytes_in, part_in, path_in}
 
 -- these are the parts of the files that a folder has of some tables
@@ -61,9 +61,9 @@ next-file known folder tables k table parts bytes less are at =
 
 -- a folder has too much where a table's file has more bytes than those before it leave
 pub too-much : (known : Known) (folder : List ℕ) (k : ℕ) (table : Table) (parts : List Part) (left : ℕ) → k < length all_tables
-    → ArePartsOf known folder (take k all_tables) parts → left + bytes_in parts ≡ GREATEST_BUNDLE → IsTooLongAt known (path_in folder (get_or all_tables k table)) left → HasTooMuch known folder
+    → ArePartsOf known folder (take k all_tables) parts → left + bytes_in parts ≡ MOST_OF_FILES → IsTooLongAt known (path_in folder (get_or all_tables k table)) left → HasTooMuch known folder
 too-much known folder k table parts left less (found, are, is) sum long =
-    let rest : left ≡ GREATEST_BUNDLE - bytes_in parts = omega (arith, sum) in
+    let rest : left ≡ MOST_OF_FILES - bytes_in parts = omega (arith, sum) in
     record {
       before = take k all_tables;
       table = get_or all_tables k table;
@@ -71,12 +71,12 @@ too-much known folder k table parts left less (found, are, is) sum long =
       tables = ap (λ (ts : List Table). take k all_tables ++ ts) (sym (drop_more all_tables k table less)) ∙ take-append-drop k all_tables;
       files = found;
       are = are;
-      past = subst (λ (n : ℕ). IsTooLongAt known (path_in folder (get_or all_tables k table)) n) (rest ∙ ap (λ (ps : List Part). GREATEST_BUNDLE - bytes_in ps) is) long;
+      past = subst (λ (n : ℕ). IsTooLongAt known (path_in folder (get_or all_tables k table)) n) (rest ∙ ap (λ (ps : List Part). MOST_OF_FILES - bytes_in ps) is) long;
     }
 
 -- the parts of all tables are the folder's
 pub all-parts : (known : Known) (folder : List ℕ) (tables : List Table) (parts : List Part) (left : ℕ) → tables ≡ all_tables
-    → ArePartsOf known folder tables parts → left + bytes_in parts ≡ GREATEST_BUNDLE → AreParts known folder parts
+    → ArePartsOf known folder tables parts → left + bytes_in parts ≡ MOST_OF_FILES → AreParts known folder parts
 all-parts known folder tables parts left whole (found, are, is) sum = record {
   files = found;
   are = subst (λ (ts : List Table). AreFilesOf known folder ts found) whole are;

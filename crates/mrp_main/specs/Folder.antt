@@ -8,7 +8,7 @@ use Rattle.mrp_rows.specs.FaultText.{table_name}
 use Rattle.mrp_rows.specs.Joined.{Part, joined}
 use Rattle.mrp_rows.specs.declared.streams.ReadFault.{ReadFault}
 use Rattle.mrp_rows.specs.declared.streams.ReadFault.TheVariants.{Read, NoMemory}
-use Rattle.mrp_rows.specs.declared.streams.TheConstants.{GREATEST_BUNDLE}
+use Rattle.mrp_main.specs.declared.files.TheConstants.{MOST_OF_FILES}
 
 -- the tables, in their order
 abbrev pub all_tables : List Table
@@ -47,7 +47,7 @@ pub record AreFilesOf (known : Known) (folder : List ℕ) (tables : List Table) 
   pub tables_are : map (λ (file : Kept). file.0) files ≡ tables
   pub files_are : All (λ (file : Kept). IsAt known (path_in folder file.0) file.1) files
 
--- a folder has more bytes than a bundle may have: a file has more than those of the tables before it leave
+-- a folder has more bytes than a bundle has room for: a file has more than those of the tables before it leave
 pub record HasTooMuch (known : Known) (folder : List ℕ) : Type 0 where
   pub before : List Table
   pub table : Table
@@ -55,14 +55,14 @@ pub record HasTooMuch (known : Known) (folder : List ℕ) : Type 0 where
   pub tables : before ++ table ∷ after ≡ all_tables
   pub files : List Kept
   pub are : AreFilesOf known folder before files
-  pub past : IsTooLongAt known (path_in folder table) (GREATEST_BUNDLE - bytes_in (filter_map part_in files))
+  pub past : IsTooLongAt known (path_in folder table) (MOST_OF_FILES - bytes_in (filter_map part_in files))
 
--- the parts of a bundle are the files that a folder has, which have no more bytes than a bundle may have
+-- the parts of a bundle are the files that a folder has, which have no more bytes than a bundle has room for
 pub record AreParts (known : Known) (folder : List ℕ) (parts : List Part) : Type 0 where
   pub files : List Kept
   pub are : AreFilesOf known folder all_tables files
   pub is : parts ≡ filter_map part_in files
-  pub within : bytes_in parts ≤ GREATEST_BUNDLE
+  pub within : bytes_in parts ≤ MOST_OF_FILES
 
 -- what reading a folder gives: its files' bundle; or it has too much, or memory was refused
 abbrev pub IsReadFrom : Known → List ℕ → Result (List ℕ) ReadFault → Type 0

@@ -15,6 +15,10 @@ use std::io::ErrorKind;
 use std::path::{Path, PathBuf};
 use std::rt::Files;
 
+/// The most bytes of all files of a folder: with nine section lines and the line feeds behind the files they
+/// are as many as a bundle may have.
+pub const MOST_OF_FILES: usize = GREATEST_BUNDLE - 94;
+
 // The tables, in their order.
 const TABLES: [Table; 9] = [
     Table::Calendar,
@@ -114,7 +118,7 @@ fn push_table(
 }
 
 // The tables that have a file in a folder, with its bytes: all together at most as many as a bundle
-// may have.
+// has room for.
 fn read_tables<F: FileStore>(
     files: &F,
     alloc: Global,
@@ -123,7 +127,7 @@ fn read_tables<F: FileStore>(
     ensures parts { IfOk result (λ tables. AreParts (F.known files.now) folder.now (map (λ part. (part.0, part.1.items)) tables.items)) }
     ensures past { result ≡ Err read.Read → HasTooMuch (F.known files.now) folder.now }
 {
-    let mut left = GREATEST_BUNDLE;
+    let mut left = MOST_OF_FILES;
     let mut tables = Vec::new(alloc);
     for table in TABLES {
         let file = read_table(files, alloc, folder, table, left)?;
@@ -150,8 +154,8 @@ fn join_tables(alloc: Global, tables: &[(Table, Vec<u8>)]) -> Result<Vec<u8>, No
 /// there, in the order of the tables.
 ///
 /// Errors, at the first file that has one: `Read` where a file is there and can't be read, or has
-/// more bytes than the files before it leave of a bundle's 67,108,864; `NoMemory` where a growth was
-/// refused.
+/// more bytes than the files before it leave of the 67,108,770 that a bundle has room for; `NoMemory`
+/// where a growth was refused.
 pub fn read_folder<F: FileStore>(
     files: &F,
     alloc: Global,

@@ -372,6 +372,18 @@ fn folders_that_can_not_be_read_are_told(rt: HostRuntime) {
     }
 }
 
+// The input is no day, and is not read.
+#[test]
+fn a_check_reads_no_folder_that_a_plan_does_not(rt: HostRuntime) {
+    made(&rt, make_folders(&rt));
+    for folder in ["out/shut", "out/long", "out/both", "out/full"] {
+        let words = ["check", "--dir", folder];
+        let left = left_by(&rt, rt.alloc(), &words, Streams::of("no day"));
+        has_ended(&rt, &left, 4, "", "read failed\n");
+        drop(left);
+    }
+}
+
 #[test]
 fn a_live_day_of_a_folder_leaves_the_input_too(rt: HostRuntime) {
     let words = ["live", "--dir", "nowhere"];

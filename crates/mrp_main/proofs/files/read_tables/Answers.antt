@@ -6,7 +6,7 @@ use Rattle.mrp_rows.specs.declared.fault.Table.{Table}
 use Rattle.mrp_rows.specs.declared.fault.Table.TheVariants.{Calendar}
 use Rattle.mrp_rows.specs.declared.streams.ReadFault.TheVariants as read
 use Rattle.mrp_rows.specs.Joined.{Part}
-use Rattle.mrp_rows.specs.declared.streams.TheConstants.{GREATEST_BUNDLE}
+use Rattle.mrp_main.specs.declared.files.TheConstants.{MOST_OF_FILES}
 use Rattle.mrp_main.specs.Folder.{IsAt, Known, all_tables, bytes_in, path_in}
 use Rattle.mrp_main.proofs.Folders.{ArePartsOf, all-parts, next-file, next-none, none-there, too-much}
 use Rattle.mrp_main.proofs.files.read_tables.Goals as goal
@@ -39,7 +39,7 @@ loop-table-preserved g c =
           let all = c.loop-table.invariant.1 in (
             subst (λ (ps : List Part). ArePartsOf known folder (take (k + 1) all_tables) ps) (sym more)
                 (next-file known folder all_tables k Calendar parts bytes c.loop-table-test.true c.loop-table.invariant.0 at),
-            subst (λ (ps : List Part). c.match-file.left + bytes_in ps ≡ GREATEST_BUNDLE) (sym more) (omega (arith, known-len, within, sum, left, len, all)),
+            subst (λ (ps : List Part). c.match-file.left + bytes_in ps ≡ MOST_OF_FILES) (sym more) (omega (arith, known-len, within, sum, left, len, all)),
           )
       | in_default w ↦
           let at : IsAt known (path_in folder table) None =
@@ -47,7 +47,7 @@ loop-table-preserved g c =
           let same : map part_of c.match-file.tables.items ≡ parts = ap (λ (tables : Vec (Table × Vec ℕ Global) Global). map part_of tables.items) w.tables-is in (
             subst (λ (ps : List Part). ArePartsOf known folder (take (k + 1) all_tables) ps) (sym same)
                 (next-none known folder all_tables k Calendar parts c.loop-table-test.true c.loop-table.invariant.0 at),
-            subst (λ (ps : List Part). c.match-file.left + bytes_in ps ≡ GREATEST_BUNDLE) (sym same) (ap (λ (n : ℕ). n + bytes_in parts) w.left-is ∙ c.loop-table.invariant.1),
+            subst (λ (ps : List Part). c.match-file.left + bytes_in ps ≡ MOST_OF_FILES) (sym same) (ap (λ (n : ℕ). n + bytes_in parts) w.left-is ∙ c.loop-table.invariant.1),
           )
     ]
 
