@@ -1,10 +1,13 @@
 -- The files of a folder, table by table.
-use Rattle.std.proofs.Common.{◌≡◌, ◌∙◌, ◌++◌, ◌+◌, ◌-◌, ◌<◌, [], ◌∷◌, ℕ, List, Option, Some, None, ap, arith, drop, get_or, length, refl, subst, sym, take}
+use Rattle.std.proofs.Common.{◌≡◌, ◌∙◌, ◌++◌, ◌+◌, ◌-◌, ◌<◌, ◌≤◌, [], ◌∷◌, ℕ, List, Option, Some, None, ap, arith, codes, drop, get_or, length, length-append, map, refl, subst, sum_by, sym, take}
 use Rattle.std.specs.List.{filter_map}
 use Rattle.std.proofs.lemmas.List.{append-nil, drop_more, map-append, take-append-drop, take_more}
+use Rattle.std.proofs.lemmas.List.Sums.{sum_by-cons}
 use Rattle.std.proofs.lemmas.List.Elements.{All-append, All-cons, All-nil, filter_map-append}
 use Rattle.mrp_rows.specs.declared.fault.Table.{Table}
-use Rattle.mrp_rows.specs.Joined.{Part}
+use Rattle.mrp_rows.specs.FaultText.{table_name}
+use Rattle.mrp_rows.specs.Joined.{Part, joined, section_bytes, section_line_of, section_of}
+use Rattle.mrp_rows.specs.declared.streams.TheConstants.{GREATEST_BUNDLE}
 use Rattle.mrp_main.specs.declared.files.TheConstants.{MOST_OF_FILES}
 use Rattle.mrp_main.specs.Folder.{AreFilesOf, AreParts, HasTooMuch, IsAt, IsTooLongAt, Kept, Known, all_tables, bytes_in, part_in, path_in}
 
@@ -74,6 +77,46 @@ too-much known folder k table parts left less (found, are, is) sum long =
       past = subst (λ (n : ℕ). IsTooLongAt known (path_in folder (get_or all_tables k table)) n) (rest ∙ ap (λ (ps : List Part). MOST_OF_FILES - bytes_in ps) is) long;
     }
 
+-- how many bytes a table's section has beside those that are kept of it
+abbrev frame : Table → ℕ
+frame table = length (table_name table) + 4
+
+section-length : (part : Part) → length (section_bytes (section_of part)) ≡ frame part.0 + length part.1
+section-length part =
+    omega (
+      arith,
+      length-append (section_line_of part.0) (part.1 ++ codes "\n"),
+      length-append (codes "[") (table_name part.0 ++ codes "]\n"),
+      length-append (table_name part.0) (codes "]\n"),
+      length-append part.1 (codes "\n"),
+    )
+
+-- a table without a file adds nothing to a bundle
+none-more : (l b c f more : ℕ) → l ≤ b + c → more ≡ f + c → l ≤ b + more
+none-more l b c f more le is = omega (arith, le, is)
+
+-- one with a file adds its bytes, and those of a section
+some-more : (l s j b c f n sum more : ℕ) → l ≡ s + j → s ≡ f + n → j ≤ b + c → sum ≡ n + b → more ≡ f + c → l ≤ sum + more
+some-more l s j b c f n sum more whole one rest bytes is = omega (arith, whole, one, rest, bytes, is)
+
+-- the bundle of files has at most the bytes of these, and of a section of each table
+joined-length : (files : List Kept) → length (joined (filter_map part_in files)) ≤ bytes_in (filter_map part_in files) + sum_by frame (map (λ (file : Kept). file.0) files)
+joined-length [] = omega arith
+joined-length ((table, None) ∷ files) =
+    let parts : List Part = filter_map part_in files in
+    let tables : List Table = map (λ (file : Kept). file.0) files in
+    none-more (length (joined parts)) (bytes_in parts) (sum_by frame tables) (frame table) (sum_by frame (table ∷ tables)) (joined-length files) (sum_by-cons frame table tables)
+joined-length ((table, Some bytes) ∷ files) =
+    let parts : List Part = filter_map part_in files in
+    let tables : List Table = map (λ (file : Kept). file.0) files in
+    let section : List ℕ = section_bytes (section_of (table, bytes)) in
+    some-more (length (section ++ joined parts)) (length section) (length (joined parts)) (bytes_in parts) (sum_by frame tables) (frame table) (length bytes) (bytes_in ((table, bytes) ∷ parts)) (sum_by frame (table ∷ tables))
+        (length-append section (joined parts))
+        (section-length (table, bytes))
+        (joined-length files)
+        (sum_by-cons (λ (part : Part). length part.1) (table, bytes) parts)
+        (sum_by-cons frame table tables)
+
 -- the parts of all tables are the folder's
 pub all-parts : (known : Known) (folder : List ℕ) (tables : List Table) (parts : List Part) (left : ℕ) → tables ≡ all_tables
     → ArePartsOf known folder tables parts → left + bytes_in parts ≡ MOST_OF_FILES → AreParts known folder parts
@@ -82,4 +125,8 @@ all-parts known folder tables parts left whole (found, are, is) sum = record {
   are = subst (λ (ts : List Table). AreFilesOf known folder ts found) whole are;
   is = is;
   within = omega (arith, sum);
+  fits =
+      let long = joined-length found in
+      let sections : sum_by frame (map (λ (file : Kept). file.0) found) ≡ 94 = ap (sum_by frame) (are.tables_are ∙ whole) in
+      subst (λ (ps : List Part). length (joined ps) ≤ GREATEST_BUNDLE) (sym is) (omega (arith, long, sections, sum, ap bytes_in is));
 }

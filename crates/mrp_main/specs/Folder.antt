@@ -8,6 +8,7 @@ use Rattle.mrp_rows.specs.FaultText.{table_name}
 use Rattle.mrp_rows.specs.Joined.{Part, joined}
 use Rattle.mrp_rows.specs.declared.streams.ReadFault.{ReadFault}
 use Rattle.mrp_rows.specs.declared.streams.ReadFault.TheVariants.{Read, NoMemory}
+use Rattle.mrp_rows.specs.declared.streams.TheConstants.{GREATEST_BUNDLE}
 use Rattle.mrp_main.specs.declared.files.TheConstants.{MOST_OF_FILES}
 
 -- the tables, in their order
@@ -57,12 +58,13 @@ pub record HasTooMuch (known : Known) (folder : List ℕ) : Type 0 where
   pub are : AreFilesOf known folder before files
   pub past : IsTooLongAt known (path_in folder table) (MOST_OF_FILES - bytes_in (filter_map part_in files))
 
--- the parts of a bundle are the files that a folder has, which have no more bytes than a bundle has room for
+-- the parts of a bundle are the files that a folder has, which have no more bytes than a bundle has room for: so their bundle has no more than one may have
 pub record AreParts (known : Known) (folder : List ℕ) (parts : List Part) : Type 0 where
   pub files : List Kept
   pub are : AreFilesOf known folder all_tables files
   pub is : parts ≡ filter_map part_in files
   pub within : bytes_in parts ≤ MOST_OF_FILES
+  pub fits : length (joined parts) ≤ GREATEST_BUNDLE
 
 -- what reading a folder gives: its files' bundle; or it has too much, or memory was refused
 abbrev pub IsReadFrom : Known → List ℕ → Result (List ℕ) ReadFault → Type 0
