@@ -111,11 +111,11 @@ joined-length ((table, Some bytes) ∷ files) =
     let tables : List Table = map (λ (file : Kept). file.0) files in
     let section : List ℕ = section_bytes (section_of (table, bytes)) in
     some-more (length (section ++ joined parts)) (length section) (length (joined parts)) (bytes_in parts) (sum_by frame tables) (frame table) (length bytes) (bytes_in ((table, bytes) ∷ parts)) (sum_by frame (table ∷ tables))
-        (length-append section (joined parts))
-        (section-length (table, bytes))
-        (joined-length files)
-        (sum_by-cons (λ (part : Part). length part.1) (table, bytes) parts)
-        (sum_by-cons frame table tables)
+    (length-append section (joined parts))
+    (section-length (table, bytes))
+    (joined-length files)
+    (sum_by-cons (λ (part : Part). length part.1) (table, bytes) parts)
+    (sum_by-cons frame table tables)
 
 -- the parts of all tables are the folder's
 pub all-parts : (known : Known) (folder : List ℕ) (tables : List Table) (parts : List Part) (left : ℕ) → tables ≡ all_tables
