@@ -1,15 +1,14 @@
 -- The files of a folder, table by table.
-use Rattle.std.proofs.Common.{◌≡◌, ◌∙◌, ◌++◌, ◌+◌, ◌-◌, ◌<◌, ◌≤◌, [], ◌∷◌, ℕ, List, Option, Some, None, ap, arith, codes, drop, get_or, length, length-append, map, refl, subst, sum_by, sym, take}
+use Rattle.std.proofs.Common.{◌≡◌, ◌∙◌, ◌++◌, ◌+◌, ◌<◌, [], ◌∷◌, ℕ, List, Option, Some, None, IfSome, ap, arith, codes, drop, get_or, length, length-append, refl, subst, sym, take}
 use Rattle.std.specs.List.{filter_map}
 use Rattle.std.proofs.lemmas.List.{append-nil, drop_more, map-append, take-append-drop, take_more}
-use Rattle.std.proofs.lemmas.List.Sums.{sum_by-cons}
+use Rattle.std.proofs.lemmas.List.Concat.{flat_map-append}
 use Rattle.std.proofs.lemmas.List.Elements.{All-append, All-cons, All-nil, filter_map-append}
 use Rattle.mrp_rows.specs.declared.fault.Table.{Table}
 use Rattle.mrp_rows.specs.FaultText.{table_name}
 use Rattle.mrp_rows.specs.Joined.{Part, joined, section_bytes, section_line_of, section_of}
 use Rattle.mrp_rows.specs.declared.streams.TheConstants.{GREATEST_BUNDLE}
-use Rattle.mrp_main.specs.declared.files.TheConstants.{MOST_OF_FILES}
-use Rattle.mrp_main.specs.Folder.{AreFilesOf, AreParts, HasTooMuch, IsAt, IsTooLongAt, Kept, Known, all_tables, bytes_in, part_in, path_in}
+use Rattle.mrp_main.specs.Folder.{AreFilesOf, AreParts, HasTooMuch, IsAt, IsPastAt, IsTooLongAt, Kept, Known, all_tables, part_in, path_in}
 
 -- these are the parts of the files that a folder has of some tables
 abbrev pub ArePartsOf : Known → List ℕ → List Table → List Part → Type 0
@@ -62,27 +61,9 @@ next-file known folder tables k table parts bytes less are at =
     subst (λ (ts : List Table). ArePartsOf known folder ts (parts ++ (get_or tables k table, bytes) ∷ [])) (sym (take_more tables k table less))
     (a-file known folder (take k tables) parts (get_or tables k table) bytes are at)
 
--- a folder has too much where a table's file has more bytes than those before it leave
-pub too-much : (known : Known) (folder : List ℕ) (k : ℕ) (table : Table) (parts : List Part) (left : ℕ) → k < length all_tables
-    → ArePartsOf known folder (take k all_tables) parts → left + bytes_in parts ≡ MOST_OF_FILES → IsTooLongAt known (path_in folder (get_or all_tables k table)) left → HasTooMuch known folder
-too-much known folder k table parts left less (found, are, is) sum long =
-    let rest : left ≡ MOST_OF_FILES - bytes_in parts = omega (arith, sum) in
-    record {
-      before = take k all_tables;
-      table = get_or all_tables k table;
-      after = drop (k + 1) all_tables;
-      tables = ap (λ (ts : List Table). take k all_tables ++ ts) (sym (drop_more all_tables k table less)) ∙ take-append-drop k all_tables;
-      files = found;
-      are = are;
-      past = subst (λ (n : ℕ). IsTooLongAt known (path_in folder (get_or all_tables k table)) n) (rest ∙ ap (λ (ps : List Part). MOST_OF_FILES - bytes_in ps) is) long;
-    }
-
--- how many bytes a table's section has beside those that are kept of it
-abbrev frame : Table → ℕ
-frame table = length (table_name table) + 4
-
-section-length : (part : Part) → length (section_bytes (section_of part)) ≡ frame part.0 + length part.1
-section-length part =
+-- a table's section has its line, its bytes and a line feed
+pub section_length : (part : Part) → length (section_bytes (section_of part)) ≡ length (table_name part.0) + 4 + length part.1
+section_length part =
     omega (
       arith,
       length-append (section_line_of part.0) (part.1 ++ codes "\n"),
@@ -91,42 +72,61 @@ section-length part =
       length-append part.1 (codes "\n"),
     )
 
--- a table without a file adds nothing to a bundle
-none-more : (l b c f more : ℕ) → l ≤ b + c → more ≡ f + c → l ≤ b + more
-none-more l b c f more le is = omega (arith, le, is)
+-- one more part adds its section
+pub joined_length : (parts : List Part) (part : Part) → length (joined (parts ++ part ∷ [])) ≡ length (joined parts) + length (section_bytes (section_of part))
+joined_length parts part =
+    let section : List ℕ = section_bytes (section_of part) in
+    omega (
+      arith,
+      ap (length {A = ℕ}) (flat_map-append (λ (p : Part). section_bytes (section_of p)) parts (part ∷ [])),
+      length-append (joined parts) (section ++ []),
+      length-append section [],
+    )
 
--- one with a file adds its bytes, and those of a section
-some-more : (l s j b c f n sum more : ℕ) → l ≡ s + j → s ≡ f + n → j ≤ b + c → sum ≡ n + b → more ≡ f + c → l ≤ sum + more
-some-more l s j b c f n sum more whole one rest bytes is = omega (arith, whole, one, rest, bytes, is)
+-- a file that has more bytes than are left makes the bundle too long
+past-read : (o : Option (Option (List ℕ))) (parts : List Part) (table : Table) (left : ℕ) → left + length (joined parts) ≡ GREATEST_BUNDLE
+    → IfSome o (λ kept. (bytes : List ℕ) × (kept ≡ Some bytes) × (left < length bytes))
+    → IfSome o (λ kept. (bytes : List ℕ) × (kept ≡ Some bytes) × (GREATEST_BUNDLE < length (joined (parts ++ (table, bytes) ∷ []))))
+past-read None parts table left sum long = tt
+past-read (Some kept) parts table left sum (bytes, is, long) = (bytes, is, omega (arith, sum, long, joined_length parts (table, bytes), section_length (table, bytes)))
 
--- the bundle of files has at most the bytes of these, and of a section of each table
-joined-length : (files : List Kept) → length (joined (filter_map part_in files)) ≤ bytes_in (filter_map part_in files) + sum_by frame (map (λ (file : Kept). file.0) files)
-joined-length [] = omega arith
-joined-length ((table, None) ∷ files) =
-    let parts : List Part = filter_map part_in files in
-    let tables : List Table = map (λ (file : Kept). file.0) files in
-    none-more (length (joined parts)) (bytes_in parts) (sum_by frame tables) (frame table) (sum_by frame (table ∷ tables)) (joined-length files) (sum_by-cons frame table tables)
-joined-length ((table, Some bytes) ∷ files) =
-    let parts : List Part = filter_map part_in files in
-    let tables : List Table = map (λ (file : Kept). file.0) files in
-    let section : List ℕ = section_bytes (section_of (table, bytes)) in
-    some-more (length (section ++ joined parts)) (length section) (length (joined parts)) (bytes_in parts) (sum_by frame tables) (frame table) (length bytes) (bytes_in ((table, bytes) ∷ parts)) (sum_by frame (table ∷ tables))
-    (length-append section (joined parts))
-    (section-length (table, bytes))
-    (joined-length files)
-    (sum_by-cons (λ (part : Part). length part.1) (table, bytes) parts)
-    (sum_by-cons frame table tables)
+-- so does one whose section has more
+past-section : (o : Option (Option (List ℕ))) (parts : List Part) (table : Table) (bytes : List ℕ) (left : ℕ) → left + length (joined parts) ≡ GREATEST_BUNDLE
+    → left < length (section_bytes (section_of (table, bytes))) → IfSome o (λ kept. Some bytes ≡ kept)
+    → IfSome o (λ kept. (bytes : List ℕ) × (kept ≡ Some bytes) × (GREATEST_BUNDLE < length (joined (parts ++ (table, bytes) ∷ []))))
+past-section None parts table bytes left sum long is = tt
+past-section (Some kept) parts table bytes left sum long is = (bytes, sym is, omega (arith, sum, long, joined_length parts (table, bytes)))
+
+-- a folder has too much where a table's file does not fit
+too-much-at : (known : Known) (folder : List ℕ) (k : ℕ) (table : Table) (parts : List Part) → k < length all_tables
+    → ArePartsOf known folder (take k all_tables) parts → IsPastAt known folder parts (get_or all_tables k table) → HasTooMuch known folder
+too-much-at known folder k table parts less (found, are, is) past = record {
+  before = take k all_tables;
+  table = get_or all_tables k table;
+  after = drop (k + 1) all_tables;
+  tables = ap (λ (ts : List Table). take k all_tables ++ ts) (sym (drop_more all_tables k table less)) ∙ take-append-drop k all_tables;
+  files = found;
+  are = are;
+  past = subst (λ (ps : List Part). IsPastAt known folder ps (get_or all_tables k table)) is past;
+}
+
+pub too-much : (known : Known) (folder : List ℕ) (k : ℕ) (table : Table) (parts : List Part) (left : ℕ) → k < length all_tables
+    → ArePartsOf known folder (take k all_tables) parts → left + length (joined parts) ≡ GREATEST_BUNDLE → IsTooLongAt known (path_in folder (get_or all_tables k table)) left → HasTooMuch known folder
+too-much known folder k table parts left less are sum long =
+    too-much-at known folder k table parts less are (past-read (known (path_in folder (get_or all_tables k table))) parts (get_or all_tables k table) left sum long)
+
+pub section-too-much : (known : Known) (folder : List ℕ) (k : ℕ) (table : Table) (parts : List Part) (bytes : List ℕ) (left : ℕ) → k < length all_tables
+    → ArePartsOf known folder (take k all_tables) parts → left + length (joined parts) ≡ GREATEST_BUNDLE
+    → left < length (section_bytes (section_of (get_or all_tables k table, bytes))) → IsAt known (path_in folder (get_or all_tables k table)) (Some bytes) → HasTooMuch known folder
+section-too-much known folder k table parts bytes left less are sum long at =
+    too-much-at known folder k table parts less are (past-section (known (path_in folder (get_or all_tables k table))) parts (get_or all_tables k table) bytes left sum long at)
 
 -- the parts of all tables are the folder's
 pub all-parts : (known : Known) (folder : List ℕ) (tables : List Table) (parts : List Part) (left : ℕ) → tables ≡ all_tables
-    → ArePartsOf known folder tables parts → left + bytes_in parts ≡ MOST_OF_FILES → AreParts known folder parts
+    → ArePartsOf known folder tables parts → left + length (joined parts) ≡ GREATEST_BUNDLE → AreParts known folder parts
 all-parts known folder tables parts left whole (found, are, is) sum = record {
   files = found;
   are = subst (λ (ts : List Table). AreFilesOf known folder ts found) whole are;
   is = is;
-  within = omega (arith, sum);
-  fits =
-      let long = joined-length found in
-      let sections : sum_by frame (map (λ (file : Kept). file.0) found) ≡ 94 = ap (sum_by frame) (are.tables_are ∙ whole) in
-      subst (λ (ps : List Part). length (joined ps) ≤ GREATEST_BUNDLE) (sym is) (omega (arith, long, sections, sum, ap bytes_in is));
+  fits = omega (arith, sum);
 }

@@ -1,5 +1,5 @@
 -- A bundle that is kept as the files of a folder (profile).
-use Rattle.std.specs.Prelude.{ℕ, ◌≡◌, ◌≤◌, ◌<◌, ◌-◌, ◌++◌, List, [], ◌∷◌, Option, Some, None, IfSome, Result, Ok, Err, ⊤, codes, length, map, option_map, sum_by}
+use Rattle.std.specs.Prelude.{ℕ, ◌≡◌, ◌≤◌, ◌<◌, ◌++◌, List, [], ◌∷◌, Option, Some, None, IfSome, Result, Ok, Err, ⊤, codes, length, map, option_map}
 use Rattle.std.specs.List.{All, filter_map}
 use Rattle.std.specs.Path.{path_join}
 use Rattle.mrp_rows.specs.declared.fault.Table.{Table}
@@ -9,7 +9,6 @@ use Rattle.mrp_rows.specs.Joined.{Part, joined}
 use Rattle.mrp_rows.specs.declared.streams.ReadFault.{ReadFault}
 use Rattle.mrp_rows.specs.declared.streams.ReadFault.TheVariants.{Read, NoMemory}
 use Rattle.mrp_rows.specs.declared.streams.TheConstants.{GREATEST_BUNDLE}
-use Rattle.mrp_main.specs.declared.files.TheConstants.{MOST_OF_FILES}
 
 -- the tables, in their order
 abbrev pub all_tables : List Table
@@ -39,16 +38,17 @@ IsAt known path file = IfSome (known path) (λ kept. file ≡ kept)
 abbrev pub IsTooLongAt : Known → List ℕ → ℕ → Type 0
 IsTooLongAt known path most = IfSome (known path) (λ kept. (bytes : List ℕ) × (kept ≡ Some bytes) × (most < length bytes))
 
--- how many bytes parts of a bundle have
-abbrev pub bytes_in : List Part → ℕ
-bytes_in parts = sum_by (λ part. length part.1) parts
+-- with the file that a folder has of a table behind these parts a bundle is longer than one may be, or nothing is known of that file
+abbrev pub IsPastAt : Known → List ℕ → List Part → Table → Type 0
+IsPastAt known folder parts table =
+    IfSome (known (path_in folder table)) (λ kept. (bytes : List ℕ) × (kept ≡ Some bytes) × (GREATEST_BUNDLE < length (joined (parts ++ (table, bytes) ∷ []))))
 
 -- files are those that a folder has of some tables, one for each
 pub record AreFilesOf (known : Known) (folder : List ℕ) (tables : List Table) (files : List Kept) : Type 0 where
   pub tables_are : map (λ (file : Kept). file.0) files ≡ tables
   pub files_are : All (λ (file : Kept). IsAt known (path_in folder file.0) file.1) files
 
--- a folder has more bytes than a bundle has room for: a file has more than those of the tables before it leave
+-- a folder has more bytes than a bundle may have: the bundle of the files of some tables and of this one is longer, or nothing is known of this one
 pub record HasTooMuch (known : Known) (folder : List ℕ) : Type 0 where
   pub before : List Table
   pub table : Table
@@ -56,14 +56,13 @@ pub record HasTooMuch (known : Known) (folder : List ℕ) : Type 0 where
   pub tables : before ++ table ∷ after ≡ all_tables
   pub files : List Kept
   pub are : AreFilesOf known folder before files
-  pub past : IsTooLongAt known (path_in folder table) (MOST_OF_FILES - bytes_in (filter_map part_in files))
+  pub past : IsPastAt known folder (filter_map part_in files) table
 
--- the parts of a bundle are the files that a folder has, which have no more bytes than a bundle has room for: so their bundle has no more than one may have
+-- the parts of a bundle are the files that a folder has, and it is no longer than one may be
 pub record AreParts (known : Known) (folder : List ℕ) (parts : List Part) : Type 0 where
   pub files : List Kept
   pub are : AreFilesOf known folder all_tables files
   pub is : parts ≡ filter_map part_in files
-  pub within : bytes_in parts ≤ MOST_OF_FILES
   pub fits : length (joined parts) ≤ GREATEST_BUNDLE
 
 -- what reading a folder gives: its files' bundle; or it has too much, or memory was refused

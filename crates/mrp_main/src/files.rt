@@ -1,9 +1,9 @@
 //! A bundle that is kept as the files of a folder.
 
-ghost use Rattle.std.specs.Prelude.{◌≡◌, ◌≤◌, ◌++◌, ◌∷◌, [], Err, IfErr, IfOk, IfSome, OnOk, map, option_map, vec_len};
+ghost use Rattle.std.specs.Prelude.{◌≡◌, ◌≤◌, ◌<◌, ◌+◌, ◌++◌, ◌∷◌, [], Err, IfErr, IfOk, IfSome, OnOk, length, map, option_map, vec_len};
 ghost use Rattle.std.specs.Result.{result_map_both};
 ghost use Rattle.std.specs.Path.{path_buf_bytes};
-ghost use Rattle.mrp_rows.specs.Joined.{joined};
+ghost use Rattle.mrp_rows.specs.Joined.{joined, section_bytes, section_of};
 ghost use Rattle.mrp_rows.specs.declared.streams.ReadFault.TheVariants as read;
 ghost use Rattle.mrp_main.specs.Folder.{AreParts, HasTooMuch, IsAt, IsReadFrom, IsTooLongAt, Known, nothing_known, path_in};
 
@@ -14,10 +14,6 @@ use std::fs::File;
 use std::io::ErrorKind;
 use std::path::{Path, PathBuf};
 use std::rt::Files;
-
-/// The most bytes of all files of a folder: with nine section lines and the line feeds behind the files they
-/// are as many as a bundle may have.
-pub const MOST_OF_FILES: usize = GREATEST_BUNDLE - 94;
 
 // The tables, in their order.
 const TABLES: [Table; 9] = [
@@ -117,8 +113,24 @@ fn push_table(
     }
 }
 
-// The tables that have a file in a folder, with its bytes: all together at most as many as a bundle
-// has room for.
+// What a table's section leaves of so many bytes of a bundle.
+//
+// Errors: `Read` where it has more.
+#[tactic(auto, using(crate::proofs::Folders::section_length))]
+fn left_by(left: usize, table: Table, bytes: &[u8]) -> Result<usize, ReadFault>
+    ensures leaves { IfOk result (λ rest. rest + length (section_bytes (section_of (table, bytes.now))) ≡ left) }
+    ensures past { IfErr result (λ fault. (fault ≡ read.Read) × (left < length (section_bytes (section_of (table, bytes.now))))) }
+{
+    // (two brackets and two line feeds)
+    let frame = table.name().len() + 4;
+    match left.checked_sub(bytes.len()) {
+        Some(rest) if rest >= frame => Ok(rest - frame),
+        _ => Err(ReadFault::Read),
+    }
+}
+
+// The tables that have a file in a folder, with its bytes: their sections have all together at most as
+// many as a bundle may have.
 fn read_tables<F: FileStore>(
     files: &F,
     alloc: Global,
@@ -127,12 +139,12 @@ fn read_tables<F: FileStore>(
     ensures parts { IfOk result (λ tables. AreParts (F.known files.now) folder.now (map (λ part. (part.0, part.1.items)) tables.items)) }
     ensures past { result ≡ Err read.Read → HasTooMuch (F.known files.now) folder.now }
 {
-    let mut left = MOST_OF_FILES;
+    let mut left = GREATEST_BUNDLE;
     let mut tables = Vec::new(alloc);
     for table in TABLES {
         let file = read_table(files, alloc, folder, table, left)?;
         if let Some(bytes) = file {
-            left -= bytes.len();
+            left = left_by(left, table, bytes.as_slice())?;
             push_table(&mut tables, table, bytes)?;
         }
     }
@@ -153,9 +165,8 @@ fn join_tables(alloc: Global, tables: &[(Table, Vec<u8>)]) -> Result<Vec<u8>, No
 /// The bundle of a folder's files `calendar.csv`, `items.csv` and so on: a section for each that is
 /// there, in the order of the tables.
 ///
-/// Errors, at the first file that has one: `Read` where a file is there and can't be read, or has
-/// more bytes than the files before it leave of the 67,108,770 that a bundle has room for; `NoMemory`
-/// where a growth was refused.
+/// Errors, at the first file that has one: `Read` where a file is there and can't be read, or makes the
+/// bundle of the files up to it longer than 67,108,864 bytes; `NoMemory` where a growth was refused.
 pub fn read_folder<F: FileStore>(
     files: &F,
     alloc: Global,

@@ -1,13 +1,13 @@
-use Rattle.std.proofs.Common.{◌≡◌, ◌+◌, ℕ, map, take, Vec}
+use Rattle.std.proofs.Common.{◌≡◌, ◌+◌, ℕ, length, map, take, Vec}
 use Rattle.std.specs.declared.alloc.Global.{Global}
 use Rattle.mrp_rows.specs.declared.fault.Table.{Table}
-use Rattle.mrp_rows.specs.Joined.{Part}
-use Rattle.mrp_main.specs.declared.files.TheConstants.{MOST_OF_FILES}
-use Rattle.mrp_main.specs.Folder.{all_tables, bytes_in}
+use Rattle.mrp_rows.specs.Joined.{Part, joined}
+use Rattle.mrp_rows.specs.declared.streams.TheConstants.{GREATEST_BUNDLE}
+use Rattle.mrp_main.specs.Folder.{all_tables}
 use Rattle.mrp_main.proofs.Folders.{ArePartsOf}
 use Rattle.mrp_main.proofs.files.read_tables.Given as goal
 
 abbrev pub invariant-loop-table : goal.invariant-loop-table
 invariant-loop-table g l =
     ArePartsOf (g.F.FileStore.known l.files) l.folder (take l.table-index all_tables) (map {B = Part} (λ (part : Table × Vec ℕ Global). (part.0, part.1.items)) l.tables.items)
-    × (l.left + bytes_in (map {B = Part} (λ (part : Table × Vec ℕ Global). (part.0, part.1.items)) l.tables.items) ≡ MOST_OF_FILES)
+    × (l.left + length (joined (map {B = Part} (λ (part : Table × Vec ℕ Global). (part.0, part.1.items)) l.tables.items)) ≡ GREATEST_BUNDLE)
