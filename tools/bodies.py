@@ -56,7 +56,7 @@ def body_at(lines, number):
     return next((it for it in reversed([*bodies(lines)]) if it.begin <= number < it.end), None)
 
 
-# ---- the paths of functions, and which calls which
+# ---- the paths of functions
 
 def module_of(file):
     """The parts of the path below the crate of what a file of src/ has."""
