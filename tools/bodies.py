@@ -117,3 +117,11 @@ def emptied(file, text, spares):
             lines[body.begin : body.end] = [f"{body.indent}    loop {{}}"]
             paths.append(path)
     return "\n".join(lines), paths
+
+
+def without_main(text):
+    """The text of a program's root without `main`."""
+    lines = text.split("\n")
+    for body in [it for it in bodies(lines) if it.name == "main" and not it.indent]:
+        del lines[body.first : body.end + 1]
+    return "\n".join(lines)
