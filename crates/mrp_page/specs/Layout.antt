@@ -27,7 +27,7 @@ page_head =
     Mark (codes "</b>; items: <b>") ∷
     Text 4 ∷
     Mark (codes "</b>") ∷
-    Where 4 (codes "0") (codes " (the plan has none that was asked for)") ∷
+    Where 4 (codes "0") (codes " (the plan has none, or none that was asked for)") ∷
     Mark (codes "</p>\n</header>\n<main>\n") ∷ []
 
 -- what a message begins with

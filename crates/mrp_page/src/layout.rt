@@ -45,7 +45,7 @@ pub(crate) fn page_head() -> &'static [Part]
         Part::Markup(b"</b>; items: <b>"),
         Part::Cell(4),
         Part::Markup(b"</b>"),
-        Part::If(4, b"0", b" (the plan has none that was asked for)"),
+        Part::If(4, b"0", b" (the plan has none, or none that was asked for)"),
         Part::Markup(b"</p>\n</header>\n<main>\n"),
     ]
 }
