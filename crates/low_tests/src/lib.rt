@@ -1,5 +1,5 @@
-//! Tests of the crates up to `mrp_tables`, and of the lock, in a crate of their own: within those
-//! they would have each function proved once more.
+//! Tests of the crates up to `mrp_item`, of the lock and of the office, in a crate of their own: within
+//! those they would have each function proved once more.
 #![tactic(auto)]
 
 #[cfg(test)]

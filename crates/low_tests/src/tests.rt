@@ -2,13 +2,16 @@
 //! where a call fails, so that no proof has to follow what is let go on the way out, and give what is
 //! large to `drop`, which is proved once and not at the end of each scope.
 
-ghost use Rattle.std.specs.Prelude.{◌≢◌};
+ghost use Rattle.std.specs.Prelude.{◌≡◌, ◌≢◌, Ok};
 
 use mrp_qty::Qty;
 use mrp_rows::Table;
 use std::fmt::Debug;
 use std::process::Abort;
+use std::test::Fail;
 
+mod bills;
+mod books;
 mod bundles;
 mod calendars;
 mod cells;
@@ -17,13 +20,18 @@ mod faults;
 mod joined;
 mod limits;
 mod lots;
+mod making;
 mod netting;
+mod offices;
+mod plans;
+mod promises;
 mod quantities;
 mod streams;
 mod tables;
 mod told;
 mod turns;
 mod weeks;
+mod worked;
 
 // The greatest quantity.
 const MOST: u64 = 1_000_000_000_000_000;
@@ -46,4 +54,14 @@ fn one_of_nine(rt: &impl Abort, table: Table) -> Table
         panic!(rt; "a table");
     }
     table
+}
+
+// What is made of a sample shop, which has to be there.
+fn made<T>(rt: &impl Abort, outcome: Result<T, Fail>) -> T
+    ensures { outcome ≡ Ok result }
+{
+    match outcome {
+        Ok(made) => made,
+        Err(_) => panic!(rt; "a sample shop"),
+    }
 }

@@ -1,7 +1,7 @@
 use Rattle.std.proofs.Common.{◌≡◌, ◌∙◌, ◌∷◌, ◌++◌, List, [], ap, arith}
 use Rattle.mrp_desk.specs.Offices.{Desk}
-use Rattle.middle_tests.proofs.TwoDesks.{both_desks}
-use Rattle.middle_tests.proofs.tests.offices.Pair.close.Goals as goal
+use Rattle.low_tests.proofs.TwoDesks.{both_desks}
+use Rattle.low_tests.proofs.tests.offices.Pair.close.Goals as goal
 
 pub close-requires-clause-all : goal.close-requires-clause-all
 close-requires-clause-all g c n least most =

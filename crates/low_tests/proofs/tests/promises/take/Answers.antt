@@ -1,7 +1,7 @@
 use Rattle.std.proofs.Common.{◌≤◌, length, arith}
 use Rattle.mrp_master.specs.AtpRow.{IsWeekOf}
 use Rattle.mrp_master.proofs.Carried.{fits_available}
-use Rattle.middle_tests.proofs.tests.promises.take.Goals as goal
+use Rattle.low_tests.proofs.tests.promises.take.Goals as goal
 
 pub take-requires-clause-available : goal.take-requires-clause-available
 take-requires-clause-available g c =

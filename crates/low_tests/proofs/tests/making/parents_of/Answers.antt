@@ -1,7 +1,7 @@
 use Rattle.std.proofs.Common.{◌≡◌, ◌∙◌, ◌<◌, length, get_or, arith}
 use Rattle.mrp_item.specs.Made.{item_from}
 use Rattle.mrp_item.proofs.OutcomeLists.{item-at, items-next, length-items}
-use Rattle.middle_tests.proofs.tests.making.parents_of.Goals as goal
+use Rattle.low_tests.proofs.tests.making.parents_of.Goals as goal
 
 pub loop-parent-preserved : goal.loop-parent-preserved
 loop-parent-preserved c =

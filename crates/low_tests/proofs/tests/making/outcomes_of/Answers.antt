@@ -1,5 +1,5 @@
 use Rattle.mrp_item.proofs.OutcomeLists.{places-next}
-use Rattle.middle_tests.proofs.tests.making.outcomes_of.Goals as goal
+use Rattle.low_tests.proofs.tests.making.outcomes_of.Goals as goal
 
 pub loop-item-preserved : goal.loop-item-preserved
 loop-item-preserved c =

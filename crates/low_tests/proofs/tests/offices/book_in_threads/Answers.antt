@@ -1,6 +1,6 @@
 use Rattle.std.proofs.Common.{rules}
 use types.Keyed.{entry}
-use Rattle.middle_tests.proofs.tests.offices.book_in_threads.Goals as goal
+use Rattle.low_tests.proofs.tests.offices.book_in_threads.Goals as goal
 
 pub map_vec-requires-send-J : goal.map_vec-requires-send-J
 unfolding entry
