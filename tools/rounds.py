@@ -204,7 +204,7 @@ PROOF_ERROR = re.compile(r"(?:\./)?proofs/(\S+)/\w+\.antt:\d+:\d+: error: (.*)")
 # An error of a written proof that says what the function does not meet, and one that only says that the proof does not read.
 IS_REFUSAL = re.compile(
     r"the two (types|values) (first )?differ|expected type .*,? but this has type|is checked against `⊥`|does not follow"
-    r"|no proof of .* was found"
+    r"|no proof of .* was found|`grind` (found no proof|stopped at its own limit)"
 )
 # One that only says that a name is gone, and one that says that what the proof rests on is not admitted, whatever the reason.
 TAKEN_AWAY = re.compile(r"has no field|is not in scope|has no `|is no name|\(nearest: ")
@@ -221,17 +221,28 @@ def is_fine(said):
 
 @dataclass
 class Told:
-    """What a check told of functions: why some are refused for themselves, of which proofs lost a name, for which others
-    some wait, which were told of."""
+    """What a check told of functions: why some are refused for themselves, of which proofs lost a name, of which the goal was
+    not tried, for which others some wait, which were told of."""
 
     refused: dict = field(default_factory=dict)
     lost: set = field(default_factory=set)
+    untried: set = field(default_factory=set)
     waiting: dict = field(default_factory=dict)
     seen: set = field(default_factory=set)
     others: list = field(default_factory=list)
 
     def not_proved(self):
-        return {*self.refused, *self.lost, *self.waiting}
+        return {*self.refused, *self.lost, *self.untried, *self.waiting}
+
+    def take_goal(self, name, goal, said, errors, lost):
+        """Takes what is said of a copy of which one goal alone is tried."""
+        left = LEAVES.search(said)
+        if name in errors and name not in lost:
+            self.refused.setdefault(name, errors[name])
+        elif name in lost:
+            self.lost.add(name)
+        elif not left or f"`{goal}`" in left[1]:
+            self.untried.add(name)
 
 
 def owner(name, functions):
@@ -257,8 +268,12 @@ def joined(text):
     return lines
 
 
-def told_by(crate, lines, functions, empty=frozenset()):
-    told, place, errors, lost, unread = Told(), "", {}, set(), set()
+# What is said of a function where all goals without a written answer are left alone.
+LEAVES = re.compile(r"`#\[tactic\(none\)\]` leaves (.*)")
+
+
+def told_by(crate, lines, functions, empty=frozenset(), goals=None):
+    told, place, errors, lost, unread, goals = Told(), "", {}, set(), set(), goals or {}
     # (where proofs are left open, what stands on one of these is not called proved either)
     fine = empty | {it[1] for it in map(FUNCTION.match, lines) if it and is_fine(it[2])}
     for line in lines:
@@ -268,7 +283,7 @@ def told_by(crate, lines, functions, empty=frozenset()):
             lost.add(name)
         elif error and NOT_ADMITTED.search(error[2]):
             unread.add(name)
-        elif error and IS_REFUSAL.search(error[2]):
+        elif error and IS_REFUSAL.search(error[2]) and error[2].startswith(f"`{goals[name]}`" if name in goals else ""):
             errors.setdefault(name, line)
     for line in lines:
         place = PLACE.match(line)[1] if PLACE.match(line) else place
@@ -287,6 +302,9 @@ def told_by(crate, lines, functions, empty=frozenset()):
         name = owner(name, functions) or name
         why, place = place, ""
         if is_fine(said):
+            continue
+        if name in goals:
+            told.take_goal(name, goals[name], said, errors, lost | unread)
             continue
         calls = OF_CALLS.search(said)
         waits = bool(calls) and not fine.issuperset(re.findall(r"`(\S+?)`", calls[1]))
@@ -325,6 +343,10 @@ class Round:
 
     def functions(self):
         return frozenset().union(*self.names.values())
+
+    def goals(self):
+        """The goals that alone are tried of copies, by the copies' paths."""
+        return {copy.path: copy.goal.split()[0] for copy in self.copies if copy.goal}
 
     def in_error(self, errors):
         """The edits in whose copies these errors of the compiler's front lie."""
@@ -387,7 +409,7 @@ def judge_round(crate, tried, ran, empty):
     if ran.returncode not in (0, 1) or not end:
         tried.errors = [line for line in lines if ": error" in line] or lines[-1:]
         return None, f"the check did not come to its end: {tried.errors[0][:200]}"
-    told = told_by(crate, lines, functions, empty)
+    told = told_by(crate, lines, functions, empty, tried.goals())
     lost = functions - told.seen
     if lost:
         return None, f"nothing was told of {min(lost)}"

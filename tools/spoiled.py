@@ -7,7 +7,7 @@ import re
 import shutil
 from dataclasses import dataclass, field
 
-from bodies import body_at
+from bodies import HEAD, body_at
 
 
 @dataclass(eq=False)
@@ -16,6 +16,8 @@ class Edit:
     functions: frozenset = frozenset()
     pairs: list = field(default_factory=list)
     is_harmless: bool = False
+    # The goal that refuses it, and what an answer binds, where it names one.
+    goal: str = ""
 
 
 class BadEdit(Exception):
@@ -41,12 +43,16 @@ def read_edit(path, crate):
             old = None
         elif word == "harmless" and rest:
             edit.is_harmless = True
+        elif word == "goal" and rest and not edit.goal:
+            edit.goal = rest.strip()
         elif line.strip():
             raise BadEdit(f"this line says nothing: {line[:80]}")
     if not edit.pairs or not functions or old is not None:
         raise BadEdit("it has no function (of:), or no whole pair (file:, old:, new:)")
     if all(was == now for _, was, now in edit.pairs):
         raise BadEdit("it changes nothing")
+    if edit.goal and (len(functions) > 1 or edit.is_harmless):
+        raise BadEdit("a goal is one of one function, and none of a control's")
     edit.functions = frozenset(functions)
     return edit
 
@@ -82,14 +88,28 @@ def text_of(crate, file):
 
 @dataclass
 class Copy:
-    """A function with an edit, under a name of its own: its path, that of the function, the copy's lines, and the line that they
-    stand behind."""
+    """A function with an edit, under a name of its own: its path, that of the function, the copy's lines, the line that they
+    stand behind, and the goal that alone is tried of it, if one is."""
 
     path: str
     original: str
     file: str
     lines: list
     after: int
+    goal: str = ""
+    hints: list = field(default_factory=list)
+
+    def try_no_goal_but(self, goal):
+        """Leaves all goals but this one alone, and those with a written answer."""
+        self.goal = goal
+        self.hints = [line for line in self.lines if line.lstrip().startswith(HINTS)]
+        head = next(at for at, line in enumerate(self.lines) if HEAD.match(line))
+        self.lines.insert(head, f"{HEAD.match(self.lines[head])[1]}#[tactic(none)]")
+        self.lines = [line for line in self.lines if line not in self.hints]
+
+
+# What the search for a function's proof is given beside what it knows.
+HINTS = "#[tactic(auto"
 
 
 def copies_of(crate, edit, number, is_spoiled=True):
@@ -103,6 +123,8 @@ def copies_of(crate, edit, number, is_spoiled=True):
         lines = (new if is_spoiled else old)[body.first : body.end + 1]
         lines[body.head - body.first] = re.sub(rf"\bfn {body.name}\b", f"fn {body.name}{SPOILED}{number}", lines[body.head - body.first], count=1)
         copies[paths[0]] = Copy(f"{paths[0]}{SPOILED}{number}", paths[0], file, lines, body.end)
+        if edit.goal:
+            copies[paths[0]].try_no_goal_but(edit.goal)
     return [*copies.values()] if copies.keys() == edit.functions else None
 
 
@@ -132,6 +154,41 @@ def lay_proof(room, copy):
             text = open(path, encoding="utf-8").read()
             with open(path, "w", encoding="utf-8") as out:
                 out.write(name.sub(".".join([*parts, now]), text))
+    if " = " in copy.goal:
+        lay_answer(room, copy)
+
+
+IMPORTED = re.compile(r"(?s)^use (\S+)\.\{(.*?)\}$", re.M)
+
+
+def lay_answer(room, copy):
+    """Lays the answer of the goal that alone is tried of a copy, where its edit gives one, beside those that are written."""
+    crate, *parts = copy.path.split("::")
+    path, goal = "/".join([room, "proofs", *parts, "Answers.antt"]), copy.goal.split()[0]
+    text = open(path, encoding="utf-8").read() if os.path.exists(path) else ""
+    known = {name.strip() for it in IMPORTED.finditer(text) for name in it[2].split(",")}
+    unfolded = named_by(copy, crate, "unfolding")
+    names = [*WORDS, *named_by(copy, crate, "using"), *unfolded]
+    used = [(module, name) for module, name in names if name not in known and ((module, name) in unfolded or name in re.split(r"[^\w-]+", copy.goal))]
+    uses = [f"use {module}.{{{name}}}" for module, name in used]
+    uses += [] if re.search(r"(?m)^use \S+\.Goals as goal$", text) else [f"use Rattle.{crate}.proofs.{'.'.join(parts)}.Goals as goal"]
+    unfolding = f"unfolding {' '.join(name for _, name in unfolded)}\n" if unfolded else ""
+    os.makedirs(os.path.dirname(path), exist_ok=True)
+    with open(path, "w", encoding="utf-8") as out:
+        out.write("\n".join([*uses, text]))
+        out.write(f"\npub {goal} : goal.{goal}\n{unfolding}{copy.goal}\n")
+
+
+# What an answer of an edit may name beside what its function's hints name.
+GRIND = "Rattle.std.proofs.lemmas.Grind"
+WORDS = [("Rattle.std.proofs.Common", "rules"), ("Rattle.std.proofs.Common", "arith"), ("borrow.Author.Rules", "get_or_read"), *((GRIND, it) for it in ("common_steps", "elements", "moves", "pieces"))]
+
+
+def named_by(copy, crate, word):
+    """The lemmas or definitions that a function's hints name, each with its module."""
+    found = re.findall(rf"\b{word}\(([^()]*)\)", "".join(copy.hints))
+    paths = [it.strip().split("::") for it in ",".join(found).split(",") if it.strip()]
+    return [(".".join(["Rattle", crate if first == "crate" else first, *module]), name) for first, *module, name in paths]
 
 
 def leave_open(room, crate, path):
