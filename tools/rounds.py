@@ -16,7 +16,7 @@ from contextlib import contextmanager
 from dataclasses import dataclass, field
 
 from bodies import body_at, emptied, files_of, without_main
-from spoiled import laid_on, lay_copies, lay_proof, leave_open, text_of
+from spoiled import STANDING, laid_on, lay_copies, lay_proof, leave_open, standing_copies, text_of
 
 
 def toolchain():
@@ -204,7 +204,7 @@ PROOF_ERROR = re.compile(r"(?:\./)?proofs/(\S+)/\w+\.antt:\d+:\d+: error: (.*)")
 # An error of a written proof that says what the function does not meet, and one that only says that the proof does not read.
 IS_REFUSAL = re.compile(
     r"the two (types|values) (first )?differ|expected type .*,? but this has type|is checked against `⊥`|does not follow"
-    r"|no proof of .* was found|`grind` (found no proof|stopped at its own limit)"
+    r"|no proof of .* was found"
 )
 # One that only says that a name is gone, and one that says that what the proof rests on is not admitted, whatever the reason.
 TAKEN_AWAY = re.compile(r"has no field|is not in scope|has no `|is no name|\(nearest: ")
@@ -221,28 +221,27 @@ def is_fine(said):
 
 @dataclass
 class Told:
-    """What a check told of functions: why some are refused for themselves, of which proofs lost a name, of which the goal was
-    not tried, for which others some wait, which were told of."""
+    """What a check told of functions: why some are refused for themselves, of which proofs lost a name, for which others
+    some wait, which were told of. Of copies of which some goals alone are tried: which are shown, and why others are not."""
 
     refused: dict = field(default_factory=dict)
     lost: set = field(default_factory=set)
-    untried: set = field(default_factory=set)
+    shown: set = field(default_factory=set)
+    not_shown: dict = field(default_factory=dict)
     waiting: dict = field(default_factory=dict)
     seen: set = field(default_factory=set)
     others: list = field(default_factory=list)
 
     def not_proved(self):
-        return {*self.refused, *self.lost, *self.untried, *self.waiting}
+        return {*self.refused, *self.lost, *self.waiting}
 
-    def take_goal(self, name, goal, said, errors, lost):
-        """Takes what is said of a copy of which one goal alone is tried."""
+    def take_goals(self, name, goals, said, errors):
+        """Takes what is said of a copy of which these goals alone are tried, and of their answers: a goal is shown where nothing
+        is said against any answer, and it is not among those that are left."""
         left = LEAVES.search(said)
-        if name in errors and name not in lost:
-            self.refused.setdefault(name, errors[name])
-        elif name in lost:
-            self.lost.add(name)
-        elif not left or f"`{goal}`" in left[1]:
-            self.untried.add(name)
+        if not errors and (left or is_fine(said)):
+            self.shown |= {(name, goal) for goal in goals if not left or f"`{goal}`" not in left[1]}
+        self.not_shown |= {(name, goal): line for goal, line in errors.items() if line}
 
 
 def owner(name, functions):
@@ -272,8 +271,29 @@ def joined(text):
 LEAVES = re.compile(r"`#\[tactic\(none\)\]` leaves (.*)")
 
 
+ANSWER = re.compile(r"`([^`]+)`: ")
+
+
+def answers_in_error(crate, lines, goals):
+    """What is said against answers of the functions of which goals alone are tried: a line that says what the goal lacks, or
+    nothing where one says only that the answer can't be read."""
+    found = {}
+    for error in filter(None, map(PROOF_ERROR.match, lines)):
+        name, answer = f"{crate.name}::" + error[1].replace("/", "::"), ANSWER.match(error[2])
+        if name in goals:
+            said, goal = found.setdefault(name, {}), answer[1] if answer else ""
+            said[goal] = error[0] if says_what_lacks(error[2]) and said.get(goal, True) else None
+    return found
+
+
+def says_what_lacks(error):
+    """Whether an error of a written proof says what the function does not meet, and not that the proof does not read."""
+    return bool(IS_REFUSAL.search(error)) and not TAKEN_AWAY.search(error) and not NOT_ADMITTED.search(error)
+
+
 def told_by(crate, lines, functions, empty=frozenset(), goals=None):
     told, place, errors, lost, unread, goals = Told(), "", {}, set(), set(), goals or {}
+    of_answers = answers_in_error(crate, lines, goals)
     # (where proofs are left open, what stands on one of these is not called proved either)
     fine = empty | {it[1] for it in map(FUNCTION.match, lines) if it and is_fine(it[2])}
     for line in lines:
@@ -283,7 +303,7 @@ def told_by(crate, lines, functions, empty=frozenset(), goals=None):
             lost.add(name)
         elif error and NOT_ADMITTED.search(error[2]):
             unread.add(name)
-        elif error and IS_REFUSAL.search(error[2]) and error[2].startswith(f"`{goals[name]}`" if name in goals else ""):
+        elif error and IS_REFUSAL.search(error[2]):
             errors.setdefault(name, line)
     for line in lines:
         place = PLACE.match(line)[1] if PLACE.match(line) else place
@@ -301,10 +321,11 @@ def told_by(crate, lines, functions, empty=frozenset(), goals=None):
         told.seen.add(name)
         name = owner(name, functions) or name
         why, place = place, ""
-        if is_fine(said):
-            continue
         if name in goals:
-            told.take_goal(name, goals[name], said, errors, lost | unread)
+            if function[1] == name:
+                told.take_goals(name, goals[name], said, of_answers.get(name, {}))
+            continue
+        if is_fine(said):
             continue
         calls = OF_CALLS.search(said)
         waits = bool(calls) and not fine.issuperset(re.findall(r"`(\S+?)`", calls[1]))
@@ -332,7 +353,7 @@ def unreadable(lines, texts, stdout):
 @dataclass
 class Round:
     """What one check tries: edits with the functions that each is asked of, the texts that this takes, the copies in these,
-    whether the other functions have no bodies there, and the paths of those that have none."""
+    with edits and as they stand, whether the other functions have no bodies there, and the paths of those that have none."""
 
     names: dict = field(default_factory=dict)
     texts: dict = field(default_factory=dict)
@@ -342,11 +363,20 @@ class Round:
     errors: list = field(default_factory=list)
 
     def functions(self):
-        return frozenset().union(*self.names.values())
+        return frozenset(copy.path for copy in self.copies).union(*self.names.values())
 
     def goals(self):
         """The goals that alone are tried of copies, by the copies' paths."""
-        return {copy.path: copy.goal.split()[0] for copy in self.copies if copy.goal}
+        return {copy.path: [goal.name for goal in copy.goals] for copy in self.copies if copy.goals}
+
+    def settle(self, told):
+        """Calls refused each copy with an edit whose goal is not shown, where it is of the function as it stands: by the same
+        answer, or by a written one."""
+        for copy in self.copies:
+            for goal in copy.goals if not copy.is_as_it_stands() else ():
+                why = told.not_shown.get((copy.path, goal.name))
+                if why and (not goal.binds or (f"{copy.original}{STANDING}", goal.name) in told.shown):
+                    told.refused[copy.path] = why
 
     def in_error(self, errors):
         """The edits in whose copies these errors of the compiler's front lie."""
@@ -363,6 +393,7 @@ ERROR_AT = re.compile(r"(?:\./)?(src/\S+?):(\d+):\d+: error")
 def round_of(crate, edits, copies):
     """A round of edits, by copies those that have some, and the others in place."""
     every = [copy for edit in edits for copy in copies.get(edit, ())]
+    every += standing_copies(crate, [edit for edit in edits if any(copy.goals for copy in copies.get(edit, ()))])
     texts = laid_on(crate, [edit for edit in edits if edit not in copies])
     names = {edit: frozenset(it.path for it in copies[edit]) if edit in copies else edit.functions for edit in edits}
     return Round(names, lay_copies(crate, every, texts), every)
@@ -410,6 +441,7 @@ def judge_round(crate, tried, ran, empty):
         tried.errors = [line for line in lines if ": error" in line] or lines[-1:]
         return None, f"the check did not come to its end: {tried.errors[0][:200]}"
     told = told_by(crate, lines, functions, empty, tried.goals())
+    tried.settle(told)
     lost = functions - told.seen
     if lost:
         return None, f"nothing was told of {min(lost)}"

@@ -7,7 +7,15 @@ import re
 import shutil
 from dataclasses import dataclass, field
 
-from bodies import HEAD, body_at
+from bodies import body_at
+
+
+@dataclass(frozen=True)
+class Goal:
+    """A goal of a function's proof, by its name, and what an answer of it binds, or nothing where the answer is written."""
+
+    name: str
+    binds: str = ""
 
 
 @dataclass(eq=False)
@@ -16,8 +24,8 @@ class Edit:
     functions: frozenset = frozenset()
     pairs: list = field(default_factory=list)
     is_harmless: bool = False
-    # The goal that refuses it, and what an answer binds, where it names one.
-    goal: str = ""
+    # The goal that refuses it, where it names one.
+    goal: Goal | None = None
 
 
 class BadEdit(Exception):
@@ -44,17 +52,27 @@ def read_edit(path, crate):
         elif word == "harmless" and rest:
             edit.is_harmless = True
         elif word == "goal" and rest and not edit.goal:
-            edit.goal = rest.strip()
+            name, _, binds = rest.strip().partition(" ")
+            edit.goal = Goal(name, binds)
         elif line.strip():
             raise BadEdit(f"this line says nothing: {line[:80]}")
     if not edit.pairs or not functions or old is not None:
         raise BadEdit("it has no function (of:), or no whole pair (file:, old:, new:)")
     if all(was == now for _, was, now in edit.pairs):
         raise BadEdit("it changes nothing")
-    if edit.goal and (len(functions) > 1 or edit.is_harmless):
-        raise BadEdit("a goal is one of one function, and none of a control's")
     edit.functions = frozenset(functions)
+    if edit.goal and len(functions) > 1:
+        raise BadEdit("a goal is one of one function")
+    if edit.goal and is_written(crate, edit) == bool(edit.goal.binds):
+        raise BadEdit("what an answer binds stands behind a goal's name where, and only where, proofs/ has no answer of it")
     return edit
+
+
+def is_written(crate, edit):
+    """Whether the goal that an edit names has a written answer."""
+    (path,) = edit.functions
+    written = f"{crate.folder}/proofs/{path.partition('::')[2].replace('::', '/')}/Answers.antt"
+    return os.path.exists(written) and f"pub {edit.goal.name} :" in open(written, encoding="utf-8").read()
 
 
 # What a body may state, which is no code.
@@ -88,47 +106,58 @@ def text_of(crate, file):
 
 @dataclass
 class Copy:
-    """A function with an edit, under a name of its own: its path, that of the function, the copy's lines, the line that they
-    stand behind, and the goal that alone is tried of it, if one is."""
+    """A function with an edit, or as it stands, under a name of its own: its path, that of the function, the copy's lines, the
+    line that they stand behind, and the goals that alone are tried of it, or none where all are, with what hints the function
+    gives to the search for its proof."""
 
     path: str
     original: str
     file: str
     lines: list
     after: int
-    goal: str = ""
+    goals: list = field(default_factory=list)
     hints: list = field(default_factory=list)
 
-    def try_no_goal_but(self, goal):
-        """Leaves all goals but this one alone, and those with a written answer."""
-        self.goal = goal
-        self.hints = [line for line in self.lines if line.lstrip().startswith(HINTS)]
-        head = next(at for at, line in enumerate(self.lines) if HEAD.match(line))
-        self.lines.insert(head, f"{HEAD.match(self.lines[head])[1]}#[tactic(none)]")
-        self.lines = [line for line in self.lines if line not in self.hints]
+    def is_as_it_stands(self):
+        return self.path.endswith(STANDING)
 
 
-# What the search for a function's proof is given beside what it knows.
+SPOILED, STANDING = "_spoiled_", "_as_it_stands"
 HINTS = "#[tactic(auto"
+
+
+def copy_of(path, ending, body, file, lines, goals):
+    """A copy of a function that stands in these lines of a file, its name with this ending."""
+    above, head, rest = lines[body.first : body.head], lines[body.head], lines[body.head + 1 : body.end + 1]
+    head = re.sub(rf"\bfn {body.name}\b", f"fn {body.name}{ending}", head, count=1)
+    hints = [line for line in above if goals and line.lstrip().startswith(HINTS)]
+    above = [line for line in above if line not in hints] + [f"{body.indent}#[tactic(none)]"] * bool(goals)
+    return Copy(f"{path}{ending}", path, file, [*above, head, *rest], body.end, goals, hints)
 
 
 def copies_of(crate, edit, number, is_spoiled=True):
     """A copy of each function that the edit names, with the edit or as it stands, or None where there can be none."""
-    copies = {}
+    copies, goals = {}, [edit.goal] if edit.goal else []
     for file, old, new, at in changed_by(crate, edit):
         body = body_at(old, at)
         paths = [it for it in edit.functions if it.rpartition("::")[2] == body.name]
         if body.is_bound_to_its_name() or len(paths) != 1:
             return None
-        lines = (new if is_spoiled else old)[body.first : body.end + 1]
-        lines[body.head - body.first] = re.sub(rf"\bfn {body.name}\b", f"fn {body.name}{SPOILED}{number}", lines[body.head - body.first], count=1)
-        copies[paths[0]] = Copy(f"{paths[0]}{SPOILED}{number}", paths[0], file, lines, body.end)
-        if edit.goal:
-            copies[paths[0]].try_no_goal_but(edit.goal)
+        copies[paths[0]] = copy_of(paths[0], f"{SPOILED}{number}", body, file, new if is_spoiled else old, goals)
     return [*copies.values()] if copies.keys() == edit.functions else None
 
 
-SPOILED = "_spoiled_"
+def standing_copies(crate, edits):
+    """A copy, as it stands, of each function of which edits name goals without a written answer, to try these goals of it."""
+    copies = {}
+    for edit in edits:
+        if not edit.goal or not edit.goal.binds:
+            continue
+        (path,) = edit.functions
+        file, old, _, at = next(changed_by(crate, edit))
+        copy = copies.setdefault(path, copy_of(path, STANDING, body_at(old, at), file, old, [edit.goal]))
+        copy.goals = [*dict.fromkeys([*copy.goals, edit.goal])]
+    return [*copies.values()]
 
 
 def lay_copies(crate, copies, texts):
@@ -154,34 +183,39 @@ def lay_proof(room, copy):
             text = open(path, encoding="utf-8").read()
             with open(path, "w", encoding="utf-8") as out:
                 out.write(name.sub(".".join([*parts, now]), text))
-    if " = " in copy.goal:
-        lay_answer(room, copy)
+    if any(goal.binds for goal in copy.goals):
+        lay_answers(room, copy)
 
 
 IMPORTED = re.compile(r"(?s)^use (\S+)\.\{(.*?)\}$", re.M)
 
 
-def lay_answer(room, copy):
-    """Lays the answer of the goal that alone is tried of a copy, where its edit gives one, beside those that are written."""
+COMMON, GRIND = "Rattle.std.proofs.Common", "Rattle.std.proofs.lemmas.Grind"
+WORDS = [(COMMON, "rules"), (COMMON, "arith"), (GRIND, "common_steps")]
+
+
+def lay_answers(room, copy):
+    """Lays answers of the goals that alone are tried of a copy, beside those that are written: what the prover tries first."""
     crate, *parts = copy.path.split("::")
-    path, goal = "/".join([room, "proofs", *parts, "Answers.antt"]), copy.goal.split()[0]
+    path = "/".join([room, "proofs", *parts, "Answers.antt"])
     text = open(path, encoding="utf-8").read() if os.path.exists(path) else ""
-    known = {name.strip() for it in IMPORTED.finditer(text) for name in it[2].split(",")}
-    unfolded = named_by(copy, crate, "unfolding")
-    names = [*WORDS, *named_by(copy, crate, "using"), *unfolded]
-    used = [(module, name) for module, name in names if name not in known and ((module, name) in unfolded or name in re.split(r"[^\w-]+", copy.goal))]
-    uses = [f"use {module}.{{{name}}}" for module, name in used]
-    uses += [] if re.search(r"(?m)^use \S+\.Goals as goal$", text) else [f"use Rattle.{crate}.proofs.{'.'.join(parts)}.Goals as goal"]
-    unfolding = f"unfolding {' '.join(name for _, name in unfolded)}\n" if unfolded else ""
+    lemmas, unfolded = named_by(copy, crate, "using"), named_by(copy, crate, "unfolding")
+    uses = {name: module for module, name in [*WORDS, *lemmas, *unfolded]}
+    for it in IMPORTED.finditer(text):
+        uses = {name: module for name, module in uses.items() if name not in re.split(r"[,\s]+", it[2])}
+    lines = [f"use {module}.{{{name}}}" for name, module in uses.items()]
+    if not re.search(r"(?m)^use \S+\.Goals as goal$", text):
+        lines.append(f"use Rattle.{crate}.proofs.{'.'.join(parts)}.Goals as goal")
+    facts = [[name for _, name in lemmas], ["common_steps"]]
+    ways = ", ".join(["search rules", *(f"grind (arith, {', '.join(it)})" for it in facts if it)])
+    lines.append(text)
+    for goal in copy.goals:
+        lines += ["", f"pub {goal.name} : goal.{goal.name}"]
+        lines += [f"unfolding {' '.join(name for _, name in unfolded)}"] * bool(unfolded)
+        lines += [f"{goal.name} {goal.binds} = first_of ({ways})"]
     os.makedirs(os.path.dirname(path), exist_ok=True)
     with open(path, "w", encoding="utf-8") as out:
-        out.write("\n".join([*uses, text]))
-        out.write(f"\npub {goal} : goal.{goal}\n{unfolding}{copy.goal}\n")
-
-
-# What an answer of an edit may name beside what its function's hints name.
-GRIND = "Rattle.std.proofs.lemmas.Grind"
-WORDS = [("Rattle.std.proofs.Common", "rules"), ("Rattle.std.proofs.Common", "arith"), ("borrow.Author.Rules", "get_or_read"), *((GRIND, it) for it in ("common_steps", "elements", "moves", "pieces"))]
+        out.write("\n".join([*lines, ""]))
 
 
 def named_by(copy, crate, word):
