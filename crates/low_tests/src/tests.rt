@@ -17,6 +17,7 @@ mod calendars;
 mod cells;
 mod cursors;
 mod faults;
+mod groups;
 mod joined;
 mod limits;
 mod lots;

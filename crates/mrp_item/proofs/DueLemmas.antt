@@ -73,7 +73,7 @@ pub dated_none : (n : ℕ) → replicate n 0 ≡ row n (due_sum [])
 dated_none n = row_is (replicate n 0) (due_sum []) n (length-replicate n 0) (λ t a b. in_week_replicate n t)
 
 -- what one more row says is due
-pub dues_more : {R : Type 0} (keep : R → Bool) (due : R → Due) (rows : List R) (k : ℕ) (d r : R) → k < length rows → r ≡ get_or rows k d
+pub dues_more : {R D : Type 0} (keep : R → Bool) (due : R → D) (rows : List R) (k : ℕ) (d r : R) → k < length rows → r ≡ get_or rows k d
     → dues_of keep due (take (k + 1) rows) ≡ dues_of keep due (take k rows) ++ cond (keep r) (due r ∷ []) []
 dues_more {R} keep due rows k d r h is =
     ap (map due) (filter_more keep rows k d h ∙ ap (λ (x : R). filter keep (take k rows) ++ cond (keep x) (x ∷ []) []) (sym is))

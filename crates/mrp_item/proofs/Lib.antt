@@ -1,6 +1,6 @@
 pub mod DueLemmas
 pub mod DueRows
-pub mod Grouped
+pub mod GroupParts
 pub mod Starts
 pub mod OrderWeeks
 pub mod Asks

@@ -20,8 +20,8 @@ due_sum dues week = sum (due_in week dues)
 abbrev pub with_more : List ℕ → ℕ → ℕ → ℕ → ℕ
 with_more xs at more week = in_week xs week + (if at == week then more else 0)
 
--- what each of some rows says is due
-abbrev pub dues_of : {R : Type 0} → (R → Bool) → (R → Due) → List R → List Due
+-- what each of some rows says
+abbrev pub dues_of : {R D : Type 0} → (R → Bool) → (R → D) → List R → List D
 dues_of keep due rows = map due (filter keep rows)
 
 abbrev pub master_due : MasterRow → Due
@@ -46,6 +46,6 @@ receipt_dues rows i = dues_of (λ r. r.item == i) receipt_due rows
 abbrev pub booking_dues : List Booking → ℕ → List Due
 booking_dues rows i = dues_of (λ b. b.line.item == i) booking_due rows
 
--- the list of an item, and nothing past the last item
-abbrev pub listed : List (List Due) → ℕ → List Due
+-- the list of a number, and nothing past the last one
+abbrev pub listed : {X : Type 0} → List (List X) → ℕ → List X
 listed lists i = slice_index_or lists i []

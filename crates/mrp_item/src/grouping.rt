@@ -7,19 +7,19 @@ ghost use Rattle.mrp_item.specs.Grouped.{of_booking, of_master, of_receipt};
 ghost use Rattle.mrp_item.specs.Rows.{is_forecast};
 
 use crate::due::Due;
-use crate::due_lists::{DueLists, ItemDue};
+use crate::groups::{Grouped, Numbered};
 use mrp_book::Booking;
 use mrp_qty::NoMemory;
 use mrp_tables::{MasterRow, Receipt};
 use std::alloc::Global;
 
 // What a row of the master schedule says.
-fn due_of_master(row: &MasterRow) -> ItemDue
+fn due_of_master(row: &MasterRow) -> Numbered<Due>
     ensures { result ≡ of_master row.now }
 {
-    ItemDue {
-        item: row.item,
-        due: Due {
+    Numbered {
+        number: row.item,
+        value: Due {
             number: u64::from(row.number),
             week: row.week,
             quantity: row.quantity,
@@ -28,12 +28,12 @@ fn due_of_master(row: &MasterRow) -> ItemDue
 }
 
 // What an open receipt says.
-fn due_of_receipt(row: &Receipt) -> ItemDue
+fn due_of_receipt(row: &Receipt) -> Numbered<Due>
     ensures { result ≡ of_receipt row.now }
 {
-    ItemDue {
-        item: row.item,
-        due: Due {
+    Numbered {
+        number: row.item,
+        value: Due {
             number: u64::from(row.number),
             week: row.week,
             quantity: row.quantity,
@@ -42,13 +42,13 @@ fn due_of_receipt(row: &Receipt) -> ItemDue
 }
 
 // What a booking says.
-fn due_of_booking(booking: &Booking) -> ItemDue
+fn due_of_booking(booking: &Booking) -> Numbered<Due>
     ensures { result ≡ of_booking booking.now }
 {
     let line = booking.line;
-    ItemDue {
-        item: line.item,
-        due: Due {
+    Numbered {
+        number: line.item,
+        value: Due {
             number: booking.number,
             week: line.week,
             quantity: line.quantity,
@@ -57,7 +57,7 @@ fn due_of_booking(booking: &Booking) -> ItemDue
 }
 
 // What the firm rows say.
-fn firm(alloc: Global, rows: &[MasterRow]) -> Result<Vec<ItemDue>, NoMemory>
+fn firm(alloc: Global, rows: &[MasterRow]) -> Result<Vec<Numbered<Due>>, NoMemory>
     ensures { IfOk result (λ dues. dues.items ≡ map of_master (filter (λ r. is_firm r.kind) rows.now)) }
 {
     let dues = rows
@@ -69,7 +69,7 @@ fn firm(alloc: Global, rows: &[MasterRow]) -> Result<Vec<ItemDue>, NoMemory>
 }
 
 // What the forecasts say.
-fn forecasts(alloc: Global, rows: &[MasterRow]) -> Result<Vec<ItemDue>, NoMemory>
+fn forecasts(alloc: Global, rows: &[MasterRow]) -> Result<Vec<Numbered<Due>>, NoMemory>
     ensures { IfOk result (λ dues. dues.items ≡ map of_master (filter (λ r. is_forecast r.kind) rows.now)) }
 {
     let dues = rows
@@ -81,7 +81,7 @@ fn forecasts(alloc: Global, rows: &[MasterRow]) -> Result<Vec<ItemDue>, NoMemory
 }
 
 // What the open receipts say.
-fn receipts(alloc: Global, rows: &[Receipt]) -> Result<Vec<ItemDue>, NoMemory>
+fn receipts(alloc: Global, rows: &[Receipt]) -> Result<Vec<Numbered<Due>>, NoMemory>
     ensures { IfOk result (λ dues. dues.items ≡ map of_receipt rows.now) }
 {
     let dues = rows.iter().map(|row| due_of_receipt(row)).collect(alloc)?;
@@ -89,7 +89,7 @@ fn receipts(alloc: Global, rows: &[Receipt]) -> Result<Vec<ItemDue>, NoMemory>
 }
 
 // What the bookings say.
-fn bookings(alloc: Global, rows: &[Booking]) -> Result<Vec<ItemDue>, NoMemory>
+fn bookings(alloc: Global, rows: &[Booking]) -> Result<Vec<Numbered<Due>>, NoMemory>
     ensures { IfOk result (λ dues. dues.items ≡ map of_booking rows.now) }
 {
     let dues = rows.iter().map(|row| due_of_booking(row)).collect(alloc)?;
@@ -97,13 +97,17 @@ fn bookings(alloc: Global, rows: &[Booking]) -> Result<Vec<ItemDue>, NoMemory>
 }
 
 // The firm rows of each item.
-pub fn firm_by_item(alloc: Global, count: usize, rows: &[MasterRow]) -> Result<DueLists, NoMemory>
+pub fn firm_by_item(
+    alloc: Global,
+    count: usize,
+    rows: &[MasterRow],
+) -> Result<Grouped<Due>, NoMemory>
     requires { All (λ r. r.item < count) rows.now }
     ensures size { IfOk result (λ d. length d ≡ count) }
     ensures lists { IfOk result (λ d. (i : ℕ) → i < count → listed d i ≡ firm_dues rows.now i) }
 {
     let dues = firm(alloc, rows)?;
-    DueLists::of_dues(alloc, count, &dues)
+    Grouped::of(alloc, count, &dues)
 }
 
 // The forecasts of each item.
@@ -111,31 +115,39 @@ pub fn forecasts_by_item(
     alloc: Global,
     count: usize,
     rows: &[MasterRow],
-) -> Result<DueLists, NoMemory>
+) -> Result<Grouped<Due>, NoMemory>
     requires { All (λ r. r.item < count) rows.now }
     ensures size { IfOk result (λ d. length d ≡ count) }
     ensures lists { IfOk result (λ d. (i : ℕ) → i < count → listed d i ≡ forecast_dues rows.now i) }
 {
     let dues = forecasts(alloc, rows)?;
-    DueLists::of_dues(alloc, count, &dues)
+    Grouped::of(alloc, count, &dues)
 }
 
 // The open receipts of each item.
-pub fn receipts_by_item(alloc: Global, count: usize, rows: &[Receipt]) -> Result<DueLists, NoMemory>
+pub fn receipts_by_item(
+    alloc: Global,
+    count: usize,
+    rows: &[Receipt],
+) -> Result<Grouped<Due>, NoMemory>
     requires { All (λ r. r.item < count) rows.now }
     ensures size { IfOk result (λ d. length d ≡ count) }
     ensures lists { IfOk result (λ d. (i : ℕ) → i < count → listed d i ≡ receipt_dues rows.now i) }
 {
     let dues = receipts(alloc, rows)?;
-    DueLists::of_dues(alloc, count, &dues)
+    Grouped::of(alloc, count, &dues)
 }
 
 // The bookings of each item.
-pub fn bookings_by_item(alloc: Global, count: usize, rows: &[Booking]) -> Result<DueLists, NoMemory>
+pub fn bookings_by_item(
+    alloc: Global,
+    count: usize,
+    rows: &[Booking],
+) -> Result<Grouped<Due>, NoMemory>
     requires { All (λ b. b.line.item < count) rows.now }
     ensures size { IfOk result (λ d. length d ≡ count) }
     ensures lists { IfOk result (λ d. (i : ℕ) → i < count → listed d i ≡ booking_dues rows.now i) }
 {
     let dues = bookings(alloc, rows)?;
-    DueLists::of_dues(alloc, count, &dues)
+    Grouped::of(alloc, count, &dues)
 }

@@ -1,8 +1,8 @@
 //! What a plan is made from.
 
 use crate::due::Due;
-use crate::due_lists::DueLists;
 use crate::grouping::bookings_by_item;
+use crate::groups::Grouped;
 use crate::shop_rows::ShopRows;
 use mrp_bill::Shop;
 use mrp_book::Snapshot;
@@ -17,7 +17,7 @@ use std::sync::Arc;
 pub struct Inputs {
     rows: Arc<ShopRows>,
     snapshot: Snapshot,
-    bookings: DueLists,
+    bookings: Grouped<Due>,
 }
 
 impl Model for Inputs {
@@ -157,7 +157,7 @@ impl Inputs {
         ensures dues { result.now ≡ booking_dues self.now.standing item }
         ensures booked { AreBooked (supply_of self.now.tables) self.now.standing }
     {
-        self.bookings.of(item)
+        self.bookings.group(item)
     }
 
     /// What is on hand of an item, in pieces. The caller owes that the shop has the item.

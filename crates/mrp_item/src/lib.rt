@@ -3,8 +3,8 @@
 
 mod asked;
 mod due;
-mod due_lists;
 mod grouping;
+mod groups;
 mod inputs;
 pub mod laws;
 mod order;
@@ -20,6 +20,7 @@ mod supplies;
 mod supply;
 
 pub use due::Due;
+pub use groups::{Grouped, Numbered};
 pub use inputs::Inputs;
 pub use order::{Order, OrderKind};
 pub use outcome::Outcome;

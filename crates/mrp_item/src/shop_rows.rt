@@ -1,8 +1,8 @@
 //! A shop's rows, grouped by their items.
 
 use crate::due::Due;
-use crate::due_lists::DueLists;
 use crate::grouping::{firm_by_item, forecasts_by_item, receipts_by_item};
+use crate::groups::Grouped;
 use mrp_bill::Shop;
 use mrp_master::Supply;
 use mrp_qty::{NoMemory, Qty};
@@ -16,9 +16,9 @@ use std::sync::Arc;
 pub struct ShopRows {
     shop: Arc<Shop>,
     supply: Supply,
-    firm: DueLists,
-    forecasts: DueLists,
-    receipts: DueLists,
+    firm: Grouped<Due>,
+    forecasts: Grouped<Due>,
+    receipts: Grouped<Due>,
 }
 
 impl Model for ShopRows {
@@ -88,7 +88,7 @@ impl ShopRows {
         requires { item < length self.now.tables.items }
         ensures { result.now ≡ firm_dues self.now.tables.master item }
     {
-        self.firm.of(item)
+        self.firm.group(item)
     }
 
     // The forecasts of an item.
@@ -96,7 +96,7 @@ impl ShopRows {
         requires { item < length self.now.tables.items }
         ensures { result.now ≡ forecast_dues self.now.tables.master item }
     {
-        self.forecasts.of(item)
+        self.forecasts.group(item)
     }
 
     // The open receipts of an item.
@@ -105,6 +105,6 @@ impl ShopRows {
         ensures dues { result.now ≡ receipt_dues self.now.tables.receipts item }
         ensures within { All (λ due. IsInRange 1 self.now.tables.calendar.weeks due.week) result.now }
     {
-        self.receipts.of(item)
+        self.receipts.group(item)
     }
 }

@@ -1,11 +1,12 @@
 -- What is left to match behind a match: the matches of rows that are cut.
-use Rattle.std.proofs.Common.{◌≡◌, ◌∙◌, ℕ, suc, ◌+◌, ◌-◌, ◌<◌, ◌≤◌, min, max, List, [], ◌∷◌, ◌++◌, refl, sym, ap, arith, length, drop, map, Option, Some, None, length-append}
-use Rattle.std.specs.Prelude.{filter, slice_get}
+use Rattle.std.proofs.Common.{◌≡◌, ◌∙◌, ℕ, suc, ◌+◌, ◌-◌, ◌<◌, ◌≤◌, min, max, inl, inr, Bool, true, false, cond, List, [], ◌∷◌, ◌++◌, refl, sym, ap, arith, length, drop, map, Option, Some, None, length-append}
+use Rattle.std.specs.Prelude.{filter, nat_lt, slice_get}
+use Rattle.std.proofs.lemmas.Bool.{cases_lt, le-ltb, ltb-false}
 use Rattle.std.proofs.lemmas.List.{map-append}
 use Rattle.std.proofs.lemmas.List.Sums.{sum_by-cons}
 use Rattle.mrp_item.specs.declared.supplies.Supplied.{Supplied}
 use Rattle.mrp_peg.specs.declared.peg.Need.{Need}
-use Rattle.mrp_peg.specs.Left.{cut, pegs_between, shown}
+use Rattle.mrp_peg.specs.Left.{pegs_between, served, shown}
 use Rattle.mrp_peg.specs.Matching.{peg_of}
 use Rattle.mrp_peg.specs.Units.{Amount, Match, Span, is_positive, match_of, matches, pairs, spans_from, surplus_of, total}
 use Rattle.mrp_peg.proofs.Walk.{walked}
@@ -146,31 +147,96 @@ none_is (y ∷ ys) e = absurd (cc)
 told : (item : ℕ) (m : Match Need Supplied) (ms : List (Match Need Supplied)) → map (peg_of item) (filter is_positive (m ∷ []) ++ ms) ≡ shown (peg_of item m) ++ map (peg_of item) ms
 told item m ms = map-append (peg_of item) (filter is_positive (m ∷ [])) ms ∙ ap (λ l. l ++ map (peg_of item) ms) (one_more (peg_of item) m)
 
--- the first requirement is served, and ends
-pub need_served : (item : ℕ) (listed later : List (Amount Need)) (offers : List (Amount Supplied)) (n : Amount Need) (s : Amount Supplied) → Some n ≡ slice_get listed 0 → Some s ≡ slice_get offers 0
-    → n.quantity ≤ s.quantity
-    → pegs_between item (listed ++ later) offers ≡ shown (record { item = item; need = Some n.of; supply = s.of; quantity = n.quantity }) ++ pegs_between item (drop 1 listed ++ later) (cut n.quantity offers)
-need_served item listed later offers n s first offer le =
-    let needs = first_is listed n first in
-    let supplies = first_is offers s offer in
-    ap (λ l. pegs_between item (l ++ later) offers) needs
-    ∙ ap (λ l. pegs_between item (n ∷ (drop 1 listed ++ later)) l) supplies
-    ∙ ap (map (peg_of item)) (matches_need n (drop 1 listed ++ later) s (drop 1 offers) le)
-    ∙ told item (record { need = Some n.of; supply = s.of; quantity = n.quantity }) (matches (drop 1 listed ++ later) (record { of = s.of; quantity = s.quantity - n.quantity } ∷ drop 1 offers))
-    ∙ ap (λ l. shown (record { item = item; need = Some n.of; supply = s.of; quantity = n.quantity }) ++ pegs_between item (drop 1 listed ++ later) (cut n.quantity l)) (sym supplies)
+-- a requirement of no pieces is served by nothing
+no_need : {A B : Type 0} (of : A) (needs : List (Amount A)) (supplies : List (Amount B)) → matches (record { of = of; quantity = 0 } ∷ needs) supplies ≡ matches needs supplies
+no_need of needs [] = matches_none (record { of = of; quantity = 0 } ∷ needs) ∙ sym (matches_none needs)
+no_need of needs (s ∷ supplies) =
+    let whole : s.quantity - 0 ≡ s.quantity = omega arith in
+    matches_need (record { of = of; quantity = 0 }) needs s supplies (omega arith)
+    ∙ ap (λ (q : ℕ). matches needs (record { of = s.of; quantity = q } ∷ supplies)) whole
 
--- the first supply serves, and ends
-pub supply_served : (item : ℕ) (listed later : List (Amount Need)) (offers : List (Amount Supplied)) (n : Amount Need) (s : Amount Supplied) → Some n ≡ slice_get listed 0 → Some s ≡ slice_get offers 0
-    → s.quantity ≤ n.quantity
-    → pegs_between item (listed ++ later) offers ≡ shown (record { item = item; need = Some n.of; supply = s.of; quantity = s.quantity }) ++ pegs_between item (cut s.quantity listed ++ later) (drop 1 offers)
-supply_served item listed later offers n s first offer le =
+-- and a supply of none serves nothing
+no_supply : {A B : Type 0} (needs : List (Amount A)) (of : B) (supplies : List (Amount B)) → matches needs (record { of = of; quantity = 0 } ∷ supplies) ≡ matches needs supplies
+no_supply [] of supplies = matches_surplus (record { of = of; quantity = 0 }) supplies
+no_supply (n ∷ needs) of supplies =
+    let whole : n.quantity - 0 ≡ n.quantity = omega arith in
+    matches_supply n needs (record { of = of; quantity = 0 }) supplies (omega arith)
+    ∙ ap (λ (q : ℕ). matches (record { of = n.of; quantity = q } ∷ needs) supplies) whole
+
+-- what is left of a row of which some units of the first were taken
+left_need : {A B : Type 0} (taken : ℕ) (n : Amount A) (needs : List (Amount A)) (supplies : List (Amount B)) → matches (record { of = n.of; quantity = n.quantity - taken } ∷ needs) supplies ≡ matches (served taken (n ∷ needs)) supplies
+left_need {A} taken n needs supplies = by (nat_lt taken n.quantity) refl
+  where
+    by : (b : Bool) → nat_lt taken n.quantity ≡ b
+        → matches (record { of = n.of; quantity = n.quantity - taken } ∷ needs) supplies ≡ matches (cond b (record { of = n.of; quantity = n.quantity - taken } ∷ needs) needs) supplies
+    by true e = refl
+    by false e =
+        let none : n.quantity - taken ≡ 0 = omega (arith, ltb-false taken n.quantity e) in
+        ap (λ (q : ℕ). matches (record { of = n.of; quantity = q } ∷ needs) supplies) none ∙ no_need n.of needs supplies
+
+left_supply : {A B : Type 0} (taken : ℕ) (needs : List (Amount A)) (s : Amount B) (supplies : List (Amount B)) → matches needs (record { of = s.of; quantity = s.quantity - taken } ∷ supplies) ≡ matches needs (served taken (s ∷ supplies))
+left_supply {B = B} taken needs s supplies = by (nat_lt taken s.quantity) refl
+  where
+    by : (b : Bool) → nat_lt taken s.quantity ≡ b
+        → matches needs (record { of = s.of; quantity = s.quantity - taken } ∷ supplies) ≡ matches needs (cond b (record { of = s.of; quantity = s.quantity - taken } ∷ supplies) supplies)
+    by true e = refl
+    by false e =
+        let none : s.quantity - taken ≡ 0 = omega (arith, ltb-false taken s.quantity e) in
+        ap (λ (q : ℕ). matches needs (record { of = s.of; quantity = q } ∷ supplies)) none ∙ no_supply needs s.of supplies
+
+-- as many units as both have, and what is left of both
+matches_both : {A B : Type 0} (n : Amount A) (needs : List (Amount A)) (s : Amount B) (supplies : List (Amount B))
+    → matches (n ∷ needs) (s ∷ supplies) ≡ one (Some n.of) s.of (min n.quantity s.quantity) ++ matches (served (min n.quantity s.quantity) (n ∷ needs)) (served (min n.quantity s.quantity) (s ∷ supplies))
+matches_both {A} {B} n needs s supplies = elim (cases_lt n.quantity s.quantity) [
+  | inl le ↦
+      let least : n.quantity ≡ min n.quantity s.quantity = omega (arith, le) in
+      let none : n.quantity - n.quantity ≡ 0 = omega arith in
+      matches_need n needs s supplies (omega (arith, le))
+      ∙ ap (λ (l : List (Match A B)). one (Some n.of) s.of n.quantity ++ l)
+      (left_supply n.quantity needs s supplies
+      ∙ sym (no_need n.of needs (served n.quantity (s ∷ supplies)))
+      ∙ ap (λ (q : ℕ). matches (record { of = n.of; quantity = q } ∷ needs) (served n.quantity (s ∷ supplies))) (sym none)
+      ∙ left_need n.quantity n needs (served n.quantity (s ∷ supplies)))
+      ∙ ap (λ (q : ℕ). one (Some n.of) s.of q ++ matches (served q (n ∷ needs)) (served q (s ∷ supplies))) least
+  | inr more ↦
+      let least : s.quantity ≡ min n.quantity s.quantity = omega (arith, more) in
+      let none : s.quantity - s.quantity ≡ 0 = omega arith in
+      matches_supply n needs s supplies (omega (arith, more))
+      ∙ ap (λ (l : List (Match A B)). one (Some n.of) s.of s.quantity ++ l)
+      (left_need s.quantity n needs supplies
+      ∙ sym (no_supply (served s.quantity (n ∷ needs)) s.of supplies)
+      ∙ ap (λ (q : ℕ). matches (served s.quantity (n ∷ needs)) (record { of = s.of; quantity = q } ∷ supplies)) (sym none)
+      ∙ left_supply s.quantity (served s.quantity (n ∷ needs)) s supplies)
+      ∙ ap (λ (q : ℕ). one (Some n.of) s.of q ++ matches (served q (n ∷ needs)) (served q (s ∷ supplies))) least
+]
+
+-- more behind a row of which units of the first are taken
+served_more : {A : Type 0} (taken : ℕ) (n : Amount A) (row later : List (Amount A)) → served taken (n ∷ (row ++ later)) ≡ served taken (n ∷ row) ++ later
+served_more {A} taken n row later = by (nat_lt taken n.quantity)
+  where
+    by : (b : Bool) → cond b (record { of = n.of; quantity = n.quantity - taken } ∷ (row ++ later)) (row ++ later) ≡ cond b (record { of = n.of; quantity = n.quantity - taken } ∷ row) row ++ later
+    by true = refl
+    by false = refl
+
+-- the first supply serves the first requirement
+pub both_served : (item taken : ℕ) (listed later : List (Amount Need)) (offers : List (Amount Supplied)) (n : Amount Need) (s : Amount Supplied) → Some n ≡ slice_get listed 0 → Some s ≡ slice_get offers 0
+    → taken ≡ min n.quantity s.quantity
+    → pegs_between item (listed ++ later) offers ≡ shown (record { item = item; need = Some n.of; supply = s.of; quantity = taken }) ++ pegs_between item (served taken listed ++ later) (served taken offers)
+both_served item taken listed later offers n s first offer is =
     let needs = first_is listed n first in
     let supplies = first_is offers s offer in
-    ap (λ l. pegs_between item (l ++ later) offers) needs
-    ∙ ap (λ l. pegs_between item (n ∷ (drop 1 listed ++ later)) l) supplies
-    ∙ ap (map (peg_of item)) (matches_supply n (drop 1 listed ++ later) s (drop 1 offers) le)
-    ∙ told item (record { need = Some n.of; supply = s.of; quantity = s.quantity }) (matches (record { of = n.of; quantity = n.quantity - s.quantity } ∷ (drop 1 listed ++ later)) (drop 1 offers))
-    ∙ ap (λ l. shown (record { item = item; need = Some n.of; supply = s.of; quantity = s.quantity }) ++ pegs_between item (cut s.quantity l ++ later) (drop 1 offers)) (sym needs)
+    let N = drop 1 listed in
+    let S = drop 1 offers in
+    let q = min n.quantity s.quantity in
+    let M : ℕ → Match Need Supplied = λ k. record { need = Some n.of; supply = s.of; quantity = k } in
+    ap (λ (l : List (Amount Need)). pegs_between item (l ++ later) offers) needs
+    ∙ ap (λ (l : List (Amount Supplied)). pegs_between item (n ∷ (N ++ later)) l) supplies
+    ∙ ap (map (peg_of item)) (matches_both n (N ++ later) s S)
+    ∙ told item (M q) (matches (served q (n ∷ (N ++ later))) (served q (s ∷ S)))
+    ∙ ap (λ (k : ℕ). shown (peg_of item (M k)) ++ pegs_between item (served k (n ∷ (N ++ later))) (served k (s ∷ S))) (sym is)
+    ∙ ap (λ (l : List (Amount Need)). shown (peg_of item (M taken)) ++ pegs_between item l (served taken (s ∷ S))) (served_more taken n N later)
+    ∙ ap (λ (l : List (Amount Need)). shown (peg_of item (M taken)) ++ pegs_between item (served taken l ++ later) (served taken (s ∷ S))) (sym needs)
+    ∙ ap (λ (l : List (Amount Supplied)). shown (peg_of item (M taken)) ++ pegs_between item (served taken listed ++ later) (served taken l)) (sym supplies)
 
 -- what is left of a supply is surplus
 pub supply_left : (item : ℕ) (needs : List (Amount Need)) (offers : List (Amount Supplied)) (s : Amount Supplied) → needs ≡ [] → Some s ≡ slice_get offers 0
@@ -182,18 +248,45 @@ supply_left item needs offers s none offer =
     ∙ told item (record { need = None; supply = s.of; quantity = s.quantity }) (matches [] (drop 1 offers))
     ∙ ap (λ l. shown (record { item = item; need = None; supply = s.of; quantity = s.quantity }) ++ pegs_between item l (drop 1 offers)) (sym none)
 
-length-cut : {A : Type 0} (k : ℕ) (row : List (Amount A)) → length (cut k row) ≡ length row
-length-cut k [] = refl
-length-cut k (a ∷ row) = refl
-
 length-first : {X : Type 0} (xs : List X) (x : X) → Some x ≡ slice_get xs 0 → length xs ≡ suc (length (drop 1 xs))
 length-first xs x e = ap length (first_is xs x e)
 
--- each step leaves less
-pub need_shorter : (k : ℕ) (listed later : List (Amount Need)) (offers : List (Amount Supplied)) (n : Amount Need) → Some n ≡ slice_get listed 0
-    → length (drop 1 listed ++ later) + length (cut k offers) < length (listed ++ later) + length offers
-need_shorter k listed later offers n first = omega (arith, length-append (drop 1 listed) later, length-append listed later, length-cut k offers, length-first listed n first)
+-- a row gets no longer, and shorter where all units of the first are taken
+length-served : {A : Type 0} (taken : ℕ) (a : Amount A) (row : List (Amount A)) → length (served taken (a ∷ row)) ≡ length row + cond (nat_lt taken a.quantity) 1 0
+length-served {A} taken a row = by (nat_lt taken a.quantity)
+  where
+    by : (b : Bool) → length (cond b (record { of = a.of; quantity = a.quantity - taken } ∷ row) row) ≡ length row + cond b 1 0
+    by true = omega arith
+    by false = omega arith
 
-pub supply_shorter : (k : ℕ) (listed later : List (Amount Need)) (offers : List (Amount Supplied)) (s : Amount Supplied) → Some s ≡ slice_get offers 0
-    → length (cut k listed ++ later) + length (drop 1 offers) < length (listed ++ later) + length offers
-supply_shorter k listed later offers s offer = omega (arith, length-append (cut k listed) later, length-append listed later, length-cut k listed, length-first offers s offer)
+-- each step leaves less
+pub both_shorter : (taken : ℕ) (listed later : List (Amount Need)) (offers : List (Amount Supplied)) (n : Amount Need) (s : Amount Supplied) → Some n ≡ slice_get listed 0 → Some s ≡ slice_get offers 0
+    → taken ≡ min n.quantity s.quantity
+    → length (served taken listed ++ later) + length (served taken offers) < length (listed ++ later) + length offers
+both_shorter taken listed later offers n s first offer is =
+    omega (
+      arith,
+      length-append (served taken listed) later,
+      length-append listed later,
+      length-first listed n first,
+      length-first offers s offer,
+      ap (λ (l : List (Amount Need)). length (served taken l)) (first_is listed n first),
+      ap (λ (l : List (Amount Supplied)). length (served taken l)) (first_is offers s offer),
+      length-served taken n (drop 1 listed),
+      length-served taken s (drop 1 offers),
+      one_ends taken n.quantity s.quantity is,
+    )
+  where
+    one_ends : (taken a b : ℕ) → taken ≡ min a b → cond (nat_lt taken a) 1 0 + cond (nat_lt taken b) 1 0 ≤ 1
+    one_ends taken a b is = elim (cases_lt a b) [
+      | inl le ↦
+          let end : nat_lt taken a ≡ false = le-ltb taken a (omega (arith, is, le)) in
+          rw end (omega (arith, bit (nat_lt taken b)))
+      | inr more ↦
+          let end : nat_lt taken b ≡ false = le-ltb taken b (omega (arith, is, more)) in
+          rw end (omega (arith, bit (nat_lt taken a)))
+    ]
+      where
+        bit : (b : Bool) → cond b 1 0 ≤ 1
+        bit true = omega arith
+        bit false = omega arith

@@ -8,6 +8,7 @@ pub mod WeeksLeft
 pub mod Lists
 pub mod Own
 pub mod Loops
+pub mod Weekly
 pub mod Listed
 pub mod Released
 pub mod Totals

@@ -4,6 +4,8 @@ use Rattle.std.specs.Prelude.{flat_map}
 use Rattle.std.specs.Int.{IsInRange}
 use Rattle.std.specs.List.{enumerate_from}
 use Rattle.std.proofs.lemmas.Bool.{eq-eqb, ne_eqb}
+use Rattle.std.proofs.lemmas.List.{append-nil, take_more}
+use Rattle.std.proofs.lemmas.List.Concat.{flat_map-append}
 use Rattle.mrp_phase.specs.Weeks.{in_week, row, weeks, with_week}
 use Rattle.mrp_phase.proofs.WeekRows.{flat_map-weeks_next, in_week_at, in_week_next, in_week_row, length-row, row_is, with_week-row, with_week_at}
 use Rattle.mrp_item.specs.declared.due.Due.{Due}
@@ -24,6 +26,15 @@ numbered_more n (suc k) (o ∷ orders) d h =
     ap (λ j. enumerate_from n (take j (o ∷ orders))) next
     ∙ ap (λ l. (n, o) ∷ l) (numbered_more (n + 1) k orders d (omega (arith, h)))
     ∙ ap (λ j. (n, o) ∷ (enumerate_from (n + 1) (take k orders) ++ (j, get_or orders k d) ∷ [])) number
+
+-- the rows of one more line
+pub one_line : {Y : Type 0} (f : ℕ → List Y) (old : List Y) (places : List ℕ) (k : ℕ) (so_far now : List Y) → k < length places → so_far ≡ old ++ flat_map f (take k places) → now ≡ so_far ++ f (get_or places k 0) → now ≡ old ++ flat_map f (take (k + 1) places)
+one_line f old places k so_far now h is told =
+    told ∙ ap (λ l. l ++ f (get_or places k 0)) is
+    ∙ append_assoc old (flat_map f (take k places)) (f (get_or places k 0))
+    ∙ ap (λ l. old ++ (flat_map f (take k places) ++ l)) (sym (append-nil (f (get_or places k 0))))
+    ∙ ap (λ l. old ++ l) (sym (flat_map-append f (take k places) (get_or places k 0 ∷ [])))
+    ∙ ap (λ l. old ++ flat_map f l) (sym (take_more places k 0 h))
 
 -- the rows of one more week
 pub pushed_week : {Y : Type 0} (f : ℕ → List Y) (old so_far now : List Y) (k : ℕ) → so_far ≡ old ++ flat_map f (weeks k) → now ≡ so_far ++ f (k + 1) → now ≡ old ++ flat_map f (weeks (k + 1))

@@ -1,10 +1,11 @@
 -- The requirements of an item add up to its gross requirements.
-use Rattle.std.proofs.Common.{◌≡◌, ◌∙◌, ℕ, ◌+◌, ◌-◌, ◌*◌, ◌<◌, ◌≤◌, Bool, true, false, cond, List, [], ◌∷◌, ◌++◌, length, get_or, refl, sym, ap, arith}
+use Rattle.std.proofs.Common.{◌≡◌, ◌∙◌, ℕ, ◌+◌, ◌-◌, ◌*◌, ◌<◌, ◌≤◌, Bool, true, false, cond, List, [], ◌∷◌, ◌++◌, length, get_or, refl, sym, ap, subst, arith}
 use Rattle.std.specs.List.{enumerate_from}
-use Rattle.std.specs.Prelude.{◌==◌, filter, sum, sum_by, nat_lt}
+use Rattle.std.specs.Prelude.{◌==◌, All, filter, sum, sum_by, nat_lt}
 use Rattle.std.proofs.lemmas.Bool.{ltb-false}
 use Rattle.std.proofs.lemmas.List.Sums.{sum_by-cons, sum_by-append, get_or-le-sum_by}
 use Rattle.mrp_qty.specs.Quantity.{greatest_quantity}
+use Rattle.mrp_tables.specs.declared.rows.BillLine.{BillLine}
 use Rattle.mrp_bill.specs.Bill.{line_at, lines_of}
 use Rattle.mrp_book.specs.declared.booking.Booking.{Booking}
 use Rattle.mrp_phase.specs.Weeks.{row, weeks}
@@ -118,3 +119,16 @@ asked_within s i is part within k h j d g =
       wanted_total s i is within,
       gross-within s i is,
     )
+
+-- the same of the orders that are found by a line to the item
+pub used_within : (s : Inputs) (i : ℕ) → IsOwn s i → is_master s i ≡ false → AreWithin (λ (w : Wanted). w.need.week) 1 (horizon s) (all_wanted s i)
+    → (bills : List BillLine) (lines : List ℕ) (k place per : ℕ) (orders : List Order) → bills ≡ s.tables.bills → lines ≡ lines_of s.tables.bills i → k < length lines → place ≡ get_or lines k 0
+    → per ≡ (line_at bills place).per → orders ≡ (plan_in (outcome_of s (line_at bills place).parent)).orders → All (λ (o : Order). o.start * per ≤ greatest_quantity) orders
+used_within s i is part within bills lines k place per orders are_bills are_lines h at is_per are_orders =
+    let here : place ≡ get_or (lines_of s.tables.bills i) k 0 = at ∙ ap (λ (ps : List ℕ). get_or ps k 0) are_lines in
+    let line : line_at bills place ≡ line_at s.tables.bills (get_or (lines_of s.tables.bills i) k 0) = ap (λ (ls : List BillLine). line_at ls place) are_bills ∙ ap (line_at s.tables.bills) here in
+    let Within : List ℕ → Type 0 = λ ps. k < length ps in
+    let P : BillLine → Type 0 = λ l. (j : ℕ) (d : Order) → j < length (plan_in (outcome_of s l.parent)).orders → (get_or (plan_in (outcome_of s l.parent)).orders j d).start * l.per ≤ greatest_quantity in
+    let Q : ℕ → List Order → Type 0 = λ n os. All (λ (o : Order). o.start * n ≤ greatest_quantity) os in
+    let found : Q (line_at bills place).per (plan_in (outcome_of s (line_at bills place).parent)).orders = subst P (sym line) (asked_within s i is part within k (subst Within are_lines h)) in
+    subst (λ n. Q n orders) (sym is_per) (subst (Q (line_at bills place).per) (sym are_orders) found)

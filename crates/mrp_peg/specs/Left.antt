@@ -14,10 +14,10 @@ use Rattle.mrp_peg.specs.Matching.{amounts_offered, amounts_wanted, peg_of}
 use Rattle.mrp_peg.specs.Pegging.{needs_in}
 use Rattle.mrp_peg.specs.Units.{Amount, matches}
 
--- a row of which the first has so many units less
-abbrev pub cut : {A : Type 0} → ℕ → List (Amount A) → List (Amount A)
-cut taken [] = []
-cut taken (a ∷ row) = record { of = a.of; quantity = a.quantity - taken } ∷ row
+-- a row of which so many units of the first are taken; it is passed where none are left of it
+abbrev pub served : {A : Type 0} → ℕ → List (Amount A) → List (Amount A)
+served taken [] = []
+served taken (a ∷ row) = if nat_lt taken a.quantity then record { of = a.of; quantity = a.quantity - taken } ∷ row else row
 
 -- the supplies that are left
 abbrev pub offered_left : SuppliesLeft → List (Amount Supplied)

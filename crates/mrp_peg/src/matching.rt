@@ -1,6 +1,6 @@
 //! What is matched piece by piece, first to first: requirements and supplies.
 
-ghost use Rattle.std.specs.Prelude.{◌≡◌, ◌-◌};
+ghost use Rattle.std.specs.Prelude.{◌≡◌, ◌-◌, min};
 
 use crate::peg::Need;
 use mrp_item::Supplied;
@@ -25,4 +25,16 @@ pub fn less(quantity: Qty, taken: Qty) -> Qty
     ensures { result ≡ quantity - taken }
 {
     Qty::new(quantity.value().saturating_sub(taken.value())).unwrap()
+}
+
+// The lesser of two quantities.
+#[inline(always)]
+pub fn lesser(quantity: Qty, other: Qty) -> Qty
+    ensures { result ≡ min quantity other }
+{
+    if quantity.value() < other.value() {
+        quantity
+    } else {
+        other
+    }
 }

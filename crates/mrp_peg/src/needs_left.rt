@@ -1,23 +1,24 @@
-//! What is left of the requirements of an item, of which those of a week are listed at a time.
+//! What is left of the requirements of an item, which are listed at once, or a week at a time where they may be many.
 
 ghost use Rattle.std.specs.Prelude.{◌≡◌, ◌<◌, ◌≤◌, drop, slice_get, IfOk, OnOk};
 ghost use Rattle.std.specs.Option.{option_map};
 ghost use Rattle.mrp_item.specs.Inputs.{count};
-ghost use Rattle.mrp_peg.specs.Left.{IsFilled, cut, listed_left, wanted_left};
+ghost use Rattle.mrp_peg.specs.Left.{IsFilled, listed_left, served, wanted_left};
 ghost use Rattle.mrp_peg.specs.Matching.{amount_wanted};
 ghost use Rattle.mrp_peg.specs.Pegging.{requirements, supplies};
 ghost use Rattle.mrp_peg.specs.Units.{total};
 
 use crate::matching::{Wanted, less};
 use crate::next_orders::NextOrders;
+use crate::parents::used_at;
 use crate::part::Part;
 use crate::pegging::{is_master_item, needs_of};
 use mrp_item::{Inputs, Plan};
 use mrp_qty::{NoMemory, Qty};
 use std::alloc::Global;
 
-// The requirements of an item from a place on, of which the first has what is left of it. Of a
-// master item all are listed; of another those up to a week.
+// The requirements of an item from a place on, of which the first has what is left of it. All are
+// listed, or those up to a week where they may be many.
 #[derive(Drop)]
 pub struct NeedsLeft<'a> {
     part: Option<Part<'a>>,
@@ -27,7 +28,48 @@ pub struct NeedsLeft<'a> {
     place: usize,
 }
 
+// So many requirements of a part are listed at once: some three megabytes.
+const AT_ONCE: usize = 32_768;
+
+// Whether a part has at most so many requirements, also where each parent has an order a week.
+fn are_few(plan: &Plan, item: usize) -> bool
+    requires { item < count plan.now.inputs }
+{
+    let inputs: &Inputs = plan.inputs();
+    let shop = inputs.shop();
+    let bills = shop.tables().bills();
+    let lines = shop.lines_to(item);
+    if lines.len().saturating_mul(usize::from(inputs.weeks())) > AT_ONCE {
+        return false;
+    }
+    let mut left = AT_ONCE;
+    for at in 0..lines.len() {
+        let orders = used_at(plan, item, bills, lines, at).orders.len();
+        if left < orders {
+            return false;
+        }
+        left -= orders;
+    }
+    true
+}
+
 impl<'a> NeedsLeft<'a> {
+    // All requirements of an item, listed. The item's supplies cover them.
+    fn listed(alloc: Global, plan: &'a Plan, item: usize) -> Result<NeedsLeft<'a>, NoMemory>
+        requires { item < count plan.now.inputs }
+        ensures needs { IfOk result (λ left. wanted_left left ≡ requirements plan.now.inputs item) }
+        ensures covered { OnOk result (total (requirements plan.now.inputs item) ≤ total (supplies plan.now.inputs item)) }
+    {
+        let needs = needs_of(alloc, plan, item)?;
+        Ok(NeedsLeft {
+            part: None,
+            week: 0,
+            next: NextOrders::of(alloc, 0)?,
+            needs,
+            place: 0,
+        })
+    }
+
     // All requirements of an item. The item's supplies cover them.
     pub fn of(alloc: Global, plan: &'a Plan, item: usize) -> Result<NeedsLeft<'a>, NoMemory>
         requires { item < count plan.now.inputs }
@@ -38,14 +80,10 @@ impl<'a> NeedsLeft<'a> {
         // Codes rank the items.
         let _ranked = inputs.shop();
         if is_master_item(inputs, item) {
-            let needs = needs_of(alloc, plan, item)?;
-            return Ok(NeedsLeft {
-                part: None,
-                week: 0,
-                next: NextOrders::of(alloc, 0)?,
-                needs,
-                place: 0,
-            });
+            return NeedsLeft::listed(alloc, plan, item);
+        }
+        if are_few(plan, item) {
+            return NeedsLeft::listed(alloc, plan, item);
         }
         let part = Part { plan, item };
         Ok(NeedsLeft {
@@ -88,26 +126,16 @@ impl<'a> NeedsLeft<'a> {
         Ok(self.needs.get(self.place).copied())
     }
 
-    // Takes pieces of the first that is listed.
+    // Takes pieces of the first that is listed, and passes it where none are left.
     #[inline(always)]
     pub fn take(&mut self, quantity: Qty)
-        ensures listed { listed_left self.new ≡ cut quantity (listed_left self.old) }
+        ensures listed { listed_left self.new ≡ served quantity (listed_left self.old) }
         ensures to_come { (self.new.part ≡ self.old.part) × (self.new.week ≡ self.old.week) }
     {
         if self.place < self.needs.len() {
-            let whole = self.needs[self.place].quantity;
-            self.needs[self.place].quantity = less(whole, quantity);
-        }
-    }
-
-    // Passes the first that is listed.
-    #[inline(always)]
-    pub fn pass(&mut self)
-        ensures listed { listed_left self.new ≡ drop 1 (listed_left self.old) }
-        ensures to_come { (self.new.part ≡ self.old.part) × (self.new.week ≡ self.old.week) }
-    {
-        if self.place < self.needs.len() {
-            self.place += 1;
+            let left = less(self.needs[self.place].quantity, quantity);
+            self.needs[self.place].quantity = left;
+            self.place += usize::from(left.value() == 0);
         }
     }
 }

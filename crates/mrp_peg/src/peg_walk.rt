@@ -8,7 +8,7 @@ ghost use Rattle.mrp_peg.specs.Matching.{amount_wanted};
 ghost use Rattle.mrp_peg.specs.Pegging.{pegs_of, requirements, supplies};
 ghost use Rattle.mrp_peg.specs.Units.{total};
 
-use crate::matching::{Offered, Wanted};
+use crate::matching::{Offered, Wanted, lesser};
 use crate::needs_left::NeedsLeft;
 use crate::peg::Peg;
 use crate::supplies_left::SuppliesLeft;
@@ -16,7 +16,7 @@ use mrp_item::Plan;
 use mrp_qty::NoMemory;
 use std::alloc::Global;
 
-// What the first supply serves of the first requirement. The one that ends is passed.
+// What the first supply serves of the first requirement. The one that ends is passed, or both where they end together.
 #[inline(always)]
 fn serve(
     item: usize,
@@ -30,26 +30,13 @@ fn serve(
     ensures told { pegs_between item (wanted_left needs.old) (offered_left supplies.old) ≡ shown result ++ pegs_between item (wanted_left needs.new) (offered_left supplies.new) }
     ensures shorter { length (wanted_left needs.new) + length (offered_left supplies.new) < length (wanted_left needs.old) + length (offered_left supplies.old) }
 {
-    let need = Some(wanted.need);
-    let supply = offered.source;
-    if wanted.quantity.value() <= offered.quantity.value() {
-        let quantity = wanted.quantity;
-        needs.pass();
-        supplies.take(quantity);
-        return Peg {
-            item,
-            need,
-            supply,
-            quantity,
-        };
-    }
-    let quantity = offered.quantity;
+    let quantity = lesser(wanted.quantity, offered.quantity);
     needs.take(quantity);
-    supplies.pass();
+    supplies.take(quantity);
     Peg {
         item,
-        need,
-        supply,
+        need: Some(wanted.need),
+        supply: offered.source,
         quantity,
     }
 }
@@ -91,7 +78,7 @@ fn next_peg(
 }
 
 /// The pegs of an item, in order of requirement and supply, surplus last. Each is made when it is
-/// asked for: what is held of them is what parents ask in one week.
+/// asked for: what is held are the item's requirements, or those of a week where they may be many.
 #[derive(Drop)]
 pub struct PegWalk<'a> {
     item: usize,

@@ -2,7 +2,7 @@
 
 ghost use Rattle.std.specs.Prelude.{◌≡◌, drop, slice_get};
 ghost use Rattle.std.specs.Option.{option_map};
-ghost use Rattle.mrp_peg.specs.Left.{amount_of_offer, cut, offered_left};
+ghost use Rattle.mrp_peg.specs.Left.{amount_of_offer, offered_left, served};
 ghost use Rattle.mrp_peg.specs.Matching.{amounts_offered};
 
 use crate::matching::{Offered, less};
@@ -37,14 +37,15 @@ impl SuppliesLeft {
         }
     }
 
-    // Takes pieces of the first.
+    // Takes pieces of the first, and goes on to the next where none are left.
     #[inline(always)]
     pub fn take(&mut self, quantity: Qty)
-        ensures { offered_left self.new ≡ cut quantity (offered_left self.old) }
+        ensures { offered_left self.new ≡ served quantity (offered_left self.old) }
     {
         if self.place < self.supplies.len() {
-            let whole = self.supplies[self.place].quantity;
-            self.supplies[self.place].quantity = less(whole, quantity);
+            let left = less(self.supplies[self.place].quantity, quantity);
+            self.supplies[self.place].quantity = left;
+            self.place += usize::from(left.value() == 0);
         }
     }
 

@@ -1,20 +1,21 @@
 use Rattle.std.proofs.Common.{◌∙◌, ◌<◌, List, ap, sym, subst}
 use Rattle.std.specs.Prelude.{All}
 use Rattle.std.proofs.lemmas.List.Elements.{All-map}
-use Rattle.mrp_item.specs.declared.due_lists.ItemDue.{ItemDue}
+use Rattle.mrp_item.specs.declared.due.Due.{Due}
+use Rattle.mrp_item.specs.declared.groups.Numbered.{Numbered}
 use Rattle.mrp_item.specs.Dues.{receipt_dues}
-use Rattle.mrp_item.specs.Grouped.{due_of, of_receipt}
-use Rattle.mrp_item.proofs.Grouped.{due_of-all, told-of}
+use Rattle.mrp_item.specs.Grouped.{of_receipt, values_of}
+use Rattle.mrp_item.proofs.GroupParts.{told-of, values_of-all}
 use Rattle.mrp_item.proofs.grouping.receipts_by_item.Goals as goal
 
-pub of_dues-requires : goal.of_dues-requires
-of_dues-requires c =
+pub of-requires : goal.of-requires
+of-requires c =
     let is = c.deref.ensures.value ∙ c.in_ok-dues.ensures in
-    subst (λ (dues : List ItemDue). All (λ d. d.item < c.args.count) dues) (sym is)
-    (All-map (λ (d : ItemDue). d.item < c.args.count) of_receipt c.args.rows.now c.requires)
+    subst (λ (dues : List (Numbered Due)). All (λ d. d.number < c.args.count) dues) (sym is)
+    (All-map (λ (d : Numbered Due). d.number < c.args.count) of_receipt c.args.rows.now c.requires)
 
 pub returns-clause-lists : goal.returns-clause-lists
 returns-clause-lists c =
     let is = c.deref.ensures.value ∙ c.in_ok-dues.ensures in
-    told-of c.of_dues.result c.args.count (due_of c.deref.result.now) (receipt_dues c.args.rows.now) c.of_dues.ensures.lists
-    (λ i. ap (λ (dues : List ItemDue). due_of dues i) is ∙ due_of-all of_receipt c.args.rows.now i)
+    told-of c.of.result c.args.count (values_of c.deref.result.now) (receipt_dues c.args.rows.now) c.of.ensures.groups
+    (λ i. ap (λ (dues : List (Numbered Due)). values_of dues i) is ∙ values_of-all of_receipt c.args.rows.now i)

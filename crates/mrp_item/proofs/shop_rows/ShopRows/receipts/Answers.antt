@@ -13,5 +13,5 @@ returns-clause-within c =
     let t = c.self.inside.shop.value.tables in
     let i = c.args.item in
     let there : i < length t.items = subst (λ (x : Shop). i < length x.tables.items) (sym c.self.view_is) c.requires in
-    let P : Shop → Type 0 = λ x. All (λ (d : Due). IsInRange 1 x.tables.calendar.weeks d.week) c.of.result.now in
-    subst P c.self.view_is (All-same (λ (d : Due). IsInRange 1 t.calendar.weeks d.week) c.of.result.now (receipt_dues t.receipts i) (c.of.ensures ∙ c.self.invariant.receipts i there) (receipts-within t i c.self.invariant.within))
+    let P : Shop → Type 0 = λ x. All (λ (d : Due). IsInRange 1 x.tables.calendar.weeks d.week) c.group.result.now in
+    subst P c.self.view_is (All-same (λ (d : Due). IsInRange 1 t.calendar.weeks d.week) c.group.result.now (receipt_dues t.receipts i) (c.group.ensures ∙ c.self.invariant.receipts i there) (receipts-within t i c.self.invariant.within))
