@@ -37,10 +37,10 @@ fn input_fault(fault: DayFault) -> AuditFault
 }
 
 // The shop of a bundle.
-fn shop_of(alloc: Global, bundle: &[u8]) -> Result<Shop, AuditFault>
+fn shop_of(rt: &(impl Threads + Sync), alloc: Global, bundle: &[u8]) -> Result<Shop, AuditFault>
     ensures { OpensShop bundle.now result }
 {
-    match open_shop(alloc, bundle) {
+    match open_shop(rt, alloc, bundle) {
         Ok(shop) => Ok(shop),
         Err(fault) => Err(input_fault(fault)),
     }
@@ -144,7 +144,7 @@ pub fn check(
     // Nothing else could be found of them.
     ensures one { (other : Result ⊤ AuditFault) → Judges input.now output.now other → IsVerdict result → IsVerdict other → result ≡ other }
 {
-    let shop = shop_of(alloc, input)?;
+    let shop = shop_of(rt, alloc, input)?;
     keep_limits(shop.tables());
     check_text(rt, alloc, shop, output)
 }

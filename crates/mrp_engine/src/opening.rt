@@ -12,6 +12,7 @@ use mrp_rows::{Fault, Table, split_bundle};
 use mrp_tables::Tables;
 use mrp_tables::limits::MOST_ITEMS;
 use std::alloc::Global;
+use std::thread::Threads;
 
 // Why a day is refused: the bundle's fault, or want of memory.
 fn refusal(fault: Fault) -> DayFault
@@ -63,14 +64,14 @@ fn shop_of(alloc: Global, tables: Tables) -> Result<Shop, DayFault>
 /// The shop of a bundle.
 ///
 /// Errors: `Refused` with the bundle's first fault, the loop last, and `NoMemory`.
-pub fn open_shop(alloc: Global, bundle: &[u8]) -> Result<Shop, DayFault>
+pub fn open_shop(rt: &(impl Threads + Sync), alloc: Global, bundle: &[u8]) -> Result<Shop, DayFault>
     ensures { Opens bundle.now result }
 {
     let sections = match split_bundle(bundle) {
         Ok(sections) => sections,
         Err(fault) => return Err(refusal(fault)),
     };
-    match Tables::read(alloc, &sections) {
+    match Tables::read(rt, alloc, &sections) {
         Ok(tables) => shop_of(alloc, tables),
         Err(fault) => Err(refusal(fault)),
     }

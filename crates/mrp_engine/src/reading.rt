@@ -13,12 +13,17 @@ use mrp_bill::Shop;
 use mrp_rows::{Told, read_bundle};
 use std::alloc::Global;
 use std::io::Read;
+use std::thread::Threads;
 
 /// Reads a bundle to its end, and gives its shop.
 ///
 /// Errors: `Read`, `Refused` with the bundle's first fault, the loop last, and `NoMemory` after no failed
 /// read.
-pub fn read_shop<R: Read>(alloc: Global, reader: &mut Told<R>) -> Result<Shop, DayFault>
+pub fn read_shop<R: Read>(
+    rt: &(impl Threads + Sync),
+    alloc: Global,
+    reader: &mut Told<R>,
+) -> Result<Shop, DayFault>
     ensures shop { ReadsShop (R.remaining (inner_of reader.old)) result }
     ensures end { OnOk result (IsAtEnd (R.remaining (inner_of reader.new))) }
     ensures refused_at_end { (f : Fault) → result ≡ Err (DayFault.Refused f) → IsAtEnd (R.remaining (inner_of reader.new)) }
@@ -28,5 +33,5 @@ pub fn read_shop<R: Read>(alloc: Global, reader: &mut Told<R>) -> Result<Shop, D
     ensures front { TakesFront (R.remaining (inner_of reader.old)) (R.remaining (inner_of reader.new)) (moved_of reader.old) (moved_of reader.new) }
 {
     let bundle = read_bundle(alloc, reader)?;
-    open_shop(alloc, &bundle)
+    open_shop(rt, alloc, &bundle)
 }

@@ -75,7 +75,7 @@ pub fn run_day<R: Read, W: Write>(
     ensures within { IsAfterReading result → IsReadWithin reader.old reader.new }
     ensures taken { TakesFront (R.remaining (inner_of reader.old)) (R.remaining (inner_of reader.new)) (moved_of reader.old) (moved_of reader.new) }
 {
-    let shop = read_shop(alloc, reader)?;
+    let shop = read_shop(rt, alloc, reader)?;
     let day = plan_day(rt, alloc, shop)?;
     write_day(rt, alloc, day, writer, workers)?;
     Ok(())

@@ -1,6 +1,7 @@
 mod AcceptedTables
 mod AdmittedFirst
 mod Admitting
+mod BehindCentres
 mod Blaming
 mod CellsRead
 mod Counting

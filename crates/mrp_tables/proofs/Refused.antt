@@ -4,11 +4,11 @@ use Rattle.mrp_rows.specs.Bundle.{text_in}
 use Rattle.mrp_rows.specs.declared.fault.Fault.{Fault}
 use Rattle.mrp_rows.specs.declared.faults.TheConstants as faults
 use Rattle.mrp_rows.specs.declared.fault.Table.{Table}
-use Rattle.mrp_tables.specs.Laws.{IsMemoryRefusal}
+use Rattle.mrp_tables.specs.Laws.{AreWholeBefore, IsMemoryRefusal}
 use Rattle.mrp_tables.specs.Readers.{IsRefusedAt, table_in}
 use Rattle.mrp_tables.specs.Reading.{IsRefusedBehind, IsRefusedIn, Reads}
 use Rattle.mrp_tables.specs.Tables.{tables_in}
-use Rattle.mrp_tables.proofs.TableLaws.{AreWholeBefore, refused_behind}
+use Rattle.mrp_tables.proofs.TableLaws.{refused_behind}
 
 -- a refusal of memory, at its table
 record IsMemoryFault (own : Table) (f : Fault) : Type 0 where

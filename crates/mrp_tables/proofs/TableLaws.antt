@@ -5,7 +5,8 @@ use Rattle.mrp_rows.specs.declared.fault.Fault.{Fault}
 use Rattle.mrp_rows.specs.declared.fault.Table.{Table}
 use Rattle.mrp_rows.specs.declared.fault.Table.TheVariants as t
 use Rattle.mrp_rows.specs.Tables.{table_index}
-use Rattle.mrp_tables.specs.Laws.{IsFirstTablesFault, all_whole, reading_of, table_order, whole}
+use Rattle.mrp_tables.specs.declared.rows.MasterRow.{MasterRow}
+use Rattle.mrp_tables.specs.Laws.{AreWholeBefore, IsFirstTablesFault, all_whole, reading_of, table_order, whole}
 use Rattle.mrp_tables.specs.Readers.{table_in}
 use Rattle.mrp_tables.specs.Tables.{tables_in}
 
@@ -27,10 +28,6 @@ first_tables_fault texts =
     in_turn (table_in texts t.Routings) _ _ (λ routings.
     in_turn (table_in texts t.Master) _ _ (λ master.
     in_turn (table_in texts t.Script) _ _ (λ script. refl)))))))))
-
--- that the tables before one are all read whole
-abbrev pub AreWholeBefore : List (List ℕ) → Table → Type 0
-AreWholeBefore texts own = all_whole (map (reading_of texts) (take (table_index own) table_order)) ≡ Ok tt
 
 -- one more table is read whole
 pub whole_and : {X : Type 0} {x : Result X Fault} {a : X} {rest : Result (Unit {0}) Fault} → x ≡ Ok a → rest ≡ Ok tt → (whole x >>= λ w. rest) ≡ Ok tt
@@ -97,6 +94,10 @@ whole_then read (own ∷ more) rest given = by (read own) refl given (whole_then
         → (read own >>= λ w. all_whole (map read (more ++ rest))) ≡ all_whole (map read rest)
     by (Err g) is refused later = absurd cc
     by (Ok w) is all later = rw is (later all)
+
+-- the script stands behind the master schedule
+pub behind_master : (texts : List (List ℕ)) (rows : List MasterRow) → AreWholeBefore texts t.Master → table_in texts t.Master ≡ Ok rows → AreWholeBefore texts t.Script
+behind_master texts rows earlier given = whole_then (reading_of texts) (take (table_index t.Master) table_order) (t.Master ∷ []) earlier ∙ whole_and given refl
 
 behind : (own : Table) → (own ≡ t.Bundle) ⊎ ((rest : List Table) × (table_order ≡ take (table_index own) table_order ++ (own ∷ rest)))
 behind t.Calendar = inr (_, refl)

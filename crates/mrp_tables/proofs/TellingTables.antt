@@ -11,7 +11,7 @@ use Rattle.mrp_tables.specs.declared.rows.Centre.{Centre}
 use Rattle.mrp_tables.specs.Bills.{bill_row}
 use Rattle.mrp_tables.specs.Centres.{centre_row}
 use Rattle.mrp_tables.specs.Items.{item_row}
-use Rattle.mrp_tables.specs.Laws.{FaultsAtItsRecord, IsToldAtItsTable, reading_of, whole}
+use Rattle.mrp_tables.specs.Laws.{AreWholeBefore, FaultsAtItsRecord, IsToldAtItsTable, reading_of, whole}
 use Rattle.mrp_tables.specs.Master.{master_row, that_count}
 use Rattle.mrp_tables.specs.Readers.{by_centres, by_dates, by_items, calendar_in, centres_in, items_in, table_in}
 use Rattle.mrp_tables.specs.Reading.{Reads, by_itself, rows_of}
@@ -22,7 +22,7 @@ use Rattle.mrp_tables.specs.Stock.{stock_row}
 use Rattle.mrp_tables.specs.Tables.{tables_in}
 use Rattle.mrp_tables.proofs.Blaming.{at_their_records}
 use Rattle.mrp_tables.proofs.OwnTable.{IsOf, calendar_own, follows, rows_own}
-use Rattle.mrp_tables.proofs.TableLaws.{AreWholeBefore, refused_by_table}
+use Rattle.mrp_tables.proofs.TableLaws.{refused_by_table}
 
 -- the calendar and the items, of which others are read beside, are read whole
 looked_at : {X Y : Type 0} (x : Result X Fault) (y : Result Y Fault) (rest : Result (Unit {0}) Fault)

@@ -120,16 +120,20 @@ abbrev pub all_whole : List (Result (Unit {0}) Fault) → Result (Unit {0}) Faul
 all_whole [] = Ok tt
 all_whole (r ∷ rest) = r >>= λ whole. all_whole rest
 
+-- the tables before one are all read whole
+abbrev pub AreWholeBefore : List (List ℕ) → Table → Type 0
+AreWholeBefore texts own = all_whole (map (reading_of texts) (take (table_index own) table_order)) ≡ Ok tt
+
 -- a fault is told at its table, and the tables before it are all read whole
 pub record IsToldAtItsTable (texts : List (List ℕ)) (f : Fault) : Type 0 where
   pub own : reading_of texts f.table ≡ Err f
-  pub earlier : all_whole (map (reading_of texts) (take (table_index f.table) table_order)) ≡ Ok tt
+  pub earlier : AreWholeBefore texts f.table
 
 -- memory was refused while a table was read: the records before the fault's are read, and the tables before it are all read whole
 pub record IsMemoryRefusal (texts : List (List ℕ)) (f : Fault) : Type 0 where
   pub code : f.code ≡ faults.NO_MEMORY
   pub at : IsRefusedAt texts f f.table
-  pub earlier : all_whole (map (reading_of texts) (take (table_index f.table) table_order)) ≡ Ok tt
+  pub earlier : AreWholeBefore texts f.table
 
 -- a bundle's fault is that of its first table, in their order, that is not read whole
 abbrev pub IsFirstTablesFault : List (List ℕ) → Type 0

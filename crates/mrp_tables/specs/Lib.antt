@@ -1,3 +1,4 @@
+pub mod Behind
 pub mod Bills
 pub mod Calendar
 pub mod Centres

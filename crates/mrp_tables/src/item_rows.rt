@@ -1,17 +1,17 @@
 //! The tables whose rows look at the items.
 
-use crate::bills::Bills;
+ghost use Rattle.mrp_tables.specs.Behind.{GivesEarlier, GivesLater};
+
 use crate::centres::Centres;
+use crate::earlier_rows::EarlierRows;
 use crate::items::Items;
-use crate::master::Master;
-use crate::receipts::Receipts;
-use crate::routings::Routings;
+use crate::later_rows::LaterRows;
 use crate::rows::{BillLine, MasterRow, Operation, Receipt, ScriptRow, StockRow};
-use crate::script::Script;
-use crate::stock::Stock;
 use mrp_cal::Calendar;
 use mrp_rows::{Fault, Sections};
 use std::alloc::Global;
+use std::thread;
+use std::thread::Threads;
 
 // The rows of the tables that look at the items, and some of them at the calendar or the centres.
 pub(crate) struct ItemRows {
@@ -31,9 +31,10 @@ impl ItemRows {
     ghost use Rattle.mrp_tables.specs.Tables.{tables_in};
 
     // The rows that make the bundle's tables beside a calendar, items and centres of its own, or
-    // the bundle's first fault.
-    #[tactic(auto, unfolding(crate::specs::Tables::tables_in))]
-    pub(crate) fn read(
+    // the bundle's first fault. The later tables are read beside the earlier ones, in a thread of
+    // their own where one can be started.
+    pub(crate) fn read<R: Threads + Sync>(
+        rt: &R,
         alloc: Global,
         sections: &Sections<'_>,
         calendar: &Calendar,
@@ -57,12 +58,22 @@ impl ItemRows {
             })
             result (tables_in sections.now) }
     {
-        let stock = Stock::read(alloc, sections, items)?;
-        let receipts = Receipts::read(alloc, sections, calendar, items)?;
-        let bills = Bills::read(alloc, sections, items)?;
-        let routings = Routings::read(alloc, sections, items, centres)?;
-        let master = Master::read(alloc, sections, calendar, items)?;
-        let script = Script::read(alloc, sections, calendar, items)?;
+        let before = move || -> Result<EarlierRows, Fault>
+            requires { (calendar_in sections.now ≡ Ok calendar.now) × (items_in sections.now ≡ Ok items.now) × (centres_in sections.now ≡ Ok centres.now) }
+            ensures { GivesEarlier sections.entry.now result }
+        { EarlierRows::read(alloc, sections, calendar, items, centres) };
+        let behind = move || -> Result<LaterRows, Fault>
+            requires { (calendar_in sections.now ≡ Ok calendar.now) × (items_in sections.now ≡ Ok items.now) }
+            ensures { GivesLater sections.entry.now result }
+        { LaterRows::read(alloc, sections, calendar, items) };
+        let (earlier, later) = thread::join(rt, before, behind);
+        let EarlierRows {
+            stock,
+            receipts,
+            bills,
+            routings,
+        } = earlier?;
+        let LaterRows { master, script } = later?;
         Ok(ItemRows {
             stock,
             receipts,

@@ -12,6 +12,7 @@ use mrp_cal::Calendar;
 use mrp_rows::{Fault, Name, Sections};
 use std::alloc::Global;
 use std::marker::Model;
+use std::thread::Threads;
 
 /// The typed tables of an accepted bundle, in which only a loop in the bills can still be wrong.
 #[derive(Drop)]
@@ -77,13 +78,17 @@ impl Tables {
     /// Errors: a fault, at its table and record, the header's at row 0; `NO_MEMORY` at the table and
     /// record that are being read.
     #[tactic(auto, unfolding(crate::specs::Tables::tables_in))]
-    pub fn read(alloc: Global, sections: &Sections<'_>) -> Result<Tables, Fault>
+    pub fn read<R: Threads + Sync>(
+        rt: &R,
+        alloc: Global,
+        sections: &Sections<'_>,
+    ) -> Result<Tables, Fault>
         ensures { Gives (IsMemoryRefusal sections.now) (λ t. t) result (tables_in sections.now) }
     {
         let calendar = Entries::read(alloc, sections)?;
         let items = Items::read(alloc, sections)?;
         let centres = Centres::read(alloc, sections)?;
-        let rows = ItemRows::read(alloc, sections, &calendar, &items, &centres)?;
+        let rows = ItemRows::read(rt, alloc, sections, &calendar, &items, &centres)?;
         let ItemRows {
             stock,
             receipts,

@@ -1,36 +1,22 @@
-use Rattle.std.proofs.Common.{refl}
+use Rattle.std.proofs.Common.{subst}
 use Rattle.std.proofs.lemmas.Result.{err_from_is_err_and}
-use Rattle.mrp_rows.specs.declared.fault.Table.TheVariants as t
-use Rattle.mrp_tables.proofs.Refused.{refused}
-use Rattle.mrp_tables.proofs.TableLaws.{whole_and}
+use Rattle.mrp_tables.specs.Behind.{GivesEarlier, GivesLater}
+use Rattle.mrp_tables.proofs.BehindCentres.{all_tables, before_master}
 use Rattle.mrp_tables.proofs.item_rows.ItemRows.read.Goals as goal
 
 pub returns-in_err-stock : goal.returns-in_err-stock
-returns-in_err-stock c =
+returns-in_err-stock g c =
     let p = err_from_is_err_and c.from_residual.result c.from_residual.ensures.1 in
-    rw (p.1, p.2) (refused c.args.sections.now t.Stock c.in_err-stock.field-0.0 (whole_and c.requires.calendar (whole_and c.requires.items (whole_and c.requires.centres refl))) c.in_err-stock.ensures.table)
-
-pub returns-in_err-receipts : goal.returns-in_err-receipts
-returns-in_err-receipts c =
-    let p = err_from_is_err_and c.from_residual-in_err-receipts.result c.from_residual-in_err-receipts.ensures.1 in
-    rw (p.1, p.2) (refused c.args.sections.now t.Receipts c.in_err-receipts.field-0.0 (whole_and c.requires.calendar (whole_and c.requires.items (whole_and c.requires.centres (whole_and c.in_ok-stock.ensures.table refl)))) c.in_err-receipts.ensures.table)
-
-pub returns-in_err-bills : goal.returns-in_err-bills
-returns-in_err-bills c =
-    let p = err_from_is_err_and c.from_residual-in_err-bills.result c.from_residual-in_err-bills.ensures.1 in
-    rw (p.1, p.2) (refused c.args.sections.now t.Bills c.in_err-bills.field-0.0 (whole_and c.requires.calendar (whole_and c.requires.items (whole_and c.requires.centres (whole_and c.in_ok-stock.ensures.table (whole_and c.in_ok-receipts.ensures.table refl))))) c.in_err-bills.ensures.table)
-
-pub returns-in_err-routings : goal.returns-in_err-routings
-returns-in_err-routings c =
-    let p = err_from_is_err_and c.from_residual-in_err-routings.result c.from_residual-in_err-routings.ensures.1 in
-    rw (p.1, p.2) (refused c.args.sections.now t.Routings c.in_err-routings.field-0.0 (whole_and c.requires.calendar (whole_and c.requires.items (whole_and c.requires.centres (whole_and c.in_ok-stock.ensures.table (whole_and c.in_ok-receipts.ensures.table (whole_and c.in_ok-bills.ensures.table refl)))))) c.in_err-routings.ensures.table)
+    rw (p.1, p.2) (subst (GivesEarlier c.args.sections.now) c.in_err-stock.was c.join-earlier.ensures.first)
 
 pub returns-in_err-master : goal.returns-in_err-master
-returns-in_err-master c =
+returns-in_err-master g c =
     let p = err_from_is_err_and c.from_residual-in_err-master.result c.from_residual-in_err-master.ensures.1 in
-    rw (p.1, p.2) (refused c.args.sections.now t.Master c.in_err-master.field-0.0 (whole_and c.requires.calendar (whole_and c.requires.items (whole_and c.requires.centres (whole_and c.in_ok-stock.ensures.table (whole_and c.in_ok-receipts.ensures.table (whole_and c.in_ok-bills.ensures.table (whole_and c.in_ok-routings.ensures.table refl))))))) c.in_err-master.ensures.table)
+    let earlier = subst (GivesEarlier c.args.sections.now) c.in_ok-stock.was c.join-earlier.ensures.first in
+    rw (p.1, p.2) (subst (GivesLater c.args.sections.now) c.in_err-master.was c.join-earlier.ensures.second (before_master c.args.sections.now _ _ _ _ c.requires.calendar c.requires.items c.requires.centres earlier))
 
-pub returns-in_err-script : goal.returns-in_err-script
-returns-in_err-script c =
-    let p = err_from_is_err_and c.from_residual-in_err-script.result c.from_residual-in_err-script.ensures.1 in
-    rw (p.1, p.2) (refused c.args.sections.now t.Script c.in_err-script.field-0.0 (whole_and c.requires.calendar (whole_and c.requires.items (whole_and c.requires.centres (whole_and c.in_ok-stock.ensures.table (whole_and c.in_ok-receipts.ensures.table (whole_and c.in_ok-bills.ensures.table (whole_and c.in_ok-routings.ensures.table (whole_and c.in_ok-master.ensures.table refl)))))))) c.in_err-script.ensures.table)
+pub returns : goal.returns
+returns g c =
+    all_tables c.args.sections.now _ _ _ _ _ c.requires.calendar c.requires.items c.requires.centres
+    (subst (GivesEarlier c.args.sections.now) c.in_ok-stock.was c.join-earlier.ensures.first)
+    (subst (GivesLater c.args.sections.now) c.in_ok-master.was c.join-earlier.ensures.second)

@@ -7,19 +7,19 @@ use Rattle.mrp_tables.proofs.TablesKept.{are_tables}
 use Rattle.mrp_tables.proofs.tables.Tables.read.Goals as goal
 
 pub returns-in_err-calendar : goal.returns-in_err-calendar
-returns-in_err-calendar c =
+returns-in_err-calendar g c =
     let p = err_from_is_err_and c.from_residual.result c.from_residual.ensures.1 in
     rw (p.1, p.2) (refused c.args.sections.now t.Calendar c.in_err-calendar.field-0.0 refl c.in_err-calendar.ensures)
 
 pub returns-in_err-items : goal.returns-in_err-items
-returns-in_err-items c =
+returns-in_err-items g c =
     let p = err_from_is_err_and c.from_residual-in_err-items.result c.from_residual-in_err-items.ensures.1 in
     rw (p.1, p.2) (refused c.args.sections.now t.Items c.in_err-items.field-0.0 (whole_and c.in_ok-calendar.ensures refl) c.in_err-items.ensures.table)
 
 pub returns-in_err-centres : goal.returns-in_err-centres
-returns-in_err-centres c =
+returns-in_err-centres g c =
     let p = err_from_is_err_and c.from_residual-in_err-centres.result c.from_residual-in_err-centres.ensures.1 in
     rw (p.1, p.2) (refused c.args.sections.now t.Centres c.in_err-centres.field-0.0 (whole_and c.in_ok-calendar.ensures (whole_and c.in_ok-items.ensures.table refl)) c.in_err-centres.ensures.table)
 
 pub invariant_of-result : goal.invariant_of-result
-invariant_of-result c = are_tables c.args.sections.now _ (rw (c.into_rows.ensures.rows) c.in_ok-rows.ensures)
+invariant_of-result g c = are_tables c.args.sections.now _ (rw (c.into_rows.ensures.rows) c.in_ok-rows.ensures)
