@@ -60,12 +60,8 @@ fn time_answers<R: Runtime>(rt: &R, row: &mut AtpRow, calls: u64) -> io::Result<
     println!(rt; "{nanos} nanoseconds a call, answers add up to {answers}")
 }
 
-fn promise<R: Runtime + AllocGlobal + Threads + Sync>(
-    rt: &R,
-    bundle: &[u8],
-    calls: Option<u64>,
-) -> io::Result<()> {
-    let Some(mut row) = promising::first_row(rt, rt.alloc(), bundle) else {
+fn promise<R: Runtime + AllocGlobal>(rt: &R, bundle: &[u8], calls: Option<u64>) -> io::Result<()> {
+    let Some(mut row) = promising::first_row(rt.alloc(), bundle) else {
         return println!(rt; "no shop");
     };
     match calls {

@@ -8,7 +8,6 @@ use mrp_qty::Qty;
 use mrp_rows::split_bundle;
 use mrp_tables::Tables;
 use std::alloc::Global;
-use std::thread::Threads;
 
 // Books so many pieces in a week, if they are available; how many are booked.
 fn take_pieces(row: &mut AtpRow, week: u16, quantity: Qty) -> u64
@@ -60,13 +59,9 @@ pub(crate) fn call_often(row: &mut AtpRow, calls: u64) -> u64 {
 }
 
 /// The row of the first item of a bundle, if it has a shop.
-pub(crate) fn first_row(
-    rt: &(impl Threads + Sync),
-    alloc: Global,
-    bundle: &[u8],
-) -> Option<AtpRow> {
+pub(crate) fn first_row(alloc: Global, bundle: &[u8]) -> Option<AtpRow> {
     let sections = split_bundle(bundle).ok()?;
-    let tables = Tables::read(rt, alloc, &sections).ok()?;
+    let tables = Tables::read(alloc, &sections).ok()?;
     let shop = Bill::of(alloc, tables).ok()?;
     let supply = Supply::of(alloc, &shop).ok()?;
     AtpRow::of(alloc, &supply, 0).ok()

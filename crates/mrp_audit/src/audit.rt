@@ -37,7 +37,7 @@ fn input_fault(fault: DayFault) -> AuditFault
 }
 
 // The shop of a bundle.
-fn shop_of(rt: &(impl Threads + Sync), alloc: Global, bundle: &[u8]) -> Result<Shop, AuditFault>
+fn shop_of(rt: &impl Threads, alloc: Global, bundle: &[u8]) -> Result<Shop, AuditFault>
     ensures { OpensShop bundle.now result }
 {
     match open_shop(rt, alloc, bundle) {

@@ -61,17 +61,17 @@ fn shop_of(alloc: Global, tables: Tables) -> Result<Shop, DayFault>
     }
 }
 
-/// The shop of a bundle.
+/// The shop of a bundle, whose tables are read in two threads where a second can be started.
 ///
 /// Errors: `Refused` with the bundle's first fault, the loop last, and `NoMemory`.
-pub fn open_shop(rt: &(impl Threads + Sync), alloc: Global, bundle: &[u8]) -> Result<Shop, DayFault>
+pub fn open_shop(rt: &impl Threads, alloc: Global, bundle: &[u8]) -> Result<Shop, DayFault>
     ensures { Opens bundle.now result }
 {
     let sections = match split_bundle(bundle) {
         Ok(sections) => sections,
         Err(fault) => return Err(refusal(fault)),
     };
-    match Tables::read(rt, alloc, &sections) {
+    match Tables::read_beside(rt, alloc, &sections) {
         Ok(tables) => shop_of(alloc, tables),
         Err(fault) => Err(refusal(fault)),
     }

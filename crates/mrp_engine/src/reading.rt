@@ -15,12 +15,13 @@ use std::alloc::Global;
 use std::io::Read;
 use std::thread::Threads;
 
-/// Reads a bundle to its end, and gives its shop.
+/// Reads a bundle to its end, and gives its shop. The tables are read in two threads where a second can
+/// be started.
 ///
 /// Errors: `Read`, `Refused` with the bundle's first fault, the loop last, and `NoMemory` after no failed
 /// read.
 pub fn read_shop<R: Read>(
-    rt: &(impl Threads + Sync),
+    rt: &impl Threads,
     alloc: Global,
     reader: &mut Told<R>,
 ) -> Result<Shop, DayFault>

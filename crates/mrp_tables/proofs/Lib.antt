@@ -1,7 +1,6 @@
 mod AcceptedTables
 mod AdmittedFirst
 mod Admitting
-mod BehindCentres
 mod Blaming
 mod CellsRead
 mod Counting
@@ -12,6 +11,7 @@ mod Gathering
 mod Kept
 mod Opening
 mod OwnTable
+mod PartsRead
 mod RecordsRead
 mod RowLaws
 mod Refused

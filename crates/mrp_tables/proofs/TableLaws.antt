@@ -95,9 +95,9 @@ whole_then read (own ∷ more) rest given = by (read own) refl given (whole_then
     by (Err g) is refused later = absurd cc
     by (Ok w) is all later = rw is (later all)
 
--- the script stands behind the master schedule
-pub behind_master : (texts : List (List ℕ)) (rows : List MasterRow) → AreWholeBefore texts t.Master → table_in texts t.Master ≡ Ok rows → AreWholeBefore texts t.Script
-behind_master texts rows earlier given = whole_then (reading_of texts) (take (table_index t.Master) table_order) (t.Master ∷ []) earlier ∙ whole_and given refl
+-- where the tables before the master schedule are read whole, and it is, so are those before the script
+pub before_script : (texts : List (List ℕ)) (rows : List MasterRow) → AreWholeBefore texts t.Master → table_in texts t.Master ≡ Ok rows → AreWholeBefore texts t.Script
+before_script texts rows earlier given = whole_then (reading_of texts) (take (table_index t.Master) table_order) (t.Master ∷ []) earlier ∙ whole_and given refl
 
 behind : (own : Table) → (own ≡ t.Bundle) ⊎ ((rest : List Table) × (table_order ≡ take (table_index own) table_order ++ (own ∷ rest)))
 behind t.Calendar = inr (_, refl)

@@ -1,4 +1,3 @@
-pub mod Behind
 pub mod Bills
 pub mod Calendar
 pub mod Centres
@@ -8,6 +7,7 @@ pub mod Items
 pub mod Laws
 pub mod Limits
 pub mod Master
+pub mod Parts
 pub mod Readers
 pub mod Reading
 pub mod Receipts

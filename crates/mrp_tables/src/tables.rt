@@ -2,16 +2,17 @@
 
 ghost use Rattle.mrp_tables.specs.declared.limits.TheConstants.{MOST_CENTRES, MOST_ITEMS, MOST_OPERATIONS, MOST_ROWS};
 
-use crate::calendar::Entries;
-use crate::centres::Centres;
+use crate::first_tables::FirstTables;
 use crate::item::Item;
-use crate::item_rows::ItemRows;
 use crate::items::Items;
+use crate::master_and_script::MasterAndScript;
 use crate::rows::{BillLine, Centre, MasterRow, Operation, Receipt, ScriptRow, StockRow};
+use crate::stock_to_routings::StockToRoutings;
 use mrp_cal::Calendar;
 use mrp_rows::{Fault, Name, Sections};
 use std::alloc::Global;
 use std::marker::Model;
+use std::thread;
 use std::thread::Threads;
 
 /// The typed tables of an accepted bundle, in which only a loop in the bills can still be wrong.
@@ -59,10 +60,11 @@ impl Model for Tables {
 }
 
 impl Tables {
-    ghost use Rattle.std.specs.Prelude.{◌≡◌, ◌<◌, ◌≤◌, All, IfSome, length};
+    ghost use Rattle.std.specs.Prelude.{◌≡◌, ◌<◌, ◌≤◌, ℕ, List, All, IfSome, length};
     ghost use Rattle.mrp_tables.specs.Centres.{centre_names};
     ghost use Rattle.mrp_tables.specs.Facts.{AllDiffer, IsBillLine, IsCentre, IsItem, IsMasterRow, IsOperation, IsReceipt, IsScriptRow, IsStockRow, NumbersRise};
     ghost use Rattle.mrp_tables.specs.Items.{names_of, place_of};
+    ghost use Rattle.mrp_tables.specs.Parts.{AreFirst, AreMasterAndScript, AreStockToRoutings, GivesMasterAndScript, GivesStockToRoutings, tables_from};
     ghost use Rattle.mrp_tables.specs.Receipts.{orders_of};
     ghost use Rattle.mrp_tables.specs.Routings.{operations_of};
     ghost use Rattle.mrp_tables.specs.Stock.{items_in_stock};
@@ -77,27 +79,61 @@ impl Tables {
     ///
     /// Errors: a fault, at its table and record, the header's at row 0; `NO_MEMORY` at the table and
     /// record that are being read.
-    #[tactic(auto, unfolding(crate::specs::Tables::tables_in))]
-    pub fn read<R: Threads + Sync>(
+    pub fn read(alloc: Global, sections: &Sections<'_>) -> Result<Tables, Fault>
+        ensures { Gives (IsMemoryRefusal sections.now) (λ t. t) result (tables_in sections.now) }
+    {
+        let first = FirstTables::read(alloc, sections)?;
+        let rows = StockToRoutings::read(alloc, sections, &first)?;
+        let last = MasterAndScript::read(alloc, sections, &first)?;
+        Ok(Tables::of(first, rows, last))
+    }
+
+    /// The same, with the master schedule and the script read beside the tables from the stock to the
+    /// routings: in a thread of their own, or before these where none can be started. Of two refusals
+    /// that of the earlier table is told all the same.
+    ///
+    /// Errors: as `read`.
+    pub fn read_beside<R: Threads>(
         rt: &R,
         alloc: Global,
         sections: &Sections<'_>,
     ) -> Result<Tables, Fault>
         ensures { Gives (IsMemoryRefusal sections.now) (λ t. t) result (tables_in sections.now) }
     {
-        let calendar = Entries::read(alloc, sections)?;
-        let items = Items::read(alloc, sections)?;
-        let centres = Centres::read(alloc, sections)?;
-        let rows = ItemRows::read(rt, alloc, sections, &calendar, &items, &centres)?;
-        let ItemRows {
+        let first = FirstTables::read(alloc, sections)?;
+        let beside = &first;
+        let read_last = move || -> Result<MasterAndScript, Fault>
+            requires { AreFirst sections.now beside.now }
+            ensures { GivesMasterAndScript sections.entry.now result }
+        { MasterAndScript::read(alloc, sections, beside) };
+        let read_rows = move || -> Result<StockToRoutings, Fault>
+            requires { AreFirst sections.now beside.now }
+            ensures { GivesStockToRoutings sections.entry.now result }
+        { StockToRoutings::read(alloc, sections, beside) };
+        let (last, rows) = thread::join(rt, read_last, read_rows);
+        let rows = rows?;
+        let last = last?;
+        Ok(Tables::of(first, rows, last))
+    }
+
+    // The tables of their three parts.
+    fn of(first: FirstTables, rows: StockToRoutings, last: MasterAndScript) -> Tables
+        requires { (texts : List (List ℕ)) × AreFirst texts first × AreStockToRoutings texts rows × AreMasterAndScript texts last }
+        ensures { result ≡ tables_from first rows last }
+    {
+        let FirstTables {
+            calendar,
+            items,
+            centres,
+        } = first;
+        let StockToRoutings {
             stock,
             receipts,
             bills,
             routings,
-            master,
-            script,
         } = rows;
-        Ok(Tables {
+        let MasterAndScript { master, script } = last;
+        Tables {
             calendar,
             items,
             centres: centres.into_rows(),
@@ -107,7 +143,7 @@ impl Tables {
             routings,
             master,
             script,
-        })
+        }
     }
 
     /// The shop's calendar.

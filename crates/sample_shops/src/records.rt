@@ -10,7 +10,6 @@ use mrp_tables::Tables;
 use std::alloc::Global;
 use std::sync::Arc;
 use std::test::Fail;
-use std::thread::Threads;
 
 /// The records of a shop's tables, each with its line end.
 #[derive(Clone, Copy)]
@@ -66,36 +65,26 @@ impl Records<'_> {
     }
 
     /// The tables.
-    pub fn tables(&self, rt: &(impl Threads + Sync), alloc: Global) -> Result<Tables, Fail> {
+    pub fn tables(&self, alloc: Global) -> Result<Tables, Fail> {
         let bundle = self.bundle(alloc)?;
         let sections = split_bundle(bundle.as_bytes())?;
-        Ok(Tables::read(rt, alloc, &sections)?)
+        Ok(Tables::read(alloc, &sections)?)
     }
 
     /// The shop.
-    pub fn shop(&self, rt: &(impl Threads + Sync), alloc: Global) -> Result<Shop, Fail> {
-        Ok(Bill::of(alloc, self.tables(rt, alloc)?)?)
+    pub fn shop(&self, alloc: Global) -> Result<Shop, Fail> {
+        Ok(Bill::of(alloc, self.tables(alloc)?)?)
     }
 
     /// The shop, with what stands after these calls of its desks.
-    pub fn inputs(
-        &self,
-        rt: &(impl Threads + Sync),
-        alloc: Global,
-        calls: &[(u64, Asked)],
-    ) -> Result<Arc<Inputs>, Fail> {
-        let shop = Arc::new(alloc, self.shop(rt, alloc)?)?;
+    pub fn inputs(&self, alloc: Global, calls: &[(u64, Asked)]) -> Result<Arc<Inputs>, Fail> {
+        let shop = Arc::new(alloc, self.shop(alloc)?)?;
         let snapshot = snapshot_of(alloc, &shop, calls)?;
         Ok(Inputs::new(alloc, shop, snapshot)?)
     }
 
     /// The plan of the shop after these calls of its desks.
-    pub fn plan(
-        &self,
-        rt: &(impl Threads + Sync),
-        alloc: Global,
-        calls: &[(u64, Asked)],
-    ) -> Result<Plan, Fail> {
-        Ok(explode_serial(alloc, &self.inputs(rt, alloc, calls)?)?)
+    pub fn plan(&self, alloc: Global, calls: &[(u64, Asked)]) -> Result<Plan, Fail> {
+        Ok(explode_serial(alloc, &self.inputs(alloc, calls)?)?)
     }
 }

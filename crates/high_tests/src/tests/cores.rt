@@ -145,7 +145,7 @@ fn steps_after_giving_up<R: Alloc + Abort + Threads + Sync>(
 
 #[test]
 fn a_run_is_written_without_the_booking_that_came_after_its_start(rt: HostRuntime) {
-    let shop = made(&rt, bicycles().shop(&rt, rt.alloc()));
+    let shop = made(&rt, bicycles().shop(rt.alloc()));
     let booking = made(&rt, Asked::Book(3, 12).call(&shop));
     let mut core = core_of(&rt, rt.alloc(), shop);
     first_steps(&rt, rt.alloc(), &mut core, booking);
@@ -158,7 +158,7 @@ fn a_run_is_written_without_the_booking_that_came_after_its_start(rt: HostRuntim
 
 #[test]
 fn there_is_no_desk_0_and_no_desk_65(rt: HostRuntime) {
-    let shop = made(&rt, bicycles().shop(&rt, rt.alloc()));
+    let shop = made(&rt, bicycles().shop(rt.alloc()));
     let mut core = core_of(&rt, rt.alloc(), shop);
     steps_of_desks(&rt, rt.alloc(), &mut core);
     drop(core);
@@ -166,7 +166,7 @@ fn there_is_no_desk_0_and_no_desk_65(rt: HostRuntime) {
 
 #[test]
 fn a_run_that_was_given_up_hands_nothing_out(rt: HostRuntime) {
-    let shop = made(&rt, bicycles().shop(&rt, rt.alloc()));
+    let shop = made(&rt, bicycles().shop(rt.alloc()));
     let mut core = core_of(&rt, rt.alloc(), shop);
     steps_after_giving_up(&rt, rt.alloc(), &mut core);
     drop(core);
@@ -227,7 +227,7 @@ fn is_answer(rt: &impl Abort, answer: &Answer, want: Told) {
 
 #[test]
 fn a_list_of_events_is_answered_as_one_by_one(rt: HostRuntime) {
-    let shop = made(&rt, bicycles().shop(&rt, rt.alloc()));
+    let shop = made(&rt, bicycles().shop(rt.alloc()));
     let booking = made(&rt, Asked::Book(3, 12).call(&shop));
     let answers = answers_of_core(&rt, rt.alloc(), shop, booking);
     same(&rt, answers.len(), WORKED.len());

@@ -34,21 +34,21 @@ fn is_refused<R: Abort + Threads + Sync>(rt: &R, alloc: Global, inputs: &Arc<Inp
 
 #[test]
 fn bicycles_explode(rt: HostRuntime) {
-    let inputs = made(&rt, bicycles().inputs(&rt, rt.alloc(), &[]));
+    let inputs = made(&rt, bicycles().inputs(rt.alloc(), &[]));
     explodes(&rt, rt.alloc(), &inputs, BICYCLE_REPORT);
     drop(inputs);
 }
 
 #[test]
 fn bicycles_in_lots_explode(rt: HostRuntime) {
-    let inputs = made(&rt, bicycles_in_lots().inputs(&rt, rt.alloc(), morning()));
+    let inputs = made(&rt, bicycles_in_lots().inputs(rt.alloc(), morning()));
     explodes(&rt, rt.alloc(), &inputs, LOTS_REPORT);
     drop(inputs);
 }
 
 #[test]
 fn a_part_at_three_levels_is_planned_once(rt: HostRuntime) {
-    let inputs = made(&rt, screws().inputs(&rt, rt.alloc(), &[]));
+    let inputs = made(&rt, screws().inputs(rt.alloc(), &[]));
     explodes(&rt, rt.alloc(), &inputs, SCREW_REPORT);
     drop(inputs);
 }
@@ -60,7 +60,7 @@ fn the_first_item_that_gets_too_large_is_told(rt: HostRuntime) {
         ..chain()
     };
     for (shop, item) in [(chain(), 3), (more, 2), (fork(), 2)] {
-        let inputs = made(&rt, shop.inputs(&rt, rt.alloc(), &[]));
+        let inputs = made(&rt, shop.inputs(rt.alloc(), &[]));
         is_refused(&rt, rt.alloc(), &inputs, item);
         drop(inputs);
     }
@@ -146,7 +146,7 @@ fn many_parts_of_a_level_explode(rt: HostRuntime) {
         master: "TOP,firm,2025-01-06,3\n",
         ..no_records()
     };
-    let inputs = made(&rt, shop.inputs(&rt, alloc, &[]));
+    let inputs = made(&rt, shop.inputs(alloc, &[]));
     let mut want = rows_of_parts(&rt, alloc, &MANY);
     want.push_str(NO_LOADS).expect(&rt, "memory");
     explodes(&rt, alloc, &inputs, &want);

@@ -260,7 +260,7 @@ fn entries_behind<R: Abort + Eprint + Threads + Wait + Sync>(
         script,
         ..bicycles_in_lots()
     };
-    let shop = made(rt, shop.shop(rt, alloc));
+    let shop = made(rt, shop.shop(alloc));
     let (shop, history) = answer_by_desks(rt, alloc, shop, gate).expect(rt, "memory");
     let entries = history.entries();
     let count = entries.len();

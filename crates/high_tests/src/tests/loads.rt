@@ -13,7 +13,7 @@ fn welding_is_over_in_the_first_week(rt: HostRuntime) {
         routings: "FRAME,10,WELD,30,2500,0\n",
         ..bicycles_in_lots()
     };
-    let plan = made(&rt, shop.plan(&rt, alloc, morning()));
+    let plan = made(&rt, shop.plan(alloc, morning()));
     let table = loads(&rt, alloc, &plan).expect(&rt, "loads");
     let over = table.overloads(alloc).expect(&rt, "overloads");
     same(&rt, over.as_slice(), &[(1, 1, Milli::new(75_000))]);

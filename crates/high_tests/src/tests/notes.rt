@@ -63,7 +63,7 @@ const LOT_MESSAGES: &[Message] = &[
 
 #[test]
 fn late_orders_and_open_receipts_are_told(rt: HostRuntime) {
-    let plan = made(&rt, bicycles_in_lots().plan(&rt, rt.alloc(), morning()));
+    let plan = made(&rt, bicycles_in_lots().plan(rt.alloc(), morning()));
     has_messages(&rt, rt.alloc(), &plan, LOT_MESSAGES);
     drop(plan);
 }
@@ -113,7 +113,7 @@ const PRODUCT_MESSAGES: &[Message] = &[
 
 #[test]
 fn a_late_firm_row_is_told_so_before_it_is_moved(rt: HostRuntime) {
-    let plan = made(&rt, products().plan(&rt, rt.alloc(), product_bookings()));
+    let plan = made(&rt, products().plan(rt.alloc(), product_bookings()));
     has_messages(&rt, rt.alloc(), &plan, PRODUCT_MESSAGES);
     drop(plan);
 }

@@ -152,7 +152,7 @@ fn two_lines_of_a_pair_are_two_requirements(rt: HostRuntime) {
         bills: "BIKE,FRAME,1\nBIKE,WHEEL,1\nBIKE,WHEEL,1\n",
         ..bicycles_in_lots()
     };
-    let plan = made(&rt, shop.plan(&rt, rt.alloc(), morning()));
+    let plan = made(&rt, shop.plan(rt.alloc(), morning()));
     has_pegs(&rt, rt.alloc(), &plan, BICYCLE_PEGS);
     drop(plan);
 }
@@ -227,7 +227,7 @@ const PRODUCT_PEGS: &[Cells] = &[
 
 #[test]
 fn what_starts_is_required_and_what_is_left_is_surplus(rt: HostRuntime) {
-    let plan = made(&rt, products().plan(&rt, rt.alloc(), product_bookings()));
+    let plan = made(&rt, products().plan(rt.alloc(), product_bookings()));
     has_pegs(&rt, rt.alloc(), &plan, PRODUCT_PEGS);
     drop(plan);
 }

@@ -60,7 +60,7 @@ fn has_front(
 
 #[test]
 fn a_failing_writer_has_a_front_of_the_report(rt: HostRuntime) {
-    let plan = made(&rt, bicycles().plan(&rt, rt.alloc(), &[]));
+    let plan = made(&rt, bicycles().plan(rt.alloc(), &[]));
     for (turns, count) in FAILING {
         let mut writer = writer(rt.alloc(), turns);
         let written = write_report(&rt, rt.alloc(), &plan, &mut writer, 1);
@@ -70,13 +70,13 @@ fn a_failing_writer_has_a_front_of_the_report(rt: HostRuntime) {
 }
 
 // Writes the history of these calls of the bicycles' desks.
-fn write_calls<R: Abort + Eprint + Threads + Sync, W: Write>(
+fn write_calls<R: Abort + Eprint, W: Write>(
     rt: &R,
     alloc: Global,
     calls: &[(u64, Asked)],
     writer: &mut Told<W>,
 ) -> Result<(), ReportFault> {
-    let shop = made(rt, bicycles().shop(rt, alloc));
+    let shop = made(rt, bicycles().shop(alloc));
     let history = made(rt, book_of(alloc, &shop, calls)).into_history();
     let written = write_history(alloc, &history, &shop, writer);
     drop((shop, history));

@@ -42,7 +42,7 @@ fn asked(item: usize, week: u16, line: usize, order: usize) -> Need {
 
 #[test]
 fn a_frame_is_for_a_forecast_and_surplus_of_bicycles(rt: HostRuntime) {
-    let plan = made(&rt, bicycles().plan(&rt, rt.alloc(), &[]));
+    let plan = made(&rt, bicycles().plan(rt.alloc(), &[]));
     let pegs = &[
         (0, Some((4, NeedKind::Forecast)), Supplied::Order(1), 4),
         (0, None, Supplied::Order(1), 16),
@@ -57,7 +57,7 @@ fn a_frame_is_for_a_forecast_and_surplus_of_bicycles(rt: HostRuntime) {
 
 #[test]
 fn a_booking_is_its_own_cause_and_what_is_not_there_has_none(rt: HostRuntime) {
-    let plan = made(&rt, bicycles_in_lots().plan(&rt, rt.alloc(), morning()));
+    let plan = made(&rt, bicycles_in_lots().plan(rt.alloc(), morning()));
     let itself = &[Cause::Booking { item: 0, number: 2 }];
     goes_back(&rt, rt.alloc(), &plan, &booking(5, 2), &[], itself);
     goes_back(&rt, rt.alloc(), &plan, &booking(5, 4), &[], &[]);
@@ -108,10 +108,7 @@ const LOT_CAUSES: &[Cause] = &[
 
 #[test]
 fn a_part_of_a_part_goes_back_to_all_that_its_lot_is_for(rt: HostRuntime) {
-    let plan = made(
-        &rt,
-        towers().plan(&rt, rt.alloc(), &[(1, Asked::Book(3, 5))]),
-    );
+    let plan = made(&rt, towers().plan(rt.alloc(), &[(1, Asked::Book(3, 5))]));
     goes_back(
         &rt,
         rt.alloc(),

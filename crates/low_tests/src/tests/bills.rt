@@ -8,7 +8,6 @@ use mrp_tables::Tables;
 use sample_shops::{Records, no_records};
 use std::alloc::Global;
 use std::process::Abort;
-use std::thread::Threads;
 
 // A line: the places of the item that is made, and of the one that goes into it.
 type Line = (usize, usize);
@@ -34,12 +33,7 @@ fn bills(rt: &impl Abort, alloc: Global, lines: &[Line]) -> String {
 }
 
 // The tables of so many items with these lines.
-fn tables_of(
-    rt: &(impl Abort + Threads + Sync),
-    alloc: Global,
-    count: usize,
-    lines: &[Line],
-) -> Tables {
+fn tables_of(rt: &impl Abort, alloc: Global, count: usize, lines: &[Line]) -> Tables {
     let items = items(rt, alloc, count);
     let bills = bills(rt, alloc, lines);
     let shop = Records {
@@ -47,28 +41,18 @@ fn tables_of(
         bills: &bills,
         ..no_records()
     };
-    let tables = shop.tables(rt, alloc);
+    let tables = shop.tables(alloc);
     drop((items, bills));
     made(rt, tables)
 }
 
 // The shop of so many items, where these lines are accepted.
-fn accepted(
-    rt: &(impl Abort + Threads + Sync),
-    alloc: Global,
-    count: usize,
-    lines: &[Line],
-) -> Shop {
+fn accepted(rt: &impl Abort, alloc: Global, count: usize, lines: &[Line]) -> Shop {
     Bill::of(alloc, tables_of(rt, alloc, count, lines)).expect(rt, "a shop")
 }
 
 // The loop's path, where these lines are refused.
-fn refused(
-    rt: &(impl Abort + Threads + Sync),
-    alloc: Global,
-    count: usize,
-    lines: &[Line],
-) -> Vec<usize> {
+fn refused(rt: &impl Abort, alloc: Global, count: usize, lines: &[Line]) -> Vec<usize> {
     match Bill::of(alloc, tables_of(rt, alloc, count, lines)) {
         Ok(_) => panic!(rt; "accepted"),
         Err(BillFault::Loop { path }) => path,
@@ -232,12 +216,7 @@ fn a_hundred_thousand_lines_of_one_pair_are_one_parent(rt: HostRuntime) {
 }
 
 // The greatest code of so many items, where these lines are accepted, and how many are in order.
-fn depth_and_count(
-    rt: &(impl Abort + Threads + Sync),
-    alloc: Global,
-    count: usize,
-    lines: &[Line],
-) -> (usize, usize) {
+fn depth_and_count(rt: &impl Abort, alloc: Global, count: usize, lines: &[Line]) -> (usize, usize) {
     let shop = accepted(rt, alloc, count, lines);
     let sizes = (shop.depth(), shop.order().len());
     drop(shop);

@@ -10,7 +10,6 @@ use mrp_phase::PhaseFault;
 use sample_shops::{Asked, Said, bicycles, said};
 use std::alloc::Global;
 use std::process::Abort;
-use std::thread::Threads;
 
 // The order book of the bicycles, of which 10 are on hand and 20 firm in the weeks 3 and 5.
 #[derive(Drop)]
@@ -21,8 +20,8 @@ struct Day {
 }
 
 impl Day {
-    fn open(rt: &(impl Abort + Threads + Sync), alloc: Global) -> Day {
-        let shop = made(rt, bicycles().shop(rt, alloc));
+    fn open(rt: &impl Abort, alloc: Global) -> Day {
+        let shop = made(rt, bicycles().shop(alloc));
         let book = Book::open(alloc, &shop).expect(rt, "memory");
         Day { shop, book }
     }
@@ -58,7 +57,7 @@ const MORNING: &[Answered] = &[
 ];
 
 // A day after its first six calls.
-fn morning(rt: &(impl Abort + Threads + Sync), alloc: Global) -> Day {
+fn morning(rt: &impl Abort, alloc: Global) -> Day {
     let mut day = Day::open(rt, alloc);
     are_answered(rt, alloc, &mut day, 1, MORNING);
     day
@@ -247,8 +246,8 @@ struct Between {
 }
 
 impl Between {
-    fn open(rt: &(impl Abort + Threads + Sync), alloc: Global) -> Between {
-        let shop = made(rt, bicycles().shop(rt, alloc));
+    fn open(rt: &impl Abort, alloc: Global) -> Between {
+        let shop = made(rt, bicycles().shop(alloc));
         let state = BookState::open(alloc, &shop).expect(rt, "memory");
         Between { shop, state }
     }

@@ -6,7 +6,6 @@ use mrp_rows::{Fault, fault_text, split_bundle};
 use mrp_tables::Tables;
 use std::alloc::Global;
 use std::process::Abort;
-use std::thread::Threads;
 
 const SHOP: &str = "\
 [calendar]\n\
@@ -59,9 +58,9 @@ fn counts_of(tables: &Tables) -> [usize; 7] {
 }
 
 // How many rows the tables of a bundle have, or their first fault.
-fn counts(rt: &(impl Threads + Sync), alloc: Global, bundle: &str) -> Result<[usize; 7], Fault> {
+fn counts(alloc: Global, bundle: &str) -> Result<[usize; 7], Fault> {
     let sections = split_bundle(bundle.as_bytes())?;
-    match Tables::read(rt, alloc, &sections) {
+    match Tables::read(alloc, &sections) {
         Ok(tables) => {
             let counts = counts_of(&tables);
             drop(tables);
@@ -80,14 +79,14 @@ fn shop_with(rt: &impl Abort, alloc: Global, record: &str, records: &str) -> Str
 // Fails unless the shop, where these records stand in the place of one of its own, has so many
 // rows, or this fault.
 fn has_rows(
-    rt: &(impl Abort + Threads + Sync),
+    rt: &impl Abort,
     alloc: Global,
     record: &str,
     records: &str,
     want: Result<[usize; 7], &str>,
 ) {
     let bundle = shop_with(rt, alloc, record, records);
-    let read = counts(rt, alloc, &bundle);
+    let read = counts(alloc, &bundle);
     drop(bundle);
     match read {
         Ok(counts) => same(rt, Ok(counts), want),
@@ -160,7 +159,7 @@ type Numbered = (
 );
 
 // Fails unless the shop with each of these has its rows, or its fault.
-fn have_rows(rt: &(impl Abort + Threads + Sync), alloc: Global, lists: &[Numbered]) {
+fn have_rows(rt: &impl Abort, alloc: Global, lists: &[Numbered]) {
     for (record, front, back, count, want) in lists {
         let records = numbered(rt, alloc, front, back, *count);
         has_rows(rt, alloc, record, &records, *want);

@@ -14,12 +14,8 @@ use std::thread;
 use std::thread::Threads;
 
 // How many desks an office of so many has, or why there is none.
-fn desk_count(
-    rt: &(impl Abort + Threads + Sync),
-    alloc: Global,
-    desks: u64,
-) -> Result<usize, OfficeFault> {
-    match Office::open(alloc, made(rt, bicycles().shop(rt, alloc)), desks) {
+fn desk_count(rt: &impl Abort, alloc: Global, desks: u64) -> Result<usize, OfficeFault> {
+    match Office::open(alloc, made(rt, bicycles().shop(alloc)), desks) {
         Ok((office, desks)) => {
             let count = desks.len();
             drop((office, desks));
@@ -116,8 +112,8 @@ struct Pair {
 }
 
 impl Pair {
-    fn open(rt: &(impl Abort + Threads + Sync), alloc: Global) -> Pair {
-        let shop = made(rt, bicycles().shop(rt, alloc));
+    fn open(rt: &impl Abort, alloc: Global) -> Pair {
+        let shop = made(rt, bicycles().shop(alloc));
         let Ok((office, desks)) = Office::open(alloc, shop, 2) else {
             panic!(rt; "an office");
         };

@@ -85,7 +85,7 @@ fn plan_of(rt: &impl Abort, alloc: Global, inputs: Arc<Inputs>) -> Plan {
 
 #[test]
 fn bicycles_are_planned(rt: HostRuntime) {
-    let inputs = made(&rt, bicycles().inputs(&rt, rt.alloc(), &[]));
+    let inputs = made(&rt, bicycles().inputs(rt.alloc(), &[]));
     let plan = plan_of(&rt, rt.alloc(), inputs);
     are_planned(&rt, rt.alloc(), &plan, BICYCLE_PLANS);
     drop(plan);
@@ -93,7 +93,7 @@ fn bicycles_are_planned(rt: HostRuntime) {
 
 #[test]
 fn bookings_above_the_forecast_are_planned(rt: HostRuntime) {
-    let inputs = made(&rt, bicycles().inputs(&rt, rt.alloc(), morning()));
+    let inputs = made(&rt, bicycles().inputs(rt.alloc(), morning()));
     let plan = plan_of(&rt, rt.alloc(), inputs);
     are_planned(&rt, rt.alloc(), &plan, BOOKED_PLANS);
     drop(plan);
@@ -108,7 +108,7 @@ fn two_lines_of_a_pair_both_count(rt: HostRuntime) {
         bills: TWO_LINES,
         ..bicycles()
     };
-    let inputs = made(&rt, records.inputs(&rt, rt.alloc(), &[]));
+    let inputs = made(&rt, records.inputs(rt.alloc(), &[]));
     let plan = plan_of(&rt, rt.alloc(), inputs);
     are_planned(&rt, rt.alloc(), &plan, BICYCLE_PLANS);
     drop(plan);
@@ -121,7 +121,7 @@ fn parts_are_planned_in_lots_beside_open_receipts(rt: HostRuntime) {
             bills,
             ..bicycles_in_lots()
         };
-        let inputs = made(&rt, records.inputs(&rt, rt.alloc(), morning()));
+        let inputs = made(&rt, records.inputs(rt.alloc(), morning()));
         let plan = plan_of(&rt, rt.alloc(), inputs);
         are_planned(&rt, rt.alloc(), &plan, PLANS_IN_LOTS);
         drop(plan);
@@ -139,7 +139,7 @@ fn starts_ask_for_components_and_open_receipts_do_not(rt: HostRuntime) {
         bills: "BIKE,FRAME,1\nBIKE,WHEEL,2\nFRAME,TUBE,3\n",
         ..bicycles_in_lots()
     };
-    let inputs = made(&rt, records.inputs(&rt, rt.alloc(), morning()));
+    let inputs = made(&rt, records.inputs(rt.alloc(), morning()));
     let plan = plan_of(&rt, rt.alloc(), inputs);
     are_planned(&rt, rt.alloc(), &plan, PLANS_WITH_TUBES);
     drop((plan, items));
@@ -151,7 +151,7 @@ fn all_parents_ask(rt: HostRuntime) {
         bills: "BIKE,FRAME,1\nFRAME,WHEEL,1\nBIKE,WHEEL,2\n",
         ..bicycles()
     };
-    let inputs = made(&rt, records.inputs(&rt, rt.alloc(), &[]));
+    let inputs = made(&rt, records.inputs(rt.alloc(), &[]));
     let plan = plan_of(&rt, rt.alloc(), inputs);
     are_planned(&rt, rt.alloc(), &plan, PLANS_WITH_WHEELS_OF_FRAMES);
     drop(plan);
@@ -181,7 +181,7 @@ fn tell_morning(rt: &impl Abort, inputs: &Inputs) {
 
 #[test]
 fn inputs_tell_receipts_and_bookings_by_their_numbers(rt: HostRuntime) {
-    let inputs = made(&rt, bicycles_in_lots().inputs(&rt, rt.alloc(), morning()));
+    let inputs = made(&rt, bicycles_in_lots().inputs(rt.alloc(), morning()));
     tell_morning(&rt, &inputs);
     drop(inputs);
 }
@@ -195,7 +195,7 @@ fn tell_supply(rt: &impl Abort, rows: &ShopRows) {
 
 #[test]
 fn inputs_tell_the_rows_of_their_shop(rt: HostRuntime) {
-    let inputs = made(&rt, bicycles_in_lots().inputs(&rt, rt.alloc(), morning()));
+    let inputs = made(&rt, bicycles_in_lots().inputs(rt.alloc(), morning()));
     tell_supply(&rt, inputs.rows());
     drop(inputs);
 }
@@ -257,7 +257,7 @@ fn parts_in_millions_are_too_large(rt: HostRuntime) {
         ..chain()
     };
     for (shop, want, over) in [(chain(), LAST, 3), (more, MIDDLE, 2), (fork(), BOTH, 2)] {
-        let inputs = made(&rt, shop.inputs(&rt, rt.alloc(), FRONTS));
+        let inputs = made(&rt, shop.inputs(rt.alloc(), FRONTS));
         is_refused(&rt, rt.alloc(), inputs, want, over);
     }
 }

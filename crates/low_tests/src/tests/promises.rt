@@ -8,7 +8,6 @@ use mrp_master::{AtpRow, Line, LineFault, Nodes, Spot, Supply, Wish, available_i
 use sample_shops::{Records, bicycles, no_records};
 use std::alloc::Global;
 use std::process::Abort;
-use std::thread::Threads;
 
 // What is on hand of bicycles, frames and wheels; the table's order is not that of the items.
 const ALL_ITEMS: &str = "WHEEL,30\nBIKE,10\nFRAME,12\n";
@@ -101,7 +100,7 @@ fn are_wishes(rt: &impl Abort, shop: &Shop) {
 
 #[test]
 fn lines_spots_and_wishes_are_what_they_were_made_of_or_their_first_fault(rt: HostRuntime) {
-    let shop = made(&rt, bicycles().shop(&rt, rt.alloc()));
+    let shop = made(&rt, bicycles().shop(rt.alloc()));
     are_lines(&rt, &shop);
     are_spots(&rt, &shop);
     are_wishes(&rt, &shop);
@@ -109,8 +108,8 @@ fn lines_spots_and_wishes_are_what_they_were_made_of_or_their_first_fault(rt: Ho
 }
 
 // What a shop of these records is supplied with.
-fn supply_of(rt: &(impl Abort + Threads + Sync), alloc: Global, records: Records<'_>) -> Supply {
-    let shop = made(rt, records.shop(rt, alloc));
+fn supply_of(rt: &impl Abort, alloc: Global, records: Records<'_>) -> Supply {
+    let shop = made(rt, records.shop(alloc));
     let supply = Supply::of(alloc, &shop);
     drop(shop);
     supply.expect(rt, "memory")
@@ -161,12 +160,7 @@ fn what_is_on_hand_is_supply_of_its_item(rt: HostRuntime) {
 }
 
 // The row of an item of a shop of these records.
-fn row_of(
-    rt: &(impl Abort + Threads + Sync),
-    alloc: Global,
-    records: Records<'_>,
-    item: usize,
-) -> AtpRow {
+fn row_of(rt: &impl Abort, alloc: Global, records: Records<'_>, item: usize) -> AtpRow {
     let supply = supply_of(rt, alloc, records);
     let row = AtpRow::of(alloc, &supply, item);
     drop(supply);
@@ -174,7 +168,7 @@ fn row_of(
 }
 
 // The row of bicycles.
-fn bike_row(rt: &(impl Abort + Threads + Sync), alloc: Global) -> AtpRow {
+fn bike_row(rt: &impl Abort, alloc: Global) -> AtpRow {
     row_of(rt, alloc, bicycles(), 0)
 }
 
@@ -322,19 +316,19 @@ fn rows_of(rt: &impl Abort, alloc: Global, calendar: &Calendar) -> String {
 }
 
 // A firm row of one BIKE in each week of the longest horizon.
-fn a_bike_a_week(rt: &(impl Abort + Threads + Sync), alloc: Global) -> String {
+fn a_bike_a_week(rt: &impl Abort, alloc: Global) -> String {
     let shop = Records {
         calendar: LONGEST,
         ..no_records()
     };
-    let tables = made(rt, shop.tables(rt, alloc));
+    let tables = made(rt, shop.tables(alloc));
     let rows = rows_of(rt, alloc, tables.calendar());
     drop(tables);
     rows
 }
 
 // The row of a BIKE a week.
-fn long_row(rt: &(impl Abort + Threads + Sync), alloc: Global) -> AtpRow {
+fn long_row(rt: &impl Abort, alloc: Global) -> AtpRow {
     let rows = a_bike_a_week(rt, alloc);
     let shop = Records {
         calendar: LONGEST,

@@ -10,7 +10,6 @@ use mrp_tables::{
 };
 use std::alloc::Global;
 use std::process::Abort;
-use std::thread::Threads;
 
 // Bicycles in lots, with rows of no pieces and calls of each kind.
 const SHOP: &str = "\
@@ -67,9 +66,9 @@ desk,call,item,date,quantity,number\n\
 1,cancel,,,,02\n\
 1,run,,,,\n";
 
-pub fn read(rt: &(impl Abort + Threads + Sync), alloc: Global, bundle: &str) -> Tables {
+pub fn read(rt: &impl Abort, alloc: Global, bundle: &str) -> Tables {
     let sections = split_bundle(bundle.as_bytes()).expect(rt, "sections");
-    Tables::read(rt, alloc, &sections).expect(rt, "tables")
+    Tables::read(alloc, &sections).expect(rt, "tables")
 }
 
 fn name(rt: &impl Abort, text: &str) -> Name {

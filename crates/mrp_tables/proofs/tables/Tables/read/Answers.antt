@@ -1,25 +1,24 @@
-use Rattle.std.proofs.Common.{refl}
 use Rattle.std.proofs.lemmas.Result.{err_from_is_err_and}
-use Rattle.mrp_rows.specs.declared.fault.Table.TheVariants as t
-use Rattle.mrp_tables.proofs.Refused.{refused}
-use Rattle.mrp_tables.proofs.TableLaws.{whole_and}
-use Rattle.mrp_tables.proofs.TablesKept.{are_tables}
+use Rattle.mrp_tables.proofs.PartsRead.{all_tables, before_master}
 use Rattle.mrp_tables.proofs.tables.Tables.read.Goals as goal
 
-pub returns-in_err-calendar : goal.returns-in_err-calendar
-returns-in_err-calendar g c =
+pub returns-in_err-first : goal.returns-in_err-first
+returns-in_err-first c =
     let p = err_from_is_err_and c.from_residual.result c.from_residual.ensures.1 in
-    rw (p.1, p.2) (refused c.args.sections.now t.Calendar c.in_err-calendar.field-0.0 refl c.in_err-calendar.ensures)
+    rw (p.1, p.2) c.in_err-first.ensures
 
-pub returns-in_err-items : goal.returns-in_err-items
-returns-in_err-items g c =
-    let p = err_from_is_err_and c.from_residual-in_err-items.result c.from_residual-in_err-items.ensures.1 in
-    rw (p.1, p.2) (refused c.args.sections.now t.Items c.in_err-items.field-0.0 (whole_and c.in_ok-calendar.ensures refl) c.in_err-items.ensures.table)
+pub returns-in_err-rows : goal.returns-in_err-rows
+returns-in_err-rows c =
+    let p = err_from_is_err_and c.from_residual-in_err-rows.result c.from_residual-in_err-rows.ensures.1 in
+    rw (p.1, p.2) c.in_err-rows.ensures
 
-pub returns-in_err-centres : goal.returns-in_err-centres
-returns-in_err-centres g c =
-    let p = err_from_is_err_and c.from_residual-in_err-centres.result c.from_residual-in_err-centres.ensures.1 in
-    rw (p.1, p.2) (refused c.args.sections.now t.Centres c.in_err-centres.field-0.0 (whole_and c.in_ok-calendar.ensures (whole_and c.in_ok-items.ensures.table refl)) c.in_err-centres.ensures.table)
+pub returns-in_err-last : goal.returns-in_err-last
+returns-in_err-last c =
+    let p = err_from_is_err_and c.from_residual-in_err-last.result c.from_residual-in_err-last.ensures.1 in
+    rw (p.1, p.2) (c.in_err-last.ensures (before_master c.args.sections.now _ _ c.in_ok-first.ensures c.in_ok-rows.ensures))
 
-pub invariant_of-result : goal.invariant_of-result
-invariant_of-result g c = are_tables c.args.sections.now _ (rw (c.into_rows.ensures.rows) c.in_ok-rows.ensures)
+pub of-requires : goal.of-requires
+of-requires c = (c.args.sections.now, c.in_ok-first.ensures, c.in_ok-rows.ensures, c.in_ok-last.ensures)
+
+pub returns : goal.returns
+returns c = rw (c.of.ensures) (all_tables c.args.sections.now _ _ _ c.in_ok-first.ensures c.in_ok-rows.ensures c.in_ok-last.ensures)

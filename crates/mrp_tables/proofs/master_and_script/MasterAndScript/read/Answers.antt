@@ -1,8 +1,8 @@
 use Rattle.std.proofs.lemmas.Result.{err_from_is_err_and}
 use Rattle.mrp_rows.specs.declared.fault.Table.TheVariants as t
 use Rattle.mrp_tables.proofs.Refused.{refused}
-use Rattle.mrp_tables.proofs.TableLaws.{behind_master}
-use Rattle.mrp_tables.proofs.later_rows.LaterRows.read.Goals as goal
+use Rattle.mrp_tables.proofs.TableLaws.{before_script}
+use Rattle.mrp_tables.proofs.master_and_script.MasterAndScript.read.Goals as goal
 
 pub returns-in_err-master : goal.returns-in_err-master
 returns-in_err-master c =
@@ -12,4 +12,4 @@ returns-in_err-master c =
 pub returns-in_err-script : goal.returns-in_err-script
 returns-in_err-script c =
     let p = err_from_is_err_and c.from_residual-in_err-script.result c.from_residual-in_err-script.ensures.1 in
-    rw (p.1, p.2) (λ earlier. refused c.args.sections.now t.Script c.in_err-script.field-0.0 (behind_master c.args.sections.now _ earlier c.in_ok-master.ensures.table) c.in_err-script.ensures.table)
+    rw (p.1, p.2) (λ earlier. refused c.args.sections.now t.Script c.in_err-script.field-0.0 (before_script c.args.sections.now _ earlier c.in_ok-master.ensures.table) c.in_err-script.ensures.table)

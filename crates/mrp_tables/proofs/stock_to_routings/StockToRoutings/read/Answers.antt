@@ -1,0 +1,27 @@
+use Rattle.std.proofs.Common.{refl}
+use Rattle.std.proofs.lemmas.Result.{err_from_is_err_and}
+use Rattle.mrp_rows.specs.declared.fault.Table.TheVariants as t
+use Rattle.mrp_tables.proofs.PartsRead.{behind_first}
+use Rattle.mrp_tables.proofs.Refused.{refused}
+use Rattle.mrp_tables.proofs.TableLaws.{whole_and}
+use Rattle.mrp_tables.proofs.stock_to_routings.StockToRoutings.read.Goals as goal
+
+pub returns-in_err-stock : goal.returns-in_err-stock
+returns-in_err-stock c =
+    let p = err_from_is_err_and c.from_residual.result c.from_residual.ensures.1 in
+    rw (p.1, p.2) (refused c.args.sections.now t.Stock c.in_err-stock.field-0.0 (behind_first c.requires refl) c.in_err-stock.ensures.table)
+
+pub returns-in_err-receipts : goal.returns-in_err-receipts
+returns-in_err-receipts c =
+    let p = err_from_is_err_and c.from_residual-in_err-receipts.result c.from_residual-in_err-receipts.ensures.1 in
+    rw (p.1, p.2) (refused c.args.sections.now t.Receipts c.in_err-receipts.field-0.0 (behind_first c.requires (whole_and c.in_ok-stock.ensures.table refl)) c.in_err-receipts.ensures.table)
+
+pub returns-in_err-bills : goal.returns-in_err-bills
+returns-in_err-bills c =
+    let p = err_from_is_err_and c.from_residual-in_err-bills.result c.from_residual-in_err-bills.ensures.1 in
+    rw (p.1, p.2) (refused c.args.sections.now t.Bills c.in_err-bills.field-0.0 (behind_first c.requires (whole_and c.in_ok-stock.ensures.table (whole_and c.in_ok-receipts.ensures.table refl))) c.in_err-bills.ensures.table)
+
+pub returns-in_err-routings : goal.returns-in_err-routings
+returns-in_err-routings c =
+    let p = err_from_is_err_and c.from_residual-in_err-routings.result c.from_residual-in_err-routings.ensures.1 in
+    rw (p.1, p.2) (refused c.args.sections.now t.Routings c.in_err-routings.field-0.0 (behind_first c.requires (whole_and c.in_ok-stock.ensures.table (whole_and c.in_ok-receipts.ensures.table (whole_and c.in_ok-bills.ensures.table refl)))) c.in_err-routings.ensures.table)

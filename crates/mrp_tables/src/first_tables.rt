@@ -1,0 +1,34 @@
+//! The tables at which the others look: the calendar, the items and the centres.
+
+use crate::calendar::Entries;
+use crate::centres::Centres;
+use crate::items::Items;
+use mrp_cal::Calendar;
+use mrp_rows::{Fault, Sections};
+use std::alloc::Global;
+
+// The calendar, the items and the centres.
+#[derive(Drop)]
+pub(crate) struct FirstTables {
+    pub(crate) calendar: Calendar,
+    pub(crate) items: Items,
+    pub(crate) centres: Centres,
+}
+
+impl FirstTables {
+    ghost use Rattle.mrp_tables.specs.Parts.{GivesFirst};
+
+    // These tables, or the bundle's refusal.
+    pub(crate) fn read(alloc: Global, sections: &Sections<'_>) -> Result<FirstTables, Fault>
+        ensures { GivesFirst sections.now result }
+    {
+        let calendar = Entries::read(alloc, sections)?;
+        let items = Items::read(alloc, sections)?;
+        let centres = Centres::read(alloc, sections)?;
+        Ok(FirstTables {
+            calendar,
+            items,
+            centres,
+        })
+    }
+}
