@@ -89,7 +89,7 @@ impl Tables {
     }
 
     /// The same, with the master schedule and the script read beside the tables from the stock to the
-    /// routings: in a thread of their own, or before these where none can be started. Of two refusals
+    /// routings: in a thread of their own, or after these where none can be started. Of two refusals
     /// that of the earlier table is told all the same.
     ///
     /// Errors: as `read`.
