@@ -7,7 +7,7 @@ use crate::section::Section;
 use mrp_bill::Shop;
 
 // About how many rows a chunk has: some megabytes of text, beside which starting its thread is nothing.
-const ROWS: usize = 131_072;
+const ROWS: usize = 65_536;
 
 // The most pegs that a chunk may have: some 20 megabytes of text.
 const MOST_PEGS: usize = 524_288;

@@ -8,6 +8,7 @@ use crate::page::Page;
 use mrp_qty::NoMemory;
 use std::alloc::Global;
 use std::marker::Model;
+use std::mem;
 
 // A page for a chunk's rows, which remembers whether memory was refused while it was filled.
 // Contracts see its text, or none where that was so.
@@ -31,8 +32,12 @@ impl Slot {
         requires { from ≤ count_of chunks.now }
         ensures { IfSome self.new (λ text. text ≡ rows_from chunks.now from 1) }
     {
-        self.page.clear();
-        self.is_refused = chunks.add(alloc, &mut self.page, from).is_err();
+        // The slots stand beside one another, and each row moves its page's end: one that stood there
+        // would be taken from one processor to another with each row.
+        let mut page = mem::replace(&mut self.page, Page::new(alloc));
+        page.clear();
+        self.is_refused = chunks.add(alloc, &mut page, from).is_err();
+        self.page = page;
     }
 
     // The page.
