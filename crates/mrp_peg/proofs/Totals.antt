@@ -5,7 +5,6 @@ use Rattle.std.specs.Prelude.{◌==◌, All, filter, sum, sum_by, nat_lt}
 use Rattle.std.proofs.lemmas.Bool.{ltb-false}
 use Rattle.std.proofs.lemmas.List.Sums.{sum_by-cons, sum_by-append, get_or-le-sum_by}
 use Rattle.mrp_qty.specs.Quantity.{greatest_quantity}
-use Rattle.mrp_tables.specs.declared.rows.BillLine.{BillLine}
 use Rattle.mrp_bill.specs.Bill.{line_at, lines_of}
 use Rattle.mrp_book.specs.declared.booking.Booking.{Booking}
 use Rattle.mrp_phase.specs.Weeks.{row, weeks}
@@ -18,7 +17,7 @@ use Rattle.mrp_peg.specs.declared.peg.NeedKind.TheVariants.{Booking as for_booki
 use Rattle.mrp_peg.specs.declared.matching.Wanted.{Wanted}
 use Rattle.mrp_peg.specs.Matching.{amount_wanted}
 use Rattle.mrp_peg.specs.Pegging.{booking_needs, forecast_needs, line_needs, needed, needs_in, orders_in, parent_needs, requirements}
-use Rattle.mrp_peg.specs.Rows.{all_wanted, demand_wanted, line_wanted, order_wanted, parents_wanted}
+use Rattle.mrp_peg.specs.Rows.{all_wanted, demand_wanted, line_to, line_wanted, order_wanted, parents_wanted, place_to}
 use Rattle.mrp_peg.specs.Units.{Amount, total}
 use Rattle.mrp_peg.specs.Weekly.{AreWithin, by_weeks}
 use Rattle.mrp_item.specs.Own.{own_gross}
@@ -98,13 +97,12 @@ wanted_total s i is within =
 
 -- what an order of a parent asks is a quantity
 pub asked_within : (s : Inputs) (i : ℕ) → IsOwn s i → is_master s i ≡ false → AreWithin (λ (w : Wanted). w.need.week) 1 (horizon s) (all_wanted s i)
-    → (k : ℕ) → k < length (lines_of s.tables.bills i) → (j : ℕ) (d : Order) → j < length (plan_in (outcome_of s (line_at s.tables.bills (get_or (lines_of s.tables.bills i) k 0)).parent)).orders
-    → (get_or (plan_in (outcome_of s (line_at s.tables.bills (get_or (lines_of s.tables.bills i) k 0)).parent)).orders j d).start * (line_at s.tables.bills (get_or (lines_of s.tables.bills i) k 0)).per ≤ greatest_quantity
+    → (k : ℕ) → k < length (lines_of s.tables.bills i) → (j : ℕ) (d : Order) → j < length (plan_in (outcome_of s (line_to s i k).parent)).orders
+    → (get_or (plan_in (outcome_of s (line_to s i k).parent)).orders j d).start * (line_to s i k).per ≤ greatest_quantity
 asked_within s i is part within k h j d g =
-    let bills = s.tables.bills in
-    let places = lines_of bills i in
-    let place = get_or places k 0 in
-    let line = line_at bills place in
+    let places = lines_of s.tables.bills i in
+    let place = place_to s i k in
+    let line = line_to s i k in
     let orders = (plan_in (outcome_of s line.parent)).orders in
     let one : sum_by (λ (o : Order). o.start * line.per) orders ≡ sum_by pieces (line_wanted s i place) =
     sym (sum_by-map pieces (order_wanted i (place + 1) line.per) (orders_in s line.parent) ∙ numbered_sum (λ (o : Order). o.start * line.per) 1 orders) in
@@ -122,13 +120,8 @@ asked_within s i is part within k h j d g =
 
 -- the same of the orders that are found by a line to the item
 pub used_within : (s : Inputs) (i : ℕ) → IsOwn s i → is_master s i ≡ false → AreWithin (λ (w : Wanted). w.need.week) 1 (horizon s) (all_wanted s i)
-    → (bills : List BillLine) (lines : List ℕ) (k place per : ℕ) (orders : List Order) → bills ≡ s.tables.bills → lines ≡ lines_of s.tables.bills i → k < length lines → place ≡ get_or lines k 0
-    → per ≡ (line_at bills place).per → orders ≡ (plan_in (outcome_of s (line_at bills place).parent)).orders → All (λ (o : Order). o.start * per ≤ greatest_quantity) orders
-used_within s i is part within bills lines k place per orders are_bills are_lines h at is_per are_orders =
-    let here : place ≡ get_or (lines_of s.tables.bills i) k 0 = at ∙ ap (λ (ps : List ℕ). get_or ps k 0) are_lines in
-    let line : line_at bills place ≡ line_at s.tables.bills (get_or (lines_of s.tables.bills i) k 0) = ap (λ (ls : List BillLine). line_at ls place) are_bills ∙ ap (line_at s.tables.bills) here in
-    let Within : List ℕ → Type 0 = λ ps. k < length ps in
-    let P : BillLine → Type 0 = λ l. (j : ℕ) (d : Order) → j < length (plan_in (outcome_of s l.parent)).orders → (get_or (plan_in (outcome_of s l.parent)).orders j d).start * l.per ≤ greatest_quantity in
+    → (k per : ℕ) (orders : List Order) → k < length (lines_of s.tables.bills i) → per ≡ (line_to s i k).per → orders ≡ (plan_in (outcome_of s (line_to s i k).parent)).orders
+    → All (λ (o : Order). o.start * per ≤ greatest_quantity) orders
+used_within s i is part within k per orders h is_per are_orders =
     let Q : ℕ → List Order → Type 0 = λ n os. All (λ (o : Order). o.start * n ≤ greatest_quantity) os in
-    let found : Q (line_at bills place).per (plan_in (outcome_of s (line_at bills place).parent)).orders = subst P (sym line) (asked_within s i is part within k (subst Within are_lines h)) in
-    subst (λ n. Q n orders) (sym is_per) (subst (Q (line_at bills place).per) (sym are_orders) found)
+    subst (λ n. Q n orders) (sym is_per) (subst (Q (line_to s i k).per) (sym are_orders) (asked_within s i is part within k h))

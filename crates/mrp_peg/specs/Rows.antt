@@ -1,5 +1,6 @@
 -- Requirements as a program lists them before it puts them in order of weeks.
-use Rattle.std.specs.Prelude.{ℕ, ◌+◌, ◌-◌, ◌*◌, ◌++◌, nat_lt, if◌then◌else◌, List, [], ◌∷◌, map, flat_map}
+use Rattle.std.specs.Prelude.{ℕ, ◌+◌, ◌-◌, ◌*◌, ◌++◌, nat_lt, if◌then◌else◌, List, [], ◌∷◌, map, flat_map, slice_index}
+use Rattle.mrp_tables.specs.declared.rows.BillLine.{BillLine}
 use Rattle.mrp_bill.specs.Bill.{line_at, lines_of}
 use Rattle.mrp_phase.specs.Weeks.{in_week, row, weeks}
 use Rattle.mrp_item.specs.declared.due.Due.{Due}
@@ -18,6 +19,13 @@ booking_wanted i due = record { need = record { item = i; week = due.week; kind 
 abbrev pub forecast_wanted : ℕ → List ℕ → ℕ → List Wanted
 forecast_wanted i left week =
     if nat_lt 0 (in_week left week) then record { need = record { item = i; week = week; kind = Forecast }; quantity = in_week left week } ∷ [] else []
+
+-- the place in the bill table of one of the lines to an item, and the line there
+abbrev pub place_to : Inputs → ℕ → ℕ → ℕ
+place_to s i k = slice_index (lines_of s.tables.bills i) k
+
+abbrev pub line_to : Inputs → ℕ → ℕ → BillLine
+line_to s i k = line_at s.tables.bills (place_to s i k)
 
 abbrev pub order_wanted : ℕ → ℕ → ℕ → ℕ × Order → Wanted
 order_wanted i line per n = record { need = record { item = i; week = n.1.release; kind = Parent line n.0 }; quantity = n.1.start * per }

@@ -16,6 +16,7 @@ mod sourcing;
 mod supplies_left;
 mod tracing;
 mod walking;
+mod where_used;
 
 pub use mrp_item::Supplied;
 pub use peg::{Cause, Need, NeedKind, Peg};

@@ -1,6 +1,6 @@
 //! What is left of the requirements of an item, which are listed at once, or a week at a time where they may be many.
 
-ghost use Rattle.std.specs.Prelude.{◌≡◌, ◌<◌, ◌≤◌, drop, slice_get, IfOk, OnOk};
+ghost use Rattle.std.specs.Prelude.{◌≡◌, ◌<◌, ◌≤◌, slice_get, IfOk, OnOk};
 ghost use Rattle.std.specs.Option.{option_map};
 ghost use Rattle.mrp_item.specs.Inputs.{count};
 ghost use Rattle.mrp_peg.specs.Left.{IsFilled, listed_left, served, wanted_left};
@@ -10,9 +10,9 @@ ghost use Rattle.mrp_peg.specs.Units.{total};
 
 use crate::matching::{Wanted, less};
 use crate::next_orders::NextOrders;
-use crate::parents::used_at;
 use crate::part::Part;
 use crate::pegging::{is_master_item, needs_of};
+use crate::where_used::WhereUsed;
 use mrp_item::{Inputs, Plan};
 use mrp_qty::{NoMemory, Qty};
 use std::alloc::Global;
@@ -36,15 +36,13 @@ fn are_few(plan: &Plan, item: usize) -> bool
     requires { item < count plan.now.inputs }
 {
     let inputs: &Inputs = plan.inputs();
-    let shop = inputs.shop();
-    let bills = shop.tables().bills();
-    let lines = shop.lines_to(item);
-    if lines.len().saturating_mul(usize::from(inputs.weeks())) > AT_ONCE {
+    let used = WhereUsed::of(plan, item);
+    if used.len().saturating_mul(usize::from(inputs.weeks())) > AT_ONCE {
         return false;
     }
     let mut left = AT_ONCE;
-    for at in 0..lines.len() {
-        let orders = used_at(plan, item, bills, lines, at).orders.len();
+    for at in 0..used.len() {
+        let orders = used.line(at).orders.len();
         if left < orders {
             return false;
         }

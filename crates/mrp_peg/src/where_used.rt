@@ -1,0 +1,151 @@
+//! Where an item is used: the bill lines to it, each with the orders of its parent.
+
+ghost use Rattle.std.specs.Prelude.{◌≡◌, ◌==◌, ◌+◌, ◌<◌, ◌≤◌, ◌++◌, ℕ, false, filter, length, map, slice_index, IfOk, OnOk};
+ghost use Rattle.std.specs.List.{enumerate_from};
+ghost use Rattle.std.specs.List.Sorted.{IsNonDecreasingBy};
+ghost use Rattle.mrp_tables.specs.declared.limits.TheConstants.{MOST_ROWS};
+ghost use Rattle.mrp_bill.specs.Bill.{lines_of};
+ghost use Rattle.mrp_item.specs.Inputs.{count, horizon, is_master};
+ghost use Rattle.mrp_item.specs.Plan.{HasParents, outcome_of, plan_in};
+ghost use Rattle.mrp_peg.specs.Own.{IsOwn};
+ghost use Rattle.mrp_peg.specs.Rows.{all_wanted, line_to, line_wanted, order_wanted, parents_wanted, place_to};
+ghost use Rattle.mrp_peg.specs.Weekly.{AreWithin, by_weeks, of_week};
+ghost use Rattle.mrp_phase.specs.Weeks.{weeks};
+
+use crate::matching::Wanted;
+use crate::next_orders::NextOrders;
+use crate::ordering::in_order;
+use crate::parents::{add_all, add_released, line_of};
+use mrp_item::{Inputs, Numbered, Order, Plan};
+use mrp_qty::NoMemory;
+use mrp_tables::BillLine;
+use std::alloc::Global;
+
+// The bill lines to an item of a plan, in the order of the bill table.
+#[derive(Clone, Copy)]
+pub struct WhereUsed<'a> {
+    plan: &'a Plan,
+    item: usize,
+    bills: &'a [BillLine],
+    places: &'a [usize],
+    ghost parents: { HasParents plan.now.inputs },
+    ghost rising: { (k : ℕ) → IsNonDecreasingBy (λ order. order.release) (plan_in (outcome_of plan.now.inputs k)).orders },
+    ghost table: { bills.now ≡ plan.now.inputs.tables.bills },
+    ghost lines: { places.now ≡ lines_of plan.now.inputs.tables.bills item },
+    ghost few: { length bills.now ≤ MOST_ROWS },
+}
+
+// A bill line to an item: the number of its record from 1, the pieces that go into one, and the
+// parent's orders.
+#[derive(Clone, Copy)]
+pub struct UsedBy<'a> {
+    pub line: usize,
+    pub per: u64,
+    pub orders: &'a [Order],
+}
+
+// The place in the bill table of one of the lines to an item.
+fn place_at(places: &[usize], at: usize) -> usize
+    requires { at < length places.now }
+    ensures { result ≡ slice_index places.now at }
+{
+    places[at]
+}
+
+impl<'a> WhereUsed<'a> {
+    pub fn of(plan: &'a Plan, item: usize) -> WhereUsed<'a>
+        requires { item < count plan.now.inputs }
+        ensures inputs { result.plan.now.inputs ≡ plan.now.inputs }
+        ensures item { result.item ≡ item }
+    {
+        let inputs: &Inputs = plan.inputs();
+        let shop = inputs.shop();
+        let bills = shop.tables().bills();
+        let places = shop.lines_to(item);
+        WhereUsed {
+            plan,
+            item,
+            bills,
+            places,
+        }
+    }
+
+    // How many bill lines there are.
+    #[inline(always)]
+    pub fn len(&self) -> usize
+        ensures { result ≡ length (lines_of self.now.plan.now.inputs.tables.bills self.now.item) }
+    {
+        self.places.len()
+    }
+
+    // One of the bill lines.
+    #[inline(always)]
+    pub fn line(&self, at: usize) -> UsedBy<'a>
+        requires { at < length (lines_of self.now.plan.now.inputs.tables.bills self.now.item) }
+        ensures line { result.line ≡ place_to self.now.plan.now.inputs self.now.item at + 1 }
+        ensures per { result.per ≡ (line_to self.now.plan.now.inputs self.now.item at).per }
+        ensures orders { result.orders.now ≡ (plan_in (outcome_of self.now.plan.now.inputs (line_to self.now.plan.now.inputs self.now.item at).parent)).orders }
+        ensures asked { line_wanted self.now.plan.now.inputs self.now.item (place_to self.now.plan.now.inputs self.now.item at) ≡ map (order_wanted self.now.item result.line result.per) (enumerate_from 1 result.orders.now) }
+        ensures rising { IsNonDecreasingBy (λ order. order.release) result.orders.now }
+    {
+        let place = place_at(self.places, at);
+        let line = line_of(self.bills, place);
+        let orders = self.plan.orders(line.parent);
+        UsedBy {
+            line: place + 1,
+            per: line.per,
+            orders,
+        }
+    }
+
+    // Adds what parents ask in a week of an item that is no master item, by bill record and then by
+    // order. Weeks that are asked for in turn are found the faster.
+    pub fn asked_in(
+        &self,
+        week: u16,
+        next: &mut NextOrders,
+        needs: &mut Vec<Wanted>,
+    ) -> Result<(), NoMemory>
+        requires part { is_master self.now.plan.now.inputs self.now.item ≡ false }
+        requires own { IsOwn self.now.plan.now.inputs self.now.item }
+        requires within { AreWithin (λ wanted. wanted.need.week) 1 (horizon self.now.plan.now.inputs) (all_wanted self.now.plan.now.inputs self.now.item) }
+        ensures { OnOk result (needs.new.items ≡ needs.old.items ++ filter (λ wanted. wanted.need.week == week) (parents_wanted self.now.plan.now.inputs self.now.item)) }
+    {
+        for at in 0..self.len() {
+            let by = self.line(at);
+            let likely = next.place(at);
+            let behind = add_released(needs, self.item, by.line, by.per, by.orders, week, likely)?;
+            next.set(at, behind);
+        }
+        Ok(())
+    }
+
+    // What parents ask of an item that is no master item, by bill record and then by order, each with
+    // its week.
+    pub fn asked(&self, alloc: Global) -> Result<Vec<Numbered<Wanted>>, NoMemory>
+        requires part { is_master self.now.plan.now.inputs self.now.item ≡ false }
+        requires own { IsOwn self.now.plan.now.inputs self.now.item }
+        requires within { AreWithin (λ wanted. wanted.need.week) 1 (horizon self.now.plan.now.inputs) (all_wanted self.now.plan.now.inputs self.now.item) }
+        ensures { IfOk result (λ rows. rows.items ≡ map of_week (parents_wanted self.now.plan.now.inputs self.now.item)) }
+    {
+        let mut rows = Vec::new(alloc);
+        for at in 0..self.len() {
+            let by = self.line(at);
+            add_all(&mut rows, self.item, by.line, by.per, by.orders)?;
+        }
+        Ok(rows)
+    }
+}
+
+// What parents ask of an item that is no master item, week by week.
+pub fn parents_of(alloc: Global, plan: &Plan, item: usize) -> Result<Vec<Wanted>, NoMemory>
+    requires item { item < count plan.now.inputs }
+    requires part { is_master plan.now.inputs item ≡ false }
+    requires own { IsOwn plan.now.inputs item }
+    requires within { AreWithin (λ wanted. wanted.need.week) 1 (horizon plan.now.inputs) (all_wanted plan.now.inputs item) }
+    ensures { IfOk result (λ needs. needs.items ≡ by_weeks (λ wanted. wanted.need.week) (weeks (horizon plan.now.inputs)) (parents_wanted plan.now.inputs item)) }
+{
+    let rows = WhereUsed::of(plan, item).asked(alloc)?;
+    let inputs: &Inputs = plan.inputs();
+    in_order(alloc, inputs.weeks(), &rows)
+}
