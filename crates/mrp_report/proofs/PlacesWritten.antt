@@ -1,11 +1,11 @@
 -- Rows of places and chunks are written, one after the other.
-use Rattle.std.proofs.Common.{◌≡◌, ◌∙◌, ℕ, ◌+◌, ◌-◌, ◌<◌, ◌≤◌, List, [], ◌++◌, Option, Some, None, IfSome, get_or, length, sym, ap, subst, refl, arith, append_assoc}
+use Rattle.std.proofs.Common.{◌≡◌, ◌∙◌, ℕ, zero, suc, ◌+◌, ◌-◌, ◌<◌, ◌≤◌, List, [], ◌∷◌, ◌++◌, Option, Some, None, IfSome, get_or, length, sym, ap, subst, refl, arith, append_assoc}
 use Rattle.std.proofs.lemmas.List.{get_or_default}
 use Rattle.mrp_rows.specs.declared.told.Told.{Told}
 use Rattle.mrp_report.specs.Chunks.{AreChunks, between, count_of, end_of, row_of, rows_from, rows_in}
 use Rattle.mrp_report.specs.Written.{HasTaken, HasTakenFront}
 use Rattle.mrp_report.specs.declared.cut.Chunks.{Chunks}
-use Rattle.mrp_report.proofs.ChunkTexts.{behind-places, between-both, between-none, chunk-more, chunks-rest, reach-from, reach-none, reach-within, rows-rest}
+use Rattle.mrp_report.proofs.ChunkTexts.{behind-places, between-both, between-none, chunk-more, chunks-rest, reach-from, reach-next, reach-none, reach-within, rows-rest}
 use Rattle.mrp_report.proofs.Progress.{IsWritten, front-now, front-then, written-more, written-next, written-none, written-taken}
 
 -- what there is, where there is some
@@ -87,3 +87,13 @@ written-page contents start then first fewer page less taken =
 -- rows behind a head that was put on a page
 pub head-behind : (page next head rows : List ℕ) → next ≡ page ++ head → next ++ rows ≡ page ++ (head ++ rows)
 head-behind page next head rows is = ap (λ (t : List ℕ). t ++ rows) is ∙ append_assoc page head rows
+
+-- the page of a chunk, and those of the chunks behind it
+pub chunks-joined : (c : Chunks) (from : ℕ) (one rest : List (Option (List ℕ))) → length one ≡ 1 → AreChunks c from one → AreChunks c (end_of c from 1) rest → AreChunks c from (one ++ rest)
+chunks-joined c from [] rest size first behind = absurd (omega (arith, size))
+chunks-joined c from (page ∷ []) rest size first behind = by
+  where
+    by : AreChunks c from (page ∷ rest)
+    by zero below = first 0 (omega arith)
+    by (suc k) below = subst (λ (at : ℕ). IfSome (get_or rest k None) (λ text. text ≡ rows_from c at 1)) (reach-next (count_of c) c.size from k) (behind k (omega (arith, below)))
+chunks-joined c from (page ∷ other ∷ more) rest size first behind = absurd (omega (arith, size))

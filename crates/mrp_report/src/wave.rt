@@ -1,7 +1,8 @@
 //! Chunks of a section that are made side by side.
 
+ghost use denote.Param.Send.{IsSync};
 ghost use Rattle.std.specs.Prelude.{◌≡◌, ◌<◌, ◌≤◌, ◌-◌, Err, OnOk, OnErr, length};
-ghost use Rattle.mrp_report.specs.Chunks.{AreChunks, count_of, rows_from, rows_in};
+ghost use Rattle.mrp_report.specs.Chunks.{AreChunks, count_of, end_of, rows_from, rows_in};
 ghost use Rattle.mrp_report.specs.Written.{HasGivenUp, HasGoneOn, HasTaken, HasTakenFront};
 
 use crate::cut::Chunks;
@@ -13,24 +14,64 @@ use std::io::Write;
 use std::thread;
 use std::thread::Threads;
 
-// Fills pages with the chunks from a place, each in a thread of its own where one can be started.
-fn fill_wave(
-    rt: &(impl Threads + Sync),
-    alloc: Global,
-    slots: &mut [Slot],
-    chunks: &Chunks<'_>,
-    from: usize,
-)
-    requires { 0 < length slots.old }
+// Fills the only one of these pages with the chunk from a place.
+fn fill_one(alloc: Global, chunks: &Chunks<'_>, from: usize, slots: &mut [Slot])
+    requires one { length slots.old ≡ 1 }
+    requires from { from ≤ count_of chunks.now }
     ensures { AreChunks chunks.now from slots.new }
 {
-    let threads = slots.len();
-    thread::for_each_mut(
-        rt,
-        slots,
-        threads,
-        &|place, slot| { slot.fill(alloc, chunks, chunks.reach(from, place)) },
-    );
+    slots[0].fill(alloc, chunks, from);
+}
+
+// Fills pages with the chunks from a place, each in a thread of its own where one can be started. This
+// thread starts them all: where threads that it started started others, two of them were seen to share
+// a processor, in each wave, while another one had nothing to do.
+#[cycle(wave)]
+fn fill_wave<R: Threads + Sync>(
+    rt: &R,
+    alloc: Global,
+    chunks: &Chunks<'_>,
+    from: usize,
+    slots: &mut [Slot],
+)
+    requires some { 0 < length slots.old }
+    requires from { from ≤ count_of chunks.now }
+    ensures { AreChunks chunks.now from slots.new }
+{
+    if slots.len() == 1 {
+        fill_one(alloc, chunks, from, slots);
+        return;
+    }
+    let (first, rest) = slots.split_at_mut(1);
+    fill_beside(rt, alloc, chunks, from, first, rest);
+}
+
+// Fills a page in a thread of its own, and others here, in which the next chunks stand.
+#[cycle(wave)]
+fn fill_beside<R: Threads + Sync>(
+    rt: &R,
+    alloc: Global,
+    chunks: &Chunks<'_>,
+    from: usize,
+    first: &mut [Slot],
+    rest: &mut [Slot],
+)
+    requires one { length first.old ≡ 1 }
+    requires some { 0 < length rest.old }
+    requires from { from ≤ count_of chunks.now }
+    ensures first { AreChunks chunks.now from first.new }
+    ensures rest { AreChunks chunks.now (end_of chunks.now from 1) rest.new }
+{
+    let next = chunks.reach(from, 1);
+    let mut beside = ||
+        requires { (length first.now ≡ 1) × (from ≤ count_of chunks.now) }
+        ensures { AreChunks chunks.entry.now from first.exit.now }
+    { fill_one(alloc, chunks, from, first) };
+    let mut here = ||
+        requires { IsSync R.row × (0 < length rest.now) × (next ≤ count_of chunks.now) }
+        ensures { AreChunks chunks.entry.now next rest.exit.now }
+    { fill_wave(rt, alloc, chunks, next, rest) };
+    thread::join_mut(rt, &mut beside, &mut here);
 }
 
 // Makes a wave, which is as many chunks from a place as there are pages, and writes it in order.
@@ -51,7 +92,7 @@ fn write_wave<W: Write>(
     ensures refused { result ≡ Err ReportFault.Write → HasGivenUp writer.old writer.new tries.old }
     ensures memory { result ≡ Err ReportFault.NoMemory → HasGoneOn writer.old writer.new tries.old }
 {
-    fill_wave(rt, alloc, slots, chunks, from);
+    fill_wave(rt, alloc, chunks, from, slots);
     for slot in slots.iter() {
         let page = slot.page()?;
         page.write(writer, tries)?;

@@ -1,0 +1,7 @@
+use Rattle.std.proofs.Common.{rules}
+use Rattle.mrp_report.proofs.PlacesWritten.{chunks-joined}
+use Rattle.mrp_report.proofs.wave.+wave.Goals as goal
+
+pub fill_wave-returns : goal.fill_wave-returns
+fill_wave-returns g t c =
+    chunks-joined c.args.chunks.now c.args.from c.fill_beside.new.first c.fill_beside.new.rest (search rules) c.fill_beside.ensures.first c.fill_beside.ensures.rest
