@@ -22,14 +22,16 @@ pub struct Day {
     pub plans: Vec<Plan>,
 }
 
-// The rows of a shop.
-fn rows_of(alloc: Global, shop: &Arc<Shop>) -> Result<Arc<ShopRows>, NoMemory>
+/// The rows of a shop.
+///
+/// Errors: `NoMemory` where memory is refused.
+pub fn rows_of(alloc: Global, shop: &Arc<Shop>) -> Result<Arc<ShopRows>, NoMemory>
     ensures { IfOk result (λ rows. rows.value ≡ shop.now.value) }
 {
     ShopRows::of(alloc, shop.clone()?)
 }
 
-/// The day of a shop's history, each run of which is planned.
+/// The day of a shop's history, each run of which is planned over the shop's rows.
 ///
 /// Errors: `TooLarge` with the first item in table order that gets too large in the first run with
 /// such an item, and `NoMemory`.
@@ -37,13 +39,14 @@ pub fn plan_history(
     rt: &(impl Threads + Sync),
     alloc: Global,
     shop: Arc<Shop>,
+    rows: &Arc<ShopRows>,
     history: History,
 ) -> Result<Day, DayFault>
-    requires { history.supply ≡ supply_of shop.value.tables }
+    requires rows { rows.now.value ≡ shop.value }
+    requires supply { history.supply ≡ supply_of shop.value.tables }
     ensures { PlansHistory shop.value.tables history.entries result }
 {
-    let rows = rows_of(alloc, &shop)?;
-    let plans = plan_runs(rt, alloc, &rows, &history)?;
+    let plans = plan_runs(rt, alloc, rows, &history)?;
     Ok(Day {
         shop,
         history,

@@ -13,7 +13,7 @@ ghost use Rattle.mrp_engine.specs.Planned.{PlansDay};
 ghost use Rattle.mrp_engine.specs.RightDay.{AnswersDesks};
 ghost use Rattle.mrp_engine.specs.Run.{HasNotFailed, HasPassedLimits, HasTakenAll, IsAfterReading, IsBeforeWriting, IsRead, IsReadWithin, TellsDayBy, WritesFrontBy};
 
-use crate::day::{Day, plan_history};
+use crate::day::{Day, plan_history, rows_of};
 use crate::desks::answer_by_desks;
 use crate::fault::DayFault;
 use crate::reading::read_shop;
@@ -36,7 +36,8 @@ fn plan_live(
     ensures { PlansDay AnswersDesks shop.tables result }
 {
     let (shop, history) = answer_by_desks(rt, alloc, shop, &OpenGate)?;
-    plan_history(rt, alloc, shop, history)
+    let rows = rows_of(alloc, &shop)?;
+    plan_history(rt, alloc, shop, &rows, history)
 }
 
 /// Reads a bundle to its end, has the desks of its script make their calls beside one another, plans

@@ -1,39 +1,68 @@
 //! A day: from a reader's bundle to a writer's history and reports.
 
-ghost use Rattle.std.specs.Prelude.{◌≡◌, ◌≢◌, ◌⊎◌, ℕ, List, Err, OnOk, IfErr};
+ghost use Rattle.std.specs.Prelude.{◌≡◌, ◌≢◌, ◌⊎◌, ℕ, List, Err, OnOk, IfErr, IfOk};
 ghost use Rattle.std.specs.Int.{IsInRange};
 ghost use Rattle.std.specs.Io.KnownBytes.{IsAtEnd};
 ghost use Rattle.mrp_rows.specs.Streams.{TakesFront};
 ghost use Rattle.mrp_rows.specs.Told.{inner_of, moved_of};
 ghost use Rattle.mrp_rows.specs.declared.fault.Fault.{Fault};
 ghost use Rattle.mrp_rows.specs.declared.faults.TheConstants as faults;
+ghost use Rattle.mrp_master.specs.Supply.{supply_of};
 ghost use Rattle.mrp_report.specs.Written.{HasGivenUp};
 ghost use Rattle.mrp_engine.specs.Day.{AnswersScript, IsRefused, IsTooLarge};
 ghost use Rattle.mrp_engine.specs.Planned.{PlansDay};
 ghost use Rattle.mrp_engine.specs.Run.{HasNotFailed, HasPassedLimits, HasTakenAll, IsAfterReading, IsBeforeWriting, IsRead, IsReadWithin, TellsDay, WritesDayFront};
 
-use crate::day::{Day, plan_history};
+use crate::day::{Day, plan_history, rows_of};
 use crate::fault::DayFault;
 use crate::reading::read_shop;
 use crate::script::answer_script;
 use crate::writing::write_day;
 use mrp_bill::Shop;
+use mrp_book::History;
+use mrp_item::ShopRows;
+use mrp_qty::NoMemory;
 use mrp_rows::{Told, WRITE_TRIES};
 use std::alloc::Global;
 use std::io::{Read, Write};
 use std::sync::Arc;
+use std::thread;
 use std::thread::Threads;
 
 /// The most workers of a day.
 pub const MOST_WORKERS: u64 = mrp_report::MOST_WORKERS;
+
+// Answers a shop's script record by record, and groups its rows beside that, in a thread of their own where one can be
+// started.
+fn answer_beside_rows(
+    rt: &impl Threads,
+    alloc: Global,
+    shop: &Arc<Shop>,
+) -> Result<(History, Arc<ShopRows>), NoMemory>
+    ensures supply { IfOk result (λ r. r.0.supply ≡ supply_of shop.now.value.tables) }
+    ensures answers { IfOk result (λ r. AnswersScript shop.now.value.tables r.0.entries) }
+    ensures rows { IfOk result (λ r. r.1.value ≡ shop.now.value) }
+{
+    let group = move || -> Result<Arc<ShopRows>, NoMemory>
+        ensures { IfOk result (λ rows. rows.value ≡ shop.entry.now.value) }
+    { rows_of(alloc, shop) };
+    let answer = move || -> Result<History, NoMemory>
+        ensures supply { IfOk result (λ h. h.supply ≡ supply_of shop.entry.now.value.tables) }
+        ensures answers { IfOk result (λ h. AnswersScript shop.entry.now.value.tables h.entries) }
+    { answer_script(alloc, shop) };
+    let (rows, history) = thread::join(rt, group, answer);
+    let history = history?;
+    let rows = rows?;
+    Ok((history, rows))
+}
 
 // Answers a shop's script record by record, and plans the runs of it.
 fn plan_day(rt: &(impl Alloc + Threads + Sync), alloc: Global, shop: Shop) -> Result<Day, DayFault>
     ensures { PlansDay AnswersScript shop.tables result }
 {
     let shop = Arc::new(alloc, shop)?;
-    let history = answer_script(alloc, &shop)?;
-    plan_history(rt, alloc, shop, history)
+    let (history, rows) = answer_beside_rows(rt, alloc, &shop)?;
+    plan_history(rt, alloc, shop, &rows, history)
 }
 
 /// Reads a bundle to its end, answers its script, plans its runs, and writes the history and the

@@ -1,4 +1,5 @@
 pub mod PlanOrder
+pub mod Taken
 pub mod Gathered
 pub mod Placing
 pub mod LevelLists

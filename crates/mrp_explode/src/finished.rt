@@ -1,6 +1,6 @@
 //! The items that are planned so far, parents before their components.
 
-ghost use Rattle.std.specs.Prelude.{◌≡◌, ◌<◌, ℕ, Some, None, IfOk, OnOk, OnErr, is_some, replicate, set};
+ghost use Rattle.std.specs.Prelude.{◌≡◌, ◌<◌, ℕ, All, Some, None, IfOk, IsSome, OnOk, OnErr, is_some, map, replicate, set};
 ghost use Rattle.std.specs.List.{list_all, slice_index_or};
 ghost use Rattle.mrp_bill.specs.Bill.{parents_of};
 ghost use Rattle.mrp_item.specs.Inputs.{count};
@@ -37,6 +37,21 @@ fn too_large(item: usize) -> RunFault
     ensures { result ≡ RunFault.TooLarge item }
 {
     RunFault::TooLarge { item }
+}
+
+// Outcomes, each of which is there, out of their places.
+fn out_of_places(alloc: Global, outcomes: Vec<Option<Outcome>>) -> Result<Vec<Outcome>, NoMemory>
+    requires { All IsSome outcomes.items }
+    ensures { IfOk result (λ all. outcomes.items ≡ map Some all.items) }
+{
+    let mut all = Vec::with_capacity(alloc, outcomes.len())?;
+    for outcome in outcomes {
+        match outcome {
+            Some(outcome) => all.push(outcome)?,
+            None => unreachable!(),
+        }
+    }
+    Ok(all)
 }
 
 impl Finished {
@@ -170,7 +185,32 @@ impl Finished {
         Ok(self.inputs.clone()?)
     }
 
-    /// The plan of all items, each of which is finished.
+    // The outcomes of all items, in table order.
+    fn into_all(self, alloc: Global) -> Result<Vec<Outcome>, NoMemory>
+        requires { (i : ℕ) → i < count self.inputs → IsFinished self i }
+        ensures { IfOk result (λ all. all.items ≡ all_from self.inputs) }
+    {
+        let Finished {
+            inputs: _,
+            outcomes,
+        } = self;
+        let all = out_of_places(alloc, outcomes)?;
+        Ok(all)
+    }
+
+    /// The plan of all items, each of which is finished, with what was finished, which is given up.
+    ///
+    /// Errors: as `whole`.
+    pub fn into_whole(self, alloc: Global) -> Result<Plan, RunFault>
+        requires { (i : ℕ) → i < count self.inputs → IsFinished self i }
+        ensures { Explodes self.inputs result }
+    {
+        let inputs = self.share_inputs()?;
+        let all = self.into_all(alloc)?;
+        Plan::of(inputs, all).map_err(too_large)
+    }
+
+    /// The plan of all items, each of which is finished, with copies of their outcomes.
     ///
     /// Errors: `NoMemory` where memory is refused, and `TooLarge` with the first item that is over.
     pub fn whole(&self, alloc: Global) -> Result<Plan, RunFault>

@@ -19,6 +19,21 @@ use std::thread::Threads;
 // The fewest items for which a thread is started.
 const LEAST_ITEMS: usize = 64;
 
+// One of so many items has its thread ask for room first.
+const ITEMS_OF_ROOM: usize = 8;
+
+// The bytes of that room: some 5,000 for each item with an order in each of 104 weeks, and what planning takes beside. A
+// block of 64 KiB would go back to the system.
+const ROOM: usize = 60_000;
+
+// Asks for the room of the next items at once, and gives it back to the thread's own memory. That grows by what is asked
+// for, so else by a page or two at a time, and while the system makes it grow all other threads wait.
+fn make_room(alloc: Global, item: usize) {
+    if item % ITEMS_OF_ROOM == 0 {
+        let _ = Vec::<u8>::with_capacity(alloc, ROOM);
+    }
+}
+
 // What planning makes of items whose parents are finished, side by side.
 fn outcomes_for(
     rt: &(impl Threads + Sync),
@@ -38,7 +53,10 @@ fn outcomes_for(
                 requires item { item.now < count finished.now.inputs }
                 requires ready { IsReady finished.now item.now }
                 ensures { IfOk result (λ o. o ≡ item_from finished.entry.now.inputs item.now) }
-            { finished.outcome_for(alloc, *item) },
+            {
+                make_room(alloc, *item);
+                finished.outcome_for(alloc, *item)
+            },
         )
         .collect::<Result<Vec<Outcome>, NoMemory>>(rt, alloc)?
 }
@@ -79,5 +97,5 @@ pub fn explode_levels(
     for level in all {
         plan_level(rt, alloc, &mut finished, level.as_slice())?;
     }
-    finished.whole(alloc)
+    finished.into_whole(alloc)
 }

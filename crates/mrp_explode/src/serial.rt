@@ -20,5 +20,5 @@ pub fn explode_serial(alloc: Global, inputs: &Arc<Inputs>) -> Result<Plan, RunFa
     for item in inputs.shop().order() {
         finished.plan(alloc, *item)?;
     }
-    finished.whole(alloc)
+    finished.into_whole(alloc)
 }

@@ -1,6 +1,5 @@
-use Rattle.std.proofs.Common.{◌≡◌, ap, rules, subst}
+use Rattle.std.proofs.Common.{◌≡◌, rules, subst}
 use Rattle.mrp_tables.specs.Tables.{Tables}
-use Rattle.mrp_bill.specs.Shop.{Shop}
 use Rattle.mrp_engine.specs.Day.{AnswersScript}
 use Rattle.mrp_engine.specs.Planned.{PlansDay}
 use Rattle.mrp_engine.proofs.DayRuns.{answered-day}
@@ -11,5 +10,4 @@ returns g c =
     let t = c.in_ok-shop.shop.value.tables in
     let h = c.in_ok-history.history.entries in
     let same : t ≡ c.args.shop.tables = search rules in
-    let answers : AnswersScript t h = subst (λ (x : Tables). AnswersScript x h) (ap (λ (s : Shop). s.tables) c.deref.ensures) c.in_ok-history.ensures.answers in
-    subst (λ (x : Tables). PlansDay AnswersScript x c.plan_history.result) same (answered-day AnswersScript t h c.plan_history.result answers c.plan_history.ensures)
+    subst (λ (x : Tables). PlansDay AnswersScript x c.plan_history.result) same (answered-day AnswersScript t h c.plan_history.result c.in_ok-history.ensures.answers c.plan_history.ensures)

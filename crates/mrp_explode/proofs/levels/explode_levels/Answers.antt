@@ -52,8 +52,8 @@ loop-level-preserved g c =
           c.in_ok-plan_level.ensures.others c.in_ok-plan_level.ensures.here;
     }
 
-pub whole-requires : goal.whole-requires
-whole-requires g c =
+pub into_whole-requires : goal.into_whole-requires
+into_whole-requires g c =
     let s = c.args.inputs.now.value in
     let tables : c.shop.result.now.tables ≡ s.tables = c.shop.ensures.tables ∙ ap (λ (x : Inputs). x.tables) c.deref.ensures in
     let all : AreLevels s.tables.bills (count s) c.as_slice-all.result.now =

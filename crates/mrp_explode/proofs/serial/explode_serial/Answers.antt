@@ -15,8 +15,8 @@ plan-requires-clause-ready c =
     subst (λ (t : Tables). IsOrder t.bills (length t.items) c.order-item-items.result.now) tables c.order-item-items.ensures in
     parents-ready s.tables.bills (count s) c.order-item-items.result.now c.loop-item.item-index (IsFinished c.loop-item.finished) order c.loop-item-test.true c.loop-item.invariant.1
 
-pub whole-requires : goal.whole-requires
-whole-requires c =
+pub into_whole-requires : goal.into_whole-requires
+into_whole-requires c =
     let s = c.loop-item.finished.inputs in
     let tables : c.shop.result.now.tables ≡ s.tables =
     c.shop.ensures.tables ∙ ap (λ (x : Inputs). x.tables) c.deref.ensures ∙ sym (ap (λ (x : Inputs). x.tables) c.loop-item.invariant.0) in
