@@ -31,7 +31,8 @@ pub fn rows_of(alloc: Global, shop: &Arc<Shop>) -> Result<Arc<ShopRows>, NoMemor
     ShopRows::of(alloc, shop.clone()?)
 }
 
-/// The day of a shop's history, each run of which is planned over the shop's rows.
+/// The day of a shop's history, each run of which is planned over the shop's rows. The caller owes a
+/// history and rows of an equal shop.
 ///
 /// Errors: `TooLarge` with the first item in table order that gets too large in the first run with
 /// such an item, and `NoMemory`.

@@ -68,9 +68,11 @@ fn plan_day(rt: &(impl Alloc + Threads + Sync), alloc: Global, shop: Shop) -> Re
 /// Reads a bundle to its end, answers its script, plans its runs, and writes the history and the
 /// report of each run. Nothing is written before every run is planned.
 ///
-/// The items of a low-level code are planned side by side, and the work centres' loads are summed side
-/// by side, where there are enough of them. So many workers, 1 to 64 as the caller owes, make the rows
-/// of a report. An interrupted read or write is tried again.
+/// The tables are read in two threads, and the rows of the shop are grouped in one beside that which
+/// answers the script, where a second can be started. The items of a low-level code are planned side by
+/// side, and the work centres' loads are summed side by side, where there are enough of them. So many
+/// workers, 1 to 64 as the caller owes, make the rows of a report. An interrupted read or write is tried
+/// again.
 ///
 /// Errors: `Read` where the reader failed in this call, needed more than 100,000,000 calls or gave
 /// more than 67,108,864 bytes; `Refused` with the bundle's first fault, the loop last; `TooLarge`

@@ -39,7 +39,7 @@ fn too_large(item: usize) -> RunFault
     RunFault::TooLarge { item }
 }
 
-// Outcomes, each of which is there, out of their places.
+// The outcomes in a list of places, none of which is empty.
 fn out_of_places(alloc: Global, outcomes: Vec<Option<Outcome>>) -> Result<Vec<Outcome>, NoMemory>
     requires { All IsSome outcomes.items }
     ensures { IfOk result (λ all. outcomes.items ≡ map Some all.items) }
@@ -185,32 +185,20 @@ impl Finished {
         Ok(self.inputs.clone()?)
     }
 
-    // The outcomes of all items, in table order.
-    fn into_all(self, alloc: Global) -> Result<Vec<Outcome>, NoMemory>
-        requires { (i : ℕ) → i < count self.inputs → IsFinished self i }
-        ensures { IfOk result (λ all. all.items ≡ all_from self.inputs) }
-    {
-        let Finished {
-            inputs: _,
-            outcomes,
-        } = self;
-        let all = out_of_places(alloc, outcomes)?;
-        Ok(all)
-    }
-
-    /// The plan of all items, each of which is finished, with what was finished, which is given up.
+    /// The plan of all items, each of which is finished. What was finished is moved into it, and is given
+    /// up where it is refused.
     ///
-    /// Errors: as `whole`.
+    /// Errors: `NoMemory` where memory is refused, and `TooLarge` with the first item that is over.
     pub fn into_whole(self, alloc: Global) -> Result<Plan, RunFault>
         requires { (i : ℕ) → i < count self.inputs → IsFinished self i }
         ensures { Explodes self.inputs result }
     {
-        let inputs = self.share_inputs()?;
-        let all = self.into_all(alloc)?;
+        let Finished { inputs, outcomes } = self;
+        let all = out_of_places(alloc, outcomes)?;
         Plan::of(inputs, all).map_err(too_large)
     }
 
-    /// The plan of all items, each of which is finished, with copies of their outcomes.
+    /// The plan of all items, each of which is finished, made of copies of their outcomes.
     ///
     /// Errors: `NoMemory` where memory is refused, and `TooLarge` with the first item that is over.
     pub fn whole(&self, alloc: Global) -> Result<Plan, RunFault>

@@ -19,19 +19,19 @@ use std::thread::Threads;
 // The fewest items for which a thread is started.
 const LEAST_ITEMS: usize = 64;
 
-// One of so many items has its thread ask for room first.
+// An item whose place is a multiple of this asks for the room of so many.
 const ITEMS_OF_ROOM: usize = 8;
 
-// The bytes of that room: some 5,000 for each item with an order in each of 104 weeks, and what planning takes beside. A
-// block of 64 KiB would go back to the system.
+// The bytes of that room: an item with an order in each of 104 weeks keeps some 5,000, and its planning takes others.
 const ROOM: usize = 60_000;
 
-// Asks for the room of the next items at once, and gives it back to the thread's own memory. That grows by what is asked
-// for, so else by a page or two at a time, and while the system makes it grow all other threads wait.
-fn make_room(alloc: Global, item: usize) {
+// Asks for the room of some items at once, and gives it back to the thread's own heap. That grows by what is asked for, so
+// else by a page or two at a time, and while the heap of one thread grows no other's can.
+fn make_room(alloc: Global, item: usize) -> Result<(), NoMemory> {
     if item % ITEMS_OF_ROOM == 0 {
-        let _ = Vec::<u8>::with_capacity(alloc, ROOM);
+        let _room = Vec::<u8>::with_capacity(alloc, ROOM)?;
     }
+    Ok(())
 }
 
 // What planning makes of items whose parents are finished, side by side.
@@ -54,7 +54,7 @@ fn outcomes_for(
                 requires ready { IsReady finished.now item.now }
                 ensures { IfOk result (λ o. o ≡ item_from finished.entry.now.inputs item.now) }
             {
-                make_room(alloc, *item);
+                make_room(alloc, *item)?;
                 finished.outcome_for(alloc, *item)
             },
         )
