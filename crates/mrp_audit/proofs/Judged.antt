@@ -16,8 +16,8 @@ use Rattle.mrp_book.specs.declared.reply.Reply.{Reply}
 use Rattle.mrp_book.specs.declared.reply.Reply.TheVariants as reply
 use Rattle.mrp_book.specs.Standing.{History}
 use Rattle.mrp_book.specs.History.{IsLegal, asked}
-use Rattle.mrp_report.specs.HistoryText.{call_cells, entry_text, history_head, history_text, reply_cells}
-use Rattle.mrp_report.specs.Section.{row}
+use Rattle.mrp_report.specs.section.HistoryText.{call_cells, entry_text, history_head, history_text, reply_cells}
+use Rattle.mrp_report.specs.page.Rows.{row}
 use Rattle.mrp_engine.specs.Script.{Script, is_run, record_of, script_of, with_run}
 use Rattle.mrp_engine.specs.Day.{IsAccepted, runs_of}
 use Rattle.mrp_engine.specs.RightDay.{FollowsDesks, asked_by}

@@ -14,7 +14,7 @@ use Rattle.mrp_tables.specs.Facts.{AllDiffer, IsItem}
 use Rattle.mrp_tables.specs.Items.{is_master, is_master_at, item_at, names_of, place_of}
 use Rattle.mrp_tables.specs.Tables.{Tables}
 use Rattle.mrp_master.specs.Supply.{IsMaster, supply_of}
-use Rattle.mrp_report.specs.Cells.{name_at}
+use Rattle.mrp_report.specs.section.Cells.{name_at}
 use Rattle.mrp_audit.specs.Reading.{FindsItem}
 
 -- where something passes, a first place is found

@@ -8,8 +8,8 @@ use Rattle.std.proofs.lemmas.List.Elements.{All-head, All-tail}
 use Rattle.mrp_tables.specs.Tables.{Tables}
 use Rattle.mrp_book.specs.declared.call.Call.{Call}
 use Rattle.mrp_book.specs.declared.call.Call.TheVariants as call
-use Rattle.mrp_report.specs.Cells.{name_at}
-use Rattle.mrp_report.specs.HistoryText.{call_cells, history_head}
+use Rattle.mrp_report.specs.section.Cells.{name_at}
+use Rattle.mrp_report.specs.section.HistoryText.{call_cells, history_head}
 use Rattle.mrp_audit.specs.declared.claim.Claim.{Claim}
 use Rattle.mrp_audit.specs.declared.claim.ClaimedReply.{ClaimedReply}
 use Rattle.mrp_audit.specs.declared.claim.ClaimedReply.TheVariants as said

@@ -2,9 +2,9 @@
 use Rattle.std.proofs.Common.{◌≡◌, ◌∙◌, ℕ, ◌+◌, ◌<◌, ◌≤◌, false, List, [], ◌∷◌, ◌++◌, length, take, get_or, refl, sym, ap, arith, append_assoc}
 use Rattle.std.proofs.lemmas.List.{take_all}
 use Rattle.csv.specs.Writing.{default_writer, needs_quotes}
-use Rattle.mrp_report.specs.CsvCells.{cell_text}
-use Rattle.mrp_report.specs.Section.{row}
-use Rattle.mrp_report.proofs.RowCells.{body, body_more, body_one, body_whole}
+use Rattle.mrp_report.specs.page.CsvCells.{cell_text}
+use Rattle.mrp_report.specs.page.Rows.{row}
+use Rattle.mrp_report.proofs.lemmas.page.RowCells.{body, body_more, body_one, body_whole}
 use Rattle.mrp_audit.specs.Reading.{ArePlain}
 
 -- a cell that needs no quotes is written as it is

@@ -25,7 +25,7 @@ use Rattle.mrp_book.proofs.Histories.{history-unique, legal-front}
 use Rattle.mrp_item.specs.Inputs.{Inputs}
 use Rattle.mrp_item.specs.Plan.{ItemPlan, plan_of}
 use Rattle.mrp_report.specs.ReportText.{report_text}
-use Rattle.mrp_report.specs.Section.{section_head}
+use Rattle.mrp_report.specs.page.Rows.{section_head}
 use Rattle.mrp_engine.specs.Script.{Script, call_of, is_run, record_of, script_of, with_run}
 use Rattle.mrp_engine.specs.Day.{IsAccepted, runs_of}
 use Rattle.mrp_engine.specs.RightDay.{AnswersDesks, FollowsDesks, IsRightDay, asked_by, right_text, run_report, text_of_plan}

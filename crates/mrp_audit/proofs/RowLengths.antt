@@ -4,7 +4,7 @@ use Rattle.std.specs.Prelude.{◌==◌}
 use Rattle.std.specs.List.{list_any}
 use Rattle.std.proofs.lemmas.Bool.{cases_Bool}
 use Rattle.csv.specs.Writing.{default_writer, escaped, field_text, fields_text, is_blank, needs_byte, quoted}
-use Rattle.mrp_report.specs.Section.{row}
+use Rattle.mrp_report.specs.page.Rows.{row}
 
 escaped-length : (x : List ℕ) → length (escaped default_writer x) ≤ 2 * length x
 unfolding escaped

@@ -12,7 +12,7 @@ use Rattle.csv.specs.Records.{Row, fields_of}
 use Rattle.csv.specs.declared.parser.State.TheVariants as st
 use Rattle.csv.proofs.RoundTrip.{read-write-many}
 use Rattle.mrp_qty.specs.declared.memory.NoMemory.{NoMemory}
-use Rattle.mrp_report.specs.Section.{row}
+use Rattle.mrp_report.specs.page.Rows.{row}
 use Rattle.mrp_audit.specs.Reading.{BeginsPlain, SplitsRow, TakesRow}
 use Rattle.mrp_audit.specs.declared.record.TheConstants.{LONGEST}
 

@@ -5,8 +5,8 @@ use Rattle.std.proofs.lemmas.List.{append-nil, append_cancel_left, drop-drop, le
 use Rattle.std.proofs.lemmas.List.Elements.{All-push}
 use Rattle.csv.specs.Writing.{escaped, fields_text, is_blank}
 use Rattle.mrp_tables.specs.Tables.{Tables}
-use Rattle.mrp_report.specs.HistoryText.{history_head}
-use Rattle.mrp_report.specs.Section.{section_head}
+use Rattle.mrp_report.specs.section.HistoryText.{history_head}
+use Rattle.mrp_report.specs.page.Rows.{section_head}
 use Rattle.mrp_audit.specs.declared.claim.Claim.{Claim}
 use Rattle.mrp_audit.specs.declared.fault.AuditFault.{AuditFault}
 use Rattle.mrp_audit.specs.declared.fault.AuditFault.TheVariants as fault

@@ -13,8 +13,8 @@ use Rattle.mrp_book.specs.declared.call.Call.TheVariants as call
 use Rattle.mrp_book.specs.declared.reply.Reply.{Reply}
 use Rattle.mrp_book.specs.declared.reply.Reply.TheVariants as reply
 use Rattle.mrp_book.specs.History.{Fits}
-use Rattle.mrp_report.specs.HistoryText.{call_cells, history_head}
-use Rattle.mrp_report.specs.Section.{row}
+use Rattle.mrp_report.specs.section.HistoryText.{call_cells, history_head}
+use Rattle.mrp_report.specs.page.Rows.{row}
 use Rattle.mrp_audit.specs.declared.claim.Claim.{Claim}
 use Rattle.mrp_audit.specs.declared.claim.ClaimedReply.{ClaimedReply}
 use Rattle.mrp_audit.specs.declared.claim.ClaimedReply.TheVariants as said

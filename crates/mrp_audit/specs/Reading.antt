@@ -8,9 +8,9 @@ use Rattle.mrp_qty.specs.Quantity.{greatest_quantity}
 use Rattle.mrp_qty.specs.declared.memory.NoMemory.{NoMemory}
 use Rattle.mrp_tables.specs.Tables.{Tables}
 use Rattle.mrp_book.specs.declared.call.Call.{Call}
-use Rattle.mrp_report.specs.Cells.{name_at}
-use Rattle.mrp_report.specs.HistoryText.{call_cells}
-use Rattle.mrp_report.specs.Section.{row}
+use Rattle.mrp_report.specs.section.Cells.{name_at}
+use Rattle.mrp_report.specs.section.HistoryText.{call_cells}
+use Rattle.mrp_report.specs.page.Rows.{row}
 use Rattle.mrp_audit.specs.declared.call.CallCells.{CallCells}
 use Rattle.mrp_audit.specs.declared.claim.Claim.{Claim}
 use Rattle.mrp_audit.specs.declared.claim.ClaimedReply.{ClaimedReply}

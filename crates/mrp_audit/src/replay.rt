@@ -6,7 +6,7 @@
 ghost use Rattle.std.specs.Prelude.{◌≡◌, ◌<◌, All, IfOk, IfSome, length};
 ghost use Rattle.mrp_tables.specs.declared.limits.TheConstants.{MOST_ENTRIES};
 ghost use Rattle.mrp_master.specs.Supply.{supply_of};
-ghost use Rattle.mrp_report.specs.HistoryText.{history_text};
+ghost use Rattle.mrp_report.specs.section.HistoryText.{history_text};
 ghost use Rattle.mrp_audit.specs.Parts.{ComparesFront};
 ghost use Rattle.mrp_audit.specs.Replays.{FindsHistory, IsTaken};
 

@@ -2,7 +2,7 @@
 
 ghost use Rattle.std.specs.Prelude.{◌≡◌, IfOk, IsTrue};
 ghost use Rattle.csv.specs.Records.{fields_of};
-ghost use Rattle.mrp_report.specs.Section.{row};
+ghost use Rattle.mrp_report.specs.page.Rows.{row};
 ghost use Rattle.mrp_audit.specs.Reading.{ArePlain};
 
 use crate::record::{LONGEST, cell_of};

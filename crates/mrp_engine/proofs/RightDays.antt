@@ -14,7 +14,7 @@ use Rattle.mrp_book.specs.declared.reply.Reply.{Reply}
 use Rattle.mrp_book.specs.Standing.{History}
 use Rattle.mrp_book.specs.History.{asked}
 use Rattle.mrp_item.specs.Inputs.{Inputs}
-use Rattle.mrp_report.specs.HistoryText.{history_text}
+use Rattle.mrp_report.specs.section.HistoryText.{history_text}
 use Rattle.mrp_report.specs.ReportText.{report_text}
 use Rattle.mrp_engine.specs.Day.{AnswersScript, IsDay, IsDayBy, IsPlannable, runs_of}
 use Rattle.mrp_engine.specs.Laws.{CallsByWords, CallsFromScript, IsOfWord}

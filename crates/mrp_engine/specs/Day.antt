@@ -12,7 +12,7 @@ use Rattle.mrp_book.specs.Standing.{History}
 use Rattle.mrp_book.specs.History.{IsLegal, asked}
 use Rattle.mrp_item.specs.Inputs.{Inputs, inputs_of, item_at}
 use Rattle.mrp_item.specs.Plan.{ItemPlan, plan_of}
-use Rattle.mrp_report.specs.HistoryText.{history_text}
+use Rattle.mrp_report.specs.section.HistoryText.{history_text}
 use Rattle.mrp_report.specs.ReportText.{report_text}
 use Rattle.mrp_engine.specs.Script.{script_of, with_run}
 

@@ -6,7 +6,7 @@ use Rattle.mrp_book.specs.Standing.{History}
 use Rattle.mrp_book.specs.History.{IsLegal, asked}
 use Rattle.mrp_item.specs.Inputs.{Inputs}
 use Rattle.mrp_item.specs.Plan.{ItemPlan, plan_of}
-use Rattle.mrp_report.specs.HistoryText.{history_text}
+use Rattle.mrp_report.specs.section.HistoryText.{history_text}
 use Rattle.mrp_report.specs.ReportText.{report_text}
 use Rattle.mrp_engine.specs.Script.{Script, script_of, with_run}
 use Rattle.mrp_engine.specs.Day.{IsAccepted, runs_of}

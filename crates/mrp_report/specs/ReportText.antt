@@ -6,16 +6,16 @@ use Rattle.mrp_item.specs.Plan.{ItemPlan, outcome_of, plan_in}
 use Rattle.mrp_load.specs.Loads.{centre_at, centres}
 use Rattle.mrp_notes.specs.Messages.{messages_of}
 use Rattle.mrp_peg.specs.Pegging.{pegs_of}
-use Rattle.mrp_report.specs.RunText.{run_text}
-use Rattle.mrp_report.specs.PromiseText.{promises_head, promise_text}
-use Rattle.mrp_report.specs.PromiseRows.{promise_rows}
-use Rattle.mrp_report.specs.PlanText.{plan_head, week_text}
-use Rattle.mrp_report.specs.PlanRows.{plan_rows}
-use Rattle.mrp_report.specs.OrderText.{orders_head, order_text}
-use Rattle.mrp_report.specs.PegText.{peg_text, pegs_head}
-use Rattle.mrp_report.specs.MessageText.{messages_head, message_text}
-use Rattle.mrp_report.specs.LoadText.{load_text, loads_head}
-use Rattle.mrp_report.specs.LoadRows.{load_rows}
+use Rattle.mrp_report.specs.section.RunText.{run_text}
+use Rattle.mrp_report.specs.section.PromiseText.{promises_head, promise_text}
+use Rattle.mrp_report.specs.section.PromiseRows.{promise_rows}
+use Rattle.mrp_report.specs.section.PlanText.{plan_head, week_text}
+use Rattle.mrp_report.specs.section.PlanRows.{plan_rows}
+use Rattle.mrp_report.specs.section.OrderText.{orders_head, order_text}
+use Rattle.mrp_report.specs.section.PegText.{peg_text, pegs_head}
+use Rattle.mrp_report.specs.section.MessageText.{messages_head, message_text}
+use Rattle.mrp_report.specs.section.LoadText.{load_text, loads_head}
+use Rattle.mrp_report.specs.section.LoadRows.{load_rows}
 
 -- the rows of an item in the section `promises`: a part has none
 abbrev pub promised_text : Inputs → ℕ → List ℕ

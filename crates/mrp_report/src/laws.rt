@@ -5,7 +5,7 @@ ghost use Rattle.mrp_master.specs.Supply.{IsAvailable, IsMaster, IsWeek, supply_
 ghost use Rattle.mrp_book.specs.Booked.{AreBooked};
 ghost use Rattle.mrp_book.specs.Bookings.{lines_of};
 ghost use Rattle.mrp_item.specs.Inputs.{Inputs};
-ghost use Rattle.mrp_report.specs.PromiseRows.{available};
+ghost use Rattle.mrp_report.specs.section.PromiseRows.{available};
 
 /// What the section `promises` says is available.
 pub fn promising()

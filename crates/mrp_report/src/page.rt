@@ -1,19 +1,35 @@
-//! Rows of csv text in memory.
+//! Pages, which are rows of csv text in memory, and the cells, words and numbers that rows are made of.
 
 ghost use Rattle.std.specs.Prelude.{◌≡◌, ◌+◌, ◌≤◌, ◌-◌, [], ◌∷◌, ◌++◌, Err, OnOk, OnErr, length, map, take, vec_len};
 ghost use Rattle.csv.specs.Writing.{default_writer, escaped, quoted};
-ghost use Rattle.mrp_report.specs.CsvCells.{cell_text, next_cell};
-ghost use Rattle.mrp_report.specs.Section.{row, section_head};
+ghost use Rattle.mrp_report.specs.page.CsvCells.{cell_text, next_cell};
+ghost use Rattle.mrp_report.specs.page.Rows.{row, section_head};
 ghost use Rattle.mrp_report.specs.Written.{HasTaken, HasTakenFront, HasGivenUp, HasGoneOn, PassesOn};
 
+mod cells;
+mod csv_name;
+mod line;
+mod minutes;
+mod number;
+mod put;
+mod quoting;
+mod word;
+
 use crate::fault::ReportFault;
-use crate::line::{Line, ROOM};
-use crate::quoting::is_quoted_text;
+pub(crate) use cells::{Cell, put_first_number, put_text};
+pub(crate) use csv_name::CsvName;
+pub(crate) use line::Line;
+use line::ROOM;
+pub(crate) use minutes::TimeBuffer;
 use mrp_qty::NoMemory;
 use mrp_rows::{Told, Tries, write_text};
+pub(crate) use number::put_number;
+pub(crate) use put::put_byte;
+pub use quoting::is_quoted_text;
 use std::alloc::{AllocError, Global};
 use std::io::Write;
 use std::marker::Model;
+pub(crate) use word::{Word, put_word};
 
 // How many bytes a page may hold before it is handed to the writer.
 const FULL: usize = 65_536;
@@ -149,7 +165,7 @@ impl Page {
     }
 
     // Adds what a section begins with: its line and its header.
-    #[tactic(auto, unfolding(crate::specs::Section::section_head))]
+    #[tactic(auto, unfolding(crate::specs::page::Rows::section_head))]
     pub(crate) fn section(&mut self, line: &[u8], header: &[&[u8]]) -> Result<(), NoMemory>
         requires { 2 ≤ length header.now }
         ensures { OnOk result (self.new ≡ self.old ++ section_head line.now (map (λ cell. cell.now) header.now)) }

@@ -3,19 +3,14 @@
 ghost use Rattle.std.specs.Prelude.{◌≡◌, ◌<◌, ◌≤◌, ◌-◌, ◌++◌, Err, OnOk, OnErr, length};
 ghost use Rattle.std.specs.Int.{IsInRange};
 ghost use Rattle.mrp_report.specs.ReportText.{report_text};
-ghost use Rattle.mrp_report.specs.RunText.{run_text};
-ghost use Rattle.mrp_report.specs.Chunks.{rows_in, text_of};
+ghost use Rattle.mrp_report.specs.section.RunText.{run_text};
+ghost use Rattle.mrp_report.specs.wave.Chunks.{rows_in, text_of};
 ghost use Rattle.mrp_report.specs.Written.{HasGivenUp, HasGoneOn, HasTakenFront, HasTakenWhole, PassesOn};
 
-use crate::cut::Chunks;
 use crate::fault::ReportFault;
-use crate::in_turn::write_in_turn;
 use crate::page::Page;
-use crate::readings::Readings;
-use crate::run::run_section;
-use crate::section::SECTIONS;
-use crate::slot::{Slot, slots};
-use crate::wave::write_waves;
+use crate::section::{Readings, SECTIONS, run_section};
+use crate::wave::{Chunks, Slot, slots, write_in_turn, write_waves};
 use mrp_item::Plan;
 use mrp_qty::NoMemory;
 use mrp_rows::{Told, Tries, WRITE_TRIES};

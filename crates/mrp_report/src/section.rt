@@ -1,24 +1,44 @@
-//! The sections of a report that go over the items or the work centres.
+//! The sections of a day, each with its rows; here those of a report that go over the items or the work centres.
 
 ghost use Rattle.std.specs.Prelude.{◌≡◌, ◌<◌, ◌++◌, OnOk};
 ghost use Rattle.mrp_report.specs.ReportText.{ordered_text, told_text};
-ghost use Rattle.mrp_report.specs.Sections.{count_in, head_of, rows_of};
+ghost use Rattle.mrp_report.specs.section.Sections.{count_in, head_of, rows_of};
 
-use crate::centre::centre_rows;
-use crate::item::item_rows;
-use crate::loads::loads_section;
-use crate::messages::{message_rows, messages_section};
-use crate::orders::{order_rows, orders_section};
+mod centre;
+mod history;
+mod item;
+mod loads;
+mod messages;
+mod orders;
+mod pegs;
+mod plan;
+mod promise_item;
+mod promise_sheet;
+mod promises;
+mod readings;
+mod run;
+mod sheet;
+mod shop_names;
+mod source;
+
 use crate::page::Page;
-use crate::pegs::{pegged_rows, pegs_section};
-use crate::plan::plan_section;
-use crate::promise_item::item_promises;
-use crate::promises::promises_section;
-use crate::readings::Readings;
-use crate::shop_names::ShopNames;
+use centre::centre_rows;
+pub use history::write_history;
+use item::item_rows;
+use loads::loads_section;
+use messages::{message_rows, messages_section};
 use mrp_item::{Plan, Planned};
 use mrp_notes::item_messages;
 use mrp_qty::NoMemory;
+use orders::{order_rows, orders_section};
+pub(crate) use pegs::PegRows;
+use pegs::{pegged_rows, pegs_section};
+use plan::plan_section;
+use promise_item::item_promises;
+use promises::promises_section;
+pub(crate) use readings::Readings;
+pub(crate) use run::run_section;
+use shop_names::ShopNames;
 use std::alloc::Global;
 
 // A section with rows for each item, or for each work centre.

@@ -1,14 +1,20 @@
-//! Chunks of a section that are made side by side.
+//! How a section's rows reach the writer: one after the other, or in chunks that are made in parallel, wave by wave.
 
 ghost use denote.Param.Send.{IsSync};
 ghost use Rattle.std.specs.Prelude.{◌≡◌, ◌<◌, ◌≤◌, ◌-◌, Err, OnOk, OnErr, length};
-ghost use Rattle.mrp_report.specs.Chunks.{AreChunks, count_of, end_of, rows_from, rows_in};
+ghost use Rattle.mrp_report.specs.wave.Chunks.{AreChunks, count_of, end_of, rows_from, rows_in};
 ghost use Rattle.mrp_report.specs.Written.{HasGivenUp, HasGoneOn, HasTaken, HasTakenFront};
 
-use crate::cut::Chunks;
+mod chunks;
+mod cut;
+mod in_turn;
+mod slot;
+
 use crate::fault::ReportFault;
-use crate::slot::Slot;
+pub(crate) use cut::Chunks;
+pub(crate) use in_turn::write_in_turn;
 use mrp_rows::{Told, Tries};
+pub(crate) use slot::{Slot, slots};
 use std::alloc::Global;
 use std::io::Write;
 use std::thread;

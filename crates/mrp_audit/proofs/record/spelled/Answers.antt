@@ -1,6 +1,6 @@
 use Rattle.std.proofs.Common.{◌≡◌, ◌∙◌, ◌≤◌, sym, ap, refl, arith, ℕ, List, length, ◌++◌, drop}
 use Rattle.csv.specs.Records.{fields_of}
-use Rattle.mrp_report.specs.Section.{row}
+use Rattle.mrp_report.specs.page.Rows.{row}
 use Rattle.mrp_audit.proofs.Rows.{begins}
 use Rattle.mrp_audit.proofs.record.spelled.Goals as goal
 

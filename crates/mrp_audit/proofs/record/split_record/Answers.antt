@@ -1,6 +1,6 @@
 use Rattle.std.proofs.Common.{◌∙◌, ap, ◌∷◌}
 use Rattle.csv.specs.Records.{fields_of}
-use Rattle.mrp_report.specs.Section.{row}
+use Rattle.mrp_report.specs.page.Rows.{row}
 use Rattle.mrp_audit.proofs.Rows.{first-cells, row-taken, row-within, same-there}
 use Rattle.mrp_audit.proofs.record.split_record.Goals as goal
 

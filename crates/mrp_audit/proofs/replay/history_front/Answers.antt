@@ -1,5 +1,5 @@
 use Rattle.std.proofs.Common.{◌∙◌, subst}
-use Rattle.mrp_report.specs.HistoryText.{history_text}
+use Rattle.mrp_report.specs.section.HistoryText.{history_text}
 use Rattle.mrp_audit.specs.Comparing.{Compared, TellsAgreement}
 use Rattle.mrp_audit.proofs.Comparisons.{report-compared}
 use Rattle.mrp_audit.proofs.replay.history_front.Goals as goal

@@ -5,7 +5,7 @@ use Rattle.mrp_tables.specs.declared.item.Item.{Item}
 use Rattle.mrp_tables.specs.Facts.{IsItem}
 use Rattle.mrp_tables.specs.Tables.{Tables}
 use Rattle.mrp_cal.specs.Calendar.{ShopCalendar}
-use Rattle.mrp_report.specs.HistoryText.{call_cells}
+use Rattle.mrp_report.specs.section.HistoryText.{call_cells}
 use Rattle.mrp_audit.specs.Claims.{claimed_cells}
 use Rattle.mrp_audit.proofs.ClaimTexts.{cells-told, claim-plain, claim-short, no-split, split-there}
 use Rattle.mrp_audit.proofs.shape.next_claim.Goals as goal

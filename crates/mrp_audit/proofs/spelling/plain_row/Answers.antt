@@ -1,6 +1,6 @@
 use Rattle.std.proofs.Common.{◌∙◌, ◌++◌, ◌∷◌, [], ℕ, List, ap, arith, sym, take}
 use Rattle.csv.specs.Records.{fields_of}
-use Rattle.mrp_report.proofs.RowCells.{body}
+use Rattle.mrp_report.proofs.lemmas.page.RowCells.{body}
 use Rattle.mrp_audit.proofs.PlainRows.{first-cell, next-cell, whole-row}
 use Rattle.mrp_audit.proofs.spelling.plain_row.Goals as goal
 

@@ -1,6 +1,6 @@
 use Rattle.std.proofs.Common.{◌≡◌, ◌≤◌, take}
 use Rattle.csv.specs.Records.{fields_of}
-use Rattle.mrp_report.proofs.RowCells.{body}
+use Rattle.mrp_report.proofs.lemmas.page.RowCells.{body}
 use Rattle.mrp_audit.proofs.spelling.plain_row.Given as goal
 
 abbrev pub invariant-loop-column : goal.invariant-loop-column

@@ -4,7 +4,7 @@ use Rattle.std.specs.List.{flat_map}
 use Rattle.std.proofs.lemmas.Result.{on_err_weaker, on_ok_weaker}
 use Rattle.mrp_bill.specs.Shop.{Shop}
 use Rattle.mrp_item.specs.Inputs.{Inputs}
-use Rattle.mrp_report.specs.HistoryText.{history_text}
+use Rattle.mrp_report.specs.section.HistoryText.{history_text}
 use Rattle.mrp_report.specs.ReportText.{report_text}
 use Rattle.mrp_report.specs.Written.{HasTakenFront}
 use Rattle.mrp_report.specs.declared.fault.ReportFault.{ReportFault}

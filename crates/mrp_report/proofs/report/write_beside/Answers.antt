@@ -1,9 +1,9 @@
 use Rattle.std.proofs.Common.{◌++◌, ◌-◌, [], List, ℕ, sym, subst, refl}
 use Rattle.std.proofs.lemmas.List.{append-nil}
 use Rattle.std.proofs.lemmas.Result.{on_err_weaker, on_ok_weaker}
-use Rattle.mrp_report.specs.Chunks.{rows_in}
+use Rattle.mrp_report.specs.wave.Chunks.{rows_in}
 use Rattle.mrp_report.specs.Written.{PassesOn}
-use Rattle.mrp_report.proofs.PlacesWritten.{written-page}
+use Rattle.mrp_report.proofs.lemmas.wave.PlacesWritten.{written-page}
 use Rattle.mrp_report.proofs.Progress.{front-then, given-up, gone-on-then, on-err, passes-on, written-next, written-none, written-taken}
 use Rattle.mrp_report.proofs.report.write_beside.Goals as goal
 

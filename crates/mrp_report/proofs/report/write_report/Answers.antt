@@ -3,16 +3,16 @@ use Rattle.std.proofs.lemmas.List.{append-nil}
 use Rattle.std.proofs.lemmas.Result.{on_err_weaker, on_ok_weaker}
 use Rattle.mrp_item.specs.Places.{WholePlan}
 use Rattle.mrp_report.specs.ReportText.{report_text}
-use Rattle.mrp_report.specs.RunText.{run_text}
-use Rattle.mrp_report.specs.Sections.{section_text}
+use Rattle.mrp_report.specs.section.RunText.{run_text}
+use Rattle.mrp_report.specs.section.Sections.{section_text}
 use Rattle.mrp_report.specs.Written.{HasTakenFront, PassesOn}
 use Rattle.mrp_report.specs.declared.section.Section.{Section}
 use Rattle.mrp_report.specs.declared.section.Section.TheVariants as section
-use Rattle.mrp_report.proofs.ChunkTexts.{text-is}
-use Rattle.mrp_report.proofs.ListTexts.{so_far, so_far-none, to-come, whole}
-use Rattle.mrp_report.proofs.ListWritten.{next-passed, next-written}
+use Rattle.mrp_report.proofs.lemmas.wave.ChunkTexts.{text-is}
+use Rattle.mrp_report.proofs.lemmas.section.ListTexts.{so_far, so_far-none, to-come, whole}
+use Rattle.mrp_report.proofs.lemmas.section.ListWritten.{next-passed, next-written}
 use Rattle.mrp_report.proofs.Progress.{IsWritten, front-now, front-then, on-err, given-up, gone-on-then, written-none, written-whole}
-use Rattle.mrp_report.proofs.SectionTexts.{in_order, report-is}
+use Rattle.mrp_report.proofs.lemmas.section.SectionTexts.{in_order, report-is}
 use Rattle.mrp_report.proofs.report.write_report.Goals as goal
 
 pub loop-section-init : goal.loop-section-init

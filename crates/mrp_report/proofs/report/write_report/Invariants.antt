@@ -1,9 +1,9 @@
 use Rattle.std.proofs.Common.{length}
-use Rattle.mrp_report.specs.RunText.{run_text}
-use Rattle.mrp_report.specs.Sections.{section_text}
-use Rattle.mrp_report.proofs.ListTexts.{so_far}
+use Rattle.mrp_report.specs.section.RunText.{run_text}
+use Rattle.mrp_report.specs.section.Sections.{section_text}
+use Rattle.mrp_report.proofs.lemmas.section.ListTexts.{so_far}
 use Rattle.mrp_report.proofs.Progress.{IsWritten}
-use Rattle.mrp_report.proofs.SectionTexts.{in_order}
+use Rattle.mrp_report.proofs.lemmas.section.SectionTexts.{in_order}
 use Rattle.mrp_report.proofs.report.write_report.Given as goal
 
 abbrev pub invariant-loop-section : goal.invariant-loop-section

@@ -1,9 +1,9 @@
 use Rattle.std.proofs.Common.{◌-◌, List, ℕ, subst}
 use Rattle.std.proofs.lemmas.Result.{on_err_weaker, on_ok_weaker}
-use Rattle.mrp_report.specs.Chunks.{rows_in}
-use Rattle.mrp_report.specs.Sections.{head_of}
+use Rattle.mrp_report.specs.wave.Chunks.{rows_in}
+use Rattle.mrp_report.specs.section.Sections.{head_of}
 use Rattle.mrp_report.specs.Written.{HasTakenFront, PassesOn}
-use Rattle.mrp_report.proofs.PlacesWritten.{head-behind}
+use Rattle.mrp_report.proofs.lemmas.wave.PlacesWritten.{head-behind}
 use Rattle.mrp_report.proofs.report.write_section.Goals as goal
 
 pub returns-clause-passed : goal.returns-clause-passed

@@ -1,5 +1,5 @@
 use Rattle.std.proofs.Common.{rules}
-use Rattle.mrp_report.proofs.PlacesWritten.{chunks-joined}
+use Rattle.mrp_report.proofs.lemmas.wave.PlacesWritten.{chunks-joined}
 use Rattle.mrp_report.proofs.wave.+wave.Goals as goal
 
 pub fill_wave-returns : goal.fill_wave-returns

@@ -1,6 +1,6 @@
 use Rattle.std.proofs.Common.{◌≡◌, ℕ, [], length, subst, arith, rules}
-use Rattle.mrp_report.specs.Chunks.{rows_from}
-use Rattle.mrp_report.proofs.PlacesWritten.{chunk-front, chunk-of, chunks-front, next-chunk, no-chunk}
+use Rattle.mrp_report.specs.wave.Chunks.{rows_from}
+use Rattle.mrp_report.proofs.lemmas.wave.PlacesWritten.{chunk-front, chunk-of, chunks-front, next-chunk, no-chunk}
 use Rattle.mrp_report.proofs.Progress.{IsWritten, given-up, gone-on, gone-on-then, on-err, taken-whole}
 use Rattle.mrp_report.proofs.wave.write_wave.Goals as goal
 

@@ -1,5 +1,5 @@
 use Rattle.std.proofs.Common.{[]}
-use Rattle.mrp_report.specs.Chunks.{rows_from}
+use Rattle.mrp_report.specs.wave.Chunks.{rows_from}
 use Rattle.mrp_report.proofs.Progress.{IsWritten}
 use Rattle.mrp_report.proofs.wave.write_wave.Given as goal
 

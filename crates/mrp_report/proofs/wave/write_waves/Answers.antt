@@ -1,8 +1,8 @@
 use Rattle.std.proofs.Common.{◌≡◌, ◌∙◌, ◌<◌, ℕ, List, [], length, take, ap, sym, subst, arith, rules}
 use Rattle.std.proofs.lemmas.List.{length-take}
-use Rattle.mrp_report.specs.Chunks.{between, count_of, end_of, row_of, rows_in}
-use Rattle.mrp_report.proofs.ChunkTexts.{reach-past, rows-between}
-use Rattle.mrp_report.proofs.PlacesWritten.{next-wave, wave-front}
+use Rattle.mrp_report.specs.wave.Chunks.{between, count_of, end_of, row_of, rows_in}
+use Rattle.mrp_report.proofs.lemmas.wave.ChunkTexts.{reach-past, rows-between}
+use Rattle.mrp_report.proofs.lemmas.wave.PlacesWritten.{next-wave, wave-front}
 use Rattle.mrp_report.proofs.Progress.{IsWritten, given-up, gone-on-then, on-err, taken-whole}
 use Rattle.mrp_report.proofs.wave.write_waves.Goals as goal
 

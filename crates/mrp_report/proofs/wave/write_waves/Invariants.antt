@@ -1,5 +1,5 @@
 use Rattle.std.proofs.Common.{◌≤◌, ◌-◌, []}
-use Rattle.mrp_report.specs.Chunks.{between, count_of, row_of}
+use Rattle.mrp_report.specs.wave.Chunks.{between, count_of, row_of}
 use Rattle.mrp_report.proofs.Progress.{IsWritten}
 use Rattle.mrp_report.proofs.wave.write_waves.Given as goal
 

@@ -1,6 +1,6 @@
 use Rattle.std.proofs.Common.{arith}
 use Rattle.std.proofs.lemmas.Result.{on_ok_weaker}
-use Rattle.mrp_report.proofs.RowCells.{added_end, added_first, added_next}
+use Rattle.mrp_report.proofs.lemmas.page.RowCells.{added_end, added_first, added_next}
 use Rattle.mrp_report.proofs.page.Page.row.Goals as goal
 
 pub loop-place-init : goal.loop-place-init

@@ -1,0 +1,3 @@
+pub mod page
+pub mod section
+pub mod wave

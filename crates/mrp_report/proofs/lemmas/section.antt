@@ -1,0 +1,13 @@
+pub mod SheetRows
+pub mod RowTexts
+pub mod PlanSheets
+pub mod EntryRows
+pub mod ListTexts
+pub mod ListWritten
+pub mod HistoryTexts
+pub mod SectionTexts
+pub mod PegsWritten
+pub mod PromiseSums
+pub mod PromiseBookings
+pub mod PromiseSheets
+pub mod ReceiptNames

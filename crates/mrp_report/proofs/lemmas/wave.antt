@@ -1,0 +1,2 @@
+pub mod ChunkTexts
+pub mod PlacesWritten

@@ -1,0 +1,99 @@
+-- Rows of places and chunks are written, one after the other.
+use Rattle.std.proofs.Common.{◌≡◌, ◌∙◌, ℕ, zero, suc, ◌+◌, ◌-◌, ◌<◌, ◌≤◌, List, [], ◌∷◌, ◌++◌, Option, Some, None, IfSome, get_or, length, sym, ap, subst, refl, arith, append_assoc}
+use Rattle.std.proofs.lemmas.List.{get_or_default}
+use Rattle.mrp_rows.specs.declared.told.Told.{Told}
+use Rattle.mrp_report.specs.wave.Chunks.{AreChunks, between, count_of, end_of, row_of, rows_from, rows_in}
+use Rattle.mrp_report.specs.Written.{HasTaken, HasTakenFront}
+use Rattle.mrp_report.specs.declared.wave.cut.Chunks.{Chunks}
+use Rattle.mrp_report.proofs.lemmas.wave.ChunkTexts.{behind-places, between-both, between-none, chunk-more, chunks-rest, reach-from, reach-next, reach-none, reach-within, rows-rest}
+use Rattle.mrp_report.proofs.Progress.{IsWritten, front-now, front-then, written-more, written-next, written-none, written-taken}
+
+-- what there is, where there is some
+pub some-is : {A : Type 0} (o : Option A) (x : A) (P : A → Type 0) → IfSome o P → o ≡ Some x → P x
+some-is {A} o x P holds is = subst (λ (p : Option A). IfSome p P) is holds
+
+module _ {W : Type 0} (contents : W → Option (List ℕ)) (start : Told W) (first : ℕ) where
+  -- the rows of one more place were put on the page
+  pub next-place : (now : Told W) (tries : ℕ) (page next before : List ℕ) (text : ℕ → List ℕ) (a b : ℕ) → a ≤ b → IsWritten contents start now first tries page (before ++ between text a b) → next ≡ page ++ text b
+      → IsWritten contents start now first tries next (before ++ between text a (b + 1))
+  next-place now tries page next before text a b within w adds =
+      subst (λ (t : List ℕ). IsWritten contents start now first tries next t) (sym (behind-places text a b before within))
+      (written-more contents start now first tries page next (before ++ between text a b) (text b) w adds)
+
+  -- before the first chunk
+  pub no-chunk : (c : Chunks) (from : ℕ) → from ≤ count_of c → IsWritten contents start start first first [] (rows_from c from 0)
+  no-chunk c from within =
+      let none : rows_from c from 0 ≡ [] = ap (between (row_of c) from) (reach-none (count_of c) c.size from within) ∙ between-none (row_of c) from in
+      written-none contents start first first [] (rows_from c from 0) refl (sym none)
+
+  -- a page holds the next chunk
+  with-chunk : (now : Told W) (tries : ℕ) (c : Chunks) (from k : ℕ) (page : List ℕ) → from ≤ count_of c → page ≡ rows_from c (end_of c from k) 1 → IsWritten contents start now first tries [] (rows_from c from k)
+      → IsWritten contents start now first tries page (rows_from c from (k + 1))
+  with-chunk now tries c from k page within is w =
+      subst (λ (t : List ℕ). IsWritten contents start now first tries page t) (ap (λ (t : List ℕ). rows_from c from k ++ t) is ∙ sym (chunk-more c from k within))
+      (written-next contents start now first tries (rows_from c from k) page w)
+
+  -- one more chunk was written
+  pub next-chunk : (now then : Told W) (tries fewer : ℕ) (c : Chunks) (from k : ℕ) (page : List ℕ) → from ≤ count_of c → page ≡ rows_from c (end_of c from k) 1 → IsWritten contents start now first tries [] (rows_from c from k)
+      → fewer ≤ tries → HasTaken contents now then page (tries - fewer) → IsWritten contents start then first fewer [] (rows_from c from (k + 1))
+  next-chunk now then tries fewer c from k page within is w less taken =
+      written-taken contents start now then first tries fewer page (rows_from c from (k + 1)) (with-chunk now tries c from k page within is w) less taken
+
+  -- the chunks so far are a front of all of them
+  pub chunks-front : (now : Told W) (tries : ℕ) (c : Chunks) (from k all : ℕ) → from ≤ count_of c → k ≤ all → IsWritten contents start now first tries [] (rows_from c from k)
+      → HasTakenFront contents start now (rows_from c from all)
+  chunks-front now tries c from k all within less w =
+      front-now contents start now first tries [] (rows_from c from k) (between (row_of c) (end_of c from k) (end_of c from all)) (rows_from c from all) w (chunks-rest c from k all within less)
+
+  -- and so they are with a front of the next
+  pub chunk-front : (now then : Told W) (tries : ℕ) (c : Chunks) (from k all : ℕ) (page : List ℕ) → from ≤ count_of c → k + 1 ≤ all → page ≡ rows_from c (end_of c from k) 1
+      → IsWritten contents start now first tries [] (rows_from c from k) → HasTakenFront contents now then page → HasTakenFront contents start then (rows_from c from all)
+  chunk-front now then tries c from k all page within less is w front =
+      front-then contents start now then first tries page (rows_from c from (k + 1)) (between (row_of c) (end_of c from (k + 1)) (end_of c from all)) (rows_from c from all)
+      (with-chunk now tries c from k page within is w) (chunks-rest c from (k + 1) all within less) front
+
+  -- some chunks are to be written behind the places so far
+  with-wave : (now : Told W) (tries : ℕ) (c : Chunks) (from k : ℕ) → from ≤ count_of c → IsWritten contents start now first tries [] (between (row_of c) 0 from)
+      → IsWritten contents start now first tries (rows_from c from k) (between (row_of c) 0 (end_of c from k))
+  with-wave now tries c from k within w =
+      subst (λ (t : List ℕ). IsWritten contents start now first tries (rows_from c from k) t) (sym (between-both (row_of c) 0 from (end_of c from k) (omega arith) (reach-from (count_of c) c.size from k within)))
+      (written-next contents start now first tries (between (row_of c) 0 from) (rows_from c from k) w)
+
+  -- and were
+  pub next-wave : (now then : Told W) (tries fewer : ℕ) (c : Chunks) (from k : ℕ) → from ≤ count_of c → IsWritten contents start now first tries [] (between (row_of c) 0 from) → fewer ≤ tries
+      → HasTaken contents now then (rows_from c from k) (tries - fewer) → IsWritten contents start then first fewer [] (between (row_of c) 0 (end_of c from k))
+  next-wave now then tries fewer c from k within w less taken =
+      written-taken contents start now then first tries fewer (rows_from c from k) (between (row_of c) 0 (end_of c from k)) (with-wave now tries c from k within w) less taken
+
+  -- or a front of them
+  pub wave-front : (now then : Told W) (tries : ℕ) (c : Chunks) (from k : ℕ) → from ≤ count_of c → IsWritten contents start now first tries [] (between (row_of c) 0 from)
+      → HasTakenFront contents now then (rows_from c from k) → HasTakenFront contents start then (rows_in c)
+  wave-front now then tries c from k within w front =
+      let there : ℕ = end_of c from k in
+      front-then contents start now then first tries (rows_from c from k) (between (row_of c) 0 there) (between (row_of c) there (count_of c)) (rows_in c) (with-wave now tries c from k within w)
+      (rows-rest c there (reach-within (count_of c) c.size from k)) front
+
+-- the page at a place of a wave has its chunk
+pub chunk-of : (c : Chunks) (from k : ℕ) (slots : List (Option (List ℕ))) (slot : Option (List ℕ)) (page : List ℕ) → AreChunks c from slots → k < length slots → slot ≡ get_or slots k slot → slot ≡ Some page
+    → page ≡ rows_from c (end_of c from k) 1
+chunk-of c from k slots slot page are within is holds =
+    some-is (get_or slots k None) page (λ (t : List ℕ). t ≡ rows_from c (end_of c from k) 1) (are k within) (get_or_default slots k None slot within ∙ sym is ∙ holds)
+
+-- a page was handed over, and nothing before
+pub written-page : {W : Type 0} (contents : W → Option (List ℕ)) (start then : Told W) (first fewer : ℕ) (page : List ℕ) → fewer ≤ first → HasTaken contents start then page (first - fewer) → IsWritten contents start then first fewer [] page
+written-page contents start then first fewer page less taken =
+    written-taken contents start start then first first fewer page page (written-none contents start first first page page refl refl) less taken
+
+-- rows behind a head that was put on a page
+pub head-behind : (page next head rows : List ℕ) → next ≡ page ++ head → next ++ rows ≡ page ++ (head ++ rows)
+head-behind page next head rows is = ap (λ (t : List ℕ). t ++ rows) is ∙ append_assoc page head rows
+
+-- the page of a chunk, and those of the chunks behind it
+pub chunks-joined : (c : Chunks) (from : ℕ) (one rest : List (Option (List ℕ))) → length one ≡ 1 → AreChunks c from one → AreChunks c (end_of c from 1) rest → AreChunks c from (one ++ rest)
+chunks-joined c from [] rest size first behind = absurd (omega (arith, size))
+chunks-joined c from (page ∷ []) rest size first behind = by
+  where
+    by : AreChunks c from (page ∷ rest)
+    by zero below = first 0 (omega arith)
+    by (suc k) below = subst (λ (at : ℕ). IfSome (get_or rest k None) (λ text. text ≡ rows_from c at 1)) (reach-next (count_of c) c.size from k) (behind k (omega (arith, below)))
+chunks-joined c from (page ∷ other ∷ more) rest size first behind = absurd (omega (arith, size))

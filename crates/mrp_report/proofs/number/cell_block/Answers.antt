@@ -1,6 +1,0 @@
-use Rattle.std.proofs.Common.{arith}
-use Rattle.mrp_report.proofs.Tables.{cell_at}
-use Rattle.mrp_report.proofs.number.cell_block.Goals as goal
-
-pub returns-clause-text : goal.returns-clause-text
-returns-clause-text c = cell_at c.args.n _ c.requires (omega arith)

@@ -1,0 +1,20 @@
+-- The section `orders` (profile).
+use Rattle.std.specs.Prelude.{ℕ, List, [], ◌∷◌, codes, decimal}
+use Rattle.mrp_item.specs.declared.order.OrderKind.{OrderKind}
+use Rattle.mrp_item.specs.declared.order.OrderKind.TheVariants.{Firm, Planned}
+use Rattle.mrp_item.specs.declared.order.Order.{Order}
+use Rattle.mrp_report.specs.page.Rows.{row, section_head}
+
+abbrev pub orders_head : List ℕ
+orders_head = section_head (codes "[orders]")
+    (codes "item" ∷ codes "order" ∷ codes "kind" ∷ codes "due" ∷ codes "quantity" ∷ codes "start" ∷ codes "release" ∷ codes "late" ∷ [])
+
+-- the word for who made an order
+abbrev pub kind_word : OrderKind → List ℕ
+kind_word Firm = codes "firm"
+kind_word Planned = codes "planned"
+
+-- an order of an item, with its number
+abbrev pub order_text : List ℕ → ℕ × Order → List ℕ
+order_text name (number, o) =
+    row (name ∷ decimal number ∷ kind_word o.kind ∷ decimal o.due ∷ decimal o.quantity ∷ decimal o.start ∷ decimal o.release ∷ decimal o.late ∷ [])

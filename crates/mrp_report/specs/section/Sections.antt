@@ -1,0 +1,53 @@
+-- The sections that go over the items or the work centres, as they are written.
+use Rattle.std.specs.Prelude.{ℕ, List, ◌++◌, flat_map, length}
+use Rattle.std.specs.List.{range_with_len}
+use Rattle.mrp_item.specs.Inputs.{Inputs, count}
+use Rattle.mrp_item.specs.Plan.{outcome_of, plan_in}
+use Rattle.mrp_report.specs.declared.section.Section.{Section}
+use Rattle.mrp_report.specs.declared.section.Section.TheVariants as section
+use Rattle.mrp_report.specs.section.PromiseText.{promises_head}
+use Rattle.mrp_report.specs.section.PlanText.{plan_head}
+use Rattle.mrp_report.specs.section.OrderText.{orders_head}
+use Rattle.mrp_report.specs.section.PegText.{pegs_head}
+use Rattle.mrp_report.specs.section.MessageText.{messages_head}
+use Rattle.mrp_report.specs.section.LoadText.{loads_head}
+use Rattle.mrp_report.specs.ReportText.{item_text, loaded_text, ordered_text, pegged_text, promised_text, told_text}
+
+-- what a section begins with
+abbrev pub head_of : Section → List ℕ
+head_of section.Promises = promises_head
+head_of section.Plan = plan_head
+head_of section.Orders = orders_head
+head_of section.Pegs = pegs_head
+head_of section.Messages = messages_head
+head_of section.Loads = loads_head
+
+-- how many items or work centres a section goes over
+abbrev pub count_in : Inputs → Section → ℕ
+count_in s section.Promises = count s
+count_in s section.Plan = count s
+count_in s section.Orders = count s
+count_in s section.Pegs = count s
+count_in s section.Messages = count s
+count_in s section.Loads = length s.tables.centres
+
+-- these, by their places in the table
+abbrev pub places_in : Inputs → Section → List ℕ
+places_in s section = range_with_len 0 (count_in s section)
+
+-- the rows of one of them in a section
+abbrev pub rows_of : Inputs → Section → ℕ → List ℕ
+rows_of s section.Promises i = promised_text s i
+rows_of s section.Plan i = item_text s i (plan_in (outcome_of s i))
+rows_of s section.Orders i = ordered_text s i (plan_in (outcome_of s i))
+rows_of s section.Pegs i = pegged_text s i (plan_in (outcome_of s i))
+rows_of s section.Messages i = told_text s i (plan_in (outcome_of s i))
+rows_of s section.Loads i = loaded_text s i
+
+-- the rows of a section, of each in table order
+abbrev pub all_rows : Inputs → Section → List ℕ
+all_rows s section = flat_map (rows_of s section) (places_in s section)
+
+-- a section, with the rows of each in table order
+abbrev pub section_text : Inputs → Section → List ℕ
+section_text s section = head_of section ++ all_rows s section

@@ -1,0 +1,46 @@
+-- The rows of a section in chunks of places (profile).
+use Rattle.std.specs.Prelude.{ℕ, List, ◌+◌, ◌*◌, ◌-◌, ◌<◌, Option, None, IfSome, ◌≡◌, length, min, flat_map, slice_index_or}
+use Rattle.std.specs.List.{range_with_len}
+use Rattle.mrp_item.specs.Inputs.{Inputs}
+use Rattle.mrp_report.specs.declared.wave.cut.Chunks.{Chunks}
+use Rattle.mrp_report.specs.section.Sections.{all_rows, count_in, rows_of, section_text}
+
+-- the texts of the places from one to before another, one after the other
+abbrev pub between : (ℕ → List ℕ) → ℕ → ℕ → List ℕ
+between text from to = flat_map text (range_with_len from (to - from))
+
+-- where so many chunks from a place end: each has so many places, the last what is left
+abbrev pub reach : ℕ → ℕ → ℕ → ℕ → ℕ
+reach count size from chunks = min (from + chunks * size) count
+
+-- what a section's rows are made from
+abbrev pub inputs_of : Chunks → Inputs
+inputs_of c = c.readings.now.plan.now.inputs
+
+-- how many places there are
+abbrev pub count_of : Chunks → ℕ
+count_of c = count_in (inputs_of c) c.section
+
+-- where so many chunks from a place end
+abbrev pub end_of : Chunks → ℕ → ℕ → ℕ
+end_of c from chunks = reach (count_of c) c.size from chunks
+
+-- the rows of a place
+abbrev pub row_of : Chunks → ℕ → List ℕ
+row_of c = rows_of (inputs_of c) c.section
+
+-- the rows of so many chunks from a place
+abbrev pub rows_from : Chunks → ℕ → ℕ → List ℕ
+rows_from c from chunks = between (row_of c) from (end_of c from chunks)
+
+-- all rows, in table order
+abbrev pub rows_in : Chunks → List ℕ
+rows_in c = all_rows (inputs_of c) c.section
+
+-- the section with these rows
+abbrev pub text_of : Chunks → List ℕ
+text_of c = section_text (inputs_of c) c.section
+
+-- pages of chunks from a place, in their order; where memory was refused there is no text
+abbrev pub AreChunks : Chunks → ℕ → List (Option (List ℕ)) → Type 0
+AreChunks c from pages = (k : ℕ) → k < length pages → IfSome (slice_index_or pages k None) (λ text. text ≡ rows_from c (end_of c from k) 1)

@@ -1,0 +1,189 @@
+//! The section `history`: what the order book was asked, and what it replied.
+
+ghost use Rattle.std.specs.Prelude.{◌≡◌, ◌++◌, ◌∷◌, Err, OnOk, OnErr, decimal};
+ghost use Rattle.mrp_master.specs.Supply.{supply_of};
+ghost use Rattle.mrp_report.specs.section.HistoryText.{call_cells, entry_text, history_head, history_text, reply_cells};
+ghost use Rattle.mrp_report.specs.section.EntryCells.{called_cells, replied_cells};
+ghost use Rattle.mrp_report.specs.page.Rows.{row};
+ghost use Rattle.mrp_report.specs.Written.{HasGivenUp, HasGoneOn, HasTakenFront, HasTakenWhole};
+
+use crate::fault::ReportFault;
+use crate::page::{Cell, Line, Page, Word, put_byte, put_first_number, put_number, put_word};
+use crate::section::shop_names::ShopNames;
+use mrp_bill::Shop;
+use mrp_book::{Call, Entry, History, Reply};
+use mrp_qty::NoMemory;
+use mrp_rows::{Told, Tries, WRITE_TRIES};
+use std::alloc::Global;
+use std::io::Write;
+
+// Adds the line and the header of the section.
+#[tactic(auto, unfolding(csv::specs::Writing::fields_text, csv::specs::Writing::is_blank))]
+fn history_section(page: &mut Page) -> Result<(), NoMemory>
+    ensures { OnOk result (page.new ≡ page.old ++ history_head) }
+{
+    let header: [&[u8]; 9] = [
+        b"entry",
+        b"desk",
+        b"call",
+        b"item",
+        b"week",
+        b"quantity",
+        b"number",
+        b"reply",
+        b"value",
+    ];
+    page.section(b"[history]", &header)
+}
+
+// What a row has of a call.
+#[derive(Clone, Copy)]
+struct Called<'a> {
+    word: Word,
+    item: Cell<'a>,
+    week: Cell<'a>,
+    quantity: Cell<'a>,
+    number: Cell<'a>,
+}
+
+// What a row has of a reply.
+#[derive(Clone, Copy)]
+struct Replied<'a> {
+    word: Word,
+    value: Cell<'a>,
+}
+
+impl<'a> Called<'a> {
+    // A call of this word alone.
+    fn word(word: Word) -> Called<'a>
+        ensures { result ≡ record { word = word; item = Cell.Empty; week = Cell.Empty; quantity = Cell.Empty; number = Cell.Empty } }
+    {
+        Called {
+            word,
+            item: Cell::Empty,
+            week: Cell::Empty,
+            quantity: Cell::Empty,
+            number: Cell::Empty,
+        }
+    }
+
+    fn of(names: &'a ShopNames<'_>, call: &Call) -> Called<'a>
+        ensures { called_cells result ≡ call_cells names.now.tables.now call.now }
+    {
+        match call {
+            Call::Book(line) => Called {
+                item: Cell::Name(names.item(line.item)),
+                week: Cell::Number(u64::from(line.week)),
+                quantity: Cell::Number(line.quantity.value()),
+                ..Called::word(Word::Book)
+            },
+            Call::Cancel(number) => Called {
+                number: Cell::Number(*number),
+                ..Called::word(Word::CancelBooking)
+            },
+            Call::Ask(spot) => Called {
+                item: Cell::Name(names.item(spot.item)),
+                week: Cell::Number(u64::from(spot.week)),
+                ..Called::word(Word::Ask)
+            },
+            Call::When(wish) => Called {
+                item: Cell::Name(names.item(wish.item)),
+                quantity: Cell::Number(wish.quantity.value()),
+                ..Called::word(Word::When)
+            },
+            Call::Snapshot => Called::word(Word::Run),
+            Call::Front => Called::word(Word::Front),
+        }
+    }
+}
+
+impl<'a> Replied<'a> {
+    fn of(reply: &Reply) -> Replied<'a>
+        ensures { replied_cells result ≡ reply_cells reply.now }
+    {
+        let (word, value) = match reply {
+            Reply::Booked(number) => (Word::Booked, Cell::Number(*number)),
+            Reply::Short(available) => (Word::Short, Cell::Number(available.value())),
+            Reply::Cancelled => (Word::Cancelled, Cell::Empty),
+            Reply::NotStanding => (Word::NotStanding, Cell::Empty),
+            Reply::NotYours => (Word::NotYours, Cell::Empty),
+            Reply::Available(available) => (Word::Available, Cell::Number(available.value())),
+            Reply::Week(week) => (Word::Week, Cell::Number(u64::from(*week))),
+            Reply::NoWeek => (Word::NoWeek, Cell::Empty),
+            Reply::Taken(snapshot) => (Word::Front, Cell::Number(snapshot.front())),
+            Reply::Front(number) => (Word::Front, Cell::Number(*number)),
+        };
+        Replied { word, value }
+    }
+}
+
+// An entry with its number.
+#[derive(Clone, Copy)]
+struct EntryLine<'a> {
+    number: u64,
+    desk: u64,
+    called: Called<'a>,
+    replied: Replied<'a>,
+}
+
+impl Line for EntryLine<'_> {
+    ghost csv = { λ line. row (decimal line.number ∷ decimal line.desk ∷ (called_cells line.called ++ replied_cells line.replied)) };
+
+    fn put(&self, text: &mut [u8], at: usize) -> usize {
+        let end = put_first_number(text, at, self.number);
+        let end = put_number(text, end, self.desk);
+        let end = put_word(text, end, self.called.word);
+        let end = self.called.item.put(text, end);
+        let end = self.called.week.put(text, end);
+        let end = self.called.quantity.put(text, end);
+        let end = self.called.number.put(text, end);
+        let end = put_word(text, end, self.replied.word);
+        let end = self.replied.value.put(text, end);
+        put_byte(text, end, b'\n')
+    }
+}
+
+// Adds an entry.
+fn entry_row(
+    page: &mut Page,
+    names: &ShopNames<'_>,
+    number: usize,
+    entry: &Entry<Call, Reply>,
+) -> Result<(), NoMemory>
+    ensures { OnOk result (page.new ≡ page.old ++ entry_text names.now.tables.now (number, entry.now)) }
+{
+    page.line(&EntryLine {
+        number: number as u64,
+        desk: entry.who,
+        called: Called::of(names, &entry.call),
+        replied: Replied::of(&entry.reply),
+    })
+}
+
+/// Writes the section `history`: a row for each entry of the order book of an equal shop.
+///
+/// An interrupted write is tried again, at most 1,000,000 times. Errors: `Write` where a write failed
+/// in this call or was interrupted more often, and `NoMemory` where a growth of memory was refused
+/// and neither was so. A front of the text was written then.
+pub fn write_history<W: Write>(
+    alloc: Global,
+    history: &History,
+    shop: &Shop,
+    writer: &mut Told<W>,
+) -> Result<(), ReportFault>
+    requires { history.now.supply ≡ supply_of shop.now.tables }
+    ensures whole { OnOk result (HasTakenWhole W.contents writer.old writer.new (history_text shop.now.tables history.now.entries)) }
+    ensures front { OnErr result (HasTakenFront W.contents writer.old writer.new (history_text shop.now.tables history.now.entries)) }
+    ensures refused { result ≡ Err ReportFault.Write → HasGivenUp writer.old writer.new WRITE_TRIES }
+    ensures memory { result ≡ Err ReportFault.NoMemory → HasGoneOn writer.old writer.new WRITE_TRIES }
+{
+    let names = ShopNames::of(alloc, shop.tables())?;
+    let mut tries = Tries::new();
+    let mut page = Page::new(alloc);
+    history_section(&mut page)?;
+    for (place, entry) in history.entries().iter().enumerate() {
+        entry_row(&mut page, &names, place + 1, entry)?;
+        page.pass_on(writer, &mut tries)?;
+    }
+    page.hand_over(writer, &mut tries)
+}

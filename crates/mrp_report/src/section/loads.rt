@@ -1,0 +1,63 @@
+//! The section `loads`.
+
+ghost use Rattle.std.specs.Prelude.{◌≡◌, ◌++◌, OnOk};
+ghost use Rattle.mrp_report.specs.section.LoadText.{load_text, loads_head};
+
+use crate::page::{CsvName, Line, Page, TimeBuffer, put_byte, put_number, put_text};
+use mrp_qty::{Milli, NoMemory};
+
+/// What a work centre has to do in a week, and what it can.
+#[derive(Clone, Copy)]
+pub(crate) struct LoadRow {
+    /// The week, from 1.
+    pub week: u16,
+    /// The standard times of the operations there (APICS Dictionary: load).
+    pub load: Milli,
+    /// What the centre can do (APICS Dictionary: capacity available).
+    pub capacity: Milli,
+    /// By how much the load exceeds the capacity (APICS Dictionary: overload).
+    pub over: Milli,
+}
+
+/// Adds the line and the header of the section `loads`.
+///
+/// Errors: where a growth of memory was refused.
+#[tactic(auto, unfolding(csv::specs::Writing::fields_text, csv::specs::Writing::is_blank))]
+pub(crate) fn loads_section(page: &mut Page) -> Result<(), NoMemory>
+    ensures { OnOk result (page.new ≡ page.old ++ loads_head) }
+{
+    let header: [&[u8]; 5] = [b"centre", b"week", b"load", b"capacity", b"over"];
+    page.section(b"[loads]", &header)
+}
+
+// A week of a work centre with this name.
+#[derive(Clone, Copy)]
+struct LoadLine<'a> {
+    name: &'a CsvName,
+    row: &'a LoadRow,
+}
+
+impl Line for LoadLine<'_> {
+    ghost csv = { λ line. load_text line.name.now line.row.now };
+
+    fn put(&self, text: &mut [u8], at: usize) -> usize {
+        let mut load = TimeBuffer::new();
+        let mut capacity = TimeBuffer::new();
+        let mut over = TimeBuffer::new();
+        let end = self.name.put_first(text, at);
+        let end = put_number(text, end, u64::from(self.row.week));
+        let end = put_text(text, end, load.format(self.row.load));
+        let end = put_text(text, end, capacity.format(self.row.capacity));
+        let end = put_text(text, end, over.format(self.row.over));
+        put_byte(text, end, b'\n')
+    }
+}
+
+/// Adds a week of a work centre, its times in minutes.
+///
+/// Errors: where a growth of memory was refused.
+pub(crate) fn load_row(page: &mut Page, name: &CsvName, row: &LoadRow) -> Result<(), NoMemory>
+    ensures { OnOk result (page.new ≡ page.old ++ load_text name.now row.now) }
+{
+    page.line(&LoadLine { name, row })
+}

@@ -1,0 +1,197 @@
+//! The section `pegs`.
+
+ghost use Rattle.std.specs.Prelude.{◌≡◌, ◌<◌, [], ◌∷◌, ◌++◌, IfOk, IsTrue, OnOk, decimal, false};
+ghost use Rattle.mrp_report.specs.page.CellOf.{cell_of};
+ghost use Rattle.mrp_report.specs.section.PegText.{need_cells, peg_text, pegs_head};
+ghost use Rattle.mrp_item.specs.Inputs.{count};
+ghost use Rattle.mrp_item.specs.Plan.{outcome_of, plan_in};
+ghost use Rattle.mrp_report.specs.section.PegRows.{IsAdded, count_left, rows_left};
+ghost use Rattle.mrp_report.specs.ReportText.{pegged_text};
+ghost use Rattle.mrp_report.specs.section.PegCells.{needed_cells};
+ghost use Rattle.mrp_report.specs.page.Rows.{row};
+ghost use Rattle.mrp_report.specs.page.WordText.{word_text};
+
+use crate::page::{Cell, CsvName, Line, Page, Word, put_byte, put_number, put_word};
+use crate::section::shop_names::ShopNames;
+use crate::section::source::{source_cell, source_word};
+use mrp_item::{Order, Plan};
+use mrp_peg::{Need, NeedKind, Peg, PegWalk};
+use mrp_qty::NoMemory;
+use std::alloc::Global;
+
+// Adds the line and the header of the section.
+#[tactic(auto, unfolding(csv::specs::Writing::fields_text, csv::specs::Writing::is_blank))]
+pub(crate) fn pegs_section(page: &mut Page) -> Result<(), NoMemory>
+    ensures { OnOk result (page.new ≡ page.old ++ pegs_head) }
+{
+    let header: [&[u8]; 9] = [
+        b"item",
+        b"week",
+        b"need",
+        b"number",
+        b"parent",
+        b"line",
+        b"supply",
+        b"source",
+        b"quantity",
+    ];
+    page.section(b"[pegs]", &header)
+}
+
+// What a row has of a requirement, or of surplus.
+#[derive(Clone, Copy)]
+struct Needed<'a> {
+    week: Cell<'a>,
+    need: Word,
+    number: Cell<'a>,
+    parent: Cell<'a>,
+    line: Cell<'a>,
+}
+
+impl<'a> Needed<'a> {
+    fn of(names: &'a ShopNames<'_>, need: Option<Need>) -> Needed<'a>
+        ensures { needed_cells result ≡ need_cells names.now.tables.now need }
+    {
+        let Some(need) = need else {
+            return Needed {
+                week: Cell::Empty,
+                need: Word::Surplus,
+                number: Cell::Empty,
+                parent: Cell::Empty,
+                line: Cell::Empty,
+            };
+        };
+        let week = Cell::Number(u64::from(need.week));
+        match need.kind {
+            NeedKind::Booking(number) => Needed {
+                week,
+                need: Word::Booking,
+                number: Cell::Number(number),
+                parent: Cell::Empty,
+                line: Cell::Empty,
+            },
+            NeedKind::Forecast => Needed {
+                week,
+                need: Word::Forecast,
+                number: Cell::Empty,
+                parent: Cell::Empty,
+                line: Cell::Empty,
+            },
+            NeedKind::Parent { line, order } => Needed {
+                week,
+                need: Word::Parent,
+                number: Cell::Number(order as u64),
+                parent: Cell::Name(names.parent(line)),
+                line: Cell::Number(line as u64),
+            },
+        }
+    }
+}
+
+// A peg of an item with this name.
+#[derive(Clone, Copy)]
+struct PegLine<'a> {
+    name: &'a CsvName,
+    needed: Needed<'a>,
+    supply: Word,
+    source: Cell<'a>,
+    quantity: u64,
+}
+
+impl Line for PegLine<'_> {
+    ghost csv = { λ line. row (line.name.now ∷ (needed_cells line.needed ++ (word_text line.supply ∷ cell_of line.source ∷ decimal line.quantity ∷ []))) };
+
+    #[inline(always)]
+    fn put(&self, text: &mut [u8], at: usize) -> usize {
+        let end = self.name.put_first(text, at);
+        let end = self.needed.week.put(text, end);
+        let end = put_word(text, end, self.needed.need);
+        let end = self.needed.number.put(text, end);
+        let end = self.needed.parent.put(text, end);
+        let end = self.needed.line.put(text, end);
+        let end = put_word(text, end, self.supply);
+        let end = self.source.put(text, end);
+        let end = put_number(text, end, self.quantity);
+        put_byte(text, end, b'\n')
+    }
+}
+
+// Adds a peg of an item.
+fn peg_row(
+    page: &mut Page,
+    names: &ShopNames<'_>,
+    name: &CsvName,
+    orders: &[Order],
+    peg: &Peg,
+) -> Result<(), NoMemory>
+    ensures { OnOk result (page.new ≡ page.old ++ peg_text names.now.tables.now name.now orders.now peg.now) }
+{
+    page.line(&PegLine {
+        name,
+        needed: Needed::of(names, peg.need),
+        supply: source_word(peg.supply, orders),
+        source: source_cell(peg.supply, names),
+        quantity: peg.quantity.value(),
+    })
+}
+
+// The pegs of an item that are still to be put on a page.
+#[derive(Drop)]
+pub(crate) struct PegRows<'a> {
+    walk: PegWalk<'a>,
+    names: &'a ShopNames<'a>,
+    name: &'a CsvName,
+    orders: &'a [Order],
+}
+
+impl<'a> PegRows<'a> {
+    // All pegs of an item.
+    pub(crate) fn of(
+        alloc: Global,
+        plan: &'a Plan,
+        names: &'a ShopNames<'a>,
+        item: usize,
+    ) -> Result<PegRows<'a>, NoMemory>
+        requires names { names.now.tables.now ≡ plan.now.inputs.tables }
+        requires within { item < count plan.now.inputs }
+        ensures { IfOk result (λ rows. rows_left rows ≡ pegged_text plan.now.inputs item (plan_in (outcome_of plan.now.inputs item))) }
+    {
+        let walk = PegWalk::of(alloc, plan, item)?;
+        Ok(PegRows {
+            walk,
+            names,
+            name: names.item(item),
+            orders: plan.orders(item),
+        })
+    }
+
+    // Adds the next peg; whether there was one.
+    pub(crate) fn add_next(&mut self, page: &mut Page) -> Result<bool, NoMemory>
+        ensures added { IfOk result (λ more. IsTrue more → IsAdded page.old page.new (rows_left self.old) (rows_left self.new)) }
+        ensures fewer { IfOk result (λ more. IsTrue more → count_left self.new < count_left self.old) }
+        ensures all { IfOk result (λ more. more ≡ false → (rows_left self.old ≡ []) × (page.new ≡ page.old)) }
+    {
+        let Some(peg) = self.walk.next()? else {
+            return Ok(false);
+        };
+        peg_row(page, self.names, self.name, self.orders, &peg)?;
+        Ok(true)
+    }
+}
+
+// Adds an item's pegs.
+pub(crate) fn pegged_rows(
+    alloc: Global,
+    page: &mut Page,
+    plan: &Plan,
+    names: &ShopNames<'_>,
+    item: usize,
+) -> Result<(), NoMemory>
+    requires names { names.now.tables.now ≡ plan.now.inputs.tables }
+    requires within { item < count plan.now.inputs }
+    ensures { OnOk result (page.new ≡ page.old ++ pegged_text plan.now.inputs item (plan_in (outcome_of plan.now.inputs item))) }
+{
+    let mut rows = PegRows::of(alloc, plan, names, item)?;
+    while rows.add_next(page)? {}
+    Ok(())
+}

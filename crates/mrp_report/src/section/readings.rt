@@ -1,0 +1,43 @@
+//! What the rows of a report are read from.
+
+ghost use Rattle.std.specs.Prelude.{◌≡◌, IfOk};
+ghost use Rattle.mrp_master.specs.Supply.{supply_of};
+
+use crate::section::shop_names::ShopNames;
+use mrp_item::Plan;
+use mrp_load::{LoadTable, loads};
+use mrp_master::Supply;
+use mrp_qty::NoMemory;
+use std::alloc::Global;
+use std::thread::Threads;
+
+// What rows are read from: the plan, and of it what promising reads of its shop, what the shop's
+// tables call things, and the loads of its work centres.
+#[derive(Drop)]
+pub(crate) struct Readings<'a> {
+    pub plan: &'a Plan,
+    pub supply: &'a Supply,
+    pub names: ShopNames<'a>,
+    pub loads: LoadTable,
+    ghost supplied: { supply.now ≡ supply_of plan.now.inputs.tables },
+    ghost named: { names.tables.now ≡ plan.now.inputs.tables },
+    ghost loaded: { loads ≡ plan.now.inputs },
+}
+
+impl<'a> Readings<'a> {
+    pub(crate) fn of(
+        rt: &(impl Threads + Sync),
+        alloc: Global,
+        plan: &'a Plan,
+    ) -> Result<Readings<'a>, NoMemory>
+        ensures { IfOk result (λ readings. readings.plan.now ≡ plan.now) }
+    {
+        let inputs = plan.inputs();
+        Ok(Readings {
+            plan,
+            supply: inputs.rows().supply(),
+            names: ShopNames::of(alloc, inputs.shop().tables())?,
+            loads: loads(rt, alloc, plan)?,
+        })
+    }
+}

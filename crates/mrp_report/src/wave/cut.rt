@@ -1,0 +1,66 @@
+//! How the rows of a section are cut into chunks.
+
+ghost use Rattle.std.specs.Prelude.{◌≡◌, ◌<◌};
+
+use crate::section::{Readings, Section};
+use mrp_bill::Shop;
+
+// About how many rows a chunk has: some megabytes of text, beside which starting its thread is nothing.
+const ROWS: usize = 65_536;
+
+// The most pegs that a chunk may have: some 20 megabytes of text.
+const MOST_PEGS: usize = 524_288;
+
+// The most bill lines that one item is the component of.
+fn most_lines(shop: &Shop) -> usize {
+    let mut most = 0;
+    for item in 0..shop.tables().items().len() {
+        most = shop.lines_to(item).len().max(most);
+    }
+    most
+}
+
+// About how many pegs an item has for a week: one for each bill line that it is the component of, on the average, and one
+// more.
+fn pegs_of_a_week(shop: &Shop) -> usize {
+    let tables = shop.tables();
+    tables.bills().len() / tables.items().len().max(1) + 1
+}
+
+// A section's rows, cut into chunks of so many places each. Where even a chunk of one place may have more rows than a
+// page should keep, they do not fit.
+#[derive(Drop)]
+pub(crate) struct Chunks<'a> {
+    pub readings: &'a Readings<'a>,
+    pub section: Section,
+    pub size: usize,
+    pub fits: bool,
+    ghost filled: { 0 < size },
+}
+
+impl<'a> Chunks<'a> {
+    pub(crate) fn of(readings: &'a Readings<'a>, section: Section) -> Chunks<'a>
+        ensures inputs { result.readings.now.plan.now.inputs ≡ readings.now.plan.now.inputs }
+        ensures section { result.section ≡ section }
+    {
+        let inputs = readings.plan.inputs();
+        let weeks = usize::from(inputs.weeks());
+        let (rows, places) = match section {
+            Section::Pegs => {
+                let shop = inputs.shop();
+                let most = most_lines(shop).saturating_mul(weeks);
+                (
+                    weeks.saturating_mul(pegs_of_a_week(shop)),
+                    MOST_PEGS / most.max(1),
+                )
+            }
+            _ => (weeks, ROWS),
+        };
+        Chunks {
+            readings,
+            section,
+            size: (ROWS / rows.max(1)).min(places).max(1),
+            fits: places > 0,
+        }
+    }
+}

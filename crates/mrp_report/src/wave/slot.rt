@@ -1,0 +1,69 @@
+//! Pages that are filled side by side.
+
+ghost use Rattle.std.specs.Prelude.{◌≡◌, ◌≤◌, IfOk, IfSome, Some, length};
+ghost use Rattle.mrp_report.specs.wave.Chunks.{count_of, rows_from};
+
+use crate::page::Page;
+use crate::wave::cut::Chunks;
+use mrp_qty::NoMemory;
+use std::alloc::Global;
+use std::marker::Model;
+use std::mem;
+
+// A page for a chunk's rows, which remembers whether memory was refused while it was filled.
+// Contracts see its text, or none where that was so.
+#[derive(Drop)]
+pub(crate) struct Slot {
+    page: Page,
+    is_refused: bool,
+}
+
+impl Model for Slot {
+    ghost use Rattle.std.specs.Prelude.{List, ℕ, Option, Some, None, if◌then◌else◌};
+
+    ghost Value = { Option (List ℕ) };
+
+    ghost view = { λ slot. if slot.is_refused then None else Some slot.page };
+}
+
+impl Slot {
+    // Puts the rows of the chunk from a place on the page, and nothing else.
+    pub(crate) fn fill(&mut self, alloc: Global, chunks: &Chunks<'_>, from: usize)
+        requires { from ≤ count_of chunks.now }
+        ensures { IfSome self.new (λ text. text ≡ rows_from chunks.now from 1) }
+    {
+        // The slots stand beside one another, and each row moves its page's end: one that stood there
+        // would be taken from one processor to another with each row.
+        let mut page = mem::replace(&mut self.page, Page::new(alloc));
+        page.clear();
+        self.is_refused = chunks.add(alloc, &mut page, from).is_err();
+        self.page = page;
+    }
+
+    // The page.
+    //
+    // Errors: where memory was refused while it was filled.
+    pub(crate) fn page(&self) -> Result<&Page, NoMemory>
+        ensures { IfOk result (λ page. self.now ≡ Some page.now) }
+    {
+        if self.is_refused {
+            Err(NoMemory)
+        } else {
+            Ok(&self.page)
+        }
+    }
+}
+
+// So many empty pages.
+pub(crate) fn slots(alloc: Global, count: usize) -> Result<Vec<Slot>, NoMemory>
+    ensures { IfOk result (λ slots. length slots.items ≡ count) }
+{
+    let mut slots = Vec::with_capacity(alloc, count)?;
+    for _ in 0..count {
+        slots.push(Slot {
+            page: Page::new(alloc),
+            is_refused: false,
+        })?;
+    }
+    Ok(slots)
+}
