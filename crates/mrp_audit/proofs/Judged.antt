@@ -18,16 +18,16 @@ use Rattle.mrp_book.specs.Standing.{History}
 use Rattle.mrp_book.specs.History.{IsLegal, asked}
 use Rattle.mrp_report.specs.section.HistoryText.{call_cells, entry_text, history_head, history_text, reply_cells}
 use Rattle.mrp_report.specs.page.Rows.{row}
-use Rattle.mrp_engine.specs.Script.{Script, is_run, record_of, script_of, with_run}
-use Rattle.mrp_engine.specs.Day.{IsAccepted, runs_of}
-use Rattle.mrp_engine.specs.RightDay.{FollowsDesks, asked_by}
+use Rattle.mrp_engine.specs.day.Script.{Script, is_run, record_of, script_of, with_run}
+use Rattle.mrp_engine.specs.day.Day.{IsAccepted, runs_of}
+use Rattle.mrp_engine.specs.day.RightDay.{FollowsDesks, asked_by}
 use Rattle.mrp_audit.specs.declared.claim.Claim.{Claim}
 use Rattle.mrp_audit.specs.declared.fault.AuditFault.{AuditFault}
 use Rattle.mrp_audit.specs.declared.fault.AuditFault.TheVariants as fault
 use Rattle.mrp_audit.specs.Claims.{claim_of, claim_text, claimed, claimed_cells, claims_from, claims_text}
-use Rattle.mrp_engine.specs.declared.fault.DayFault.{DayFault}
-use Rattle.mrp_engine.specs.declared.fault.DayFault.TheVariants as day
-use Rattle.mrp_engine.specs.Opened.{Opens}
+use Rattle.mrp_engine.specs.declared.day.fault.DayFault.{DayFault}
+use Rattle.mrp_engine.specs.declared.day.fault.DayFault.TheVariants as day
+use Rattle.mrp_engine.specs.day.Opened.{Opens}
 use Rattle.mrp_audit.specs.Parts.{ComparesDesks, ComparesHistory, ComparesReports, FollowsClaims, IsInputFault, IsOfOpening, OpensShop}
 use Rattle.mrp_audit.specs.Reading.{ReadsHistory}
 use Rattle.mrp_audit.specs.Shape.{BeginsWith}

@@ -8,8 +8,8 @@ use Rattle.mrp_tables.specs.Tables.{Tables}
 use Rattle.mrp_master.specs.Supply.{supply_of}
 use Rattle.mrp_book.specs.Standing.{History}
 use Rattle.mrp_item.specs.Inputs.{Inputs}
-use Rattle.mrp_engine.specs.Day.{IsAccepted, runs_of}
-use Rattle.mrp_engine.specs.RightDay.{run_report}
+use Rattle.mrp_engine.specs.day.Day.{IsAccepted, runs_of}
+use Rattle.mrp_engine.specs.day.RightDay.{run_report}
 use Rattle.mrp_engine.proofs.OneOutcome.{accepted-not-refused, one-fault, same-tables}
 use Rattle.mrp_audit.specs.declared.claim.Claim.{Claim}
 use Rattle.mrp_audit.specs.declared.fault.AuditFault.{AuditFault}

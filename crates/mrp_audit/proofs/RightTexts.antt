@@ -26,12 +26,12 @@ use Rattle.mrp_item.specs.Inputs.{Inputs}
 use Rattle.mrp_item.specs.Plan.{ItemPlan, plan_of}
 use Rattle.mrp_report.specs.ReportText.{report_text}
 use Rattle.mrp_report.specs.page.Rows.{section_head}
-use Rattle.mrp_engine.specs.Script.{Script, call_of, is_run, record_of, script_of, with_run}
-use Rattle.mrp_engine.specs.Day.{IsAccepted, runs_of}
-use Rattle.mrp_engine.specs.RightDay.{AnswersDesks, FollowsDesks, IsRightDay, asked_by, right_text, run_report, text_of_plan}
+use Rattle.mrp_engine.specs.day.Script.{Script, call_of, is_run, record_of, script_of, with_run}
+use Rattle.mrp_engine.specs.day.Day.{IsAccepted, runs_of}
+use Rattle.mrp_engine.specs.day.RightDay.{AnswersDesks, FollowsDesks, IsRightDay, asked_by, right_text, run_report, text_of_plan}
 use Rattle.mrp_engine.proofs.OneOutcome.{accepted-not-refused, same-tables}
 use Rattle.mrp_engine.proofs.RightDays.{parts-hold}
-use Rattle.mrp_engine.proofs.ScriptCalls.{call-fits}
+use Rattle.mrp_engine.proofs.lemmas.day.ScriptCalls.{call-fits}
 use Rattle.mrp_audit.specs.declared.claim.Claim.{Claim}
 use Rattle.mrp_audit.specs.declared.fault.AuditFault.{AuditFault}
 use Rattle.mrp_audit.specs.declared.fault.AuditFault.TheVariants as fault
@@ -40,8 +40,8 @@ use Rattle.mrp_audit.specs.Kept.{KeepsLimits}
 use Rattle.mrp_audit.specs.Shape.{BeginsWith, EndsHistory}
 use Rattle.mrp_audit.specs.Parts.{OpensShop}
 use Rattle.mrp_audit.specs.Verdict.{HasMore, IsFirstFalse, IsFirstMissing, IsWrong, JudgesText, Passes, reports_text}
-use Rattle.mrp_engine.proofs.DeskCounts.{few-by-number}
-use Rattle.mrp_engine.proofs.DeskHistories.{run-adds}
+use Rattle.mrp_engine.proofs.lemmas.live.DeskCounts.{few-by-number}
+use Rattle.mrp_engine.proofs.lemmas.live.DeskHistories.{run-adds}
 use Rattle.mrp_audit.proofs.Judged.{history-claims}
 use Rattle.mrp_audit.proofs.OneHistory.{begins-once}
 

@@ -10,13 +10,13 @@ use Rattle.mrp_book.specs.declared.reply.Reply.TheVariants as reply
 use Rattle.mrp_book.specs.Snapshot.{Snapshot}
 use Rattle.mrp_book.specs.Standing.{History}
 use Rattle.mrp_item.specs.Inputs.{Inputs, inputs_of}
-use Rattle.mrp_engine.specs.Day.{planned_from, runs_of}
+use Rattle.mrp_engine.specs.day.Day.{planned_from, runs_of}
 use Rattle.mrp_qty.specs.declared.memory.NoMemory.{NoMemory}
 use Rattle.mrp_explode.specs.Explosion.{Explodes}
 use Rattle.mrp_explode.specs.declared.fault.RunFault.{RunFault}
 use Rattle.mrp_explode.specs.declared.fault.RunFault.TheVariants as fail
-use Rattle.mrp_engine.specs.RightDay.{run_report, text_of_plan}
-use Rattle.mrp_engine.proofs.RunsPlanned.{runs-cut, runs-more}
+use Rattle.mrp_engine.specs.day.RightDay.{run_report, text_of_plan}
+use Rattle.mrp_engine.proofs.lemmas.day.RunsPlanned.{runs-cut, runs-more}
 use Rattle.mrp_audit.specs.Parts.{ComparesFront, IsUnplannedFront}
 use Rattle.mrp_audit.specs.Verdict.{HasMore, IsFirstMissing, reports_text}
 

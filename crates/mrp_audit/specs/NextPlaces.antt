@@ -2,8 +2,8 @@
 use Rattle.std.specs.Prelude.{ℕ, ◌≡◌, ◌≤◌, ◌+◌, List, Some, length, slice_get, slice_index, take}
 use Rattle.mrp_tables.specs.declared.limits.TheConstants.{MOST_DESKS}
 use Rattle.mrp_book.specs.declared.call.Call.{Call}
-use Rattle.mrp_engine.specs.RightDay.{asked_by}
-use Rattle.mrp_engine.specs.Script.{Script}
+use Rattle.mrp_engine.specs.day.RightDay.{asked_by}
+use Rattle.mrp_engine.specs.day.Script.{Script}
 use Rattle.mrp_audit.specs.Parts.{IsNextPlace}
 
 -- of the records from a place on: the first of each desk, by its number, and behind each the next of its desk

@@ -14,14 +14,14 @@ use Rattle.mrp_book.specs.Books.{OrderBook}
 use Rattle.mrp_book.specs.Standing.{History}
 use Rattle.mrp_book.specs.History.{IsLegal, IsReply, next_number}
 use Rattle.mrp_item.specs.Inputs.{Inputs}
-use Rattle.mrp_engine.specs.Script.{Script}
-use Rattle.mrp_engine.specs.Day.{IsAccepted, IsRefused, runs_of}
-use Rattle.mrp_engine.specs.RightDay.{FollowsDesks, asked_by}
+use Rattle.mrp_engine.specs.day.Script.{Script}
+use Rattle.mrp_engine.specs.day.Day.{IsAccepted, IsRefused, runs_of}
+use Rattle.mrp_engine.specs.day.RightDay.{FollowsDesks, asked_by}
 use Rattle.mrp_report.specs.declared.fault.ReportFault.{ReportFault}
 use Rattle.mrp_explode.specs.declared.fault.RunFault.{RunFault}
 use Rattle.mrp_explode.specs.declared.fault.RunFault.TheVariants as run
-use Rattle.mrp_engine.specs.declared.fault.DayFault.{DayFault}
-use Rattle.mrp_engine.specs.declared.fault.DayFault.TheVariants as day
+use Rattle.mrp_engine.specs.declared.day.fault.DayFault.{DayFault}
+use Rattle.mrp_engine.specs.declared.day.fault.DayFault.TheVariants as day
 use Rattle.mrp_audit.specs.declared.claim.Claim.{Claim}
 use Rattle.mrp_audit.specs.declared.claim.ClaimedReply.{ClaimedReply}
 use Rattle.mrp_audit.specs.declared.fault.AuditFault.{AuditFault}

@@ -10,7 +10,7 @@ use Rattle.mrp_book.specs.Books.{OrderBook}
 use Rattle.mrp_book.specs.Standing.{History}
 use Rattle.mrp_book.specs.History.{Fits, IsLegal}
 use Rattle.mrp_report.specs.section.HistoryText.{history_text}
-use Rattle.mrp_engine.specs.RightDay.{FollowsDesks}
+use Rattle.mrp_engine.specs.day.RightDay.{FollowsDesks}
 use Rattle.mrp_audit.specs.Shape.{EndsHistory}
 
 -- a record that a book of this supply takes

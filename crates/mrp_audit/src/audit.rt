@@ -1,9 +1,9 @@
 //! A day beside its bundle.
 
 ghost use Rattle.std.specs.Prelude.{◌≡◌, Result, ⊤};
-ghost use Rattle.mrp_engine.specs.RightDay.{IsRightDay};
+ghost use Rattle.mrp_engine.specs.day.RightDay.{IsRightDay};
 ghost use Rattle.mrp_master.specs.Supply.{supply_of};
-ghost use Rattle.mrp_engine.specs.Day.{runs_of};
+ghost use Rattle.mrp_engine.specs.day.Day.{runs_of};
 ghost use Rattle.mrp_audit.specs.Parts.{ComparesHistory, ComparesReports, IsInputFault, IsOfOpening, OpensShop};
 ghost use Rattle.mrp_audit.specs.Kept.{KeepsLimits};
 ghost use Rattle.mrp_audit.specs.Verdict.{IsVerdict, Judges, JudgesText, Passes};

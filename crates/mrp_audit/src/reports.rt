@@ -5,8 +5,8 @@ ghost use Rattle.mrp_master.specs.Supply.{supply_of};
 ghost use Rattle.mrp_book.specs.Booked.{AreBooked};
 ghost use Rattle.mrp_item.specs.Inputs.{inputs_of};
 ghost use Rattle.mrp_report.specs.ReportText.{report_text};
-ghost use Rattle.mrp_engine.specs.Day.{runs_of};
-ghost use Rattle.mrp_engine.specs.RightDay.{run_report};
+ghost use Rattle.mrp_engine.specs.day.Day.{runs_of};
+ghost use Rattle.mrp_engine.specs.day.RightDay.{run_report};
 ghost use Rattle.mrp_audit.specs.Parts.{ComparesFront, ComparesReports, IsUnplannedFront};
 
 use crate::comparing::{Comparing, front_by};

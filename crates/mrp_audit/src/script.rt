@@ -1,7 +1,7 @@
 //! What the desks of a shop are to call.
 
 ghost use Rattle.std.specs.Prelude.{◌≡◌, IfOk};
-ghost use Rattle.mrp_engine.specs.Script.{script_of, with_run};
+ghost use Rattle.mrp_engine.specs.day.Script.{script_of, with_run};
 
 use mrp_book::Call;
 use mrp_engine::{ADDED_DESK, call_of, has_run};

@@ -13,7 +13,7 @@ use Rattle.mrp_book.specs.Standing.{History}
 use Rattle.mrp_book.proofs.Histories.{history-unique}
 use Rattle.mrp_item.specs.Inputs.{Inputs, item_at}
 use Rattle.mrp_item.specs.Plan.{ItemPlan, plan_of}
-use Rattle.mrp_engine.specs.Day.{AnswersScript, IsAccepted, IsDay, IsFirstRefusal, IsPlannable, IsRefused, IsRefusedBy, IsTooLarge, day_text, loop_fault, runs_of}
+use Rattle.mrp_engine.specs.day.Day.{AnswersScript, IsAccepted, IsDay, IsFirstRefusal, IsPlannable, IsRefused, IsRefusedBy, IsTooLarge, day_text, loop_fault, runs_of}
 
 pub same-tables : (bundle : List ℕ) (a b : Tables) → tables_of bundle ≡ Ok a → tables_of bundle ≡ Ok b → a ≡ b
 same-tables bundle a b e f = cc

@@ -19,11 +19,11 @@ use Rattle.mrp_book.specs.Standing.{History}
 use Rattle.mrp_book.specs.History.{Fits, IsLegal, asked}
 use Rattle.mrp_item.specs.Inputs.{Inputs, item_at}
 use Rattle.mrp_item.specs.Plan.{ItemPlan, plan_of}
-use Rattle.mrp_engine.specs.Day.{AnswersScript, IsAccepted, IsPlannable, day_text, loop_fault, runs_of}
+use Rattle.mrp_engine.specs.day.Day.{AnswersScript, IsAccepted, IsPlannable, day_text, loop_fault, runs_of}
 use Rattle.mrp_engine.specs.Laws.{ArePlannedOrRefused, HasDay, HasReading, HasLoopOrNone}
-use Rattle.mrp_engine.specs.Script.{Script, is_run, record_of, script_of, with_run}
-use Rattle.mrp_engine.proofs.ScriptCalls.{call-fits}
-use Rattle.mrp_engine.proofs.ShopFaults.{sections-refused, tables-are}
+use Rattle.mrp_engine.specs.day.Script.{Script, is_run, record_of, script_of, with_run}
+use Rattle.mrp_engine.proofs.lemmas.day.ScriptCalls.{call-fits}
+use Rattle.mrp_engine.proofs.lemmas.day.ShopFaults.{sections-refused, tables-are}
 
 -- what the laws say on which this one stands: tables keep their limits
 abbrev pub KeepLimits : Type 0

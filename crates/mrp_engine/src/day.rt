@@ -1,18 +1,33 @@
-//! A day before it is written.
+//! A day: its shop is opened, its script answered, its runs planned, its texts written; here a day before it is written.
 
 ghost use Rattle.std.specs.Prelude.{◌≡◌, IfOk};
 ghost use Rattle.mrp_master.specs.Supply.{supply_of};
-ghost use Rattle.mrp_engine.specs.Planned.{PlansHistory};
+ghost use Rattle.mrp_engine.specs.day.Planned.{PlansHistory};
 
-use crate::fault::DayFault;
-use crate::runs::plan_runs;
+mod fault;
+mod opening;
+mod planning;
+mod reading;
+mod run;
+mod runs;
+mod script;
+mod writing;
+
+pub use fault::DayFault;
 use mrp_bill::Shop;
 use mrp_book::History;
 use mrp_item::{Plan, ShopRows};
 use mrp_qty::NoMemory;
+pub use opening::open_shop;
+pub(crate) use planning::name_of;
+pub(crate) use reading::read_shop;
+pub use run::{MOST_WORKERS, run_day};
+use runs::plan_runs;
+pub use script::{ADDED_DESK, answer, call_of, has_run};
 use std::alloc::Global;
 use std::sync::Arc;
 use std::thread::Threads;
+pub(crate) use writing::write_day;
 
 /// A shop, a history of its order book, and the plan of each run of it, in order.
 #[derive(Drop)]

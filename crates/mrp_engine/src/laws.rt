@@ -5,11 +5,11 @@ ghost use Rattle.mrp_rows.specs.declared.fault.Fault.{Fault};
 ghost use Rattle.mrp_tables.specs.Tables.{AreTables, Tables};
 ghost use Rattle.mrp_book.specs.Standing.{History};
 ghost use Rattle.mrp_item.specs.Inputs.{Inputs};
-ghost use Rattle.mrp_engine.specs.Day.{AnswersScript, IsDay, IsDayBy, IsRefused, IsTooLarge};
-ghost use Rattle.mrp_engine.specs.RightDay.{AnswersDesks, IsRightDay};
+ghost use Rattle.mrp_engine.specs.day.Day.{AnswersScript, IsDay, IsDayBy, IsRefused, IsTooLarge};
+ghost use Rattle.mrp_engine.specs.day.RightDay.{AnswersDesks, IsRightDay};
 ghost use Rattle.mrp_bill.specs.Shop.{Shop};
-ghost use Rattle.mrp_engine.specs.Core.{IsRight, Step};
-ghost use Rattle.mrp_engine.specs.Headline.{Headline, IsAcceptedShop};
+ghost use Rattle.mrp_engine.specs.event_core.Core.{IsRight, Step};
+ghost use Rattle.mrp_engine.specs.event_core.Headline.{Headline, IsAcceptedShop};
 ghost use Rattle.mrp_engine.specs.Laws.{ArePlannedOrRefused, BooksWithin, CallsByWords, CallsFromScript, HasDay, HasLoopOrNone, HasReading, PlansWhatStood, StaysCovered};
 
 use mrp_bill::laws::loops;

@@ -8,17 +8,18 @@ ghost use Rattle.mrp_rows.specs.Told.{inner_of, moved_of};
 ghost use Rattle.mrp_rows.specs.declared.fault.Fault.{Fault};
 ghost use Rattle.mrp_rows.specs.declared.faults.TheConstants as faults;
 ghost use Rattle.mrp_report.specs.Written.{HasGivenUp};
-ghost use Rattle.mrp_engine.specs.Day.{IsRefused, IsTooLargeBy};
-ghost use Rattle.mrp_engine.specs.Planned.{PlansDay};
-ghost use Rattle.mrp_engine.specs.RightDay.{AnswersDesks};
-ghost use Rattle.mrp_engine.specs.Run.{HasNotFailed, HasPassedLimits, HasTakenAll, IsAfterReading, IsBeforeWriting, IsRead, IsReadWithin, TellsDayBy, WritesFrontBy};
+ghost use Rattle.mrp_engine.specs.day.Day.{IsRefused, IsTooLargeBy};
+ghost use Rattle.mrp_engine.specs.day.Planned.{PlansDay};
+ghost use Rattle.mrp_engine.specs.day.RightDay.{AnswersDesks};
+ghost use Rattle.mrp_engine.specs.day.Run.{HasNotFailed, HasPassedLimits, HasTakenAll, IsAfterReading, IsBeforeWriting, IsRead, IsReadWithin, TellsDayBy, WritesFrontBy};
 
-use crate::day::{Day, plan_history, rows_of};
-use crate::desks::answer_by_desks;
-use crate::fault::DayFault;
-use crate::reading::read_shop;
-use crate::run::MOST_WORKERS;
-use crate::writing::write_day;
+mod desk_calls;
+mod desks;
+mod serving;
+mod threads;
+
+use crate::day::{Day, DayFault, MOST_WORKERS, plan_history, read_shop, rows_of, write_day};
+pub use desks::answer_by_desks;
 use mrp_bill::Shop;
 use mrp_explode::OpenGate;
 use mrp_rows::{Told, WRITE_TRIES};

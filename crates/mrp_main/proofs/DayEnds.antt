@@ -7,10 +7,10 @@ use Rattle.mrp_rows.specs.declared.told.Told.{Told}
 use Rattle.mrp_rows.specs.Streams.{TakesFront}
 use Rattle.mrp_rows.specs.Told.{failures_of, inner_of, moved_of}
 use Rattle.mrp_report.specs.Written.{HasGivenUp}
-use Rattle.mrp_engine.specs.declared.fault.DayFault.{DayFault}
-use Rattle.mrp_engine.specs.declared.fault.DayFault.TheVariants as fault
-use Rattle.mrp_engine.specs.Day.{IsRefused, IsTooLargeBy}
-use Rattle.mrp_engine.specs.Run.{HasNotFailed, HasPassedLimits, HasTakenAll, IsAfterReading, IsBeforeWriting, IsRead, IsReadWithin, TellsDayBy, WritesFrontBy}
+use Rattle.mrp_engine.specs.declared.day.fault.DayFault.{DayFault}
+use Rattle.mrp_engine.specs.declared.day.fault.DayFault.TheVariants as fault
+use Rattle.mrp_engine.specs.day.Day.{IsRefused, IsTooLargeBy}
+use Rattle.mrp_engine.specs.day.Run.{HasNotFailed, HasPassedLimits, HasTakenAll, IsAfterReading, IsBeforeWriting, IsRead, IsReadWithin, TellsDayBy, WritesFrontBy}
 use Rattle.mrp_main.specs.declared.day.DayCommand.{DayCommand}
 use Rattle.mrp_main.specs.declared.ending.Ending.{Ending}
 use Rattle.mrp_main.specs.declared.ending.Ending.TheVariants.{Done, Refused, TooLarge, WrongShape, Wrong, NoRun, Usage, NoMemory, Read, Write}

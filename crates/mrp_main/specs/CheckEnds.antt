@@ -8,7 +8,7 @@ use Rattle.mrp_rows.specs.declared.streams.TheConstants.{READ_CALLS, WRITE_TRIES
 use Rattle.mrp_rows.specs.Streams.{TakesFront}
 use Rattle.mrp_rows.specs.Told.{HasRisenBy, calls_of, failures_of, inner_of, moved_of}
 use Rattle.mrp_report.specs.Written.{HasGivenUp, HasTakenFront}
-use Rattle.mrp_engine.specs.Run.{HasTakenAll, IsReadWithin}
+use Rattle.mrp_engine.specs.day.Run.{HasTakenAll, IsReadWithin}
 use Rattle.mrp_audit.specs.declared.fault.AuditFault.{AuditFault}
 use Rattle.mrp_audit.specs.declared.fault.AuditFault.TheVariants as found
 use Rattle.mrp_audit.specs.Verdict.{Judges}

@@ -11,11 +11,11 @@ use Rattle.mrp_rows.specs.declared.streams.TheConstants.{WRITE_TRIES}
 use Rattle.mrp_rows.specs.Streams.{TakesFront}
 use Rattle.mrp_rows.specs.Told.{inner_of, moved_of}
 use Rattle.mrp_report.specs.Written.{HasGivenUp, HasTakenFront, HasTakenWhole}
-use Rattle.mrp_engine.specs.Day.{Answering, AnswersScript, IsRefused, IsTooLargeBy}
-use Rattle.mrp_engine.specs.RightDay.{AnswersDesks}
-use Rattle.mrp_engine.specs.Run.{HasNotFailed, HasPassedLimits, HasTakenAll, IsRead, IsReadWithin, TellsDayBy, WritesFrontBy}
-use Rattle.mrp_engine.specs.declared.fault.DayFault.{DayFault}
-use Rattle.mrp_engine.specs.declared.fault.DayFault.TheVariants as fault
+use Rattle.mrp_engine.specs.day.Day.{Answering, AnswersScript, IsRefused, IsTooLargeBy}
+use Rattle.mrp_engine.specs.day.RightDay.{AnswersDesks}
+use Rattle.mrp_engine.specs.day.Run.{HasNotFailed, HasPassedLimits, HasTakenAll, IsRead, IsReadWithin, TellsDayBy, WritesFrontBy}
+use Rattle.mrp_engine.specs.declared.day.fault.DayFault.{DayFault}
+use Rattle.mrp_engine.specs.declared.day.fault.DayFault.TheVariants as fault
 use Rattle.mrp_main.specs.declared.command.Request.{Request}
 use Rattle.mrp_main.specs.declared.command.Request.TheVariants.{Check, Day, Page}
 use Rattle.mrp_main.specs.declared.day.DayCommand.{DayCommand}

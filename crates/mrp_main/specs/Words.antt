@@ -13,7 +13,7 @@ use Rattle.clap.specs.declared.builder.command.Command.TheViews.{out-Command}
 use Rattle.clap.specs.declared.builder.value_parser.ValueParser.TheVariants.{Unsigned}
 use Rattle.clap.specs.declared.error.kind.ErrorKind.{ErrorKind}
 use Rattle.clap.specs.declared.error.kind.ErrorKind.TheVariants.{DisplayHelp, DisplayVersion, OutOfMemory}
-use Rattle.mrp_engine.specs.declared.run.TheConstants.{MOST_WORKERS}
+use Rattle.mrp_engine.specs.declared.day.run.TheConstants.{MOST_WORKERS}
 use Rattle.mrp_main.specs.declared.command.Request.{Request}
 use Rattle.mrp_main.specs.declared.command.Request.TheVariants.{Check, Day, Page}
 use Rattle.mrp_main.specs.declared.day.DayCommand.{DayCommand}

@@ -2,7 +2,7 @@
 
 ghost use Rattle.std.specs.Prelude.{◌≡◌, ◌++◌, ◌∷◌, [], OnOk, OnErr, MatchResult};
 ghost use Rattle.mrp_report.specs.Written.{HasGivenUp, HasTakenFront};
-ghost use Rattle.mrp_engine.specs.Run.{HasTakenAll};
+ghost use Rattle.mrp_engine.specs.day.Run.{HasTakenAll};
 
 use crate::status::Status;
 use mrp_engine::DayFault;
@@ -64,7 +64,7 @@ pub(crate) fn write_line<E: Write>(
 impl Ending {
     ghost use Rattle.std.specs.Prelude.{◌≡◌, MatchResult, OnOk, OnErr};
     ghost use Rattle.mrp_report.specs.Written.{HasGivenUp, HasTakenFront};
-    ghost use Rattle.mrp_engine.specs.Run.{HasTakenAll};
+    ghost use Rattle.mrp_engine.specs.day.Run.{HasTakenAll};
     ghost use Rattle.mrp_main.specs.Ends.{IsEndOf, words_of};
     ghost use Rattle.mrp_main.specs.PageEnds.{end_of};
     ghost use Rattle.mrp_main.specs.Refusal.{end_of_read};

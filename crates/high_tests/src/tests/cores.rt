@@ -1,7 +1,7 @@
 //! The core: desks and workers, one after the other.
 
 ghost use Rattle.std.specs.Prelude.{◌≡◌};
-ghost use Rattle.mrp_engine.specs.Core.{FitsShop};
+ghost use Rattle.mrp_engine.specs.event_core.Core.{FitsShop};
 
 use super::texts::BICYCLE_REPORT;
 use super::{made, same};

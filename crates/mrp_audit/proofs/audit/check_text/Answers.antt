@@ -1,6 +1,6 @@
 use Rattle.std.proofs.Common.{List, ℕ, Ok, Option, subst}
 use Rattle.mrp_book.specs.Books.{OrderBook}
-use Rattle.mrp_engine.specs.Day.{runs_of}
+use Rattle.mrp_engine.specs.day.Day.{runs_of}
 use Rattle.mrp_audit.specs.Parts.{ComparesReports}
 use Rattle.mrp_audit.specs.Replays.{FindsHistory}
 use Rattle.mrp_audit.proofs.Replays.{followed-judged}

@@ -1,6 +1,6 @@
 use Rattle.std.proofs.Common.{◌≡◌, ◌≤◌, length, take}
 use Rattle.mrp_book.specs.History.{asked}
-use Rattle.mrp_engine.specs.RightDay.{asked_by}
+use Rattle.mrp_engine.specs.day.RightDay.{asked_by}
 use Rattle.mrp_audit.proofs.desks.is_right.Given as goal
 
 abbrev pub invariant-loop-entry : goal.invariant-loop-entry

@@ -1,5 +1,5 @@
 use Rattle.std.proofs.Common.{◌≡◌, ◌≤◌, ◌-◌, length, take}
-use Rattle.mrp_engine.specs.RightDay.{asked_by}
+use Rattle.mrp_engine.specs.day.RightDay.{asked_by}
 use Rattle.mrp_audit.proofs.desks.next_place.Given as goal
 
 abbrev pub invariant-loop-place : goal.invariant-loop-place

@@ -2,8 +2,8 @@ use Rattle.std.proofs.Common.{◌∙◌, [], ◌∷◌, ◌++◌, List, ap, sym,
 use Rattle.mrp_tables.specs.declared.rows.ScriptRow.{ScriptRow}
 use Rattle.std.specs.Prelude.{map}
 use Rattle.mrp_book.specs.declared.call.Call.TheVariants as call
-use Rattle.mrp_engine.specs.Script.{Script, record_of, with_run}
-use Rattle.mrp_engine.proofs.ScriptCalls.{has-no-run, has-run}
+use Rattle.mrp_engine.specs.day.Script.{Script, record_of, with_run}
+use Rattle.mrp_engine.proofs.lemmas.day.ScriptCalls.{has-no-run, has-run}
 use Rattle.mrp_audit.proofs.DeskRecords.{all-taken}
 use Rattle.mrp_audit.proofs.script.script_calls.Goals as goal
 use Rattle.mrp_audit.proofs.script.script_calls.Goals.{then-not-has_run+in_ok-push-2, else-not-has_run}

@@ -1,10 +1,10 @@
 use Rattle.std.proofs.Common.{◌≡◌, Result, Ok, Err, refl, rules, subst, sym}
 use Rattle.mrp_bill.specs.Shop.{Shop}
-use Rattle.mrp_engine.specs.Day.{runs_of}
-use Rattle.mrp_engine.specs.Planned.{PlansHistory, PlansRuns}
+use Rattle.mrp_engine.specs.day.Day.{runs_of}
+use Rattle.mrp_engine.specs.day.Planned.{PlansHistory, PlansRuns}
 use Rattle.mrp_engine.specs.declared.day.Day.{Day}
-use Rattle.mrp_engine.specs.declared.fault.DayFault.{DayFault}
-use Rattle.mrp_engine.proofs.DayRuns.{refused-day}
+use Rattle.mrp_engine.specs.declared.day.fault.DayFault.{DayFault}
+use Rattle.mrp_engine.proofs.lemmas.day.DayRuns.{refused-day}
 use Rattle.mrp_engine.proofs.day.plan_history.Goals as goal
 
 pub returns-in_err-plans : goal.returns-in_err-plans

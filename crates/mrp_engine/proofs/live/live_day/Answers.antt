@@ -1,10 +1,10 @@
 use Rattle.std.proofs.Common.{◌≡◌, ◌∙◌, Err, inr, rules, subst, sym}
 use Rattle.mrp_rows.specs.Told.{inner_of}
-use Rattle.mrp_engine.specs.Planned.{PlansDay, text_of}
-use Rattle.mrp_engine.specs.RightDay.{AnswersDesks}
-use Rattle.mrp_engine.specs.declared.fault.DayFault.{DayFault}
-use Rattle.mrp_engine.specs.declared.fault.DayFault.TheVariants.{TooLarge}
-use Rattle.mrp_engine.proofs.DayRuns.{tells-name, tells-planned}
+use Rattle.mrp_engine.specs.day.Planned.{PlansDay, text_of}
+use Rattle.mrp_engine.specs.day.RightDay.{AnswersDesks}
+use Rattle.mrp_engine.specs.declared.day.fault.DayFault.{DayFault}
+use Rattle.mrp_engine.specs.declared.day.fault.DayFault.TheVariants.{TooLarge}
+use Rattle.mrp_engine.proofs.lemmas.day.DayRuns.{tells-name, tells-planned}
 use Rattle.mrp_engine.proofs.live.live_day.Goals as goal
 
 pub returns-in_err-day-clause-too_large : goal.returns-in_err-day-clause-too_large

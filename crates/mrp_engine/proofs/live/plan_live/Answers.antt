@@ -1,8 +1,8 @@
 use Rattle.std.proofs.Common.{subst}
 use Rattle.mrp_bill.specs.Shop.{Shop}
-use Rattle.mrp_engine.specs.Planned.{PlansHistory}
-use Rattle.mrp_engine.specs.RightDay.{AnswersDesks}
-use Rattle.mrp_engine.proofs.DayRuns.{answered-day}
+use Rattle.mrp_engine.specs.day.Planned.{PlansHistory}
+use Rattle.mrp_engine.specs.day.RightDay.{AnswersDesks}
+use Rattle.mrp_engine.proofs.lemmas.day.DayRuns.{answered-day}
 use Rattle.mrp_engine.proofs.live.plan_live.Goals as goal
 
 pub returns : goal.returns

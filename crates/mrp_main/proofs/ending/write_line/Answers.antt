@@ -2,8 +2,8 @@ use Rattle.std.proofs.Common.{ℕ, List, ◌++◌, ◌∷◌, []}
 use Rattle.std.proofs.lemmas.Result.{on_err_weaker, on_ok_weaker}
 use Rattle.mrp_report.specs.Written.{HasTakenFront}
 use Rattle.mrp_report.proofs.Progress.{on-err}
-use Rattle.mrp_engine.specs.Run.{HasTakenAll}
-use Rattle.mrp_engine.proofs.DayWritten.{all-both, front-of-more, front-then}
+use Rattle.mrp_engine.specs.day.Run.{HasTakenAll}
+use Rattle.mrp_engine.proofs.lemmas.day.DayWritten.{all-both, front-of-more, front-then}
 use Rattle.mrp_main.proofs.ending.write_line.Goals as goal
 
 pub returns-in_err-write_whole-clause-front : goal.returns-in_err-write_whole-clause-front

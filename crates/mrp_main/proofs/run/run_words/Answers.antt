@@ -2,7 +2,7 @@ use Rattle.std.proofs.Common.{◌∙◌, ap}
 use Rattle.std.proofs.Crossing.{crosses}
 use denote.Param.Send.{sendable}
 use Rattle.mrp_report.specs.Written.{HasGivenUp, HasTakenFront}
-use Rattle.mrp_engine.specs.Run.{HasTakenAll}
+use Rattle.mrp_engine.specs.day.Run.{HasTakenAll}
 use Rattle.mrp_main.specs.Ends.{words_of}
 use Rattle.mrp_main.specs.Status.{code_of}
 use Rattle.mrp_main.specs.Words.{HasWorkers}

@@ -1,5 +1,5 @@
 use Rattle.std.proofs.Common.{◌∙◌, take, sym, ap, arith}
-use Rattle.mrp_engine.proofs.CoreSteps.{is-none}
+use Rattle.mrp_engine.proofs.lemmas.event_core.CoreSteps.{is-none}
 use Rattle.mrp_audit.proofs.Comparisons.{wrote-other, wrote-same}
 use Rattle.mrp_audit.proofs.comparing.ComparingWrite.write.Goals as goal
 

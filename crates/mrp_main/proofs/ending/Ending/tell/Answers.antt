@@ -1,7 +1,7 @@
 use Rattle.std.proofs.Common.{◌∙◌, ◌++◌, [], ◌∷◌, ℕ, List, ap, codes, subst, sym}
 use Rattle.std.specs.Prelude.{OnErr, OnOk}
 use Rattle.mrp_report.specs.Written.{HasTakenFront}
-use Rattle.mrp_engine.specs.Run.{HasTakenAll}
+use Rattle.mrp_engine.specs.day.Run.{HasTakenAll}
 use Rattle.mrp_main.specs.Ends.{words_of}
 use Rattle.mrp_main.proofs.ending.Ending.tell.Goals as goal
 

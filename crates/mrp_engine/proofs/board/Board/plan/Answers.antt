@@ -1,9 +1,0 @@
-use Rattle.std.proofs.Common.{◌∙◌, ap}
-use Rattle.mrp_engine.specs.Board.{RunLog, is_finished}
-use Rattle.mrp_engine.proofs.BoardLogs.{finished-all}
-use Rattle.mrp_engine.proofs.board.Board.plan.Goals as goal
-
-pub whole-requires : goal.whole-requires
-whole-requires c =
-    let b = c.self.inside in
-    finished-all b.finished b.out.items b.stopped b.log.items c.self.invariant (ap (λ (r : RunLog). is_finished r.inputs r.log) c.self.view_is ∙ c.requires)

@@ -1,0 +1,51 @@
+use Rattle.std.proofs.Common.{◌≡◌, ◌∙◌, [], ◌∷◌, ◌++◌, ap, sym, subst, arith}
+use Rattle.std.specs.Prelude.{All}
+use Rattle.mrp_tables.specs.Tables.{Tables}
+use Rattle.mrp_book.specs.History.{Fits, asked}
+use Rattle.mrp_book.specs.Books.{OrderBook}
+use Rattle.mrp_book.specs.declared.call.Call.TheVariants as call
+use Rattle.mrp_tables.specs.Facts.{IsScriptRow}
+use Rattle.mrp_engine.specs.day.Script.{Script}
+use Rattle.mrp_engine.proofs.lemmas.day.ScriptCalls.{all-answered, answers, entries-few, has-no-run, has-run, row-fits}
+use Rattle.mrp_engine.proofs.day.script.answer_script.Goals as goal
+use Rattle.mrp_engine.proofs.day.script.answer_script.Goals.{then-not-has_run+in_ok-answer-2, else-not-has_run}
+
+pub answer-requires-clause-fits : goal.answer-requires-clause-fits
+answer-requires-clause-fits c =
+    let t = c.args.shop.now.tables in
+    let rows : All (IsScriptRow t.calendar.weeks t.items) c.script-script.result.now =
+    subst (λ (x : Tables). All (IsScriptRow x.calendar.weeks x.items) c.script-script.result.now) c.tables.ensures.value c.script-script.ensures.within in
+    subst (Fits c.loop-row.book.supply) (sym c.call_of.ensures)
+    (row-fits t c.loop-row.book.supply c.script-script.result.now c.loop-row.row-index c.row-item.result c.loop-row.invariant.0 rows c.loop-row-test.true c.row-item.is).2
+
+pub answer-requires-clause-desk : goal.answer-requires-clause-desk
+answer-requires-clause-desk c =
+    let t = c.args.shop.now.tables in
+    let rows : All (IsScriptRow t.calendar.weeks t.items) c.script-script.result.now =
+    subst (λ (x : Tables). All (IsScriptRow x.calendar.weeks x.items) c.script-script.result.now) c.tables.ensures.value c.script-script.ensures.within in
+    let row = row-fits t c.loop-row.book.supply c.script-script.result.now c.loop-row.row-index c.row-item.result c.loop-row.invariant.0 rows c.loop-row-test.true c.row-item.is in
+    (row.0, row.1)
+
+pub answer-requires-clause-room : goal.answer-requires-clause-room
+answer-requires-clause-room c =
+    entries-few c.loop-row.book.entries c.script-script.result.now c.loop-row.row-index c.loop-row.invariant.1 (omega (arith, c.loop-row-test.true)) c.script-script.ensures.count
+
+pub returns-clause-answers : goal.returns-clause-answers
+returns-clause-answers c =
+    let t = c.args.shop.now.tables in
+    let script : c.script-script.result.now ≡ t.script = c.script-script.ensures.rows ∙ ap (λ (x : Tables). x.script) c.tables.ensures.value in
+    let h = c.into_history-history.result in
+    let all = all-answered c.loop-row.book.entries c.script-script.result.now c.loop-row.row-index c.loop-row.invariant.1 (omega (arith, c.loop-row-test.false)) in
+    elim c.if-not-has_run.branch [
+      | then-not-has_run+in_ok-answer-2 w ↦
+          let book : h ≡ w.answer-then-not-has_run.new.book = c.into_history-history.ensures ∙ w.book-is in
+          let none = has-no-run c.script-script.result.now (sym c.has_run.ensures ∙ w.if-not-has_run.true) in
+          answers t h.supply h.entries c.entries-legal.result.now c.script-script.result.now (ap (λ (b : OrderBook). b.supply) book ∙ w.in_ok-answer-2.ensures.supply ∙ c.loop-row.invariant.0)
+          c.entries-legal.ensures.legal c.entries-legal.ensures.entries script
+          (ap (λ (b : OrderBook). asked b.entries) book ∙ w.in_ok-answer-2.ensures.asked ∙ ap (λ (r : Script). r ++ (1, call.Snapshot) ∷ []) all ∙ none)
+      | else-not-has_run w ↦
+          let book : h ≡ c.loop-row.book = c.into_history-history.ensures ∙ w.book-is in
+          let some = has-run c.script-script.result.now (sym c.has_run.ensures ∙ w.if-not-has_run.false) in
+          answers t h.supply h.entries c.entries-legal.result.now c.script-script.result.now (ap (λ (b : OrderBook). b.supply) book ∙ c.loop-row.invariant.0) c.entries-legal.ensures.legal
+          c.entries-legal.ensures.entries script (ap (λ (b : OrderBook). asked b.entries) book ∙ all ∙ some)
+    ]

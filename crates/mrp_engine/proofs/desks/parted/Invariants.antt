@@ -1,5 +1,0 @@
-use Rattle.mrp_engine.proofs.Parting.{AreParted}
-use Rattle.mrp_engine.proofs.desks.parted.Given as goal
-
-abbrev pub invariant-loop-served : goal.invariant-loop-served
-invariant-loop-served l = AreParted l.fn.all.items l.served-iterator.rest.items l.desks.items l.end

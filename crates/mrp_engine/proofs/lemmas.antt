@@ -1,0 +1,3 @@
+pub mod day
+pub mod event_core
+pub mod live

@@ -1,0 +1,66 @@
+-- The texts of a day are written one after the other.
+use Rattle.std.proofs.Common.{◌≡◌, ◌∙◌, ℕ, ◌+◌, ◌<◌, List, [], ◌∷◌, ◌++◌, length, take, drop, get_or, Option, sym, ap, subst, inl, inr, arith}
+use Rattle.std.proofs.lemmas.List.{append-nil, drop_more, map-append, take-append-drop, take_more}
+use Rattle.std.proofs.lemmas.List.Concat.{flat_map-append}
+use Rattle.std.specs.List.{flat_map}
+use Rattle.mrp_rows.specs.declared.told.Told.{Told}
+use Rattle.mrp_rows.specs.Told.{inner_of, failures_of, interrupted_of, HasRisenBy}
+use Rattle.mrp_rows.specs.Streams.{RisesBy}
+use Rattle.mrp_rows.proofs.StreamFronts.{front-longer, front-after}
+use Rattle.mrp_item.specs.Places.{WholePlan}
+use Rattle.mrp_report.specs.ReportText.{report_text}
+use Rattle.mrp_report.specs.Written.{HasGivenUp, HasTakenFront, HasTakenWhole}
+use Rattle.mrp_report.proofs.Progress.{taken-both, taken-none}
+use Rattle.mrp_engine.specs.day.Planned.{inputs_of_plans}
+use Rattle.mrp_engine.specs.day.Run.{HasNotFailed, HasTakenAll}
+
+risen-after : (m n a b c : ℕ) → RisesBy m a b → HasRisenBy n b c → HasRisenBy n a c
+risen-after m n a b c p q = omega (arith, p.0, p.1, q)
+
+-- nothing is taken yet
+pub all-none : {W : Type 0} (contents : W → Option (List ℕ)) (w : Told W) → HasTakenAll contents w w []
+all-none contents w = (0, taken-none contents w)
+
+-- a text is taken, and then one more
+pub all-both : {W : Type 0} (contents : W → Option (List ℕ)) (a b c : Told W) (s t : List ℕ) → HasTakenAll contents a b s → HasTakenAll contents b c t → HasTakenAll contents a c (s ++ t)
+all-both contents a b c s t (m, p) (n, q) = (m + n, taken-both contents a b c s t m n p q)
+
+pub all-of-one : {W : Type 0} (contents : W → Option (List ℕ)) (a b : Told W) (s : List ℕ) → HasTakenWhole contents a b s → HasTakenAll contents a b s
+all-of-one contents a b s (m, few, taken) = (m, taken)
+
+-- a text is taken, and then a front of the next
+pub front-then : {W : Type 0} (contents : W → Option (List ℕ)) (a b c : Told W) (s t : List ℕ) → HasTakenAll contents a b s → HasTakenFront contents b c t → HasTakenFront contents a c (s ++ t)
+front-then contents a b c s t (m, taken) front =
+    front-after (contents (inner_of a)) (contents (inner_of b)) (contents (inner_of c)) s t taken.bytes front
+
+-- a front of a text is one of a longer text
+pub front-of-more : {W : Type 0} (contents : W → Option (List ℕ)) (a b : Told W) (s t : List ℕ) → HasTakenFront contents a b s → HasTakenFront contents a b (s ++ t)
+front-of-more contents a b s t front = front-longer (contents (inner_of a)) (contents (inner_of b)) s t front
+
+-- a writer that gave up in a later part gave up in the whole
+pub given-up-later : {W : Type 0} (contents : W → Option (List ℕ)) (a b c : Told W) (s : List ℕ) (tries : ℕ) → HasTakenAll contents a b s → HasGivenUp b c tries → HasGivenUp a c tries
+given-up-later contents a b c s tries (m, taken) (inl failed) = inl (subst (λ (n : ℕ). HasRisenBy 1 n (failures_of c)) taken.failures failed)
+given-up-later contents a b c s tries (m, taken) (inr more) =
+    inr (risen-after m (tries + 1) (interrupted_of a) (interrupted_of b) (interrupted_of c) taken.interrupted more)
+
+-- a writer that did not fail in a later part did not fail in the whole
+pub not-failed-later : {W : Type 0} (contents : W → Option (List ℕ)) (a b c : Told W) (s : List ℕ) → HasTakenAll contents a b s → HasNotFailed b c → HasNotFailed a c
+not-failed-later contents a b c s (m, taken) later = later ∙ taken.failures
+
+-- The reports of plans.
+
+abbrev pub reports : List WholePlan → List ℕ
+reports plans = flat_map report_text (inputs_of_plans plans)
+
+pub reports-more : (plans : List WholePlan) (k : ℕ) (p : WholePlan) → k < length plans → p ≡ get_or plans k p → reports (take (k + 1) plans) ≡ reports (take k plans) ++ report_text p.inputs
+reports-more plans k p within is =
+    ap reports (take_more plans k p within ∙ ap (λ (q : WholePlan). take k plans ++ q ∷ []) (sym is))
+    ∙ ap (flat_map report_text) (map-append (λ (q : WholePlan). q.inputs) (take k plans) (p ∷ []))
+    ∙ flat_map-append report_text (inputs_of_plans (take k plans)) (p.inputs ∷ [])
+    ∙ ap (λ (t : List ℕ). reports (take k plans) ++ t) (append-nil (report_text p.inputs))
+
+pub reports-cut : (plans : List WholePlan) (k : ℕ) (p : WholePlan) → k < length plans → p ≡ get_or plans k p → reports plans ≡ reports (take k plans) ++ (report_text p.inputs ++ reports (drop (k + 1) plans))
+reports-cut plans k p within is =
+    ap reports (sym (take-append-drop k plans) ∙ ap (λ (r : List WholePlan). take k plans ++ r) (drop_more plans k p within ∙ ap (λ (q : WholePlan). q ∷ drop (k + 1) plans) (sym is)))
+    ∙ ap (flat_map report_text) (map-append (λ (q : WholePlan). q.inputs) (take k plans) (p ∷ drop (k + 1) plans))
+    ∙ flat_map-append report_text (inputs_of_plans (take k plans)) (p.inputs ∷ inputs_of_plans (drop (k + 1) plans))

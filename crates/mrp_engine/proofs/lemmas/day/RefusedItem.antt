@@ -1,0 +1,42 @@
+-- The item that a plan is refused by.
+use Rattle.std.proofs.Common.{◌≡◌, ◌∙◌, ℕ, zero, suc, ◌+◌, ◌<◌, Bool, true, false, cond, List, Option, Some, None, Err, get_or, ap, refl, arith}
+use Rattle.std.proofs.lemmas.List.{get_or_default}
+use Rattle.std.specs.Prelude.{find, map}
+use Rattle.std.specs.List.{range_with_len}
+use Rattle.mrp_tables.specs.declared.item.Item.{Item}
+use Rattle.mrp_item.specs.Inputs.{Inputs, count, item_at, places}
+use Rattle.mrp_explode.specs.Explosion.{Explodes}
+use Rattle.mrp_explode.specs.declared.fault.RunFault.{RunFault}
+use Rattle.mrp_explode.specs.declared.fault.RunFault.TheVariants as run
+use Rattle.mrp_engine.specs.day.Fault.{run_fault}
+use Rattle.mrp_engine.specs.day.Planned.{PlansRun}
+use Rattle.mrp_item.specs.Plan.{plan_in, plan_of, plan_unless, first_over, is_over, outcome_of}
+
+find-below : (p : ℕ → Bool) (a n i : ℕ) → find p (range_with_len a n) ≡ Some i → i < a + n
+find-below p a zero i e = absurd (cc)
+find-below p a (suc n) i e = by (p a) e (find-below p (a + 1) n i)
+  where
+    by : (b : Bool) → cond b (Some a) (find p (range_with_len (a + 1) n)) ≡ Some i → (find p (range_with_len (a + 1) n) ≡ Some i → i < a + 1 + n) → i < a + suc n
+    by true k rest =
+        let same : a ≡ i = cc in
+        omega (arith, same)
+    by false k rest = omega (arith, rest k)
+
+-- the item that a plan is refused by is an item of the table
+pub over-within : (s : Inputs) (i : ℕ) → plan_of s ≡ Err i → i < count s
+over-within s i e = by (first_over s) refl e
+  where
+    by : (o : Option ℕ) → first_over s ≡ o → plan_unless o (map (λ i. plan_in (outcome_of s i)) (places s)) ≡ Err i → i < count s
+    by None found k = absurd (cc)
+    by (Some a) found k =
+        let same : a ≡ i = cc in
+        omega (arith, same, find-below (λ j. is_over (outcome_of s j)) 0 (count s) a found)
+
+-- the entry of an item in the table
+pub entry-is : (s : Inputs) (items : List Item) (i : ℕ) (entry d : Item) → items ≡ s.tables.items → i < count s → entry ≡ get_or items i d → entry ≡ item_at s i
+entry-is s items i entry d same within read = read ∙ ap (λ (xs : List Item). get_or xs i d) same ∙ get_or_default s.tables.items i d _ within
+
+-- a run that is refused, by the name of its item
+pub refused-run : (s : Inputs) (fault : RunFault) → Explodes s (Err fault) → PlansRun s (Err (run_fault s fault))
+refused-run s (run.TooLarge item) is = (item, is, refl)
+refused-run s run.NoMemory is = tt

@@ -1,0 +1,9 @@
+pub mod DeskCounts
+pub mod DeskRecords
+pub mod DeskCalls
+pub mod Parting
+pub mod OneByOne
+pub mod Duties
+pub mod Crossing
+pub mod DeskLists
+pub mod DeskHistories

@@ -1,0 +1,56 @@
+use Rattle.std.proofs.Common.{◌≡◌, List, Vec, ap, arith, length, map, subst, sym}
+use Rattle.std.specs.Prelude.{All}
+use Rattle.std.specs.declared.alloc.Global.{Global}
+use Rattle.mrp_book.specs.declared.call.Call.{Call}
+use Rattle.mrp_book.specs.History.{Fits}
+use Rattle.mrp_desk.specs.Offices.{supply_at}
+use Rattle.mrp_engine.specs.live.DeskCalls.{AreCallsOf, calls_at}
+use Rattle.mrp_engine.specs.day.Script.{record_of}
+use Rattle.mrp_engine.proofs.lemmas.live.DeskCalls.{lists-fit}
+use Rattle.mrp_engine.proofs.lemmas.live.DeskLists.{followed-each, if-parted-desks, if-parted-served}
+use Rattle.mrp_engine.proofs.live.desks.serve_script.Goals as goal
+
+pub calls_by_desk-requires : goal.calls_by_desk-requires
+calls_by_desk-requires g c = λ k d within.
+    let count = c.requires.desks.count in
+    let most = c.requires.count.all k d within in
+    (c.requires.rows k d within, omega (arith, count, most, c.args.desks.ok.0))
+
+pub serve_all-requires-clause-lists : goal.serve_all-requires-clause-lists
+serve_all-requires-clause-lists g c = λ κs alive.
+    let supply = supply_at c.args.office.now in
+    let long : length c.as_slice.result.now ≡ length c.in_ok-lists.lists.items = ap (length {A = Vec Call Global}) c.as_slice.ensures.value in
+    let size = c.in_ok-lists.ensures.size in
+    let count = c.len.ensures in record {
+      of_office = c.requires.desks.of_office;
+      listed = λ k d within.
+          let number = c.requires.desks.numbers k d within in
+          (omega (arith, number), omega (arith, number, within, long, size, count, c.args.desks.ok.0));
+      fits = λ place.
+          subst (λ (lists : List (Vec Call Global)). All (Fits supply) (calls_at lists place)) (sym c.as_slice.ensures.value)
+          (lists-fit supply c.args.script.now c.in_ok-lists.lists.items c.in_ok-lists.ensures.calls c.requires.fits place);
+    }
+
+pub returns-clause-desks : goal.returns-clause-desks
+returns-clause-desks g c =
+    let records = map record_of c.args.script.now in
+    let desks = c.args.desks.items in
+    let all = c.in_ok-all.all.items in
+    let served = c.in_ok-all.ensures in
+    let calls = subst (AreCallsOf records) (sym c.as_slice.ensures.value) c.in_ok-lists.ensures.calls in
+    if-parted-desks c.args.office.now records desks all c.requires.desks c.requires.new served.count
+    (followed-each c.args.office.now (supply_at c.args.office.now) records c.as_slice.result.now desks all c.requires.desks calls
+    served.each)
+    c.parted.result c.parted.ensures.desks
+
+pub returns-clause-served : goal.returns-clause-served
+returns-clause-served g c =
+    let records = map record_of c.args.script.now in
+    let desks = c.args.desks.items in
+    let all = c.in_ok-all.all.items in
+    let served = c.in_ok-all.ensures in
+    let calls = subst (AreCallsOf records) (sym c.as_slice.ensures.value) c.in_ok-lists.ensures.calls in
+    if-parted-served c.args.office.now records desks all c.requires.desks c.requires.new served.count
+    (followed-each c.args.office.now (supply_at c.args.office.now) records c.as_slice.result.now desks all c.requires.desks calls
+    served.each)
+    c.parted.result c.parted.ensures.desks c.parted.ensures.end

@@ -1,5 +1,0 @@
-use Rattle.mrp_engine.proofs.RunsPlanned.{HasPlanned}
-use Rattle.mrp_engine.proofs.runs.plan_runs.Given as goal
-
-abbrev pub invariant-loop-entry : goal.invariant-loop-entry
-invariant-loop-entry g l = HasPlanned l.rows.value.tables l.entry-items l.entry-index l.plans.items

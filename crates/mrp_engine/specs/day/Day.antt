@@ -1,0 +1,90 @@
+-- The day of a bundle: the history that answers its script, and then the report of each of its runs (profile).
+use Rattle.std.specs.Prelude.{ℕ, ◌≡◌, ◌+◌, ◌⊎◌, List, [], ◌∷◌, ◌++◌, All, flat_map, Ok, Err}
+use Rattle.mrp_rows.specs.declared.fault.Fault.{Fault}
+use Rattle.mrp_rows.specs.declared.faults.TheConstants as faults
+use Rattle.mrp_rows.specs.declared.fault.Table.TheVariants as t
+use Rattle.mrp_tables.specs.Tables.{Tables, tables_of}
+use Rattle.mrp_bill.specs.Bill.{IsFirstLoop, NeedsItself}
+use Rattle.mrp_master.specs.Supply.{supply_of}
+use Rattle.mrp_book.specs.declared.reply.Reply.{Reply}
+use Rattle.mrp_book.specs.declared.reply.Reply.TheVariants.{Taken}
+use Rattle.mrp_book.specs.Standing.{History}
+use Rattle.mrp_book.specs.History.{IsLegal, asked}
+use Rattle.mrp_item.specs.Inputs.{Inputs, inputs_of, item_at}
+use Rattle.mrp_item.specs.Plan.{ItemPlan, plan_of}
+use Rattle.mrp_report.specs.section.HistoryText.{history_text}
+use Rattle.mrp_report.specs.ReportText.{report_text}
+use Rattle.mrp_engine.specs.day.Script.{script_of, with_run}
+
+-- an item that needs itself
+abbrev pub loop_fault : ℕ → Fault
+loop_fault item = record { code = faults.LOOP; table = t.Items; row = item + 1 }
+
+-- a bundle of these tables, in which no item needs itself
+pub record IsAccepted (bundle : List ℕ) (tables : Tables) : Type 0 where
+  pub tables_are : tables_of bundle ≡ Ok tables
+  pub no_loop : (i : ℕ) → NeedsItself tables.bills i → ⊥
+
+-- a bundle whose tables are all right, but for a loop in the bill that begins at this item
+pub record IsLoop (bundle : List ℕ) (tables : Tables) (item : ℕ) : Type 0 where
+  pub tables_are : tables_of bundle ≡ Ok tables
+  pub loop : IsFirstLoop tables.bills item
+
+-- a bundle with this first fault, the loop last
+abbrev pub IsRefused : List ℕ → Fault → Type 0
+IsRefused bundle f = (tables_of bundle ≡ Err f) ⊎ ((tables : Tables) × (item : ℕ) × IsLoop bundle tables item × (f ≡ loop_fault item))
+
+-- the legal history that answers the script's records in row order
+pub record AnswersScript (tables : Tables) (h : History) : Type 0 where
+  pub legal : IsLegal (supply_of tables) h
+  pub in_order : asked h ≡ with_run (script_of tables)
+
+-- how a script may be answered: which histories answer the script of which tables
+abbrev pub Answering : Type 1
+Answering = Tables → History → Type 0
+
+-- what a reply has planned: a snapshot, what stands at it
+abbrev pub planned_from : Tables → Reply → List Inputs
+planned_from tables (Taken snapshot) = inputs_of tables snapshot ∷ []
+planned_from tables r = []
+
+-- what the runs of a history are planned from, in order
+abbrev pub runs_of : Tables → History → List Inputs
+runs_of tables h = flat_map (λ e. planned_from tables e.reply) h
+
+-- a run in which no item gets too large
+abbrev pub IsPlannable : Inputs → Type 0
+IsPlannable s = (plans : List ItemPlan) × (plan_of s ≡ Ok plans)
+
+-- a run whose plan is refused by this item, the first that gets too large
+abbrev pub IsRefusedBy : Inputs → List ℕ → Type 0
+IsRefusedBy s name = (item : ℕ) × (plan_of s ≡ Err item) × (name ≡ (item_at s item).name)
+
+-- the first run that is refused is refused by the item of this name
+abbrev pub IsFirstRefusal : List Inputs → List ℕ → Type 0
+IsFirstRefusal runs name =
+    (before : List Inputs) × (s : Inputs) × (after : List Inputs)
+    × (runs ≡ before ++ s ∷ after) × All IsPlannable before × IsRefusedBy s name
+
+-- a bundle whose script may be answered so that a run is refused, the first of them by the item of this name
+abbrev pub IsTooLargeBy : Answering → List ℕ → List ℕ → Type 0
+IsTooLargeBy Answers bundle name =
+    (tables : Tables) × IsAccepted bundle tables × (h : History) × Answers tables h × IsFirstRefusal (runs_of tables h) name
+
+-- a bundle of which a run is refused, the first of them by the item of this name
+abbrev pub IsTooLarge : List ℕ → List ℕ → Type 0
+IsTooLarge = IsTooLargeBy AnswersScript
+
+-- the history, then the report of each run, in order
+abbrev pub day_text : Tables → History → List ℕ
+day_text tables h = history_text tables h ++ flat_map report_text (runs_of tables h)
+
+-- a bundle and the text of a day in which its script is answered like this
+abbrev pub IsDayBy : Answering → List ℕ → List ℕ → Type 0
+IsDayBy Answers bundle text =
+    (tables : Tables) × IsAccepted bundle tables × (h : History) × Answers tables h
+    × All IsPlannable (runs_of tables h) × (text ≡ day_text tables h)
+
+-- a bundle and the text of its day
+abbrev pub IsDay : List ℕ → List ℕ → Type 0
+IsDay = IsDayBy AnswersScript

@@ -1,0 +1,30 @@
+-- Why a day is refused, by what refused a part of it.
+use Rattle.std.specs.Prelude.{slice_index}
+use Rattle.mrp_rows.specs.declared.streams.ReadFault.{ReadFault}
+use Rattle.mrp_rows.specs.declared.streams.ReadFault.TheVariants as read
+use Rattle.mrp_report.specs.declared.fault.ReportFault.{ReportFault}
+use Rattle.mrp_report.specs.declared.fault.ReportFault.TheVariants as report
+use Rattle.mrp_bill.specs.declared.fault.BillFault.{BillFault}
+use Rattle.mrp_bill.specs.declared.fault.BillFault.TheVariants as bill
+use Rattle.mrp_explode.specs.declared.fault.RunFault.{RunFault}
+use Rattle.mrp_explode.specs.declared.fault.RunFault.TheVariants as run
+use Rattle.mrp_item.specs.Inputs.{Inputs, item_at}
+use Rattle.mrp_engine.specs.declared.day.fault.DayFault.{DayFault}
+use Rattle.mrp_engine.specs.declared.day.fault.DayFault.TheVariants.{Refused, TooLarge, Read, Write, NoMemory}
+use Rattle.mrp_engine.specs.day.Day.{loop_fault}
+
+abbrev pub reading_fault : ReadFault → DayFault
+reading_fault read.Read = Read
+reading_fault read.NoMemory = NoMemory
+
+abbrev pub writing_fault : ReportFault → DayFault
+writing_fault report.Write = Write
+writing_fault report.NoMemory = NoMemory
+
+abbrev pub bill_fault : BillFault → DayFault
+bill_fault (bill.Loop path) = Refused (loop_fault (slice_index path.items 0))
+bill_fault bill.NoMemory = NoMemory
+
+abbrev pub run_fault : Inputs → RunFault → DayFault
+run_fault s (run.TooLarge item) = TooLarge (item_at s item).name
+run_fault s run.NoMemory = NoMemory

@@ -1,0 +1,116 @@
+-- What every right list of events and answers keeps.
+use Rattle.std.specs.Prelude.{ℕ, ◌≡◌, ◌≢◌, ◌↔◌, ◌<◌, ◌+◌, ◌==◌, List, [], ◌∷◌, ◌++◌, All, AllPairs, length, filter, sum_by, zip}
+use Rattle.std.specs.Global.{Vec}
+use Rattle.mrp_tables.specs.Tables.{Tables}
+use Rattle.mrp_tables.specs.Facts.{IsBillLine, IsItem}
+use Rattle.mrp_bill.specs.Shop.{IsShop, Shop}
+use Rattle.mrp_turn.specs.declared.log.Entry.{Entry}
+use Rattle.mrp_turn.specs.Log.{entry}
+use Rattle.mrp_master.specs.declared.line.Line.{Line}
+use Rattle.mrp_master.specs.Supply.{CanPromise, IsCovered, supply_of}
+use Rattle.mrp_book.specs.declared.call.Call.{Call}
+use Rattle.mrp_book.specs.declared.call.Call.TheVariants as call
+use Rattle.mrp_book.specs.declared.reply.Reply.{Reply}
+use Rattle.mrp_book.specs.declared.reply.Reply.TheVariants as reply
+use Rattle.mrp_book.specs.Standing.{History, booked}
+use Rattle.mrp_book.specs.History.{IsLegal, next_number}
+use Rattle.mrp_item.specs.Inputs.{Inputs, count}
+use Rattle.mrp_peg.specs.Laws.{AddUpToRequirements, AddUpToSupplies}
+use Rattle.mrp_peg.specs.Pegging.{pegs_of, requirements}
+use Rattle.mrp_load.specs.Loads.{load, operation_week, orders_in, standard_time}
+use Rattle.mrp_report.specs.ReportText.{report_text}
+use Rattle.mrp_engine.specs.declared.event_core.event.Event.{Event}
+use Rattle.mrp_engine.specs.declared.event_core.event.Event.TheVariants as event
+use Rattle.mrp_engine.specs.declared.event_core.event.Answer.{Answer}
+use Rattle.mrp_engine.specs.declared.event_core.event.Answer.TheVariants as answer
+use Rattle.mrp_engine.specs.day.Day.{IsPlannable, IsRefusedBy}
+use Rattle.mrp_engine.specs.event_core.Board.{IsLegalBoard}
+use Rattle.mrp_engine.specs.event_core.Core.{AsksFullBook, HasMeaning, IsRight, IsStarted, Step, core_of, log_at, run_inputs, snapshot_of}
+
+-- a shop whose tables keep their limits, and in which no item needs itself
+pub record IsAcceptedShop (shop : Shop) : Type 0 where
+  pub accepted : IsShop shop
+  pub items : All IsItem shop.tables.items
+  pub lines : All (IsBillLine shop.tables.items) shop.tables.bills
+
+-- the entry of a history with this number
+pub record IsEntry (h : History) (number : ℕ) (e : Entry Call Reply) : Type 0 where
+  pub before : History
+  pub after : History
+  pub place : h ≡ before ++ e ∷ after
+  pub counted : number ≡ next_number before
+
+-- an event was answered so after these steps
+pub record WasAnswered (steps before : List Step) (e : Event) (a : Answer) : Type 0 where
+  pub after : List Step
+  pub place : steps ≡ before ++ (e, a) ∷ after
+
+-- a run of these inputs was written
+pub record WasWritten (tables : Tables) (steps : List Step) (s : Inputs) : Type 0 where
+  pub before : List Step
+  pub run : ℕ
+  pub bytes : Vec ℕ
+  pub answered : WasAnswered steps before (event.Write run) (answer.Bytes bytes)
+  pub inputs : s ≡ run_inputs (core_of tables before) run
+
+-- the orders of an operation's item that stand in a week, with what each takes there
+abbrev pub time_in : Inputs → ℕ → ℕ → ℕ
+time_in s centre week =
+    sum_by (λ operation. sum_by (standard_time operation) (filter (λ order. operation_week operation order == week) (orders_in s operation.item)))
+    (filter (λ operation. operation.centre == centre) s.tables.routings)
+
+-- the answers of which nothing is kept
+abbrev pub ChangesNothing : Answer → Type 0
+ChangesNothing answer.Nothing = Unit {0}
+ChangesNothing answer.Full = Unit {0}
+ChangesNothing answer.NotYet = Unit {0}
+ChangesNothing (answer.Bytes bytes) = Unit {0}
+ChangesNothing (answer.TooLarge name) = Unit {0}
+ChangesNothing (answer.Replied n r) = ⊥
+ChangesNothing (answer.Started run front) = ⊥
+ChangesNothing (answer.Item item) = ⊥
+ChangesNothing answer.AllOut = ⊥
+ChangesNothing answer.Stored = ⊥
+ChangesNothing answer.Stopped = ⊥
+
+pub record Headline (tables : Tables) (steps : List Step) : Type 0 where
+  -- the order book's replies are those of one legal history, whose entries are numbered from 1
+  pub legal : IsLegal (supply_of tables) (core_of tables steps).history
+  pub numbered : (before : List Step) (desk n : ℕ) (c : Call) (r : Reply) → WasAnswered steps before (event.Call desk c) (answer.Replied n r) → n ≡ next_number (core_of tables before).history
+  pub started : (before : List Step) (desk run front : ℕ) → WasAnswered steps before (event.Start desk) (answer.Started run front)
+      → (run ≡ length (core_of tables before).runs + 1) × (front ≡ next_number (core_of tables before).history)
+  -- and each stands there under its number to the end
+  pub entered : (before : List Step) (desk n : ℕ) (c : Call) (r : Reply) → WasAnswered steps before (event.Call desk c) (answer.Replied n r) → IsEntry (core_of tables steps).history n (entry desk c r)
+  pub snapped : (before : List Step) (desk run front : ℕ) → WasAnswered steps before (event.Start desk) (answer.Started run front)
+      → IsEntry (core_of tables steps).history front (entry desk call.Snapshot (snapshot_of (core_of tables before) front))
+  -- the bytes that a finished run wrote are the report of the plan that the tables and the first entries up to its front define,
+  -- whatever came between or after
+  pub written : (before : List Step) (run : ℕ) (bytes : Vec ℕ) → WasAnswered steps before (event.Write run) (answer.Bytes bytes)
+      → IsPlannable (run_inputs (core_of tables steps) run) × (bytes.items ≡ report_text (run_inputs (core_of tables steps) run))
+  pub refused : (before : List Step) (run : ℕ) (name : List ℕ) → WasAnswered steps before (event.Write run) (answer.TooLarge name)
+      → IsRefusedBy (run_inputs (core_of tables steps) run) name
+  -- the log of each run's board is legal: an item is handed out where its parents are stored, and stored by the worker that it was handed to
+  pub boards : (run : ℕ) → IsStarted (core_of tables steps) run → IsLegalBoard (run_inputs (core_of tables steps) run) (log_at (core_of tables steps) run)
+  -- no accepted booking exceeded what was then available to promise
+  pub within : (before after : History) (desk number : ℕ) (l : Line)
+      → (core_of tables steps).history ≡ before ++ entry desk (call.Book l) (reply.Booked number) ∷ after → CanPromise (supply_of tables) (booked before) l.item l.quantity l.week
+  -- and at no point is more promised up to a week than its supply
+  pub covered : (before after : History) → (core_of tables steps).history ≡ before ++ after → IsCovered (supply_of tables) (booked before)
+  -- of each run that is written, every requirement's pegs add up to it, and every supply's, with its surplus, to the supply
+  pub pegged : (s : Inputs) → WasWritten tables steps s → (item : ℕ) → item < count s → AddUpToRequirements s item (pegs_of s item) × AddUpToSupplies s item (pegs_of s item)
+  -- and no two requirements are of one need
+  pub apart : (s : Inputs) → WasWritten tables steps s → (item : ℕ) → AllPairs (λ a b. a.of ≢ b.of) (requirements s item)
+  -- and every work centre's load in a week is the standard minutes, in thousandths, of the orders that stand there
+  pub loaded : (s : Inputs) → WasWritten tables steps s → (centre week : ℕ) → load s centre week ≡ time_in s centre week
+  -- an event is answered Nothing exactly where it has no meaning
+  pub meaning : (before : List Step) (e : Event) (a : Answer) → WasAnswered steps before e a → (a ≡ answer.Nothing) ↔ (¬ HasMeaning (core_of tables before) e)
+  -- it changes nothing then, nor where the book is full, the run is not ready, or a run is written
+  pub unchanged : (before : List Step) (e : Event) (a : Answer) → WasAnswered steps before e a → ChangesNothing a → core_of tables (before ++ (e, a) ∷ []) ≡ core_of tables before
+  -- a call or a start is answered that the order book is full exactly where it has its limit of entries
+  pub full : (before : List Step) (e : Event) (a : Answer) → WasAnswered steps before e a → (a ≡ answer.Full) ↔ AsksFullBook (core_of tables before) e
+
+-- what a run of the core answers to events: one answer each, and right
+pub record RunsRight (tables : Tables) (events : List Event) (answers : List Answer) : Type 0 where
+  pub each : length answers ≡ length events
+  pub right : IsRight tables (zip events answers)
+  pub headline : Headline tables (zip events answers)

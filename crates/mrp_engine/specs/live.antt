@@ -1,0 +1,3 @@
+pub mod DeskCalls
+pub mod Desks
+pub mod Begun

@@ -1,0 +1,78 @@
+//! The shop of a bundle.
+
+ghost use Rattle.std.specs.Prelude.{◌≡◌, ◌<◌, length, slice_index};
+ghost use Rattle.mrp_engine.specs.day.Day.{loop_fault};
+ghost use Rattle.mrp_engine.specs.day.Fault.{bill_fault};
+ghost use Rattle.mrp_engine.specs.day.Opened.{BeginsWithin, Closes, Opens, OpensTables};
+
+use crate::day::fault::DayFault;
+use mrp_bill::{Bill, BillFault, Shop};
+use mrp_rows::faults::{LOOP, NO_MEMORY};
+use mrp_rows::{Fault, Table, split_bundle};
+use mrp_tables::Tables;
+use mrp_tables::limits::MOST_ITEMS;
+use std::alloc::Global;
+use std::thread::Threads;
+
+// Why a day is refused: the bundle's fault, or want of memory.
+fn refusal(fault: Fault) -> DayFault
+    ensures { Closes fault result }
+{
+    if fault.code == NO_MEMORY {
+        DayFault::NoMemory
+    } else {
+        DayFault::Refused(fault)
+    }
+}
+
+// The fault of a loop, by its path.
+fn loop_at(path: &[usize]) -> Fault
+    requires some { 0 < length path.now }
+    requires within { slice_index path.now 0 < MOST_ITEMS }
+    ensures { result ≡ loop_fault (slice_index path.now 0) }
+{
+    Fault {
+        code: LOOP,
+        table: Table::Items,
+        row: path[0] as u32 + 1,
+    }
+}
+
+// Why a day is refused, by what refused its bill.
+fn bill_refusal(fault: BillFault) -> DayFault
+    requires { BeginsWithin fault }
+    ensures { result ≡ bill_fault fault }
+{
+    match fault {
+        BillFault::Loop { path } => DayFault::Refused(loop_at(&path)),
+        BillFault::NoMemory => DayFault::NoMemory,
+    }
+}
+
+// The shop of tables.
+fn shop_of(alloc: Global, tables: Tables) -> Result<Shop, DayFault>
+    ensures { OpensTables tables result }
+{
+    let _items = tables.items();
+    let _lines = tables.bills();
+    match Bill::of(alloc, tables) {
+        Ok(shop) => Ok(shop),
+        Err(fault) => Err(bill_refusal(fault)),
+    }
+}
+
+/// The shop of a bundle, whose tables are read in two threads where a second can be started.
+///
+/// Errors: `Refused` with the bundle's first fault, the loop last, and `NoMemory`.
+pub fn open_shop(rt: &impl Threads, alloc: Global, bundle: &[u8]) -> Result<Shop, DayFault>
+    ensures { Opens bundle.now result }
+{
+    let sections = match split_bundle(bundle) {
+        Ok(sections) => sections,
+        Err(fault) => return Err(refusal(fault)),
+    };
+    match Tables::read_beside(rt, alloc, &sections) {
+        Ok(tables) => shop_of(alloc, tables),
+        Err(fault) => Err(refusal(fault)),
+    }
+}

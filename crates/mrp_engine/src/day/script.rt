@@ -1,0 +1,85 @@
+//! The history that answers a shop's script.
+
+ghost use Rattle.std.specs.Prelude.{◌≡◌, ◌<◌, ◌++◌, ◌∷◌, [], IfOk, OnOk, length};
+ghost use Rattle.std.specs.Int.{IsInRange};
+ghost use Rattle.std.specs.List.{list_any};
+ghost use Rattle.mrp_master.specs.Supply.{supply_of};
+ghost use Rattle.mrp_book.specs.History.{Fits, asked};
+ghost use Rattle.mrp_engine.specs.day.Day.{AnswersScript};
+ghost use Rattle.mrp_engine.specs.day.Script.{call_of, is_run};
+
+use mrp_bill::Shop;
+use mrp_book::{Book, Call, History, Line, Refused, Spot, Wish};
+use mrp_qty::NoMemory;
+use mrp_tables::limits::{MOST_DESKS, MOST_ENTRIES};
+use mrp_tables::{ScriptCall, ScriptRow};
+use std::alloc::Global;
+
+/// The desk whose run is added to a script without one.
+pub const ADDED_DESK: u64 = 1;
+
+/// A script's call, as the order book takes it: a run asks for a snapshot.
+pub fn call_of(call: ScriptCall) -> Call
+    ensures { result ≡ call_of call }
+{
+    match call {
+        ScriptCall::Book {
+            item,
+            week,
+            quantity,
+        } => Call::Book(Line {
+            item,
+            week,
+            quantity,
+        }),
+        ScriptCall::Cancel { entry } => Call::Cancel(entry),
+        ScriptCall::Ask { item, week } => Call::Ask(Spot { item, week }),
+        ScriptCall::When { item, quantity } => Call::When(Wish { item, quantity }),
+        ScriptCall::Run => Call::Snapshot,
+    }
+}
+
+/// Whether a script has a run.
+pub fn has_run(script: &[ScriptRow]) -> bool
+    ensures { result ≡ list_any (λ r. is_run (call_of r.call)) script.now }
+{
+    script.iter().any(|row| matches!(row.call, ScriptCall::Run))
+}
+
+/// Makes one more entry of a book that is not full.
+///
+/// Errors: `NoMemory` where memory is refused.
+pub fn answer(alloc: Global, book: &mut Book, desk: u64, call: Call) -> Result<(), NoMemory>
+    requires desk { IsInRange 1 MOST_DESKS desk }
+    requires fits { Fits book.old.supply call }
+    requires room { length book.old.entries < MOST_ENTRIES }
+    ensures supply { OnOk result (book.new.supply ≡ book.old.supply) }
+    ensures asked { OnOk result (asked book.new.entries ≡ asked book.old.entries ++ (desk, call) ∷ []) }
+{
+    match book.call(alloc, desk, call) {
+        Ok(_) => Ok(()),
+        Err(Refused::NoMemory) => Err(NoMemory),
+        Err(Refused::Full) => unreachable!(),
+    }
+}
+
+/// The history that answers a shop's script, record by record. A script without a run is taken with
+/// one more record at its end, a run of desk 1.
+///
+/// Errors: `NoMemory` where memory is refused.
+pub fn answer_script(alloc: Global, shop: &Shop) -> Result<History, NoMemory>
+    ensures supply { IfOk result (λ h. h.supply ≡ supply_of shop.now.tables) }
+    ensures answers { IfOk result (λ h. AnswersScript shop.now.tables h.entries) }
+{
+    let script = shop.tables().script();
+    let mut book = Book::open(alloc, shop)?;
+    for row in script {
+        answer(alloc, &mut book, row.desk, call_of(row.call))?;
+    }
+    if !has_run(script) {
+        answer(alloc, &mut book, ADDED_DESK, Call::Snapshot)?;
+    }
+    let history = book.into_history();
+    let _legal = history.entries();
+    Ok(history)
+}

@@ -1,0 +1,83 @@
+//! The text of a day, written.
+
+ghost use Rattle.std.specs.Prelude.{◌≡◌, Err, IfErr, OnOk, OnErr, flat_map};
+ghost use Rattle.std.specs.Int.{IsInRange};
+ghost use Rattle.mrp_report.specs.ReportText.{report_text};
+ghost use Rattle.mrp_report.specs.Written.{HasGivenUp, HasTakenFront};
+ghost use Rattle.mrp_engine.specs.day.Planned.{IsPlanned, inputs_of_plans, text_of};
+ghost use Rattle.mrp_engine.specs.day.Run.{HasNotFailed, HasTakenAll, IsWhileWriting};
+
+use crate::day::Day;
+use crate::day::fault::DayFault;
+use crate::day::run::MOST_WORKERS;
+use mrp_item::Plan;
+use mrp_report::{write_history, write_report};
+use mrp_rows::{Told, WRITE_TRIES};
+use std::alloc::Global;
+use std::io::Write;
+use std::thread::Threads;
+
+// Writes the reports of plans, one after the other.
+fn write_reports<W: Write>(
+    rt: &(impl Alloc + Threads + Sync),
+    alloc: Global,
+    plans: &[Plan],
+    writer: &mut Told<W>,
+    workers: usize,
+) -> Result<(), DayFault>
+    requires workers { IsInRange 1 MOST_WORKERS workers }
+    ensures whole { OnOk result (HasTakenAll W.contents writer.old writer.new (flat_map report_text (inputs_of_plans plans.now))) }
+    ensures front { OnErr result (HasTakenFront W.contents writer.old writer.new (flat_map report_text (inputs_of_plans plans.now))) }
+    ensures gave_up { result ≡ Err DayFault.Write → HasGivenUp writer.old writer.new WRITE_TRIES }
+    ensures unfailed { result ≡ Err DayFault.NoMemory → HasNotFailed writer.old writer.new }
+    ensures writing { IfErr result IsWhileWriting }
+{
+    for plan in plans {
+        write_report(rt, alloc, plan, writer, workers)?;
+    }
+    Ok(())
+}
+
+// Writes the history of a planned day, and then the report of each of its runs.
+fn write_texts<W: Write>(
+    rt: &(impl Alloc + Threads + Sync),
+    alloc: Global,
+    day: &Day,
+    writer: &mut Told<W>,
+    workers: usize,
+) -> Result<(), DayFault>
+    requires planned { IsPlanned day.now }
+    requires workers { IsInRange 1 MOST_WORKERS workers }
+    ensures whole { OnOk result (HasTakenAll W.contents writer.old writer.new (text_of day.now)) }
+    ensures front { OnErr result (HasTakenFront W.contents writer.old writer.new (text_of day.now)) }
+    ensures gave_up { result ≡ Err DayFault.Write → HasGivenUp writer.old writer.new WRITE_TRIES }
+    ensures unfailed { result ≡ Err DayFault.NoMemory → HasNotFailed writer.old writer.new }
+    ensures writing { IfErr result IsWhileWriting }
+{
+    write_history(alloc, &day.history, &day.shop, writer)?;
+    write_reports(rt, alloc, &day.plans, writer, workers)
+}
+
+/// Writes a planned day, which is given up: the history, and then the report of each of its runs, whose
+/// rows so many workers make, 1 to 64 as the caller owes.
+///
+/// Errors: `Write` where a write failed in this call, or more than 1,000,000 were interrupted in the
+/// history or in a report, and `NoMemory` where a growth of memory was refused, and no write failed. A
+/// front of the text was written then.
+pub fn write_day<W: Write>(
+    rt: &(impl Alloc + Threads + Sync),
+    alloc: Global,
+    day: Day,
+    writer: &mut Told<W>,
+    workers: usize,
+) -> Result<(), DayFault>
+    requires planned { IsPlanned day }
+    requires workers { IsInRange 1 MOST_WORKERS workers }
+    ensures whole { OnOk result (HasTakenAll W.contents writer.old writer.new (text_of day)) }
+    ensures front { OnErr result (HasTakenFront W.contents writer.old writer.new (text_of day)) }
+    ensures gave_up { result ≡ Err DayFault.Write → HasGivenUp writer.old writer.new WRITE_TRIES }
+    ensures unfailed { result ≡ Err DayFault.NoMemory → HasNotFailed writer.old writer.new }
+    ensures writing { IfErr result IsWhileWriting }
+{
+    write_texts(rt, alloc, &day, writer, workers)
+}

@@ -1,0 +1,229 @@
+//! A run that was started.
+
+ghost use Rattle.std.specs.Prelude.{◌≡◌, ℕ, Err, IfOk, IsOk, OnErr, OnOk, Some};
+ghost use Rattle.mrp_master.specs.Supply.{supply_of};
+ghost use Rattle.mrp_book.specs.Booked.{AreBooked};
+ghost use Rattle.mrp_item.specs.Inputs.{inputs_of};
+ghost use Rattle.mrp_explode.specs.declared.fault.RunFault.TheVariants as fault;
+ghost use Rattle.mrp_explode.specs.Explosion.{Explodes};
+ghost use Rattle.mrp_report.specs.ReportText.{report_text};
+ghost use Rattle.mrp_engine.specs.event_core.Core.{IsReport, told};
+ghost use Rattle.mrp_engine.specs.event_core.Kept.{IsBoardOf, log_of};
+
+use crate::day::name_of;
+use crate::event_core::board::{Board, BoardReply};
+use crate::event_core::event::Answer;
+use mrp_book::Snapshot;
+use mrp_explode::RunFault;
+use mrp_item::{Inputs, Plan, ShopRows};
+use mrp_qty::NoMemory;
+use mrp_report::write_report;
+use mrp_rows::Told;
+use std::alloc::Global;
+use std::marker::Model;
+use std::sync::Arc;
+use std::thread::Threads;
+
+/// A run: what it plans from, and its board, which is made where it is first asked for. Contracts
+/// see what the run plans from, and the board's log.
+#[derive(Drop)]
+pub struct Run {
+    rows: Arc<ShopRows>,
+    snapshot: Snapshot,
+    board: Option<Board>,
+}
+
+impl Model for Run {
+    ghost use Rattle.mrp_engine.specs.event_core.Board.{RunLog};
+    ghost use Rattle.mrp_engine.specs.event_core.KeptRun.{KeepsRun, run_view};
+
+    ghost Value = { RunLog };
+
+    ghost view = { run_view };
+
+    ghost invariant = { KeepsRun };
+}
+
+// Makes the board of a run that has none.
+fn begin(
+    alloc: Global,
+    rows: &Arc<ShopRows>,
+    snapshot: &Snapshot,
+    board: &mut Option<Board>,
+) -> Result<(), NoMemory>
+    requires booked { AreBooked (supply_of rows.now.value.tables) snapshot.now.standing }
+    requires board { IsBoardOf (inputs_of rows.now.value.tables snapshot.now) board.old }
+    ensures begun { OnOk result (board.new ≡ Some (record { inputs = inputs_of rows.now.value.tables snapshot.now; log = log_of board.old })) }
+    ensures refused { OnErr result (board.new ≡ board.old) }
+{
+    if board.is_none() {
+        let inputs = Inputs::over(alloc, rows.clone()?, snapshot.copy()?)?;
+        *board = Some(Board::open(alloc, &inputs)?);
+    }
+    Ok(())
+}
+
+// The report of a plan.
+fn report_of(
+    rt: &(impl Alloc + Threads + Sync),
+    alloc: Global,
+    plan: &Plan,
+) -> Result<Vec<u8>, NoMemory>
+    ensures { IfOk result (λ bytes. bytes.items ≡ report_text plan.now.inputs) }
+{
+    let mut writer = Told::new(Vec::new(alloc));
+    match write_report(rt, alloc, plan, &mut writer, 1) {
+        Ok(()) => Ok(writer.into_inner()),
+        Err(_) => Err(NoMemory),
+    }
+}
+
+// The report of a run's plan, or the item that refuses the plan.
+fn written(
+    rt: &(impl Alloc + Threads + Sync),
+    alloc: Global,
+    inputs: &Inputs,
+    planned: Result<Plan, RunFault>,
+) -> Result<Answer, NoMemory>
+    requires { Explodes inputs.now planned }
+    ensures report { IfOk result (IsReport inputs.now) }
+    ensures large { (item : ℕ) → planned ≡ Err (fault.TooLarge item) → IsOk result }
+{
+    match planned {
+        Ok(plan) => Ok(Answer::Bytes(report_of(rt, alloc, &plan)?)),
+        Err(RunFault::TooLarge { item }) => Ok(Answer::TooLarge(name_of(inputs, item))),
+        Err(RunFault::NoMemory) => Err(NoMemory),
+    }
+}
+
+impl Run {
+    ghost use Rattle.std.specs.Prelude.{◌≡◌, ◌≢◌, ◌++◌, ◌∷◌, [], true, false, Some, None, IfOk, OnErr, OnOk, IsSome};
+    ghost use Rattle.mrp_turn.specs.Log.{entry};
+    ghost use Rattle.mrp_master.specs.Supply.{supply_of};
+    ghost use Rattle.mrp_book.specs.Booked.{AreBooked};
+    ghost use Rattle.mrp_item.specs.Inputs.{inputs_of};
+    ghost use Rattle.mrp_engine.specs.declared.event_core.board.BoardCall.TheVariants as call;
+    ghost use Rattle.mrp_engine.specs.declared.event_core.board.BoardReply.TheVariants as reply;
+    ghost use Rattle.mrp_engine.specs.declared.event_core.event.Answer.TheVariants as answer;
+    ghost use Rattle.mrp_engine.specs.event_core.Board.{board_reply, held, is_finished, taken};
+    ghost use Rattle.mrp_engine.specs.event_core.Core.{IsReport, finish_of, told};
+
+    /// A run of a shop, by its rows, and a snapshot of its order book, as the caller owes.
+    pub fn new(rows: Arc<ShopRows>, snapshot: Snapshot) -> Run
+        requires { AreBooked (supply_of rows.value.tables) snapshot.standing }
+        ensures { result ≡ record { inputs = inputs_of rows.value.tables snapshot; log = [] } }
+    {
+        Run {
+            rows,
+            snapshot,
+            board: None,
+        }
+    }
+
+    /// The item that a worker holds.
+    pub fn held(&self, worker: u64) -> Option<usize>
+        ensures { result ≡ held worker self.now.log }
+    {
+        match &self.board {
+            Some(board) => board.held(worker),
+            None => None,
+        }
+    }
+
+    /// Answers a worker that takes.
+    ///
+    /// Errors: `NoMemory` where memory is refused. Nothing has changed then.
+    pub fn take(&mut self, alloc: Global, worker: u64) -> Result<Answer, NoMemory>
+        ensures answer { IfOk result (λ a. a ≡ told (board_reply self.old.inputs self.old.log worker call.Take)) }
+        ensures entry { OnOk result (self.new ≡ record self.old { log = self.old.log ++ taken worker (board_reply self.old.inputs self.old.log worker call.Take) }) }
+        ensures refused { OnErr result (self.new ≡ self.old) }
+    {
+        begin(alloc, &self.rows, &self.snapshot, &mut self.board)?;
+        match &mut self.board {
+            Some(board) => Ok(told(board.take(worker)?)),
+            None => unreachable!(),
+        }
+    }
+
+    /// Plans and stores the item that a worker holds.
+    ///
+    /// Errors: `NoMemory` where memory is refused, and the worker holds an item. Nothing has changed
+    /// then.
+    pub fn finish(&mut self, alloc: Global, worker: u64) -> Result<Answer, NoMemory>
+        ensures held { IfOk result (λ a. IsSome (held worker self.old.log) → a ≡ answer.Stored) }
+        ensures not_held { IfOk result (λ a. held worker self.old.log ≡ None → a ≡ answer.Nothing) }
+        ensures entry { OnOk result (self.new ≡ record self.old { log = self.old.log ++ finish_of worker (held worker self.old.log) }) }
+        ensures refused { OnErr result (self.new ≡ self.old) }
+        ensures memory { OnErr result (IsSome (held worker self.old.log)) }
+    {
+        let Some(board) = &mut self.board else {
+            return Ok(Answer::Nothing);
+        };
+        let Some(item) = board.held(worker) else {
+            return Ok(Answer::Nothing);
+        };
+        board.finish(alloc, worker, item)?;
+        Ok(Answer::Stored)
+    }
+
+    /// A worker gives up.
+    ///
+    /// Errors: `NoMemory` where memory is refused. Nothing has changed then.
+    pub fn give_up(&mut self, alloc: Global, worker: u64) -> Result<(), NoMemory>
+        ensures entry { OnOk result (self.new ≡ record self.old { log = self.old.log ++ entry worker call.GiveUp reply.Stopped ∷ [] }) }
+        ensures refused { OnErr result (self.new ≡ self.old) }
+    {
+        begin(alloc, &self.rows, &self.snapshot, &mut self.board)?;
+        match &mut self.board {
+            Some(board) => board.give_up(worker),
+            None => unreachable!(),
+        }
+    }
+
+    // Whether every item is stored.
+    fn is_finished(&self) -> bool
+        ensures { result ≡ is_finished self.now.inputs self.now.log }
+    {
+        match &self.board {
+            Some(board) => board.is_finished(),
+            None => self.rows.shop().tables().items().is_empty(),
+        }
+    }
+
+    /// The report of a run whose items are all stored.
+    ///
+    /// Errors: `NoMemory` where memory is refused, and they are. Nothing has changed then.
+    pub fn write(
+        &mut self,
+        rt: &(impl Alloc + Threads + Sync),
+        alloc: Global,
+    ) -> Result<Answer, NoMemory>
+        ensures report { IfOk result (λ a. is_finished self.old.inputs self.old.log ≡ true → IsReport self.old.inputs a) }
+        ensures nothing { IfOk result (λ a. is_finished self.old.inputs self.old.log ≡ false → a ≡ answer.Nothing) }
+        ensures same { self.new ≡ self.old }
+        ensures memory { OnErr result (is_finished self.old.inputs self.old.log ≡ true) }
+    {
+        if !self.is_finished() {
+            return Ok(Answer::Nothing);
+        }
+        begin(alloc, &self.rows, &self.snapshot, &mut self.board)?;
+        let Some(board) = &self.board else {
+            unreachable!()
+        };
+        written(rt, alloc, board.inputs(), board.plan(alloc))
+    }
+}
+
+// A board's reply, as a core tells it.
+fn told(reply: Option<BoardReply>) -> Answer
+    ensures { result ≡ told reply }
+{
+    match reply {
+        None => Answer::NotYet,
+        Some(BoardReply::AllOut) => Answer::AllOut,
+        Some(BoardReply::Item(item)) => Answer::Item(item),
+        Some(BoardReply::Stored) => Answer::Stored,
+        Some(BoardReply::NotOut) => Answer::Nothing,
+        Some(BoardReply::Stopped) => Answer::Stopped,
+    }
+}

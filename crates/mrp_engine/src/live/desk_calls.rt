@@ -1,0 +1,61 @@
+//! The calls of a script, in a list for each desk.
+
+ghost use Rattle.std.specs.Prelude.{◌≡◌, ◌-◌, ◌≤◌, ℕ, [], All, IfOk, OnOk, length, map};
+ghost use Rattle.mrp_engine.specs.live.DeskCalls.{Appends, AreCallsOf, calls_at, count_in};
+ghost use Rattle.mrp_engine.specs.day.Script.{record_of};
+
+use crate::day::call_of;
+use mrp_book::Call;
+use mrp_qty::NoMemory;
+use mrp_tables::ScriptRow;
+use std::alloc::Global;
+
+// As many empty lists.
+fn empty_lists(alloc: Global, desks: usize) -> Result<Vec<Vec<Call>>, NoMemory>
+    ensures size { IfOk result (λ lists. length lists.items ≡ desks) }
+    ensures empty { IfOk result (λ lists. (place : ℕ) → calls_at lists.items place ≡ []) }
+    ensures none { IfOk result (λ lists. count_in lists.items ≡ 0) }
+{
+    let mut lists = Vec::with_capacity(alloc, desks)?;
+    for _ in 0..desks {
+        lists.push(Vec::new(alloc))?;
+    }
+    Ok(lists)
+}
+
+// Puts a call at the end of its desk's list.
+fn append(lists: &mut Vec<Vec<Call>>, desk: u64, call: Call) -> Result<(), NoMemory>
+    requires { (1 ≤ desk) × (desk ≤ length lists.old.items) }
+    ensures { OnOk result (Appends lists.old.items lists.new.items (desk - 1) call) }
+{
+    lists[desk as usize - 1].push(call)?;
+    Ok(())
+}
+
+/// The calls of a script, put in lists of so many desks in one pass: each desk's are those of its
+/// records, in order.
+///
+/// Errors: `NoMemory` where memory is refused.
+pub fn calls_by_desk(
+    alloc: Global,
+    script: &[ScriptRow],
+    desks: usize,
+) -> Result<Vec<Vec<Call>>, NoMemory>
+    requires { All (λ r. (1 ≤ r.desk) × (r.desk ≤ desks)) script.now }
+    ensures size { IfOk result (λ lists. length lists.items ≡ desks) }
+    ensures calls { IfOk result (λ lists. AreCallsOf (map record_of script.now) lists.items) }
+{
+    let mut lists = empty_lists(alloc, desks)?;
+    for row in script {
+        append(&mut lists, row.desk, call_of(row.call))?;
+    }
+    Ok(lists)
+}
+
+/// The list of a desk.
+pub fn list_of(lists: &[Vec<Call>], desk: u64) -> &[Call]
+    requires { (1 ≤ desk) × (desk ≤ length lists.now) }
+    ensures { result.now ≡ calls_at lists.now (desk - 1) }
+{
+    lists[desk as usize - 1].as_slice()
+}
