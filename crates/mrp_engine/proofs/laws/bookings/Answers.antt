@@ -1,4 +1,4 @@
-use Rattle.mrp_engine.proofs.lemmas.day.ScriptLaws.{books-within, stays-covered}
+use Rattle.mrp_engine.proofs.ScriptLaws.{books-within, stays-covered}
 use Rattle.mrp_engine.proofs.laws.bookings.Goals as goal
 
 pub returns-clause-within : goal.returns-clause-within

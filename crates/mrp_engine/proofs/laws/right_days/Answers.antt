@@ -1,5 +1,5 @@
 use Rattle.mrp_engine.proofs.RightDays.{by-words, day-right, from-script, in-order, live-right}
-use Rattle.mrp_engine.proofs.lemmas.day.ScriptLaws.{books-within, plans-what-stood, stays-covered}
+use Rattle.mrp_engine.proofs.ScriptLaws.{books-within, plans-what-stood, stays-covered}
 use Rattle.mrp_engine.proofs.laws.right_days.Goals as goal
 
 pub returns-clause-in_order : goal.returns-clause-in_order

@@ -1,5 +1,5 @@
 use Rattle.mrp_engine.proofs.OneOutcome.{same-history}
-use Rattle.mrp_engine.proofs.lemmas.day.ScriptLaws.{plans-what-stood}
+use Rattle.mrp_engine.proofs.ScriptLaws.{plans-what-stood}
 use Rattle.mrp_engine.proofs.laws.runs.Goals as goal
 
 pub returns-clause-one_history : goal.returns-clause-one_history
