@@ -70,7 +70,7 @@ impl Tables {
     ghost use Rattle.mrp_tables.specs.Stock.{items_in_stock};
     ghost use Rattle.mrp_tables.specs.Laws.{IsMemoryRefusal};
     ghost use Rattle.mrp_tables.specs.Reading.{Gives};
-    ghost use Rattle.mrp_tables.specs.Tables.{tables_in};
+    ghost use Rattle.mrp_tables.specs.Tables.{AreTables, tables_in};
 
     /// The tables of a bundle's sections, or their first fault: table by table, first the header,
     /// then record by record that there are too many, their count of cells, their cells from left to
@@ -144,6 +144,14 @@ impl Tables {
             master,
             script,
         }
+    }
+
+    /// What accepted tables keep, all of it at once: each reader tells its own table's part. It does
+    /// nothing.
+    pub fn keep_limits(&self)
+        ensures { AreTables self.now }
+    {
+        let _calendar = &self.calendar;
     }
 
     /// The shop's calendar.
