@@ -22,9 +22,9 @@ use Rattle.mrp_tables.specs.declared.calendar.Entry.TheVariants.{Start, Weeks, W
 use Rattle.mrp_tables.specs.Bills.{bill_row}
 use Rattle.mrp_tables.specs.Calendar.{entry_row, holiday_cells, start_cells, weeks_cells, workdays_cell, workdays_cells}
 use Rattle.mrp_tables.specs.Centres.{centre_cells, centre_checked, centre_names, centre_row, known_centre}
-use Rattle.mrp_tables.specs.Items.{class_words, greatest_size, is_master, is_master_at, item_cells, item_checked, item_row, known, least_size, names_of}
+use Rattle.mrp_tables.specs.Items.{class_words, greatest_size, is_master, is_master_at, item_at, item_cells, item_checked, item_row, known, least_size, names_of}
 use Rattle.mrp_tables.specs.Laws.{FaultsAtItsRecord, FaultsAtTheirRecords, IsAt}
-use Rattle.mrp_tables.specs.Master.{kind_words, master_row}
+use Rattle.mrp_tables.specs.Master.{class_fault, has_kind, kind_at, kind_words, master_row}
 use Rattle.mrp_tables.specs.declared.receipts.OpenOrder.{OpenOrder}
 use Rattle.mrp_tables.specs.declared.rows.Receipt.{Receipt}
 use Rattle.mrp_tables.specs.Reading.{Reads, admitted, by_itself, is_past}
@@ -132,7 +132,7 @@ master_at calendar items r =
     cell r (number_cell 0 limits.MOST_PIECES (cell_at r 3)) _ (λ quantity.
     cell r (known items name) _ (λ item.
     cell r (or_code faults.DATE_OUTSIDE (week_of calendar date)) _ (λ week.
-    last r faults.NOT_MASTER (not (is_master_at items item)) _))))))
+    last r (class_fault (kind_at kind)) (not (has_kind (item_at items item).class (kind_at kind))) _))))))
 
 stock_at : (items : List Item) (before : List StockRow) (r : Cells) → IfErr (stock_row items before r) (IsAt r)
 unfolding stock_cells

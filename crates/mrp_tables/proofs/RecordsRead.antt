@@ -29,9 +29,9 @@ use Rattle.mrp_tables.specs.declared.rows.StockRow.{StockRow}
 use Rattle.mrp_tables.specs.Bills.{bill_row}
 use Rattle.mrp_tables.specs.Centres.{centre_cells, known_centre}
 use Rattle.mrp_tables.specs.Facts.{IsBillLine, IsCentre, IsItemUnlessStocked, IsMasterItem, IsMasterRowIfAny, IsOpenOrder, IsOperation, IsReceiptIfAny, IsRoutingLine, IsScriptCall, IsScriptRow, IsStockRow}
-use Rattle.mrp_tables.specs.Items.{class_at, class_words, greatest_size, is_master_at, item_cells, known, least_size, lot_at}
+use Rattle.mrp_tables.specs.Items.{class_at, class_words, greatest_size, is_master_at, item_at, item_cells, known, least_size, lot_at}
 use Rattle.mrp_tables.specs.Limits.{call_words, lot_words}
-use Rattle.mrp_tables.specs.Master.{kind_at, kind_words, master_row}
+use Rattle.mrp_tables.specs.Master.{class_fault, has_kind, kind_at, kind_words, master_row}
 use Rattle.mrp_tables.specs.Receipts.{order_cells, order_checked, receipt_beside, receipt_placed, same_order}
 use Rattle.mrp_tables.specs.Routings.{operation_beside, routing_cells, routing_checked, routing_placed, same_operation}
 use Rattle.mrp_tables.specs.Script.{ask_cells, book_cells, call_at, cancel_cells, mastered, script_row, spot_of, when_cells}
@@ -173,10 +173,10 @@ is_master_row calendar items r row e =
     let item = whole_step (blame r (known items name.0)) _ row quantity.2 in
     let week = whole_step (blame r (or_code faults.DATE_OUTSIDE (week_of calendar date.0))) _ row item.2 in
     let made : MasterRow = record { number = r.number; item = item.0; kind = kind_at kind.0; week = week.0; quantity = quantity.0 } in
-    let last = unless (not (is_master_at items item.0)) (fault_at r faults.NOT_MASTER) made row week.2 in
+    let last = unless (not (has_kind (item_at items item.0).class (kind_at kind.0))) (fault_at r (class_fault (kind_at kind.0))) made row week.2 in
     subst (IsMasterRowIfAny calendar.weeks items) last.1 (λ any. record {
       item = there items r name.0 item.0 item.1;
-      master = not-not (is_master_at items item.0) last.0;
+      class = not-not (has_kind (item_at items item.0).class (kind_at kind.0)) last.0;
       week = in_week calendar r date.0 week.0 week.1;
       quantity = (any, (in_range 0 limits.MOST_PIECES r (cell_at r 3) quantity.0 quantity.1).1);
     })

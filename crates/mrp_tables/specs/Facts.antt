@@ -16,7 +16,8 @@ use Rattle.mrp_tables.specs.declared.rows.MasterRow.{MasterRow}
 use Rattle.mrp_tables.specs.declared.rows.ScriptCall.{ScriptCall}
 use Rattle.mrp_tables.specs.declared.rows.ScriptCall.TheVariants as call
 use Rattle.mrp_tables.specs.declared.rows.ScriptRow.{ScriptRow}
-use Rattle.mrp_tables.specs.Items.{is_master, is_master_at}
+use Rattle.mrp_tables.specs.Items.{is_master, is_master_at, item_at}
+use Rattle.mrp_tables.specs.Master.{has_kind}
 
 -- no two of a list are the same
 abbrev pub AllDiffer : {X : Type 0} → List X → Type 0
@@ -92,10 +93,10 @@ pub record IsOperation (items : List Item) (centres : List Centre) (row : Operat
   pub run : row.run ≤ limits.MOST_RUN
   pub offset : row.offset ≤ limits.MOST_OFFSET
 
--- a row of a master item in a week of the horizon, of at least one piece
+-- a row of an item whose class has such rows, in a week of the horizon, of at least one piece
 pub record IsMasterRow (weeks : ℕ) (items : List Item) (row : MasterRow) : Type 0 where
   pub item : row.item < length items
-  pub master : is_master_at items row.item ≡ true
+  pub class : has_kind (item_at items row.item).class row.kind ≡ true
   pub week : IsInRange 1 weeks row.week
   pub quantity : IsInRange 1 limits.MOST_PIECES row.quantity
 

@@ -59,9 +59,13 @@ place_of name items = position (pointwise nat_eq name) (names_of items)
 abbrev pub known : List Item → List ℕ → Result ℕ ℕ
 known items name = or_code faults.UNKNOWN_ITEM (place_of name items)
 
+-- in place of an item where there is none
+abbrev pub no_item : Item
+no_item = record { name = []; class = Part; lead = 0; scrap = 0; lot = LotForLot; safety = 0 }
+
 -- the item at a place
 abbrev pub item_at : List Item → ℕ → Item
-item_at items place = slice_index_or items place (record { name = []; class = Part; lead = 0; scrap = 0; lot = LotForLot; safety = 0 })
+item_at items place = slice_index_or items place no_item
 
 abbrev pub is_master_at : List Item → ℕ → Bool
 is_master_at items place = is_master (item_at items place).class

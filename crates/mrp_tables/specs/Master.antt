@@ -7,11 +7,12 @@ use Rattle.mrp_rows.specs.declared.faults.TheConstants as faults
 use Rattle.mrp_rows.specs.Left.{Cells}
 use Rattle.mrp_rows.specs.Cell.{cell_at, fault_at, blame, or_code, name_of, number_cell, word_of, date_cell}
 use Rattle.mrp_tables.specs.declared.limits.TheConstants as limits
+use Rattle.mrp_tables.specs.declared.item.Class.{Class}
 use Rattle.mrp_tables.specs.declared.item.Item.{Item}
 use Rattle.mrp_tables.specs.declared.rows.MasterKind.{MasterKind}
 use Rattle.mrp_tables.specs.declared.rows.MasterKind.TheVariants.{Firm, Forecast}
 use Rattle.mrp_tables.specs.declared.rows.MasterRow.{MasterRow}
-use Rattle.mrp_tables.specs.Items.{known, is_master_at}
+use Rattle.mrp_tables.specs.Items.{known, is_master, item_at}
 
 abbrev pub kind_words : List (List ℕ)
 kind_words = codes "firm" ∷ codes "forecast" ∷ []
@@ -19,12 +20,27 @@ kind_words = codes "firm" ∷ codes "forecast" ∷ []
 abbrev pub kind_at : ℕ → MasterKind
 kind_at place = if place == 0 then Firm else Forecast
 
--- an order of the master schedule, and no forecast
+-- an order of the master schedule
 abbrev pub is_firm : MasterKind → Bool
 is_firm Firm = true
 is_firm Forecast = false
 
--- the cells from left to right; then an item that is there, a week of the horizon, and a master item
+-- a forecast of demand
+abbrev pub is_forecast : MasterKind → Bool
+is_forecast Firm = false
+is_forecast Forecast = true
+
+-- whether items of a class have rows of a kind
+abbrev pub has_kind : Class → MasterKind → Bool
+has_kind class Firm = is_master class
+has_kind class Forecast = is_master class
+
+-- the fault of a row of a kind that items of its item's class do not have
+abbrev pub class_fault : MasterKind → ℕ
+class_fault Firm = faults.NOT_MASTER
+class_fault Forecast = faults.NOT_MASTER
+
+-- the cells from left to right; then an item that is there, a week of the horizon, and an item of a class that has such rows
 unfoldable pub master_row : ShopCalendar → List Item → Cells → Result MasterRow Fault
 master_row calendar items r = do
   name ← blame r (name_of (cell_at r 0))
@@ -33,7 +49,7 @@ master_row calendar items r = do
   quantity ← blame r (number_cell 0 limits.MOST_PIECES (cell_at r 3))
   item ← blame r (known items name)
   week ← blame r (or_code faults.DATE_OUTSIDE (week_of calendar date))
-  if not (is_master_at items item) then Err (fault_at r faults.NOT_MASTER) else Ok (record { number = r.number; item = item; kind = kind_at kind; week = week; quantity = quantity })
+  if not (has_kind (item_at items item).class (kind_at kind)) then Err (fault_at r (class_fault (kind_at kind))) else Ok (record { number = r.number; item = item; kind = kind_at kind; week = week; quantity = quantity })
 
 -- a row of quantity 0 is checked like any other, and then counts as no row
 abbrev pub that_count : List MasterRow → List MasterRow

@@ -3,7 +3,7 @@
 ghost use Rattle.std.specs.Prelude.{◌≡◌, ◌&&◌, nat_lt};
 ghost use Rattle.mrp_tables.specs.Items.{is_master};
 
-use crate::item::Item;
+use crate::item::{Class, Item};
 use crate::reading::{TableRows, read_table};
 use indexmap::IndexSet;
 use mrp_rows::faults::{MASTER_SAFETY, NO_MEMORY, REPEATED};
@@ -80,7 +80,7 @@ impl Items {
     ghost use Rattle.std.specs.Prelude.{◌≡◌, ◌<◌, ◌≤◌, [], length, All, IfOk, IfSome};
     ghost use Rattle.mrp_tables.specs.declared.limits.TheConstants.{MOST_ITEMS};
     ghost use Rattle.mrp_tables.specs.Facts.{AllDiffer, IsItem};
-    ghost use Rattle.mrp_tables.specs.Items.{is_master_at, names_of, place_of};
+    ghost use Rattle.mrp_tables.specs.Items.{is_master_at, item_at, names_of, place_of};
     ghost use Rattle.mrp_tables.specs.Readers.{GivesTable};
 
     pub(crate) fn read(alloc: Global, sections: &Sections<'_>) -> Result<Items, Fault>
@@ -113,6 +113,14 @@ impl Items {
         ensures within { IfSome result (λ place. place < length self.now) }
     {
         self.names.get_index_of(name)
+    }
+
+    // The class of the item at a place.
+    pub(crate) fn class(&self, place: usize) -> Class
+        requires { place < length self.now }
+        ensures { result ≡ (item_at self.now place).class }
+    {
+        self.items[place].class
     }
 
     // Whether the item at a place is a master item.

@@ -10,7 +10,7 @@ use crate::limits::MOST_PIECES;
 use crate::reading::{TableRows, read_table};
 use crate::rows::{MasterKind, MasterRow};
 use mrp_cal::Calendar;
-use mrp_rows::faults::{DATE_OUTSIDE, NO_MEMORY, NOT_MASTER, UNKNOWN_ITEM};
+use mrp_rows::faults::{DATE_OUTSIDE, NO_MEMORY, UNKNOWN_ITEM};
 use mrp_rows::{Fault, Row, Sections, Table};
 use std::alloc::Global;
 use std::marker::Model;
@@ -78,7 +78,7 @@ fn master_row(row: &Row, calendar: &Calendar, items: &Items) -> Result<MasterRow
     ensures within { IfOk result (IsMasterRowIfAny calendar.now.weeks items.now) }
 {
     let name = row.name(0)?;
-    let kind = row.word(1, &["firm", "forecast"])?;
+    let kind = kind_at(row.word(1, &["firm", "forecast"])?);
     let date = row.date(2)?;
     let quantity = quantity(row, 3, 0, MOST_PIECES)?;
     let Some(item) = items.find(&name) else {
@@ -87,13 +87,13 @@ fn master_row(row: &Row, calendar: &Calendar, items: &Items) -> Result<MasterRow
     let Some(week) = calendar.week_of(date) else {
         return Err(row.fault(DATE_OUTSIDE));
     };
-    if !items.is_master(item) {
-        return Err(row.fault(NOT_MASTER));
+    if !kind.is_of(items.class(item)) {
+        return Err(row.fault(kind.class_fault()));
     }
     Ok(MasterRow {
         number: row.record(),
         item,
-        kind: kind_at(kind),
+        kind,
         week,
         quantity,
     })

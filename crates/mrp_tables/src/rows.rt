@@ -1,8 +1,10 @@
 //! The rows of the tables. Items and centres are named by their places in their tables, from 0,
 //! dates by their weeks, from 1.
 
+use crate::item::Class;
 use mrp_qty::Qty;
 use mrp_rows::Name;
+use mrp_rows::faults::NOT_MASTER;
 
 /// A work centre.
 #[derive(Clone, Copy, Debug)]
@@ -76,7 +78,7 @@ pub enum MasterKind {
 
 impl MasterKind {
     ghost use Rattle.std.specs.Prelude.{◌≡◌};
-    ghost use Rattle.mrp_tables.specs.Master.{is_firm};
+    ghost use Rattle.mrp_tables.specs.Master.{class_fault, has_kind, is_firm, is_forecast};
 
     /// Whether it is an order.
     pub fn is_firm(self) -> bool
@@ -87,6 +89,34 @@ impl MasterKind {
             MasterKind::Forecast => false,
         }
     }
+
+    /// Whether it is a forecast.
+    pub fn is_forecast(self) -> bool
+        ensures { result ≡ is_forecast self }
+    {
+        match self {
+            MasterKind::Firm => false,
+            MasterKind::Forecast => true,
+        }
+    }
+
+    // Whether items of a class have rows of this kind.
+    pub(crate) fn is_of(self, class: Class) -> bool
+        ensures { result ≡ has_kind class self }
+    {
+        match self {
+            MasterKind::Firm | MasterKind::Forecast => class.is_master(),
+        }
+    }
+
+    // The fault of a row of this kind whose item's class has none.
+    pub(crate) fn class_fault(self) -> u8
+        ensures { result ≡ class_fault self }
+    {
+        match self {
+            MasterKind::Firm | MasterKind::Forecast => NOT_MASTER,
+        }
+    }
 }
 
 /// A row of the master schedule.
@@ -94,7 +124,7 @@ impl MasterKind {
 pub struct MasterRow {
     /// The record's number in its table.
     pub number: u32,
-    /// The master item.
+    /// The item, of a class that has rows of this kind.
     pub item: usize,
     /// Whether it is an order or a forecast.
     pub kind: MasterKind,
