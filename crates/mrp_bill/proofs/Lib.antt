@@ -3,6 +3,7 @@ pub mod BillListed
 pub mod Climbs
 pub mod Coded
 pub mod Decided
+pub mod GroupParts
 pub mod Linked
 pub mod Listed
 pub mod Ordered

@@ -2,6 +2,7 @@ pub mod Bill
 pub mod BillLists
 pub mod Climb
 pub mod Fault
+pub mod Grouped
 pub mod Links
 pub mod Lists
 pub mod Ranking

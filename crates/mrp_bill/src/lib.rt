@@ -4,6 +4,7 @@
 mod climb;
 mod codes;
 mod fault;
+mod groups;
 pub mod laws;
 mod lists;
 mod ranks;
@@ -11,5 +12,6 @@ mod search;
 mod shop;
 
 pub use fault::BillFault;
+pub use groups::{Grouped, Numbered};
 pub use lists::{append, empty_lists};
 pub use shop::{Bill, Shop};

@@ -1,14 +1,13 @@
 -- What is due, one row at a time.
-use Rattle.std.proofs.Common.{◌≡◌, ◌≢◌, ◌∙◌, ℕ, zero, ◌+◌, ◌<◌, ◌≤◌, Bool, true, false, cond, eqb, List, [], ◌∷◌, ◌++◌, length, take, map, get_or, replicate, refl, sym, ap, arith}
+use Rattle.std.proofs.Common.{◌≡◌, ◌≢◌, ◌∙◌, ℕ, zero, ◌+◌, ◌<◌, ◌≤◌, Bool, true, false, cond, eqb, List, [], ◌∷◌, length, take, map, get_or, replicate, refl, sym, ap, arith}
 use Rattle.std.specs.Prelude.{filter, sum, sum_by}
-use Rattle.std.proofs.lemmas.List.{length-replicate, map-append}
-use Rattle.std.proofs.lemmas.List.Elements.{filter_more}
+use Rattle.std.proofs.lemmas.List.{length-replicate}
 use Rattle.std.proofs.lemmas.Bool.{eqb-true, eqb-false, eq-eqb}
 use Rattle.std.proofs.lemmas.List.Sums.{sum_by-cons, sum_by_more, sum_by_more_le}
 use Rattle.mrp_phase.specs.Weeks.{row, in_week, with_week}
 use Rattle.mrp_phase.proofs.WeekRows.{row_is, row_same, in_week_row, in_week_changed, in_week_kept, in_week_replicate, length-with_week}
 use Rattle.mrp_item.specs.declared.due.Due.{Due}
-use Rattle.mrp_item.specs.Dues.{due_in, due_sum, dues_of, with_more}
+use Rattle.mrp_item.specs.Dues.{due_in, due_sum, with_more}
 
 -- a quantity that is due in a week, and 0 in another
 abbrev pub one_due : ℕ → Due → ℕ
@@ -71,15 +70,3 @@ dated_more dues k d xs n h is so_far =
 
 pub dated_none : (n : ℕ) → replicate n 0 ≡ row n (due_sum [])
 dated_none n = row_is (replicate n 0) (due_sum []) n (length-replicate n 0) (λ t a b. in_week_replicate n t)
-
--- what one more row says is due
-pub dues_more : {R D : Type 0} (keep : R → Bool) (due : R → D) (rows : List R) (k : ℕ) (d r : R) → k < length rows → r ≡ get_or rows k d
-    → dues_of keep due (take (k + 1) rows) ≡ dues_of keep due (take k rows) ++ cond (keep r) (due r ∷ []) []
-dues_more {R} keep due rows k d r h is =
-    ap (map due) (filter_more keep rows k d h ∙ ap (λ (x : R). filter keep (take k rows) ++ cond (keep x) (x ∷ []) []) (sym is))
-    ∙ map-append due (filter keep (take k rows)) (cond (keep r) (r ∷ []) [])
-    ∙ ap (λ xs. map due (filter keep (take k rows)) ++ xs) (by (keep r))
-  where
-    by : (b : Bool) → map due (cond b (r ∷ []) []) ≡ cond b (due r ∷ []) []
-    by true = refl
-    by false = refl

@@ -1,6 +1,5 @@
 pub mod DueLemmas
 pub mod DueRows
-pub mod GroupParts
 pub mod Starts
 pub mod OrderWeeks
 pub mod Asks

@@ -1,6 +1,5 @@
 -- What is due of an item, row by row.
-use Rattle.std.specs.Prelude.{ℕ, ◌==◌, ◌&&◌, ◌+◌, if◌then◌else◌, Bool, List, [], map, filter, sum}
-use Rattle.std.specs.List.{slice_index_or}
+use Rattle.std.specs.Prelude.{ℕ, ◌==◌, ◌&&◌, ◌+◌, if◌then◌else◌, Bool, List, map, filter, sum}
 use Rattle.mrp_phase.specs.Weeks.{in_week}
 use Rattle.mrp_tables.specs.declared.rows.MasterRow.{MasterRow}
 use Rattle.mrp_tables.specs.declared.rows.Receipt.{Receipt}
@@ -45,7 +44,3 @@ receipt_dues rows i = dues_of (λ r. r.item == i) receipt_due rows
 
 abbrev pub booking_dues : List Booking → ℕ → List Due
 booking_dues rows i = dues_of (λ b. b.line.item == i) booking_due rows
-
--- the list of a number, and nothing past the last one
-abbrev pub listed : {X : Type 0} → List (List X) → ℕ → List X
-listed lists i = slice_index_or lists i []

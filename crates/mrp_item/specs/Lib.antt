@@ -2,7 +2,7 @@ pub mod Stops
 pub mod Inputs
 pub mod Rows
 pub mod Dues
-pub mod Grouped
+pub mod Numbered
 pub mod Limits
 pub mod Lot
 pub mod Orders

@@ -2,7 +2,8 @@
 use Rattle.std.specs.Prelude.{ℕ, ◌≡◌, ◌<◌, All, length}
 use Rattle.mrp_tables.specs.Facts.{IsReceipt}
 use Rattle.mrp_master.specs.Supply.{supply_of}
-use Rattle.mrp_item.specs.Dues.{listed, firm_dues, forecast_dues, receipt_dues}
+use Rattle.mrp_bill.specs.Grouped.{listed}
+use Rattle.mrp_item.specs.Dues.{firm_dues, forecast_dues, receipt_dues}
 use Rattle.mrp_item.specs.declared.shop_rows.ShopRows.TheInside.{Inside}
 
 -- how many items there are

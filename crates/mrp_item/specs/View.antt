@@ -4,7 +4,8 @@ use Rattle.mrp_master.specs.Supply.{supply_of}
 use Rattle.mrp_book.specs.Booked.{AreBooked}
 use Rattle.mrp_item.specs.declared.inputs.Inputs.TheInside.{Inside}
 use Rattle.mrp_item.specs.Inputs.{Inputs, count}
-use Rattle.mrp_item.specs.Dues.{listed, booking_dues}
+use Rattle.mrp_bill.specs.Grouped.{listed}
+use Rattle.mrp_item.specs.Dues.{booking_dues}
 use Rattle.mrp_item.specs.Plan.{IsRanked, HasParents}
 
 abbrev pub inputs_view : Inside → Inputs

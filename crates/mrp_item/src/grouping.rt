@@ -2,12 +2,13 @@
 
 ghost use Rattle.std.specs.Prelude.{◌≡◌, ◌<◌, ℕ, All, length, filter, map, IfOk};
 ghost use Rattle.mrp_tables.specs.Master.{is_firm};
-ghost use Rattle.mrp_item.specs.Dues.{booking_dues, firm_dues, forecast_dues, listed, receipt_dues};
-ghost use Rattle.mrp_item.specs.Grouped.{of_booking, of_master, of_receipt};
+ghost use Rattle.mrp_bill.specs.Grouped.{listed};
+ghost use Rattle.mrp_item.specs.Dues.{booking_dues, firm_dues, forecast_dues, receipt_dues};
+ghost use Rattle.mrp_item.specs.Numbered.{of_booking, of_master, of_receipt};
 ghost use Rattle.mrp_item.specs.Rows.{is_forecast};
 
 use crate::due::Due;
-use crate::groups::{Grouped, Numbered};
+use mrp_bill::{Grouped, Numbered};
 use mrp_book::Booking;
 use mrp_qty::NoMemory;
 use mrp_tables::{MasterRow, Receipt};

@@ -2,9 +2,8 @@
 
 use crate::due::Due;
 use crate::grouping::bookings_by_item;
-use crate::groups::Grouped;
 use crate::shop_rows::ShopRows;
-use mrp_bill::Shop;
+use mrp_bill::{Grouped, Shop};
 use mrp_book::Snapshot;
 use mrp_qty::{NoMemory, Qty};
 use mrp_tables::Item;

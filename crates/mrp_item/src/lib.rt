@@ -4,7 +4,6 @@
 mod asked;
 mod due;
 mod grouping;
-mod groups;
 mod inputs;
 pub mod laws;
 mod order;
@@ -20,7 +19,6 @@ mod supplies;
 mod supply;
 
 pub use due::Due;
-pub use groups::{Grouped, Numbered};
 pub use inputs::Inputs;
 pub use order::{Order, OrderKind};
 pub use outcome::Outcome;

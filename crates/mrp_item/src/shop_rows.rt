@@ -2,8 +2,7 @@
 
 use crate::due::Due;
 use crate::grouping::{firm_by_item, forecasts_by_item, receipts_by_item};
-use crate::groups::Grouped;
-use mrp_bill::Shop;
+use mrp_bill::{Grouped, Shop};
 use mrp_master::Supply;
 use mrp_qty::{NoMemory, Qty};
 use std::alloc::Global;

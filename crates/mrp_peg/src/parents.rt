@@ -11,7 +11,8 @@ ghost use Rattle.mrp_peg.specs.Weekly.{of_week};
 use crate::matching::Wanted;
 use crate::ordering::with_week;
 use crate::peg::{Need, NeedKind};
-use mrp_item::{Numbered, Order};
+use mrp_bill::Numbered;
+use mrp_item::Order;
 use mrp_qty::NoMemory;
 use mrp_tables::BillLine;
 

@@ -3,7 +3,7 @@
 ghost use Rattle.std.specs.Prelude.{◌<◌, length};
 
 use super::same;
-use mrp_item::{Grouped, Numbered};
+use mrp_bill::{Grouped, Numbered};
 
 #[test]
 fn a_group_has_its_values_in_the_order_in_which_they_came(rt: HostRuntime) {

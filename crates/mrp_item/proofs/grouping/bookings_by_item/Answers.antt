@@ -2,10 +2,11 @@ use Rattle.std.proofs.Common.{◌∙◌, ◌<◌, List, ap, sym, subst}
 use Rattle.std.specs.Prelude.{All}
 use Rattle.std.proofs.lemmas.List.Elements.{All-map}
 use Rattle.mrp_item.specs.declared.due.Due.{Due}
-use Rattle.mrp_item.specs.declared.groups.Numbered.{Numbered}
+use Rattle.mrp_bill.specs.declared.groups.Numbered.{Numbered}
 use Rattle.mrp_item.specs.Dues.{booking_dues}
-use Rattle.mrp_item.specs.Grouped.{of_booking, values_of}
-use Rattle.mrp_item.proofs.GroupParts.{told-of, values_of-all}
+use Rattle.mrp_item.specs.Numbered.{of_booking}
+use Rattle.mrp_bill.specs.Grouped.{values_of}
+use Rattle.mrp_bill.proofs.GroupParts.{told-of, values_of-all}
 use Rattle.mrp_item.proofs.grouping.bookings_by_item.Goals as goal
 
 pub of-requires : goal.of-requires

@@ -4,10 +4,11 @@ use Rattle.std.proofs.lemmas.List.Elements.{All-map, All-filter}
 use Rattle.mrp_tables.specs.declared.rows.MasterRow.{MasterRow}
 use Rattle.mrp_item.specs.Rows.{is_forecast}
 use Rattle.mrp_item.specs.declared.due.Due.{Due}
-use Rattle.mrp_item.specs.declared.groups.Numbered.{Numbered}
+use Rattle.mrp_bill.specs.declared.groups.Numbered.{Numbered}
 use Rattle.mrp_item.specs.Dues.{forecast_dues}
-use Rattle.mrp_item.specs.Grouped.{of_master, values_of}
-use Rattle.mrp_item.proofs.GroupParts.{told-of, values_of-kept}
+use Rattle.mrp_item.specs.Numbered.{of_master}
+use Rattle.mrp_bill.specs.Grouped.{values_of}
+use Rattle.mrp_bill.proofs.GroupParts.{told-of, values_of-kept}
 use Rattle.mrp_item.proofs.grouping.forecasts_by_item.Goals as goal
 
 pub of-requires : goal.of-requires

@@ -1,6 +1,6 @@
 use Rattle.std.proofs.Common.{◌∙◌, ◌+◌, ◌<◌, ◌++◌, ◌∷◌, [], List, length, map, take, take_all, ap, arith, append_assoc}
 use Rattle.std.specs.List.{enumerate_from}
-use Rattle.mrp_item.specs.declared.groups.Numbered.{Numbered}
+use Rattle.mrp_bill.specs.declared.groups.Numbered.{Numbered}
 use Rattle.mrp_item.specs.declared.order.Order.{Order}
 use Rattle.mrp_peg.specs.declared.matching.Wanted.{Wanted}
 use Rattle.mrp_peg.specs.Rows.{order_wanted}

@@ -1,9 +1,9 @@
 use Rattle.std.proofs.Common.{◌≡◌, ◌∙◌, List, map, cond, ap, sym, subst}
 use Rattle.std.specs.Prelude.{IfOk, flat_map}
 use Rattle.mrp_phase.specs.Weeks.{weeks}
-use Rattle.mrp_item.specs.declared.groups.Numbered.{Numbered}
+use Rattle.mrp_bill.specs.declared.groups.Numbered.{Numbered}
 use Rattle.mrp_item.specs.Inputs.{Inputs, horizon}
-use Rattle.mrp_item.specs.Grouped.{values_of}
+use Rattle.mrp_bill.specs.Grouped.{values_of}
 use Rattle.mrp_peg.specs.declared.matching.Wanted.{Wanted}
 use Rattle.mrp_peg.specs.Rows.{demand_wanted, parents_wanted}
 use Rattle.mrp_peg.specs.Weekly.{AreWithin, of_week}

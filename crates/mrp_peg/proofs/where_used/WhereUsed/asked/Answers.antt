@@ -2,7 +2,7 @@ use Rattle.std.proofs.Common.{◌∙◌, ◌++◌, [], ℕ, List, map, sym, ap, 
 use Rattle.std.specs.Prelude.{flat_map}
 use Rattle.std.proofs.lemmas.List.{take_all}
 use Rattle.mrp_bill.specs.Bill.{lines_of}
-use Rattle.mrp_item.specs.declared.groups.Numbered.{Numbered}
+use Rattle.mrp_bill.specs.declared.groups.Numbered.{Numbered}
 use Rattle.mrp_item.specs.Inputs.{Inputs}
 use Rattle.mrp_peg.specs.Rows.{line_wanted}
 use Rattle.mrp_peg.specs.Weekly.{of_week}
