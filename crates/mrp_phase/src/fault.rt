@@ -6,7 +6,7 @@ ghost use Rattle.mrp_phase.specs.declared.fault.PhaseFault.TheVariants.{NoMemory
 use std::alloc::{AllocError, AllocFailed};
 use thiserror::Error;
 
-/// Why a row over weeks could not be made.
+/// Why a row over weeks, or of the needs and receipts of an item in them, could not be made.
 #[derive(Clone, Copy, Debug, PartialEq, Eq, Error)]
 pub enum PhaseFault {
     /// A sum passes the greatest quantity.
@@ -15,6 +15,14 @@ pub enum PhaseFault {
     /// A growth of memory was refused.
     #[error("no memory")]
     NoMemory,
+}
+
+impl From<mrp_qty::NoMemory> for PhaseFault {
+    ghost from_gives = { λ _ e. e ≡ NoMemory };
+
+    fn from(_refused: mrp_qty::NoMemory) -> PhaseFault {
+        PhaseFault::NoMemory
+    }
 }
 
 impl From<AllocError> for PhaseFault {

@@ -1,11 +1,11 @@
 //! Rows over weeks.
 
-ghost use Rattle.std.specs.Prelude.{◌≡◌, ◌≤◌, ◌<◌, ◌+◌, ◌↔◌, length, sum, replicate, ok_or, IfOk, OnOk, OnSome, IfNone, IsSome, IsErrOf, IsOkUnless};
+ghost use Rattle.std.specs.Prelude.{◌≡◌, ◌≤◌, ◌<◌, ◌+◌, ◌↔◌, length, sum, replicate, IfOk, OnSome, IfNone, IsSome, IsErrOf, IsOkUnless};
 ghost use Rattle.mrp_qty.specs.Quantity.{greatest_quantity, quantity_of};
 ghost use Rattle.mrp_phase.specs.Weeks.{greatest_to, in_week, row, sum_to, with_week};
 
 use crate::fault::PhaseFault;
-use mrp_qty::Qty;
+use mrp_qty::{NoMemory, Qty};
 use std::alloc::Global;
 use std::marker::Model;
 
@@ -60,13 +60,6 @@ fn nothing() -> Qty
     Qty::new(0).unwrap()
 }
 
-// One more quantity in a sum; `TooLarge` where it passes the greatest quantity.
-fn plus(so_far: Qty, more: Qty) -> Result<Qty, PhaseFault>
-    ensures { result ≡ ok_or (quantity_of (so_far + more)) PhaseFault.TooLarge }
-{
-    so_far.add(more).ok_or(PhaseFault::TooLarge)
-}
-
 impl Weeks<Qty> {
     /// Nothing in each of so many weeks.
     ///
@@ -79,21 +72,45 @@ impl Weeks<Qty> {
         Ok(Weeks::from_vec(quantities))
     }
 
+    /// The sum of a quantity and those of all weeks; None past the greatest quantity. It takes no
+    /// memory.
+    #[tactic(auto, using(crate::proofs::WeekRows::sum_to_within, crate::proofs::WeekRows::sum_to_whole, crate::proofs::WeekRows::sum_to_next, crate::proofs::WeekRows::in_week_next))]
+    pub fn sum_from(&self, first: Qty) -> Option<Qty>
+        ensures { result ≡ quantity_of (first + sum self.now) }
+    {
+        let quantities = self.as_slice();
+        let mut so_far = first;
+        for quantity in quantities {
+            so_far = so_far.add(*quantity)?;
+        }
+        Some(so_far)
+    }
+
     /// The sums up to each week.
     ///
-    /// Errors: `TooLarge` where a sum passes the greatest quantity, `NoMemory` where the row's
-    /// memory is refused.
-    #[tactic(auto, using(crate::proofs::WeekRows::row_none, crate::proofs::WeekRows::row_more, crate::proofs::WeekRows::sum_to_whole, std::proofs::lemmas::List::Sums::sum_by_more))]
+    /// Errors: `TooLarge` exactly where the sum of all weeks passes the greatest quantity, before
+    /// memory is asked for, and `NoMemory` where the row's memory is refused.
     pub fn cumulative(&self, alloc: Global) -> Result<Weeks<Qty>, PhaseFault>
         ensures sums { IfOk result (λ w. w ≡ row (length self.now) (sum_to self.now)) }
-        ensures within { OnOk result (sum self.now ≤ greatest_quantity) }
-        ensures too_large { IsErrOf result PhaseFault.TooLarge → greatest_quantity < sum self.now }
+        ensures too_large { IsErrOf result PhaseFault.TooLarge ↔ greatest_quantity < sum self.now }
+    {
+        if self.sum_from(nothing()).is_none() {
+            return Err(PhaseFault::TooLarge);
+        }
+        Ok(self.sums(alloc)?)
+    }
+
+    // The sums up to each week, of quantities whose sum is one.
+    #[tactic(auto, using(crate::proofs::WeekRows::row_none, crate::proofs::WeekRows::row_more, crate::proofs::WeekRows::sum_to_whole, std::proofs::lemmas::List::Sums::sum_by_more))]
+    fn sums(&self, alloc: Global) -> Result<Weeks<Qty>, NoMemory>
+        requires { sum self.now ≤ greatest_quantity }
+        ensures { IfOk result (λ w. w ≡ row (length self.now) (sum_to self.now)) }
     {
         let quantities = self.as_slice();
         let mut sums = Vec::with_capacity(alloc, quantities.len())?;
         let mut so_far = nothing();
         for quantity in quantities {
-            so_far = plus(so_far, *quantity)?;
+            so_far = so_far.add(*quantity).unwrap();
             sums.push(so_far)?;
         }
         Ok(Weeks::from_vec(sums))
