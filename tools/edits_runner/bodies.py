@@ -1,7 +1,7 @@
 """The functions of a crate and their bodies, as far as the layout that `rt fmt` gives tells them.
 
-tools/edits rests on it for what it tries together, and for whether an edit lies in the body that it names. A text that comes
-out wrong is not believed."""
+The runner rests on it for what it tries together, and for whether an edit lies in the body that it names. A check of a text
+that comes out wrong is not believed."""
 
 import glob
 import os
@@ -59,9 +59,12 @@ def body_at(lines, number):
 # ---- the paths of functions
 
 def module_of(file):
-    """The parts of the path below the crate of what a file of src/ has."""
+    """The parts of the path below the crate of what a file of src/ has: `src/day/runs.rt` is the module `day::runs`, and
+    `src/day.rt` and `src/day/mod.rt` are the module `day`."""
     parts = file.removesuffix(".rt").split("/")[1:]
-    return [] if parts in (["lib"], ["main"]) else parts
+    if parts in (["lib"], ["main"]):
+        return []
+    return parts[:-1] if parts[-1] == "mod" else parts
 
 
 def files_of(folder):
@@ -70,7 +73,7 @@ def files_of(folder):
 
 
 def owner_of(head):
-    """How the prover calls the block of an impl: its type's name, and behind it that of its trait."""
+    """The prover's name for the block of an impl: its type's name, followed by that of its trait."""
     was = None
     while was != head:
         head, was = re.sub(r"<[^<>]*>", "", head), head
@@ -94,25 +97,41 @@ def found_below(name, calls):
     return found
 
 
-# ---- functions without their bodies
+TYPE = re.compile(r"(?m)^(?:pub(?:\([a-z]+\))? )?(?:struct|enum) (\w+)\b")
 
-def path_of(file, text, body):
-    """The parts of a function's path below the crate, where its place tells them, or None."""
+
+def modules_of_types(texts):
+    """The modules in which a type of a name is declared, by these names, in the files of a crate with these texts."""
+    found = {}
+    for file, text in texts.items():
+        for name in TYPE.findall(text):
+            found.setdefault(name, []).append(module_of(file))
+    return found
+
+
+def path_of(file, body, types):
+    """The parts of a function's path below the crate, where its place and the modules of types tell them, or None. A method is
+    named below the module of its type, in whatever file it stands."""
     if not body.indent:
         return parts_of(file, body)
-    is_generic, owner = body.owner.startswith("impl<"), parts_of(file, body)[-2]
-    is_here = re.search(rf"(?m)^(pub(\([a-z]+\))? )?(struct|enum) {re.escape(owner)}\b", text)
+    is_generic, (owner, name) = body.owner.startswith("impl<"), parts_of(file, body)[-2:]
     # (the methods for one argument of a type alone have another path)
-    if not body.owner.startswith("impl") or not is_here or "<" in body.owner and not is_generic and not "<'" in body.owner:
+    if not body.owner.startswith("impl") or "<" in body.owner and not is_generic and not "<'" in body.owner:
         return None
-    return parts_of(file, body)
+    modules = types.get(owner, [])
+    if module_of(file) in modules:
+        return [*module_of(file), owner, name]
+    return [*modules[0], owner, name] if len(modules) == 1 else None
 
 
-def emptied(file, text, spares):
-    """A file's text with no bodies but of those functions that are spared, and the paths of the functions that have none."""
+# ---- functions without their bodies
+
+def emptied(file, text, spares, types):
+    """A file's text with no bodies but of those functions that are spared, and the paths of the functions that have none, where
+    types are declared in these modules."""
     lines, paths = text.split("\n"), []
     for body in reversed([*bodies(lines)]):
-        path = None if body.is_bound_to_its_name() or spares(body) else path_of(file, text, body)
+        path = None if body.is_bound_to_its_name() or spares(body) else path_of(file, body, types)
         if path:
             lines[body.begin : body.end] = [f"{body.indent}    loop {{}}"]
             paths.append(path)

@@ -1,0 +1,127 @@
+import contextlib
+import io
+import unittest
+from types import SimpleNamespace
+from unittest.mock import patch
+
+from .. import toolchain
+from ..command import main, unknown_word, words_given
+from ..report import Report
+from ..together import Waiting, go_together
+from .made_up import Crate, InAFolder
+
+
+def said_by(call, *given):
+    """What a call writes on both streams, and its status."""
+    out = io.StringIO()
+    with contextlib.redirect_stdout(out), contextlib.redirect_stderr(out):
+        try:
+            status = call(*given)
+        except SystemExit as ended:
+            status = ended.code
+    return out.getvalue(), status
+
+
+class Words(InAFolder):
+    def test_words_that_are_known(self):
+        given = words_given(["small", "--jobs", "2", "count", "sum"])
+        self.assertEqual((given.crate, given.words, given.jobs), ("small", ["count", "sum"], 2))
+
+    def test_words_that_are_not_known_are_refused(self):
+        for words in (["--fast"], ["--job", "2"], ["--jobs", "none"], ["--jobs", "0"], ["--save", "/nowhere/at/all"]):
+            self.assertEqual(said_by(words_given, words)[1], 2, words)
+
+    def test_help(self):
+        text, status = said_by(main, ["--help"])
+        self.assertEqual(status, 0)
+        self.assertIn("When an edit counts as refused", text)
+
+    def test_crates_and_edits_that_are_not_there(self):
+        self.lay_edit("a_sum", "shop::add", "one + other;", "one;")
+        small = self.small()
+        self.assertEqual(unknown_word([], words_given(["other"])), "no crate is named other")
+        self.assertEqual(unknown_word([small], words_given(["small", "count"])), "no edit of small has 'count' in its name")
+        self.assertIsNone(unknown_word([small], words_given(["small", "sum"])))
+
+
+class Toolchains(unittest.TestCase):
+    def test_another_toolchain_is_told_at_once(self):
+        toolchain.script.cache_clear()
+        self.addCleanup(toolchain.script.cache_clear)
+        with patch.object(toolchain, "identity", lambda: "rattle-kit-99 logic 0"):
+            text, status = said_by(main, [])
+        self.assertEqual(status, 2)
+        self.assertEqual(text.count("\n"), 1)
+        self.assertIn("rattle-kit-99", text)
+        self.assertIn(toolchain.KNOWN, text)
+
+    def test_no_toolchain(self):
+        toolchain.script.cache_clear()
+        self.addCleanup(toolchain.script.cache_clear)
+        with patch.dict("os.environ", {"PATH": "/nowhere"}):
+            text, status = said_by(main, [])
+        self.assertEqual((status, text.count("\n")), (2, 1))
+
+
+class Together(InAFolder):
+    def crate(self, name, edits, deps=()):
+        for at in range(edits):
+            self.lay(f"{name}/edits/{at}.edit", f"of: add\nfile: src/lib.rt\nold: one + {at};\nnew: one;\n")
+        lines = "".join(f"    let sum = one + {at};\n" for at in range(edits))
+        self.lay(f"{name}/src/lib.rt", f"fn add(one: u64) {{\n{lines}}}\n")
+        return Crate(name, f"{self.room}/{name}", deps=[*deps])
+
+    def test_a_crate_is_not_there_twice(self):
+        low = self.crate("low", 1)
+        middle = self.crate("middle", 1, [low])
+        high = self.crate("high", 1, [middle])
+        self.assertTrue(go_together([low, middle]))
+        self.assertTrue(go_together([low, middle, high]))
+        self.assertFalse(go_together([low, high]))
+
+    def test_crates_wait_until_there_are_enough_edits(self):
+        few, more = self.crate("few", 15), self.crate("more", 30)
+        waiting = Waiting([])
+        waiting.add(few)
+        self.assertEqual(waiting.together(), [])
+        waiting.add(more)
+        self.assertEqual(waiting.take(), [few, more])
+        waiting.add(few)
+        waiting.end()
+        self.assertEqual(waiting.take(), [few])
+        self.assertEqual(waiting.take(), [])
+
+    def test_there_is_a_most(self):
+        many, more = self.crate("many", 39), self.crate("more", 60)
+        waiting = Waiting([])
+        waiting.add(many)
+        waiting.add(more)
+        self.assertEqual(waiting.take(), [many])
+
+
+class Reports(unittest.TestCase):
+    def closed(self, ends, files):
+        report = Report()
+
+        def run():
+            for is_well, is_control in ends:
+                report.controls += is_control
+                report.end(SimpleNamespace(name="small"), "a.edit", is_well, "refused")
+            return report.close(files)
+
+        return said_by(run)
+
+    def test_all_well(self):
+        text, status = self.closed([(True, False), (True, True)], ["a", "b"])
+        self.assertEqual(status, 0)
+        self.assertTrue(text.endswith("2 edits passed, 0 failed\n"))
+
+    def test_one_that_failed_is_told_once_more(self):
+        text, status = self.closed([(False, False)], [])
+        self.assertEqual(status, 1)
+        self.assertIn("once more: small/a.edit", text)
+
+    def test_no_edit_one_left_out_and_no_control_fail(self):
+        self.assertEqual(self.closed([], [])[1], 1)
+        self.assertEqual(self.closed([(True, True)], ["a", "b"])[1], 1)
+        self.assertEqual(self.closed([(True, False)], ["a"])[1], 1)
