@@ -89,9 +89,9 @@ When such a check, a round, is believed
     the first and taken in the others. The prover keeps no refusal, and takes what it kept only where that is up to date.
 
 What an edit is a change of
-    A refusal says something only where the function is proved as it stands. `rt ci` has said so before, in the same gate
-    or in an earlier one of the same files, and by hand a library that `rt` built from the crate as it stands says so. Where
-    neither has, the functions that the edits name are proved first.
+    A refusal says something only where the function is proved as it stands. In the gate `rt ci` has said so before, and by
+    hand a library that `rt` built from the crate as it stands says so. Where neither has, the functions that the edits name are
+    proved first.
 
 The controls
     An edit with a line `harmless:` changes nothing that matters. It is tried as the others are: its copy must not be refused
