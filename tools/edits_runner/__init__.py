@@ -9,6 +9,7 @@
                                  are proved and built, and tries their edits once enough have come for a check, at the latest
                                  at the input's end; those of crates that are not named by then fail
   tools/edits --unspoiled ..     tries the copies without their edits, each of which has to be proved
+  tools/edits --read ..          tries nothing: says within seconds which edits are bad, as one whose text has moved
   tools/edits --save FOLDER ..   keeps what each check said, and how long each function took, in a folder that is there
 
 What an edit is

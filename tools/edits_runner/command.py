@@ -9,7 +9,7 @@ from concurrent.futures import ThreadPoolExecutor
 from . import __doc__ as PACKAGE
 from . import toolchain
 from .checks import CHECKS
-from .edit_files import files_of_edits
+from .edit_files import edits_of, files_of_edits
 from .report import Report
 from .together import Waiting, try_together
 
@@ -28,6 +28,7 @@ def words_given(words):
     known.add_argument("--as-proved", action="store_true", help=argparse.SUPPRESS)
     known.add_argument("--save", help=argparse.SUPPRESS)
     known.add_argument("--unspoiled", action="store_true", help=argparse.SUPPRESS)
+    known.add_argument("--read", action="store_true", help=argparse.SUPPRESS)
     given = known.parse_intermixed_args(words)
     if given.save and not os.path.isdir(given.save):
         known.error(f"{given.save} is no folder")
@@ -59,6 +60,18 @@ def unknown_word(crates, given):
     return f"no edit of {given.crate} has '{lost}' in its name" if lost else None
 
 
+def read(crates, words):
+    """Reads the edits of these crates, says which are bad, and returns the exit status."""
+    good, bad = 0, 0
+    for crate in crates:
+        taken, refused = edits_of(crate, words)
+        for name, why in refused:
+            print(f"{crate.name}/{name}: BAD EDIT: {why}")
+        good, bad = good + len(taken), bad + len(refused)
+    print(f"{good} edits read well, {bad} bad")
+    return 1 if bad or not good else 0
+
+
 def run(crates, given):
     """Tries the edits of these crates, and returns the exit status."""
     report, building, waiting = Report(), threading.Lock(), Waiting(given.words)
@@ -88,6 +101,8 @@ def main(words):
     if lost:
         print(f"tools/edits: {lost}", file=sys.stderr)
         return 2
+    if given.read:
+        return read(crates, given.words)
     given.lanes = given.lanes or (processors if given.as_proved else 1)
     CHECKS.jobs, CHECKS.saved = given.jobs or (1 if given.as_proved else min(4, processors)), given.save
     return run(crates, given)

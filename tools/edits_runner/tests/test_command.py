@@ -5,7 +5,7 @@ from types import SimpleNamespace
 from unittest.mock import patch
 
 from .. import toolchain
-from ..command import main, unknown_word, words_given
+from ..command import main, read, unknown_word, words_given
 from ..report import Report
 from ..together import Waiting, go_together
 from .made_up import Crate, InAFolder
@@ -42,6 +42,17 @@ class Words(InAFolder):
         self.assertEqual(unknown_word([], words_given(["other"])), "no crate is named other")
         self.assertEqual(unknown_word([small], words_given(["small", "count"])), "no edit of small has 'count' in its name")
         self.assertIsNone(unknown_word([small], words_given(["small", "sum"])))
+
+
+class Reading(InAFolder):
+    def test_bad_edits_are_told_without_a_prover(self):
+        self.lay_edit("a_sum", "shop::add", "one + other;", "one;")
+        self.assertEqual(said_by(read, [self.small()], []), ("1 edits read well, 0 bad\n", 0))
+        self.lay_edit("b_sum", "shop::add", "gone", "one;")
+        text, status = said_by(read, [self.small()], [])
+        self.assertEqual(status, 1)
+        self.assertTrue(text.startswith("small/b_sum.edit: BAD EDIT: an 'old:' text"))
+        self.assertTrue(text.endswith("1 edits read well, 1 bad\n"))
 
 
 class Toolchains(unittest.TestCase):
