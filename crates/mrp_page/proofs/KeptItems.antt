@@ -10,6 +10,7 @@ use Rattle.mrp_page.specs.Rows.{last_name, leaders}
 use Rattle.mrp_page.specs.Section.{is_by_weeks, is_history, is_of_items, items_of, place_of, room_of}
 use Rattle.mrp_page.specs.Shown.{StandTogether, each_once, has_name, is_asked, items_in, row_names}
 use Rattle.mrp_page.specs.Spot.{Names, has_room, is_among, is_row, leads, spot_with, wants}
+use Rattle.mrp_page.specs.declared.limits.TheConstants.{MOST_ITEMS}
 use Rattle.mrp_page.specs.declared.section.Section.{Section}
 use Rattle.mrp_page.specs.declared.section.Section.TheVariants as s
 use Rattle.mrp_page.specs.declared.spot.Place.TheVariants as place
@@ -20,7 +21,7 @@ use Rattle.mrp_page.proofs.RowLists.{last-more, leaders-more}
 -- a section whose rows are of items, 200 of which are kept at least; neither the first of a report nor the last
 pub record IsItemSection (S : Section) : Type 0 where
   pub items : is_of_items S ≡ true
-  pub most : items_of S ≡ 200
+  pub most : items_of S ≡ MOST_ITEMS
   pub small : room_of S < 2 ^ 64
   pub report : is_history S ≡ false
   pub first : 2 ≤ place_of S
@@ -129,7 +130,7 @@ has-last rows cells =
 no-room : (S : Section) (spot : Spot) (l u : Bool) → has_room S spot l u ≡ false → room_of S ≤ spot.taken
 no-room S spot l u none = ltb-false spot.taken (room_of S) (or_parts _ _ none).0
 
-no-room-lead : (S : Section) (spot : Spot) (u : Bool) → IsItemSection S → has_room S spot true u ≡ false → 200 ≤ spot.items
+no-room-lead : (S : Section) (spot : Spot) (u : Bool) → IsItemSection S → has_room S spot true u ≡ false → MOST_ITEMS ≤ spot.items
 no-room-lead S spot u is none = subst (λ (n : ℕ). n ≤ spot.items) is.most (ltb-false spot.items (items_of S) (or_parts _ _ (or_parts _ _ none).1).0)
 
 room-same : (S : Section) (spot : Spot) (u : Bool) → has_room S spot false u ≡ true → (spot.taken < room_of S) ⊎ (is_some spot.takes ≡ true)
@@ -177,7 +178,7 @@ module _ (items : Names) (S : Section) (is : IsItemSection S) (count : ℕ) (row
       never above (inr e) = cc
 
   -- not taken, of a new item
-  left-out : (u : Bool) → items_in items (rows ++ (cells ∷ [])) ≡ items_in items rows ++ (name_of cells ∷ []) → 200 ≤ spot.items → room_of S ≤ spot.taken → Inside items S (count + 1) (rows ++ (cells ∷ [])) kept (spot_with spot (place.Row S) true true u false) cells
+  left-out : (u : Bool) → items_in items (rows ++ (cells ∷ [])) ≡ items_in items rows ++ (name_of cells ∷ []) → MOST_ITEMS ≤ spot.items → room_of S ≤ spot.taken → Inside items S (count + 1) (rows ++ (cells ∷ [])) kept (spot_with spot (place.Row S) true true u false) cells
   left-out u new many full =
       let long = ap length new ∙ length_push (items_in items rows) (name_of cells) in
       record {

@@ -21,6 +21,7 @@ use Rattle.mrp_page.specs.Page.{head_html, is_told, items_of, load_section, page
 use Rattle.mrp_page.specs.Row.{Cells, RowView, cell_at, is_in, is_of}
 use Rattle.mrp_page.specs.Rows.{greatest, higher, leader_rows, leaders, rank, rows_in, rows_named, stretch}
 use Rattle.mrp_page.specs.Template.{Drawn, Mark, Number, Text, Where, has_word, number_at, numbers_html, part_html, row_html, rows_html}
+use Rattle.mrp_page.specs.declared.limits.TheConstants.{MOST_ITEMS}
 use Rattle.mrp_page.specs.declared.counts.Counts.{Counts}
 use Rattle.mrp_page.specs.declared.section.Section.{Section}
 use Rattle.mrp_page.specs.declared.section.Section.TheVariants as s
@@ -295,7 +296,7 @@ module _ (P : RowView → Type 0) where
 
   pub all-shown : (rows : ItemLists) → All P rows.messages → All P rows.plan → All P (shown_items rows)
   unfolding shown_items
-  all-shown rows of-messages of-plan = All-take P 200 (told_first rows.messages rows.plan) (all-told rows.messages rows.plan of-messages of-plan)
+  all-shown rows of-messages of-plan = All-take P MOST_ITEMS (told_first rows.messages rows.plan) (all-told rows.messages rows.plan of-messages of-plan)
 
 -- an item that is among those of some rows is the item of one of them
 named-item : (shown : List RowView) (name : List ℕ) → has_item shown name ≡ true → (r : RowView) × Contains shown r × (cell_at r 0 ≡ name)

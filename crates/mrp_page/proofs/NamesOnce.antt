@@ -15,6 +15,7 @@ use Rattle.std.proofs.lemmas.Slice.Eq.{bytes_eq-Decides}
 use Rattle.mrp_page.specs.Row.{Cells, same_text}
 use Rattle.mrp_page.specs.Shown.{each_once, has_name, is_asked, items_in, others, row_names, with_name}
 use Rattle.mrp_page.specs.Spot.{Names}
+use Rattle.mrp_page.specs.declared.limits.TheConstants.{MOST_ITEMS}
 
 pub text-same : (a b : List ℕ) → same_text a b ≡ true → a ≡ b
 text-same a b = (bytes_eq-Decides a b).0
@@ -126,38 +127,38 @@ items-new items rows cells has =
 
 -- some names are kept of all of them: their first 200, and all where they are fewer
 pub record Keeps (all kept : List (List ℕ)) : Type 0 where
-  pub front : take 200 kept ≡ take 200 all
-  pub whole : length all < 200 → kept ≡ all
+  pub front : take MOST_ITEMS kept ≡ take MOST_ITEMS all
+  pub whole : length all < MOST_ITEMS → kept ≡ all
 
 pub keeps-none : Keeps [] []
 keeps-none = record { front = refl; whole = λ few. refl }
 
-many : (all kept : List (List ℕ)) → Keeps all kept → 200 ≤ length all → 200 ≤ length kept
+many : (all kept : List (List ℕ)) → Keeps all kept → MOST_ITEMS ≤ length all → MOST_ITEMS ≤ length kept
 many all kept keeps long =
-    let of-all = length-take 200 all in
-    let of-kept = length-take 200 kept in
+    let of-all = length-take MOST_ITEMS all in
+    let of-kept = length-take MOST_ITEMS kept in
     let same = ap length keeps.front in
     omega arith
 
 -- with one more name, which is kept
 pub keeps-more : (all kept : List (List ℕ)) (name : List ℕ) → Keeps all kept → Keeps (all ++ (name ∷ [])) (kept ++ (name ∷ []))
-keeps-more all kept name keeps = by (cases_lt (length all) 200)
+keeps-more all kept name keeps = by (cases_lt (length all) MOST_ITEMS)
   where
-    by : (length all < 200) ⊎ (200 ≤ length all) → Keeps (all ++ (name ∷ [])) (kept ++ (name ∷ []))
+    by : (length all < MOST_ITEMS) ⊎ (MOST_ITEMS ≤ length all) → Keeps (all ++ (name ∷ [])) (kept ++ (name ∷ []))
     by (inl few) = subst (λ (t : List (List ℕ)). Keeps (all ++ (name ∷ [])) (t ++ (name ∷ []))) (sym (keeps.whole few)) (record { front = refl; whole = λ e. refl })
     by (inr long) =
         let more = length-append all (name ∷ []) in
         record {
-          front = take-append-le 200 kept (name ∷ []) (many all kept keeps long) ∙ keeps.front ∙ sym (take-append-le 200 all (name ∷ []) long);
+          front = take-append-le MOST_ITEMS kept (name ∷ []) (many all kept keeps long) ∙ keeps.front ∙ sym (take-append-le MOST_ITEMS all (name ∷ []) long);
           whole = λ few. absurd (omega arith);
         }
 
 -- with one more name, for which there is no room
-pub keeps-past : (all kept : List (List ℕ)) (name : List ℕ) → Keeps all kept → 200 ≤ length all → Keeps (all ++ (name ∷ [])) kept
+pub keeps-past : (all kept : List (List ℕ)) (name : List ℕ) → Keeps all kept → MOST_ITEMS ≤ length all → Keeps (all ++ (name ∷ [])) kept
 keeps-past all kept name keeps long =
     let more = length-append all (name ∷ []) in
     record {
-      front = keeps.front ∙ sym (take-append-le 200 all (name ∷ []) long);
+      front = keeps.front ∙ sym (take-append-le MOST_ITEMS all (name ∷ []) long);
       whole = λ few. absurd (omega arith);
     }
 
@@ -171,30 +172,30 @@ told-few told names is = length-le_from_is_member nat_list_eq_equiv (filter (has
         subst (λ (t : List ℕ). has_name told t ≡ true) at (filter_passes (has_name told) names i q within)
 
 -- so the first 200 leave enough others
-others-enough : (told names : List (List ℕ)) → IsDistinct same_text names → 200 ≤ length names → 200 ≤ length (told ++ others told (take 200 names))
+others-enough : (told names : List (List ℕ)) → IsDistinct same_text names → MOST_ITEMS ≤ length names → MOST_ITEMS ≤ length (told ++ others told (take MOST_ITEMS names))
 others-enough told names is long =
-    let few = told-few told (take 200 names) (distinct-take 200 names is) in
-    let both = length-filter_both (has_name told) (λ (name : List ℕ). not (has_name told name)) (λ name. refl) (take 200 names) in
-    let first = length-take-le 200 names long in
-    let sum = length-append told (others told (take 200 names)) in
+    let few = told-few told (take MOST_ITEMS names) (distinct-take MOST_ITEMS names is) in
+    let both = length-filter_both (has_name told) (λ (name : List ℕ). not (has_name told name)) (λ name. refl) (take MOST_ITEMS names) in
+    let first = length-take-le MOST_ITEMS names long in
+    let sum = length-append told (others told (take MOST_ITEMS names)) in
     omega arith
 
 -- the first 200 names are those of all, where the first 200 of each list are kept
 pub first-shown : (told planned kept-told kept-planned : List (List ℕ)) → Keeps told kept-told → Keeps planned kept-planned → IsDistinct same_text planned
-    → take 200 (kept-told ++ others kept-told kept-planned) ≡ take 200 (told ++ others told planned)
-first-shown told planned kept-told kept-planned of-told of-planned is = by (cases_lt (length told) 200)
+    → take MOST_ITEMS (kept-told ++ others kept-told kept-planned) ≡ take MOST_ITEMS (told ++ others told planned)
+first-shown told planned kept-told kept-planned of-told of-planned is = by (cases_lt (length told) MOST_ITEMS)
   where
-    enough : (names : List (List ℕ)) → 200 ≤ length planned → take 200 names ≡ take 200 planned → take 200 (told ++ others told names) ≡ take 200 (told ++ others told (take 200 planned))
+    enough : (names : List (List ℕ)) → MOST_ITEMS ≤ length planned → take MOST_ITEMS names ≡ take MOST_ITEMS planned → take MOST_ITEMS (told ++ others told names) ≡ take MOST_ITEMS (told ++ others told (take MOST_ITEMS planned))
     enough names long first =
-        ap (λ (t : List (List ℕ)). take 200 (told ++ others told t)) (sym (take-append-drop 200 names) ∙ ap (λ (t : List (List ℕ)). t ++ drop 200 names) first)
-        ∙ ap (λ (t : List (List ℕ)). take 200 (told ++ t)) (filter-append (λ (name : List ℕ). not (has_name told name)) (take 200 planned) (drop 200 names))
-        ∙ ap (take 200) (sym (append_assoc told (others told (take 200 planned)) (others told (drop 200 names))))
-        ∙ take-append-le 200 (told ++ others told (take 200 planned)) (others told (drop 200 names)) (others-enough told planned is long)
+        ap (λ (t : List (List ℕ)). take MOST_ITEMS (told ++ others told t)) (sym (take-append-drop MOST_ITEMS names) ∙ ap (λ (t : List (List ℕ)). t ++ drop MOST_ITEMS names) first)
+        ∙ ap (λ (t : List (List ℕ)). take MOST_ITEMS (told ++ t)) (filter-append (λ (name : List ℕ). not (has_name told name)) (take MOST_ITEMS planned) (drop MOST_ITEMS names))
+        ∙ ap (take MOST_ITEMS) (sym (append_assoc told (others told (take MOST_ITEMS planned)) (others told (drop MOST_ITEMS names))))
+        ∙ take-append-le MOST_ITEMS (told ++ others told (take MOST_ITEMS planned)) (others told (drop MOST_ITEMS names)) (others-enough told planned is long)
 
-    of-plan : (length planned < 200) ⊎ (200 ≤ length planned) → take 200 (told ++ others told kept-planned) ≡ take 200 (told ++ others told planned)
-    of-plan (inl few) = ap (λ (t : List (List ℕ)). take 200 (told ++ others told t)) (of-planned.whole few)
+    of-plan : (length planned < MOST_ITEMS) ⊎ (MOST_ITEMS ≤ length planned) → take MOST_ITEMS (told ++ others told kept-planned) ≡ take MOST_ITEMS (told ++ others told planned)
+    of-plan (inl few) = ap (λ (t : List (List ℕ)). take MOST_ITEMS (told ++ others told t)) (of-planned.whole few)
     of-plan (inr long) = enough kept-planned long of-planned.front ∙ sym (enough planned long refl)
 
-    by : (length told < 200) ⊎ (200 ≤ length told) → take 200 (kept-told ++ others kept-told kept-planned) ≡ take 200 (told ++ others told planned)
-    by (inl few) = ap (λ (t : List (List ℕ)). take 200 (t ++ others t kept-planned)) (of-told.whole few) ∙ of-plan (cases_lt (length planned) 200)
-    by (inr long) = take-append-le 200 kept-told (others kept-told kept-planned) (many told kept-told of-told long) ∙ of-told.front ∙ sym (take-append-le 200 told (others told planned) long)
+    by : (length told < MOST_ITEMS) ⊎ (MOST_ITEMS ≤ length told) → take MOST_ITEMS (kept-told ++ others kept-told kept-planned) ≡ take MOST_ITEMS (told ++ others told planned)
+    by (inl few) = ap (λ (t : List (List ℕ)). take MOST_ITEMS (t ++ others t kept-planned)) (of-told.whole few) ∙ of-plan (cases_lt (length planned) MOST_ITEMS)
+    by (inr long) = take-append-le MOST_ITEMS kept-told (others kept-told kept-planned) (many told kept-told of-told long) ∙ of-told.front ∙ sym (take-append-le MOST_ITEMS told (others told planned) long)

@@ -16,6 +16,7 @@ use Rattle.mrp_page.specs.Section.{place_of}
 use Rattle.mrp_page.specs.Shown.{IsByItems, StandTogether, each_once, has_name, is_row_of, items_in, items_of_plan, items_to_show, others, row_if, row_names, rows_from, rows_of, run_shown, runs_from, runs_of, runs_with}
 use Rattle.mrp_page.specs.Spot.{Names, after, begins_run, inside, is_end, is_loads, is_wanted, is_wrong, leads, place_after, place_from, room_at, run_at, section_if, spot_at, starts_at, wants}
 use Rattle.mrp_page.specs.Spot.{place_of as place_in}
+use Rattle.mrp_page.specs.declared.limits.TheConstants.{MOST_ITEMS}
 use Rattle.mrp_page.specs.declared.section.Section.{Section}
 use Rattle.mrp_page.specs.declared.section.Section.TheVariants as s
 use Rattle.mrp_page.specs.declared.spot.Place.{Place}
@@ -536,12 +537,12 @@ untold-names messages (r ∷ rows) named = by (is_told messages r) refl (untold-
         ∙ sym (ap (λ (b : Bool). if not b then cell_at r 0 ∷ others (leader_names messages) (map (λ q. cell_at q 0) rows) else others (leader_names messages) (map (λ q. cell_at q 0) rows)) (sym told ∙ e))
 
 -- the items that are shown, of what is kept of the messages and of the plan
-shown-names : (messages plan : List RowView) → All (λ r. cell_at r 0 ≢ []) plan → map (λ r. cell_at r 0) (take 200 (told_first messages plan)) ≡ take 200 (leader_names messages ++ others (leader_names messages) (leader_names plan))
+shown-names : (messages plan : List RowView) → All (λ r. cell_at r 0 ≢ []) plan → map (λ r. cell_at r 0) (take MOST_ITEMS (told_first messages plan)) ≡ take MOST_ITEMS (leader_names messages ++ others (leader_names messages) (leader_names plan))
 unfolding told_first
 shown-names messages plan named =
-    sym (take-map (λ (r : RowView). cell_at r 0) 200 (leaders [] messages ++ flat_map (untold_rows messages) (leaders [] plan)))
-    ∙ ap (take 200) (map-append (λ (r : RowView). cell_at r 0) (leaders [] messages) (flat_map (untold_rows messages) (leaders [] plan)))
-    ∙ ap (λ (t : List (List ℕ)). take 200 (leader_names messages ++ t)) (untold-names messages (leaders [] plan) (all-leaders (λ (r : RowView). cell_at r 0 ≢ []) [] plan named))
+    sym (take-map (λ (r : RowView). cell_at r 0) MOST_ITEMS (leaders [] messages ++ flat_map (untold_rows messages) (leaders [] plan)))
+    ∙ ap (take MOST_ITEMS) (map-append (λ (r : RowView). cell_at r 0) (leaders [] messages) (flat_map (untold_rows messages) (leaders [] plan)))
+    ∙ ap (λ (t : List (List ℕ)). take MOST_ITEMS (leader_names messages ++ t)) (untold-names messages (leaders [] plan) (all-leaders (λ (r : RowView). cell_at r 0 ≢ []) [] plan named))
 
 -- a run that is asked for has a number, and has begun
 asked-from : (asked : Option ℕ) (runs : ℕ) → has_run asked runs ≡ true → (number : ℕ) → asked ≡ Some number → 1 ≤ number

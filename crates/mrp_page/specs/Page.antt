@@ -1,6 +1,7 @@
 -- A page, of what was kept of a day.
 use Rattle.std.specs.Prelude.{ℕ, Bool, ◌++◌, not, List, [], ◌∷◌, flat_map, take, if◌then◌else◌}
 use Rattle.mrp_page.specs.declared.counts.Counts.{Counts}
+use Rattle.mrp_page.specs.declared.limits.TheConstants.{MOST_ITEMS}
 use Rattle.mrp_page.specs.Draw.{centres_html, has_none, history_html, items_html, more_items, todo_html}
 use Rattle.mrp_page.specs.Frame.{heading}
 use Rattle.mrp_page.specs.ItemRows.{ItemLists, item_lists}
@@ -28,9 +29,9 @@ untold_rows messages row = if is_told messages row then [] else row ∷ []
 unfoldable pub told_first : List RowView → List RowView → List RowView
 told_first messages plan = leaders [] messages ++ flat_map (untold_rows messages) (leaders [] plan)
 
--- the items that a page has room for: 200 at most, those with messages first
+-- the items that a page has room for, those with messages first
 unfoldable pub shown_items : ItemLists → List RowView
-shown_items rows = take 200 (told_first rows.messages rows.plan)
+shown_items rows = take MOST_ITEMS (told_first rows.messages rows.plan)
 
 -- the work centres
 unfoldable pub load_section : List RowView → ℕ → List ℕ

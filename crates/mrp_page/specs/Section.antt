@@ -1,5 +1,6 @@
 -- The sections of a day: a history, and for each run seven of its report.
 use Rattle.std.specs.Prelude.{ℕ, Bool, true, false, List, [], ◌∷◌, ◌==◌, codes}
+use Rattle.mrp_page.specs.declared.limits.TheConstants as limits
 use Rattle.mrp_page.specs.declared.section.Section.{Section}
 use Rattle.mrp_page.specs.declared.section.Section.TheVariants as s
 
@@ -36,28 +37,27 @@ next_of s.Pegs = s.Messages
 next_of s.Messages = s.Loads
 next_of s.Loads = s.Run
 
--- how many of its rows a page has room for: of items and work centres those of 200 over 104 weeks, and 300 pegs of each of
--- 200 items
+-- how many of its rows a page has room for
 abbrev pub room_of : Section → ℕ
-room_of s.History = 1000
+room_of s.History = limits.MOST_ENTRIES
 room_of s.Run = 1
-room_of s.Promises = 20800
-room_of s.Plan = 20800
-room_of s.Orders = 20800
-room_of s.Pegs = 60000
-room_of s.Messages = 20800
-room_of s.Loads = 20800
+room_of s.Promises = limits.MOST_ROWS
+room_of s.Plan = limits.MOST_ROWS
+room_of s.Orders = limits.MOST_ROWS
+room_of s.Pegs = limits.MOST_PEGS
+room_of s.Messages = limits.MOST_ROWS
+room_of s.Loads = limits.MOST_ROWS
 
 -- of how many items, or work centres, rows are kept even where its room is full
 abbrev pub items_of : Section → ℕ
 items_of s.History = 0
 items_of s.Run = 0
-items_of s.Promises = 200
-items_of s.Plan = 200
+items_of s.Promises = limits.MOST_ITEMS
+items_of s.Plan = limits.MOST_ITEMS
 items_of s.Orders = 0
 items_of s.Pegs = 0
-items_of s.Messages = 200
-items_of s.Loads = 200
+items_of s.Messages = limits.MOST_ITEMS
+items_of s.Loads = limits.MOST_ITEMS
 
 -- whether an item, or a work centre, has a row for each week there: these are kept together
 abbrev pub is_by_weeks : Section → Bool

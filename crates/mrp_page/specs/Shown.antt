@@ -1,6 +1,7 @@
 -- Which items a page is to show, of all records of a day.
 use Rattle.std.specs.Prelude.{ℕ, Bool, false, true, ◌≡◌, ◌≢◌, ◌≤◌, ◌<◌, ◌+◌, ◌^◌, ◌==◌, ◌&&◌, not, List, [], ◌∷◌, ◌++◌, Option, Some, None, length, map, take, slice_index_or, if◌then◌else◌}
 use Rattle.std.specs.List.{All, filter, fold, list_any}
+use Rattle.mrp_page.specs.declared.limits.TheConstants.{MOST_ITEMS}
 use Rattle.mrp_page.specs.declared.section.Section.{Section}
 use Rattle.mrp_page.specs.declared.section.Section.TheVariants as s
 use Rattle.mrp_page.specs.declared.spot.Place.{Place}
@@ -73,11 +74,11 @@ items_in items rows = filter (is_asked items) (each_once (row_names rows))
 abbrev pub others : List (List ℕ) → List (List ℕ) → List (List ℕ)
 others told names = filter (λ name. not (has_name told name)) names
 
--- the items that a page shows of a run: 200 at most, those with messages first, in the order of the messages, and then
+-- the items that a page shows of a run: those with messages first, in the order of the messages, and then
 -- the others in the order of the plan
 unfoldable pub items_to_show : Names → ℕ → List Cells → List (List ℕ)
 items_to_show items run records =
-    take 200 (items_in items (rows_of s.Messages run records)
+    take MOST_ITEMS (items_in items (rows_of s.Messages run records)
     ++ others (items_in items (rows_of s.Messages run records)) (items_in items (rows_of s.Plan run records)))
 
 -- all items of a run's plan, of those that a page is to show

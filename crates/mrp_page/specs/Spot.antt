@@ -3,6 +3,7 @@ use Rattle.std.specs.Prelude.{ℕ, Bool, true, false, ◌+◌, ◌-◌, ◌^◌,
 use Rattle.std.specs.List.{list_any}
 use Rattle.std.proofs.Common.{Bor}
 use Rattle.std.specs.Cmp.Lexicographic.{pointwise}
+use Rattle.mrp_page.specs.declared.limits.TheConstants.{MOST_ITEMS}
 use Rattle.mrp_page.specs.declared.section.Section.{Section}
 use Rattle.mrp_page.specs.declared.section.Section.TheVariants as s
 use Rattle.mrp_page.specs.declared.spot.Place.{Place}
@@ -107,7 +108,7 @@ leads spot last cells = not (is_row spot.place && same_text (slice_index_or last
 abbrev pub has_room : Section → Spot → Bool → Bool → Bool
 has_room section spot leads urgent =
     nat_lt spot.taken (room_of section)
-    || (if leads then nat_lt spot.items (items_of section) || (urgent && nat_lt spot.urgent 200)
+    || (if leads then nat_lt spot.items (items_of section) || (urgent && nat_lt spot.urgent MOST_ITEMS)
     else is_by_weeks section && is_some spot.takes)
 
 -- the same, of a record

@@ -9,10 +9,11 @@ use crate::frame::heading;
 use crate::html::Html;
 use crate::item_rows::ItemRows;
 use crate::layout::{page_end, page_head, page_top, style};
+use crate::limits::MOST_ITEMS;
 use crate::notes::Notes;
 use crate::row::Row;
 use crate::rows::{leaders, rows_in, rows_named};
-use crate::section::{MOST_ITEMS, Section};
+use crate::section::Section;
 use crate::template::put_row;
 use crate::unshown::unshown;
 use mrp_qty::NoMemory;
@@ -94,7 +95,7 @@ fn put_load_section(
 
 // The first of these rows, as many as a page has room for.
 fn first_rows<'a, 'b>(rows: &'b [&'a Row]) -> &'b [&'a Row]
-    ensures { map (λ r. r.now) result.now ≡ take 200 (map (λ r. r.now) rows.now) }
+    ensures { map (λ r. r.now) result.now ≡ take MOST_ITEMS (map (λ r. r.now) rows.now) }
 {
     let count = (MOST_ITEMS as usize).min(rows.len());
     let (first, _) = rows.split_at(count);

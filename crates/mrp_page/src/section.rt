@@ -3,8 +3,7 @@
 ghost use Rattle.std.specs.Prelude.{◌≡◌, map};
 ghost use Rattle.mrp_page.specs.Section.{columns_of, is_by_weeks, is_history, is_of_items, is_plan, items_of, line_of, next_of, place_of, room_of, same_section};
 
-// How many items a page shows.
-pub(crate) const MOST_ITEMS: u64 = 200;
+use crate::limits::{MOST_ENTRIES, MOST_ITEMS, MOST_PEGS, MOST_ROWS};
 
 // A section of a day.
 #[derive(Clone, Copy, Debug, PartialEq, Eq)]
@@ -76,16 +75,15 @@ impl Section {
         }
     }
 
-    // How many of its rows are kept: of items or work centres those of 200 over 104 weeks, and 300 pegs
-    // of each of 200 items.
+    // How many of its rows are kept.
     pub(crate) fn room(self) -> u64
         ensures { result ≡ room_of self }
     {
         match self {
-            Section::History => 1_000,
+            Section::History => MOST_ENTRIES,
             Section::Run => 1,
-            Section::Pegs => 60_000,
-            _ => 20_800,
+            Section::Pegs => MOST_PEGS,
+            _ => MOST_ROWS,
         }
     }
 

@@ -5,7 +5,8 @@ ghost use Rattle.csv.specs.Records.{fields_of};
 ghost use Rattle.mrp_page.specs.Spot.{after, begun, begins_run, counted, has_room, inside, is_among, is_end, is_row, is_wanted, is_wrong, leads, place_after, room_at, run_at, section_if, start, starts_at, wants};
 
 use crate::cells::{are_texts, cell_of};
-use crate::section::{MOST_ITEMS, Section};
+use crate::limits::MOST_ITEMS;
+use crate::section::Section;
 use csv::ByteRecord;
 
 // What a record is in a day.
