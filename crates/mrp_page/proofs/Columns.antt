@@ -1,12 +1,15 @@
 -- Which columns of a day the rows of a record and of a work centre show.
-use Rattle.std.proofs.Common.{◌≡◌, ◌⊎◌, ℕ, Bool, true, false, List, ◌++◌, codes, not, refl, inl, inr}
+use Rattle.std.proofs.Common.{◌≡◌, ◌⊎◌, ℕ, Bool, true, false, List, [], ◌∷◌, ◌++◌, codes, not, refl, ap, ap₂, inl, inr}
 use Rattle.std.specs.Prelude.{◌&&◌, if◌then◌else◌}
+use Rattle.std.specs.List.{flat_map}
 use Rattle.mrp_page.specs.Columns.{column}
-use Rattle.mrp_page.specs.Draw.{booked_html, has_firm, has_none, loads_html, measure_html, named_record, planned_html, promised_html, record_or_none, record_rows, supplies_html}
+use Rattle.mrp_page.specs.Draw.{bars_html, booked_html, has_firm, has_none, loads_html, measure_html, named_record, planned_html, points_html, promised_html, record_or_none, record_rows, supplies_html, table_html}
 use Rattle.mrp_page.specs.ItemRows.{item_lists}
-use Rattle.mrp_page.specs.Layout.{available_label, balance_label, booked_label, capacity_label, firm_label, grid_end, gross_label, load_label, over_label, planned_label, scheduled_label, starts_label}
+use Rattle.mrp_page.specs.Layout.{available_label, balance_label, bar, bars_end, booked_label, capacity_label, firm_label, grid_end, gross_label, load_label, over_label, planned_label, point, points_end, scheduled_label, starts_label}
+use Rattle.mrp_page.specs.Pictures.{drawn_balance, drawn_load}
 use Rattle.mrp_page.specs.Row.{RowView}
 use Rattle.mrp_page.specs.Rows.{rows_in, rows_named}
+use Rattle.mrp_page.specs.Template.{row_html, rows_html}
 use Rattle.mrp_page.specs.declared.section.Section.TheVariants as s
 
 pub record-is : (report : List RowView) (name : List ℕ) → named_record (item_lists report) name ≡ record_or_none name (rows_named name (rows_in s.Plan report)) (rows_named name (rows_in s.Promises report))
@@ -36,3 +39,23 @@ booked-is promises = refl
 pub loads-are : (rows : List RowView) → loads_html rows ≡ measure_html load_label (column s.Loads (codes "load")) rows ++ (measure_html capacity_label (column s.Loads (codes "capacity")) rows ++ (measure_html over_label (column s.Loads (codes "over")) rows ++ grid_end))
 unfolding loads_html
 loads-are rows = refl
+
+drawn-same : {X : Type 0} (f g : X → List ℕ) → ((x : X) → f x ≡ g x) → (xs : List X) → flat_map f xs ≡ flat_map g xs
+drawn-same f g same [] = refl
+drawn-same f g same (x ∷ xs) = ap₂ (λ (a b : List ℕ). a ++ b) (same x) (drawn-same f g same xs)
+
+bar-is : (row : RowView) → row_html bar row ≡ drawn_load row
+unfolding row_html bar
+bar-is row = refl
+
+pub bars-are : (rows : List RowView) → bars_html rows ≡ flat_map drawn_load rows ++ bars_end
+unfolding bars_html table_html rows_html
+bars-are rows = ap (λ (t : List ℕ). t ++ bars_end) (drawn-same (row_html bar) drawn_load bar-is rows)
+
+point-is : (row : RowView) → row_html point row ≡ drawn_balance row
+unfolding row_html point
+point-is row = refl
+
+pub balances-are : (rows : List RowView) → points_html rows ≡ flat_map drawn_balance rows ++ points_end
+unfolding points_html table_html rows_html
+balances-are rows = ap (λ (t : List ℕ). t ++ points_end) (drawn-same (row_html point) drawn_balance point-is rows)

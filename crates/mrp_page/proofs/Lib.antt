@@ -13,3 +13,5 @@ pub mod NamesOnce
 pub mod KeptItems
 pub mod SectionRows
 pub mod ShownItems
+pub mod Todo
+pub mod Labels

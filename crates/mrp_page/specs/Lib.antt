@@ -6,11 +6,13 @@ pub mod Frame
 pub mod Html
 pub mod ItemRows
 pub mod Known
+pub mod Labels
 pub mod Laws
 pub mod Layout
 pub mod Names
 pub mod Notes
 pub mod Page
+pub mod Pictures
 pub mod Reading
 pub mod Row
 pub mod Rows
@@ -18,5 +20,6 @@ pub mod Section
 pub mod Shown
 pub mod Spot
 pub mod Template
+pub mod Todo
 pub mod Unshown
 pub mod Written

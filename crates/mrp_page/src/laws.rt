@@ -1,21 +1,24 @@
 //! What follows from the definitions alone, each law the contract of a function that does nothing.
 
-ghost use Rattle.std.specs.Prelude.{◌≡◌, ◌++◌, ◌-◌, ◌⊎◌, ℕ, All, Contains, List, Option, [], ◌∷◌, codes, flat_map, length};
+ghost use Rattle.std.specs.Prelude.{◌≡◌, ◌++◌, ◌-◌, ◌⊎◌, ◌<◌, ℕ, All, Contains, IsPermutation, List, Option, [], ◌∷◌, codes, flat_map, length};
 ghost use Rattle.mrp_page.specs.Columns.{column};
-ghost use Rattle.mrp_page.specs.Draw.{booked_html, item_html, items_html, link_html, loads_html, measure_html, more_html, named_record, planned_html, promised_html, record_or_none, record_rows, supplies_html};
+ghost use Rattle.mrp_page.specs.Draw.{bars_html, booked_html, item_html, items_html, link_html, loads_html, measure_html, more_html, named_record, named_tasks, planned_html, points_html, promised_html, record_or_none, record_rows, supplies_html};
 ghost use Rattle.mrp_page.specs.Escaped.{escaped};
 ghost use Rattle.mrp_page.specs.ItemRows.{ItemLists, item_lists};
 ghost use Rattle.mrp_page.specs.Known.{IsKnown, IsMadeOf, names_shown};
+ghost use Rattle.mrp_page.specs.Labels.{AreFirm};
 ghost use Rattle.mrp_page.specs.Laws.{piece_html, pieces, shown};
-ghost use Rattle.mrp_page.specs.Layout.{available_label, balance_label, booked_label, capacity_label, firm_label, grid_end, gross_label, load_label, over_label, planned_label, scheduled_label, starts_label};
+ghost use Rattle.mrp_page.specs.Layout.{available_label, balance_label, bars_end, booked_label, capacity_label, firm_label, grid_end, gross_label, item_tasks_end, item_tasks_open, load_label, other_words, over_label, planned_label, points_end, scheduled_label, starts_label, task_words, todo_end, todo_open};
 ghost use Rattle.mrp_page.specs.Notes.{Noted, notes_of};
 ghost use Rattle.mrp_page.specs.Page.{page_html, shown_items};
+ghost use Rattle.mrp_page.specs.Pictures.{drawn_balance, drawn_load};
 ghost use Rattle.mrp_page.specs.Reading.{IsDayOf};
 ghost use Rattle.mrp_page.specs.Row.{Cells, RowView, cell_at};
 ghost use Rattle.mrp_page.specs.Rows.{rows_in, rows_named};
 ghost use Rattle.mrp_page.specs.Shown.{IsByItems, items_of_plan, items_to_show, run_shown};
 ghost use Rattle.mrp_page.specs.Spot.{Names};
 ghost use Rattle.mrp_page.specs.Template.{Drawn, row_html};
+ghost use Rattle.mrp_page.specs.Todo.{by_urgency, message_html, said, said_of_another, word_of};
 ghost use Rattle.mrp_page.specs.declared.section.Section.TheVariants as section;
 
 /// A page begins and ends as a whole one.
@@ -53,6 +56,40 @@ pub fn labels_stand_beside_their_columns()
     ensures planned { (plan : List RowView) → planned_html plan ≡ measure_html planned_label (column section.Plan (codes "planned")) plan ++ (measure_html starts_label (column section.Plan (codes "start")) plan ++ measure_html balance_label (column section.Plan (codes "balance")) plan) }
     ensures booked { (promises : List RowView) → booked_html promises ≡ measure_html booked_label (column section.Promises (codes "booked")) promises ++ measure_html available_label (column section.Promises (codes "available")) promises }
     ensures loads { (rows : List RowView) → loads_html rows ≡ measure_html load_label (column section.Loads (codes "load")) rows ++ (measure_html capacity_label (column section.Loads (codes "capacity")) rows ++ (measure_html over_label (column section.Loads (codes "over")) rows ++ grid_end)) }
+{}
+
+/// A picture of loads is drawn week by week from these columns: up to its load, above the line of its
+/// capacity what is over. That of balances is a line from week to week.
+pub fn pictures_are_drawn_from_their_columns()
+    ensures loads { (rows : List RowView) → bars_html rows ≡ flat_map drawn_load rows ++ bars_end }
+    ensures balances { (rows : List RowView) → points_html rows ≡ flat_map drawn_balance rows ++ points_end }
+{}
+
+/// What comes in has one of two labels: of an item with promises, and of one with firm pieces in a week, the
+/// firm master schedule, and of any other its scheduled receipts.
+pub fn supplies_have_one_label()
+    ensures promised { (plan : List RowView) (row : RowView) (promises : List RowView) → supplies_html plan (row ∷ promises) ≡ measure_html firm_label (column section.Plan (codes "firm")) plan }
+    ensures firm { (plan promises : List RowView) (firm : List ℕ) → AreFirm plan firm → (pieces : ℕ) → Contains firm pieces → 0 < pieces → supplies_html plan promises ≡ measure_html firm_label (column section.Plan (codes "firm")) plan }
+    ensures scheduled { (plan : List RowView) (firm : List ℕ) → AreFirm plan firm → All (λ pieces. pieces ≡ 0) firm → supplies_html plan [] ≡ measure_html scheduled_label (column section.Plan (codes "open")) plan }
+{}
+
+/// Each message that is kept stands in *To do* once, and each of an item that is shown once with it, the
+/// most urgent first.
+pub fn messages_stand_once()
+    ensures once { (messages : List RowView) → IsPermutation messages (by_urgency messages) }
+    ensures todo { (title : List ℕ) (notes : Noted) → (front : List ℕ) × (back : List ℕ) × (page_html title notes ≡ front ++ (todo_open ++ (flat_map (message_html (shown_items (item_lists notes.report))) (by_urgency (rows_in section.Messages notes.report)) ++ (todo_end ++ back)))) }
+    ensures item { (rows : ItemLists) (leader : RowView) → named_tasks rows leader ≡ item_tasks_open ++ (flat_map (message_html (leader ∷ [])) (by_urgency (rows_named (cell_at leader 0) rows.messages)) ++ item_tasks_end) }
+{}
+
+/// What a message says is that of its own word, of its supply, and of its value where that has a meaning: a
+/// week, or how many weeks it is late.
+pub fn messages_stand_under_their_words()
+    ensures past_due { (message : RowView) → word_of message ≡ codes "PAST-DUE" → row_html task_words message ≡ said (codes "Past due, start now: ") (codes ", weeks late: ") message }
+    ensures release { (message : RowView) → word_of message ≡ codes "RELEASE" → row_html task_words message ≡ said (codes "Release now: ") [] message }
+    ensures earlier { (message : RowView) → word_of message ≡ codes "IN" → row_html task_words message ≡ said (codes "Bring in: ") (codes " to week ") message }
+    ensures later { (message : RowView) → word_of message ≡ codes "OUT" → row_html task_words message ≡ said (codes "Put off: ") (codes " to week ") message }
+    ensures cancel { (message : RowView) → word_of message ≡ codes "CANCEL" → row_html task_words message ≡ said (codes "Cancel: ") [] message }
+    ensures another { (message : RowView) → row_html other_words message ≡ said_of_another message }
 {}
 
 /// A name that leads to an item leads to where that item's part of the page begins.
