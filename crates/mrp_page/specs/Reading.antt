@@ -1,5 +1,5 @@
 -- How a day is read, record by record.
-use Rattle.std.specs.Prelude.{ℕ, Bool, ◌≡◌, ◌⊎◌, List, Option, Some, true, false}
+use Rattle.std.specs.Prelude.{ℕ, Bool, ◌≡◌, ◌⊎◌, List, Option, Some, true, false, nat_le, if◌then◌else◌}
 use Rattle.csv.specs.Reading.{AreRecords, Reached, Ready, default_config, is_flexible, reader_config, reader_state, reader_trim, source_of, strip_bom}
 use Rattle.csv.specs.declared.error.ErrorKind.{ErrorKind}
 use Rattle.csv.specs.declared.error.ErrorKind.TheVariants as kind
@@ -7,6 +7,9 @@ use Rattle.csv.specs.declared.parser.State.{State}
 use Rattle.csv.specs.declared.parser.State.TheVariants as st
 use Rattle.csv.specs.declared.reader.Reader.{Reader}
 use Rattle.csv.specs.declared.reader.Trim.TheVariants as trim
+use Rattle.mrp_rows.specs.Told.{HasRisenBy, calls_of, counted, failures_of}
+use Rattle.mrp_rows.specs.declared.streams.TheConstants.{READ_CALLS}
+use Rattle.mrp_rows.specs.declared.told.Told.{Told}
 use Rattle.mrp_page.specs.declared.fault.PageFault.{PageFault}
 use Rattle.mrp_page.specs.declared.fault.PageFault.TheVariants as fault
 use Rattle.mrp_page.specs.Notes.{Noted, has_run, notes_of}
@@ -20,18 +23,20 @@ pub record IsReading {R : Type 0} (reader : Reader R) : Type 0 where
   pub flexible : is_flexible reader ≡ true
   pub ready : Ready reader
 
--- how an error of a reader of records is told: that memory was refused, or that the reader underneath failed
-abbrev pub told_as : ErrorKind → PageFault
-told_as kind.OutOfMemory = fault.NoMemory
-told_as _ = fault.Read
+-- how an error of a reader of records is told: that the input underneath stopped, or that memory was refused
+abbrev pub told_as : ErrorKind → Bool → PageFault
+told_as (kind.Io error) stopped = if stopped then fault.Read else fault.NoMemory
+told_as _ stopped = fault.NoMemory
 
--- a reader that failed, or memory that was refused
-abbrev pub is_read_fault : PageFault → Bool
-is_read_fault fault.NoMemory = true
-is_read_fault fault.Read = true
-is_read_fault _ = false
+-- a count has risen by so many, up to the greatest count
+abbrev pub has_risen_by : ℕ → ℕ → ℕ → Bool
+has_risen_by count before after = nat_le (counted count before) after
 
--- the same, or no day
+-- a reader failed, or took all calls that a day may take
+abbrev pub HasStopped : {R : Type 0} → Told R → Told R → Type 0
+HasStopped before after = HasRisenBy 1 (failures_of before) (failures_of after) ⊎ HasRisenBy READ_CALLS (calls_of before) (calls_of after)
+
+-- no day, a reader that stopped, or memory that was refused
 abbrev pub is_reading_fault : PageFault → Bool
 is_reading_fault fault.Shape = true
 is_reading_fault fault.NoMemory = true

@@ -1,8 +1,8 @@
 //! Why no page was made.
 
-ghost use Rattle.std.specs.Prelude.{◌≡◌, true};
+ghost use Rattle.std.specs.Prelude.{◌≡◌};
 ghost use Rattle.csv.specs.Reading.{error_kind};
-ghost use Rattle.mrp_page.specs.Reading.{is_read_fault, told_as};
+ghost use Rattle.mrp_page.specs.Reading.{told_as};
 
 use csv::ErrorKind;
 use mrp_qty::NoMemory;
@@ -51,13 +51,13 @@ impl From<WriteFault> for PageFault {
     }
 }
 
-// A reader of records failed: memory was refused, or the reader underneath failed.
-pub(crate) fn read_fault(error: &csv::Error) -> PageFault
-    ensures kind { result ≡ told_as (error_kind error.now) }
-    ensures fault { is_read_fault result ≡ true }
+// What an error of a reader of records is told as: a failed read where the input underneath stopped, and
+// else want of memory, which is all that there is besides.
+pub(crate) fn read_fault(error: &csv::Error, stopped: bool) -> PageFault
+    ensures { result ≡ told_as (error_kind error.now) stopped }
 {
     match error.kind() {
-        ErrorKind::OutOfMemory => PageFault::NoMemory,
-        _ => PageFault::Read,
+        ErrorKind::Io(_) if stopped => PageFault::Read,
+        _ => PageFault::NoMemory,
     }
 }

@@ -1,14 +1,18 @@
 //! A day, read record by record.
 
-ghost use Rattle.std.specs.Prelude.{◌≡◌, ℕ, List, Err, IfErr, IfOk, OnOk, Some, false, true};
+ghost use Rattle.std.specs.Prelude.{◌≡◌, ◌||◌, ℕ, List, Err, IfErr, IfOk, OnOk, Some, false, true};
 ghost use Rattle.csv.specs.Reading.{ReadRecord};
 ghost use Rattle.csv.specs.Records.{fields_of};
 ghost use Rattle.mrp_page.specs.Notes.{has_run, notes_of};
-ghost use Rattle.mrp_page.specs.Reading.{HasRecords, HasWrongFront, IsKeptOf, IsNoDay, IsReading, LacksRun, is_read_fault, is_reading_fault, is_write_fault};
+ghost use Rattle.mrp_page.specs.Reading.{HasRecords, HasStopped, HasWrongFront, IsKeptOf, IsNoDay, IsReading, LacksRun, has_risen_by, is_reading_fault, is_write_fault};
+ghost use Rattle.mrp_rows.specs.Told.{calls_of, failures_of, inner_of};
 
 use crate::fault::{PageFault, read_fault};
 use crate::notes::Notes;
+use crate::steady::Steady;
 use csv::{ByteRecord, Reader, ReaderBuilder};
+use mrp_qty::NoMemory;
+use mrp_rows::{READ_CALLS, Told};
 use std::alloc::Global;
 use std::io::Read;
 
@@ -16,30 +20,59 @@ use std::io::Read;
 pub(crate) fn read_cells<R: Read>(
     reader: &mut Reader<R>,
     cells: &mut ByteRecord,
-) -> Result<bool, PageFault>
+) -> Result<bool, csv::Error>
     requires { IsReading reader.old }
     ensures reads { IfOk result (λ found. ReadRecord R.remaining reader.old reader.new found (fields_of cells.new)) }
     ensures reading { OnOk result (IsReading reader.new) }
-    ensures fault { IfErr result (λ fault. is_read_fault fault ≡ true) }
 {
     match reader.read_byte_record(cells) {
         Ok(found) => Ok(found),
-        Err(error) => Err(read_fault(&error)),
+        Err(error) => Err(error),
+    }
+}
+
+// Why nothing is kept of a text. Only `csv` makes an error of its own, so nothing else is told as one.
+#[derive(Drop)]
+enum Unread {
+    // A front of the text begins no day.
+    Shape,
+    // A growth of memory was refused.
+    NoMemory,
+    // The reader of records says this.
+    Records(csv::Error),
+}
+
+impl From<NoMemory> for Unread {
+    ghost use Rattle.std.specs.Prelude.{◌≡◌};
+    ghost use Rattle.mrp_page.specs.declared.read.Unread.TheVariants as unread;
+
+    ghost from_gives = { λ _ given. given ≡ unread.NoMemory };
+
+    fn from(_refused: NoMemory) -> Unread {
+        Unread::NoMemory
+    }
+}
+
+impl From<csv::Error> for Unread {
+    ghost use Rattle.std.specs.Prelude.{◌≡◌};
+    ghost use Rattle.mrp_page.specs.declared.read.Unread.TheVariants as unread;
+
+    ghost from_gives = { λ error given. given ≡ unread.Records error };
+
+    fn from(error: csv::Error) -> Unread {
+        Unread::Records(error)
     }
 }
 
 // What is kept of the records of a text.
-//
-// Errors: `Shape` where a front of the text begins no day; `Read` and `NoMemory`.
-fn read_notes<R: Read + Drop>(
+fn read_records<R: Read + Drop>(
     alloc: Global,
     input: R,
     items: &[&[u8]],
     asked: Option<u64>,
-) -> Result<Notes, PageFault>
+) -> Result<Notes, Unread>
     ensures noted { IfOk result (λ notes. (text : List ℕ) → R.remaining input ≡ Some text → HasRecords text (λ records. notes ≡ notes_of items.now asked records)) }
-    ensures wrong { result ≡ Err PageFault.Shape → (text : List ℕ) → R.remaining input ≡ Some text → HasWrongFront text }
-    ensures fault { IfErr result (λ fault. is_reading_fault fault ≡ true) }
+    ensures wrong { result ≡ Err Unread.Shape → (text : List ℕ) → R.remaining input ≡ Some text → HasWrongFront text }
 {
     let mut reader = ReaderBuilder::new()
         .has_headers(false)
@@ -53,10 +86,56 @@ fn read_notes<R: Read + Drop>(
         }
         notes.note(items, asked, &mut cells)?;
         if notes.spot().is_wrong() {
-            return Err(PageFault::Shape);
+            return Err(Unread::Shape);
         }
     }
-    Err(PageFault::Read)
+    // (no memory has room for so many records)
+    Err(Unread::NoMemory)
+}
+
+// Whether a count has risen by so many.
+fn has_risen_by(count: u32, before: u64, after: u64) -> bool
+    ensures { result ≡ has_risen_by count before after }
+{
+    before.saturating_add(u64::from(count)) <= after
+}
+
+// Whether an input failed, or took all calls that a day may take, since so many of either.
+fn has_stopped<R: Read>(input: &Told<R>, calls: u64, failures: u64) -> bool
+    ensures { result ≡ (has_risen_by 1 failures (failures_of input.now) || has_risen_by READ_CALLS calls (calls_of input.now)) }
+{
+    has_risen_by(1, failures, input.failures()) || has_risen_by(READ_CALLS, calls, input.calls())
+}
+
+// What is kept of the records that an input has left.
+//
+// Errors: `Shape` where a front of these begins no day, `Read` where the input failed or needed more
+// calls, `NoMemory`.
+fn read_notes<R: Read>(
+    alloc: Global,
+    input: &mut Told<R>,
+    items: &[&[u8]],
+    asked: Option<u64>,
+) -> Result<Notes, PageFault>
+    ensures noted { IfOk result (λ notes. (text : List ℕ) → R.remaining (inner_of input.old) ≡ Some text → HasRecords text (λ records. notes ≡ notes_of items.now asked records)) }
+    ensures wrong { result ≡ Err PageFault.Shape → (text : List ℕ) → R.remaining (inner_of input.old) ≡ Some text → HasWrongFront text }
+    ensures stopped { result ≡ Err PageFault.Read → HasStopped input.old input.new }
+    ensures fault { IfErr result (λ fault. is_reading_fault fault ≡ true) }
+{
+    let calls = input.calls();
+    let failures = input.failures();
+    let steady = Steady {
+        reader: &mut *input,
+        calls_left: READ_CALLS,
+    };
+    match read_records(alloc, steady, items, asked) {
+        Ok(notes) => Ok(notes),
+        Err(Unread::Shape) => Err(PageFault::Shape),
+        Err(Unread::NoMemory) => Err(PageFault::NoMemory),
+        Err(Unread::Records(error)) => {
+            Err(read_fault(&error, has_stopped(input, calls, failures)))
+        }
+    }
 }
 
 // Whether the run that is asked for has begun. Each day has a last one.
@@ -73,15 +152,16 @@ fn has_run(asked: Option<u64>, runs: u64) -> bool
 //
 // Errors: `Shape` where the text is no day, `NoRun` where it has fewer runs than that which is asked
 // for, `Read` and `NoMemory`.
-pub(crate) fn read_day<R: Read + Drop>(
+pub(crate) fn read_day<R: Read>(
     alloc: Global,
-    input: R,
+    input: &mut Told<R>,
     items: &[&[u8]],
     asked: Option<u64>,
 ) -> Result<Notes, PageFault>
-    ensures kept { IfOk result (λ notes. (text : List ℕ) → R.remaining input ≡ Some text → IsKeptOf items.now asked text notes) }
-    ensures wrong { result ≡ Err PageFault.Shape → (text : List ℕ) → R.remaining input ≡ Some text → IsNoDay text }
-    ensures run { result ≡ Err PageFault.NoRun → (text : List ℕ) → R.remaining input ≡ Some text → LacksRun items.now asked text }
+    ensures kept { IfOk result (λ notes. (text : List ℕ) → R.remaining (inner_of input.old) ≡ Some text → IsKeptOf items.now asked text notes) }
+    ensures wrong { result ≡ Err PageFault.Shape → (text : List ℕ) → R.remaining (inner_of input.old) ≡ Some text → IsNoDay text }
+    ensures run { result ≡ Err PageFault.NoRun → (text : List ℕ) → R.remaining (inner_of input.old) ≡ Some text → LacksRun items.now asked text }
+    ensures stopped { result ≡ Err PageFault.Read → HasStopped input.old input.new }
     ensures fault { IfErr result (λ fault. is_write_fault fault ≡ false) }
 {
     let notes = read_notes(alloc, input, items, asked)?;

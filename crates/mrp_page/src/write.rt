@@ -2,7 +2,7 @@
 
 ghost use Rattle.std.specs.Prelude.{◌≡◌, ◌≤◌, ◌+◌, ◌⊎◌, ℕ, List, Err, IfErr, IfOk, OnOk, Some, false};
 ghost use Rattle.std.specs.Io.KnownBytes.{Appends};
-ghost use Rattle.mrp_page.specs.Reading.{IsNoDay, LacksRun, is_write_fault};
+ghost use Rattle.mrp_page.specs.Reading.{HasStopped, IsNoDay, LacksRun, is_write_fault};
 ghost use Rattle.mrp_page.specs.Written.{HasPage, IsPageOf};
 ghost use Rattle.mrp_rows.specs.Streams.{WritesFront};
 ghost use Rattle.mrp_rows.specs.Told.{HasRisenBy, failures_of, inner_of, interrupted_of};
@@ -11,8 +11,7 @@ use crate::fault::PageFault;
 use crate::html::Html;
 use crate::page::put_page;
 use crate::read::read_day;
-use crate::steady::Steady;
-use mrp_rows::{READ_CALLS, Told, Tries, WRITE_TRIES, write_text};
+use mrp_rows::{Told, Tries, WRITE_TRIES, write_text};
 use std::alloc::Global;
 use std::io::{Read, Write};
 
@@ -28,14 +27,15 @@ pub struct PageOptions<'a> {
 }
 
 // A page's text.
-fn page_of<R: Read + Drop>(
+fn page_of<R: Read>(
     alloc: Global,
-    input: R,
+    input: &mut Told<R>,
     options: &PageOptions<'_>,
 ) -> Result<Html, PageFault>
-    ensures page { IfOk result (λ page. (text : List ℕ) → R.remaining input ≡ Some text → HasPage options.now.title.now options.now.items.now options.now.run text page) }
-    ensures wrong { result ≡ Err PageFault.Shape → (text : List ℕ) → R.remaining input ≡ Some text → IsNoDay text }
-    ensures run { result ≡ Err PageFault.NoRun → (text : List ℕ) → R.remaining input ≡ Some text → LacksRun options.now.items.now options.now.run text }
+    ensures page { IfOk result (λ page. (text : List ℕ) → R.remaining (inner_of input.old) ≡ Some text → HasPage options.now.title.now options.now.items.now options.now.run text page) }
+    ensures wrong { result ≡ Err PageFault.Shape → (text : List ℕ) → R.remaining (inner_of input.old) ≡ Some text → IsNoDay text }
+    ensures run { result ≡ Err PageFault.NoRun → (text : List ℕ) → R.remaining (inner_of input.old) ≡ Some text → LacksRun options.now.items.now options.now.run text }
+    ensures stopped { result ≡ Err PageFault.Read → HasStopped input.old input.new }
     ensures fault { IfErr result (λ fault. is_write_fault fault ≡ false) }
 {
     let notes = read_day(alloc, input, options.items, options.run)?;
@@ -50,7 +50,8 @@ fn page_of<R: Read + Drop>(
 /// tried again and counts as a call. Nothing is written before all of it was read.
 ///
 /// Errors, with nothing written: `Shape` where the text is no day, `NoRun` where it has fewer runs
-/// than the one that is asked for, `Read` where the reader failed or needed more calls, `NoMemory`.
+/// than the one that is asked for, `Read` where the reader failed in this call or needed more calls,
+/// `NoMemory`.
 /// `Write` where a write failed, or was interrupted more than 1,000,000 times: a front of the page was
 /// written then.
 pub fn write_page<R: Read, W: Write>(
@@ -64,15 +65,12 @@ pub fn write_page<R: Read, W: Write>(
     ensures interrupted { OnOk result (interrupted_of writer.new ≤ interrupted_of writer.old + WRITE_TRIES) }
     ensures wrong { result ≡ Err PageFault.Shape → (text : List ℕ) → R.remaining (inner_of input.old) ≡ Some text → IsNoDay text }
     ensures run { result ≡ Err PageFault.NoRun → (text : List ℕ) → R.remaining (inner_of input.old) ≡ Some text → LacksRun options.now.items.now options.now.run text }
+    ensures stopped { result ≡ Err PageFault.Read → HasStopped input.old input.new }
     ensures untouched { IfErr result (λ fault. is_write_fault fault ≡ false → writer.new ≡ writer.old) }
     ensures refused { result ≡ Err PageFault.Write → HasRisenBy 1 (failures_of writer.old) (failures_of writer.new) ⊎ HasRisenBy (WRITE_TRIES + 1) (interrupted_of writer.old) (interrupted_of writer.new) }
     ensures front { result ≡ Err PageFault.Write → (text : List ℕ) → R.remaining (inner_of input.old) ≡ Some text → IsPageOf options.now.title.now options.now.items.now options.now.run text (λ page. WritesFront (W.contents (inner_of writer.old)) (W.contents (inner_of writer.new)) page) }
 {
-    let steady = Steady {
-        reader: input,
-        calls_left: READ_CALLS,
-    };
-    let page = page_of(alloc, steady, options)?;
+    let page = page_of(alloc, input, options)?;
     write_text(writer, page.as_bytes(), &mut Tries::new())?;
     Ok(())
 }

@@ -1,6 +1,6 @@
 use Rattle.std.proofs.Common.{◌≡◌, ℕ, List, Some}
 use Rattle.mrp_page.specs.Reading.{HasRead, IsReading}
-use Rattle.mrp_page.proofs.read.read_notes.Given as goal
+use Rattle.mrp_page.proofs.read.read_records.Given as goal
 
 abbrev pub invariant-loop : goal.invariant-loop
 invariant-loop g l = record {

@@ -3,7 +3,7 @@ use Rattle.std.specs.Option.{option_map}
 use Rattle.csv.specs.Records.{fields_of}
 use Rattle.csv.specs.Reading.{strip_bom}
 use Rattle.mrp_page.proofs.Records.{read-all, read-more, read-none, read-wrong}
-use Rattle.mrp_page.proofs.read.read_notes.Goals as goal
+use Rattle.mrp_page.proofs.read.read_records.Goals as goal
 
 is-true : (b : Bool) → not b ≡ false → b ≡ true
 is-true true e = refl
