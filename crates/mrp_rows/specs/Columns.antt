@@ -16,6 +16,15 @@ columns_of t.Master = codes "item" ∷ codes "row" ∷ codes "date" ∷ codes "q
 columns_of t.Script = codes "desk" ∷ codes "call" ∷ codes "item" ∷ codes "date" ∷ codes "quantity" ∷ codes "number" ∷ []
 columns_of t.Bundle = []
 
--- how many cells each record of a table has
-abbrev pub width_of : Table → ℕ
-width_of table = length (columns_of table)
+-- a table as a text has it: the table, and the names of its columns
+pub record Layout : Type 0 where
+  pub table : Table
+  pub columns : List (List ℕ)
+
+-- the layout that a table has in every bundle
+abbrev pub layout_of : Table → Layout
+layout_of table = record { table = table; columns = columns_of table }
+
+-- how many cells each record has
+abbrev pub width : Layout → ℕ
+width layout = length layout.columns

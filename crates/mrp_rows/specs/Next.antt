@@ -4,7 +4,7 @@ use Rattle.std.specs.Cmp.Lexicographic.{pointwise}
 use Rattle.mrp_rows.specs.declared.fault.Fault.{Fault}
 use Rattle.mrp_rows.specs.declared.faults.TheConstants as faults
 use Rattle.mrp_rows.specs.declared.fault.Table.{Table}
-use Rattle.mrp_rows.specs.Columns.{columns_of, width_of}
+use Rattle.mrp_rows.specs.Columns.{Layout, width}
 use Rattle.mrp_rows.specs.Left.{Cells, Left}
 use Rattle.mrp_rows.specs.Records.{records_of}
 
@@ -17,24 +17,24 @@ abbrev pub memory_fault : Table → ℕ → Fault
 memory_fault table number = record { code = faults.NO_MEMORY; table = table; row = number }
 
 -- a table's first record is its header: its cells are exactly the names of the table's columns, in order (profile)
-abbrev pub is_header : Table → List (List ℕ) → Bool
-is_header table cells = pointwise (pointwise nat_eq) cells (columns_of table)
+abbrev pub is_header : Layout → List (List ℕ) → Bool
+is_header own cells = pointwise (pointwise nat_eq) cells own.columns
 
 -- a table's header, or HEADER: also where there is no record
-abbrev pub headed : Table → Option Cells → Result (Unit {0}) Fault
-headed table None = Err (header_fault table)
-headed table (Some first) = if is_header table first.cells then Ok tt else Err (header_fault table)
+abbrev pub headed : Layout → Option Cells → Result (Unit {0}) Fault
+headed own None = Err (header_fault own.table)
+headed own (Some first) = if is_header own first.cells then Ok tt else Err (header_fault own.table)
 
 -- the records after the header
-abbrev pub after_header : Table → List (List (List ℕ)) → Result Left Fault
-after_header table [] = Err (header_fault table)
-after_header table (header ∷ records) =
-    if is_header table header then Ok (record { table = table; number = 1; left = records; is_over = false })
-    else Err (header_fault table)
+abbrev pub after_header : Layout → List (List (List ℕ)) → Result Left Fault
+after_header own [] = Err (header_fault own.table)
+after_header own (header ∷ records) =
+    if is_header own header then Ok (record { layout = own; number = 1; left = records; is_over = false })
+    else Err (header_fault own.table)
 
 -- a table's text, opened
-abbrev pub opened : Table → List ℕ → Result Left Fault
-opened table text = after_header table (records_of text)
+abbrev pub opened : Layout → List ℕ → Result Left Fault
+opened own text = after_header own (records_of text)
 
 -- a table's record of this number has another count of cells than the table has columns
 abbrev pub columns_fault : Table → ℕ → Fault
@@ -58,28 +58,28 @@ pub record IsOver (l : Left) : Type 0 where
 pub record HasEnded (old new : Left) : Type 0 where
   pub none : old.left ≡ []
   pub over : IsOver new
-  pub same : new.table ≡ old.table
+  pub same : new.layout ≡ old.layout
   pub number : new.number ≡ old.number
 
 -- the first of the records that were left is taken, with its table and number; the number goes on to those behind it
 pub record IsTaken (old : Left) (r : Cells) (new : Left) : Type 0 where
   pub taken : old.left ≡ r.cells ∷ new.left
-  pub table : r.table ≡ old.table
+  pub table : r.table ≡ old.layout.table
   pub number : r.number ≡ old.number
   pub after : new.number ≡ next_number old.number
-  pub same : new.table ≡ old.table
+  pub same : new.layout ≡ old.layout
   pub was_open : old.is_over ≡ false
   pub is_open : new.is_over ≡ false
 
 -- memory was refused for the next record: none is taken, and the number stays
 pub record LacksMemory (old : Left) (f : Fault) (new : Left) : Type 0 where
-  pub fault : f ≡ memory_fault old.table old.number
+  pub fault : f ≡ memory_fault old.layout.table old.number
   pub number : new.number ≡ old.number
 
 -- a refusal, for this: none is left for good
 pub record IsRefused (Why : Type 0) (old new : Left) : Type 0 where
   pub why : Why
-  pub same : new.table ≡ old.table
+  pub same : new.layout ≡ old.layout
   pub was_open : old.is_over ≡ false
   pub over : IsOver new
 
@@ -92,15 +92,15 @@ TakesNext old (Err f) new = IsRefused (LacksMemory old f new) old new
 -- the record that is taken has a cell for each of its table's columns
 pub record IsNext (old : Left) (r : Cells) (new : Left) : Type 0 where
   pub first : IsTaken old r new
-  pub wide : length r.cells ≡ width_of old.table
+  pub wide : length r.cells ≡ width old.layout
 
 -- the record that is taken has another count of cells, and the number goes on
 pub record IsMisshapen (old : Left) (f : Fault) (new : Left) : Type 0 where
   pub cells : List (List ℕ)
   pub rest : List (List (List ℕ))
   pub taken : old.left ≡ cells ∷ rest
-  pub wide : length cells ≢ width_of old.table
-  pub fault : f ≡ columns_fault old.table old.number
+  pub wide : length cells ≢ width old.layout
+  pub fault : f ≡ columns_fault old.layout.table old.number
   pub number : new.number ≡ next_number old.number
 
 -- the same, of records that have as many cells as their table has columns: the first that has not is refused, and a refusal is the last answer but None

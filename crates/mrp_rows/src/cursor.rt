@@ -1,7 +1,8 @@
 //! A table's records, one after the other.
 
-ghost use Rattle.std.specs.Prelude.{◌≡◌, false};
+ghost use Rattle.std.specs.Prelude.{◌≡◌, false, map};
 ghost use Rattle.mrp_rows.specs.Bundle.{text_in};
+ghost use Rattle.mrp_rows.specs.Columns.{layout_of};
 ghost use Rattle.mrp_rows.specs.Next.{GivesUnless, NextIs, TakesNext, headed, memory_fault, opened};
 ghost use Rattle.mrp_rows.specs.Reading.{IsReading, ReadsCells};
 ghost use Rattle.mrp_rows.specs.Records.{records_of};
@@ -19,13 +20,13 @@ use std::marker::Model;
 // Room for a record's bytes: most are shorter, and a longer one makes its own.
 const USUAL_LENGTH: usize = 64;
 
-/// The records of a table that are left, behind its header.
+/// The records of a table that are left, behind its header, with the names of its columns.
 #[derive(Drop)]
 pub struct Cursor<'a> {
     alloc: Global,
     reader: Reader<&'a [u8]>,
     table: Table,
-    columns: usize,
+    columns: &'static [&'static str],
     number: u32,
     done: bool,
     // A record that was given back, to read the next one into.
@@ -46,9 +47,18 @@ impl<'a> Model for Cursor<'a> {
 
 impl<'a> Cursor<'a> {
     // At the front of a table's text, the header included.
-    fn front(alloc: Global, text: &'a [u8], table: Table) -> Cursor<'a>
-        ensures { result
-            ≡ record { table = table; number = 0; left = records_of text.now; is_over = false } }
+    fn front(
+        alloc: Global,
+        text: &'a [u8],
+        table: Table,
+        columns: &'static [&'static str],
+    ) -> Cursor<'a>
+        ensures { result ≡ record {
+          layout = record { table = table; columns = map (λ name. name.now) columns.now };
+          number = 0;
+          left = records_of text.now;
+          is_over = false;
+        } }
     {
         let reader = ReaderBuilder::new()
             .has_headers(false)
@@ -58,7 +68,7 @@ impl<'a> Cursor<'a> {
             alloc,
             reader,
             table,
-            columns: columns(table).len(),
+            columns,
             number: 0,
             done: false,
             spare: None,
@@ -71,24 +81,25 @@ impl<'a> Cursor<'a> {
     /// columns, also where there is no record, as in the bundle, which has no section; `NO_MEMORY`.
     pub fn new(alloc: Global, sections: &Sections<'a>, table: Table) -> Result<Cursor<'a>, Fault>
         ensures { GivesUnless (memory_fault table 0) result
-            (opened table (text_in sections.now table)) }
+            (opened (layout_of table) (text_in sections.now table)) }
     {
         Cursor::over(alloc, sections.text_of(table), table)
     }
 
     // The records of a table's text, behind its header.
     pub(crate) fn over(alloc: Global, text: &'a [u8], table: Table) -> Result<Cursor<'a>, Fault>
-        ensures { GivesUnless (memory_fault table 0) result (opened table text.now) }
+        ensures { GivesUnless (memory_fault table 0) result (opened (layout_of table) text.now) }
     {
-        let mut cursor = Cursor::front(alloc, text, table);
+        let columns = columns(table);
+        let mut cursor = Cursor::front(alloc, text, table, columns);
         let first = cursor.take_next()?;
-        headed(table, &first)?;
+        headed(table, columns, &first)?;
         Ok(cursor)
     }
 
     /// The table.
     pub fn table(&self) -> Table
-        ensures { result ≡ self.now.table }
+        ensures { result ≡ self.now.layout.table }
     {
         self.table
     }
@@ -112,7 +123,7 @@ impl<'a> Cursor<'a> {
         let Some(row) = self.take_next()? else {
             return Ok(None);
         };
-        if row.cell_count() != self.columns {
+        if row.cell_count() != self.columns.len() {
             self.done = true;
             return Err(row.fault(COLUMNS));
         }
@@ -134,7 +145,7 @@ impl<'a> Cursor<'a> {
             return Ok(None);
         }
         let spare = self.spare.take();
-        match read_cells(self.alloc, &mut self.reader, self.columns, spare) {
+        match read_cells(self.alloc, &mut self.reader, self.columns.len(), spare) {
             Ok(Some(cells)) => {
                 let number = self.number;
                 self.number = number.saturating_add(1);
@@ -157,11 +168,11 @@ impl<'a> Cursor<'a> {
 }
 
 // A table's first record as its header.
-fn headed(table: Table, first: &Option<Row>) -> Result<(), Fault>
-    ensures { result ≡ headed table first.now }
+fn headed(table: Table, columns: &[&str], first: &Option<Row>) -> Result<(), Fault>
+    ensures { result ≡ headed (record { table = table; columns = map (λ name. name.now) columns.now }) first.now }
 {
     match first {
-        Some(header) if is_header(header, columns(table)) => Ok(()),
+        Some(header) if is_header(header, columns) => Ok(()),
         _ => Err(Fault {
             code: HEADER,
             table,

@@ -9,7 +9,7 @@ use Rattle.mrp_cal.specs.Calendar.{ShopCalendar, is_monday, week_of}
 use Rattle.mrp_cal.specs.declared.calendar.TheConstants.{MOST_WEEKS}
 use Rattle.mrp_rows.specs.declared.fault.Fault.{Fault}
 use Rattle.mrp_rows.specs.declared.faults.TheConstants as faults
-use Rattle.mrp_rows.specs.Columns.{width_of}
+use Rattle.mrp_rows.specs.Columns.{Layout, width}
 use Rattle.mrp_rows.specs.Left.{Cells}
 use Rattle.mrp_rows.specs.Cell.{blame, cell_at, date_cell, fault_at, name_of, number_cell, or_code, word_of}
 use Rattle.mrp_tables.specs.declared.limits.TheConstants as limits
@@ -63,29 +63,29 @@ last_unless : {Y : Type 0} (r : Cells) (code : ℕ) (b : Bool) (y : Y) → IfErr
 last_unless r code true y = tt
 last_unless r code false y = own r code
 
-admits : (r : Cells) (past wide : Bool) → is_past (record_limit r.table) r.number ≡ past → (length r.cells == width_of r.table) ≡ wide → IfErr (admitted r) (IsAt r)
-admits r true wide e w = rw e (own r faults.TOO_MANY)
-admits r false true e w = rw (e, w) tt
-admits r false false e w = rw (e, w) (own r faults.COLUMNS)
+admits : (at : Layout) (r : Cells) (past wide : Bool) → is_past (record_limit r.table) r.number ≡ past → (length r.cells == width at) ≡ wide → IfErr (admitted at r) (IsAt r)
+admits at r true wide e w = rw e (own r faults.TOO_MANY)
+admits at r false true e w = rw (e, w) tt
+admits at r false false e w = rw (e, w) (own r faults.COLUMNS)
 
-pub admitted_at : (r : Cells) → IfErr (admitted r) (IsAt r)
-admitted_at r = admits r (is_past (record_limit r.table) r.number) (length r.cells == width_of r.table) refl refl
+pub admitted_at : (at : Layout) (r : Cells) → IfErr (admitted at r) (IsAt r)
+admitted_at at r = admits at r (is_past (record_limit r.table) r.number) (length r.cells == width at) refl refl
 
-admits_same : (r : Cells) (past wide : Bool) → is_past (record_limit r.table) r.number ≡ past → (length r.cells == width_of r.table) ≡ wide → (c : Cells) → admitted r ≡ Ok c → r ≡ c
-admits_same r true wide e w c given = let refused : admitted r ≡ Err (fault_at r faults.TOO_MANY) = rw e refl in absurd cc
-admits_same r false true e w c given = let kept : admitted r ≡ Ok r = rw (e, w) refl in cc
-admits_same r false false e w c given = let refused : admitted r ≡ Err (fault_at r faults.COLUMNS) = rw (e, w) refl in absurd cc
+admits_same : (at : Layout) (r : Cells) (past wide : Bool) → is_past (record_limit r.table) r.number ≡ past → (length r.cells == width at) ≡ wide → (c : Cells) → admitted at r ≡ Ok c → r ≡ c
+admits_same at r true wide e w c given = let refused : admitted at r ≡ Err (fault_at r faults.TOO_MANY) = rw e refl in absurd cc
+admits_same at r false true e w c given = let kept : admitted at r ≡ Ok r = rw (e, w) refl in cc
+admits_same at r false false e w c given = let refused : admitted at r ≡ Err (fault_at r faults.COLUMNS) = rw (e, w) refl in absurd cc
 
 -- what is admitted is the record
-pub admitted_same : (r c : Cells) → admitted r ≡ Ok c → r ≡ c
-admitted_same r c given = admits_same r (is_past (record_limit r.table) r.number) (length r.cells == width_of r.table) refl refl c given
+pub admitted_same : (at : Layout) (r c : Cells) → admitted at r ≡ Ok c → r ≡ c
+admitted_same at r c given = admits_same at r (is_past (record_limit r.table) r.number) (length r.cells == width at) refl refl c given
 
 -- a record that is admitted and then read
 reads : {X : Type 0} (read : Reads X) → ((before : List X) (r : Cells) → IfErr (read before r) (IsAt r)) → FaultsAtItsRecord read
-reads read h before r = by (admitted r) refl (admitted_at r)
+reads read h layout before r = by (admitted layout r) refl (admitted_at layout r)
   where
-    by : (a : Result Cells Fault) → admitted r ≡ a → IfErr a (IsAt r) → IfErr (a >>= read before) (IsAt r)
-    by (Ok c) e at = rw (← admitted_same r c e) (h before r)
+    by : (a : Result Cells Fault) → admitted layout r ≡ a → IfErr a (IsAt r) → IfErr (a >>= read before) (IsAt r)
+    by (Ok c) e at = rw (← admitted_same layout r c e) (h before r)
     by (Err f) e at = at
 
 start_at : (r : Cells) → IfErr (start_cells r) (IsAt r)

@@ -8,7 +8,7 @@ use Rattle.mrp_rows.specs.declared.fault.Fault.{Fault}
 use Rattle.mrp_rows.specs.declared.faults.TheConstants as faults
 use Rattle.mrp_rows.specs.declared.fault.Table.{Table}
 use Rattle.mrp_rows.specs.declared.fault.Table.TheVariants as t
-use Rattle.mrp_rows.specs.Columns.{columns_of}
+use Rattle.mrp_rows.specs.Columns.{Layout}
 use Rattle.mrp_rows.specs.Left.{Cells, Left}
 use Rattle.mrp_rows.specs.Cell.{fault_at}
 use Rattle.mrp_rows.specs.Next.{after_header, header_fault, next_number, opened}
@@ -31,9 +31,9 @@ limit_number t.Script limit e = let same : limits.MOST_ROWS ≡ limit = cc in om
 limit_number t.Bundle limit e = absurd cc
 
 -- an admitted record is within the limit
-admitted_within : (r : Cells) (c : Cells) (past : Bool) → is_past (record_limit r.table) r.number ≡ past → admitted r ≡ Ok c → past ≡ false
-admitted_within r c true h e = let refused : admitted r ≡ Err (fault_at r faults.TOO_MANY) = rw h refl in absurd cc
-admitted_within r c false h e = refl
+admitted_within : (own : Layout) (r : Cells) (c : Cells) (past : Bool) → is_past (record_limit r.table) r.number ≡ past → admitted own r ≡ Ok c → past ≡ false
+admitted_within own r c true h e = let refused : admitted own r ≡ Err (fault_at r faults.TOO_MANY) = rw h refl in absurd cc
+admitted_within own r c false h e = refl
 
 -- the rows so far are fewer than the number of the next record
 record IsCounted {X : Type 0} (limit : ℕ) (rows : List X) (number : ℕ) : Type 0 where
@@ -55,51 +55,51 @@ after_row limit next rows go (Err f) given = absurd cc
 after_row limit next rows go (Ok x) given = go x given
 
 -- a record is admitted, and what follows keeps to the limit
-after_admitted : {X : Type 0} (limit : ℕ) (next : Cells → Result (List X) Fault) (rows : List X) (r : Cells)
+after_admitted : {X : Type 0} (own : Layout) (limit : ℕ) (next : Cells → Result (List X) Fault) (rows : List X) (r : Cells)
     → (is_past (record_limit r.table) r.number ≡ false → (c : Cells) → next c ≡ Ok rows → length rows ≤ limit)
-    → (a : Result Cells Fault) → admitted r ≡ a → (a >>= next) ≡ Ok rows → length rows ≤ limit
-after_admitted limit next rows r go (Err f) is given = absurd cc
-after_admitted limit next rows r go (Ok c) is given =
-    go (admitted_within r c (is_past (record_limit r.table) r.number) refl is) c given
+    → (a : Result Cells Fault) → admitted own r ≡ a → (a >>= next) ≡ Ok rows → length rows ≤ limit
+after_admitted own limit next rows r go (Err f) is given = absurd cc
+after_admitted own limit next rows r go (Ok c) is given =
+    go (admitted_within own r c (is_past (record_limit r.table) r.number) refl is) c given
 
 -- the records behind a header are counted from 1
-by_header : (table : Table) (made all : Left) (same : Bool) → made.number ≡ 1 → (if same then Ok made else Err (header_fault table)) ≡ Ok all → 1 ≤ all.number
-by_header table made all true own e = let h : made ≡ all = cc in omega (arith, ap (λ (l : Left). l.number) h)
-by_header table made all false own e = absurd cc
+by_header : (own : Layout) (made all : Left) (same : Bool) → made.number ≡ 1 → (if same then Ok made else Err (header_fault own.table)) ≡ Ok all → 1 ≤ all.number
+by_header own made all true one e = let h : made ≡ all = cc in omega (arith, ap (λ (l : Left). l.number) h)
+by_header own made all false one e = absurd cc
 
-first : (table : Table) (records : List (List (List ℕ))) (all : Left) → after_header table records ≡ Ok all → 1 ≤ all.number
-first table [] all e = absurd cc
-first table (header ∷ records) all e =
-    by_header table (record { table = table; number = 1; left = records; is_over = false }) all (pointwise (pointwise nat_eq) header (columns_of table)) refl e
+first : (own : Layout) (records : List (List (List ℕ))) (all : Left) → after_header own records ≡ Ok all → 1 ≤ all.number
+first own [] all e = absurd cc
+first own (header ∷ records) all e =
+    by_header own (record { layout = own; number = 1; left = records; is_over = false }) all (pointwise (pointwise nat_eq) header own.columns) refl e
 
-counted_from : {X : Type 0} (read : Reads X) (table : Table) (limit : ℕ) → record_limit table ≡ Some limit
+counted_from : {X : Type 0} (read : Reads X) (own : Layout) (limit : ℕ) → record_limit own.table ≡ Some limit
     → (before : List X) (number : ℕ) (left : List (List (List ℕ))) (rows : List X) → IsCounted limit before number
-    → rows_from read table before number left ≡ Ok rows → length rows ≤ limit
+    → rows_from read own before number left ≡ Ok rows → length rows ≤ limit
 unfolding rows_from
-counted_from read table limit e before number [] rows counted given =
+counted_from read own limit e before number [] rows counted given =
     let same : before ≡ rows = cc in rw (← same) counted.few
-counted_from read table limit e before number (cells ∷ rest) rows counted given =
-    let r : Cells = record { table = table; number = number; cells = cells } in
-    after_admitted limit (λ c. read before c >>= λ x. rows_from read table (before ++ (x ∷ [])) (next_number number) rest) rows r
+counted_from read own limit e before number (cells ∷ rest) rows counted given =
+    let r : Cells = record { table = own.table; number = number; cells = cells } in
+    after_admitted own limit (λ c. read before c >>= λ x. rows_from read own (before ++ (x ∷ [])) (next_number number) rest) rows r
     (λ past c admits.
     let within : nat_lt limit number ≡ false = rw e at past in
-    after_row limit (λ x. rows_from read table (before ++ (x ∷ [])) (next_number number) rest) rows
-    (λ x rest_given. counted_from read table limit e (before ++ x ∷ []) (next_number number) rest rows (more limit before x number (limit_number table limit e) within counted) rest_given)
+    after_row limit (λ x. rows_from read own (before ++ (x ∷ [])) (next_number number) rest) rows
+    (λ x rest_given. counted_from read own limit e (before ++ x ∷ []) (next_number number) rest rows (more limit before x number (limit_number own.table limit e) within counted) rest_given)
     (read before c) admits)
-    (admitted r) refl given
+    (admitted own r) refl given
 
 -- a table's rows are no more than its limit
-pub counted : {X : Type 0} (read : Reads X) (table : Table) (text : List ℕ) (rows : List X) (limit : ℕ)
-    → record_limit table ≡ Some limit → rows_of read table text ≡ Ok rows → length rows ≤ limit
-counted read table text rows limit e given = opens (opened table text) refl given
+pub counted : {X : Type 0} (read : Reads X) (own : Layout) (text : List ℕ) (rows : List X) (limit : ℕ)
+    → record_limit own.table ≡ Some limit → rows_of read own text ≡ Ok rows → length rows ≤ limit
+counted read own text rows limit e given = opens (opened own text) refl given
   where
-    opens : (o : Result Left Fault) → opened table text ≡ o → (o >>= λ all. rows_from read table [] all.number all.left) ≡ Ok rows → length rows ≤ limit
+    opens : (o : Result Left Fault) → opened own text ≡ o → (o >>= λ all. rows_from read own [] all.number all.left) ≡ Ok rows → length rows ≤ limit
     opens (Err f) is all_given = absurd cc
     opens (Ok all) is all_given =
-        counted_from read table limit e [] all.number all.left rows (record { few = omega arith; at = first table (records_of text) all is }) all_given
+        counted_from read own limit e [] all.number all.left rows (record { few = omega arith; at = first own (records_of text) all is }) all_given
 
 -- the same of what a call returned
-pub counted_result : {X Y : Type 0} (IsRefusal : Fault → Type 0) (view : Y → List X) (read : Reads X) (table : Table) (text : List ℕ) (limit : ℕ)
-    → record_limit table ≡ Some limit → (result : Result Y Fault) → Gives IsRefusal view result (rows_of read table text) → IfOk result (λ y. length (view y) ≤ limit)
-counted_result IsRefusal view read table text limit e (Ok y) given = counted read table text (view y) limit e given
-counted_result IsRefusal view read table text limit e (Err f) given = tt
+pub counted_result : {X Y : Type 0} (IsRefusal : Fault → Type 0) (view : Y → List X) (read : Reads X) (own : Layout) (text : List ℕ) (limit : ℕ)
+    → record_limit own.table ≡ Some limit → (result : Result Y Fault) → Gives IsRefusal view result (rows_of read own text) → IfOk result (λ y. length (view y) ≤ limit)
+counted_result IsRefusal view read own text limit e (Ok y) given = counted read own text (view y) limit e given
+counted_result IsRefusal view read own text limit e (Err f) given = tt

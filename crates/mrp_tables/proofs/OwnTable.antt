@@ -6,7 +6,7 @@ use Rattle.mrp_qty.specs.Reading.{◌>>=◌}
 use Rattle.mrp_rows.specs.declared.fault.Fault.{Fault}
 use Rattle.mrp_rows.specs.declared.fault.Table.{Table}
 use Rattle.mrp_rows.specs.declared.fault.Table.TheVariants as t
-use Rattle.mrp_rows.specs.Columns.{columns_of}
+use Rattle.mrp_rows.specs.Columns.{Layout, layout_of}
 use Rattle.mrp_rows.specs.Left.{Cells, Left}
 use Rattle.mrp_rows.specs.Next.{after_header, header_fault, next_number, opened}
 use Rattle.mrp_rows.specs.Records.{records_of}
@@ -30,34 +30,34 @@ pub follows : {X Y : Type 0} (table : Table) (x : Result X Fault) (next : X → 
 follows table (Ok a) next own h = h a refl
 follows table (Err f) next own h = own
 
-rows_from_own : {X : Type 0} (read : Reads X) → FaultsAtItsRecord read → (table : Table) (before : List X) (number : ℕ) (left : List (List (List ℕ))) → IsOf table (rows_from read table before number left)
+rows_from_own : {X : Type 0} (read : Reads X) → FaultsAtItsRecord read → (own : Layout) (before : List X) (number : ℕ) (left : List (List (List ℕ))) → IsOf own.table (rows_from read own before number left)
 unfolding rows_from
-rows_from_own read h table before number [] = tt
-rows_from_own {X} read h table before number (cells ∷ rest) =
-    let r : Cells = record { table = table; number = number; cells = cells } in
-    let next : X → Result (List X) Fault = λ x. rows_from read table (before ++ (x ∷ [])) (next_number number) rest in
-    rw (← bind_assoc (admitted r) (read before) next)
-    (follows table (read_one read before r) next (at_table r (read_one read before r) (h before r))
-    (λ x e. rows_from_own read h table (before ++ (x ∷ [])) (next_number number) rest))
+rows_from_own read h own before number [] = tt
+rows_from_own {X} read h own before number (cells ∷ rest) =
+    let r : Cells = record { table = own.table; number = number; cells = cells } in
+    let next : X → Result (List X) Fault = λ x. rows_from read own (before ++ (x ∷ [])) (next_number number) rest in
+    rw (← bind_assoc (admitted own r) (read before) next)
+    (follows own.table (read_one read own before r) next (at_table r (read_one read own before r) (h own before r))
+    (λ x e. rows_from_own read h own (before ++ (x ∷ [])) (next_number number) rest))
 
 by_header_own : (table : Table) (made : Left) (same : Bool) → IsOf table (if same then Ok made else Err (header_fault table))
 by_header_own table made true = tt
 by_header_own table made false = refl
 
-header_own : (table : Table) (records : List (List (List ℕ))) → IsOf table (after_header table records)
-header_own table [] = refl
-header_own table (header ∷ records) = by_header_own table (record { table = table; number = 1; left = records; is_over = false }) (pointwise (pointwise nat_eq) header (columns_of table))
+header_own : (own : Layout) (records : List (List (List ℕ))) → IsOf own.table (after_header own records)
+header_own own [] = refl
+header_own own (header ∷ records) = by_header_own own.table (record { layout = own; number = 1; left = records; is_over = false }) (pointwise (pointwise nat_eq) header own.columns)
 
-pub rows_own : {X : Type 0} (read : Reads X) → FaultsAtItsRecord read → (table : Table) (text : List ℕ) → IsOf table (rows_of read table text)
-rows_own read h table text =
-    follows table (opened table text) (λ all. rows_from read table [] all.number all.left) (header_own table (records_of text))
-    (λ all e. rows_from_own read h table [] all.number all.left)
+pub rows_own : {X : Type 0} (read : Reads X) → FaultsAtItsRecord read → (own : Layout) (text : List ℕ) → IsOf own.table (rows_of read own text)
+rows_own read h own text =
+    follows own.table (opened own text) (λ all. rows_from read own [] all.number all.left) (header_own own (records_of text))
+    (λ all e. rows_from_own read h own [] all.number all.left)
 
 from_own : (entries : List Entry) → IsOf t.Calendar (calendar_from entries)
 from_own (Start start ∷ Weeks weeks ∷ Workdays workdays ∷ holidays) = tt
 from_own entries = refl
 
-pub calendar_own : (text : List ℕ) → IsOf t.Calendar (rows_of entry_row t.Calendar text >>= calendar_from)
+pub calendar_own : (text : List ℕ) → IsOf t.Calendar (rows_of entry_row (layout_of t.Calendar) text >>= calendar_from)
 calendar_own text =
-    follows t.Calendar (rows_of entry_row t.Calendar text) calendar_from
-    (rows_own entry_row at_their_records.calendar t.Calendar text) (λ entries e. from_own entries)
+    follows t.Calendar (rows_of entry_row (layout_of t.Calendar) text) calendar_from
+    (rows_own entry_row at_their_records.calendar (layout_of t.Calendar) text) (λ entries e. from_own entries)

@@ -1,6 +1,7 @@
 -- A fault of a table that is read behind others: that of its reading, or a refusal of memory.
 use Rattle.std.proofs.Common.{◌≡◌, ◌⊎◌, ℕ, List, [], Err, inl, inr, sym, ap, subst}
 use Rattle.mrp_rows.specs.Bundle.{text_in}
+use Rattle.mrp_rows.specs.Columns.{Layout, layout_of}
 use Rattle.mrp_rows.specs.declared.fault.Fault.{Fault}
 use Rattle.mrp_rows.specs.declared.faults.TheConstants as faults
 use Rattle.mrp_rows.specs.declared.fault.Table.{Table}
@@ -15,10 +16,10 @@ record IsMemoryFault (own : Table) (f : Fault) : Type 0 where
   code : f.code ≡ faults.NO_MEMORY
   table : f.table ≡ own
 
-memory_behind : {X : Type 0} (read : Reads X) (own : Table) (before : List X) (number : ℕ) (left : List (List (List ℕ))) (f : Fault) → IsRefusedBehind read own before number left f → IsMemoryFault own f
+memory_behind : {X : Type 0} (read : Reads X) (own : Layout) (before : List X) (number : ℕ) (left : List (List (List ℕ))) (f : Fault) → IsRefusedBehind read own before number left f → IsMemoryFault own.table f
 memory_behind read own before number left f behind = record { code = ap (λ (g : Fault). g.code) behind.fault; table = ap (λ (g : Fault). g.table) behind.fault }
 
-memory_in : {X : Type 0} (read : Reads X) (own : Table) (text : List ℕ) (f : Fault) → IsRefusedIn read own text f → IsMemoryFault own f
+memory_in : {X : Type 0} (read : Reads X) (own : Layout) (text : List ℕ) (f : Fault) → IsRefusedIn read own text f → IsMemoryFault own.table f
 memory_in read own text f (inl e) = record { code = ap (λ (g : Fault). g.code) e; table = ap (λ (g : Fault). g.table) e }
 memory_in read own text f (inr (all, opens, behind)) = memory_behind read own [] all.number all.left f behind
 
@@ -27,7 +28,7 @@ pub refused : (texts : List (List ℕ)) (own : Table) (f : Fault) → AreWholeBe
     → IsMemoryRefusal texts f ⊎ (tables_in texts ≡ Err f)
 refused texts own f earlier (inr e) = inr (refused_behind texts f own earlier e)
 refused texts own f earlier (inl (read, is, memory)) =
-    let at : IsMemoryFault own f = memory_in read own (text_in texts own) f memory in
+    let at : IsMemoryFault own f = memory_in read (layout_of own) (text_in texts own) f memory in
     inl (record {
       code = at.code;
       at = subst (IsRefusedAt texts f) (sym at.table) (read, is, memory);

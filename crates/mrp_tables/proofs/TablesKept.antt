@@ -8,6 +8,7 @@ use Rattle.std.proofs.lemmas.List.Elements.{All-append, All-cons, All-nil}
 use Rattle.mrp_qty.specs.Reading.{◌>>=◌}
 use Rattle.mrp_cal.specs.Calendar.{ShopCalendar}
 use Rattle.mrp_rows.specs.Bundle.{text_in}
+use Rattle.mrp_rows.specs.Columns.{Layout, layout_of}
 use Rattle.mrp_rows.specs.Cell.{fault_at}
 use Rattle.mrp_rows.specs.declared.fault.Fault.{Fault}
 use Rattle.mrp_rows.specs.declared.faults.TheConstants as faults
@@ -48,26 +49,26 @@ use Rattle.mrp_tables.proofs.TellingTables.{told_at_its_table}
 
 -- what holds of no row, and of one row more that is read, holds of all
 kept_from : {X : Type 0} (Are : List X → Type 0) (read : Reads X) → ((before : List X) (r : Cells) (x : X) → Are before → read before r ≡ Ok x → Are (before ++ x ∷ []))
-    → (table : Table) (before : List X) (number : ℕ) (left : List (List (List ℕ))) (rows : List X) → Are before → rows_from read table before number left ≡ Ok rows → Are rows
+    → (own : Layout) (before : List X) (number : ℕ) (left : List (List (List ℕ))) (rows : List X) → Are before → rows_from read own before number left ≡ Ok rows → Are rows
 unfolding rows_from
-kept_from Are read more table before number [] rows are e = subst Are (same_value before rows (Ok before) refl e) are
-kept_from Are read more table before number (cells ∷ rest) rows are e =
-    let r = whole_step (admitted (record { table = table; number = number; cells = cells })) _ rows e in
+kept_from Are read more own before number [] rows are e = subst Are (same_value before rows (Ok before) refl e) are
+kept_from Are read more own before number (cells ∷ rest) rows are e =
+    let r = whole_step (admitted own (record { table = own.table; number = number; cells = cells })) _ rows e in
     let x = whole_step (read before r.0) _ rows r.2 in
-    kept_from Are read more table (before ++ x.0 ∷ []) (next_number number) rest rows (more before r.0 x.0 are x.1) x.2
+    kept_from Are read more own (before ++ x.0 ∷ []) (next_number number) rest rows (more before r.0 x.0 are x.1) x.2
 
 kept_of : {X : Type 0} (Are : List X → Type 0) (read : Reads X) → ((before : List X) (r : Cells) (x : X) → Are before → read before r ≡ Ok x → Are (before ++ x ∷ []))
-    → (table : Table) (text : List ℕ) (rows : List X) → Are [] → rows_of read table text ≡ Ok rows → Are rows
-kept_of Are read more table text rows none e =
-    let all = whole_step (opened table text) _ rows e in
-    kept_from Are read more table [] all.0.number all.0.left rows none all.2
+    → (own : Layout) (text : List ℕ) (rows : List X) → Are [] → rows_of read own text ≡ Ok rows → Are rows
+kept_of Are read more own text rows none e =
+    let all = whole_step (opened own text) _ rows e in
+    kept_from Are read more own [] all.0.number all.0.left rows none all.2
 
 with_one : {X : Type 0} (Is : X → Type 0) (xs : List X) (x : X) → All Is xs → Is x → All Is (xs ++ x ∷ [])
 with_one Is xs x all is = All-append Is xs (x ∷ []) all (All-cons Is x [] is (All-nil Is))
 
 each_kept : {X : Type 0} (Is : X → Type 0) (read : Reads X) → ((before : List X) (r : Cells) (x : X) → read before r ≡ Ok x → Is x)
-    → (table : Table) (text : List ℕ) (rows : List X) → rows_of read table text ≡ Ok rows → All Is rows
-each_kept Is read one table text rows e = kept_of (All Is) read (λ before r x all given. with_one Is before x all (one before r x given)) table text rows (All-nil Is) e
+    → (own : Layout) (text : List ℕ) (rows : List X) → rows_of read own text ≡ Ok rows → All Is rows
+each_kept Is read one own text rows e = kept_of (All Is) read (λ before r x all given. with_one Is before x all (one before r x given)) own text rows (All-nil Is) e
 
 none_differ : {X : Type 0} → AllDiffer {X = X} []
 none_differ = λ i j d less within same. absurd (omega (arith, within))
@@ -87,8 +88,8 @@ one_item before r item are e =
       names = grown_field nat_list_eq_equiv (λ (i : Item). i.name) before (before ++ read.0 ∷ []) read.0 refl are.names new.0;
     })
 
-are_items : (text : List ℕ) (items : List Item) → rows_of item_row t.Items text ≡ Ok items → AreItems items
-are_items text items e = kept_of AreItems item_row one_item t.Items text items (record { within = All-nil IsItem; names = none_differ }) e
+are_items : (text : List ℕ) (items : List Item) → rows_of item_row (layout_of t.Items) text ≡ Ok items → AreItems items
+are_items text items e = kept_of AreItems item_row one_item (layout_of t.Items) text items (record { within = All-nil IsItem; names = none_differ }) e
 
 -- the centres, with names that differ
 record AreCentres (centres : List Centre) : Type 0 where
@@ -104,8 +105,8 @@ one_centre before r centre are e =
       differ = grown_field nat_list_eq_equiv (λ (k : Centre). k.name) before (before ++ read.0 ∷ []) read.0 refl are.differ last.0;
     })
 
-are_centres : (text : List ℕ) (centres : List Centre) → rows_of centre_row t.Centres text ≡ Ok centres → AreCentres centres
-are_centres text centres e = kept_of AreCentres centre_row one_centre t.Centres text centres (record { within = All-nil IsCentre; differ = none_differ }) e
+are_centres : (text : List ℕ) (centres : List Centre) → rows_of centre_row (layout_of t.Centres) text ≡ Ok centres → AreCentres centres
+are_centres text centres e = kept_of AreCentres centre_row one_centre (layout_of t.Centres) text centres (record { within = All-nil IsCentre; differ = none_differ }) e
 
 -- the operations, with numbers that differ by item
 record AreOperations (items : List Item) (centres : List Centre) (rows : List Operation) : Type 0 where
@@ -121,9 +122,9 @@ one_operation items centres before r row are e =
       differ = grown_field same_operation_equiv (λ (o : Operation). (o.item, o.operation)) before (before ++ row ∷ []) row refl are.differ is.fresh;
     }
 
-are_operations : (items : List Item) (centres : List Centre) (text : List ℕ) (rows : List Operation) → rows_of (operation_row items centres) t.Routings text ≡ Ok rows → AreOperations items centres rows
+are_operations : (items : List Item) (centres : List Centre) (text : List ℕ) (rows : List Operation) → rows_of (operation_row items centres) (layout_of t.Routings) text ≡ Ok rows → AreOperations items centres rows
 are_operations items centres text rows e =
-    kept_of (AreOperations items centres) (operation_row items centres) (one_operation items centres) t.Routings text rows
+    kept_of (AreOperations items centres) (operation_row items centres) (one_operation items centres) (layout_of t.Routings) text rows
     (record { within = All-nil (IsOperation items centres); differ = none_differ }) e
 
 -- the stock, with items that differ
@@ -140,8 +141,8 @@ one_stocked items before r row are e =
       stocked = grown_field nat_eq_equiv (λ (s : StockRow). s.item) before (before ++ read.0 ∷ []) read.0 refl are.stocked last.0;
     })
 
-are_stock : (items : List Item) (text : List ℕ) (rows : List StockRow) → rows_of (stock_row items) t.Stock text ≡ Ok rows → AreStock items rows
-are_stock items text rows e = kept_of (AreStock items) (stock_row items) (one_stocked items) t.Stock text rows (record { within = All-nil (IsStockRow items); stocked = none_differ }) e
+are_stock : (items : List Item) (text : List ℕ) (rows : List StockRow) → rows_of (stock_row items) (layout_of t.Stock) text ≡ Ok rows → AreStock items rows
+are_stock items text rows e = kept_of (AreStock items) (stock_row items) (one_stocked items) (layout_of t.Stock) text rows (record { within = All-nil (IsStockRow items); stocked = none_differ }) e
 
 -- the open receipts, with orders that differ
 record AreReceipts (calendar : ShopCalendar) (items : List Item) (rows : List Receipt) : Type 0 where
@@ -157,28 +158,28 @@ one_receipt calendar items before r row are e =
       ordered = grown_field same_order_equiv (λ (x : Receipt). (x.item, x.order)) before (before ++ row ∷ []) row refl are.ordered is.fresh;
     }
 
-are_receipts : (calendar : ShopCalendar) (items : List Item) (text : List ℕ) (rows : List Receipt) → rows_of (receipt_row calendar items) t.Receipts text ≡ Ok rows → AreReceipts calendar items rows
+are_receipts : (calendar : ShopCalendar) (items : List Item) (text : List ℕ) (rows : List Receipt) → rows_of (receipt_row calendar items) (layout_of t.Receipts) text ≡ Ok rows → AreReceipts calendar items rows
 are_receipts calendar items text rows e =
-    kept_of (AreReceipts calendar items) (receipt_row calendar items) (one_receipt calendar items) t.Receipts text rows
+    kept_of (AreReceipts calendar items) (receipt_row calendar items) (one_receipt calendar items) (layout_of t.Receipts) text rows
     (record { within = All-nil (IsReceiptIfAny calendar.weeks items); ordered = none_differ }) e
 
 -- a table that is read beside these
 beside_items : {X : Type 0} (texts : List (List ℕ)) (own : Table) (reads : List Item → Reads X) (items : List Item) (rows : List X) → items_in texts ≡ Ok items
-    → (by_items texts reads >>= λ read. rows_of read own (text_in texts own)) ≡ Ok rows → rows_of (reads items) own (text_in texts own) ≡ Ok rows
+    → (by_items texts reads >>= λ read. rows_of read (layout_of own) (text_in texts own)) ≡ Ok rows → rows_of (reads items) (layout_of own) (text_in texts own) ≡ Ok rows
 beside_items texts own reads items rows is e = sym (rw is refl) ∙ e
 
 beside_dates : {X : Type 0} (texts : List (List ℕ)) (own : Table) (reads : ShopCalendar → List Item → Reads X) (calendar : ShopCalendar) (items : List Item) (rows : List X)
     → calendar_in texts ≡ Ok calendar → items_in texts ≡ Ok items
-    → (by_dates texts reads >>= λ read. rows_of read own (text_in texts own)) ≡ Ok rows → rows_of (reads calendar items) own (text_in texts own) ≡ Ok rows
+    → (by_dates texts reads >>= λ read. rows_of read (layout_of own) (text_in texts own)) ≡ Ok rows → rows_of (reads calendar items) (layout_of own) (text_in texts own) ≡ Ok rows
 beside_dates {X} texts own reads calendar items rows is_calendar is_items e =
-    let same : (by_dates texts reads >>= λ read. rows_of read own (text_in texts own)) ≡ rows_of (reads calendar items) own (text_in texts own) = rw (is_calendar, is_items) refl in
+    let same : (by_dates texts reads >>= λ read. rows_of read (layout_of own) (text_in texts own)) ≡ rows_of (reads calendar items) (layout_of own) (text_in texts own) = rw (is_calendar, is_items) refl in
     sym same ∙ e
 
 beside_centres : {X : Type 0} (texts : List (List ℕ)) (own : Table) (reads : List Item → List Centre → Reads X) (items : List Item) (centres : List Centre) (rows : List X)
     → items_in texts ≡ Ok items → centres_in texts ≡ Ok centres
-    → (by_centres texts reads >>= λ read. rows_of read own (text_in texts own)) ≡ Ok rows → rows_of (reads items centres) own (text_in texts own) ≡ Ok rows
+    → (by_centres texts reads >>= λ read. rows_of read (layout_of own) (text_in texts own)) ≡ Ok rows → rows_of (reads items centres) (layout_of own) (text_in texts own) ≡ Ok rows
 beside_centres {X} texts own reads items centres rows is_items is_centres e =
-    let same : (by_centres texts reads >>= λ read. rows_of read own (text_in texts own)) ≡ rows_of (reads items centres) own (text_in texts own) = rw (is_items, is_centres) refl in
+    let same : (by_centres texts reads >>= λ read. rows_of read (layout_of own) (text_in texts own)) ≡ rows_of (reads items centres) (layout_of own) (text_in texts own) = rw (is_items, is_centres) refl in
     sym same ∙ e
 
 -- the open receipts that count
@@ -189,13 +190,13 @@ record AreReceiptsKept (calendar : ShopCalendar) (items : List Item) (rows : Lis
   count : length rows ≤ limits.MOST_ROWS
 
 receipts_kept : (texts : List (List ℕ)) (calendar : ShopCalendar) (items : List Item) (rows : List Receipt) → calendar_in texts ≡ Ok calendar → items_in texts ≡ Ok items
-    → ((by_dates texts receipt_row >>= λ read. rows_of read t.Receipts (text_in texts t.Receipts)) >>= λ rows. Ok (receipts_that_count rows)) ≡ Ok rows → AreReceiptsKept calendar items rows
+    → ((by_dates texts receipt_row >>= λ read. rows_of read (layout_of t.Receipts) (text_in texts t.Receipts)) >>= λ rows. Ok (receipts_that_count rows)) ≡ Ok rows → AreReceiptsKept calendar items rows
 receipts_kept texts calendar items rows is_calendar is_items e =
     let text = text_in texts t.Receipts in
-    let all = whole_step (by_dates texts receipt_row >>= λ read. rows_of read t.Receipts (text_in texts t.Receipts)) _ rows e in
+    let all = whole_step (by_dates texts receipt_row >>= λ read. rows_of read (layout_of t.Receipts) (text_in texts t.Receipts)) _ rows e in
     let read = beside_dates texts t.Receipts receipt_row calendar items all.0 is_calendar is_items all.1 in
     let are = are_receipts calendar items text all.0 read in
-    let few = counted (receipt_row calendar items) t.Receipts text all.0 limits.MOST_ROWS refl read in
+    let few = counted (receipt_row calendar items) (layout_of t.Receipts) text all.0 limits.MOST_ROWS refl read in
     let fewer = kept_receipts-count all.0 in
     subst (AreReceiptsKept calendar items) (same_value (receipts_that_count all.0) rows (Ok (receipts_that_count all.0)) refl all.2) (record {
       within = kept_receipts calendar.weeks items all.0 are.within;
@@ -210,13 +211,13 @@ record AreMasterKept (calendar : ShopCalendar) (items : List Item) (rows : List 
   count : length rows ≤ limits.MOST_ROWS
 
 master_kept : (texts : List (List ℕ)) (calendar : ShopCalendar) (items : List Item) (rows : List MasterRow) → calendar_in texts ≡ Ok calendar → items_in texts ≡ Ok items
-    → ((by_dates texts (λ calendar items. by_itself (master_row calendar items)) >>= λ read. rows_of read t.Master (text_in texts t.Master)) >>= λ rows. Ok (that_count rows)) ≡ Ok rows → AreMasterKept calendar items rows
+    → ((by_dates texts (λ calendar items. by_itself (master_row calendar items)) >>= λ read. rows_of read (layout_of t.Master) (text_in texts t.Master)) >>= λ rows. Ok (that_count rows)) ≡ Ok rows → AreMasterKept calendar items rows
 master_kept texts calendar items rows is_calendar is_items e =
     let text = text_in texts t.Master in
-    let all = whole_step (by_dates texts (λ calendar items. by_itself (master_row calendar items)) >>= λ read. rows_of read t.Master (text_in texts t.Master)) _ rows e in
+    let all = whole_step (by_dates texts (λ calendar items. by_itself (master_row calendar items)) >>= λ read. rows_of read (layout_of t.Master) (text_in texts t.Master)) _ rows e in
     let read = beside_dates texts t.Master (λ calendar items. by_itself (master_row calendar items)) calendar items all.0 is_calendar is_items all.1 in
-    let are = each_kept (IsMasterRowIfAny calendar.weeks items) (by_itself (master_row calendar items)) (λ before. is_master_row calendar items) t.Master text all.0 read in
-    let few = counted (by_itself (master_row calendar items)) t.Master text all.0 limits.MOST_ROWS refl read in
+    let are = each_kept (IsMasterRowIfAny calendar.weeks items) (by_itself (master_row calendar items)) (λ before. is_master_row calendar items) (layout_of t.Master) text all.0 read in
+    let few = counted (by_itself (master_row calendar items)) (layout_of t.Master) text all.0 limits.MOST_ROWS refl read in
     let fewer = kept-count all.0 in
     subst (AreMasterKept calendar items) (same_value (that_count all.0) rows (Ok (that_count all.0)) refl all.2) (record {
       within = kept calendar.weeks items all.0 are;
@@ -240,25 +241,25 @@ are_tables texts tables e =
     record {
       items = item_facts.within;
       names = item_facts.names;
-      item_count = counted item_row t.Items (text_in texts t.Items) items limits.MOST_ITEMS refl own.items;
+      item_count = counted item_row (layout_of t.Items) (text_in texts t.Items) items limits.MOST_ITEMS refl own.items;
       centres = centres.within;
       centres_differ = centres.differ;
-      centre_count = counted centre_row t.Centres (text_in texts t.Centres) tables.centres limits.MOST_CENTRES refl own.centres;
+      centre_count = counted centre_row (layout_of t.Centres) (text_in texts t.Centres) tables.centres limits.MOST_CENTRES refl own.centres;
       stock = stock.within;
       stocked = stock.stocked;
       receipts = receipts.within;
       numbered = receipts.numbered;
       ordered = receipts.ordered;
       receipt_count = receipts.count;
-      bills = each_kept (IsBillLine items) (by_itself (bill_row items)) (λ before. is_bill_line items) t.Bills (text_in texts t.Bills) tables.bills lines;
-      line_count = counted (by_itself (bill_row items)) t.Bills (text_in texts t.Bills) tables.bills limits.MOST_ROWS refl lines;
+      bills = each_kept (IsBillLine items) (by_itself (bill_row items)) (λ before. is_bill_line items) (layout_of t.Bills) (text_in texts t.Bills) tables.bills lines;
+      line_count = counted (by_itself (bill_row items)) (layout_of t.Bills) (text_in texts t.Bills) tables.bills limits.MOST_ROWS refl lines;
       routings = operations.within;
       routed = operations.differ;
-      operation_count = counted (operation_row items tables.centres) t.Routings (text_in texts t.Routings) tables.routings limits.MOST_OPERATIONS refl routed;
+      operation_count = counted (operation_row items tables.centres) (layout_of t.Routings) (text_in texts t.Routings) tables.routings limits.MOST_OPERATIONS refl routed;
       master = master.within;
       master_count = master.count;
-      script = each_kept (IsScriptRow calendar.weeks items) (by_itself (script_row calendar items)) (λ before. is_script_row calendar items) t.Script (text_in texts t.Script) tables.script calls;
-      script_count = counted (by_itself (script_row calendar items)) t.Script (text_in texts t.Script) tables.script limits.MOST_ROWS refl calls;
+      script = each_kept (IsScriptRow calendar.weeks items) (by_itself (script_row calendar items)) (λ before. is_script_row calendar items) (layout_of t.Script) (text_in texts t.Script) tables.script calls;
+      script_count = counted (by_itself (script_row calendar items)) (layout_of t.Script) (text_in texts t.Script) tables.script limits.MOST_ROWS refl calls;
     }
 
 -- texts have tables or a fault

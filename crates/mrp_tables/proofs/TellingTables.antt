@@ -3,6 +3,7 @@ use Rattle.std.proofs.Common.{◌≡◌, ℕ, List, Result, Ok, Err, refl, sym, 
 use Rattle.mrp_qty.specs.Reading.{◌>>=◌}
 use Rattle.mrp_cal.specs.Calendar.{ShopCalendar}
 use Rattle.mrp_rows.specs.Bundle.{text_in}
+use Rattle.mrp_rows.specs.Columns.{layout_of}
 use Rattle.mrp_rows.specs.declared.fault.Fault.{Fault}
 use Rattle.mrp_rows.specs.declared.fault.Table.{Table}
 use Rattle.mrp_rows.specs.declared.fault.Table.TheVariants as t
@@ -41,18 +42,18 @@ looked_at_centres (Err f) y z rest given = absurd cc
 
 -- the faults of a table that is read beside these are its own
 items_own : {X : Type 0} (texts : List (List ℕ)) (own : Table) (reads : List Item → Reads X) (items : List Item) → items_in texts ≡ Ok items
-    → FaultsAtItsRecord (reads items) → IsOf own (by_items texts reads >>= λ read. rows_of read own (text_in texts own))
-items_own texts own reads items is at = rw is (rows_own (reads items) at own (text_in texts own))
+    → FaultsAtItsRecord (reads items) → IsOf own (by_items texts reads >>= λ read. rows_of read (layout_of own) (text_in texts own))
+items_own texts own reads items is at = rw is (rows_own (reads items) at (layout_of own) (text_in texts own))
 
 dates_own : {X : Type 0} (texts : List (List ℕ)) (own : Table) (reads : ShopCalendar → List Item → Reads X) (calendar : ShopCalendar) (items : List Item)
     → calendar_in texts ≡ Ok calendar → items_in texts ≡ Ok items
-    → FaultsAtItsRecord (reads calendar items) → IsOf own (by_dates texts reads >>= λ read. rows_of read own (text_in texts own))
-dates_own texts own reads calendar items is_calendar is_items at = rw (is_calendar, is_items) (rows_own (reads calendar items) at own (text_in texts own))
+    → FaultsAtItsRecord (reads calendar items) → IsOf own (by_dates texts reads >>= λ read. rows_of read (layout_of own) (text_in texts own))
+dates_own texts own reads calendar items is_calendar is_items at = rw (is_calendar, is_items) (rows_own (reads calendar items) at (layout_of own) (text_in texts own))
 
 centres_own : {X : Type 0} (texts : List (List ℕ)) (own : Table) (reads : List Item → List Centre → Reads X) (items : List Item) (centres : List Centre)
     → items_in texts ≡ Ok items → centres_in texts ≡ Ok centres
-    → FaultsAtItsRecord (reads items centres) → IsOf own (by_centres texts reads >>= λ read. rows_of read own (text_in texts own))
-centres_own texts own reads items centres is_items is_centres at = rw (is_items, is_centres) (rows_own (reads items centres) at own (text_in texts own))
+    → FaultsAtItsRecord (reads items centres) → IsOf own (by_centres texts reads >>= λ read. rows_of read (layout_of own) (text_in texts own))
+centres_own texts own reads items centres is_items is_centres at = rw (is_items, is_centres) (rows_own (reads items centres) at (layout_of own) (text_in texts own))
 
 counted_own : {X : Type 0} (own : Table) (count : List X → List X) (read : Result (List X) Fault) → IsOf own read → IsOf own (read >>= λ rows. Ok (count rows))
 counted_own own count read at = follows own read (λ rows. Ok (count rows)) at (λ rows e. tt)
@@ -60,8 +61,8 @@ counted_own own count read at = follows own read (λ rows. Ok (count rows)) at (
 -- behind tables that are read whole, a table's fault is its own
 own_fault : (texts : List (List ℕ)) (own : Table) → AreWholeBefore texts own → IsOf own (table_in texts own)
 own_fault texts t.Calendar earlier = calendar_own (text_in texts t.Calendar)
-own_fault texts t.Items earlier = rows_own item_row at_their_records.items t.Items (text_in texts t.Items)
-own_fault texts t.Centres earlier = rows_own centre_row at_their_records.centres t.Centres (text_in texts t.Centres)
+own_fault texts t.Items earlier = rows_own item_row at_their_records.items (layout_of t.Items) (text_in texts t.Items)
+own_fault texts t.Centres earlier = rows_own centre_row at_their_records.centres (layout_of t.Centres) (text_in texts t.Centres)
 own_fault texts t.Stock earlier =
     let (calendar, is_calendar, items, is_items) = looked_at (calendar_in texts) (items_in texts) _ earlier in
     items_own texts t.Stock stock_row items is_items (at_their_records.stock items)

@@ -6,7 +6,7 @@ use Rattle.mrp_rows.specs.declared.fault.Fault.{Fault}
 use Rattle.mrp_rows.specs.declared.faults.TheConstants as faults
 use Rattle.mrp_rows.specs.declared.fault.Table.{Table}
 use Rattle.mrp_rows.specs.declared.fault.Table.TheVariants as t
-use Rattle.mrp_rows.specs.Columns.{width_of}
+use Rattle.mrp_rows.specs.Columns.{Layout, width}
 use Rattle.mrp_rows.specs.Left.{Cells, Left}
 use Rattle.mrp_rows.specs.Cell.{fault_at}
 use Rattle.mrp_rows.specs.Next.{next_number, opened}
@@ -32,41 +32,41 @@ abbrev pub number_at : ℕ → ℕ
 number_at place = next_number place
 
 -- the record at a place of a table's records
-abbrev pub record_at : Table → List (List (List ℕ)) → ℕ → Cells
-record_at table records place = record { table = table; number = number_at place; cells = slice_index_or records place [] }
+abbrev pub record_at : Layout → List (List (List ℕ)) → ℕ → Cells
+record_at own records place = record { table = own.table; number = number_at place; cells = slice_index_or records place [] }
 
 -- what a record reads as after these rows: its count of cells comes before what the cells say
-abbrev pub read_one : {X : Type 0} → Reads X → List X → Cells → Result X Fault
-read_one read before r = admitted r >>= read before
+abbrev pub read_one : {X : Type 0} → Reads X → Layout → List X → Cells → Result X Fault
+read_one read own before r = admitted own r >>= read before
 
 -- rows are records read one by one: there are as many, and each is what its record reads as after the rows before it
-pub record AreReadFrom {X : Type 0} (read : Reads X) (table : Table) (records : List (List (List ℕ))) (rows : List X) : Type 0 where
+pub record AreReadFrom {X : Type 0} (read : Reads X) (own : Layout) (records : List (List (List ℕ))) (rows : List X) : Type 0 where
   pub count : length rows ≡ length records
-  pub each : (place : ℕ) (d : X) → place < length rows → read_one read (take place rows) (record_at table records place) ≡ Ok (slice_index_or rows place d)
+  pub each : (place : ℕ) (d : X) → place < length rows → read_one read own (take place rows) (record_at own records place) ≡ Ok (slice_index_or rows place d)
 
 -- a fault is that of the record at a place, and the records before it are read
-pub record IsFirstFault {X : Type 0} (read : Reads X) (table : Table) (records : List (List (List ℕ))) (f : Fault) : Type 0 where
+pub record IsFirstFault {X : Type 0} (read : Reads X) (own : Layout) (records : List (List (List ℕ))) (f : Fault) : Type 0 where
   pub place : ℕ
   pub before : List X
   pub within : place < length records
-  pub earlier : AreReadFrom read table (take place records) before
-  pub refused : read_one read before (record_at table records place) ≡ Err f
+  pub earlier : AreReadFrom read own (take place records) before
+  pub refused : read_one read own before (record_at own records place) ≡ Err f
 
 -- records are read one by one, up to the first that is refused
-abbrev pub AreReadInTurn : {X : Type 0} → Reads X → Table → List (List (List ℕ)) → Result (List X) Fault → Type 0
-AreReadInTurn read table records (Ok rows) = AreReadFrom read table records rows
-AreReadInTurn read table records (Err f) = IsFirstFault read table records f
+abbrev pub AreReadInTurn : {X : Type 0} → Reads X → Layout → List (List (List ℕ)) → Result (List X) Fault → Type 0
+AreReadInTurn read own records (Ok rows) = AreReadFrom read own records rows
+AreReadInTurn read own records (Err f) = IsFirstFault read own records f
 
 -- a table's reading: its header first, and then its records in turn
-pub record IsReadInTurn {X : Type 0} (read : Reads X) (table : Table) (text : List ℕ) : Type 0 where
-  pub header : (f : Fault) → opened table text ≡ Err f → rows_of read table text ≡ Err f
-  pub records : (all : Left) → opened table text ≡ Ok all → AreReadInTurn read table all.left (rows_of read table text)
+pub record IsReadInTurn {X : Type 0} (read : Reads X) (own : Layout) (text : List ℕ) : Type 0 where
+  pub header : (f : Fault) → opened own text ≡ Err f → rows_of read own text ≡ Err f
+  pub records : (all : Left) → opened own text ≡ Ok all → AreReadInTurn read own all.left (rows_of read own text)
 
 -- a record past its table's limit is refused for that, whatever its cells; one within it that has not a cell for each column, for that; all others are read
-pub record IsAdmittedFirst {X : Type 0} (read : Reads X) (before : List X) (r : Cells) : Type 0 where
-  pub past : is_past (record_limit r.table) r.number ≡ true → read_one read before r ≡ Err (fault_at r faults.TOO_MANY)
-  pub wide : is_past (record_limit r.table) r.number ≡ false → length r.cells ≢ width_of r.table → read_one read before r ≡ Err (fault_at r faults.COLUMNS)
-  pub admitted : is_past (record_limit r.table) r.number ≡ false → length r.cells ≡ width_of r.table → read_one read before r ≡ read before r
+pub record IsAdmittedFirst {X : Type 0} (read : Reads X) (own : Layout) (before : List X) (r : Cells) : Type 0 where
+  pub past : is_past (record_limit r.table) r.number ≡ true → read_one read own before r ≡ Err (fault_at r faults.TOO_MANY)
+  pub wide : is_past (record_limit r.table) r.number ≡ false → length r.cells ≢ width own → read_one read own before r ≡ Err (fault_at r faults.COLUMNS)
+  pub admitted : is_past (record_limit r.table) r.number ≡ false → length r.cells ≡ width own → read_one read own before r ≡ read before r
 
 -- a fault stands at a record
 pub record IsAt (r : Cells) (f : Fault) : Type 0 where
@@ -75,7 +75,7 @@ pub record IsAt (r : Cells) (f : Fault) : Type 0 where
 
 -- each fault of a table's records stands at the record that is read
 abbrev pub FaultsAtItsRecord : {X : Type 0} → Reads X → Type 0
-FaultsAtItsRecord {X} read = (before : List X) (r : Cells) → IfErr (read_one read before r) (IsAt r)
+FaultsAtItsRecord {X} read = (own : Layout) (before : List X) (r : Cells) → IfErr (read_one read own before r) (IsAt r)
 
 -- each table's faults stand at their records
 pub record FaultsAtTheirRecords : Type 0 where

@@ -3,6 +3,7 @@ use Rattle.std.specs.Prelude.{ℕ, ◌≡◌, List, Result, Ok, Err}
 use Rattle.mrp_qty.specs.Reading.{◌>>=◌}
 use Rattle.mrp_cal.specs.Calendar.{ShopCalendar}
 use Rattle.mrp_rows.specs.Bundle.{text_in}
+use Rattle.mrp_rows.specs.Columns.{Layout, layout_of}
 use Rattle.mrp_rows.specs.declared.fault.Fault.{Fault}
 use Rattle.mrp_rows.specs.declared.fault.Table.{Table}
 use Rattle.mrp_rows.specs.declared.fault.Table.TheVariants as t
@@ -28,8 +29,8 @@ pub record Reader : Type 1 where
   pub reads : Result (Reads Row) Fault
   pub made : Result (List Row) Fault → Result Whole Fault
 
--- what a table's text reads as by a reader
-abbrev pub read_by : (reader : Reader) → Table → List ℕ → Result reader.Whole Fault
+-- what a text reads as by a reader
+abbrev pub read_by : (reader : Reader) → Layout → List ℕ → Result reader.Whole Fault
 read_by reader own text = reader.made (reader.reads >>= λ read. rows_of read own text)
 
 -- a table that is its rows
@@ -51,13 +52,13 @@ abbrev pub centres_reader : Reader
 centres_reader = rows_by (Ok centre_row)
 
 abbrev pub calendar_in : List (List ℕ) → Result ShopCalendar Fault
-calendar_in texts = read_by calendar_reader t.Calendar (text_in texts t.Calendar)
+calendar_in texts = read_by calendar_reader (layout_of t.Calendar) (text_in texts t.Calendar)
 
 abbrev pub items_in : List (List ℕ) → Result (List Item) Fault
-items_in texts = read_by items_reader t.Items (text_in texts t.Items)
+items_in texts = read_by items_reader (layout_of t.Items) (text_in texts t.Items)
 
 abbrev pub centres_in : List (List ℕ) → Result (List Centre) Fault
-centres_in texts = read_by centres_reader t.Centres (text_in texts t.Centres)
+centres_in texts = read_by centres_reader (layout_of t.Centres) (text_in texts t.Centres)
 
 -- others look at the items, those with dates at the calendar too, and the routings at the centres
 abbrev pub by_items : {X : Type 0} → List (List ℕ) → (List Item → Reads X) → Result (Reads X) Fault
@@ -84,12 +85,12 @@ reader_of texts t.Bundle = record { Row = ⊥; Whole = Unit {0}; reads = Err (he
 
 -- what a table's own text reads as
 abbrev pub table_in : (texts : List (List ℕ)) (own : Table) → Result (reader_of texts own).Whole Fault
-table_in texts own = read_by (reader_of texts own) own (text_in texts own)
+table_in texts own = read_by (reader_of texts own) (layout_of own) (text_in texts own)
 
 -- memory was refused while a table was read: for its header, or for a record behind those that are read
 abbrev pub IsRefusedAt : List (List ℕ) → Fault → Table → Type 0
 IsRefusedAt texts f own =
-    (read : Reads (reader_of texts own).Row) × ((reader_of texts own).reads ≡ Ok read) × IsRefusedIn read own (text_in texts own) f
+    (read : Reads (reader_of texts own).Row) × ((reader_of texts own).reads ≡ Ok read) × IsRefusedIn read (layout_of own) (text_in texts own) f
 
 -- what a call returned, seen by view, is what the table's text reads as, unless memory was refused
 abbrev pub GivesTable : (texts : List (List ℕ)) (own : Table) {X : Type 0} → Result X Fault → (X → (reader_of texts own).Whole) → Type 0

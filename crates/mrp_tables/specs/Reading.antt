@@ -3,8 +3,7 @@ use Rattle.std.specs.Prelude.{ℕ, ◌≡◌, ◌⊎◌, ◌==◌, Bool, false, 
 use Rattle.mrp_qty.specs.Reading.{◌>>=◌}
 use Rattle.mrp_rows.specs.declared.fault.Fault.{Fault}
 use Rattle.mrp_rows.specs.declared.faults.TheConstants as faults
-use Rattle.mrp_rows.specs.declared.fault.Table.{Table}
-use Rattle.mrp_rows.specs.Columns.{width_of}
+use Rattle.mrp_rows.specs.Columns.{Layout, width}
 use Rattle.mrp_rows.specs.Left.{Cells, Left}
 use Rattle.mrp_rows.specs.Next.{IsTaken, LacksMemory, memory_fault, next_number, opened}
 use Rattle.mrp_rows.specs.Cell.{fault_at}
@@ -15,10 +14,10 @@ is_past None number = false
 is_past (Some limit) number = nat_lt limit number
 
 -- a record within its table's limit, or TOO_MANY, and with a cell for each column, or COLUMNS
-abbrev pub admitted : Cells → Result Cells Fault
-admitted r =
+abbrev pub admitted : Layout → Cells → Result Cells Fault
+admitted own r =
     if is_past (record_limit r.table) r.number then Err (fault_at r faults.TOO_MANY)
-    else if length r.cells == width_of r.table then Ok r
+    else if length r.cells == width own then Ok r
     else Err (fault_at r faults.COLUMNS)
 
 -- how a record is read, given the rows of the records before it
@@ -30,15 +29,15 @@ abbrev pub by_itself : {X : Type 0} → (Cells → Result X Fault) → Reads X
 by_itself read before r = read r
 
 -- the rows of the records that are left, after those before them
-unfoldable pub rows_from : {X : Type 0} → Reads X → Table → List X → ℕ → List (List (List ℕ)) → Result (List X) Fault
-rows_from read t before number [] = Ok before
-rows_from read t before number (cells ∷ rest) =
-    admitted (record { table = t; number = number; cells = cells }) >>= λ r.
-    read before r >>= λ x. rows_from read t (before ++ (x ∷ [])) (next_number number) rest
+unfoldable pub rows_from : {X : Type 0} → Reads X → Layout → List X → ℕ → List (List (List ℕ)) → Result (List X) Fault
+rows_from read own before number [] = Ok before
+rows_from read own before number (cells ∷ rest) =
+    admitted own (record { table = own.table; number = number; cells = cells }) >>= λ r.
+    read before r >>= λ x. rows_from read own (before ++ (x ∷ [])) (next_number number) rest
 
 -- a table's rows, or its first fault
-abbrev pub rows_of : {X : Type 0} → Reads X → Table → List ℕ → Result (List X) Fault
-rows_of read t text = opened t text >>= λ all. rows_from read t [] all.number all.left
+abbrev pub rows_of : {X : Type 0} → Reads X → Layout → List ℕ → Result (List X) Fault
+rows_of read own text = opened own text >>= λ all. rows_from read own [] all.number all.left
 
 -- the number of the record behind these
 abbrev pub number_behind : ℕ → List (List (List ℕ)) → ℕ
@@ -46,18 +45,18 @@ number_behind number [] = number
 number_behind number (cells ∷ done) = number_behind (next_number number) done
 
 -- memory was refused for one of the records that are left, or for their end: those before it are read
-pub record IsRefusedBehind {X : Type 0} (read : Reads X) (own : Table) (before : List X) (number : ℕ) (left : List (List (List ℕ))) (f : Fault) : Type 0 where
+pub record IsRefusedBehind {X : Type 0} (read : Reads X) (own : Layout) (before : List X) (number : ℕ) (left : List (List (List ℕ))) (f : Fault) : Type 0 where
   pub done : List (List (List ℕ))
   pub rest : List (List (List ℕ))
   pub rows : List X
   pub parts : left ≡ done ++ rest
   pub are_read : rows_from read own before number done ≡ Ok rows
-  pub fault : f ≡ memory_fault own (number_behind number done)
+  pub fault : f ≡ memory_fault own.table (number_behind number done)
 
 -- memory was refused for a table's header, or for a record behind those that are read
-abbrev pub IsRefusedIn : {X : Type 0} → Reads X → Table → List ℕ → Fault → Type 0
+abbrev pub IsRefusedIn : {X : Type 0} → Reads X → Layout → List ℕ → Fault → Type 0
 IsRefusedIn read own text f =
-    (f ≡ memory_fault own 0) ⊎ ((all : Left) × (opened own text ≡ Ok all) × IsRefusedBehind read own [] all.number all.left f)
+    (f ≡ memory_fault own.table 0) ⊎ ((all : Left) × (opened own text ≡ Ok all) × IsRefusedBehind read own [] all.number all.left f)
 
 -- what a call returned, seen by view, is what reading gives, unless memory was refused: then its fault is one of these
 abbrev pub Gives : {X Y : Type 0} → (Fault → Type 0) → (X → Y) → Result X Fault → Result Y Fault → Type 0
@@ -78,14 +77,14 @@ Adds read old r (Err f) new = (new ≡ old) × (LacksRoom read old r f ⊎ (read
 -- the first of the records that were left is taken, and admitted
 pub record IsAdmitted (old : Left) (r : Cells) (new : Left) : Type 0 where
   pub first : IsTaken old r new
-  pub within : admitted r ≡ Ok r
+  pub within : admitted old.layout r ≡ Ok r
 
 -- the first of the records that were left is not admitted
 pub record IsNotAdmitted (old : Left) (f : Fault) : Type 0 where
   pub cells : List (List ℕ)
   pub rest : List (List (List ℕ))
   pub left : old.left ≡ cells ∷ rest
-  pub refused : admitted (record { table = old.table; number = old.number; cells = cells }) ≡ Err f
+  pub refused : admitted old.layout (record { table = old.layout.table; number = old.number; cells = cells }) ≡ Err f
 
 -- the next record of a table, admitted; none where none is left; or why it is refused: for want of memory no record is taken
 abbrev pub NextAdmitted : Left → Result (Option Cells) Fault → Left → Type 0

@@ -2,7 +2,7 @@
 
 ghost use Rattle.std.specs.Prelude.{◌≡◌, ℕ, List, Ok, Err};
 ghost use Rattle.mrp_rows.specs.declared.fault.Fault.{Fault};
-ghost use Rattle.mrp_rows.specs.declared.fault.Table.{Table};
+ghost use Rattle.mrp_rows.specs.Columns.{Layout};
 ghost use Rattle.mrp_rows.specs.Left.{Cells};
 ghost use Rattle.mrp_tables.specs.Laws.{AreOfTheirTexts, FaultsAtTheirRecords, HasOneReading, IsAdmittedFirst, IsFirstTablesFault, IsReadInTurn, IsToldAtItsTable};
 ghost use Rattle.mrp_tables.specs.Reading.{Reads};
@@ -11,12 +11,12 @@ ghost use Rattle.mrp_tables.specs.Tables.{AreTables, Tables, tables_in};
 /// A table's rows are its records read one by one, each after the rows before it; a fault is the
 /// header's, or that of the first record that cannot be read after those before it.
 pub fn records_are_read_in_turn<T>()
-    ensures { (read : Reads T) (table : Table) (text : List ℕ) → IsReadInTurn read table text }
+    ensures { (read : Reads T) (own : Layout) (text : List ℕ) → IsReadInTurn read own text }
 {}
 
 /// The limit of records comes before the count of cells, and this before what the cells say.
 pub fn records_are_admitted_first<T>()
-    ensures { (read : Reads T) (before : List T) (r : Cells) → IsAdmittedFirst read before r }
+    ensures { (read : Reads T) (own : Layout) (before : List T) (r : Cells) → IsAdmittedFirst read own before r }
 {}
 
 /// A fault of a record stands at the record's table and number.

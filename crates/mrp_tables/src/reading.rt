@@ -2,7 +2,7 @@
 
 ghost use Rattle.std.specs.Prelude.{◌≡◌, ◌==◌, ◌&&◌, ◌≤◌, if◌then◌else◌, ℕ, [], length, IfOk, IfSome};
 ghost use Rattle.mrp_rows.specs.Bundle.{text_in};
-ghost use Rattle.mrp_rows.specs.Columns.{width_of};
+ghost use Rattle.mrp_rows.specs.Columns.{layout_of, width};
 ghost use Rattle.mrp_tables.specs.Reading.{Adds, Gives, IsRefusedBehind, IsRefusedIn, NextAdmitted, is_past, rows_from, rows_of};
 ghost use Rattle.mrp_tables.specs.Limits.{record_limit};
 
@@ -26,8 +26,8 @@ fn is_past_limit(table: Table, number: u32) -> bool
 /// of cells than the table has columns; `NO_MEMORY`.
 pub(crate) fn next_record(cursor: &mut Cursor<'_>) -> Result<Option<Row>, Fault>
     ensures next { NextAdmitted cursor.old result cursor.new }
-    ensures wide { IfOk result (λ next. IfSome next (λ r. length r.cells ≡ width_of cursor.old.table)) }
-    ensures table { cursor.new.table ≡ cursor.old.table }
+    ensures wide { IfOk result (λ next. IfSome next (λ r. length r.cells ≡ width cursor.old.layout)) }
+    ensures layout { cursor.new.layout ≡ cursor.old.layout }
 {
     match cursor.next() {
         Ok(Some(row)) => {
@@ -84,12 +84,12 @@ pub(crate) trait TableRows: Drop {
 
 /// The rows of the records that a cursor has left, behind those that are gathered already.
 pub(crate) fn gather<G: TableRows>(cursor: &mut Cursor<'_>, mut gathered: G) -> Result<G, Fault>
-    requires { G.takes (width_of cursor.old.table) }
+    requires { G.takes (width cursor.old.layout) }
     ensures rows { Gives
-        (IsRefusedBehind (G.reads gathered) cursor.old.table (G.rows gathered)
+        (IsRefusedBehind (G.reads gathered) cursor.old.layout (G.rows gathered)
         cursor.old.number cursor.old.left)
         (λ g. G.rows g) result
-        (rows_from (G.reads gathered) cursor.old.table (G.rows gathered)
+        (rows_from (G.reads gathered) cursor.old.layout (G.rows gathered)
         cursor.old.number cursor.old.left) }
     ensures beside { IfOk result (λ g. G.beside g ≡ G.beside gathered) }
 {
@@ -107,10 +107,10 @@ pub(crate) fn read_table<G: TableRows>(
     table: Table,
     empty: G,
 ) -> Result<G, Fault>
-    requires takes { G.takes (width_of table) }
+    requires takes { G.takes (width (layout_of table)) }
     requires empty { G.rows empty ≡ [] }
-    ensures rows { Gives (IsRefusedIn (G.reads empty) table (text_in sections.now table))
-        (λ g. G.rows g) result (rows_of (G.reads empty) table (text_in sections.now table)) }
+    ensures rows { Gives (IsRefusedIn (G.reads empty) (layout_of table) (text_in sections.now table))
+        (λ g. G.rows g) result (rows_of (G.reads empty) (layout_of table) (text_in sections.now table)) }
     ensures count { (limit : ℕ) → record_limit table ≡ Some limit → IfOk result (λ g. length (G.rows g) ≤ limit) }
     ensures beside { IfOk result (λ g. G.beside g ≡ G.beside empty) }
 {
