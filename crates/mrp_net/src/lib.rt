@@ -2,12 +2,11 @@
 #![tactic(auto)]
 
 mod balances;
-mod fault;
 pub mod laws;
 mod needs;
 mod stock;
 
 pub use balances::{balance_row, never_fall};
-pub use fault::NetFault;
+pub use mrp_phase::PhaseFault as NetFault;
 pub use needs::{NeedRow, need};
 pub use stock::Stock;

@@ -2,7 +2,7 @@ use Rattle.std.proofs.Common.{◌≡◌, ◌+◌, ◌≤◌}
 use Rattle.mrp_qty.specs.Quantity.{greatest_quantity}
 use Rattle.mrp_phase.specs.Weeks.{row, sum_to, greatest_to}
 use Rattle.mrp_net.specs.Need.{need, shortage}
-use Rattle.mrp_net.proofs.needs.need.Given as goal
+use Rattle.mrp_net.proofs.needs.needs_within.Given as goal
 
 abbrev pub invariant-loop-i : goal.invariant-loop-i
 invariant-loop-i l = record {

@@ -1,6 +1,6 @@
 use Rattle.mrp_net.specs.Need.{need}
 use Rattle.mrp_net.proofs.NetLaws.{is_row-rises, need_rises}
-use Rattle.mrp_net.proofs.needs.need.Goals as goal
+use Rattle.mrp_net.proofs.needs.needs_within.Goals as goal
 
 pub invariant_of-result : goal.invariant_of-result
 invariant_of-result c =

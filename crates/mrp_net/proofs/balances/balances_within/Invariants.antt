@@ -1,8 +1,8 @@
 use Rattle.std.proofs.Common.{◌≡◌, ◌+◌, ◌≤◌}
 use Rattle.mrp_qty.specs.Quantity.{greatest_quantity}
 use Rattle.mrp_phase.specs.Weeks.{row, sum_to, in_week}
-use Rattle.mrp_net.specs.Need.{balance, supply}
-use Rattle.mrp_net.proofs.balances.balance_row.Given as goal
+use Rattle.mrp_net.specs.Need.{balance}
+use Rattle.mrp_net.proofs.balances.balances_within.Given as goal
 
 abbrev pub invariant-loop-i : goal.invariant-loop-i
 invariant-loop-i l = record {
@@ -10,6 +10,5 @@ invariant-loop-i l = record {
   supplied : l.so_far.supplied ≡ l.fn.stock.on_hand + sum_to l.scheduled l.i;
   required_within : l.so_far.required ≤ greatest_quantity;
   supplied_within : l.so_far.supplied ≤ greatest_quantity;
-  within : supply l.fn.stock (in_week l.received l.i) l.i ≤ greatest_quantity;
   balances : l.balances.items ≡ row l.i (λ week. balance l.fn.stock l.gross (in_week l.received week) week);
 }
