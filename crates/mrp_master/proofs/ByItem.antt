@@ -1,33 +1,28 @@
--- The firm rows of each item, one row at a time.
-use Rattle.std.proofs.Common.{◌≡◌, ◌≢◌, ◌∙◌, ℕ, ◌+◌, ◌<◌, ◌≤◌, Bool, true, false, cond, eqb, List, [], ◌∷◌, ◌++◌, length, take, map, get_or, set, refl, sym, ap, arith}
-use Rattle.std.specs.Global.{Vec}
+-- The firm rows of each item.
+use Rattle.std.proofs.Common.{◌≡◌, ◌∙◌, ℕ, ◌<◌, List, [], length, map, ap, sym}
+use Rattle.std.specs.Prelude.{IfOk, Result, Ok, Err, filter}
 use Rattle.std.specs.List.{range_with_len}
-use Rattle.std.proofs.lemmas.List.{append-nil, get_or-map, get_or-set_same, get_or-set_other, length-map, map-set, take_all}
-use Rattle.std.proofs.lemmas.List.FromFn.{fill_by_all}
-use Rattle.std.proofs.lemmas.Bool.{eqb-true, eqb-false}
+use Rattle.std.proofs.lemmas.List.FromFn.{fill_by_all, length-map-range_with_len}
+use Rattle.std.proofs.lemmas.List.{length-map}
+use Rattle.mrp_qty.specs.declared.memory.NoMemory.{NoMemory}
+use Rattle.mrp_bill.specs.declared.groups.Numbered.{Numbered}
+use Rattle.mrp_bill.specs.Grouped.{listed, values_of}
+use Rattle.mrp_bill.proofs.GroupParts.{values_of-kept}
 use Rattle.mrp_tables.specs.declared.rows.MasterRow.{MasterRow}
+use Rattle.mrp_tables.specs.Master.{is_firm}
 use Rattle.mrp_master.specs.declared.line.Line.{Line}
+use Rattle.mrp_master.specs.Numbered.{line_of}
 use Rattle.mrp_master.specs.Supply.{firm_lines}
 
--- one row more of an item, told of each item
-pub rows_add : (lists : List (Vec Line)) (at i : ℕ) (old new : Vec Line) (l : Line) → at < length lists → old ≡ get_or lists at old → new.items ≡ old.items ++ l ∷ []
-    → get_or (map (λ v. v.items) (set lists at new)) i [] ≡ get_or (map (λ v. v.items) lists) i [] ++ cond (eqb at i) (l ∷ []) []
-rows_add lists at i old new l h read pushed = by (eqb at i) refl
-  where
-    before : get_or (map (λ v. v.items) lists) at [] ≡ old.items
-    before = get_or-map (λ (v : Vec Line). v.items) lists at old [] h ∙ ap (λ (v : Vec Line). v.items) (sym read)
+-- what is grouped of the firm rows
+pub firm_grouped : (rows : List MasterRow) (lines : List (Numbered Line)) (r : Result (List (List Line)) NoMemory) (n : ℕ) → lines ≡ map line_of (filter (λ x. is_firm x.kind) rows)
+    → IfOk r (λ g. length g ≡ n) → IfOk r (λ g. (i : ℕ) → i < n → listed g i ≡ values_of lines i) → IfOk r (λ g. g ≡ map (firm_lines rows) (range_with_len 0 n))
+firm_grouped rows lines (Ok g) n is size groups =
+    fill_by_all (firm_lines rows) g n [] size (λ i h. groups i h ∙ ap (λ (ls : List (Numbered Line)). values_of ls i) is ∙ values_of-kept line_of (λ x. is_firm x.kind) rows i)
+firm_grouped rows lines (Err e) n is size groups = tt
 
-    by : (same : Bool) → eqb at i ≡ same → get_or (map (λ v. v.items) (set lists at new)) i [] ≡ get_or (map (λ v. v.items) lists) i [] ++ cond same (l ∷ []) []
-    by true e =
-        let same : at ≡ i = eqb-true at i e in
-        let k : at < length (map (λ (w : Vec Line). w.items) lists) = omega (arith, length-map lists (λ w. w.items)) in
-        rw (← same) (rw (map-set (λ (w : Vec Line). w.items) lists at new) (get_or-set_same (map (λ w. w.items) lists) at new.items [] k) ∙ pushed ∙ ap (λ xs. xs ++ l ∷ []) (sym before))
-    by false e =
-        let other : i ≢ at = (let no : at ≢ i = eqb-false at i e in omega arith) in
-        rw (map-set (λ (w : Vec Line). w.items) lists at new) (get_or-set_other (map (λ w. w.items) lists) at i new.items [] other) ∙ sym (append-nil (get_or (map (λ w. w.items) lists) i []))
-
--- the firm rows of each item, once every row was read
-pub firm_lines_all : (rows : List MasterRow) (firm : List (List Line)) (n k : ℕ) → length firm ≡ n → length rows ≤ k
-    → ((i : ℕ) → i < n → get_or firm i [] ≡ firm_lines (take k rows) i) → firm ≡ map (firm_lines rows) (range_with_len 0 n)
-firm_lines_all rows firm n k size all each =
-    fill_by_all (firm_lines rows) firm n [] size (λ i h. each i h ∙ ap (λ rs. firm_lines rs i) (take_all k rows all))
+-- as many lists as there are items
+pub firm_count : {X : Type 0} {Y : Type 0} (rows : List MasterRow) (firm : List (List Line)) (f : X → Y) (items : List X) (masters : List Y) (n : ℕ) → n ≡ length items → firm ≡ map (firm_lines rows) (range_with_len 0 n)
+    → masters ≡ map f items → length firm ≡ length masters
+firm_count rows firm f items masters n size firm_is masters_is =
+    ap length firm_is ∙ length-map-range_with_len (firm_lines rows) 0 n ∙ size ∙ sym (length-map items f) ∙ sym (ap length masters_is)

@@ -15,3 +15,4 @@ pub mod Spans
 pub mod Trees
 pub mod Promised
 pub mod Rebooked
+pub mod NextOpening

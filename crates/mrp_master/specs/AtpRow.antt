@@ -1,5 +1,5 @@
 -- An item's supply and bookings, week by week, and its buckets (APICS Dictionary: available-to-promise; profile: its exact rules).
-use Rattle.std.specs.Prelude.{ℕ, zero, suc, ◌≡◌, ◌≤◌, ◌+◌, ◌-◌, ◌==◌, ◌&&◌, if◌then◌else◌, List, [], Option, All, length, sum_by}
+use Rattle.std.specs.Prelude.{ℕ, zero, suc, ◌≡◌, ◌≤◌, ◌<◌, ◌+◌, ◌-◌, ◌==◌, ◌&&◌, if◌then◌else◌, List, [], Option, All, length, sum_by}
 use Rattle.std.specs.List.{slice_index_or}
 use Rattle.mrp_cal.specs.declared.calendar.TheConstants.{MOST_WEEKS}
 use Rattle.mrp_phase.specs.Weeks.{in_week, row, sum_to, with_week}
@@ -48,6 +48,18 @@ lacking r (suc more) week = in_week r.booked week + lacking r more (suc week) - 
 -- a week's carried bucket: what opens in it, less what is due in it and what the later weeks lack
 abbrev pub bucket : AtpRow → ℕ → ℕ
 bucket r week = in_week r.supply week - (in_week r.booked week + lacking r (length r.supply - week) (suc week))
+
+-- what is booked from a week until before another
+abbrev pub booked_until : AtpRow → ℕ → ℕ → ℕ
+booked_until r week next = sum_to r.booked (next - 1) - sum_to r.booked (week - 1)
+
+-- what a week and those after it lack
+abbrev pub lacking_from : AtpRow → ℕ → ℕ
+lacking_from r week = lacking r (length r.supply + 1 - week) week
+
+-- nothing comes in between a week and the next one that opens, or the one behind the last
+abbrev pub IsNextOpening : AtpRow → ℕ → ℕ → Type 0
+IsNextOpening r week next = (week < next) × (next ≤ length r.supply + 1) × ((t : ℕ) → week < t → t < next → in_week r.supply t ≡ 0)
 
 -- the buckets up to a week, together
 abbrev pub buckets_to : AtpRow → ℕ → ℕ

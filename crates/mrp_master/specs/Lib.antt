@@ -4,3 +4,4 @@ pub mod Lines
 pub mod AtpRow
 pub mod Nodes
 pub mod Tree
+pub mod Numbered

@@ -5,8 +5,8 @@ use Rattle.mrp_tables.specs.Items.{is_master_at}
 use Rattle.mrp_tables.specs.Tables.{Tables}
 use Rattle.mrp_tables.specs.declared.limits.TheConstants.{MOST_PIECES}
 use Rattle.mrp_master.specs.declared.line.Line.{Line}
-use Rattle.mrp_master.specs.declared.line.Spot.{Spot}
-use Rattle.mrp_master.specs.declared.line.Wish.{Wish}
+use Rattle.mrp_master.specs.declared.spot.Spot.{Spot}
+use Rattle.mrp_master.specs.declared.wish.Wish.{Wish}
 use Rattle.mrp_master.specs.declared.line.LineFault.{LineFault}
 use Rattle.mrp_master.specs.declared.line.LineFault.TheVariants.{UnknownItem, NotMaster, BadWeek, ZeroQuantity, TooLarge}
 use Rattle.mrp_master.specs.Supply.{Supply, IsMaster, IsWeek}

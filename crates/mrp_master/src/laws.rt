@@ -1,8 +1,8 @@
 //! What follows from the definitions alone, each law the contract of a function that does nothing.
 
-ghost use Rattle.std.specs.Prelude.{◌≡◌, ◌≢◌, ◌↔◌, ◌++◌, ◌∷◌, [], List, Option, ℕ};
+ghost use Rattle.std.specs.Prelude.{◌≡◌, ◌≢◌, ◌↔◌, ◌+◌, ◌-◌, ◌++◌, ◌∷◌, [], List, Option, ℕ, length};
 ghost use Rattle.mrp_phase.specs.Weeks.{in_week, sum_to};
-ghost use Rattle.mrp_master.specs.AtpRow.{AtpRow, FromFirst, IsAtpRow, IsAvailableIn, IsCoveredRow, IsEarliestIn, IsWeekOf, atp_row, bucket, buckets_to, with_booking, without_booking};
+ghost use Rattle.mrp_master.specs.AtpRow.{AtpRow, FromFirst, IsAtpRow, IsAvailableIn, IsCoveredRow, IsEarliestIn, IsNextOpening, IsWeekOf, atp_row, booked_until, bucket, buckets_to, lacking_from, with_booking, without_booking};
 ghost use Rattle.mrp_master.specs.Supply.{CanPromise, IsAvailable, IsCovered, IsEarliest, IsLeastFrom, IsMaster, IsSupply, IsWeek, Supply, available, due_by, line, supply, uncommitted};
 
 /// What is available to promise.
@@ -56,4 +56,9 @@ pub fn buckets()
         → IsAvailable s lines item week (buckets_to (atp_row s item lines) week) }
     // A week in which nothing comes in has an empty one.
     ensures empty { (r : AtpRow) (week : ℕ) → in_week r.supply week ≡ 0 → bucket r week ≡ 0 }
+    // One that opens holds what comes in then, less what is due before the next one opens and what that one lacks.
+    ensures opening { (r : AtpRow) (week next : ℕ) → IsWeekOf r week → IsNextOpening r week next → bucket r week ≡ in_week r.supply week - (booked_until r week next + lacking_from r next) }
+    // It lacks what these are more, and so from the last one back, behind which nothing is lacking.
+    ensures overdrawn { (r : AtpRow) (week next : ℕ) → IsWeekOf r week → IsNextOpening r week next → lacking_from r week ≡ (booked_until r week next + lacking_from r next) - in_week r.supply week }
+    ensures last { (r : AtpRow) → lacking_from r (length r.supply + 1) ≡ 0 }
 {}

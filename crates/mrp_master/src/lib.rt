@@ -6,10 +6,15 @@ mod firm;
 pub mod laws;
 mod line;
 mod nodes;
+mod range;
+mod spot;
 mod supply;
 mod tree;
+mod wish;
 
 pub use atp_row::{AtpRow, RowNodes};
-pub use line::{Line, LineFault, Spot, Wish};
+pub use line::{Line, LineFault};
 pub use nodes::{Node, Nodes, available_in, earliest_in};
+pub use spot::Spot;
 pub use supply::Supply;
+pub use wish::Wish;

@@ -10,9 +10,9 @@ ghost use Rattle.mrp_phase.specs.Weeks.{row};
 ghost use Rattle.mrp_master.specs.AtpRow.{opening};
 ghost use Rattle.mrp_master.specs.Supply.{due_by, on_hand_of};
 
-use crate::firm::{FirmRows, firm_rows};
+use crate::firm::firm_rows;
 use crate::line::Line;
-use mrp_bill::Shop;
+use mrp_bill::{Grouped, Shop};
 use mrp_qty::{NoMemory, Qty};
 use mrp_tables::{Item, StockRow};
 use std::alloc::Global;
@@ -25,21 +25,22 @@ pub struct Supply {
     weeks: u16,
     masters: Vec<bool>,
     on_hand: Vec<Qty>,
-    firm: FirmRows,
+    firm: Grouped<Line>,
 }
 
 impl Model for Supply {
+    ghost use Rattle.std.specs.Prelude.{◌≡◌, length};
     ghost use Rattle.mrp_master.specs.Supply.{IsSupply, Supply};
 
     ghost Value = { Supply };
 
     ghost view = { λ s. record { weeks = s.weeks; masters = s.masters.items; on_hand = s.on_hand.items; firm = s.firm } };
 
-    ghost invariant = { λ s. IsSupply (record { weeks = s.weeks; masters = s.masters.items; on_hand = s.on_hand.items; firm = s.firm }) };
+    ghost invariant = { λ s. IsSupply (record { weeks = s.weeks; masters = s.masters.items; on_hand = s.on_hand.items; firm = s.firm }) × (length s.firm ≡ length s.masters.items) };
 }
 
 impl Supply {
-    ghost use Rattle.std.specs.Prelude.{◌≡◌, ◌≤◌, IfOk, false};
+    ghost use Rattle.std.specs.Prelude.{◌≡◌, ◌≤◌, [], IfOk, false};
     ghost use Rattle.std.specs.List.{slice_index_or};
     ghost use Rattle.mrp_master.specs.Supply.{IsSupply, supply, supply_of};
 
@@ -88,12 +89,23 @@ impl Supply {
         }
     }
 
+    // The firm rows of an item; none where there is no such item.
+    fn firm_of(&self, item: usize) -> &[Line]
+        ensures { result.now ≡ slice_index_or self.now.firm item [] }
+    {
+        if item < self.masters.len() {
+            self.firm.group(item)
+        } else {
+            &[]
+        }
+    }
+
     /// The supply of an item up to a week, in pieces: what is on hand, and the firm rows up to the
     /// week; 0 of what is no item.
     pub fn up_to(&self, item: usize, week: u16) -> Qty
         ensures { result ≡ supply self.now item week }
     {
-        quantity(self.on_hand(item).value() + due_by(item, week, self.firm.of(item)))
+        quantity(self.on_hand(item).value() + due_by(item, week, self.firm_of(item)))
     }
 
     // What comes in of an item in each week: its firm rows, and in week 1 what is on hand.
@@ -103,7 +115,7 @@ impl Supply {
     {
         let mut openings = vec![in alloc; quantity(0); usize::from(self.weeks)]?;
         openings[0] = self.on_hand(item);
-        for line in self.firm.of(item) {
+        for line in self.firm_of(item) {
             if line.item == item {
                 let place = usize::from(line.week) - 1;
                 openings[place] = quantity(openings[place].value() + line.quantity.value());

@@ -11,7 +11,7 @@ pub loop-line-init : goal.loop-line-init
 loop-line-init c =
     let s : Supply = c.args.self.now in
     let weeks : c.self.inside.weeks ≡ s.weeks = ap (λ (x : Supply). x.weeks) c.self.view_is in
-    opened_start s c.args.item c.of-line-items.result.now c.in_ok-openings.openings.items c.on_hand.result c.on_hand.ensures.kept.first
+    opened_start s c.args.item c.firm_of-line-items.result.now c.in_ok-openings.openings.items c.on_hand.result c.on_hand.ensures.kept.first
     (c.in_ok-openings.ensures.items_if_clones_equal (λ y e. e) ∙ ap (λ n. replicate n c.quantity.result) (c.from.ensures ∙ weeks) ∙ ap (λ (q : ℕ). replicate s.weeks q) c.quantity.ensures)
     c.on_hand.ensures.value
 
@@ -19,11 +19,11 @@ pub quantity-requires-then-line-item : goal.quantity-requires-then-line-item
 quantity-requires-then-line-item c =
     let s : Supply = c.args.self.now in
     let item : ℕ = c.args.item in
-    let lines : List Line = c.of-line-items.result.now in
+    let lines : List Line = c.firm_of-line-items.result.now in
     let k : ℕ = c.loop-line.line-index in
     let l : Line = c.line-item.result in
     let openings : List ℕ = c.loop-line.openings.items in
-    let own_lines : lines ≡ get_or s.firm item [] = c.of-line-items.ensures ∙ ap (λ (x : Supply). get_or x.firm item []) c.self.view_is in
+    let own_lines : lines ≡ get_or s.firm item [] = c.firm_of-line-items.ensures in
     let inside : IsWeek s l.week = line_inside s item k lines l c.on_hand.ensures.kept c.loop-line-test.true c.line-item.is own_lines in
     let place : c.from-place.result - 1 ≡ l.week - 1 = omega (arith, c.from-place.ensures) in
     let there : c.from-place.result - 1 < length openings = omega (arith, inside.0, inside.1, c.loop-line.invariant.size, c.from-place.ensures) in
@@ -41,11 +41,11 @@ pub loop-line-preserved : goal.loop-line-preserved
 loop-line-preserved c =
     let s : Supply = c.args.self.now in
     let item : ℕ = c.args.item in
-    let lines : List Line = c.of-line-items.result.now in
+    let lines : List Line = c.firm_of-line-items.result.now in
     let k : ℕ = c.loop-line.line-index in
     let l : Line = c.line-item.result in
     let openings : List ℕ = c.loop-line.openings.items in
-    let own_lines : lines ≡ get_or s.firm item [] = c.of-line-items.ensures ∙ ap (λ (x : Supply). get_or x.firm item []) c.self.view_is in
+    let own_lines : lines ≡ get_or s.firm item [] = c.firm_of-line-items.ensures in
     let inside : IsWeek s l.week = line_inside s item k lines l c.on_hand.ensures.kept c.loop-line-test.true c.line-item.is own_lines in
     elim c.if-line-item.branch [
       | then-line-item w ↦
@@ -68,5 +68,5 @@ loop-line-preserved c =
 
 pub returns-clause-value : goal.returns-clause-value
 returns-clause-value c =
-    opened_all c.args.self.now c.args.item c.loop-line.line-index c.of-line-items.result.now c.loop-line.openings.items c.loop-line.invariant c.loop-line-test.false
-    (c.of-line-items.ensures ∙ ap (λ (x : Supply). get_or x.firm c.args.item []) c.self.view_is)
+    opened_all c.args.self.now c.args.item c.loop-line.line-index c.firm_of-line-items.result.now c.loop-line.openings.items c.loop-line.invariant c.loop-line-test.false
+    c.firm_of-line-items.ensures
