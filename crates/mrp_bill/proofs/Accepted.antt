@@ -19,7 +19,7 @@ use Rattle.mrp_bill.specs.BillLists.{AreLists}
 use Rattle.mrp_bill.specs.Climb.{IsSettled}
 use Rattle.mrp_bill.specs.Fault.{IsRefusal, loop_fault}
 use Rattle.mrp_bill.specs.Links.{IsFirstRound, IsRound, AreRising}
-use Rattle.mrp_bill.specs.Lists.{IsListed}
+use Rattle.mrp_bill.specs.Grouped.{IsListed}
 use Rattle.mrp_bill.proofs.BillListed.{listed-parent, parent-listed, listed-child, parent-within}
 use Rattle.mrp_bill.proofs.Decided.{AreCodesBelow, code_in, decided}
 use Rattle.mrp_bill.proofs.Linked.{leads-round, links-along, links-rise, links-trail, round-along, trail-links}
@@ -28,44 +28,44 @@ use Rattle.mrp_bill.proofs.Linked.{leads-round, links-along, links-rise, links-t
 pub are-within : (items : List Item) (lines : List BillLine) → All (IsBillLine items) lines → AreWithin (length items) lines
 are-within items lines all = λ k d h. ((all k d h).parent, (all k d h).component)
 
-pub parents-within : (bill : List BillLine) (count : ℕ) (lists : Lists) → AreLists bill count lists → (p i : ℕ) → IsListed lists.parents.items p i → p < length lists.parents.items
-parents-within bill count lists l p i link = omega (arith, (listed-parent bill count lists.parents.items l.parents_size l.parents p i link).0, l.parents_size)
+pub parents-within : (bill : List BillLine) (count : ℕ) (lists : Lists) → AreLists bill count lists → (p i : ℕ) → IsListed lists.parents p i → p < length lists.parents
+parents-within bill count lists l p i link = omega (arith, (listed-parent bill count lists.parents l.parents_size l.parents p i link).0, l.parents_size)
 
-pub children-within : (bill : List BillLine) (count : ℕ) (lists : Lists) → AreLists bill count lists → (c i : ℕ) → IsListed lists.children.items c i → c < length lists.children.items
-children-within bill count lists l c i link = omega (arith, listed-child bill count lists.children.items l.children_size l.children c i link, l.children_size)
+pub children-within : (bill : List BillLine) (count : ℕ) (lists : Lists) → AreLists bill count lists → (c i : ℕ) → IsListed lists.children c i → c < length lists.children
+children-within bill count lists l c i link = omega (arith, listed-child bill count lists.children l.children_size l.children c i link, l.children_size)
 
-to-parent : (bill : List BillLine) (count : ℕ) (lists : Lists) → AreLists bill count lists → (p i : ℕ) → IsListed lists.parents.items p i → IsParent bill p i
-to-parent bill count lists l p i link = (listed-parent bill count lists.parents.items l.parents_size l.parents p i link).1
+to-parent : (bill : List BillLine) (count : ℕ) (lists : Lists) → AreLists bill count lists → (p i : ℕ) → IsListed lists.parents p i → IsParent bill p i
+to-parent bill count lists l p i link = (listed-parent bill count lists.parents l.parents_size l.parents p i link).1
 
-from-parent : (bill : List BillLine) (count : ℕ) (lists : Lists) → AreWithin count bill → AreLists bill count lists → (p i : ℕ) → IsParent bill p i → IsListed lists.parents.items p i
-from-parent bill count lists within l p i link = parent-listed bill count lists.parents.items within l.parents p i link
+from-parent : (bill : List BillLine) (count : ℕ) (lists : Lists) → AreWithin count bill → AreLists bill count lists → (p i : ℕ) → IsParent bill p i → IsListed lists.parents p i
+from-parent bill count lists within l p i link = parent-listed bill count lists.parents within l.parents p i link
 
 -- the first item that needs itself, and its path
 pub loop-path : (bill : List BillLine) (count : ℕ) (lists : Lists) (path : List ℕ) → AreWithin count bill → AreLists bill count lists
-    → ((i : ℕ) × IsFirstRound (IsListed lists.parents.items) i × IsRound (IsListed lists.parents.items) i path) → IsLoopPath bill path
+    → ((i : ℕ) × IsFirstRound (IsListed lists.parents) i × IsRound (IsListed lists.parents) i path) → IsLoopPath bill path
 loop-path bill count lists path within l (i, first, round) =
     let (n, chain) = first.loop in (
       i,
       record {
-        loop = (n, links-along (IsListed lists.parents.items) (IsParent bill) (to-parent bill count lists l) (suc n) i i chain);
-        first = λ j h (m, back). first.first j h (m, links-along (IsParent bill) (IsListed lists.parents.items) (from-parent bill count lists within l) (suc m) j j back);
+        loop = (n, links-along (IsListed lists.parents) (IsParent bill) (to-parent bill count lists l) (suc n) i i chain);
+        first = λ j h (m, back). first.first j h (m, links-along (IsParent bill) (IsListed lists.parents) (from-parent bill count lists within l) (suc m) j j back);
       },
-      round-along (IsListed lists.parents.items) (IsParent bill) (to-parent bill count lists l) i path round,
+      round-along (IsListed lists.parents) (IsParent bill) (to-parent bill count lists l) i path round,
     )
 
 -- why tables with a loop are refused
 pub loop-refusal : (bill : List BillLine) (count : ℕ) (lists : Lists) (found : Result (Vec ℕ Global) Refused) → AreWithin count bill → AreLists bill count lists
-    → IfOk found (λ path. (i : ℕ) × IsFirstRound (IsListed lists.parents.items) i × IsRound (IsListed lists.parents.items) i path.items) → IsRefusal bill (loop_fault found)
+    → IfOk found (λ path. (i : ℕ) × IsFirstRound (IsListed lists.parents) i × IsRound (IsListed lists.parents) i path.items) → IsRefusal bill (loop_fault found)
 loop-refusal bill count lists (Ok path) within l round = loop-path bill count lists path.items within l round
 loop-refusal bill count lists (Err refused) within l round = tt
 
-pub are-codes : (bill : List BillLine) (count : ℕ) (lists : Lists) (code : ℕ → ℕ) → AreWithin count bill → AreLists bill count lists → AreRising (IsListed lists.parents.items) code → AreCodes bill code
+pub are-codes : (bill : List BillLine) (count : ℕ) (lists : Lists) (code : ℕ → ℕ) → AreWithin count bill → AreLists bill count lists → AreRising (IsListed lists.parents) code → AreCodes bill code
 are-codes bill count lists code within l r = record {
   rises = λ p i link. r.rises p i (from-parent bill count lists within l p i link);
   from_parent = λ i n e. let (p, link, is) = r.from_parent i n e in (p, to-parent bill count lists l p i link, is);
 }
 
-pub is-order : (bill : List BillLine) (count : ℕ) (lists : Lists) (order : List ℕ) → AreWithin count bill → AreLists bill count lists → HoldsEachOnce count order → IsSettled (IsListed lists.parents.items) order → IsOrder bill count order
+pub is-order : (bill : List BillLine) (count : ℕ) (lists : Lists) (order : List ℕ) → AreWithin count bill → AreLists bill count lists → HoldsEachOnce count order → IsSettled (IsListed lists.parents) order → IsOrder bill count order
 is-order bill count lists order within l all settled = record {
   all = all;
   parents_first = λ j k low high link.

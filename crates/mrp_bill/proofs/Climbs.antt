@@ -1,6 +1,5 @@
 -- How a walk goes on.
-use Rattle.std.proofs.Common.{◌≡◌, ◌≢◌, ◌⊎◌, inl, inr, ℕ, suc, ◌-◌, ◌<◌, ◌≤◌, true, false, List, [], ◌∷◌, ◌++◌, length, get_or, take, refl, sym, ap, subst, ◌∙◌, arith, sum, sum_by, Vec}
-use Rattle.std.specs.declared.alloc.Global.{Global}
+use Rattle.std.proofs.Common.{◌≡◌, ◌≢◌, ◌⊎◌, inl, inr, ℕ, suc, ◌-◌, ◌<◌, ◌≤◌, true, false, List, [], ◌∷◌, ◌++◌, length, get_or, take, sym, ap, subst, ◌∙◌, arith, sum, sum_by}
 use Rattle.std.proofs.Math.Bool.{or-false, or-true}
 use Rattle.std.proofs.Math.ListN.{set}
 use Rattle.std.proofs.lemmas.Bool.{cases_eq, cases_lt}
@@ -11,13 +10,13 @@ use Rattle.mrp_bill.specs.declared.climb.Stage.TheVariants.{New, Open, Placed}
 use Rattle.mrp_bill.specs.declared.climb.Climb.{Climb}
 use Rattle.mrp_bill.specs.Climb.{stage_at, moves, work, ArePassed, IsSettled, IsLinked, IsClimb, Opens, Places, Passes}
 use Rattle.mrp_bill.specs.Links.{Links, Leads}
-use Rattle.mrp_bill.specs.Lists.{listed, IsListed}
-use Rattle.mrp_bill.proofs.Listed.{listed-is, listed-contains}
+use Rattle.mrp_bill.specs.Grouped.{listed, IsListed}
+use Rattle.mrp_bill.proofs.Listed.{listed-contains}
 use Rattle.mrp_bill.proofs.Linked.{links-before, links-down}
 use Rattle.mrp_bill.proofs.Stages.{at-push, stage-other, stages-open, stages-place}
 
 -- parents that were passed stay placed
-passed-kept : (parents : List (Vec ℕ Global)) (left : List ℕ) (stages : List Stage) (item : ℕ) (s : Stage) → ArePassed parents left stages
+passed-kept : (parents : List (List ℕ)) (left : List ℕ) (stages : List Stage) (item : ℕ) (s : Stage) → ArePassed parents left stages
     → ((place : ℕ) → stage_at stages item ≡ Placed place → ⊥) → ArePassed parents left (set stages item s)
 passed-kept parents left stages item s passed not_placed i k h low high =
     let (place, is) = passed i k (omega (arith, length-set stages item s)) low high in
@@ -41,7 +40,7 @@ linked-push R stack item linked top k h = by (cases_lt (suc k) (length stack))
         let before : k ≡ length stack - 1 = omega arith in
         rw (e, f) (subst (λ (n : ℕ). R item (get_or stack n 0)) (sym before) (top (omega arith)))
 
-pub climb-visit : (parents : List (Vec ℕ Global)) (c d : Climb) (item : ℕ) → IsClimb parents c → Opens c d item → item < length c.stages.items → stage_at c.stages.items item ≡ New
+pub climb-visit : (parents : List (List ℕ)) (c d : Climb) (item : ℕ) → IsClimb parents c → Opens c d item → item < length c.stages.items → stage_at c.stages.items item ≡ New
     → (0 < length c.stack.items → IsListed parents item (get_or c.stack.items (length c.stack.items - 1) 0)) → IsClimb parents d
 climb-visit parents c d item k o within new top =
     let not_placed : (place : ℕ) → stage_at c.stages.items item ≡ Placed place → ⊥ = λ place e. absurd (cc) in
@@ -57,7 +56,7 @@ climb-visit parents c d item k o within new top =
     }
 
 -- an item whose parents are all placed goes to the end of the order
-settled-push : (parents : List (Vec ℕ Global)) (c : Climb) (item : ℕ) → IsClimb parents c → item < length c.stages.items → get_or c.left.items item 0 ≡ 0 → c.closed ≡ false
+settled-push : (parents : List (List ℕ)) (c : Climb) (item : ℕ) → IsClimb parents c → item < length c.stages.items → get_or c.left.items item 0 ≡ 0 → c.closed ≡ false
     → ((p i : ℕ) → IsListed parents p i → p < length parents) → IsSettled (IsListed parents) (c.order.items ++ item ∷ [])
 settled-push parents c item k inside none unclosed within n p h link = by (cases_lt n (length c.order.items))
   where
@@ -83,7 +82,7 @@ linked-take R stack n le linked k h =
     let f = get_or-take n stack k 0 (omega arith) in
     rw (e, f) (linked k (omega arith))
 
-pub climb-place : (parents : List (Vec ℕ Global)) (c d : Climb) (item : ℕ) → IsClimb parents c → Places c d item → 0 < length c.stack.items
+pub climb-place : (parents : List (List ℕ)) (c d : Climb) (item : ℕ) → IsClimb parents c → Places c d item → 0 < length c.stack.items
     → item ≡ get_or c.stack.items (length c.stack.items - 1) 0 → get_or c.left.items item 0 ≡ 0
     → ((p i : ℕ) → IsListed parents p i → p < length parents) → IsClimb parents d
 climb-place parents c d item k o some top none within =
@@ -104,7 +103,7 @@ climb-place parents c d item k o some top none within =
     }
 
 -- an item has passed one more parent, which is placed or closes a loop
-pub climb-pass : (parents : List (Vec ℕ Global)) (c d : Climb) (item less : ℕ) → IsClimb parents c → item < length parents → get_or c.left.items item 0 ≡ suc less
+pub climb-pass : (parents : List (List ℕ)) (c d : Climb) (item less : ℕ) → IsClimb parents c → item < length parents → get_or c.left.items item 0 ≡ suc less
     → d.stages.items ≡ c.stages.items → d.stack.items ≡ c.stack.items → d.order.items ≡ c.order.items → d.left.items ≡ set c.left.items item less
     → (d.closed ≡ false → (c.closed ≡ false) × ((place : ℕ) × (stage_at c.stages.items (get_or (listed parents item) less 0) ≡ Placed place)))
     → (d.closed ≡ true → (i : ℕ) × Leads (IsListed parents) i i) → IsClimb parents d
@@ -147,7 +146,7 @@ climb-pass parents c d item less k inside was stages stack order left passes clo
             old item n (omega (arith, k.size)) (omega (arith, was)) high'
 
 -- a parent of the top of the stack that is on the stack closes a loop
-pub climb-close : (parents : List (Vec ℕ Global)) (c : Climb) (item parent depth : ℕ) → IsClimb parents c → 0 < length c.stack.items → item ≡ get_or c.stack.items (length c.stack.items - 1) 0
+pub climb-close : (parents : List (List ℕ)) (c : Climb) (item parent depth : ℕ) → IsClimb parents c → 0 < length c.stack.items → item ≡ get_or c.stack.items (length c.stack.items - 1) 0
     → parent < length c.stages.items → stage_at c.stages.items parent ≡ Open depth → IsListed parents parent item → (i : ℕ) × Leads (IsListed parents) i i
 climb-close parents c item parent depth k some top within stage link =
     let (low, is) = k.stages.opened parent depth within stage in
@@ -157,24 +156,19 @@ climb-close parents c item parent depth k some top within stage link =
     (parent, (last - depth, links-before (IsListed parents) (last - depth) parent item parent link (rw (← top, is) at down)))
 
 -- the item on the top of the stack is one of the items
-pub top-inside : (parents : List (Vec ℕ Global)) (c : Climb) (item : ℕ) → IsClimb parents c → 0 < length c.stack.items → item ≡ get_or c.stack.items (length c.stack.items - 1) 0 → item < length parents
+pub top-inside : (parents : List (List ℕ)) (c : Climb) (item : ℕ) → IsClimb parents c → 0 < length c.stack.items → item ≡ get_or c.stack.items (length c.stack.items - 1) 0 → item < length parents
 top-inside parents c item k some top = omega (arith, top, (k.stages.stacked (length c.stack.items - 1) (omega arith)).0, k.size)
 
-pub left-is : (parents : List (Vec ℕ Global)) (c : Climb) (item left : ℕ) → IsClimb parents c → item < length parents → left ≡ get_or c.left.items item left → get_or c.left.items item 0 ≡ left
+pub left-is : (parents : List (List ℕ)) (c : Climb) (item left : ℕ) → IsClimb parents c → item < length parents → left ≡ get_or c.left.items item left → get_or c.left.items item 0 ≡ left
 left-is parents c item left k inside is = get_or_default c.left.items item 0 left (omega (arith, k.sizes)) ∙ sym is
 
-pub left-fits : (parents : List (Vec ℕ Global)) (c : Climb) (item left : ℕ) (v : Vec ℕ Global) → IsClimb parents c → item < length parents → left ≡ get_or c.left.items item left → v ≡ get_or parents item v
-    → left ≤ length v.items
-left-fits parents c item left v k inside is read =
-    omega (arith, left-is parents c item left k inside is, k.within item inside, ap (length {A = ℕ}) (listed-is parents item v v.items inside read refl))
+pub left-fits : (parents : List (List ℕ)) (c : Climb) (item left : ℕ) → IsClimb parents c → item < length parents → left ≡ get_or c.left.items item left → left ≤ length (listed parents item)
+left-fits parents c item left k inside is = omega (arith, left-is parents c item left k inside is, k.within item inside)
 
 -- the parent that was read
-pub parent-is : (parents : List (Vec ℕ Global)) (item n parent : ℕ) (v : Vec ℕ Global) → item < length parents → v ≡ get_or parents item v → n < length v.items → parent ≡ get_or v.items n parent
-    → (parent ≡ get_or (listed parents item) n 0) × IsListed parents parent item
-parent-is parents item n parent v inside read low is =
-    let same = listed-is parents item v v.items inside read refl in
-    let e : parent ≡ get_or v.items n 0 = is ∙ get_or_default v.items n parent 0 low in
-    (e ∙ ap (λ xs. get_or xs n 0) same, subst (λ (x : ℕ). IsListed parents x item) (sym e) (listed-contains parents item v.items n 0 same low))
+pub parent-is : (parents : List (List ℕ)) (item n : ℕ) (group : List ℕ) → group ≡ listed parents item → n < length group
+    → (get_or group n 0 ≡ get_or (listed parents item) n 0) × IsListed parents (get_or group n 0) item
+parent-is parents item n group same low = (ap (λ xs. get_or xs n 0) same, listed-contains parents item group n 0 same low)
 
 -- one move less is left of a walk that puts a new item on the stack
 pub work-visit : (c d : Climb) (item : ℕ) → Opens c d item → item < length c.stages.items → stage_at c.stages.items item ≡ New → work d < work c
@@ -185,14 +179,14 @@ pub stage-read : (stages : List Stage) (i : ℕ) (s : Stage) → i < length stag
 stage-read stages i s h is = get_or_default stages i New s h ∙ sym is
 
 -- an item has passed a parent that is placed
-pub climb-passes : (parents : List (Vec ℕ Global)) (c d : Climb) (item less place : ℕ) → IsClimb parents c → item < length parents → get_or c.left.items item 0 ≡ suc less
+pub climb-passes : (parents : List (List ℕ)) (c d : Climb) (item less place : ℕ) → IsClimb parents c → item < length parents → get_or c.left.items item 0 ≡ suc less
     → Passes c d item less false → stage_at c.stages.items (get_or (listed parents item) less 0) ≡ Placed place → IsClimb parents d
 climb-passes parents c d item less place k inside was p placed =
     let same : d.closed ≡ c.closed = p.closed ∙ or-false c.closed in
     climb-pass parents c d item less k inside was p.stages p.stack p.order p.left (λ e. (sym same ∙ e, (place, placed))) (λ e. k.loops (sym same ∙ e))
 
 -- an item has passed a parent with which a loop closes
-pub climb-closes : (parents : List (Vec ℕ Global)) (c d : Climb) (item less : ℕ) → IsClimb parents c → item < length parents → get_or c.left.items item 0 ≡ suc less
+pub climb-closes : (parents : List (List ℕ)) (c d : Climb) (item less : ℕ) → IsClimb parents c → item < length parents → get_or c.left.items item 0 ≡ suc less
     → Passes c d item less true → ((i : ℕ) × Leads (IsListed parents) i i) → IsClimb parents d
 climb-closes parents c d item less k inside was p loop =
     let same : d.closed ≡ true = p.closed ∙ or-true c.closed in

@@ -1,27 +1,26 @@
 -- Codes from an order in which parents stand before their components.
-use Rattle.std.proofs.Common.{◌≡◌, ◌≢◌, ◌⊎◌, inl, inr, ℕ, zero, suc, ◌+◌, ◌<◌, ◌≤◌, List, [], length, map, get_or, refl, sym, ap, subst, ◌∙◌, arith, Vec}
+use Rattle.std.proofs.Common.{◌≡◌, ◌≢◌, ◌⊎◌, inl, inr, ℕ, zero, suc, ◌+◌, ◌<◌, ◌≤◌, List, [], length, get_or, refl, sym, ap, subst, ◌∙◌, arith}
 use Rattle.std.specs.Prelude.{All}
-use Rattle.std.specs.declared.alloc.Global.{Global}
 use Rattle.std.proofs.Math.ListN.{set, get_or-eq_default}
 use Rattle.std.proofs.lemmas.Bool.{cases_lt}
-use Rattle.std.proofs.lemmas.List.{get_or-set_same, get_or-set_other, length-map, get_or_default}
+use Rattle.std.proofs.lemmas.List.{get_or-set_same, get_or-set_other, get_or_default}
 use Rattle.mrp_bill.specs.Bill.{HoldsEachOnce}
 use Rattle.mrp_bill.specs.Climb.{IsSettled}
 use Rattle.mrp_bill.specs.Links.{IsCoded, AreRising}
-use Rattle.mrp_bill.specs.Lists.{listed, IsListed}
+use Rattle.mrp_bill.specs.Grouped.{listed, IsListed}
 
 -- an item with something in its list is one of the items
-pub listed-inside : (lists : List (Vec ℕ Global)) (p i : ℕ) → IsListed lists p i → i < length lists
+pub listed-inside : (lists : List (List ℕ)) (p i : ℕ) → IsListed lists p i → i < length lists
 listed-inside lists p i (k, low, is) = by (cases_lt i (length lists))
   where
     by : (i < length lists) ⊎ (length lists ≤ i) → i < length lists
     by (inl lt) = lt
     by (inr ge) =
-        let none : listed lists i ≡ [] = get_or-eq_default (map (λ (v : Vec ℕ Global). v.items) lists) [] {n = i} (omega (arith, length-map lists (λ (v : Vec ℕ Global). v.items))) in
+        let none : listed lists i ≡ [] = get_or-eq_default lists [] {n = i} ge in
         absurd (omega (arith, ap (length {A = ℕ}) none, low))
 
 -- the codes of the parents of the item at k are those of earlier items, and small
-pub parent-codes : (parents : List (Vec ℕ Global)) (order codes : List ℕ) (k p : ℕ) → IsSettled (IsListed parents) order → k < length order
+pub parent-codes : (parents : List (List ℕ)) (order codes : List ℕ) (k p : ℕ) → IsSettled (IsListed parents) order → k < length order
     → ((j : ℕ) → j < k → get_or codes (get_or order j 0) 0 ≤ j) → IsListed parents p (get_or order k 0) → get_or codes p 0 < k
 parent-codes parents order codes k p settled h low link =
     let (j, before, is) = settled k p h link in
@@ -29,7 +28,7 @@ parent-codes parents order codes k p settled h low link =
     omega (arith, low j before)
 
 -- an item that was coded stays so when a later one gets its code
-pub coded-stays : (parents : List (Vec ℕ Global)) (order codes : List ℕ) (n k v j : ℕ) → HoldsEachOnce n order → IsSettled (IsListed parents) order → k < length order → j < k
+pub coded-stays : (parents : List (List ℕ)) (order codes : List ℕ) (n k v j : ℕ) → HoldsEachOnce n order → IsSettled (IsListed parents) order → k < length order → j < k
     → IsCoded (IsListed parents) (λ i. get_or codes i 0) (get_or order j 0)
     → IsCoded (IsListed parents) (λ i. get_or (set codes (get_or order k 0) v) i 0) (get_or order j 0)
 coded-stays parents order codes n k v j all settled h before coded = record {
@@ -50,7 +49,7 @@ coded-stays parents order codes n k v j all settled h before coded = record {
     here = same (get_or order j 0) (λ e. let same_place : j ≡ k = all.once j k (omega arith) h e in absurd (omega arith))
 
 -- the item at k gets its code
-pub coded-here : (parents : List (Vec ℕ Global)) (order codes : List ℕ) (n k v : ℕ) → HoldsEachOnce n order → IsSettled (IsListed parents) order → k < length order → get_or order k 0 < length codes
+pub coded-here : (parents : List (List ℕ)) (order codes : List ℕ) (n k v : ℕ) → HoldsEachOnce n order → IsSettled (IsListed parents) order → k < length order → get_or order k 0 < length codes
     → ((p : ℕ) → IsListed parents p (get_or order k 0) → get_or codes p 0 < v)
     → ((m : ℕ) → v ≡ suc m → (p : ℕ) × IsListed parents p (get_or order k 0) × (get_or codes p 0 ≡ m))
     → IsCoded (IsListed parents) (λ i. get_or (set codes (get_or order k 0) v) i 0) (get_or order k 0)
@@ -72,7 +71,7 @@ coded-here parents order codes n k v all settled h inside above from = record {
     here = get_or-set_same codes (get_or order k 0) v 0 inside
 
 -- when every item of the order is coded, the codes are right everywhere
-pub rising-all : (parents : List (Vec ℕ Global)) (order codes : List ℕ) → length codes ≡ length parents → HoldsEachOnce (length parents) order
+pub rising-all : (parents : List (List ℕ)) (order codes : List ℕ) → length codes ≡ length parents → HoldsEachOnce (length parents) order
     → ((j : ℕ) → j < length order → IsCoded (IsListed parents) (λ i. get_or codes i 0) (get_or order j 0)) → AreRising (IsListed parents) (λ i. get_or codes i 0)
 rising-all parents order codes size all coded = record {
   rises = λ p i link. (coded_at i (listed-inside parents p i link)).above p link;
@@ -99,7 +98,7 @@ low-all n order codes size sizes all low i d h =
     omega (arith, get_or_default codes i d 0 h, low j before)
 
 -- one more item of the order is coded
-pub coded-more : (parents : List (Vec ℕ Global)) (order codes : List ℕ) (n k v : ℕ) → HoldsEachOnce n order → IsSettled (IsListed parents) order → k < length order → get_or order k 0 < length codes
+pub coded-more : (parents : List (List ℕ)) (order codes : List ℕ) (n k v : ℕ) → HoldsEachOnce n order → IsSettled (IsListed parents) order → k < length order → get_or order k 0 < length codes
     → ((j : ℕ) → j < k → IsCoded (IsListed parents) (λ i. get_or codes i 0) (get_or order j 0))
     → ((p : ℕ) → IsListed parents p (get_or order k 0) → get_or codes p 0 < v)
     → ((m : ℕ) → v ≡ suc m → (p : ℕ) × IsListed parents p (get_or order k 0) × (get_or codes p 0 ≡ m))
@@ -112,7 +111,7 @@ coded-more parents order codes n k v all settled h inside coded above from j low
         let same : k ≡ j = omega arith in
         subst (λ (x : ℕ). IsCoded (IsListed parents) (λ i. get_or (set codes (get_or order k 0) v) i 0) (get_or order x 0)) same (coded-here parents order codes n k v all settled h inside above from)
 
-pub low-more : (parents : List (Vec ℕ Global)) (order codes : List ℕ) (n k v : ℕ) → HoldsEachOnce n order → IsSettled (IsListed parents) order → k < length order → get_or order k 0 < length codes
+pub low-more : (parents : List (List ℕ)) (order codes : List ℕ) (n k v : ℕ) → HoldsEachOnce n order → IsSettled (IsListed parents) order → k < length order → get_or order k 0 < length codes
     → ((j : ℕ) → j < k → get_or codes (get_or order j 0) 0 ≤ j)
     → ((m : ℕ) → v ≡ suc m → (p : ℕ) × IsListed parents p (get_or order k 0) × (get_or codes p 0 ≡ m))
     → (j : ℕ) → j < k + 1 → get_or (set codes (get_or order k 0) v) (get_or order j 0) 0 ≤ j

@@ -1,5 +1,6 @@
 pub mod Accepted
 pub mod BillListed
+pub mod BillRows
 pub mod Climbs
 pub mod Coded
 pub mod Decided

@@ -1,6 +1,5 @@
 -- What a walk leaves when it ends.
-use Rattle.std.proofs.Common.{◌≡◌, ◌≢◌, ℕ, ◌*◌, ◌<◌, ◌≤◌, List, length, refl, ap, ◌∙◌, arith, sum_by, Vec}
-use Rattle.std.specs.declared.alloc.Global.{Global}
+use Rattle.std.proofs.Common.{◌≡◌, ◌≢◌, ℕ, ◌*◌, ◌<◌, ◌≤◌, List, length, refl, ap, ◌∙◌, arith, sum_by}
 use Rattle.std.proofs.lemmas.List.{get_or_default}
 use Rattle.std.proofs.lemmas.List.Sums.{sum_by-le}
 use Rattle.mrp_bill.specs.declared.climb.Stage.{Stage}
@@ -16,12 +15,12 @@ is_placed (Open depth) new shut = absurd (shut depth refl)
 is_placed (Placed place) new shut = (place, refl)
 
 -- with an empty stack, items that were all met are all placed
-all-placed : (parents : List (Vec ℕ Global)) (c : Climb) → IsClimb parents c → length c.stack.items ≡ 0 → ((i : ℕ) → i < length parents → stage_at c.stages.items i ≢ New)
+all-placed : (parents : List (List ℕ)) (c : Climb) → IsClimb parents c → length c.stack.items ≡ 0 → ((i : ℕ) → i < length parents → stage_at c.stages.items i ≢ New)
     → (i : ℕ) → i < length parents → (place : ℕ) × (stage_at c.stages.items i ≡ Placed place)
 all-placed parents c k empty met i h =
     is_placed (stage_at c.stages.items i) (met i h) (λ depth e. absurd (omega (arith, (k.stages.opened i depth (omega (arith, k.size)) e).0)))
 
-pub order-size : (parents : List (Vec ℕ Global)) (c : Climb) → IsClimb parents c → length c.stack.items ≡ 0 → ((i : ℕ) → i < length parents → stage_at c.stages.items i ≢ New)
+pub order-size : (parents : List (List ℕ)) (c : Climb) → IsClimb parents c → length c.stack.items ≡ 0 → ((i : ℕ) → i < length parents → stage_at c.stages.items i ≢ New)
     → length c.order.items ≡ length parents
 order-size parents c k empty met =
     let none : sum_by moves c.stages.items ≤ length c.stages.items * 0 = sum_by-le moves 0 c.stages.items (λ i d h.
@@ -29,7 +28,7 @@ order-size parents c k empty met =
     let e = ap moves (get_or_default c.stages.items i d New h ∙ is) in omega arith) in
     omega (arith, k.stages.moved, k.size)
 
-pub order-once : (parents : List (Vec ℕ Global)) (c : Climb) → IsClimb parents c → length c.stack.items ≡ 0 → ((i : ℕ) → i < length parents → stage_at c.stages.items i ≢ New)
+pub order-once : (parents : List (List ℕ)) (c : Climb) → IsClimb parents c → length c.stack.items ≡ 0 → ((i : ℕ) → i < length parents → stage_at c.stages.items i ≢ New)
     → HoldsEachOnce (length parents) c.order.items
 order-once parents c k empty met = record {
   items = λ i d h. omega (arith, get_or_default c.order.items i d 0 h, (k.stages.ordered i h).0, k.size);

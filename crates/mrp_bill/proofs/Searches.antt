@@ -1,6 +1,5 @@
 -- How a search up through parents goes on, and what it finds.
-use Rattle.std.proofs.Common.{◌≡◌, ◌≢◌, ◌⊎◌, inl, inr, ℕ, zero, suc, ◌+◌, ◌<◌, ◌≤◌, Bool, true, false, eqb, List, [], ◌∷◌, ◌++◌, length, map, get_or, refl, sym, ap, subst, ◌∙◌, arith, Vec}
-use Rattle.std.specs.declared.alloc.Global.{Global}
+use Rattle.std.proofs.Common.{◌≡◌, ◌≢◌, ◌⊎◌, inl, inr, ℕ, zero, suc, ◌+◌, ◌<◌, ◌≤◌, Bool, true, false, eqb, List, [], ◌∷◌, ◌++◌, length, map, get_or, refl, sym, ap, subst, ◌∙◌, arith}
 use Rattle.std.specs.List.{Contains}
 use Rattle.std.proofs.Math.ListN.{set, get_or-eq_default}
 use Rattle.std.proofs.lemmas.Bool.{cases_eq, cases_lt, eq-eqb}
@@ -9,7 +8,7 @@ use Rattle.std.proofs.lemmas.List.Sums.{sum_by-set}
 use Rattle.mrp_bill.specs.declared.search.Met.{Met}
 use Rattle.mrp_bill.specs.declared.search.Search.{Search}
 use Rattle.mrp_bill.specs.Links.{Links, Leads, IsTrail, IsRound}
-use Rattle.mrp_bill.specs.Lists.{IsListed}
+use Rattle.mrp_bill.specs.Grouped.{IsListed}
 use Rattle.mrp_bill.specs.Ranking.{one_if_unseen}
 use Rattle.mrp_bill.specs.Search.{met_at, item_at, IsBelow, IsSeen, Meets, IsSearch, Extends}
 use Rattle.mrp_bill.proofs.Linked.{links-first}
@@ -42,7 +41,7 @@ item-push : (met : List Met) (m : Met) (k : ℕ) → k < length met → item_at 
 item-push met m k h = ap (λ (x : Met). x.item) (met-push met m k h)
 
 -- a new parent of one that was met is met
-pub search-meets : (parents : List (Vec ℕ Global)) (s t : Search) (item below : ℕ) → IsSearch parents s → Meets s t item below → item < length parents → get_or s.seen.items item false ≡ false
+pub search-meets : (parents : List (List ℕ)) (s t : Search) (item below : ℕ) → IsSearch parents s → Meets s t item below → item < length parents → get_or s.seen.items item false ≡ false
     → below < length s.met.items → IsListed parents item (item_at s.met.items below) → IsSearch parents t
 search-meets parents s t item below k m inside new low link = record {
   size = rw m.seen (length-set s.seen.items item true ∙ k.size);
@@ -123,7 +122,7 @@ seen-here s row n is before k h = by (cases_lt k n)
     by (inr ge) = subst (λ (x : ℕ). IsSeen s.seen.items (get_or row x 0)) (omega arith) is
 
 -- the way down along the places is a way down along the items
-places-trail : (parents : List (Vec ℕ Global)) (s : Search) → IsSearch parents s → (from : ℕ) (places : List ℕ) → from < length s.met.items → IsTrail (IsBelow s.met.items) from places 0
+places-trail : (parents : List (List ℕ)) (s : Search) → IsSearch parents s → (from : ℕ) (places : List ℕ) → from < length s.met.items → IsTrail (IsBelow s.met.items) from places 0
     → IsTrail (IsListed parents) (item_at s.met.items from) (map (item_at s.met.items) places) (item_at s.met.items 0)
 places-trail parents s k from [] h e = ap (item_at s.met.items) e
 places-trail parents s k from (x ∷ more) h ((pos, is), rest) =
@@ -131,7 +130,7 @@ places-trail parents s k from (x ∷ more) h ((pos, is), rest) =
     (subst (λ (y : ℕ). IsListed parents (item_at s.met.items from) (item_at s.met.items y)) (sym is) up, places-trail parents s k x more (omega arith) rest)
 
 -- from an item that is a parent of one that was met, down to itself
-pub search-round : (parents : List (Vec ℕ Global)) (s : Search) (item from : ℕ) (places path : List ℕ) → IsSearch parents s → item_at s.met.items 0 ≡ item → from < length s.met.items
+pub search-round : (parents : List (List ℕ)) (s : Search) (item from : ℕ) (places path : List ℕ) → IsSearch parents s → item_at s.met.items 0 ≡ item → from < length s.met.items
     → IsListed parents item (item_at s.met.items from) → IsTrail (IsBelow s.met.items) from places 0
     → path ≡ item_at s.met.items 0 ∷ item_at s.met.items from ∷ map (item_at s.met.items) places → IsRound (IsListed parents) item path
 search-round parents s item from places path k first h link trail is =
@@ -142,14 +141,14 @@ search-round parents s item from places path k first h link trail is =
     )
 
 -- a search that met all that stands above its first item, and never that item again
-above-seen : (parents : List (Vec ℕ Global)) (s : Search) → IsSearch parents s → ((k : ℕ) → k < length s.met.items → (p : ℕ) → IsListed parents p (item_at s.met.items k) → IsSeen s.seen.items p)
+above-seen : (parents : List (List ℕ)) (s : Search) → IsSearch parents s → ((k : ℕ) → k < length s.met.items → (p : ℕ) → IsListed parents p (item_at s.met.items k) → IsSeen s.seen.items p)
     → (n a i : ℕ) → Links (IsListed parents) n a i → IsSeen s.seen.items i → IsSeen s.seen.items a
 above-seen parents s k closed zero a i e seen = subst (λ (x : ℕ). IsSeen s.seen.items x) (sym e) seen
 above-seen parents s k closed (suc n) a i (p, chain, link) seen =
     let (m, h, is) = k.seen i seen in
     above-seen parents s k closed n a p chain (closed m h p (subst (λ (x : ℕ). IsListed parents p x) (sym is) link))
 
-pub never-round : (parents : List (Vec ℕ Global)) (s : Search) (item : ℕ) → IsSearch parents s → item_at s.met.items 0 ≡ item
+pub never-round : (parents : List (List ℕ)) (s : Search) (item : ℕ) → IsSearch parents s → item_at s.met.items 0 ≡ item
     → ((k : ℕ) → k < length s.met.items → (p : ℕ) → IsListed parents p (item_at s.met.items k) → IsSeen s.seen.items p × (p ≢ item)) → Leads (IsListed parents) item item → ⊥
 never-round parents s item k first above (n, round) =
     let (b, link, chain) = links-first (IsListed parents) n item item round in
@@ -171,7 +170,7 @@ pub met-is : (met : List Met) (k : ℕ) (m : Met) → k < length met → m ≡ g
 met-is met k m h is = get_or_default met k (record { item = 0; below = 0 }) m h ∙ sym is
 
 -- the parents of one more of those met were met, and aren't the first item
-pub above-more : (parents : List (Vec ℕ Global)) (s t : Search) (item next : ℕ) → Extends s t → next < length s.met.items
+pub above-more : (parents : List (List ℕ)) (s t : Search) (item next : ℕ) → Extends s t → next < length s.met.items
     → ((k : ℕ) → k < next → (p : ℕ) → IsListed parents p (item_at s.met.items k) → IsSeen s.seen.items p × (p ≢ item))
     → ((i : ℕ) → IsSeen s.seen.items i → IsSeen t.seen.items i)
     → ((p : ℕ) → IsListed parents p (item_at s.met.items next) → IsSeen t.seen.items p × (p ≢ item))
@@ -189,7 +188,7 @@ above-more parents s t item next e low before stays here k h p link = by (cases_
     by (inr ge) = here p (subst (λ (x : ℕ). IsListed parents p (item_at s.met.items x)) (omega arith) link')
 
 -- what a search that goes on has seen
-pub extends-seen : (parents : List (Vec ℕ Global)) (s t : Search) → IsSearch parents s → IsSearch parents t → Extends s t → (i : ℕ) → IsSeen s.seen.items i → IsSeen t.seen.items i
+pub extends-seen : (parents : List (List ℕ)) (s t : Search) → IsSearch parents s → IsSearch parents t → Extends s t → (i : ℕ) → IsSeen s.seen.items i → IsSeen t.seen.items i
 extends-seen parents s t k l e i seen =
     let (n, h, is) = k.seen i seen in
     let same : item_at t.met.items n ≡ i = ap (λ (x : Met). x.item) (e.kept n h) ∙ is in

@@ -1,11 +1,10 @@
 -- A walk up through parents.
-use Rattle.std.specs.Prelude.{ℕ, suc, ◌≡◌, ◌≢◌, ◌+◌, ◌-◌, ◌*◌, ◌<◌, ◌≤◌, Bool, true, false, ◌||◌, List, [], ◌∷◌, ◌++◌, length, take, sum, sum_by, slice_index, slice_index_or, slice_set, Vec}
-use Rattle.std.specs.declared.alloc.Global.{Global}
+use Rattle.std.specs.Prelude.{ℕ, suc, ◌≡◌, ◌≢◌, ◌+◌, ◌-◌, ◌*◌, ◌<◌, ◌≤◌, Bool, true, false, ◌||◌, List, [], ◌∷◌, ◌++◌, length, take, sum, sum_by, slice_index, slice_index_or, slice_set}
 use Rattle.mrp_bill.specs.declared.climb.Stage.{Stage}
 use Rattle.mrp_bill.specs.declared.climb.Stage.TheVariants.{New, Open, Placed}
 use Rattle.mrp_bill.specs.declared.climb.Climb.{Climb}
 use Rattle.mrp_bill.specs.Links.{Leads}
-use Rattle.mrp_bill.specs.Lists.{listed, IsListed}
+use Rattle.mrp_bill.specs.Grouped.{listed, IsListed}
 
 abbrev pub stage_at : List Stage → ℕ → Stage
 stage_at stages i = slice_index_or stages i New
@@ -37,13 +36,13 @@ abbrev pub IsSettled : (ℕ → ℕ → Type 0) → List ℕ → Type 0
 IsSettled R order = (k p : ℕ) → k < length order → R p (slice_index order k) → (j : ℕ) × (j < k) × (slice_index order j ≡ p)
 
 -- the parents that were passed are placed
-abbrev pub ArePassed : List (Vec ℕ Global) → List ℕ → List Stage → Type 0
+abbrev pub ArePassed : List (List ℕ) → List ℕ → List Stage → Type 0
 ArePassed parents left stages =
     (i k : ℕ) → i < length stages → slice_index left i ≤ k → k < length (listed parents i)
     → (place : ℕ) × (stage_at stages (slice_index (listed parents i) k) ≡ Placed place)
 
 -- how far a walk is
-pub record IsClimb (parents : List (Vec ℕ Global)) (c : Climb) : Type 0 where
+pub record IsClimb (parents : List (List ℕ)) (c : Climb) : Type 0 where
   pub size : length c.stages.items ≡ length parents
   pub sizes : length c.left.items ≡ length parents
   pub stages : AreStages c.stages.items c.stack.items c.order.items

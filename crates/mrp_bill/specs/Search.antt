@@ -1,9 +1,8 @@
 -- A search up through parents.
-use Rattle.std.specs.Prelude.{ℕ, ◌≡◌, ◌+◌, ◌<◌, ◌≤◌, Bool, true, false, List, [], ◌∷◌, ◌++◌, length, slice_index_or, slice_set, Vec}
-use Rattle.std.specs.declared.alloc.Global.{Global}
+use Rattle.std.specs.Prelude.{ℕ, ◌≡◌, ◌+◌, ◌<◌, ◌≤◌, Bool, true, false, List, [], ◌∷◌, ◌++◌, length, slice_index_or, slice_set}
 use Rattle.mrp_bill.specs.declared.search.Met.{Met}
 use Rattle.mrp_bill.specs.declared.search.Search.{Search}
-use Rattle.mrp_bill.specs.Lists.{IsListed}
+use Rattle.mrp_bill.specs.Grouped.{IsListed}
 use Rattle.mrp_bill.specs.Ranking.{unseen}
 
 abbrev pub met_at : List Met → ℕ → Met
@@ -26,7 +25,7 @@ pub record Meets (old new : Search) (item below : ℕ) : Type 0 where
   pub seen : new.seen.items ≡ slice_set old.seen.items item true
 
 -- the items met are those seen, and each but the first is a parent of the one below it
-pub record IsSearch (parents : List (Vec ℕ Global)) (s : Search) : Type 0 where
+pub record IsSearch (parents : List (List ℕ)) (s : Search) : Type 0 where
   pub size : length s.seen.items ≡ length parents
   pub some : 0 < length s.met.items
   pub met : (k : ℕ) → k < length s.met.items → IsSeen s.seen.items (item_at s.met.items k)

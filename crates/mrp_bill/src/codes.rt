@@ -5,8 +5,9 @@ ghost use Rattle.std.specs.List.{Contains};
 ghost use Rattle.mrp_bill.specs.Bill.{HoldsEachOnce};
 ghost use Rattle.mrp_bill.specs.Climb.{IsSettled};
 ghost use Rattle.mrp_bill.specs.Links.{AreRising};
-ghost use Rattle.mrp_bill.specs.Lists.{IsListed};
+ghost use Rattle.mrp_bill.specs.Grouped.{IsListed};
 
+use crate::groups::Grouped;
 use mrp_qty::NoMemory;
 use std::alloc::Global;
 
@@ -29,7 +30,7 @@ fn code_below(parents: &[usize], codes: &[usize]) -> usize
 // The items' low-level codes, from an order in which parents stand before their components.
 pub fn codes_of(
     alloc: Global,
-    parents: &[Vec<usize>],
+    parents: &Grouped<usize>,
     order: &[usize],
 ) -> Result<Vec<usize>, NoMemory>
     requires within { (p i : ℕ) → IsListed parents.now p i → p < length parents.now }
@@ -40,9 +41,9 @@ pub fn codes_of(
     ensures codes { IfOk result (λ codes. AreRising (IsListed parents.now) (slice_index codes.items)) }
     ensures low { IfOk result (λ codes. All (λ code. code < length parents.now) codes.items) }
 {
-    let mut codes = vec![in alloc; 0; parents.len()]?;
+    let mut codes = vec![in alloc; 0; parents.count()]?;
     for item in order {
-        codes[*item] = code_below(&parents[*item], &codes);
+        codes[*item] = code_below(parents.group(*item), &codes);
     }
     Ok(codes)
 }

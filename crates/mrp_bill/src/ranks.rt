@@ -1,8 +1,9 @@
 //! Ranks of items: items that need each other have one rank.
 
 ghost use Rattle.std.specs.Prelude.{◌≡◌, ◌<◌, ℕ, All, false, length, slice_index_or, OnOk, IfOk};
-ghost use Rattle.mrp_bill.specs.Lists.{IsListed};
+ghost use Rattle.mrp_bill.specs.Grouped.{IsListed};
 
+use crate::groups::Grouped;
 use mrp_qty::NoMemory;
 use std::alloc::Global;
 
@@ -16,7 +17,7 @@ struct Ranking {
 
 impl Ranking {
     ghost use Rattle.std.specs.Prelude.{◌≡◌, ◌<◌, ℕ, All, false, length, slice_index_or, OnOk};
-    ghost use Rattle.mrp_bill.specs.Lists.{IsListed};
+    ghost use Rattle.mrp_bill.specs.Grouped.{IsListed};
     ghost use Rattle.mrp_bill.specs.Ranking.{IsRanking, to_do};
 
     // Gives an item its rank, and puts it on the stack.
@@ -51,7 +52,7 @@ impl Ranking {
     }
 
     // Gives a rank to the items that have none and are reached down through components.
-    fn spread(&mut self, children: &[Vec<usize>], rank: usize) -> Result<(), NoMemory>
+    fn spread(&mut self, children: &Grouped<usize>, rank: usize) -> Result<(), NoMemory>
         requires ranking { IsRanking self.old }
         requires size { length children.now ≡ length self.old.seen.items }
         requires within { (c i : ℕ) → IsListed children.now c i → c < length children.now }
@@ -59,7 +60,7 @@ impl Ranking {
         ensures size { OnOk result (length self.new.seen.items ≡ length self.old.seen.items) }
     {
         while let Some(item) = self.stack.pop() {
-            self.give_all(&children[item], rank)?;
+            self.give_all(children.group(item), rank)?;
         }
         Ok(())
     }
@@ -70,7 +71,7 @@ impl Ranking {
 // (the second pass of Kosaraju's search for strong components). Nothing rests on that but speed.
 pub fn ranks_of(
     alloc: Global,
-    children: &[Vec<usize>],
+    children: &Grouped<usize>,
     order: &[usize],
 ) -> Result<Vec<usize>, NoMemory>
     requires within { (c i : ℕ) → IsListed children.now c i → c < length children.now }
@@ -78,8 +79,8 @@ pub fn ranks_of(
     ensures { IfOk result (λ ranks. length ranks.items ≡ length children.now) }
 {
     let mut ranking = Ranking {
-        seen: vec![in alloc; false; children.len()]?,
-        ranks: vec![in alloc; 0; children.len()]?,
+        seen: vec![in alloc; false; children.count()]?,
+        ranks: vec![in alloc; 0; children.count()]?,
         stack: Vec::new(alloc),
     };
     for (rank, item) in order.iter().rev().enumerate() {

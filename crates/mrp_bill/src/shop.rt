@@ -58,7 +58,7 @@ impl Shop {
         requires { item < length self.now.tables.items }
         ensures { result.now ≡ parents_of self.now.tables.bills (length self.now.tables.items) item }
     {
-        self.lists.parents[item].as_slice()
+        self.lists.parents.group(item)
     }
 
     /// The components of an item, each once, in table order.
@@ -66,7 +66,7 @@ impl Shop {
         requires { item < length self.now.tables.items }
         ensures { result.now ≡ children_of self.now.tables.bills (length self.now.tables.items) item }
     {
-        self.lists.children[item].as_slice()
+        self.lists.children.group(item)
     }
 
     /// The places in the bill table of the lines in which an item is the component, in table order.
@@ -74,7 +74,7 @@ impl Shop {
         requires { item < length self.now.tables.items }
         ensures { result.now ≡ lines_of self.now.tables.bills item }
     {
-        self.lists.lines[item].as_slice()
+        self.lists.lines.group(item)
     }
 
     /// All items, each once, in an order in which parents stand before their components.

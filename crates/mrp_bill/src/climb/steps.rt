@@ -5,30 +5,31 @@ ghost use Rattle.mrp_bill.specs.Bill.{HoldsEachOnce};
 ghost use Rattle.mrp_bill.specs.Climb.{IsClimb, IsSettled, KeepsMet, Opens, Passes, Places, stage_at, work};
 ghost use Rattle.mrp_bill.specs.declared.climb.Stage.TheVariants.{New};
 ghost use Rattle.mrp_bill.specs.Links.{Leads};
-ghost use Rattle.mrp_bill.specs.Lists.{IsListed, listed};
+ghost use Rattle.mrp_bill.specs.Grouped.{IsListed, listed};
 
 use super::{Climb, Order, Stage};
+use crate::groups::Grouped;
 use mrp_qty::NoMemory;
 use std::alloc::Global;
 
-// How many numbers each list has.
-fn counts(alloc: Global, lists: &[Vec<usize>]) -> Result<Vec<usize>, NoMemory>
-    ensures size { IfOk result (λ counts. length counts.items ≡ length lists.now) }
-    ensures counts { IfOk result (λ counts. (i : ℕ) → i < length lists.now → slice_index counts.items i ≡ length (listed lists.now i)) }
+// How many parents each item has.
+fn counts(alloc: Global, parents: &Grouped<usize>) -> Result<Vec<usize>, NoMemory>
+    ensures size { IfOk result (λ counts. length counts.items ≡ length parents.now) }
+    ensures counts { IfOk result (λ counts. (i : ℕ) → i < length parents.now → slice_index counts.items i ≡ length (listed parents.now i)) }
 {
-    let mut counts = Vec::with_capacity(alloc, lists.len())?;
-    for list in lists {
-        counts.push(list.len())?;
+    let mut counts = Vec::with_capacity(alloc, parents.count())?;
+    for item in 0..parents.count() {
+        counts.push(parents.group(item).len())?;
     }
     Ok(counts)
 }
 
 impl Climb {
-    fn start(alloc: Global, parents: &[Vec<usize>]) -> Result<Climb, NoMemory>
+    fn start(alloc: Global, parents: &Grouped<usize>) -> Result<Climb, NoMemory>
         ensures climb { IfOk result (IsClimb parents.now) }
         ensures empty { IfOk result (λ climb. length climb.stack.items ≡ 0) }
     {
-        let stages = vec![in alloc; Stage::New; parents.len()]?;
+        let stages = vec![in alloc; Stage::New; parents.count()]?;
         let left = counts(alloc, parents)?;
         Ok(Climb {
             stages,
@@ -83,7 +84,7 @@ impl Climb {
     }
 
     // Goes on at the item on the top of the stack: up to its next parent, or back down.
-    fn step(&mut self, parents: &[Vec<usize>], item: usize) -> Result<(), NoMemory>
+    fn step(&mut self, parents: &Grouped<usize>, item: usize) -> Result<(), NoMemory>
         requires within { (p i : ℕ) → IsListed parents.now p i → p < length parents.now }
         requires climb { IsClimb parents.now self.old }
         requires some { 0 < length self.old.stack.items }
@@ -96,7 +97,8 @@ impl Climb {
         if left == 0 {
             return self.place(item);
         }
-        let parent = parents[item][left - 1];
+        let above = parents.group(item);
+        let parent = above[left - 1];
         match self.stages[parent] {
             Stage::New => return self.visit(parent),
             Stage::Open(_) => self.pass(item, left - 1, true),
@@ -106,7 +108,7 @@ impl Climb {
     }
 
     // Walks until the stack is empty.
-    fn finish(&mut self, parents: &[Vec<usize>]) -> Result<(), NoMemory>
+    fn finish(&mut self, parents: &Grouped<usize>) -> Result<(), NoMemory>
         requires within { (p i : ℕ) → IsListed parents.now p i → p < length parents.now }
         requires climb { IsClimb parents.now self.old }
         ensures climb { OnOk result (IsClimb parents.now self.new) }
@@ -123,7 +125,7 @@ impl Climb {
 // All items, each once, and each behind its parents where there is no loop. Each parent of each item
 // is looked at at most twice, once when it is new and once when the item passes it: this is linear
 // in items and lines.
-pub fn order_of(alloc: Global, parents: &[Vec<usize>]) -> Result<Order, NoMemory>
+pub fn order_of(alloc: Global, parents: &Grouped<usize>) -> Result<Order, NoMemory>
     requires { (p i : ℕ) → IsListed parents.now p i → p < length parents.now }
     ensures size { IfOk result (λ order. length order.items.items ≡ length parents.now) }
     ensures all { IfOk result (λ order. HoldsEachOnce (length parents.now) order.items.items) }
@@ -131,7 +133,7 @@ pub fn order_of(alloc: Global, parents: &[Vec<usize>]) -> Result<Order, NoMemory
     ensures loops { IfOk result (λ order. order.closed ≡ true → (i : ℕ) × Leads (IsListed parents.now) i i) }
 {
     let mut climb = Climb::start(alloc, parents)?;
-    for item in 0..parents.len() {
+    for item in 0..parents.count() {
         if climb.is_new(item) {
             climb.visit(item)?;
             climb.finish(parents)?;

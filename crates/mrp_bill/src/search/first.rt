@@ -2,9 +2,10 @@
 
 ghost use Rattle.std.specs.Prelude.{◌≡◌, ◌≢◌, ◌<◌, ◌≤◌, ℕ, All, true, false, length, slice_index, IfOk, MatchOption};
 ghost use Rattle.mrp_bill.specs.Links.{IsFirstRound, IsRound, Leads};
-ghost use Rattle.mrp_bill.specs.Lists.{IsListed};
+ghost use Rattle.mrp_bill.specs.Grouped.{IsListed};
 
 use super::steps::path_to_itself;
+use crate::groups::Grouped;
 use crate::ranks::ranks_of;
 use mrp_qty::NoMemory;
 use std::alloc::Global;
@@ -36,13 +37,13 @@ fn has_lesser_rank(parents: &[usize], ranks: &[usize], rank: usize) -> bool
 }
 
 // Whether no rank rises from a parent to its component.
-fn never_rise(parents: &[Vec<usize>], ranks: &[usize]) -> bool
+fn never_rise(parents: &Grouped<usize>, ranks: &[usize]) -> bool
     requires within { (p i : ℕ) → IsListed parents.now p i → p < length parents.now }
     requires size { length ranks.now ≡ length parents.now }
     ensures { result ≡ true → (p i : ℕ) → IsListed parents.now p i → slice_index ranks.now i ≤ slice_index ranks.now p }
 {
-    for (item, above) in parents.iter().enumerate() {
-        if has_lesser_rank(above, ranks, ranks[item]) {
+    for item in 0..parents.count() {
+        if has_lesser_rank(parents.group(item), ranks, ranks[item]) {
             return false;
         }
     }
@@ -53,7 +54,7 @@ fn never_rise(parents: &[Vec<usize>], ranks: &[usize]) -> bool
 // its component, an item all of whose parents have another rank, so a greater one, takes no search.
 fn path_by_ranks(
     alloc: Global,
-    parents: &[Vec<usize>],
+    parents: &Grouped<usize>,
     ranks: &[usize],
     never_rise: bool,
     item: usize,
@@ -64,7 +65,7 @@ fn path_by_ranks(
     requires item { item < length parents.now }
     ensures { IfOk result (λ found. MatchOption found (Leads (IsListed parents.now) item item → ⊥) (λ path. IsRound (IsListed parents.now) item path.items)) }
 {
-    if never_rise && !has_rank(&parents[item], ranks, ranks[item]) {
+    if never_rise && !has_rank(parents.group(item), ranks, ranks[item]) {
         return Ok(None);
     }
     path_to_itself(alloc, parents, item)
@@ -79,8 +80,8 @@ fn path_by_ranks(
 // searched, and a search that finds nothing goes on to the next item.
 pub fn first_loop(
     alloc: Global,
-    parents: &[Vec<usize>],
-    children: &[Vec<usize>],
+    parents: &Grouped<usize>,
+    children: &Grouped<usize>,
     order: &[usize],
 ) -> Result<Vec<usize>, NoMemory>
     requires parents { (p i : ℕ) → IsListed parents.now p i → p < length parents.now }
@@ -92,7 +93,7 @@ pub fn first_loop(
 {
     let ranks = ranks_of(alloc, children, order)?;
     let never_rise = never_rise(parents, &ranks);
-    for item in 0..parents.len() {
+    for item in 0..parents.count() {
         match path_by_ranks(alloc, parents, &ranks, never_rise, item)? {
             Some(path) => return Ok(path),
             None => {}

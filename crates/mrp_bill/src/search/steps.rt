@@ -2,21 +2,22 @@
 
 ghost use Rattle.std.specs.Prelude.{◌≡◌, ◌<◌, ℕ, List, ◌∷◌, [], length, map, OnOk, IfOk, Ok, None, Some, MatchOption};
 ghost use Rattle.mrp_bill.specs.Links.{IsRound, IsTrail, Leads};
-ghost use Rattle.mrp_bill.specs.Lists.{IsListed};
+ghost use Rattle.mrp_bill.specs.Grouped.{IsListed};
 ghost use Rattle.mrp_bill.specs.Search.{Extends, IsBelow, IsSearch, IsSeen, Meets, item_at, met_at};
 
 use super::{Met, Search};
+use crate::groups::Grouped;
 use mrp_qty::NoMemory;
 use std::alloc::Global;
 
 impl Search {
     // A search from an item.
-    fn start(alloc: Global, parents: &[Vec<usize>], item: usize) -> Result<Search, NoMemory>
+    fn start(alloc: Global, parents: &Grouped<usize>, item: usize) -> Result<Search, NoMemory>
         requires { item < length parents.now }
         ensures search { IfOk result (IsSearch parents.now) }
         ensures first { IfOk result (λ search. item_at search.met.items 0 ≡ item) }
     {
-        let seen = vec![in alloc; false; parents.len()]?;
+        let seen = vec![in alloc; false; parents.count()]?;
         let mut search = Search {
             met: Vec::new(alloc),
             seen,
@@ -45,7 +46,7 @@ impl Search {
     }
 
     // Meets the parents, where they weren't met, of the item at a place.
-    fn meet_parents(&mut self, parents: &[Vec<usize>], place: usize) -> Result<(), NoMemory>
+    fn meet_parents(&mut self, parents: &Grouped<usize>, place: usize) -> Result<(), NoMemory>
         requires within { (p i : ℕ) → IsListed parents.now p i → p < length parents.now }
         requires search { IsSearch parents.now self.old }
         requires place { place < length self.old.met.items }
@@ -54,7 +55,7 @@ impl Search {
         ensures seen { OnOk result ((p : ℕ) → IsListed parents.now p (item_at self.old.met.items place) → IsSeen self.new.seen.items p) }
     {
         let item = self.item(place);
-        for parent in parents[item].iter() {
+        for parent in parents.group(item) {
             if !self.seen[*parent] {
                 self.meet(*parent, place)?;
             }
@@ -82,7 +83,7 @@ impl Search {
 // A path from an item down to itself, if there is one.
 pub fn path_to_itself(
     alloc: Global,
-    parents: &[Vec<usize>],
+    parents: &Grouped<usize>,
     item: usize,
 ) -> Result<Option<Vec<usize>>, NoMemory>
     requires within { (p i : ℕ) → IsListed parents.now p i → p < length parents.now }
@@ -92,7 +93,7 @@ pub fn path_to_itself(
     let mut search = Search::start(alloc, parents, item)?;
     let mut next = 0;
     while next < search.met.len() {
-        let above = &parents[search.item(next)];
+        let above = parents.group(search.item(next));
         if above.contains(&item) {
             return Ok(Some(search.path_down(alloc, next)?));
         }

@@ -1,6 +1,6 @@
 use Rattle.std.proofs.Common.{◌≡◌, ◌<◌, ◌≤◌, ℕ, length, slice_index}
 use Rattle.mrp_bill.specs.Links.{IsCoded}
-use Rattle.mrp_bill.specs.Lists.{IsListed}
+use Rattle.mrp_bill.specs.Grouped.{IsListed}
 use Rattle.mrp_bill.proofs.codes.codes_of.Given as goal
 
 abbrev pub invariant-loop-item : goal.invariant-loop-item

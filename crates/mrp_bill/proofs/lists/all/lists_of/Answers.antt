@@ -1,35 +1,59 @@
-use Rattle.std.proofs.Common.{◌≡◌, ◌<◌, ℕ, List, length, ap, ◌∙◌, arith, Vec}
-use Rattle.std.specs.declared.alloc.Global.{Global}
-use Rattle.mrp_bill.specs.Bill.{children_of}
-use Rattle.mrp_bill.specs.Lists.{listed, turn_of}
-use Rattle.mrp_bill.proofs.BillListed.{turned-children, turned-parents, raw-within, listed-child}
+use Rattle.std.proofs.Common.{◌≡◌, ◌<◌, ◌∙◌, ℕ, List, length, filter, ap, sym, subst, arith}
+use Rattle.std.specs.List.{range_with_len}
+use Rattle.std.specs.Prelude.{All}
+use Rattle.mrp_bill.specs.declared.groups.Numbered.{Numbered}
+use Rattle.mrp_bill.specs.Bill.{children_of, is_parent}
+use Rattle.mrp_bill.specs.Grouped.{listed, values_of}
+use Rattle.mrp_bill.proofs.BillRows.{lines-grouped, lines-numbered, parents-grouped, parents-numbered}
 use Rattle.mrp_bill.proofs.lists.all.lists_of.Goals as goal
 
-pub turned-requires : goal.turned-requires
-turned-requires c = rw c.deref.ensures.value (λ name i link.
-    omega (arith, raw-within c.args.lines.now c.args.count c.in_ok-parents_by_line.field-0.items c.requires c.in_ok-parents_by_line.ensures.size c.in_ok-parents_by_line.ensures.lists name i link, c.in_ok-parents_by_line.ensures.size))
+pub of-requires : goal.of-requires
+of-requires c =
+    let is = c.deref.ensures.value ∙ c.in_ok-numbered_lines.ensures in
+    subst (λ (rows : List (Numbered ℕ)). All (λ r. r.number < c.args.count) rows) (sym is) (lines-numbered c.args.bill.now c.args.count c.requires)
 
-pub turned-requires-2 : goal.turned-requires-2
-turned-requires-2 c =
-    let size : length c.in_ok-children.children.items ≡ c.args.count = c.in_ok-children.ensures.size ∙ ap (length {A = Vec ℕ Global}) c.deref.ensures.value ∙ c.in_ok-parents_by_line.ensures.size in
-    let children : (i : ℕ) → i < c.args.count → listed c.in_ok-children.children.items i ≡ children_of c.args.lines.now c.args.count i = λ i h.
-    c.in_ok-children.ensures.lists i (omega (arith, ap (length {A = Vec ℕ Global}) c.deref.ensures.value, c.in_ok-parents_by_line.ensures.size)) ∙ ap (λ (xs : List (Vec ℕ Global)). turn_of xs i) c.deref.ensures.value
-    ∙ turned-children c.args.lines.now c.args.count c.in_ok-parents_by_line.field-0.items c.in_ok-parents_by_line.ensures.size c.in_ok-parents_by_line.ensures.lists i in
-    rw c.deref-2.ensures.value (λ name i link. omega (arith, listed-child c.args.lines.now c.args.count c.in_ok-children.children.items size children name i link, size))
+pub numbered_children-requires-clause-places : goal.numbered_children-requires-clause-places
+numbered_children-requires-clause-places c = λ i h.
+    let is = c.deref.ensures.value ∙ c.in_ok-numbered_lines.ensures in
+    c.in_ok-lines.ensures.groups i (omega (arith, h, c.in_ok-lines.ensures.size))
+    ∙ ap (λ (rows : List (Numbered ℕ)). values_of rows i) is
+    ∙ lines-grouped c.args.bill.now i
+
+pub of-requires-3 : goal.of-requires-3
+of-requires-3 c =
+    let bill = c.args.bill.now in
+    let count = c.args.count in
+    let children = c.in_ok-children.children in
+    let is = c.deref-3.ensures.value ∙ c.in_ok-numbered_parents.ensures in
+    let are : (p : ℕ) → p < count → listed children p ≡ children_of bill count p = λ p h.
+    c.in_ok-children.ensures.groups p h
+    ∙ ap (λ (rows : List (Numbered ℕ)). values_of rows p) c.deref-2.ensures.value
+    ∙ c.in_ok-numbered_children.ensures.rows p
+    ∙ ap (λ (n : ℕ). children_of bill n p) c.in_ok-lines.ensures.size in
+    subst (λ (rows : List (Numbered ℕ)). All (λ r. r.number < count) rows) (sym is)
+    (parents-numbered bill count (listed children) are (length children) (omega (arith, c.in_ok-children.ensures.size)))
 
 pub returns : goal.returns
 returns c =
-    let size : length c.in_ok-children.children.items ≡ c.args.count = c.in_ok-children.ensures.size ∙ ap (length {A = Vec ℕ Global}) c.deref.ensures.value ∙ c.in_ok-parents_by_line.ensures.size in
-    let children : (i : ℕ) → i < c.args.count → listed c.in_ok-children.children.items i ≡ children_of c.args.lines.now c.args.count i = λ i h.
-    c.in_ok-children.ensures.lists i (omega (arith, ap (length {A = Vec ℕ Global}) c.deref.ensures.value, c.in_ok-parents_by_line.ensures.size)) ∙ ap (λ (xs : List (Vec ℕ Global)). turn_of xs i) c.deref.ensures.value
-    ∙ turned-children c.args.lines.now c.args.count c.in_ok-parents_by_line.field-0.items c.in_ok-parents_by_line.ensures.size c.in_ok-parents_by_line.ensures.lists i in
+    let bill = c.args.bill.now in
+    let count = c.args.count in
+    let children = c.in_ok-children.children in
+    let lines_are = c.deref.ensures.value ∙ c.in_ok-numbered_lines.ensures in
+    let parents_are = c.deref-3.ensures.value ∙ c.in_ok-numbered_parents.ensures in
+    let are : (p : ℕ) → p < count → listed children p ≡ children_of bill count p = λ p h.
+    c.in_ok-children.ensures.groups p h
+    ∙ ap (λ (rows : List (Numbered ℕ)). values_of rows p) c.deref-2.ensures.value
+    ∙ c.in_ok-numbered_children.ensures.rows p
+    ∙ ap (λ (n : ℕ). children_of bill n p) c.in_ok-lines.ensures.size in
     record {
-      lines_size = c.in_ok-lines_by_component.ensures.size;
-      parents_size = c.in_ok-parents.ensures.size ∙ ap (length {A = Vec ℕ Global}) c.deref-2.ensures.value ∙ size;
-      children_size = size;
-      lines = c.in_ok-lines_by_component.ensures.lists;
+      lines_size = c.in_ok-lines.ensures.size;
+      parents_size = c.in_ok-parents.ensures.size;
+      children_size = c.in_ok-children.ensures.size;
+      lines = λ i h. c.in_ok-lines.ensures.groups i h ∙ ap (λ (rows : List (Numbered ℕ)). values_of rows i) lines_are ∙ lines-grouped bill i;
       parents = λ i h.
-          c.in_ok-parents.ensures.lists i (omega (arith, ap (length {A = Vec ℕ Global}) c.deref-2.ensures.value, size)) ∙ ap (λ (xs : List (Vec ℕ Global)). turn_of xs i) c.deref-2.ensures.value
-          ∙ turned-parents c.args.lines.now c.args.count c.in_ok-children.children.items size children i h;
-      children = children;
+          c.in_ok-parents.ensures.groups i h
+          ∙ ap (λ (rows : List (Numbered ℕ)). values_of rows i) parents_are
+          ∙ parents-grouped bill count (listed children) are (length children) (omega (arith, c.in_ok-children.ensures.size)) i h
+          ∙ ap (λ (n : ℕ). filter (λ p. is_parent bill p i) (range_with_len 0 n)) c.in_ok-children.ensures.size;
+      children = are;
     }

@@ -1,8 +1,8 @@
 use Rattle.std.proofs.Common.{◌≡◌, ◌<◌, ℕ, false, length, get_or, refl, sym, ap, subst, ◌∙◌, arith}
 use Rattle.std.proofs.lemmas.List.{get_or_default}
-use Rattle.mrp_bill.specs.Lists.{listed, IsListed}
+use Rattle.mrp_bill.specs.Grouped.{listed, IsListed}
 use Rattle.mrp_bill.specs.Search.{IsSeen, item_at}
-use Rattle.mrp_bill.proofs.Listed.{listed-is, listed-contains}
+use Rattle.mrp_bill.proofs.Listed.{listed-contains}
 use Rattle.mrp_bill.proofs.Searches.{seen-is, search-meets, meets-extends, extends-on, seen-more, seen-here}
 use Rattle.mrp_bill.proofs.search.Search.meet_parents.Goals as goal
 use Rattle.mrp_bill.proofs.search.Search.meet_parents.Goals.{then-not-index+in_ok-meet, else-not-index}
@@ -10,23 +10,23 @@ use Rattle.mrp_bill.proofs.search.Search.meet_parents.Goals.{then-not-index+in_o
 pub index-requires : goal.index-requires
 index-requires c =
     let inside : c.item-item.result < length c.args.parents.now = omega (arith, c.item-item.ensures.within, c.requires.search.size) in
-    let same = listed-is c.args.parents.now c.item-item.result c.index-parents-item.result c.deref-parent-items.result.now inside c.index-parents-item.is c.deref-parent-items.ensures.value in
-    omega (arith, c.requires.within _ c.item-item.result (listed-contains c.args.parents.now c.item-item.result c.deref-parent-items.result.now c.loop-parent.parent-index 0 same c.loop-parent-test.true), c.loop-parent.invariant.search.size)
+    let same = c.group-parent-items.ensures in
+    omega (arith, c.requires.within _ c.item-item.result (listed-contains c.args.parents.now c.item-item.result c.group-parent-items.result.now c.loop-parent.parent-index 0 same c.loop-parent-test.true), c.loop-parent.invariant.search.size)
 
 pub meet-requires : goal.meet-requires
 meet-requires c =
     let inside : c.item-item.result < length c.args.parents.now = omega (arith, c.item-item.ensures.within, c.requires.search.size) in
-    let same = listed-is c.args.parents.now c.item-item.result c.index-parents-item.result c.deref-parent-items.result.now inside c.index-parents-item.is c.deref-parent-items.ensures.value in
-    omega (arith, c.requires.within _ c.item-item.result (listed-contains c.args.parents.now c.item-item.result c.deref-parent-items.result.now c.loop-parent.parent-index 0 same c.loop-parent-test.true), c.loop-parent.invariant.search.size)
+    let same = c.group-parent-items.ensures in
+    omega (arith, c.requires.within _ c.item-item.result (listed-contains c.args.parents.now c.item-item.result c.group-parent-items.result.now c.loop-parent.parent-index 0 same c.loop-parent-test.true), c.loop-parent.invariant.search.size)
 
 pub loop-parent-preserved : goal.loop-parent-preserved
 loop-parent-preserved c =
-    let row = c.deref-parent-items.result.now in
+    let row = c.group-parent-items.result.now in
     let n = c.loop-parent.parent-index in
     let parent = get_or row n 0 in
     let cur = c.loop-parent.self in
     let inside : c.item-item.result < length c.args.parents.now = omega (arith, c.item-item.ensures.within, c.requires.search.size) in
-    let same = listed-is c.args.parents.now c.item-item.result c.index-parents-item.result row inside c.index-parents-item.is c.deref-parent-items.ensures.value in
+    let same = c.group-parent-items.ensures in
     let listed : IsListed c.args.parents.now parent c.item-item.result = listed-contains c.args.parents.now c.item-item.result row n 0 same c.loop-parent-test.true in
     let within : parent < length c.args.parents.now = c.requires.within parent c.item-item.result listed in
     let small : parent < length cur.seen.items = omega (arith, c.loop-parent.invariant.search.size) in
@@ -52,9 +52,9 @@ loop-parent-preserved c =
 
 pub returns-clause-seen : goal.returns-clause-seen
 returns-clause-seen c = λ p link.
-    let row = c.deref-parent-items.result.now in
+    let row = c.group-parent-items.result.now in
     let inside : c.item-item.result < length c.args.parents.now = omega (arith, c.item-item.ensures.within, c.requires.search.size) in
-    let same = listed-is c.args.parents.now c.item-item.result c.index-parents-item.result row inside c.index-parents-item.is c.deref-parent-items.ensures.value in
+    let same = c.group-parent-items.ensures in
     let (m, low, is) = subst (λ (x : ℕ). IsListed c.args.parents.now p x) (sym c.item-item.ensures.item) link in
     let here : get_or row m 0 ≡ p = ap (λ xs. get_or xs m 0) same ∙ get_or_default (listed c.args.parents.now c.item-item.result) m 0 p low ∙ is in
     subst (λ (x : ℕ). IsSeen c.loop-parent.self.seen.items x) here (c.loop-parent.invariant.seen m (omega (arith, ap (length {A = ℕ}) same)))

@@ -1,6 +1,6 @@
 use Rattle.std.proofs.Common.{arith}
 use Rattle.mrp_bill.specs.Links.{Leads, IsRound}
-use Rattle.mrp_bill.specs.Lists.{IsListed}
+use Rattle.mrp_bill.specs.Grouped.{IsListed}
 use Rattle.mrp_bill.proofs.Coded.{listed-inside}
 use Rattle.mrp_bill.proofs.Linked.{round-leads, below_one_more}
 use Rattle.mrp_bill.proofs.search.first.first_loop.Goals as goal

@@ -1,6 +1,6 @@
 use Rattle.std.proofs.Common.{◌<◌, ℕ}
 use Rattle.mrp_bill.specs.Links.{Leads}
-use Rattle.mrp_bill.specs.Lists.{IsListed}
+use Rattle.mrp_bill.specs.Grouped.{IsListed}
 use Rattle.mrp_bill.proofs.search.first.first_loop.Given as goal
 
 abbrev pub invariant-loop-item : goal.invariant-loop-item

@@ -1,5 +1,5 @@
 use Rattle.std.proofs.Common.{◌<◌, ◌≤◌, ℕ, slice_index}
-use Rattle.mrp_bill.specs.Lists.{IsListed}
+use Rattle.mrp_bill.specs.Grouped.{IsListed}
 use Rattle.mrp_bill.proofs.search.first.never_rise.Given as goal
 
 abbrev pub invariant-loop-item : goal.invariant-loop-item

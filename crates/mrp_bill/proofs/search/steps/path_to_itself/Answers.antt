@@ -1,17 +1,15 @@
-use Rattle.std.proofs.Common.{◌≡◌, ◌<◌, ℕ, List, length, sym, ap, subst, ◌∙◌, arith}
+use Rattle.std.proofs.Common.{◌≡◌, ℕ, List, sym, ap, subst, ◌∙◌, arith}
 use Rattle.std.specs.List.{Contains}
-use Rattle.mrp_bill.specs.Lists.{listed, IsListed}
+use Rattle.mrp_bill.specs.Grouped.{listed, IsListed}
 use Rattle.mrp_bill.specs.Search.{item_at}
-use Rattle.mrp_bill.proofs.Listed.{listed-is}
 use Rattle.mrp_bill.proofs.BillListed.{contains-from_any}
 use Rattle.mrp_bill.proofs.Searches.{search-round, never-round, above-more, extends-seen, others-of}
 use Rattle.mrp_bill.proofs.search.steps.path_to_itself.Goals as goal
 
 pub returns-then-contains : goal.returns-then-contains
 returns-then-contains c =
-    let row = c.deref.result.now in
-    let inside : c.item.result < length c.args.parents.now = omega (arith, c.item.ensures.within, c.loop-next.invariant.search.size) in
-    let same : row ≡ listed c.args.parents.now c.item.result = listed-is c.args.parents.now c.item.result c.index-parents-item.result row inside c.index-parents-item.is c.deref.ensures.value in
+    let row = c.group-above.result.now in
+    let same : row ≡ listed c.args.parents.now c.item.result = c.group-above.ensures in
     let found : Contains row c.args.item = contains-from_any c.args.item row (sym c.if-contains.ensures.value) in
     let link : IsListed c.args.parents.now c.args.item (item_at c.loop-next.search.met.items c.loop-next.next) = subst (λ (x : ℕ). IsListed c.args.parents.now c.args.item x) c.item.ensures.item (subst (λ (xs : List ℕ). Contains xs c.args.item) same found) in
     let (places, trail, is) = c.in_ok-path_down.ensures in
@@ -19,11 +17,10 @@ returns-then-contains c =
 
 pub loop-next-preserved : goal.loop-next-preserved
 loop-next-preserved c =
-    let row = c.deref.result.now in
+    let row = c.group-above.result.now in
     let cur = c.loop-next.search in
     let next = c.loop-next.next in
-    let inside : c.item.result < length c.args.parents.now = omega (arith, c.item.ensures.within, c.loop-next.invariant.search.size) in
-    let same : row ≡ listed c.args.parents.now c.item.result = listed-is c.args.parents.now c.item.result c.index-parents-item.result row inside c.index-parents-item.is c.deref.ensures.value in
+    let same : row ≡ listed c.args.parents.now c.item.result = c.group-above.ensures in
     let extends = c.in_ok-meet_parents.ensures.extends in
     record {
       search = c.in_ok-meet_parents.ensures.search;

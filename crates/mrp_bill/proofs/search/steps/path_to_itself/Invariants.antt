@@ -1,5 +1,5 @@
 use Rattle.std.proofs.Common.{◌≡◌, ◌≢◌, ◌+◌, ◌-◌, ◌<◌, ◌≤◌, ℕ, length}
-use Rattle.mrp_bill.specs.Lists.{IsListed}
+use Rattle.mrp_bill.specs.Grouped.{IsListed}
 use Rattle.mrp_bill.specs.Ranking.{unseen}
 use Rattle.mrp_bill.specs.Search.{IsSearch, IsSeen, item_at}
 use Rattle.mrp_bill.proofs.search.steps.path_to_itself.Given as goal

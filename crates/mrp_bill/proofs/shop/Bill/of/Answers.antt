@@ -1,7 +1,4 @@
-use Rattle.std.proofs.Common.{◌≡◌, ℕ, List, length, slice_index, sym, ap, subst, ◌∙◌, Vec}
-use Rattle.mrp_bill.specs.Links.{Leads}
-use Rattle.mrp_bill.specs.Lists.{IsListed}
-use Rattle.std.specs.declared.alloc.Global.{Global}
+use Rattle.std.proofs.Common.{◌≡◌, ℕ, length, slice_index, subst, ◌∙◌}
 use Rattle.mrp_bill.specs.Bill.{AreWithin, HoldsEachOnce}
 use Rattle.mrp_bill.specs.BillLists.{AreLists}
 use Rattle.mrp_bill.specs.Shop.{IsShop}
@@ -9,35 +6,35 @@ use Rattle.mrp_bill.proofs.Accepted.{are-within, parents-within, children-within
 use Rattle.mrp_bill.proofs.shop.Bill.of.Goals as goal
 
 pub order_of-requires : goal.order_of-requires
-order_of-requires c = rw c.deref.ensures.value (parents-within _ _ c.in_ok-lists.lists c.in_ok-lists.ensures)
+order_of-requires c = parents-within _ _ c.in_ok-lists.lists c.in_ok-lists.ensures
 
 pub first_loop-path-requires-clause-parents : goal.first_loop-path-requires-clause-parents
-first_loop-path-requires-clause-parents c = rw c.deref-then-order.ensures.value (parents-within _ _ c.in_ok-lists.lists c.in_ok-lists.ensures)
+first_loop-path-requires-clause-parents c = parents-within _ _ c.in_ok-lists.lists c.in_ok-lists.ensures
 
 pub first_loop-path-requires-clause-children : goal.first_loop-path-requires-clause-children
-first_loop-path-requires-clause-children c = rw c.deref-then-order-2.ensures.value (children-within _ _ c.in_ok-lists.lists c.in_ok-lists.ensures)
+first_loop-path-requires-clause-children c = children-within _ _ c.in_ok-lists.lists c.in_ok-lists.ensures
 
 pub returns-then-order-clause-refused : goal.returns-then-order-clause-refused
 returns-then-order-clause-refused c =
     let lists : AreLists c.args.tables.bills (length c.args.tables.items) c.in_ok-lists.lists = rw (c.bills.ensures.rows, c.items.ensures.rows) at c.in_ok-lists.ensures in
     let within : AreWithin (length c.args.tables.items) c.args.tables.bills = are-within c.args.tables.items c.args.tables.bills (rw c.bills.ensures.rows at c.bills.ensures.within) in
-    rw c.loop_fault.ensures (loop-refusal c.args.tables.bills (length c.args.tables.items) c.in_ok-lists.lists c.first_loop-path.result within lists (rw c.deref-then-order.ensures.value at c.first_loop-path.ensures))
+    rw c.loop_fault.ensures (loop-refusal c.args.tables.bills (length c.args.tables.items) c.in_ok-lists.lists c.first_loop-path.result within lists c.first_loop-path.ensures)
 
 pub codes_of-requires-clause-within : goal.codes_of-requires-clause-within
-codes_of-requires-clause-within c = rw c.deref-2.ensures.value (parents-within _ _ c.in_ok-lists.lists c.in_ok-lists.ensures)
+codes_of-requires-clause-within c = parents-within _ _ c.in_ok-lists.lists c.in_ok-lists.ensures
 
 pub codes_of-requires-clause-settled : goal.codes_of-requires-clause-settled
-codes_of-requires-clause-settled c = rw (c.deref-2.ensures.value, c.deref-3.ensures.value, ← c.deref.ensures.value) (c.in_ok-order.ensures.settled c.if-order.false)
+codes_of-requires-clause-settled c = rw c.deref-2.ensures.value (c.in_ok-order.ensures.settled c.if-order.false)
 
 -- the shop's codes
 accepted : (c : goal.In_ok-codes) → IsShop (record { tables = c.args.tables; codes = c.in_ok-codes.codes.items })
 accepted c =
     let lists : AreLists c.args.tables.bills (length c.args.tables.items) c.in_ok-lists.lists = rw (c.bills.ensures.rows, c.items.ensures.rows) at c.in_ok-lists.ensures in
     let within : AreWithin (length c.args.tables.items) c.args.tables.bills = are-within c.args.tables.items c.args.tables.bills (rw c.bills.ensures.rows at c.bills.ensures.within) in
-    let same : length c.deref-2.result.now ≡ length c.args.tables.items = ap (length {A = Vec ℕ Global}) c.deref-2.ensures.value ∙ lists.parents_size in
+    let same : length c.in_ok-lists.lists.parents ≡ length c.args.tables.items = lists.parents_size in
     record {
       size = c.in_ok-codes.ensures.size ∙ same;
-      codes = are-codes c.args.tables.bills (length c.args.tables.items) c.in_ok-lists.lists (slice_index c.in_ok-codes.codes.items) within lists (rw c.deref-2.ensures.value at c.in_ok-codes.ensures.codes);
+      codes = are-codes c.args.tables.bills (length c.args.tables.items) c.in_ok-lists.lists (slice_index c.in_ok-codes.codes.items) within lists c.in_ok-codes.ensures.codes;
       low = rw (← same) c.in_ok-codes.ensures.low;
     }
 
@@ -45,9 +42,9 @@ pub invariant_of-result : goal.invariant_of-result
 invariant_of-result c =
     let lists : AreLists c.args.tables.bills (length c.args.tables.items) c.in_ok-lists.lists = rw (c.bills.ensures.rows, c.items.ensures.rows) at c.in_ok-lists.ensures in
     let within : AreWithin (length c.args.tables.items) c.args.tables.bills = are-within c.args.tables.items c.args.tables.bills (rw c.bills.ensures.rows at c.bills.ensures.within) in
-    let same : length c.deref.result.now ≡ length c.args.tables.items = ap (length {A = Vec ℕ Global}) c.deref.ensures.value ∙ lists.parents_size in
+    let same : length c.in_ok-lists.lists.parents ≡ length c.args.tables.items = lists.parents_size in
     let all : HoldsEachOnce (length c.args.tables.items) c.in_ok-order.order.items.items = subst (λ (n : ℕ). HoldsEachOnce n c.in_ok-order.order.items.items) same c.in_ok-order.ensures.all in
-    (accepted c, is-order c.args.tables.bills (length c.args.tables.items) c.in_ok-lists.lists c.in_ok-order.order.items.items within lists all (rw c.deref.ensures.value at (c.in_ok-order.ensures.settled c.if-order.false)), lists)
+    (accepted c, is-order c.args.tables.bills (length c.args.tables.items) c.in_ok-lists.lists c.in_ok-order.order.items.items within lists all (c.in_ok-order.ensures.settled c.if-order.false), lists)
 
 pub returns-clause-accepted : goal.returns-clause-accepted
 returns-clause-accepted c = accepted c
@@ -56,7 +53,4 @@ pub returns-clause-no_loop : goal.returns-clause-no_loop
 returns-clause-no_loop c = no-loop c.args.tables.bills (slice_index c.in_ok-codes.codes.items) (accepted c).codes
 
 pub first_loop-path-requires-clause-some : goal.first_loop-path-requires-clause-some
-first_loop-path-requires-clause-some c =
-    let same = c.deref.ensures.value ∙ sym c.deref-then-order.ensures.value in
-    let Loops : List (Vec ℕ Global) → Type 0 = λ parents. (i : ℕ) × Leads (IsListed parents) i i in
-    subst Loops same (c.in_ok-order.ensures.loops c.if-order.true)
+first_loop-path-requires-clause-some c = c.in_ok-order.ensures.loops c.if-order.true
