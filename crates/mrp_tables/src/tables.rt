@@ -93,8 +93,8 @@ impl Tables {
     /// that of the earlier table is told all the same.
     ///
     /// Errors: as `read`.
-    pub fn read_beside<R: Threads>(
-        rt: &R,
+    pub fn read_beside(
+        rt: &impl Threads,
         alloc: Global,
         sections: &Sections<'_>,
     ) -> Result<Tables, Fault>
