@@ -189,12 +189,12 @@ checked_at : (before : List Item) (r : Cells) (item : Item) (repeated : Bool) �
 checked_at before r item true e = rw e (own r faults.REPEATED)
 checked_at before r item false e = rw e (last r faults.MASTER_SAFETY (is_master item.class && nat_lt 0 item.safety) item)
 
-item_at_record : (before : List Item) (r : Cells) → IfErr (item_row before r) (IsAt r)
+item_at_record : (most_lead : ℕ) (before : List Item) (r : Cells) → IfErr (item_row most_lead before r) (IsAt r)
 unfolding item_cells
-item_at_record before r = step r (item_cells r) (item_checked before r)
+item_at_record most_lead before r = step r (item_cells most_lead r) (item_checked before r)
     (cell r (name_of (cell_at r 0)) _ (λ name.
     cell r (word_of class_words (cell_at r 1)) _ (λ class.
-    cell r (number_cell 0 limits.MOST_LEAD (cell_at r 2)) _ (λ lead.
+    cell r (number_cell 0 most_lead (cell_at r 2)) _ (λ lead.
     cell r (number_cell 0 limits.MOST_SCRAP (cell_at r 3)) _ (λ scrap.
     cell r (word_of lot_words (cell_at r 4)) _ (λ lot.
     cell r (number_cell (least_size lot) (greatest_size lot) (cell_at r 5)) _ (λ size.
@@ -257,7 +257,7 @@ script_at calendar items r =
 pub at_their_records : FaultsAtTheirRecords
 at_their_records = record {
   calendar = reads entry_row entry_at;
-  items = reads item_row item_at_record;
+  items = λ most_lead. reads (item_row most_lead) (item_at_record most_lead);
   centres = reads centre_row centre_at;
   stock = λ items. reads (stock_row items) (stock_at items);
   receipts = λ calendar items. reads (receipt_row calendar items) (receipt_at calendar items);

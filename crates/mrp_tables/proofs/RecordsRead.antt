@@ -1,5 +1,5 @@
 -- What a record's row keeps that was read.
-use Rattle.std.proofs.Common.{◌≡◌, ℕ, Bool, true, false, List, Result, Ok, refl, subst, arith}
+use Rattle.std.proofs.Common.{◌≡◌, ◌≤◌, ℕ, Bool, true, false, List, Result, Ok, refl, subst, arith}
 use Rattle.std.specs.Prelude.{if◌then◌else◌, nat_lt, not, ◌==◌}
 use Rattle.std.specs.Int.{IsInRange}
 use Rattle.std.specs.List.{list_any}
@@ -342,12 +342,12 @@ sized place size within = by (place == 0) refl (place == 1) refl
           period = λ weeks e. let same : size ≡ weeks = cc in subst (IsInRange 1 limits.MOST_PERIOD) same own;
         }
 
-pub is_item : (r : Cells) (item : Item) → item_cells r ≡ Ok item → IsItemUnlessStocked item
+pub is_item : (most_lead : ℕ) (r : Cells) (item : Item) → most_lead ≤ limits.MOST_LEAD → item_cells most_lead r ≡ Ok item → IsItemUnlessStocked item
 unfolding item_cells
-is_item r item e =
+is_item most_lead r item few e =
     let name = whole_step (blame r (name_of (cell_at r 0))) _ item e in
     let class = whole_step (blame r (word_of class_words (cell_at r 1))) _ item name.2 in
-    let lead = whole_step (blame r (number_cell 0 limits.MOST_LEAD (cell_at r 2))) _ item class.2 in
+    let lead = whole_step (blame r (number_cell 0 most_lead (cell_at r 2))) _ item class.2 in
     let scrap = whole_step (blame r (number_cell 0 limits.MOST_SCRAP (cell_at r 3))) _ item lead.2 in
     let lot = whole_step (blame r (word_of lot_words (cell_at r 4))) _ item scrap.2 in
     let size = whole_step (blame r (number_cell (least_size lot.0) (greatest_size lot.0) (cell_at r 5))) _ item lot.2 in
@@ -356,7 +356,7 @@ is_item r item e =
     let rule = sized lot.0 size.0 (in_range (least_size lot.0) (greatest_size lot.0) r (cell_at r 5) size.0 size.1) in
     subst IsItemUnlessStocked (same_value made item (Ok made) refl safety.2) (λ unstocked. record {
       name = named r (cell_at r 0) name.0 name.1;
-      lead = (in_range 0 limits.MOST_LEAD r (cell_at r 2) lead.0 lead.1).1;
+      lead = omega (arith, few, (in_range 0 most_lead r (cell_at r 2) lead.0 lead.1).1);
       scrap = (in_range 0 limits.MOST_SCRAP r (cell_at r 3) scrap.0 scrap.1).1;
       fixed = rule.fixed;
       period = rule.period;

@@ -78,18 +78,18 @@ record AreItems (items : List Item) : Type 0 where
   within : All IsItem items
   names : AllDiffer (names_of items)
 
-one_item : (before : List Item) (r : Cells) (item : Item) → AreItems before → item_row before r ≡ Ok item → AreItems (before ++ item ∷ [])
+one_item : (before : List Item) (r : Cells) (item : Item) → AreItems before → item_row limits.MOST_LEAD before r ≡ Ok item → AreItems (before ++ item ∷ [])
 one_item before r item are e =
-    let read = whole_step (item_cells r) _ item e in
+    let read = whole_step (item_cells limits.MOST_LEAD r) _ item e in
     let new = past_check (list_any (pointwise nat_eq read.0.name) (names_of before)) (fault_at r faults.REPEATED) _ item read.2 in
     let last = unless (is_master read.0.class && nat_lt 0 read.0.safety) (fault_at r faults.MASTER_SAFETY) read.0 item new.1 in
     subst (λ (x : Item). AreItems (before ++ x ∷ [])) last.1 (record {
-      within = more_items before read.0 are.within (is_item r read.0 read.1) last.0;
+      within = more_items before read.0 are.within (is_item limits.MOST_LEAD r read.0 (omega arith) read.1) last.0;
       names = grown_field nat_list_eq_equiv (λ (i : Item). i.name) before (before ++ read.0 ∷ []) read.0 refl are.names new.0;
     })
 
-are_items : (text : List ℕ) (items : List Item) → rows_of item_row (layout_of t.Items) text ≡ Ok items → AreItems items
-are_items text items e = kept_of AreItems item_row one_item (layout_of t.Items) text items (record { within = All-nil IsItem; names = none_differ }) e
+are_items : (text : List ℕ) (items : List Item) → rows_of (item_row limits.MOST_LEAD) (layout_of t.Items) text ≡ Ok items → AreItems items
+are_items text items e = kept_of AreItems (item_row limits.MOST_LEAD) one_item (layout_of t.Items) text items (record { within = All-nil IsItem; names = none_differ }) e
 
 -- the centres, with names that differ
 record AreCentres (centres : List Centre) : Type 0 where
@@ -241,7 +241,7 @@ are_tables texts tables e =
     record {
       items = item_facts.within;
       names = item_facts.names;
-      item_count = counted item_row (layout_of t.Items) (text_in texts t.Items) items limits.MOST_ITEMS refl own.items;
+      item_count = counted (item_row limits.MOST_LEAD) (layout_of t.Items) (text_in texts t.Items) items limits.MOST_ITEMS refl own.items;
       centres = centres.within;
       centres_differ = centres.differ;
       centre_count = counted centre_row (layout_of t.Centres) (text_in texts t.Centres) tables.centres limits.MOST_CENTRES refl own.centres;

@@ -11,6 +11,7 @@ use Rattle.mrp_tables.specs.declared.item.Item.{Item}
 use Rattle.mrp_tables.specs.declared.rows.Centre.{Centre}
 use Rattle.mrp_tables.specs.Bills.{bill_row}
 use Rattle.mrp_tables.specs.Centres.{centre_row}
+use Rattle.mrp_tables.specs.declared.limits.TheConstants as limits
 use Rattle.mrp_tables.specs.Items.{item_row}
 use Rattle.mrp_tables.specs.Laws.{AreWholeBefore, FaultsAtItsRecord, IsToldAtItsTable, reading_of, whole}
 use Rattle.mrp_tables.specs.Master.{master_row, that_count}
@@ -61,7 +62,7 @@ counted_own own count read at = follows own read (λ rows. Ok (count rows)) at (
 -- behind tables that are read whole, a table's fault is its own
 own_fault : (texts : List (List ℕ)) (own : Table) → AreWholeBefore texts own → IsOf own (table_in texts own)
 own_fault texts t.Calendar earlier = calendar_own (text_in texts t.Calendar)
-own_fault texts t.Items earlier = rows_own item_row at_their_records.items (layout_of t.Items) (text_in texts t.Items)
+own_fault texts t.Items earlier = rows_own (item_row limits.MOST_LEAD) (at_their_records.items limits.MOST_LEAD) (layout_of t.Items) (text_in texts t.Items)
 own_fault texts t.Centres earlier = rows_own centre_row at_their_records.centres (layout_of t.Centres) (text_in texts t.Centres)
 own_fault texts t.Stock earlier =
     let (calendar, is_calendar, items, is_items) = looked_at (calendar_in texts) (items_in texts) _ earlier in

@@ -36,12 +36,12 @@ least_size place = if place == 0 then 0 else 1
 abbrev pub greatest_size : ℕ → ℕ
 greatest_size place = if nat_lt place 2 then limits.MOST_PIECES else limits.MOST_PERIOD
 
--- a record's cells, from left to right
-unfoldable pub item_cells : Cells → Result Item Fault
-item_cells r = do
+-- a record's cells, from left to right, where lead times are so long at most
+unfoldable pub item_cells : ℕ → Cells → Result Item Fault
+item_cells most_lead r = do
   name ← blame r (name_of (cell_at r 0))
   class ← blame r (word_of class_words (cell_at r 1))
-  lead ← blame r (number_cell 0 limits.MOST_LEAD (cell_at r 2))
+  lead ← blame r (number_cell 0 most_lead (cell_at r 2))
   scrap ← blame r (number_cell 0 limits.MOST_SCRAP (cell_at r 3))
   lot ← blame r (word_of lot_words (cell_at r 4))
   size ← blame r (number_cell (least_size lot) (greatest_size lot) (cell_at r 5))
@@ -77,5 +77,5 @@ item_checked before r item =
     else if is_master item.class && nat_lt 0 item.safety then Err (fault_at r faults.MASTER_SAFETY)
     else Ok item
 
-abbrev pub item_row : List Item → Cells → Result Item Fault
-item_row before r = item_cells r >>= item_checked before r
+abbrev pub item_row : ℕ → List Item → Cells → Result Item Fault
+item_row most_lead before r = item_cells most_lead r >>= item_checked before r

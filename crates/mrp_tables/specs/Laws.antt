@@ -80,7 +80,7 @@ FaultsAtItsRecord {X} read = (own : Layout) (before : List X) (r : Cells) → If
 -- each table's faults stand at their records
 pub record FaultsAtTheirRecords : Type 0 where
   pub calendar : FaultsAtItsRecord entry_row
-  pub items : FaultsAtItsRecord item_row
+  pub items : (most_lead : ℕ) → FaultsAtItsRecord (item_row most_lead)
   pub centres : FaultsAtItsRecord centre_row
   pub stock : (items : List Item) → FaultsAtItsRecord (stock_row items)
   pub receipts : (calendar : ShopCalendar) (items : List Item) → FaultsAtItsRecord (receipt_row calendar items)

@@ -9,6 +9,7 @@ use Rattle.mrp_rows.specs.declared.fault.Table.{Table}
 use Rattle.mrp_rows.specs.declared.fault.Table.TheVariants as t
 use Rattle.mrp_rows.specs.Next.{header_fault}
 use Rattle.mrp_tables.specs.declared.calendar.Entry.{Entry}
+use Rattle.mrp_tables.specs.declared.limits.TheConstants as limits
 use Rattle.mrp_tables.specs.declared.item.Item.{Item}
 use Rattle.mrp_tables.specs.declared.rows.Centre.{Centre}
 use Rattle.mrp_tables.specs.Bills.{bill_row}
@@ -46,7 +47,7 @@ abbrev pub calendar_reader : Reader
 calendar_reader = record { Row = Entry; Whole = ShopCalendar; reads = Ok entry_row; made = λ read. read >>= calendar_from }
 
 abbrev pub items_reader : Reader
-items_reader = rows_by (Ok item_row)
+items_reader = rows_by (Ok (item_row limits.MOST_LEAD))
 
 abbrev pub centres_reader : Reader
 centres_reader = rows_by (Ok centre_row)

@@ -5,7 +5,7 @@ ghost use Rattle.std.specs.Int.{IsInRange};
 ghost use Rattle.mrp_tables.specs.Items.{class_at, greatest_size, least_size, lot_at};
 
 use crate::cells::quantity;
-use crate::limits::{LOT_WORDS, MOST_LEAD, MOST_PERIOD, MOST_PIECES, MOST_SCRAP};
+use crate::limits::{LOT_WORDS, MOST_PERIOD, MOST_PIECES, MOST_SCRAP};
 use mrp_qty::Qty;
 use mrp_rows::{Fault, Name, Row};
 
@@ -62,20 +62,22 @@ pub struct Item {
 }
 
 impl Item {
-    ghost use Rattle.std.specs.Prelude.{◌≡◌, length, IfOk};
+    ghost use Rattle.std.specs.Prelude.{◌≡◌, ◌≤◌, length, IfOk};
     ghost use Rattle.mrp_tables.specs.Facts.{IsItemUnlessStocked};
+    ghost use Rattle.mrp_tables.specs.declared.limits.TheConstants.{MOST_LEAD};
     ghost use Rattle.mrp_tables.specs.Items.{item_cells};
 
-    // The cells of a record, from left to right.
+    // The cells of a record, from left to right, where lead times are so long at most.
     #[tactic(auto, unfolding(crate::specs::Items::item_cells))]
-    pub(crate) fn of(row: &Row) -> Result<Item, Fault>
-        requires { length row.now.cells ≡ 7 }
-        ensures cells { result ≡ item_cells row.now }
+    pub(crate) fn of(row: &Row, most_lead: u64) -> Result<Item, Fault>
+        requires cells { length row.now.cells ≡ 7 }
+        requires lead { most_lead ≤ MOST_LEAD }
+        ensures cells { result ≡ item_cells most_lead row.now }
         ensures within { IfOk result IsItemUnlessStocked }
     {
         let name = row.name(0)?;
         let class = row.word(1, &["master", "part"])?;
-        let lead = row.number(2, 0, MOST_LEAD)?;
+        let lead = row.number(2, 0, most_lead)?;
         let scrap = row.number(3, 0, MOST_SCRAP)?;
         let lot = row.word(4, LOT_WORDS)?;
         let size = row.number(5, least_size(lot), greatest_size(lot))?;

@@ -4,6 +4,7 @@ ghost use Rattle.std.specs.Prelude.{◌≡◌, ◌&&◌, nat_lt};
 ghost use Rattle.mrp_tables.specs.Items.{is_master};
 
 use crate::item::{Class, Item};
+use crate::limits::MOST_LEAD;
 use crate::reading::{TableRows, read_table};
 use indexmap::IndexSet;
 use mrp_rows::faults::{MASTER_SAFETY, NO_MEMORY, REPEATED};
@@ -41,17 +42,18 @@ impl TableRows for Items {
     ghost use Rattle.mrp_tables.specs.Gathered.{nothing};
     ghost use Rattle.std.specs.Prelude.{◌≡◌};
     ghost use Rattle.mrp_tables.specs.Items.{item_row};
+    ghost use Rattle.mrp_tables.specs.declared.limits.TheConstants.{MOST_LEAD};
 
     ghost takes = { λ count. count ≡ 7 };
 
     ghost rows = { λ t. t };
 
-    ghost reads = { λ t. item_row };
+    ghost reads = { λ t. item_row MOST_LEAD };
 
     ghost beside = { λ t. nothing };
 
     fn add(&mut self, row: &Row) -> Result<(), Fault> {
-        let item = Item::of(row)?;
+        let item = Item::of(row, MOST_LEAD)?;
         if self.names.contains(&item.name) {
             return Err(row.fault(REPEATED));
         }
