@@ -26,6 +26,7 @@ fn a_group_has_its_values_in_the_order_in_which_they_came(rt: HostRuntime) {
         },
     ];
     let groups = Grouped::of(rt.alloc(), 3, &rows).expect(&rt, "memory");
+    same(&rt, groups.count(), 3);
     same(&rt, groups.group(0), b"bd".as_slice());
     same(&rt, groups.group(1), b"".as_slice());
     same(&rt, groups.group(2), b"ac".as_slice());
