@@ -3,16 +3,22 @@
 import os
 
 
-def lay_tables(bundle, folder):
-    """Writes the sections of a bundle to a new folder, a file for each table."""
-    os.mkdir(folder)
+def lay_tables(lines, folder):
+    """Writes the sections of a bundle, which has these lines, to a folder, a file for each table."""
+    os.makedirs(folder, exist_ok=True)
     table = None
-    with open(bundle, encoding="utf-8-sig") as lines:
-        for line in lines:
-            if line.startswith("["):
-                if table:
-                    table.close()
-                table = open(os.path.join(folder, line.strip()[1:-1] + ".csv"), "w", encoding="utf-8")
-            elif table:
-                table.write(line)
-    table.close()
+    for line in lines:
+        if line.startswith("["):
+            if table:
+                table.close()
+            table = open(os.path.join(folder, line.strip()[1:-1] + ".csv"), "w", encoding="utf-8", newline="")
+        elif table:
+            table.write(line)
+    if table:
+        table.close()
+
+
+def lay_bundle(path, folder):
+    """The same of a bundle in a file."""
+    with open(path, encoding="utf-8-sig") as lines:
+        lay_tables(lines, folder)
