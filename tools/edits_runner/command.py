@@ -18,9 +18,8 @@ TOP = os.path.dirname(os.path.dirname(os.path.dirname(os.path.realpath(__file__)
 
 def words_given(words):
     """What the words of the command line ask for. Ends with status 2 at one that it does not know, and with 0 for help."""
-    known = argparse.ArgumentParser(
-        prog="tools/edits", description=PACKAGE, usage=argparse.SUPPRESS, formatter_class=argparse.RawDescriptionHelpFormatter, allow_abbrev=False
-    )
+    how = {"usage": argparse.SUPPRESS, "formatter_class": argparse.RawDescriptionHelpFormatter, "allow_abbrev": False}
+    known = argparse.ArgumentParser(prog="tools/edits", description=PACKAGE, **how)
     known.add_argument("crate", nargs="?", help=argparse.SUPPRESS)
     known.add_argument("words", nargs="*", help=argparse.SUPPRESS)
     known.add_argument("--lanes", type=int, help=argparse.SUPPRESS)

@@ -170,12 +170,23 @@ class Trial:
         if not self.edits:
             return
         _, told, why = self.opened or self.judge(self.edits, None)
-        beside, cause = self.placed or (judge_rounds({self.crate: self.placing()})[self.crate] if self.in_place else (Told(), None))
+        beside, cause = self.placed or self.judge_placing()
         for edit in self.edits:
-            names = {it.path for it in self.copies[edit]}
-            said = why or cause or next((f"{it}: {told.refused.get(it, 'its proof lost a name, or it waits')}" for it in names & told.not_proved()), None)
-            said = said or next((f"{it}, next to edits in place: {beside.refused[it]}" for it in names & beside.refused.keys()), None)
+            said = why or cause or self.doubt(edit, told, beside)
             yield edit, said is None, said or "proved as it stands"
+
+    def judge_placing(self):
+        """What is told of the copies as they stand next to edits in place, where there are some."""
+        return judge_rounds({self.crate: self.placing()})[self.crate] if self.in_place else (Told(), None)
+
+    def doubt(self, edit, told, beside):
+        """Why a copy of an edit's functions as they stand is not proved, or is refused next to edits in place; or None."""
+        for name in sorted(it.path for it in self.copies[edit]):
+            if name in told.not_proved():
+                return f"{name}: {told.refused.get(name, 'its proof lost a name, or it waits')}"
+            if name in beside.refused:
+                return f"{name}, next to edits in place: {beside.refused[name]}"
+        return None
 
     def end(self, edit, is_refused, why):
         """How an edit ends: a control well where it is not refused, any other where it is."""

@@ -113,6 +113,19 @@ class Trials(InAFolder):
         self.assertTrue(any("not proved as it stands" in line for line in self.said))
         self.assertEqual([is_well for is_well, _ in ends.values()], [True, False])
 
+    def test_copies_as_they_stand(self):
+        self.lay_two()
+        self.lay_edit("c_clone", "shop::ShopClone::clone", "self.parts.clone()", "Vec::new()")
+        small = self.small()
+        edits = edits_of(small, [])[0]
+        for refused, well in (([], [True, True]), (["small::shop::add"], [False, True])):
+            prover = Prover(refused)
+            with patch.object(judging, "check", prover.check):
+                ends = [*Trial(small, edits, True, self.said.append, is_spoiled=False).unspoiled_ends()]
+            self.assertEqual([is_well for _, is_well, _ in ends], well)
+            self.assertEqual([len(it.names) for it in prover.asked], [2, 3])
+            self.assertNotIn("let sum = one;", prover.asked[0].texts["src/shop.rt"])
+
     def test_a_stale_goal_costs_no_edit(self):
         self.lay_edit("a_sum", "shop::add", "one + other;", "one;", more="goal: returns c\n")
         prover = Prover(["small::shop::add"])
