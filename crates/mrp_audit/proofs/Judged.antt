@@ -25,10 +25,11 @@ use Rattle.mrp_audit.specs.declared.claim.Claim.{Claim}
 use Rattle.mrp_audit.specs.declared.fault.AuditFault.{AuditFault}
 use Rattle.mrp_audit.specs.declared.fault.AuditFault.TheVariants as fault
 use Rattle.mrp_audit.specs.Claims.{claim_of, claim_text, claimed, claimed_cells, claims_from, claims_text}
-use Rattle.mrp_engine.specs.declared.day.fault.DayFault.{DayFault}
-use Rattle.mrp_engine.specs.declared.day.fault.DayFault.TheVariants as day
+use Rattle.mrp_engine.specs.declared.day.fault.OpenFault.{OpenFault}
+use Rattle.mrp_engine.specs.declared.day.fault.OpenFault.TheVariants as opening
 use Rattle.mrp_engine.specs.day.Opened.{Opens}
-use Rattle.mrp_audit.specs.Parts.{ComparesDesks, ComparesHistory, ComparesReports, FollowsClaims, IsInputFault, IsOfOpening, OpensShop}
+use Rattle.mrp_audit.specs.Parts.{ComparesDesks, ComparesHistory, ComparesReports, FollowsClaims}
+use Rattle.mrp_audit.specs.Input.{input_fault}
 use Rattle.mrp_audit.specs.Reading.{ReadsHistory}
 use Rattle.mrp_audit.specs.Shape.{BeginsWith}
 use Rattle.mrp_audit.specs.Verdict.{IsDeskRight, IsToldBy, Judges, JudgesText}
@@ -71,30 +72,10 @@ judged text t claims h rest (Err fault.Shape) begins told is = absurd is
 judged text t claims h rest (Err (fault.Input f)) begins told is = is
 judged text t claims h rest (Err (fault.HistoryNotLegal entry)) begins told is = absurd is
 
--- a shop is opened, or not for one of two causes
-pub of-opening : (bundle : List ℕ) (f : DayFault) → Opens bundle (Err f) → IsOfOpening f
-of-opening bundle (day.Refused f) is = tt
-of-opening bundle day.NoMemory is = tt
-of-opening bundle (day.TooLarge name) is = is
-of-opening bundle day.Read is = is
-of-opening bundle day.Write is = is
-
--- and the bundle is told for the same
-pub opened-for : (bundle : List ℕ) (f : DayFault) (told : AuditFault) → Opens bundle (Err f) → IsInputFault f told → OpensShop bundle (Err told)
-opened-for bundle (day.Refused f) told opens is = subst (λ (x : AuditFault). OpensShop bundle (Err x)) (sym is) opens
-opened-for bundle day.NoMemory told opens is = subst (λ (x : AuditFault). OpensShop bundle (Err x)) (sym is) tt
-opened-for bundle (day.TooLarge name) told opens is = absurd is
-opened-for bundle day.Read told opens is = absurd is
-opened-for bundle day.Write told opens is = absurd is
-
 -- what refuses a bundle, a shape or a claim is judged so
-pub unopened : (bundle text : List ℕ) (f : AuditFault) → OpensShop bundle (Err f) → Judges bundle text (Err f)
-unopened bundle text (fault.Input f) is = is
-unopened bundle text fault.NoMemory is = tt
-unopened bundle text fault.Shape is = absurd is
-unopened bundle text (fault.HistoryNotLegal entry) is = absurd is
-unopened bundle text (fault.DeskRows desk) is = absurd is
-unopened bundle text (fault.ReportDiffers run) is = absurd is
+pub unopened : (bundle text : List ℕ) (f : OpenFault) → Opens bundle (Err f) → Judges bundle text (Err (input_fault f))
+unopened bundle text (opening.Refused f) is = is
+unopened bundle text opening.NoMemory is = tt
 
 pub unshaped : (text : List ℕ) (t : Tables) (f : AuditFault) → ReadsHistory t text (Err f) → JudgesText t text (Err f)
 unshaped text t fault.Shape is = is

@@ -17,7 +17,10 @@ use Rattle.mrp_audit.specs.declared.fault.AuditFault.TheVariants as fault
 use Rattle.mrp_audit.specs.Claims.{claim_of}
 use Rattle.mrp_audit.specs.Kept.{KeepsLimits}
 use Rattle.mrp_audit.specs.Shape.{BeginsWith}
-use Rattle.mrp_audit.specs.Parts.{OpensShop}
+use Rattle.mrp_engine.specs.day.Opened.{Opens}
+use Rattle.mrp_engine.specs.declared.day.fault.OpenFault.{OpenFault}
+use Rattle.mrp_engine.specs.declared.day.fault.OpenFault.TheVariants as opening
+use Rattle.mrp_audit.specs.Input.{input_fault}
 use Rattle.mrp_audit.specs.Verdict.{HasHistory, HasMore, IsFirstDesk, IsFirstFalse, IsFirstMissing, IsVerdict, IsWrong, Judges, JudgesText, reports_text}
 use Rattle.mrp_audit.proofs.OneHistory.{begins-once}
 use Rattle.mrp_audit.proofs.RightTexts.{none-false, right-passes, text-passes, told-once}
@@ -169,16 +172,13 @@ one-verdict bundle text t (Err f) (Ok done) accepted keeps judged right own told
 one-verdict bundle text t (Err f) (Err g) accepted keeps judged judges own told = ap (λ (x : AuditFault). Err x) (same-wrong t text f g keeps (own-wrong t text f judged own) (other-wrong bundle text t g accepted judges told))
 
 -- and a bundle that is refused has one
-pub one-refusal : (bundle text : List ℕ) (f : AuditFault) (other : Result ⊤ AuditFault) → OpensShop bundle (Err f) → Judges bundle text other → IsVerdict (Err f) → IsVerdict other → Err f ≡ other
-one-refusal bundle text fault.NoMemory other opens judges own told = absurd own
-one-refusal bundle text fault.Shape other opens judges own told = absurd opens
-one-refusal bundle text (fault.HistoryNotLegal n) other opens judges own told = absurd opens
-one-refusal bundle text (fault.DeskRows d) other opens judges own told = absurd opens
-one-refusal bundle text (fault.ReportDiffers n) other opens judges own told = absurd opens
-one-refusal bundle text (fault.Input f) (Ok done) opens (t, accepted, h, answers, is) own told = absurd (accepted-not-refused bundle t f accepted opens.0)
-one-refusal bundle text (fault.Input f) (Err (fault.Input g)) opens judges own told = ap (λ x. Err (fault.Input x)) (one-fault bundle f g opens.0 judges.0)
-one-refusal bundle text (fault.Input f) (Err fault.NoMemory) opens judges own told = absurd told
-one-refusal bundle text (fault.Input f) (Err fault.Shape) opens (t, accepted, wrong) own told = absurd (accepted-not-refused bundle t f accepted opens.0)
-one-refusal bundle text (fault.Input f) (Err (fault.HistoryNotLegal n)) opens (t, accepted, wrong) own told = absurd (accepted-not-refused bundle t f accepted opens.0)
-one-refusal bundle text (fault.Input f) (Err (fault.DeskRows d)) opens (t, accepted, wrong) own told = absurd (accepted-not-refused bundle t f accepted opens.0)
-one-refusal bundle text (fault.Input f) (Err (fault.ReportDiffers n)) opens (t, accepted, wrong) own told = absurd (accepted-not-refused bundle t f accepted opens.0)
+pub one-refusal : (bundle text : List ℕ) (f : OpenFault) (other : Result ⊤ AuditFault) → Opens bundle (Err f) → Judges bundle text other → IsVerdict (Err (input_fault f)) → IsVerdict other
+    → Err (input_fault f) ≡ other
+one-refusal bundle text opening.NoMemory other opens judges own told = absurd own
+one-refusal bundle text (opening.Refused f) (Ok done) opens (t, accepted, h, answers, is) own told = absurd (accepted-not-refused bundle t f accepted opens.0)
+one-refusal bundle text (opening.Refused f) (Err (fault.Input g)) opens judges own told = ap (λ x. Err (fault.Input x)) (one-fault bundle f g opens.0 judges.0)
+one-refusal bundle text (opening.Refused f) (Err fault.NoMemory) opens judges own told = absurd told
+one-refusal bundle text (opening.Refused f) (Err fault.Shape) opens (t, accepted, wrong) own told = absurd (accepted-not-refused bundle t f accepted opens.0)
+one-refusal bundle text (opening.Refused f) (Err (fault.HistoryNotLegal n)) opens (t, accepted, wrong) own told = absurd (accepted-not-refused bundle t f accepted opens.0)
+one-refusal bundle text (opening.Refused f) (Err (fault.DeskRows d)) opens (t, accepted, wrong) own told = absurd (accepted-not-refused bundle t f accepted opens.0)
+one-refusal bundle text (opening.Refused f) (Err (fault.ReportDiffers n)) opens (t, accepted, wrong) own told = absurd (accepted-not-refused bundle t f accepted opens.0)

@@ -38,7 +38,10 @@ use Rattle.mrp_audit.specs.declared.fault.AuditFault.TheVariants as fault
 use Rattle.mrp_audit.specs.Claims.{IsClaim, IsClaimable, IsScripted, claim_of, claimed}
 use Rattle.mrp_audit.specs.Kept.{KeepsLimits}
 use Rattle.mrp_audit.specs.Shape.{BeginsWith, EndsHistory}
-use Rattle.mrp_audit.specs.Parts.{OpensShop}
+use Rattle.mrp_engine.specs.day.Opened.{Opens}
+use Rattle.mrp_engine.specs.declared.day.fault.OpenFault.{OpenFault}
+use Rattle.mrp_engine.specs.declared.day.fault.OpenFault.TheVariants as opening
+use Rattle.mrp_audit.specs.Input.{input_fault}
 use Rattle.mrp_audit.specs.Verdict.{HasMore, IsFirstFalse, IsFirstMissing, IsWrong, JudgesText, Passes, reports_text}
 use Rattle.mrp_engine.proofs.lemmas.live.DeskCounts.{few-by-number}
 use Rattle.mrp_engine.proofs.lemmas.live.DeskHistories.{run-adds}
@@ -266,10 +269,6 @@ passed bundle text t (Err (fault.DeskRows desk)) accepted keeps judged right = r
 passed bundle text t (Err (fault.ReportDiffers run)) accepted keeps judged right = right-passes bundle text t (fault.ReportDiffers run) accepted keeps right judged
 
 -- and no bundle with a right day is refused
-pub unopened-passes : (bundle text : List ℕ) (f : AuditFault) → OpensShop bundle (Err f) → IsRightDay bundle text → Passes (Err f)
-unopened-passes bundle text (fault.Input f) opens (t, accepted, h, answers, is) = accepted-not-refused bundle t f accepted opens.0
-unopened-passes bundle text fault.NoMemory opens right = tt
-unopened-passes bundle text fault.Shape opens right = opens
-unopened-passes bundle text (fault.HistoryNotLegal entry) opens right = opens
-unopened-passes bundle text (fault.DeskRows desk) opens right = opens
-unopened-passes bundle text (fault.ReportDiffers run) opens right = opens
+pub unopened-passes : (bundle text : List ℕ) (f : OpenFault) → Opens bundle (Err f) → IsRightDay bundle text → Passes (Err (input_fault f))
+unopened-passes bundle text (opening.Refused f) opens (t, accepted, h, answers, is) = accepted-not-refused bundle t f accepted opens.0
+unopened-passes bundle text opening.NoMemory opens right = tt

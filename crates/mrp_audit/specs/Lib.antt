@@ -7,3 +7,4 @@ pub mod Reading
 pub mod Replays
 pub mod Shape
 pub mod Verdict
+pub mod Input

@@ -1,11 +1,9 @@
 -- What the steps of the checker answer, once a history is read.
 use Rattle.std.specs.Prelude.{ℕ, ◌≡◌, ◌≢◌, ◌<◌, ◌≤◌, ◌⊎◌, ◌∷◌, ◌++◌, List, [], Option, None, Some, Result, Ok, Err, ⊤, drop, length, slice_get, take}
 use Rattle.std.specs.Int.{IsInRange}
-use Rattle.mrp_rows.specs.declared.faults.TheConstants as faults
 use Rattle.mrp_qty.specs.declared.memory.NoMemory.{NoMemory}
 use Rattle.mrp_tables.specs.declared.limits.TheConstants.{MOST_DESKS}
 use Rattle.mrp_tables.specs.Tables.{Tables}
-use Rattle.mrp_bill.specs.Shop.{Shop}
 use Rattle.mrp_master.specs.Supply.{supply_of}
 use Rattle.mrp_turn.specs.declared.log.Entry.{Entry}
 use Rattle.mrp_book.specs.declared.call.Call.{Call}
@@ -15,13 +13,11 @@ use Rattle.mrp_book.specs.Standing.{History}
 use Rattle.mrp_book.specs.History.{IsLegal, IsReply, next_number}
 use Rattle.mrp_item.specs.Inputs.{Inputs}
 use Rattle.mrp_engine.specs.day.Script.{Script}
-use Rattle.mrp_engine.specs.day.Day.{IsAccepted, IsRefused, runs_of}
+use Rattle.mrp_engine.specs.day.Day.{runs_of}
 use Rattle.mrp_engine.specs.day.RightDay.{FollowsDesks, asked_by}
 use Rattle.mrp_report.specs.declared.fault.ReportFault.{ReportFault}
 use Rattle.mrp_explode.specs.declared.fault.RunFault.{RunFault}
 use Rattle.mrp_explode.specs.declared.fault.RunFault.TheVariants as run
-use Rattle.mrp_engine.specs.declared.day.fault.DayFault.{DayFault}
-use Rattle.mrp_engine.specs.declared.day.fault.DayFault.TheVariants as day
 use Rattle.mrp_audit.specs.declared.claim.Claim.{Claim}
 use Rattle.mrp_audit.specs.declared.claim.ClaimedReply.{ClaimedReply}
 use Rattle.mrp_audit.specs.declared.fault.AuditFault.{AuditFault}
@@ -112,29 +108,3 @@ ComparesHistory t h text (Err fault.NoMemory) = Unit {0}
 ComparesHistory t h text (Err fault.Shape) = ⊥
 ComparesHistory t h text (Err (fault.Input f)) = ⊥
 ComparesHistory t h text (Err (fault.HistoryNotLegal entry)) = ⊥
-
--- why a shop is not opened: for a fault of its bundle, or for want of memory
-abbrev pub IsOfOpening : DayFault → Type 0
-IsOfOpening (day.Refused f) = Unit {0}
-IsOfOpening day.NoMemory = Unit {0}
-IsOfOpening (day.TooLarge name) = ⊥
-IsOfOpening day.Read = ⊥
-IsOfOpening day.Write = ⊥
-
--- and what is told of it: want of memory only where that was why
-abbrev pub IsInputFault : DayFault → AuditFault → Type 0
-IsInputFault (day.Refused f) told = told ≡ fault.Input f
-IsInputFault day.NoMemory told = told ≡ fault.NoMemory
-IsInputFault (day.TooLarge name) told = ⊥
-IsInputFault day.Read told = ⊥
-IsInputFault day.Write told = ⊥
-
--- the shop of an accepted bundle, or the bundle's first fault
-abbrev pub OpensShop : List ℕ → Result Shop AuditFault → Type 0
-OpensShop bundle (Ok shop) = IsAccepted bundle shop.tables
-OpensShop bundle (Err (fault.Input f)) = IsRefused bundle f × (f.code ≢ faults.NO_MEMORY)
-OpensShop bundle (Err fault.NoMemory) = Unit {0}
-OpensShop bundle (Err fault.Shape) = ⊥
-OpensShop bundle (Err (fault.HistoryNotLegal entry)) = ⊥
-OpensShop bundle (Err (fault.DeskRows desk)) = ⊥
-OpensShop bundle (Err (fault.ReportDiffers run)) = ⊥

@@ -4,7 +4,7 @@ ghost use Rattle.std.specs.Prelude.{◌≡◌, Result, ⊤};
 ghost use Rattle.mrp_engine.specs.day.RightDay.{IsRightDay};
 ghost use Rattle.mrp_master.specs.Supply.{supply_of};
 ghost use Rattle.mrp_engine.specs.day.Day.{runs_of};
-ghost use Rattle.mrp_audit.specs.Parts.{ComparesHistory, ComparesReports, IsInputFault, IsOfOpening, OpensShop};
+ghost use Rattle.mrp_audit.specs.Parts.{ComparesHistory, ComparesReports};
 ghost use Rattle.mrp_audit.specs.Kept.{KeepsLimits};
 ghost use Rattle.mrp_audit.specs.Verdict.{IsVerdict, Judges, JudgesText, Passes};
 
@@ -17,34 +17,12 @@ use crate::script::script_calls;
 use crate::shape::read_history;
 use mrp_bill::Shop;
 use mrp_book::History;
-use mrp_engine::{DayFault, open_shop};
+use mrp_engine::open_shop;
 use mrp_item::ShopRows;
 use mrp_tables::Tables;
 use std::alloc::Global;
 use std::sync::Arc;
 use std::thread::Threads;
-
-// What a bundle is told for, by why its shop was not opened.
-fn input_fault(fault: DayFault) -> AuditFault
-    requires { IsOfOpening fault }
-    ensures { IsInputFault fault result }
-{
-    match fault {
-        DayFault::Refused(fault) => AuditFault::Input(fault),
-        DayFault::NoMemory => AuditFault::NoMemory,
-        DayFault::TooLarge(_) | DayFault::Read | DayFault::Write => unreachable!(),
-    }
-}
-
-// The shop of a bundle.
-fn shop_of(rt: &impl Threads, alloc: Global, bundle: &[u8]) -> Result<Shop, AuditFault>
-    ensures { OpensShop bundle.now result }
-{
-    match open_shop(rt, alloc, bundle) {
-        Ok(shop) => Ok(shop),
-        Err(fault) => Err(input_fault(fault)),
-    }
-}
 
 // Compares a text with the reports of a history's runs.
 fn check_runs(
@@ -144,7 +122,7 @@ pub fn check(
     // Nothing else could be found of them.
     ensures one { (other : Result ⊤ AuditFault) → Judges input.now output.now other → IsVerdict result → IsVerdict other → result ≡ other }
 {
-    let shop = shop_of(rt, alloc, input)?;
+    let shop = open_shop(rt, alloc, input)?;
     keep_limits(shop.tables());
     check_text(rt, alloc, shop, output)
 }

@@ -1,5 +1,6 @@
 //! Why a text is not a right day of a bundle.
 
+use mrp_engine::OpenFault;
 use mrp_qty::NoMemory;
 use mrp_rows::Fault;
 use std::alloc::AllocFailed;
@@ -28,6 +29,20 @@ pub enum AuditFault {
     /// A growth of memory was refused, and nothing was found out.
     #[error("no memory")]
     NoMemory,
+}
+
+impl From<OpenFault> for AuditFault {
+    ghost use Rattle.std.specs.Prelude.{◌≡◌};
+    ghost use Rattle.mrp_audit.specs.Input.{input_fault};
+
+    ghost from_gives = { λ fault given. given ≡ input_fault fault };
+
+    fn from(fault: OpenFault) -> AuditFault {
+        match fault {
+            OpenFault::Refused(fault) => AuditFault::Input(fault),
+            OpenFault::NoMemory => AuditFault::NoMemory,
+        }
+    }
 }
 
 impl From<NoMemory> for AuditFault {

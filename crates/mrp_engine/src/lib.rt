@@ -6,6 +6,9 @@ mod event_core;
 pub mod laws;
 mod live;
 
-pub use day::{ADDED_DESK, DayFault, MOST_WORKERS, answer, call_of, has_run, open_shop, run_day};
+pub use day::{
+    ADDED_DESK, DayFault, MOST_WORKERS, OpenFault, answer, call_of, has_run, open_shop, run_bundle,
+    run_day,
+};
 pub use event_core::{Answer, Core, Event};
-pub use live::{answer_by_desks, live_day};
+pub use live::{answer_by_desks, live_bundle, live_day};

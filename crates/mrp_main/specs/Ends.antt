@@ -84,9 +84,9 @@ pub record DayEnds {R W : Type 0} (command : DayCommand) (remaining : R → Opti
   pub unfailed : end ≡ NoMemory → IsReadWithin input read × HasNotFailed output written
   pub taken : TakesFront (remaining (inner_of input)) (remaining (inner_of read)) (moved_of input) (moved_of read)
 
--- how a day of a bundle that was read ends: with this day, where memory is wanted only if the output did not fail; or with what kept it from being read, and nothing was written
+-- how a day of a bundle that was read ends: with this day, where no reading fails any more and memory is wanted only if the output did not fail; or with what kept it from being read, and nothing was written
 abbrev pub BundleEnds : DayCommand → {W : Type 0} → (W → Option (List ℕ)) → Told W → Told W → Result (List ℕ) ReadFault → Ending → Type 0
-BundleEnds command contents output written (Ok bundle) end = DayWrites command contents (Some bundle) ⊤ ⊤ output written end × (end ≡ NoMemory → HasNotFailed output written)
+BundleEnds command contents output written (Ok bundle) end = DayWrites command contents (Some bundle) ⊤ ⊥ output written end × (end ≡ NoMemory → HasNotFailed output written)
 BundleEnds command contents output written (Err read.Read) end = (end ≡ Read) × (written ≡ output)
 BundleEnds command contents output written (Err read.NoMemory) end = (end ≡ NoMemory) × (written ≡ output)
 

@@ -1,8 +1,8 @@
 //! What the words ask for, done over an input, an output and an error stream.
 
-ghost use Rattle.std.specs.Prelude.{◌≡◌, ◌<◌, map, string_bytes};
+ghost use Rattle.std.specs.Prelude.{◌≡◌, ◌<◌, ◌≤◌, Ok, map, string_bytes, vec_len};
 ghost use Rattle.std.specs.Int.{IsInRange};
-ghost use Rattle.std.specs.Result.{result_map_both};
+ghost use Rattle.mrp_rows.specs.declared.streams.TheConstants.{GREATEST_BUNDLE};
 ghost use Rattle.std.specs.Result.{ForOk};
 ghost use Rattle.mrp_main.specs.Ends.{BundleEnds, DayEnds, Ends, FolderEnds, HelpEnds, IsDone, RequestEnds};
 ghost use Rattle.mrp_main.specs.Words.{HasWorkers};
@@ -13,8 +13,8 @@ use crate::day::DayCommand;
 use crate::ending::Ending;
 use crate::files::{FileStore, read_folder};
 use crate::page::make_page;
-use mrp_engine::{MOST_WORKERS, live_day, run_day};
-use mrp_rows::{ReadFault, Told, Tries, write_text};
+use mrp_engine::{MOST_WORKERS, live_bundle, live_day, run_bundle, run_day};
+use mrp_rows::{Told, Tries, write_text};
 use std::alloc::Global;
 use std::convert::AsStr;
 use std::io::{Read, Write};
@@ -56,19 +56,16 @@ fn make_day_of_bundle<W: Write>(
     alloc: Global,
     command: DayCommand,
     workers: usize,
-    bundle: Result<Vec<u8>, ReadFault>,
+    bundle: Vec<u8>,
     output: &mut Told<W>,
 ) -> Ending
+    requires bundle { vec_len bundle ≤ GREATEST_BUNDLE }
     requires workers { IsInRange 1 MOST_WORKERS workers }
-    ensures { BundleEnds command W.contents output.old output.new (result_map_both (λ bundle. bundle.items) (λ fault. fault) bundle) result }
+    ensures { BundleEnds command W.contents output.old output.new (Ok bundle.items) result }
 {
-    match bundle {
-        Ok(bundle) => {
-            let mut input = Told::new(bundle.as_slice());
-            make_day(rt, alloc, command, workers, &mut input, output)
-        }
-        Err(ReadFault::Read) => Ending::Read,
-        Err(ReadFault::NoMemory) => Ending::NoMemory,
+    match command {
+        DayCommand::Plan => Ending::of_day(alloc, run_bundle(rt, alloc, bundle, output, workers)),
+        DayCommand::Live => Ending::of_day(alloc, live_bundle(rt, alloc, bundle, output, workers)),
     }
 }
 
@@ -85,8 +82,10 @@ fn make_day_of_folder<F: FileStore, W: Write>(
     requires workers { IsInRange 1 MOST_WORKERS workers }
     ensures { FolderEnds command (F.known files.now) folder.now W.contents output.old output.new result }
 {
-    let bundle = read_folder(files, alloc, folder);
-    make_day_of_bundle(rt, alloc, command, workers, bundle, output)
+    match read_folder(files, alloc, folder) {
+        Ok(bundle) => make_day_of_bundle(rt, alloc, command, workers, bundle, output),
+        Err(fault) => Ending::of_read(fault),
+    }
 }
 
 // Answers a request.

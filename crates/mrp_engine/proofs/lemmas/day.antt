@@ -2,5 +2,6 @@ pub mod ShopFaults
 pub mod ScriptCalls
 pub mod RunsPlanned
 pub mod DayWritten
+pub mod DayMade
 pub mod DayRuns
 pub mod RefusedItem

@@ -1,4 +1,4 @@
--- Why a day is refused, by what refused a part of it.
+-- Why a day is refused, or a shop not opened, by what refused a part of it.
 use Rattle.std.specs.Prelude.{slice_index}
 use Rattle.mrp_rows.specs.declared.streams.ReadFault.{ReadFault}
 use Rattle.mrp_rows.specs.declared.streams.ReadFault.TheVariants as read
@@ -11,6 +11,8 @@ use Rattle.mrp_explode.specs.declared.fault.RunFault.TheVariants as run
 use Rattle.mrp_item.specs.Inputs.{Inputs, item_at}
 use Rattle.mrp_engine.specs.declared.day.fault.DayFault.{DayFault}
 use Rattle.mrp_engine.specs.declared.day.fault.DayFault.TheVariants.{Refused, TooLarge, Read, Write, NoMemory}
+use Rattle.mrp_engine.specs.declared.day.fault.OpenFault.{OpenFault}
+use Rattle.mrp_engine.specs.declared.day.fault.OpenFault.TheVariants as opening
 use Rattle.mrp_engine.specs.day.Day.{loop_fault}
 
 abbrev pub reading_fault : ReadFault → DayFault
@@ -21,9 +23,13 @@ abbrev pub writing_fault : ReportFault → DayFault
 writing_fault report.Write = Write
 writing_fault report.NoMemory = NoMemory
 
-abbrev pub bill_fault : BillFault → DayFault
-bill_fault (bill.Loop path) = Refused (loop_fault (slice_index path.items 0))
-bill_fault bill.NoMemory = NoMemory
+abbrev pub opening_fault : OpenFault → DayFault
+opening_fault (opening.Refused f) = Refused f
+opening_fault opening.NoMemory = NoMemory
+
+abbrev pub bill_fault : BillFault → OpenFault
+bill_fault (bill.Loop path) = opening.Refused (loop_fault (slice_index path.items 0))
+bill_fault bill.NoMemory = opening.NoMemory
 
 abbrev pub run_fault : Inputs → RunFault → DayFault
 run_fault s (run.TooLarge item) = TooLarge (item_at s item).name

@@ -8,17 +8,14 @@ use Rattle.mrp_bill.specs.Bill.{IsFirstLoop, NeedsItself}
 use Rattle.mrp_bill.specs.Shop.{Shop}
 use Rattle.mrp_bill.specs.declared.fault.BillFault.{BillFault}
 use Rattle.mrp_bill.specs.declared.fault.BillFault.TheVariants as bill
-use Rattle.mrp_engine.specs.declared.day.fault.DayFault.{DayFault}
-use Rattle.mrp_engine.specs.declared.day.fault.DayFault.TheVariants.{Refused, TooLarge, Read, Write, NoMemory}
+use Rattle.mrp_engine.specs.declared.day.fault.OpenFault.{OpenFault}
+use Rattle.mrp_engine.specs.declared.day.fault.OpenFault.TheVariants.{Refused, NoMemory}
 use Rattle.mrp_engine.specs.day.Day.{IsAccepted, IsRefused, loop_fault}
 
--- a fault ends the day as its refusal; NO_MEMORY is want of memory
-abbrev pub Closes : Fault → DayFault → Type 0
+-- a fault keeps the shop from being opened; NO_MEMORY is told as out of memory
+abbrev pub Closes : Fault → OpenFault → Type 0
 Closes f (Refused given) = (given ≡ f) × (f.code ≢ faults.NO_MEMORY)
 Closes f NoMemory = f.code ≡ faults.NO_MEMORY
-Closes f (TooLarge name) = ⊥
-Closes f Read = ⊥
-Closes f Write = ⊥
 
 -- the path of a loop begins at an item of a table
 abbrev pub BeginsWithin : BillFault → Type 0
@@ -26,19 +23,13 @@ BeginsWithin (bill.Loop path) = (0 < length path.items) × (slice_index path.ite
 BeginsWithin bill.NoMemory = ⊤
 
 -- the shop of tables in which no item needs itself, or the loop; or memory was refused
-abbrev pub OpensTables : Tables → Result Shop DayFault → Type 0
+abbrev pub OpensTables : Tables → Result Shop OpenFault → Type 0
 OpensTables tables (Ok shop) = (shop.tables ≡ tables) × ((i : ℕ) → NeedsItself tables.bills i → ⊥)
 OpensTables tables (Err (Refused f)) = (item : ℕ) × IsFirstLoop tables.bills item × (f ≡ loop_fault item)
 OpensTables tables (Err NoMemory) = ⊤
-OpensTables tables (Err (TooLarge name)) = ⊥
-OpensTables tables (Err Read) = ⊥
-OpensTables tables (Err Write) = ⊥
 
 -- the shop of an accepted bundle, or why the bundle is refused; or memory was refused
-abbrev pub Opens : List ℕ → Result Shop DayFault → Type 0
+abbrev pub Opens : List ℕ → Result Shop OpenFault → Type 0
 Opens bundle (Ok shop) = IsAccepted bundle shop.tables
 Opens bundle (Err (Refused f)) = IsRefused bundle f × (f.code ≢ faults.NO_MEMORY)
 Opens bundle (Err NoMemory) = ⊤
-Opens bundle (Err (TooLarge name)) = ⊥
-Opens bundle (Err Read) = ⊥
-Opens bundle (Err Write) = ⊥

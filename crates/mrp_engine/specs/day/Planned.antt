@@ -26,17 +26,17 @@ inputs_of_plans plans = map (λ p. p.inputs) plans
 
 -- a day with a history of its shop, each run of which has its plan
 pub record IsPlanned (day : Day) : Type 0 where
-  pub supply : day.history.supply ≡ supply_of day.shop.value.tables
-  pub runs : inputs_of_plans day.plans.items ≡ runs_of day.shop.value.tables day.history.entries
-  pub plannable : All IsPlannable (runs_of day.shop.value.tables day.history.entries)
+  pub supply : day.history.supply ≡ supply_of day.rows.value.tables
+  pub runs : inputs_of_plans day.plans.items ≡ runs_of day.rows.value.tables day.history.entries
+  pub plannable : All IsPlannable (runs_of day.rows.value.tables day.history.entries)
 
 -- the text of a day
 abbrev pub text_of : Day → List ℕ
-text_of day = day_text day.shop.value.tables day.history.entries
+text_of day = day_text day.rows.value.tables day.history.entries
 
 -- the day of a shop of these tables with this history, or the name of the item that its first refused run is refused by; or memory was refused
 abbrev pub PlansHistory : Tables → History → Result Day DayFault → Type 0
-PlansHistory tables h (Ok day) = (day.shop.value.tables ≡ tables) × (day.history.entries ≡ h) × IsPlanned day
+PlansHistory tables h (Ok day) = (day.rows.value.tables ≡ tables) × (day.history.entries ≡ h) × IsPlanned day
 PlansHistory tables h (Err (TooLarge name)) = IsFirstRefusal (runs_of tables h) name
 PlansHistory tables h (Err NoRoom) = ⊤
 PlansHistory tables h (Err (Refused f)) = ⊥
@@ -45,7 +45,7 @@ PlansHistory tables h (Err Write) = ⊥
 
 -- the day of a shop of these tables, whose script is answered like this, or the name of the item that the first refused run is refused by; or memory was refused
 abbrev pub PlansDay : Answering → Tables → Result Day DayFault → Type 0
-PlansDay Answers tables (Ok day) = (day.shop.value.tables ≡ tables) × Answers tables day.history.entries × IsPlanned day
+PlansDay Answers tables (Ok day) = (day.rows.value.tables ≡ tables) × Answers tables day.history.entries × IsPlanned day
 PlansDay Answers tables (Err (TooLarge name)) = (h : History) × Answers tables h × IsFirstRefusal (runs_of tables h) name
 PlansDay Answers tables (Err NoRoom) = ⊤
 PlansDay Answers tables (Err (Refused f)) = ⊥

@@ -1,13 +1,15 @@
--- What a day's run leaves of its reader and its writer.
-use Rattle.std.specs.Prelude.{ℕ, ◌≡◌, ◌≢◌, ◌≤◌, ◌+◌, ◌⊎◌, List, Option, IfSome, Result, Ok, Err, length, ⊤}
+-- What a day leaves of its reader and its writer.
+use Rattle.std.specs.Prelude.{ℕ, ◌≡◌, ◌≢◌, ◌≤◌, ◌+◌, ◌⊎◌, List, Option, IfErr, IfSome, OnErr, OnOk, Result, Ok, Err, length, ⊤}
+use Rattle.std.specs.Io.KnownBytes.{IsAtEnd}
+use Rattle.mrp_rows.specs.Streams.{TakesFront}
+use Rattle.mrp_rows.specs.declared.fault.Fault.{Fault}
 use Rattle.mrp_rows.specs.declared.told.Told.{Told}
-use Rattle.mrp_rows.specs.declared.streams.TheConstants.{GREATEST_BUNDLE, READ_CALLS}
-use Rattle.mrp_rows.specs.Told.{calls_of, failures_of, moved_of, HasRisenBy}
-use Rattle.mrp_bill.specs.Shop.{Shop}
-use Rattle.mrp_report.specs.Written.{HasTaken, HasTakenFront}
+use Rattle.mrp_rows.specs.declared.streams.TheConstants.{GREATEST_BUNDLE, READ_CALLS, WRITE_TRIES}
+use Rattle.mrp_rows.specs.Told.{calls_of, failures_of, inner_of, moved_of, HasRisenBy}
+use Rattle.mrp_report.specs.Written.{HasGivenUp, HasTaken, HasTakenFront}
 use Rattle.mrp_engine.specs.declared.day.fault.DayFault.{DayFault}
 use Rattle.mrp_engine.specs.declared.day.fault.DayFault.TheVariants.{Refused, TooLarge, Read, Write, NoMemory}
-use Rattle.mrp_engine.specs.day.Day.{Answering, AnswersScript, IsAccepted, IsDayBy, IsRefused}
+use Rattle.mrp_engine.specs.day.Day.{Answering, IsDayBy, IsRefused, IsTooLargeBy}
 use Rattle.mrp_rows.specs.declared.faults.TheConstants as faults
 
 -- a bundle is what a reader had left, where the reader tells it, and no longer than a bundle may be
@@ -27,22 +29,9 @@ abbrev pub HasPassedLimits : {R : Type 0} → Told R → Told R → Type 0
 HasPassedLimits old new =
     HasRisenBy 1 (failures_of old) (failures_of new) ⊎ HasRisenBy READ_CALLS (calls_of old) (calls_of new) ⊎ HasRisenBy (GREATEST_BUNDLE + 1) (moved_of old) (moved_of new)
 
--- the shop of the bundle that was read, or why the bundle is refused; or the reader or memory failed
-abbrev pub ReadsShop : Option (List ℕ) → Result Shop DayFault → Type 0
-ReadsShop given (Ok shop) = (bundle : List ℕ) × IsRead given bundle × IsAccepted bundle shop.tables
-ReadsShop given (Err (Refused f)) = (bundle : List ℕ) × IsRead given bundle × IsRefused bundle f × (f.code ≢ faults.NO_MEMORY)
-ReadsShop given (Err (TooLarge name)) = ⊥
-ReadsShop given (Err Read) = ⊤
-ReadsShop given (Err Write) = ⊥
-ReadsShop given (Err NoMemory) = ⊤
-
 -- the text of a day of the bundle that was read, in which its script is answered like this
 abbrev pub TellsDayBy : Answering → Option (List ℕ) → List ℕ → Type 0
 TellsDayBy Answers given text = (bundle : List ℕ) × IsRead given bundle × IsDayBy Answers bundle text
-
--- the text of the day of the bundle that was read
-abbrev pub TellsDay : Option (List ℕ) → List ℕ → Type 0
-TellsDay = TellsDayBy AnswersScript
 
 -- a writer took a text whole, however many interrupted writes were tried again
 abbrev pub HasTakenAll : {W : Type 0} → (W → Option (List ℕ)) → Told W → Told W → List ℕ → Type 0
@@ -51,10 +40,6 @@ HasTakenAll contents old new text = (retried : ℕ) × HasTaken contents old new
 -- a writer took a front of the text of a day in which the script is answered like this
 abbrev pub WritesFrontBy : Answering → {W : Type 0} → (W → Option (List ℕ)) → Option (List ℕ) → Told W → Told W → Type 0
 WritesFrontBy Answers contents given old new = (text : List ℕ) × TellsDayBy Answers given text × HasTakenFront contents old new text
-
--- a writer took a front of the text of the day
-abbrev pub WritesDayFront : {W : Type 0} → (W → Option (List ℕ)) → Option (List ℕ) → Told W → Told W → Type 0
-WritesDayFront contents given old new = WritesFrontBy AnswersScript contents given old new
 
 -- a refusal before anything is written
 abbrev pub IsBeforeWriting : DayFault → Type 0
@@ -80,3 +65,33 @@ IsAfterReading (Err (TooLarge name)) = ⊤
 IsAfterReading (Err Read) = ⊥
 IsAfterReading (Err Write) = ⊤
 IsAfterReading (Err NoMemory) = ⊥
+
+-- a writer took a text whole, or a front of it: it gave up, or memory was refused and it did not fail
+pub record WritesText {W : Type 0} (contents : W → Option (List ℕ)) (old new : Told W) (text : List ℕ) (result : Result (Unit {0}) DayFault) : Type 0 where
+  pub whole : OnOk result (HasTakenAll contents old new text)
+  pub front : OnErr result (HasTakenFront contents old new text)
+  pub gave_up : result ≡ Err Write → HasGivenUp old new WRITE_TRIES
+  pub unfailed : result ≡ Err NoMemory → HasNotFailed old new
+  pub writing : IfErr result IsWhileWriting
+
+-- what is written of what was given: the text of a day of the bundle, in which its script is answered like this, or a front of one, or nothing; want of memory leaves a front only once this has ended, and no reading failed but like this
+pub record WritesDay (Answers : Answering) {W : Type 0} (contents : W → Option (List ℕ)) (given : Option (List ℕ)) (ended failed : Type 0) (old new : Told W) (result : Result (Unit {0}) DayFault) : Type 0 where
+  -- the text of a day of the bundle was written
+  pub day : OnOk result ((text : List ℕ) × TellsDayBy Answers given text × HasTakenAll contents old new text)
+  pub refused : (f : Fault) → result ≡ Err (Refused f) → (bundle : List ℕ) × IsRead given bundle × IsRefused bundle f × (f.code ≢ faults.NO_MEMORY)
+  pub too_large : (name : List ℕ) → result ≡ Err (TooLarge name) → (bundle : List ℕ) × IsRead given bundle × IsTooLargeBy Answers bundle name
+  pub read : result ≡ Err Read → failed
+  pub write : result ≡ Err Write → WritesFrontBy Answers contents given old new
+  pub gave_up : result ≡ Err Write → HasGivenUp old new WRITE_TRIES
+  pub memory : result ≡ Err NoMemory → (new ≡ old) ⊎ (ended × WritesFrontBy Answers contents given old new)
+  pub unfailed : result ≡ Err NoMemory → HasNotFailed old new
+  -- nothing is written before every run is planned
+  pub unwritten : IfErr result (λ fault. IsBeforeWriting fault → new ≡ old)
+
+-- what is written of what a reader had left, and what is left of the reader: it was read to its end, within the limits, and a front of it was taken
+pub record MakesDay (Answers : Answering) {R W : Type 0} (remaining : R → Option (List ℕ)) (contents : W → Option (List ℕ)) (reader read : Told R) (writer written : Told W) (result : Result (Unit {0}) DayFault) : Type 0 where
+  pub writes : WritesDay Answers contents (remaining (inner_of reader)) (IsAtEnd (remaining (inner_of read))) (HasPassedLimits reader read) writer written result
+  pub unfailed : result ≡ Err NoMemory → IsReadWithin reader read
+  pub end : IsAfterReading result → IsAtEnd (remaining (inner_of read))
+  pub within : IsAfterReading result → IsReadWithin reader read
+  pub taken : TakesFront (remaining (inner_of reader)) (remaining (inner_of read)) (moved_of reader) (moved_of read)

@@ -1,4 +1,4 @@
-//! Why a day was not written whole.
+//! Why a day was not written whole, and why the shop of its bundle was not opened.
 
 use mrp_qty::NoMemory;
 use mrp_report::ReportFault;
@@ -27,6 +27,17 @@ pub enum DayFault {
     NoMemory,
 }
 
+/// Why the shop of a bundle was not opened.
+#[derive(Clone, Copy, Debug, PartialEq, Eq, Error)]
+pub enum OpenFault {
+    /// The bundle has this fault; never want of memory.
+    #[error("refused")]
+    Refused(Fault),
+    /// A growth of memory was refused.
+    #[error("no memory")]
+    NoMemory,
+}
+
 impl From<NoMemory> for DayFault {
     ghost use Rattle.std.specs.Prelude.{◌≡◌};
     ghost use Rattle.mrp_engine.specs.declared.day.fault.DayFault.TheVariants as fault;
@@ -46,6 +57,20 @@ impl<T: Drop> From<AllocFailed<T>> for DayFault {
 
     fn from(_refused: AllocFailed<T>) -> DayFault {
         DayFault::NoMemory
+    }
+}
+
+impl From<OpenFault> for DayFault {
+    ghost use Rattle.std.specs.Prelude.{◌≡◌};
+    ghost use Rattle.mrp_engine.specs.day.Fault.{opening_fault};
+
+    ghost from_gives = { λ fault given. given ≡ opening_fault fault };
+
+    fn from(fault: OpenFault) -> DayFault {
+        match fault {
+            OpenFault::Refused(fault) => DayFault::Refused(fault),
+            OpenFault::NoMemory => DayFault::NoMemory,
+        }
     }
 }
 

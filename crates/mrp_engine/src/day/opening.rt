@@ -5,7 +5,7 @@ ghost use Rattle.mrp_engine.specs.day.Day.{loop_fault};
 ghost use Rattle.mrp_engine.specs.day.Fault.{bill_fault};
 ghost use Rattle.mrp_engine.specs.day.Opened.{BeginsWithin, Closes, Opens, OpensTables};
 
-use crate::day::fault::DayFault;
+use crate::day::fault::OpenFault;
 use mrp_bill::{Bill, BillFault, Shop};
 use mrp_rows::faults::{LOOP, NO_MEMORY};
 use mrp_rows::{Fault, Table, split_bundle};
@@ -14,14 +14,14 @@ use mrp_tables::limits::MOST_ITEMS;
 use std::alloc::Global;
 use std::thread::Threads;
 
-// Why a day is refused: the bundle's fault, or want of memory.
-fn refusal(fault: Fault) -> DayFault
+// Why a shop is not opened: for the bundle's fault, or out of memory.
+fn refusal(fault: Fault) -> OpenFault
     ensures { Closes fault result }
 {
     if fault.code == NO_MEMORY {
-        DayFault::NoMemory
+        OpenFault::NoMemory
     } else {
-        DayFault::Refused(fault)
+        OpenFault::Refused(fault)
     }
 }
 
@@ -38,19 +38,19 @@ fn loop_at(path: &[usize]) -> Fault
     }
 }
 
-// Why a day is refused, by what refused its bill.
-fn bill_refusal(fault: BillFault) -> DayFault
+// Why a shop is not opened, by what refused its bill.
+fn bill_refusal(fault: BillFault) -> OpenFault
     requires { BeginsWithin fault }
     ensures { result ≡ bill_fault fault }
 {
     match fault {
-        BillFault::Loop { path } => DayFault::Refused(loop_at(&path)),
-        BillFault::NoMemory => DayFault::NoMemory,
+        BillFault::Loop { path } => OpenFault::Refused(loop_at(&path)),
+        BillFault::NoMemory => OpenFault::NoMemory,
     }
 }
 
 // The shop of tables.
-fn shop_of(alloc: Global, tables: Tables) -> Result<Shop, DayFault>
+fn shop_of(alloc: Global, tables: Tables) -> Result<Shop, OpenFault>
     ensures { OpensTables tables result }
 {
     let _items = tables.items();
@@ -64,7 +64,7 @@ fn shop_of(alloc: Global, tables: Tables) -> Result<Shop, DayFault>
 /// The shop of a bundle, whose tables are read in two threads where a second can be started.
 ///
 /// Errors: `Refused` with the bundle's first fault, the loop last, and `NoMemory`.
-pub fn open_shop(rt: &impl Threads, alloc: Global, bundle: &[u8]) -> Result<Shop, DayFault>
+pub fn open_shop(rt: &impl Threads, alloc: Global, bundle: &[u8]) -> Result<Shop, OpenFault>
     ensures { Opens bundle.now result }
 {
     let sections = match split_bundle(bundle) {

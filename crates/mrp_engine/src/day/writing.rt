@@ -1,18 +1,17 @@
 //! The text of a day, written.
 
-ghost use Rattle.std.specs.Prelude.{◌≡◌, Err, IfErr, OnOk, OnErr, flat_map};
+ghost use Rattle.std.specs.Prelude.{flat_map};
 ghost use Rattle.std.specs.Int.{IsInRange};
 ghost use Rattle.mrp_report.specs.ReportText.{report_text};
-ghost use Rattle.mrp_report.specs.Written.{HasGivenUp, HasTakenFront};
 ghost use Rattle.mrp_engine.specs.day.Planned.{IsPlanned, inputs_of_plans, text_of};
-ghost use Rattle.mrp_engine.specs.day.Run.{HasNotFailed, HasTakenAll, IsWhileWriting};
+ghost use Rattle.mrp_engine.specs.day.Run.{WritesText};
 
 use crate::day::Day;
 use crate::day::fault::DayFault;
 use crate::day::run::MOST_WORKERS;
 use mrp_item::Plan;
 use mrp_report::{write_history, write_report};
-use mrp_rows::{Told, WRITE_TRIES};
+use mrp_rows::Told;
 use std::alloc::Global;
 use std::io::Write;
 use std::thread::Threads;
@@ -26,11 +25,7 @@ fn write_reports<W: Write>(
     workers: usize,
 ) -> Result<(), DayFault>
     requires workers { IsInRange 1 MOST_WORKERS workers }
-    ensures whole { OnOk result (HasTakenAll W.contents writer.old writer.new (flat_map report_text (inputs_of_plans plans.now))) }
-    ensures front { OnErr result (HasTakenFront W.contents writer.old writer.new (flat_map report_text (inputs_of_plans plans.now))) }
-    ensures gave_up { result ≡ Err DayFault.Write → HasGivenUp writer.old writer.new WRITE_TRIES }
-    ensures unfailed { result ≡ Err DayFault.NoMemory → HasNotFailed writer.old writer.new }
-    ensures writing { IfErr result IsWhileWriting }
+    ensures { WritesText W.contents writer.old writer.new (flat_map report_text (inputs_of_plans plans.now)) result }
 {
     for plan in plans {
         write_report(rt, alloc, plan, writer, workers)?;
@@ -48,13 +43,9 @@ fn write_texts<W: Write>(
 ) -> Result<(), DayFault>
     requires planned { IsPlanned day.now }
     requires workers { IsInRange 1 MOST_WORKERS workers }
-    ensures whole { OnOk result (HasTakenAll W.contents writer.old writer.new (text_of day.now)) }
-    ensures front { OnErr result (HasTakenFront W.contents writer.old writer.new (text_of day.now)) }
-    ensures gave_up { result ≡ Err DayFault.Write → HasGivenUp writer.old writer.new WRITE_TRIES }
-    ensures unfailed { result ≡ Err DayFault.NoMemory → HasNotFailed writer.old writer.new }
-    ensures writing { IfErr result IsWhileWriting }
+    ensures { WritesText W.contents writer.old writer.new (text_of day.now) result }
 {
-    write_history(alloc, &day.history, &day.shop, writer)?;
+    write_history(alloc, &day.history, day.rows.shop(), writer)?;
     write_reports(rt, alloc, &day.plans, writer, workers)
 }
 
@@ -73,11 +64,7 @@ pub fn write_day<W: Write>(
 ) -> Result<(), DayFault>
     requires planned { IsPlanned day }
     requires workers { IsInRange 1 MOST_WORKERS workers }
-    ensures whole { OnOk result (HasTakenAll W.contents writer.old writer.new (text_of day)) }
-    ensures front { OnErr result (HasTakenFront W.contents writer.old writer.new (text_of day)) }
-    ensures gave_up { result ≡ Err DayFault.Write → HasGivenUp writer.old writer.new WRITE_TRIES }
-    ensures unfailed { result ≡ Err DayFault.NoMemory → HasNotFailed writer.old writer.new }
-    ensures writing { IfErr result IsWhileWriting }
+    ensures { WritesText W.contents writer.old writer.new (text_of day) result }
 {
     write_texts(rt, alloc, &day, writer, workers)
 }

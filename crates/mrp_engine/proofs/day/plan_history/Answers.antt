@@ -1,5 +1,4 @@
 use Rattle.std.proofs.Common.{◌≡◌, Result, Ok, Err, refl, rules, subst, sym}
-use Rattle.mrp_bill.specs.Shop.{Shop}
 use Rattle.mrp_engine.specs.day.Day.{runs_of}
 use Rattle.mrp_engine.specs.day.Planned.{PlansHistory, PlansRuns}
 use Rattle.mrp_engine.specs.declared.day.Day.{Day}
@@ -9,15 +8,15 @@ use Rattle.mrp_engine.proofs.day.plan_history.Goals as goal
 
 pub returns-in_err-plans : goal.returns-in_err-plans
 returns-in_err-plans g c =
-    let t = c.args.shop.value.tables in
+    let t = c.args.rows.value.tables in
     let h = c.args.history.entries in
-    let refused : PlansRuns (runs_of t h) (Err c.in_err-plans.field-0.0) = subst (λ (x : Shop). PlansRuns (runs_of x.tables h) (Err c.in_err-plans.field-0.0)) c.requires.rows c.in_err-plans.ensures in
+    let refused : PlansRuns (runs_of t h) (Err c.in_err-plans.field-0.0) = c.in_err-plans.ensures in
     let fails : c.from_residual.result ≡ Err c.in_err-plans.field-0.0 = search rules in
     subst (λ (r : Result Day DayFault). PlansHistory t h r) (sym fails) (refused-day t h c.in_err-plans.field-0.0 refused)
 
 pub returns : goal.returns
 returns g c =
-    let t = c.args.shop.value.tables in
+    let t = c.args.rows.value.tables in
     let h = c.args.history.entries in
-    let plans : PlansRuns (runs_of t h) (Ok c.in_ok-plans.plans) = subst (λ (x : Shop). PlansRuns (runs_of x.tables h) (Ok c.in_ok-plans.plans)) c.requires.rows c.in_ok-plans.ensures in
-    (refl, refl, record { supply = c.requires.supply; runs = plans.0; plannable = plans.1 })
+    let plans : PlansRuns (runs_of t h) (Ok c.in_ok-plans.plans) = c.in_ok-plans.ensures in
+    (refl, refl, record { supply = c.requires; runs = plans.0; plannable = plans.1 })

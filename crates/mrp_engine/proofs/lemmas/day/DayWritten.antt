@@ -1,8 +1,9 @@
 -- The texts of a day are written one after the other.
-use Rattle.std.proofs.Common.{◌≡◌, ◌∙◌, ℕ, ◌+◌, ◌<◌, List, [], ◌∷◌, ◌++◌, length, take, drop, get_or, Option, sym, ap, subst, inl, inr, arith}
+use Rattle.std.proofs.Common.{◌≡◌, ◌∙◌, ℕ, ◌+◌, ◌<◌, List, [], ◌∷◌, ◌++◌, length, take, drop, get_or, Option, Result, Ok, Err, sym, ap, subst, inl, inr, refl, arith}
 use Rattle.std.proofs.lemmas.List.{append-nil, drop_more, map-append, take-append-drop, take_more}
 use Rattle.std.proofs.lemmas.List.Concat.{flat_map-append}
 use Rattle.std.specs.List.{flat_map}
+use Rattle.std.proofs.lemmas.Result.{on_err_weaker, on_ok_weaker}
 use Rattle.mrp_rows.specs.declared.told.Told.{Told}
 use Rattle.mrp_rows.specs.Told.{inner_of, failures_of, interrupted_of, HasRisenBy}
 use Rattle.mrp_rows.specs.Streams.{RisesBy}
@@ -12,7 +13,12 @@ use Rattle.mrp_report.specs.ReportText.{report_text}
 use Rattle.mrp_report.specs.Written.{HasGivenUp, HasTakenFront, HasTakenWhole}
 use Rattle.mrp_report.proofs.Progress.{taken-both, taken-none}
 use Rattle.mrp_engine.specs.day.Planned.{inputs_of_plans}
-use Rattle.mrp_engine.specs.day.Run.{HasNotFailed, HasTakenAll}
+use Rattle.mrp_rows.specs.declared.streams.TheConstants.{WRITE_TRIES}
+use Rattle.mrp_report.specs.declared.fault.ReportFault.{ReportFault}
+use Rattle.mrp_report.specs.declared.fault.ReportFault.TheVariants as report
+use Rattle.mrp_engine.specs.day.Fault.{writing_fault}
+use Rattle.mrp_engine.specs.day.Run.{HasNotFailed, HasTakenAll, WritesText}
+use Rattle.mrp_engine.specs.declared.day.fault.DayFault.{DayFault}
 
 risen-after : (m n a b c : ℕ) → RisesBy m a b → HasRisenBy n b c → HasRisenBy n a c
 risen-after m n a b c p q = omega (arith, p.0, p.1, q)
@@ -46,6 +52,37 @@ given-up-later contents a b c s tries (m, taken) (inr more) =
 -- a writer that did not fail in a later part did not fail in the whole
 pub not-failed-later : {W : Type 0} (contents : W → Option (List ℕ)) (a b c : Told W) (s : List ℕ) → HasTakenAll contents a b s → HasNotFailed b c → HasNotFailed a c
 not-failed-later contents a b c s (m, taken) later = later ∙ taken.failures
+
+-- a text that is taken whole is written
+pub all-written : {W : Type 0} (contents : W → Option (List ℕ)) (a b : Told W) (s : List ℕ) → HasTakenAll contents a b s → WritesText contents a b s (Ok (tt {0}))
+all-written contents a b s taken = record { whole = taken; front = tt; gave_up = λ e. (cc); unfailed = λ e. (cc); writing = tt }
+
+-- a text stops where its writer gives up, or memory is refused
+pub stopped : {W : Type 0} (contents : W → Option (List ℕ)) (a b : Told W) (s : List ℕ) (f : ReportFault) → HasTakenFront contents a b s
+    → (f ≡ report.Write → HasGivenUp a b WRITE_TRIES) → (f ≡ report.NoMemory → HasNotFailed a b) → WritesText contents a b s (Err (writing_fault f))
+stopped contents a b s report.Write front gave_up unfailed = record { whole = tt; front = front; gave_up = λ e. gave_up refl; unfailed = λ e. (cc); writing = tt }
+stopped contents a b s report.NoMemory front gave_up unfailed = record { whole = tt; front = front; gave_up = λ e. (cc); unfailed = λ e. unfailed refl; writing = tt }
+
+-- and so does a longer text
+pub stopped-more : {W : Type 0} (contents : W → Option (List ℕ)) (a b : Told W) (s t : List ℕ) (f : DayFault) → WritesText contents a b s (Err f) → WritesText contents a b (s ++ t) (Err f)
+stopped-more contents a b s t f writes = record {
+  whole = tt;
+  front = front-of-more contents a b s t writes.front;
+  gave_up = writes.gave_up;
+  unfailed = writes.unfailed;
+  writing = writes.writing;
+}
+
+-- a text is written after one that was taken
+pub written-then : {W : Type 0} (contents : W → Option (List ℕ)) (a b c : Told W) (s t : List ℕ) (r : Result (Unit {0}) DayFault) → HasTakenAll contents a b s → WritesText contents b c t r
+    → WritesText contents a c (s ++ t) r
+written-then contents a b c s t r taken writes = record {
+  whole = on_ok_weaker r (λ (next : HasTakenAll contents b c t). all-both contents a b c s t taken next) writes.whole;
+  front = on_err_weaker r (λ (next : HasTakenFront contents b c t). front-then contents a b c s t taken next) writes.front;
+  gave_up = λ e. given-up-later contents a b c s WRITE_TRIES taken (writes.gave_up e);
+  unfailed = λ e. not-failed-later contents a b c s taken (writes.unfailed e);
+  writing = writes.writing;
+}
 
 -- The reports of plans.
 

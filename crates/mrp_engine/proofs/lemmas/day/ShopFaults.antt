@@ -15,8 +15,8 @@ use Rattle.mrp_bill.specs.declared.fault.BillFault.{BillFault}
 use Rattle.mrp_bill.specs.declared.fault.BillFault.TheVariants as bill
 use Rattle.mrp_bill.proofs.Accepted.{are-within}
 use Rattle.mrp_bill.proofs.BillListed.{parent-within}
-use Rattle.mrp_engine.specs.declared.day.fault.DayFault.{DayFault}
-use Rattle.mrp_engine.specs.declared.day.fault.DayFault.TheVariants.{Refused, TooLarge, Read, Write, NoMemory}
+use Rattle.mrp_engine.specs.declared.day.fault.OpenFault.{OpenFault}
+use Rattle.mrp_engine.specs.declared.day.fault.OpenFault.TheVariants.{Refused, NoMemory}
 use Rattle.mrp_engine.specs.day.Day.{loop_fault}
 use Rattle.mrp_engine.specs.day.Fault.{bill_fault}
 use Rattle.mrp_engine.specs.day.Opened.{BeginsWithin, Closes, Opens, OpensTables}
@@ -50,21 +50,18 @@ opens-refused tables (bill.Loop path) is = (slice_index path.items 0, path-first
 opens-refused tables bill.NoMemory is = tt
 
 -- what refuses a bundle's sections or tables refuses the bundle
-pub closed : (bundle : List ℕ) (f : Fault) (r : DayFault) → (f.code ≡ faults.NO_MEMORY) ⊎ (tables_of bundle ≡ Err f) → Closes f r → Opens bundle (Err r)
+pub closed : (bundle : List ℕ) (f : Fault) (r : OpenFault) → (f.code ≡ faults.NO_MEMORY) ⊎ (tables_of bundle ≡ Err f) → Closes f r → Opens bundle (Err r)
 closed bundle f (Refused g) (inl memory) (same, other) = absurd (other memory)
 closed bundle f (Refused g) (inr e) (same, other) =
     (inl (e ∙ ap (λ (h : Fault). Err h) (sym same)), λ (h : g.code ≡ faults.NO_MEMORY). other (ap (λ (x : Fault). x.code) (sym same) ∙ h))
 closed bundle f NoMemory why is = tt
-closed bundle f (TooLarge name) why is = is
-closed bundle f Read why is = is
-closed bundle f Write why is = is
 
 -- the loop's fault is no want of memory
 loop-code : (item : ℕ) → (loop_fault item).code ≢ faults.NO_MEMORY
 loop-code item h = let bad : faults.LOOP ≡ faults.NO_MEMORY = h in absurd (omega arith)
 
 -- the tables of a bundle, and what comes of their bill
-pub opened : (bundle : List ℕ) (tables : Tables) (r : Result Shop DayFault) → tables_of bundle ≡ Ok tables → OpensTables tables r → Opens bundle r
+pub opened : (bundle : List ℕ) (tables : Tables) (r : Result Shop OpenFault) → tables_of bundle ≡ Ok tables → OpensTables tables r → Opens bundle r
 opened bundle tables (Ok shop) e (same, none) =
     record {
       tables_are = e ∙ ap (λ (t : Tables). Ok t) (sym same);
@@ -73,9 +70,6 @@ opened bundle tables (Ok shop) e (same, none) =
 opened bundle tables (Err (Refused f)) e (item, first, same) =
     (inr (tables, item, record { tables_are = e; loop = first }, same), λ (h : f.code ≡ faults.NO_MEMORY). loop-code item (ap (λ (x : Fault). x.code) (sym same) ∙ h))
 opened bundle tables (Err NoMemory) e is = tt
-opened bundle tables (Err (TooLarge name)) e is = is
-opened bundle tables (Err Read) e is = is
-opened bundle tables (Err Write) e is = is
 
 -- the tables of a bundle whose sections are split
 pub tables-are : (bundle : List ℕ) (texts : List (List ℕ)) (r : Result Tables Fault) → bundle_of bundle ≡ Ok texts → tables_in texts ≡ r → tables_of bundle ≡ r

@@ -1,42 +1,26 @@
-use Rattle.std.proofs.Common.{◌≡◌, ◌∙◌, Err, inr, rules, subst, sym}
-use Rattle.mrp_rows.specs.Told.{inner_of}
-use Rattle.mrp_engine.specs.day.Planned.{PlansDay, text_of}
+use Rattle.std.proofs.Common.{◌≡◌, Err, Result, ap, rules, subst, sym}
+use Rattle.mrp_rows.specs.declared.streams.ReadFault.{ReadFault}
+use Rattle.mrp_engine.specs.day.Fault.{reading_fault}
 use Rattle.mrp_engine.specs.day.RightDay.{AnswersDesks}
+use Rattle.mrp_engine.specs.day.Run.{MakesDay}
 use Rattle.mrp_engine.specs.declared.day.fault.DayFault.{DayFault}
-use Rattle.mrp_engine.specs.declared.day.fault.DayFault.TheVariants.{TooLarge}
-use Rattle.mrp_engine.proofs.lemmas.day.DayRuns.{tells-name, tells-planned}
+use Rattle.mrp_engine.proofs.lemmas.day.DayMade.{made, unread}
 use Rattle.mrp_engine.proofs.live.live_day.Goals as goal
 
-pub returns-in_err-day-clause-too_large : goal.returns-in_err-day-clause-too_large
-returns-in_err-day-clause-too_large g c name e =
-    let given = g.R.Read.remaining (inner_of c.args.reader.now) in
-    let t = c.in_ok-shop.shop.tables in
-    let refused : PlansDay AnswersDesks t (Err c.in_err-day.field-0.0) = c.in_err-day.ensures in
-    let fails : c.from_residual-in_err-day.result ≡ Err c.in_err-day.field-0.0 = search rules in
-    let is : c.in_err-day.field-0.0 ≡ TooLarge name = cc (fails, e) in
-    tells-name AnswersDesks given t name c.in_ok-shop.ensures.shop (subst (λ (f : DayFault). PlansDay AnswersDesks t (Err f)) is refused)
+pub returns-in_err-bundle : goal.returns-in_err-bundle
+returns-in_err-bundle g c =
+    let remaining = g.R.Read.remaining in
+    let contents = g.W.Write.contents in
+    let reader = c.args.reader.now in
+    let after = c.read_bundle.new.reader in
+    let w = c.args.writer.now in
+    let f = c.in_err-bundle.field-0.0 in
+    let fails : c.from_residual.result ≡ Err (reading_fault f) = search rules in
+    subst (λ (r : Result (Unit {0}) DayFault). MakesDay AnswersDesks remaining contents reader after w w r) (sym fails)
+    (unread AnswersDesks remaining contents reader after w f (λ e. c.in_err-bundle.ensures.refused (ap (λ (x : ReadFault). Err x) e))
+    (λ e. (c.in_err-bundle.ensures.memory (ap (λ (x : ReadFault). Err x) e), c.read_bundle.ensures.calls)) c.read_bundle.ensures.front)
 
-pub returns-in_err-write_day-clause-write : goal.returns-in_err-write_day-clause-write
-returns-in_err-write_day-clause-write g c e =
-    let given = g.R.Read.remaining (inner_of c.args.reader.now) in
-    (text_of c.in_ok-day.day, tells-planned AnswersDesks given c.in_ok-shop.shop.tables c.in_ok-day.day c.in_ok-shop.ensures.shop c.in_ok-day.ensures, c.in_err-write_day.ensures.front)
-
-pub returns-in_err-write_day-clause-memory : goal.returns-in_err-write_day-clause-memory
-returns-in_err-write_day-clause-memory g c e =
-    let given = g.R.Read.remaining (inner_of c.args.reader.now) in
-    inr (c.in_ok-shop.ensures.end, (text_of c.in_ok-day.day, tells-planned AnswersDesks given c.in_ok-shop.shop.tables c.in_ok-day.day c.in_ok-shop.ensures.shop c.in_ok-day.ensures, c.in_err-write_day.ensures.front))
-
-pub returns-in_err-write_day-clause-gave_up : goal.returns-in_err-write_day-clause-gave_up
-returns-in_err-write_day-clause-gave_up g c e =
-    let fails : c.from_residual-in_err-write_day.result ≡ Err c.in_err-write_day.field-0.0 = search rules in
-    c.in_err-write_day.ensures.gave_up (sym fails ∙ e)
-
-pub returns-clause-day : goal.returns-clause-day
-returns-clause-day g c =
-    let given = g.R.Read.remaining (inner_of c.args.reader.now) in
-    (text_of c.in_ok-day.day, tells-planned AnswersDesks given c.in_ok-shop.shop.tables c.in_ok-day.day c.in_ok-shop.ensures.shop c.in_ok-day.ensures, c.in_ok-write_day.ensures.whole)
-
-pub returns-in_err-write_day-clause-unfailed : goal.returns-in_err-write_day-clause-unfailed
-returns-in_err-write_day-clause-unfailed g c e =
-    let fails : c.from_residual-in_err-write_day.result ≡ Err c.in_err-write_day.field-0.0 = search rules in
-    (c.in_ok-shop.ensures.within tt, c.in_err-write_day.ensures.unfailed (sym fails ∙ e))
+pub returns : goal.returns
+returns g c =
+    made AnswersDesks g.R.Read.remaining g.W.Write.contents c.args.reader.now c.read_bundle.new.reader c.args.writer.now c.live_bundle.new.writer c.in_ok-bundle.bundle.items c.live_bundle.result
+    c.in_ok-bundle.ensures.bytes c.in_ok-bundle.ensures.end (c.in_ok-bundle.ensures.failures, c.read_bundle.ensures.calls) c.read_bundle.ensures.front c.live_bundle.ensures

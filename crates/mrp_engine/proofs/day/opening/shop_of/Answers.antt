@@ -2,7 +2,7 @@ use Rattle.std.proofs.Common.{◌≤◌, Err, length, subst, sym}
 use Rattle.std.specs.Prelude.{All}
 use Rattle.mrp_tables.specs.Facts.{IsBillLine}
 use Rattle.mrp_engine.specs.day.Opened.{OpensTables}
-use Rattle.mrp_engine.specs.declared.day.fault.DayFault.{DayFault}
+use Rattle.mrp_engine.specs.declared.day.fault.OpenFault.{OpenFault}
 use Rattle.mrp_engine.proofs.lemmas.day.ShopFaults.{begins-within, opens-refused}
 use Rattle.mrp_engine.proofs.day.opening.shop_of.Goals as goal
 
@@ -14,4 +14,4 @@ bill_refusal-requires c =
 
 pub returns-in-Err : goal.returns-in-Err
 returns-in-Err c =
-    subst (λ (f : DayFault). OpensTables c.args.tables (Err f)) (sym c.bill_refusal.ensures) (opens-refused c.args.tables c.in-Err.fault c.in-Err.ensures.refused)
+    subst (λ (f : OpenFault). OpensTables c.args.tables (Err f)) (sym c.bill_refusal.ensures) (opens-refused c.args.tables c.in-Err.fault c.in-Err.ensures.refused)
