@@ -12,9 +12,11 @@ use Rattle.mrp_book.specs.Books.{OrderBook}
 use Rattle.mrp_book.specs.Standing.{History}
 use Rattle.mrp_book.specs.History.{IsLegal, IsReply, next_number}
 use Rattle.mrp_item.specs.Inputs.{Inputs}
+use Rattle.mrp_item.specs.Places.{WholePlan}
 use Rattle.mrp_engine.specs.day.Script.{Script}
 use Rattle.mrp_engine.specs.day.Day.{runs_of}
 use Rattle.mrp_engine.specs.day.RightDay.{FollowsDesks, asked_by}
+use Rattle.mrp_report.specs.ReportText.{report_text}
 use Rattle.mrp_report.specs.declared.fault.ReportFault.{ReportFault}
 use Rattle.mrp_explode.specs.declared.fault.RunFault.{RunFault}
 use Rattle.mrp_explode.specs.declared.fault.RunFault.TheVariants as run
@@ -84,10 +86,22 @@ IsFrontBy None written front = front ≡ Ok None
 IsFrontBy (Some len) (Ok done) front = front ≡ Ok (Some len)
 IsFrontBy (Some len) (Err refused) front = (none : NoMemory) × (front ≡ Err none)
 
--- the same of a run without a plan, by why it has none: where an item gets too large, it has no report
-abbrev pub IsUnplannedFront : RunFault → Result (Option ℕ) NoMemory → Type 0
-IsUnplannedFront (run.TooLarge item) front = front ≡ Ok (Some 0)
-IsUnplannedFront run.NoMemory front = (none : NoMemory) × (front ≡ Err none)
+-- how many bytes of a text are the report of a run, by its plan, or by why it has none: where an item gets too large, it has no report
+abbrev pub IsPlannedFront : Result WholePlan RunFault → List ℕ → Result (Option ℕ) NoMemory → Type 0
+IsPlannedFront (Ok plan) text front = ComparesFront (report_text plan.inputs) text front
+IsPlannedFront (Err (run.TooLarge item)) text front = front ≡ Ok (Some 0)
+IsPlannedFront (Err run.NoMemory) text front = (none : NoMemory) × (front ≡ Err none)
+
+-- a run's report stands next in so many bytes, or does not, or was not made for want of memory
+abbrev pub IsRunJudged : ℕ → Result (Option ℕ) NoMemory → Result ℕ AuditFault → Type 0
+IsRunJudged run (Ok (Some len)) told = told ≡ Ok len
+IsRunJudged run (Ok None) told = told ≡ Err (fault.ReportDiffers run)
+IsRunJudged run (Err refused) told = told ≡ Err fault.NoMemory
+
+-- nothing is left over behind the last run's report, or it differs that there is none of this number
+abbrev pub IsEndJudged : ℕ → List ℕ → Result ⊤ AuditFault → Type 0
+IsEndJudged run left (Ok done) = left ≡ []
+IsEndJudged run left (Err f) = (f ≡ fault.ReportDiffers run) × (left ≢ [])
 
 -- a text is the reports of runs, or the first that does not stand next, or one more where bytes are left over
 abbrev pub ComparesReports : List Inputs → List ℕ → Result ⊤ AuditFault → Type 0

@@ -7,29 +7,20 @@ ghost use Rattle.mrp_item.specs.Inputs.{inputs_of};
 ghost use Rattle.mrp_report.specs.ReportText.{report_text};
 ghost use Rattle.mrp_engine.specs.day.Day.{runs_of};
 ghost use Rattle.mrp_engine.specs.day.RightDay.{run_report};
-ghost use Rattle.mrp_audit.specs.Parts.{ComparesFront, ComparesReports, IsUnplannedFront};
+ghost use Rattle.mrp_audit.specs.Parts.{ComparesFront, ComparesReports, IsEndJudged, IsPlannedFront, IsRunJudged};
 
 use crate::comparing::{Comparing, front_by};
 use crate::fault::AuditFault;
 use mrp_book::{History, Reply, Snapshot};
-use mrp_explode::{RunFault, explode_levels};
-use mrp_item::{Inputs, Plan, ShopRows};
+use mrp_engine::plan_run;
+use mrp_explode::RunFault;
+use mrp_item::{Plan, ShopRows};
 use mrp_qty::NoMemory;
 use mrp_report::write_report;
 use mrp_rows::Told;
 use std::alloc::Global;
 use std::sync::Arc;
 use std::thread::Threads;
-
-// How many bytes of a text are the report of a run without a plan: where an item of it gets too large, it has none.
-fn unplanned_front(fault: RunFault) -> Result<Option<usize>, NoMemory>
-    ensures { IsUnplannedFront fault result }
-{
-    match fault {
-        RunFault::TooLarge { .. } => Ok(Some(0)),
-        RunFault::NoMemory => Err(NoMemory),
-    }
-}
 
 // How many threads make the rows of a report that is compared.
 const WORKERS: usize = 4;
@@ -49,7 +40,23 @@ fn report_front(
     front_by(writer.into_inner().agreement(), written)
 }
 
-// The same of a run.
+// How many bytes of a text are the report of a run, by its plan. A run has no report where an item of it gets too large.
+fn planned_front(
+    rt: &(impl Alloc + Threads + Sync),
+    alloc: Global,
+    planned: Result<Plan, RunFault>,
+    text: &[u8],
+) -> Result<Option<usize>, NoMemory>
+    ensures { IsPlannedFront planned text.now result }
+{
+    match planned {
+        Ok(plan) => report_front(rt, alloc, &plan, text),
+        Err(RunFault::TooLarge { .. }) => Ok(Some(0)),
+        Err(RunFault::NoMemory) => Err(NoMemory),
+    }
+}
+
+// How many bytes of a text are the report of a run of a shop, at its front.
 fn run_front(
     rt: &(impl Alloc + Threads + Sync),
     alloc: Global,
@@ -60,10 +67,29 @@ fn run_front(
     requires { AreBooked (supply_of rows.now.value.tables) snapshot.now.standing }
     ensures { ComparesFront (run_report (inputs_of rows.now.value.tables snapshot.now)) text.now result }
 {
-    let inputs = Inputs::over(alloc, rows.clone()?, snapshot.copy()?)?;
-    match explode_levels(rt, alloc, &inputs) {
-        Ok(plan) => report_front(rt, alloc, &plan, text),
-        Err(fault) => unplanned_front(fault),
+    let planned = plan_run(rt, alloc, rows, snapshot);
+    planned_front(rt, alloc, planned, text)
+}
+
+// How many bytes the report of the run of a number has, where it stands next.
+fn judge_run(run: u64, front: Result<Option<usize>, NoMemory>) -> Result<usize, AuditFault>
+    ensures { IsRunJudged run front result }
+{
+    match front {
+        Ok(Some(len)) => Ok(len),
+        Ok(None) => Err(AuditFault::ReportDiffers { run }),
+        Err(NoMemory) => Err(AuditFault::NoMemory),
+    }
+}
+
+// Whether nothing is left of a text behind the last report; what is left is told by the number of one run more.
+fn judge_end(run: u64, left: &[u8]) -> Result<(), AuditFault>
+    ensures { IsEndJudged run left.now result }
+{
+    if left.is_empty() {
+        Ok(())
+    } else {
+        Err(AuditFault::ReportDiffers { run })
     }
 }
 
@@ -82,21 +108,16 @@ pub(crate) fn check_reports(
     requires { history.now.supply ≡ supply_of rows.now.value.tables }
     ensures { ComparesReports (runs_of rows.now.value.tables history.now.entries) text.now result }
 {
-    let mut at = 0;
+    let mut left = text;
     let mut run = 1;
     for entry in history.entries() {
         if let Reply::Taken(snapshot) = &entry.reply {
-            let (_, left) = text.split_at(at);
-            match run_front(rt, alloc, rows, snapshot, left)? {
-                Some(len) => at += len,
-                None => return Err(AuditFault::ReportDiffers { run }),
-            }
+            let front = run_front(rt, alloc, rows, snapshot, left);
+            let len = judge_run(run, front)?;
+            let (_, rest) = left.split_at(len);
+            left = rest;
             run += 1;
         }
     }
-    if at == text.len() {
-        Ok(())
-    } else {
-        Err(AuditFault::ReportDiffers { run })
-    }
+    judge_end(run, left)
 }

@@ -4,7 +4,7 @@ ghost use Rattle.std.specs.Prelude.{◌≡◌, IfOk};
 ghost use Rattle.mrp_engine.specs.day.Script.{script_of, with_run};
 
 use mrp_book::Call;
-use mrp_engine::{ADDED_DESK, call_of, has_run};
+use mrp_engine::{added_run, call_of};
 use mrp_qty::NoMemory;
 use mrp_tables::Tables;
 use std::alloc::Global;
@@ -21,8 +21,8 @@ pub(crate) fn script_calls(alloc: Global, tables: &Tables) -> Result<Vec<(u64, C
     for row in script {
         calls.push((row.desk, call_of(row.call)))?;
     }
-    if !has_run(script) {
-        calls.push((ADDED_DESK, Call::Snapshot))?;
+    if let Some(last) = added_run(script) {
+        calls.push(last)?;
     }
     Ok(calls)
 }

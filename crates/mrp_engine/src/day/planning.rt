@@ -6,10 +6,7 @@ ghost use Rattle.mrp_book.specs.Booked.{AreBooked};
 ghost use Rattle.mrp_item.specs.Inputs.{inputs_of, item_at};
 ghost use Rattle.mrp_item.specs.Plan.{plan_of};
 ghost use Rattle.mrp_explode.specs.Explosion.{Explodes};
-ghost use Rattle.mrp_engine.specs.day.Fault.{run_fault};
-ghost use Rattle.mrp_engine.specs.day.Planned.{PlansRun};
 
-use crate::day::fault::DayFault;
 use mrp_book::Snapshot;
 use mrp_explode::{RunFault, explode_levels};
 use mrp_item::{Inputs, Plan, ShopRows};
@@ -19,8 +16,11 @@ use std::alloc::Global;
 use std::sync::Arc;
 use std::thread::Threads;
 
-// What a run is planned from.
-fn inputs_of(
+/// What a run is planned from: a shop, by its rows, and a snapshot of its order book, as the caller
+/// owes.
+///
+/// Errors: `NoMemory` where memory is refused.
+pub fn inputs_of(
     alloc: Global,
     rows: &Arc<ShopRows>,
     snapshot: &Snapshot,
@@ -31,26 +31,8 @@ fn inputs_of(
     Inputs::over(alloc, rows.clone()?, snapshot.copy()?)
 }
 
-/// The name of an item that refuses the plan of its inputs.
-pub fn name_of(inputs: &Inputs, item: usize) -> Name
-    requires { plan_of inputs.now ≡ Err item }
-    ensures { result ≡ (item_at inputs.now item).name }
-{
-    inputs.shop().tables().items()[item].name
-}
-
-// Why a run is refused, with the name of the item that gets too large.
-fn refusal(inputs: &Inputs, fault: RunFault) -> DayFault
-    requires { Explodes inputs.now (Err fault) }
-    ensures { result ≡ run_fault inputs.now fault }
-{
-    match fault {
-        RunFault::TooLarge { item } => DayFault::TooLarge(name_of(inputs, item)),
-        RunFault::NoMemory => DayFault::NoMemory,
-    }
-}
-
-/// The plan of a run: of a shop, by its rows, and a snapshot of its order book, as the caller owes.
+/// The plan of a run: of a shop, by its rows, and a snapshot of its order book, as the caller owes. The
+/// items of a low-level code are planned side by side where there are enough of them.
 ///
 /// Errors: `TooLarge` with the first item in table order that gets too large, and `NoMemory`.
 pub fn plan_run(
@@ -58,13 +40,18 @@ pub fn plan_run(
     alloc: Global,
     rows: &Arc<ShopRows>,
     snapshot: &Snapshot,
-) -> Result<Plan, DayFault>
+) -> Result<Plan, RunFault>
     requires { AreBooked (supply_of rows.now.value.tables) snapshot.now.standing }
-    ensures { PlansRun (inputs_of rows.now.value.tables snapshot.now) result }
+    ensures { Explodes (inputs_of rows.now.value.tables snapshot.now) result }
 {
     let inputs = inputs_of(alloc, rows, snapshot)?;
-    match explode_levels(rt, alloc, &inputs) {
-        Ok(plan) => Ok(plan),
-        Err(fault) => Err(refusal(&inputs, fault)),
-    }
+    explode_levels(rt, alloc, &inputs)
+}
+
+/// The name of an item that refuses the plan of its inputs.
+pub fn name_of(inputs: &Inputs, item: usize) -> Name
+    requires { plan_of inputs.now ≡ Err item }
+    ensures { result ≡ (item_at inputs.now item).name }
+{
+    inputs.entry(item).name
 }

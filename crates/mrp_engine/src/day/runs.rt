@@ -1,17 +1,49 @@
 //! The plans of a history's runs.
 
-ghost use Rattle.std.specs.Prelude.{◌≡◌};
+ghost use Rattle.std.specs.Prelude.{◌≡◌, ◌<◌, ℕ, length};
 ghost use Rattle.mrp_master.specs.Supply.{supply_of};
+ghost use Rattle.mrp_book.specs.Booked.{AreBooked};
+ghost use Rattle.mrp_item.specs.Inputs.{Inputs, inputs_of};
 ghost use Rattle.mrp_engine.specs.day.Day.{runs_of};
-ghost use Rattle.mrp_engine.specs.day.Planned.{PlansRuns};
+ghost use Rattle.mrp_engine.specs.day.Fault.{run_fault};
+ghost use Rattle.mrp_engine.specs.day.Planned.{PlansRun, PlansRuns};
 
 use crate::day::fault::DayFault;
 use crate::day::planning::plan_run;
-use mrp_book::{History, Reply};
+use mrp_bill::Shop;
+use mrp_book::{History, Reply, Snapshot};
+use mrp_explode::RunFault;
 use mrp_item::{Plan, ShopRows};
 use std::alloc::Global;
 use std::sync::Arc;
 use std::thread::Threads;
+
+// Why a day is refused, by why a run of its shop has no plan: with the name of the item that gets too large.
+fn refusal(shop: &Shop, fault: RunFault) -> DayFault
+    requires { (item : ℕ) → fault ≡ RunFault.TooLarge item → item < length shop.now.tables.items }
+    ensures { (s : Inputs) → s.tables ≡ shop.now.tables → result ≡ run_fault s fault }
+{
+    match fault {
+        RunFault::TooLarge { item } => DayFault::TooLarge(shop.tables().items()[item].name),
+        RunFault::NoMemory => DayFault::NoMemory,
+    }
+}
+
+// The plan of a run, or why its day is refused.
+fn plan_or_refuse(
+    rt: &(impl Threads + Sync),
+    alloc: Global,
+    rows: &Arc<ShopRows>,
+    snapshot: &Snapshot,
+) -> Result<Plan, DayFault>
+    requires { AreBooked (supply_of rows.now.value.tables) snapshot.now.standing }
+    ensures { PlansRun (inputs_of rows.now.value.tables snapshot.now) result }
+{
+    match plan_run(rt, alloc, rows, snapshot) {
+        Ok(plan) => Ok(plan),
+        Err(fault) => Err(refusal(rows.shop(), fault)),
+    }
+}
 
 /// The plans of a history's runs, in order of entries, each from the snapshot that its entry was
 /// answered, all over the rows of one shop. The caller owes a history of an equal shop.
@@ -30,7 +62,7 @@ pub fn plan_runs(
     let mut plans = Vec::new(alloc);
     for entry in history.entries() {
         if let Reply::Taken(snapshot) = &entry.reply {
-            plans.push(plan_run(rt, alloc, rows, snapshot)?)?;
+            plans.push(plan_or_refuse(rt, alloc, rows, snapshot)?)?;
         }
     }
     Ok(plans)

@@ -1,12 +1,12 @@
 //! The history that answers a shop's script.
 
-ghost use Rattle.std.specs.Prelude.{◌≡◌, ◌<◌, ◌++◌, ◌∷◌, [], IfOk, OnOk, length};
+ghost use Rattle.std.specs.Prelude.{◌≡◌, ◌<◌, ◌++◌, ◌∷◌, [], IfOk, IfSome, None, OnOk, length, map};
 ghost use Rattle.std.specs.Int.{IsInRange};
 ghost use Rattle.std.specs.List.{list_any};
 ghost use Rattle.mrp_master.specs.Supply.{supply_of};
 ghost use Rattle.mrp_book.specs.History.{Fits, asked};
 ghost use Rattle.mrp_engine.specs.day.Day.{AnswersScript};
-ghost use Rattle.mrp_engine.specs.day.Script.{call_of, is_run};
+ghost use Rattle.mrp_engine.specs.day.Script.{call_of, is_run, record_of, with_run};
 
 use mrp_bill::Shop;
 use mrp_book::{Book, Call, History, Line, Refused, Spot, Wish};
@@ -39,11 +39,25 @@ pub fn call_of(call: ScriptCall) -> Call
     }
 }
 
-/// Whether a script has a run.
-pub fn has_run(script: &[ScriptRow]) -> bool
+// Whether a script has a run.
+fn has_run(script: &[ScriptRow]) -> bool
     ensures { result ≡ list_any (λ r. is_run (call_of r.call)) script.now }
 {
     script.iter().any(|row| matches!(row.call, ScriptCall::Run))
+}
+
+/// The call that is added at the end of a script without a run, and its desk: a run of desk 1. None is
+/// added to a script with a run.
+pub fn added_run(script: &[ScriptRow]) -> Option<(u64, Call)>
+    ensures none { result ≡ None → with_run (map record_of script.now) ≡ map record_of script.now }
+    ensures run { IfSome result (λ run. run ≡ (ADDED_DESK, Call.Snapshot)) }
+    ensures added { IfSome result (λ run. with_run (map record_of script.now) ≡ map record_of script.now ++ run ∷ []) }
+{
+    if has_run(script) {
+        None
+    } else {
+        Some((ADDED_DESK, Call::Snapshot))
+    }
 }
 
 /// Makes one more entry of a book that is not full.
@@ -76,8 +90,8 @@ pub fn answer_script(alloc: Global, shop: &Shop) -> Result<History, NoMemory>
     for row in script {
         answer(alloc, &mut book, row.desk, call_of(row.call))?;
     }
-    if !has_run(script) {
-        answer(alloc, &mut book, ADDED_DESK, Call::Snapshot)?;
+    if let Some((desk, call)) = added_run(script) {
+        answer(alloc, &mut book, desk, call)?;
     }
     let history = book.into_history();
     let _legal = history.entries();

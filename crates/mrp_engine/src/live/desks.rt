@@ -10,12 +10,12 @@ ghost use Rattle.mrp_engine.specs.live.Desks.{AreDesksOf, EndAs, HaveServed, IsD
 ghost use Rattle.mrp_engine.specs.day.RightDay.{AnswersDesks};
 ghost use Rattle.mrp_engine.specs.day.Script.{call_of, record_of, script_of, with_run};
 
-use crate::day::{ADDED_DESK, has_run};
+use crate::day::{ADDED_DESK, added_run};
 use crate::live::desk_calls::calls_by_desk;
 use crate::live::serving::{Served, make};
 use crate::live::threads::serve_all;
 use mrp_bill::Shop;
-use mrp_book::{Call, History, Refused};
+use mrp_book::{History, Refused};
 use mrp_desk::{Desk, Office, OfficeFault};
 use mrp_explode::Gate;
 use mrp_qty::NoMemory;
@@ -105,10 +105,10 @@ fn add_run<R: Wait>(
     ensures desks { AreDesksOf office.now desks.new }
     ensures served { HaveServed (with_run (map record_of script.now)) desks.new result }
 {
-    if has_run(script) {
-        return Ok(());
+    match added_run(script) {
+        Some((_, call)) => make(rt, office, &mut desks[0], call),
+        None => Ok(()),
     }
-    make(rt, office, &mut desks[0], Call::Snapshot)
 }
 
 // Ends an office whose desks have made the calls of their records, and gives its history.

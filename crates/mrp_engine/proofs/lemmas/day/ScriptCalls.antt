@@ -1,5 +1,5 @@
 -- A script's records, as calls on the order book.
-use Rattle.std.proofs.Common.{◌≡◌, ◌∙◌, ℕ, zero, suc, ◌+◌, ◌<◌, ◌≤◌, Bool, true, false, if◌then◌else◌, List, [], ◌∷◌, ◌++◌, length, take, get_or, sym, ap, subst, arith, refl}
+use Rattle.std.proofs.Common.{◌≡◌, ◌∙◌, ℕ, zero, suc, ◌+◌, ◌<◌, ◌≤◌, Bool, true, false, if◌then◌else◌, List, [], ◌∷◌, ◌++◌, length, take, get_or, Option, Some, None, sym, ap, subst, arith, refl}
 use Rattle.std.proofs.lemmas.List.{take_more, take_all, map-append, length-map, length-take-le}
 use Rattle.std.specs.Prelude.{All, map}
 use Rattle.std.specs.List.{list_any, slice_index_or}
@@ -81,6 +81,11 @@ has-run script e = sym (with-run-is (map record_of script) true (any-mapped (λ 
 -- a script without one is answered with one more
 pub has-no-run : (script : List ScriptRow) → list_any (λ r. is_run (call_of r.call)) script ≡ false → map record_of script ++ (1, call.Snapshot) ∷ [] ≡ with_run (map record_of script)
 has-no-run script e = sym (with-run-is (map record_of script) false (any-mapped (λ r. is_run r.1) record_of script ∙ e))
+
+-- no call is added where there is none
+pub none-added : (o : Option (ℕ × Call)) → ((r : ℕ × Call) → o ≡ Some r → ⊥) → o ≡ None
+none-added None other = refl
+none-added (Some r) other = absurd (other r refl)
 
 -- a legal history whose calls are the script's answers it
 pub answers : (t : Tables) (b : Supply) (h same : History) (script : List ScriptRow) → b ≡ supply_of t → IsLegal b same → same ≡ h → script ≡ t.script → asked h ≡ with_run (map record_of script) → AnswersScript t h

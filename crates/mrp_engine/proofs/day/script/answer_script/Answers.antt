@@ -3,12 +3,11 @@ use Rattle.std.specs.Prelude.{All}
 use Rattle.mrp_tables.specs.Tables.{Tables}
 use Rattle.mrp_book.specs.History.{Fits, asked}
 use Rattle.mrp_book.specs.Books.{OrderBook}
-use Rattle.mrp_book.specs.declared.call.Call.TheVariants as call
 use Rattle.mrp_tables.specs.Facts.{IsScriptRow}
 use Rattle.mrp_engine.specs.day.Script.{Script}
-use Rattle.mrp_engine.proofs.lemmas.day.ScriptCalls.{all-answered, answers, entries-few, has-no-run, has-run, row-fits}
+use Rattle.mrp_engine.proofs.lemmas.day.ScriptCalls.{all-answered, answers, entries-few, none-added, row-fits}
 use Rattle.mrp_engine.proofs.day.script.answer_script.Goals as goal
-use Rattle.mrp_engine.proofs.day.script.answer_script.Goals.{then-not-has_run+in_ok-answer-2, else-not-has_run}
+use Rattle.mrp_engine.proofs.day.script.answer_script.Goals.{in-Some+in_ok-answer-2, in_default}
 
 pub answer-requires-clause-fits : goal.answer-requires-clause-fits
 answer-requires-clause-fits c =
@@ -33,19 +32,18 @@ answer-requires-clause-room c =
 pub returns-clause-answers : goal.returns-clause-answers
 returns-clause-answers c =
     let t = c.args.shop.now.tables in
-    let script : c.script-script.result.now ≡ t.script = c.script-script.ensures.rows ∙ ap (λ (x : Tables). x.script) c.tables.ensures.value in
+    let rows = c.script-script.result.now in
+    let script : rows ≡ t.script = c.script-script.ensures.rows ∙ ap (λ (x : Tables). x.script) c.tables.ensures.value in
     let h = c.into_history-history.result in
-    let all = all-answered c.loop-row.book.entries c.script-script.result.now c.loop-row.row-index c.loop-row.invariant.1 (omega (arith, c.loop-row-test.false)) in
-    elim c.if-not-has_run.branch [
-      | then-not-has_run+in_ok-answer-2 w ↦
-          let book : h ≡ w.answer-then-not-has_run.new.book = c.into_history-history.ensures ∙ w.book-is in
-          let none = has-no-run c.script-script.result.now (sym c.has_run.ensures ∙ w.if-not-has_run.true) in
-          answers t h.supply h.entries c.entries-legal.result.now c.script-script.result.now (ap (λ (b : OrderBook). b.supply) book ∙ w.in_ok-answer-2.ensures.supply ∙ c.loop-row.invariant.0)
+    let all = all-answered c.loop-row.book.entries rows c.loop-row.row-index c.loop-row.invariant.1 (omega (arith, c.loop-row-test.false)) in
+    elim c.match-added_run.branch [
+      | in-Some+in_ok-answer-2 w ↦
+          let book : h ≡ w.answer-in-Some.new.book = c.into_history-history.ensures ∙ w.book-is in
+          answers t h.supply h.entries c.entries-legal.result.now rows (ap (λ (b : OrderBook). b.supply) book ∙ w.in_ok-answer-2.ensures.supply ∙ c.loop-row.invariant.0)
           c.entries-legal.ensures.legal c.entries-legal.ensures.entries script
-          (ap (λ (b : OrderBook). asked b.entries) book ∙ w.in_ok-answer-2.ensures.asked ∙ ap (λ (r : Script). r ++ (1, call.Snapshot) ∷ []) all ∙ none)
-      | else-not-has_run w ↦
+          (ap (λ (b : OrderBook). asked b.entries) book ∙ w.in_ok-answer-2.ensures.asked ∙ ap (λ (r : Script). r ++ (w.in-Some.desk, w.in-Some.call) ∷ []) all ∙ sym w.in-Some.ensures.added)
+      | in_default w ↦
           let book : h ≡ c.loop-row.book = c.into_history-history.ensures ∙ w.book-is in
-          let some = has-run c.script-script.result.now (sym c.has_run.ensures ∙ w.if-not-has_run.false) in
-          answers t h.supply h.entries c.entries-legal.result.now c.script-script.result.now (ap (λ (b : OrderBook). b.supply) book ∙ c.loop-row.invariant.0) c.entries-legal.ensures.legal
-          c.entries-legal.ensures.entries script (ap (λ (b : OrderBook). asked b.entries) book ∙ all ∙ some)
+          answers t h.supply h.entries c.entries-legal.result.now rows (ap (λ (b : OrderBook). b.supply) book ∙ c.loop-row.invariant.0) c.entries-legal.ensures.legal c.entries-legal.ensures.entries script
+          (ap (λ (b : OrderBook). asked b.entries) book ∙ all ∙ sym (c.added_run.ensures.none (none-added c.added_run.result w.in_default.not-Some)))
     ]
