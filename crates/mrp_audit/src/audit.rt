@@ -51,8 +51,7 @@ fn check_history(
     ensures { ComparesHistory shop.tables history.now.entries text.now result }
 {
     let tables = shop.tables();
-    // Its records are of desks from 1 to 64.
-    let _rows = tables.script();
+    tables.keep_limits();
     let script = script_calls(alloc, tables)?;
     check_desks(alloc, history.entries(), &script)?;
     check_runs(rt, alloc, shop, history, text)
@@ -62,11 +61,8 @@ fn check_history(
 fn keep_limits(tables: &Tables)
     ensures { KeepsLimits tables.now }
 {
-    let _items = tables.items();
+    tables.keep_limits();
     let _weeks = tables.calendar().weeks();
-    let _script = tables.script();
-    let _stock = tables.stock();
-    let _master = tables.master();
 }
 
 // Reads what a text claims, and compares it with what a shop's days are.

@@ -99,8 +99,7 @@ pub(crate) fn find_history(
     ensures { FindsHistory shop.now.tables text.now result }
 {
     let tables = shop.tables();
-    // Its records are of desks from 1 to 64, and their calls fit.
-    let _rows = tables.script();
+    tables.keep_limits();
     let script = script_calls(alloc, tables)?;
     let history = replayed(alloc, shop, &script, text)?;
     if !are_followed(alloc, history.entries(), &script) {

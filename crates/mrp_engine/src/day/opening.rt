@@ -53,8 +53,7 @@ fn bill_refusal(fault: BillFault) -> OpenFault
 fn shop_of(alloc: Global, tables: Tables) -> Result<Shop, OpenFault>
     ensures { OpensTables tables result }
 {
-    let _items = tables.items();
-    let _lines = tables.bills();
+    tables.keep_limits();
     match Bill::of(alloc, tables) {
         Ok(shop) => Ok(shop),
         Err(fault) => Err(bill_refusal(fault)),

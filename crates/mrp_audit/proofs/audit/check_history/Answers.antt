@@ -1,6 +1,5 @@
 use Rattle.std.proofs.Common.{◌≡◌, ◌∙◌, Err, Ok, List, Result, ap, rules, subst, sym}
 use Rattle.std.specs.Prelude.{All, ⊤}
-use Rattle.mrp_tables.specs.declared.rows.ScriptRow.{ScriptRow}
 use Rattle.mrp_tables.specs.Facts.{IsScriptRow}
 use Rattle.mrp_tables.specs.Tables.{Tables}
 use Rattle.mrp_master.specs.Supply.{Supply, supply_of}
@@ -19,10 +18,7 @@ returns-in_err-check_desks g c =
     let h = c.args.history.now.entries in
     let legal : IsLegal (supply_of t) h = subst (λ (x : Supply). IsLegal x h) c.requires (subst (IsLegal c.args.history.now.supply) c.entries.ensures.entries c.entries.ensures.legal) in
     let fails : c.from_residual-in_err-check_desks.result ≡ Err c.in_err-check_desks.field-0.0 = search rules in
-    let table : c.script-rows.result.now ≡ t.script = c.script-rows.ensures.rows ∙ ap (λ (x : Tables). x.script) c.tables-tables.ensures.value in
-    let rows : All (IsScriptRow t.calendar.weeks t.items) t.script =
-    subst (λ (x : List ScriptRow). All (IsScriptRow t.calendar.weeks t.items) x) table
-    (subst (λ (x : Tables). All (IsScriptRow x.calendar.weeks x.items) c.script-rows.result.now) c.tables-tables.ensures.value c.script-rows.ensures.within) in
+    let rows : All (IsScriptRow t.calendar.weeks t.items) t.script = subst (λ (x : Tables). All (IsScriptRow x.calendar.weeks x.items) x.script) c.tables-tables.ensures.value c.keep_limits.ensures.script in
     let script : c.deref.result.now ≡ with_run (script_of t) = c.deref.ensures.value ∙ c.in_ok-script.ensures ∙ ap (λ (x : Tables). with_run (script_of x)) c.tables-tables.ensures.value in
     let compared : ComparesDesks (asked h) (with_run (script_of t)) (Err c.in_err-check_desks.field-0.0) =
     subst (λ (x : Script). ComparesDesks (asked h) x (Err c.in_err-check_desks.field-0.0)) script
@@ -34,10 +30,7 @@ returns g c =
     let t = c.args.shop.tables in
     let h = c.args.history.now.entries in
     let legal : IsLegal (supply_of t) h = subst (λ (x : Supply). IsLegal x h) c.requires (subst (IsLegal c.args.history.now.supply) c.entries.ensures.entries c.entries.ensures.legal) in
-    let table : c.script-rows.result.now ≡ t.script = c.script-rows.ensures.rows ∙ ap (λ (x : Tables). x.script) c.tables-tables.ensures.value in
-    let rows : All (IsScriptRow t.calendar.weeks t.items) t.script =
-    subst (λ (x : List ScriptRow). All (IsScriptRow t.calendar.weeks t.items) x) table
-    (subst (λ (x : Tables). All (IsScriptRow x.calendar.weeks x.items) c.script-rows.result.now) c.tables-tables.ensures.value c.script-rows.ensures.within) in
+    let rows : All (IsScriptRow t.calendar.weeks t.items) t.script = subst (λ (x : Tables). All (IsScriptRow x.calendar.weeks x.items) x.script) c.tables-tables.ensures.value c.keep_limits.ensures.script in
     let script : c.deref.result.now ≡ with_run (script_of t) = c.deref.ensures.value ∙ c.in_ok-script.ensures ∙ ap (λ (x : Tables). with_run (script_of x)) c.tables-tables.ensures.value in
     let compared : ComparesDesks (asked h) (with_run (script_of t)) (Ok tt) =
     subst (λ (x : Script). ComparesDesks (asked h) x (Ok tt)) script
