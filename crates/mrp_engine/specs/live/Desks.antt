@@ -15,14 +15,6 @@ use Rattle.mrp_engine.specs.live.DeskCalls.{asks}
 use Rattle.mrp_engine.specs.day.Script.{Script}
 use Rattle.mrp_engine.specs.day.RightDay.{asked_by}
 
--- a desk has made one call, or was refused: then it made no entry, and the refusal has its cause
-pub record MakesCall (s : Supply) (c : Call) (old : Desk) {U : Type 0} (end : Result U Refused) (new : Desk) : Type 0 where
-  pub office : new.turn ≡ old.turn
-  pub desk : new.number ≡ old.number
-  pub made : OnOk end (asked new.mine ≡ asked old.mine ++ (old.number, c) ∷ [])
-  pub unchanged : OnErr end (new.mine ≡ old.mine)
-  pub cause : IfErr end (HasCause s c new.seen)
-
 -- a desk that makes calls was refused one of them: it has made those before it, and the refusal has its cause
 pub record IsRefusedOne (s : Supply) (calls : List Call) (old new : Desk) (e : Refused) : Type 0 where
   pub done : List Call

@@ -105,9 +105,12 @@ fn add_run<R: Wait>(
     ensures desks { AreDesksOf office.now desks.new }
     ensures served { HaveServed (with_run (map record_of script.now)) desks.new result }
 {
-    match added_run(script) {
-        Some((_, call)) => make(rt, office, &mut desks[0], call),
-        None => Ok(()),
+    let Some((_, call)) = added_run(script) else {
+        return Ok(());
+    };
+    match make(rt, office, &mut desks[0], call) {
+        Ok(_) => Ok(()),
+        Err(refused) => Err(refused),
     }
 }
 

@@ -2,10 +2,11 @@
 
 ghost use Rattle.std.specs.Prelude.{◌≡◌, All};
 ghost use Rattle.mrp_book.specs.History.{Fits};
+ghost use Rattle.mrp_desk.specs.Calls.{Tells};
 ghost use Rattle.mrp_desk.specs.Offices.{supply_at};
-ghost use Rattle.mrp_engine.specs.live.Desks.{HasServed, MakesCall};
+ghost use Rattle.mrp_engine.specs.live.Desks.{HasServed};
 
-use mrp_book::{Call, Refused};
+use mrp_book::{Call, Refused, Reply};
 use mrp_desk::{Desk, Office};
 use mrp_explode::Gate;
 use std::sync::Wait;
@@ -17,23 +18,27 @@ pub struct Served {
     pub end: Result<(), Refused>,
 }
 
-// Makes a call of a desk.
-pub fn make<R: Wait>(rt: &R, office: &Office, desk: &mut Desk, call: Call) -> Result<(), Refused>
+/// Makes a call of a desk: the entry's number, and the reply. The caller owes a call of the shop and a
+/// desk of the office.
+///
+/// Errors: as of the office's calls. No entry was made then.
+pub fn make<R: Wait>(
+    rt: &R,
+    office: &Office,
+    desk: &mut Desk,
+    call: Call,
+) -> Result<(u64, Reply), Refused>
     requires office { desk.old.turn ≡ office.now }
     requires fits { Fits (supply_at office.now) call }
-    ensures { MakesCall (supply_at office.now) call desk.old result desk.new }
+    ensures { Tells (supply_at office.now) call desk.old result desk.new }
 {
-    let answered = match call {
+    match call {
         Call::Book(line) => office.book(rt, desk, line),
         Call::Cancel(number) => office.cancel(rt, desk, number),
         Call::Ask(spot) => office.ask(rt, desk, spot),
         Call::When(wish) => office.when(rt, desk, wish),
         Call::Snapshot => office.snapshot(rt, desk),
         Call::Front => office.front(rt, desk),
-    };
-    match answered {
-        Ok(_) => Ok(()),
-        Err(refused) => Err(refused),
     }
 }
 

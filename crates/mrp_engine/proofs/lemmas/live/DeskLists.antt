@@ -3,7 +3,7 @@ use Rattle.std.proofs.Common.{◌≡◌, ◌∙◌, ◌≢◌, ℕ, ◌+◌, ◌
 use Rattle.std.specs.Prelude.{All, Any}
 use Rattle.std.specs.declared.alloc.Global.{Global}
 use Rattle.std.proofs.lemmas.Bool.{cases_lt, ne_eqb}
-use Rattle.std.proofs.lemmas.List.{append-nil, drop_all, get_or-map, get_or-set_other, get_or-set_same, length-append, length-map, length-set, take_all}
+use Rattle.std.proofs.lemmas.List.{append-nil, drop_all, get_or-map, get_or_default, get_or-set_other, get_or-set_same, length-append, length-map, length-set, take_all}
 use Rattle.std.proofs.lemmas.List.Elements.{filter-append}
 use Rattle.mrp_bill.specs.Shop.{Shop}
 use Rattle.mrp_turn.specs.Seen.{TurnId, newcomer}
@@ -14,14 +14,15 @@ use Rattle.mrp_book.specs.declared.call.Call.TheVariants as call
 use Rattle.mrp_book.specs.declared.refused.Refused.{Refused}
 use Rattle.mrp_book.specs.declared.refused.Refused.TheVariants.{Full}
 use Rattle.mrp_book.specs.History.{IsFull, asked}
-use Rattle.mrp_desk.specs.Calls.{HasCause}
+use Rattle.mrp_book.specs.declared.reply.Reply.{Reply}
+use Rattle.mrp_desk.specs.Calls.{HasCause, Tells}
 use Rattle.mrp_desk.specs.Offices.{Desk}
 use Rattle.mrp_engine.specs.declared.live.serving.Served.{Served}
-use Rattle.mrp_engine.specs.live.Desks.{AreDesksOf, EndAs, HasServed, HaveServed, IsRefusedOne, MakesCall}
+use Rattle.mrp_engine.specs.live.Desks.{AreDesksOf, EndAs, HasServed, HaveServed, IsRefusedOne}
 use Rattle.mrp_engine.specs.live.DeskCalls.{AreCallsOf, asks, calls_at}
 use Rattle.mrp_engine.specs.day.RightDay.{asked_by}
 use Rattle.mrp_engine.specs.day.Script.{Script}
-use Rattle.mrp_engine.proofs.lemmas.live.DeskRecords.{entries-of}
+use Rattle.mrp_engine.proofs.lemmas.live.DeskRecords.{MakesCall, ended, entries-of, made}
 use Rattle.mrp_engine.proofs.lemmas.live.Parting.{End}
 
 -- a list of desks that was lent is the one that was given back
@@ -192,6 +193,14 @@ pub run-more : (records : Script) (d : ℕ) → length (asked_by d records) ≤ 
 run-more records d =
     let both = ap (length {A = ℕ × Call}) (filter-append (λ (r : ℕ × Call). r.0 == d) records (run ∷ [])) ∙ length-append (asked_by d records) (asked_by d (run ∷ [])) in
     omega (arith, both)
+
+-- the first desk's call for a run, as it ended
+pub run-made : (s : Supply) (desks : List Desk) (own new : Desk) (c : Call) (r : Result (ℕ × Reply) Refused) (end : End) → 1 ≤ length desks → c ≡ call.Snapshot → ended r ≡ end → Tells s c (get_or desks 0 own) r new
+    → (d : Desk) → MakesCall s call.Snapshot (get_or desks 0 d) end new
+run-made s desks own new c r end some is ends tells d =
+    subst (λ (old : Desk). MakesCall s call.Snapshot old end new) (get_or_default desks 0 own d some)
+    (subst (λ (x : Call). MakesCall s x (get_or desks 0 own) end new) is
+    (subst (λ (e : End). MakesCall s c (get_or desks 0 own) e new) ends (made s c (get_or desks 0 own) new r tells)))
 
 module _ (office : TurnId Shop) (records : Script) (desks : List Desk) (new : Desk) (end : End) (are : AreDesksOf office desks) (some : 1 ≤ length desks)
     (have : HaveServed records desks {U = Unit {0}} (Ok (tt {0}))) (s : Supply) (makes : (d : Desk) → MakesCall s call.Snapshot (get_or desks 0 d) end new) where

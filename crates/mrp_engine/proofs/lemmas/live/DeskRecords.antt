@@ -1,12 +1,19 @@
 -- The records of a desk, one after the other.
-use Rattle.std.proofs.Common.{◌≡◌, ◌∙◌, ◌≢◌, ℕ, ◌+◌, ◌<◌, ◌==◌, ◌++◌, Bool, cond, List, [], ◌∷◌, OnOk, Result, Ok, Err, drop, get_or, length, map, take, ap, arith, refl, sym}
+use Rattle.std.proofs.Common.{◌≡◌, ◌∙◌, ◌≢◌, ℕ, ◌+◌, ◌<◌, ◌==◌, ◌++◌, Bool, cond, List, [], ◌∷◌, IfErr, OnErr, OnOk, Result, Ok, Err, drop, get_or, length, map, take, ap, arith, refl, sym}
 use Rattle.std.proofs.lemmas.Bool.{eq-eqb, ne_eqb}
 use Rattle.std.proofs.lemmas.List.{append-nil, append_assoc, length-append, length-map, map-append, take-append-drop, take_more}
 use Rattle.std.proofs.lemmas.List.Elements.{filter-append}
 use Rattle.mrp_tables.specs.declared.rows.ScriptRow.{ScriptRow}
+use Rattle.mrp_master.specs.Supply.{Supply}
+use Rattle.mrp_turn.specs.Log.{entry}
+use Rattle.mrp_turn.specs.declared.log.Entry.{Entry}
 use Rattle.mrp_book.specs.declared.call.Call.{Call}
+use Rattle.mrp_book.specs.declared.refused.Refused.{Refused}
+use Rattle.mrp_book.specs.declared.reply.Reply.{Reply}
 use Rattle.mrp_book.specs.Standing.{History}
 use Rattle.mrp_book.specs.History.{asked}
+use Rattle.mrp_desk.specs.Calls.{HasCause, Tells}
+use Rattle.mrp_desk.specs.Offices.{Desk}
 use Rattle.mrp_engine.specs.live.DeskCalls.{asks}
 use Rattle.mrp_engine.specs.day.RightDay.{asked_by}
 use Rattle.mrp_engine.specs.day.Script.{Script, call_of, record_of}
@@ -61,3 +68,27 @@ entries-of new old xs is =
 pub ok-then : {U E : Type 0} (r : Result U E) (P : Type 0) → OnOk r P → ((e : E) → r ≡ Err e → ⊥) → P
 ok-then (Ok u) P p not-refused = p
 ok-then (Err e) P p not-refused = absurd (not-refused e refl)
+
+-- a desk has made one call, or was refused: then it made no entry, and the refusal has its cause
+pub record MakesCall (s : Supply) (c : Call) (old : Desk) (end : Result (Unit {0}) Refused) (new : Desk) : Type 0 where
+  pub office : new.turn ≡ old.turn
+  pub desk : new.number ≡ old.number
+  pub made : OnOk end (asked new.mine ≡ asked old.mine ++ (old.number, c) ∷ [])
+  pub unchanged : OnErr end (new.mine ≡ old.mine)
+  pub cause : IfErr end (HasCause s c new.seen)
+
+-- an answered call is the last of the desk's
+pub tells-asked : (s : Supply) (c : Call) (old new : Desk) (r : Result (ℕ × Reply) Refused) → Tells s c old r new → OnOk r (asked new.mine ≡ asked old.mine ++ (old.number, c) ∷ [])
+tells-asked s c old new (Ok answer) tells =
+    ap asked tells.added ∙ map-append (λ (e : Entry Call Reply). (e.who, e.call)) old.mine (entry old.number c answer.1 ∷ [])
+tells-asked s c old new (Err refused) tells = tt
+
+-- how a call ended, whatever it was answered
+abbrev pub ended : Result (ℕ × Reply) Refused → Result (Unit {0}) Refused
+ended (Ok answer) = Ok (tt {0})
+ended (Err refused) = Err refused
+
+-- what a call tells is that it was made, or why not
+pub made : (s : Supply) (c : Call) (old new : Desk) (r : Result (ℕ × Reply) Refused) → Tells s c old r new → MakesCall s c old (ended r) new
+made s c old new (Ok answer) tells = record { office = tells.office; desk = tells.desk; made = tells-asked s c old new (Ok answer) tells; unchanged = tt; cause = tt }
+made s c old new (Err refused) tells = record { office = tells.office; desk = tells.desk; made = tt; unchanged = tells.unchanged; cause = tells.cause }

@@ -5,7 +5,7 @@ use Rattle.mrp_book.specs.History.{asked}
 use Rattle.mrp_desk.specs.Calls.{HasCause}
 use Rattle.mrp_desk.specs.Offices.{supply_at}
 use Rattle.mrp_engine.specs.live.DeskCalls.{asks}
-use Rattle.mrp_engine.proofs.lemmas.live.DeskRecords.{asks-more, ok-then, parts-at}
+use Rattle.mrp_engine.proofs.lemmas.live.DeskRecords.{asks-more, ok-then, parts-at, tells-asked}
 use Rattle.mrp_engine.proofs.live.serving.serve.Goals as goal
 
 pub loop-call-preserved : goal.loop-call-preserved
@@ -13,7 +13,8 @@ loop-call-preserved g c =
     let old = c.args.desk in
     let k = c.loop-call.call-index in
     let kept = c.loop-call.invariant in
-    let made = ok-then c.make.result _ c.make.ensures.made c.in_default.not-Err in
+    let asks = tells-asked (supply_at c.args.office.now) c.call-item.result c.loop-call.desk c.make.new.desk c.make.result c.make.ensures in
+    let made = ok-then c.make.result _ asks c.in_default.not-Err in
     record {
       office = c.make.ensures.office ∙ kept.office;
       desk = c.make.ensures.desk ∙ kept.desk;
