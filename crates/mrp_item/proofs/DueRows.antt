@@ -14,8 +14,8 @@ use Rattle.mrp_tables.specs.Facts.{IsReceipt}
 use Rattle.mrp_book.specs.declared.booking.Booking.{Booking}
 use Rattle.mrp_item.specs.declared.due.Due.{Due}
 use Rattle.mrp_item.specs.Inputs.{Inputs}
-use Rattle.mrp_tables.specs.Master.{is_firm}
-use Rattle.mrp_item.specs.Rows.{firm_rows, forecast_rows, open_receipts, bookings_due, forecast, booked, is_forecast}
+use Rattle.mrp_tables.specs.Master.{is_firm, is_forecast}
+use Rattle.mrp_item.specs.Rows.{firm_rows, forecast_rows, open_receipts, bookings_due, forecast, booked}
 use Rattle.mrp_item.specs.Dues.{due_in, due_sum, dues_of, master_due, receipt_due, booking_due, firm_dues, forecast_dues, receipt_dues, booking_dues}
 
 -- the rows of a week, of the rows of an item

@@ -5,8 +5,7 @@ use Rattle.mrp_tables.specs.declared.rows.MasterRow.{MasterRow}
 use Rattle.mrp_tables.specs.declared.rows.Receipt.{Receipt}
 use Rattle.mrp_book.specs.declared.booking.Booking.{Booking}
 use Rattle.mrp_item.specs.declared.due.Due.{Due}
-use Rattle.mrp_tables.specs.Master.{is_firm}
-use Rattle.mrp_item.specs.Rows.{is_forecast}
+use Rattle.mrp_tables.specs.Master.{is_firm, is_forecast}
 
 -- the quantities that are due in a week, in order
 abbrev pub due_in : ℕ → List Due → List ℕ

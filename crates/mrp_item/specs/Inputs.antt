@@ -1,10 +1,8 @@
 -- What a plan is made from.
-use Rattle.std.specs.Prelude.{ℕ, List, [], length, Bool}
-use Rattle.std.specs.List.{slice_index_or, range_with_len}
+use Rattle.std.specs.Prelude.{ℕ, List, length, Bool}
+use Rattle.std.specs.List.{range_with_len}
 use Rattle.mrp_tables.specs.Tables.{Tables}
 use Rattle.mrp_tables.specs.Items as items
-use Rattle.mrp_tables.specs.declared.item.Class.TheVariants.{Part}
-use Rattle.mrp_tables.specs.declared.item.LotRule.TheVariants.{LotForLot}
 use Rattle.mrp_tables.specs.declared.item.Item.{Item}
 use Rattle.mrp_book.specs.declared.booking.Booking.{Booking}
 use Rattle.mrp_book.specs.Snapshot.{Snapshot}
@@ -28,7 +26,7 @@ abbrev pub horizon : Inputs → ℕ
 horizon s = s.tables.calendar.weeks
 
 abbrev pub item_at : Inputs → ℕ → Item
-item_at s i = slice_index_or s.tables.items i (record { name = []; class = Part; lead = 0; scrap = 0; lot = LotForLot; safety = 0 })
+item_at s i = items.item_at s.tables.items i
 
 -- an item that the master schedule plans (APICS Dictionary: master schedule item)
 abbrev pub is_master : Inputs → ℕ → Bool

@@ -1,19 +1,14 @@
 -- What the tables and the bookings say of an item in a week.
-use Rattle.std.specs.Prelude.{ℕ, ◌==◌, ◌&&◌, Bool, not, if◌then◌else◌, List, filter, sum_by, max}
+use Rattle.std.specs.Prelude.{ℕ, ◌==◌, ◌&&◌, if◌then◌else◌, List, filter, sum_by, max}
 use Rattle.mrp_tables.specs.declared.rows.BillLine.{BillLine}
 use Rattle.mrp_tables.specs.declared.rows.Receipt.{Receipt}
-use Rattle.mrp_tables.specs.declared.rows.MasterKind.{MasterKind}
 use Rattle.mrp_tables.specs.declared.rows.MasterRow.{MasterRow}
-use Rattle.mrp_tables.specs.Master.{is_firm}
+use Rattle.mrp_tables.specs.Master.{is_firm, is_forecast}
 use Rattle.mrp_master.specs.Supply.{on_hand_of}
 use Rattle.mrp_book.specs.declared.booking.Booking.{Booking}
 use Rattle.mrp_phase.specs.Weeks.{row}
 use Rattle.mrp_net.specs.declared.stock.Stock.{Stock}
 use Rattle.mrp_item.specs.Inputs.{Inputs, horizon, item_at, is_master}
-
--- a row that is not firm is a forecast
-abbrev pub is_forecast : MasterKind → Bool
-is_forecast kind = not (is_firm kind)
 
 -- the firm rows of an item that are due in a week, in table order (Orlicky: master production schedule)
 abbrev pub firm_rows : Inputs → ℕ → ℕ → List MasterRow

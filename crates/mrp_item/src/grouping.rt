@@ -1,11 +1,10 @@
 //! The rows of the tables and the bookings, grouped by their items.
 
 ghost use Rattle.std.specs.Prelude.{◌≡◌, ◌<◌, ℕ, All, length, filter, map, IfOk};
-ghost use Rattle.mrp_tables.specs.Master.{is_firm};
+ghost use Rattle.mrp_tables.specs.Master.{is_firm, is_forecast};
 ghost use Rattle.mrp_bill.specs.Grouped.{listed};
 ghost use Rattle.mrp_item.specs.Dues.{booking_dues, firm_dues, forecast_dues, receipt_dues};
 ghost use Rattle.mrp_item.specs.Numbered.{of_booking, of_master, of_receipt};
-ghost use Rattle.mrp_item.specs.Rows.{is_forecast};
 
 use crate::due::Due;
 use mrp_bill::{Grouped, Numbered};
@@ -75,7 +74,7 @@ fn forecasts(alloc: Global, rows: &[MasterRow]) -> Result<Vec<Numbered<Due>>, No
 {
     let dues = rows
         .iter()
-        .filter(|row| !row.kind.is_firm())
+        .filter(|row| row.kind.is_forecast())
         .map(|row| due_of_master(row))
         .collect(alloc)?;
     Ok(dues)

@@ -2,7 +2,7 @@ use Rattle.std.proofs.Common.{◌∙◌, ◌<◌, List, ap, sym, subst}
 use Rattle.std.specs.Prelude.{All, filter}
 use Rattle.std.proofs.lemmas.List.Elements.{All-map, All-filter}
 use Rattle.mrp_tables.specs.declared.rows.MasterRow.{MasterRow}
-use Rattle.mrp_item.specs.Rows.{is_forecast}
+use Rattle.mrp_tables.specs.Master.{is_forecast}
 use Rattle.mrp_item.specs.declared.due.Due.{Due}
 use Rattle.mrp_bill.specs.declared.groups.Numbered.{Numbered}
 use Rattle.mrp_item.specs.Dues.{forecast_dues}
