@@ -1,6 +1,7 @@
 pub mod DueLemmas
 pub mod DueRows
 pub mod Starts
+pub mod Releases
 pub mod OrderWeeks
 pub mod Asks
 pub mod Parents

@@ -19,26 +19,26 @@ one_more_week f ws w = flat_map-append f ws (w ∷ []) ∙ ap (λ (os : List Ord
 abbrev pub quantity : Order → ℕ
 quantity o = o.quantity
 
-firm_orders : (s : Inputs) (i week : ℕ) (rows : List MasterRow) → sum_by quantity (map (λ r. order_of (item_at s i) Firm week r.quantity) rows) ≡ sum_by (λ r. r.quantity) rows
+firm_orders : (s : Inputs) (i week : ℕ) (rows : List MasterRow) → sum_by quantity (map (λ r. order_of s.tables (item_at s i) Firm week r.quantity) rows) ≡ sum_by (λ r. r.quantity) rows
 firm_orders s i week [] = refl
 firm_orders s i week (r ∷ rows) =
-    sum_by-cons quantity (order_of (item_at s i) Firm week r.quantity) (map (λ r. order_of (item_at s i) Firm week r.quantity) rows)
+    sum_by-cons quantity (order_of s.tables (item_at s i) Firm week r.quantity) (map (λ r. order_of s.tables (item_at s i) Firm week r.quantity) rows)
     ∙ ap (λ n. r.quantity + n) (firm_orders s i week rows)
     ∙ sym (sum_by-cons (λ (x : MasterRow). x.quantity) r rows)
 
-planned_adds : (s : Inputs) (i week a b : ℕ) → a ≤ b → sum_by quantity (cond (nat_lt a b) (order_of (item_at s i) Planned week (b - a) ∷ []) []) + a ≡ b
+planned_adds : (s : Inputs) (i week a b : ℕ) → a ≤ b → sum_by quantity (cond (nat_lt a b) (order_of s.tables (item_at s i) Planned week (b - a) ∷ []) []) + a ≡ b
 planned_adds s i week a b h = by (nat_lt a b) refl
   where
-    by : (c : Bool) → nat_lt a b ≡ c → sum_by quantity (cond c (order_of (item_at s i) Planned week (b - a) ∷ []) []) + a ≡ b
-    by true e = omega (arith, sum_by-cons quantity (order_of (item_at s i) Planned week (b - a)) [])
+    by : (c : Bool) → nat_lt a b ≡ c → sum_by quantity (cond c (order_of s.tables (item_at s i) Planned week (b - a) ∷ []) []) + a ≡ b
+    by true e = omega (arith, sum_by-cons quantity (order_of s.tables (item_at s i) Planned week (b - a)) [])
     by false e = omega (arith, ltb-false a b e)
 
 due_adds : (s : Inputs) (i : ℕ) (receipts : List ℕ) (t : ℕ) → in_week receipts t ≤ in_week receipts (suc t)
     → sum_by quantity (orders_due s i receipts (suc t)) + in_week receipts t ≡ sum_by (λ r. r.quantity) (firm_rows s i (suc t)) + in_week receipts (suc t)
 due_adds s i receipts t h =
     let back : suc t - 1 ≡ t = omega arith in
-    let firm : List Order = map (λ r. order_of (item_at s i) Firm (suc t) r.quantity) (firm_rows s i (suc t)) in
-    let planned = λ (a : ℕ). cond (nat_lt a (in_week receipts (suc t))) (order_of (item_at s i) Planned (suc t) (in_week receipts (suc t) - a) ∷ []) [] in
+    let firm : List Order = map (λ r. order_of s.tables (item_at s i) Firm (suc t) r.quantity) (firm_rows s i (suc t)) in
+    let planned = λ (a : ℕ). cond (nat_lt a (in_week receipts (suc t))) (order_of s.tables (item_at s i) Planned (suc t) (in_week receipts (suc t) - a) ∷ []) [] in
     ap (λ k. sum_by quantity (firm ++ planned (in_week receipts k)) + in_week receipts t) back
     ∙ ap (λ n. n + in_week receipts t) (sum_by-append quantity firm (planned (in_week receipts t)))
     ∙ omega (arith, firm_orders s i (suc t) (firm_rows s i (suc t)), planned_adds s i (suc t) (in_week receipts t) (in_week receipts (suc t)) h)

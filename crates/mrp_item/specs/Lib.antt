@@ -5,6 +5,7 @@ pub mod Dues
 pub mod Numbered
 pub mod Limits
 pub mod Lot
+pub mod Releases
 pub mod Orders
 pub mod Recursion
 pub mod Plan

@@ -2,16 +2,26 @@
 
 ghost use Rattle.std.specs.Prelude.{◌≡◌, ◌≢◌, ◌<◌, ◌≤◌, ◌+◌, ◌*◌, sum_by, ◌↔◌, ℕ, List, IsTrue, None, Ok, Err};
 ghost use Rattle.mrp_bill.specs.Bill.{IsAbove, IsParent};
+ghost use Rattle.std.specs.Int.{IsInRange};
+ghost use Rattle.mrp_tables.specs.Tables.{Tables};
 ghost use Rattle.mrp_phase.specs.Weeks.{in_week, row, sum_to, weeks};
 ghost use Rattle.mrp_item.specs.Inputs.{Inputs, count, horizon, item_at};
 ghost use Rattle.mrp_item.specs.Rows.{firm_rows, stock_of};
 ghost use Rattle.mrp_item.specs.Limits.{IsSized};
+ghost use Rattle.mrp_item.specs.Releases.{release_of};
 ghost use Rattle.mrp_item.specs.Orders.{orders_of, started_in};
 ghost use Rattle.mrp_item.specs.Plan.{asked_by, plan_in, HasParents, IsRanked, IsSolution, Planned, Over, Blocked, first_over, gross_in, is_too_large, item_plan, outcome_of, outcome_step, plan_of, receipts_of};
 
 /// An item's orders add up to its firm rows and its receipts.
 pub fn orders()
     ensures { (s : Inputs) (i : ℕ) (receipts : List ℕ) → ((t : ℕ) → t + 1 ≤ horizon s → in_week receipts t ≤ in_week receipts (t + 1)) → sum_by (λ o. o.quantity) (orders_of s i receipts) ≡ sum_by (λ week. sum_by (λ r. r.quantity) (firm_rows s i week)) (weeks (horizon s)) + in_week receipts (horizon s) }
+{}
+
+/// An order is released by the week in which it is due, from week 1 on, and no earlier than what is
+/// due before it.
+pub fn releases()
+    ensures within { (tables : Tables) (lead due : ℕ) → 1 ≤ due → IsInRange 1 due (release_of tables due lead).week }
+    ensures rises { (tables : Tables) (lead due later : ℕ) → due ≤ later → (release_of tables due lead).week ≤ (release_of tables later lead).week }
 {}
 
 /// A line asks what starts of its parent, times the quantity per.

@@ -12,6 +12,7 @@ mod outcome;
 mod plan;
 mod planned;
 mod planning;
+mod release;
 mod shop_rows;
 mod stocked;
 mod stop;

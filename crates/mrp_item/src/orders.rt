@@ -11,10 +11,11 @@ ghost use Rattle.mrp_item.specs.declared.order.OrderKind.TheVariants.{Firm};
 use crate::due::Due;
 use crate::inputs::Inputs;
 use crate::order::{Order, OrderKind};
+use crate::release::release_for;
 use crate::stop::{Stop, or_over};
 use mrp_phase::Weeks;
 use mrp_qty::{NoMemory, Qty};
-use mrp_tables::Item;
+use mrp_tables::{Item, Tables};
 use std::alloc::Global;
 use std::marker::Model;
 
@@ -38,19 +39,25 @@ impl Model for OrderList {
 }
 
 // An order for a quantity that is due in a week; None where its start passes the greatest quantity.
-fn order(item: &Item, kind: OrderKind, due: u16, quantity: Qty) -> Option<Order>
+fn order(
+    tables: &Tables,
+    item: &Item,
+    kind: OrderKind,
+    due: u16,
+    quantity: Qty,
+) -> Option<Order>
     requires { IsPlannable item.now }
-    ensures { MatchOption result (greatest_quantity < start_of item.now.scrap quantity) (λ order. order ≡ order_of item.now kind due quantity) }
+    ensures { MatchOption result (greatest_quantity < start_of item.now.scrap quantity) (λ order. order ≡ order_of tables.now item.now kind due quantity) }
 {
     let start = quantity.start_for(item.scrap)?;
-    let lead = item.lead as u16;
+    let release = release_for(tables, due, item.lead as u16);
     Some(Order {
         kind,
         due,
         quantity,
         start,
-        release: due.saturating_sub(lead).max(1),
-        late: (1 + lead).saturating_sub(due),
+        release: release.week,
+        late: release.late,
     })
 }
 
@@ -85,23 +92,36 @@ impl OrderList {
     }
 
     // Puts an order of an item at the end.
-    fn add(&mut self, item: &Item, kind: OrderKind, due: u16, quantity: Qty) -> Result<(), Stop>
+    fn add(
+        &mut self,
+        tables: &Tables,
+        item: &Item,
+        kind: OrderKind,
+        due: u16,
+        quantity: Qty,
+    ) -> Result<(), Stop>
         requires { IsPlannable item.now }
-        ensures added { OnOk result (self.new ≡ self.old ++ order_of item.now kind due quantity ∷ []) }
+        ensures added { OnOk result (self.new ≡ self.old ++ order_of tables.now item.now kind due quantity ∷ []) }
         ensures over { IfErr result (λ stop. stop ≡ Stop.Over → greatest_quantity < sum_by (λ x. x.start) self.old + start_of item.now.scrap quantity) }
     {
-        self.push(or_over(order(item, kind, due, quantity))?)
+        self.push(or_over(order(tables, item, kind, due, quantity))?)
     }
 
     // Puts the firm orders of a week at the end.
-    fn add_firm(&mut self, item: &Item, week: u16, dues: &[Due]) -> Result<(), Stop>
+    fn add_firm(
+        &mut self,
+        tables: &Tables,
+        item: &Item,
+        week: u16,
+        dues: &[Due],
+    ) -> Result<(), Stop>
         requires { IsPlannable item.now }
-        ensures added { OnOk result (self.new ≡ self.old ++ map (order_of item.now Firm week) (due_in week dues.now)) }
-        ensures over { IfErr result (λ stop. stop ≡ Stop.Over → greatest_quantity < sum_by (λ x. x.start) (self.old ++ map (order_of item.now Firm week) (due_in week dues.now))) }
+        ensures added { OnOk result (self.new ≡ self.old ++ map (order_of tables.now item.now Firm week) (due_in week dues.now)) }
+        ensures over { IfErr result (λ stop. stop ≡ Stop.Over → greatest_quantity < sum_by (λ x. x.start) (self.old ++ map (order_of tables.now item.now Firm week) (due_in week dues.now))) }
     {
         for due in dues {
             if due.week == week {
-                self.add(item, OrderKind::Firm, week, due.quantity)?;
+                self.add(tables, item, OrderKind::Firm, week, due.quantity)?;
             }
         }
         Ok(())
@@ -110,26 +130,28 @@ impl OrderList {
     // Puts the planned order of a week at the end, if there is one.
     fn add_planned(
         &mut self,
+        tables: &Tables,
         item: &Item,
         week: u16,
         before: Qty,
         received: Qty,
     ) -> Result<(), Stop>
         requires { IsPlannable item.now }
-        ensures added { OnOk result (self.new ≡ self.old ++ planned_order item.now week before received) }
-        ensures over { IfErr result (λ stop. stop ≡ Stop.Over → greatest_quantity < sum_by (λ x. x.start) (self.old ++ planned_order item.now week before received)) }
+        ensures added { OnOk result (self.new ≡ self.old ++ planned_order tables.now item.now week before received) }
+        ensures over { IfErr result (λ stop. stop ≡ Stop.Over → greatest_quantity < sum_by (λ x. x.start) (self.old ++ planned_order tables.now item.now week before received)) }
     {
         let more = received.value().saturating_sub(before.value());
         if more == 0 {
             return Ok(());
         }
         let quantity = Qty::new(more).unwrap();
-        self.add(item, OrderKind::Planned, week, quantity)
+        self.add(tables, item, OrderKind::Planned, week, quantity)
     }
 
     // Puts the orders of a week at the end: the firm ones, then the planned one.
     fn add_week(
         &mut self,
+        tables: &Tables,
         item: &Item,
         week: u16,
         dues: &[Due],
@@ -137,11 +159,11 @@ impl OrderList {
         received: Qty,
     ) -> Result<(), Stop>
         requires { IsPlannable item.now }
-        ensures added { OnOk result (self.new ≡ self.old ++ (map (order_of item.now Firm week) (due_in week dues.now) ++ planned_order item.now week before received)) }
-        ensures over { IfErr result (λ stop. stop ≡ Stop.Over → greatest_quantity < sum_by (λ x. x.start) (self.old ++ (map (order_of item.now Firm week) (due_in week dues.now) ++ planned_order item.now week before received))) }
+        ensures added { OnOk result (self.new ≡ self.old ++ (map (order_of tables.now item.now Firm week) (due_in week dues.now) ++ planned_order tables.now item.now week before received)) }
+        ensures over { IfErr result (λ stop. stop ≡ Stop.Over → greatest_quantity < sum_by (λ x. x.start) (self.old ++ (map (order_of tables.now item.now Firm week) (due_in week dues.now) ++ planned_order tables.now item.now week before received))) }
     {
-        self.add_firm(item, week, dues)?;
-        self.add_planned(item, week, before, received)
+        self.add_firm(tables, item, week, dues)?;
+        self.add_planned(tables, item, week, before, received)
     }
 }
 
@@ -166,13 +188,14 @@ pub fn orders_for(
     ensures value { IfOk result (λ list. list ≡ orders_of inputs.now item receipts.now) }
     ensures over { IfErr result (λ stop. stop ≡ Stop.Over → greatest_quantity < sum_by (λ order. order.start) (orders_of inputs.now item receipts.now)) }
 {
+    let tables = inputs.shop().tables();
     let entry = inputs.entry(item);
     let dues = inputs.firm(item);
     let mut list = OrderList::with_room(alloc, dues.len().saturating_add(rises(receipts)))?;
     let mut before = Qty::new(0).unwrap();
     for place in 0..inputs.weeks() {
         let received = receipts[usize::from(place)];
-        list.add_week(&entry, place + 1, dues, before, received)?;
+        list.add_week(tables, &entry, place + 1, dues, before, received)?;
         before = received;
     }
     Ok(list)

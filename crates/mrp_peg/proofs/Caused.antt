@@ -70,18 +70,18 @@ HasPieces s = All (λ (r : MasterRow). 0 < r.quantity) s.tables.master
 order_pieces : (s : Inputs) (i : ℕ) (receipts : List ℕ) (o : Order) → HasPieces s → Contains (orders_of s i receipts) o → 0 < o.quantity
 order_pieces s i receipts o rows inside =
     let (week, among, has) = in_flat_map (orders_due s i receipts) (weeks (horizon s)) o inside in
-    by week (Contains-append_cases (firm_orders s i week) (planned_order (item_at s i) week (in_week receipts (week - 1)) (in_week receipts week)) o has)
+    by week (Contains-append_cases (firm_orders s i week) (planned_order s.tables (item_at s i) week (in_week receipts (week - 1)) (in_week receipts week)) o has)
   where
-    planned : (week low high : ℕ) (b : Bool) → nat_lt low high ≡ b → Contains (if b then order_of (item_at s i) Made week (high - low) ∷ [] else []) o → 0 < o.quantity
+    planned : (week low high : ℕ) (b : Bool) → nat_lt low high ≡ b → Contains (if b then order_of s.tables (item_at s i) Made week (high - low) ∷ [] else []) o → 0 < o.quantity
     planned week low high true more has =
-        let is : order_of (item_at s i) Made week (high - low) ≡ o = only (order_of (item_at s i) Made week (high - low)) o has in
+        let is : order_of s.tables (item_at s i) Made week (high - low) ≡ o = only (order_of s.tables (item_at s i) Made week (high - low)) o has in
         let same : high - low ≡ o.quantity = ap (λ (x : Order). x.quantity) is in
         omega (arith, ltb-true low high more, same)
     planned week low high false none has = absurd (nothing o has)
 
-    by : (week : ℕ) → Contains (firm_orders s i week) o ⊎ Contains (planned_order (item_at s i) week (in_week receipts (week - 1)) (in_week receipts week)) o → 0 < o.quantity
+    by : (week : ℕ) → Contains (firm_orders s i week) o ⊎ Contains (planned_order s.tables (item_at s i) week (in_week receipts (week - 1)) (in_week receipts week)) o → 0 < o.quantity
     by week (inl has) =
-        let (r, listed, is) = in_map (λ (r : MasterRow). order_of (item_at s i) Firm week r.quantity) (firm_rows s i week) o has in
+        let (r, listed, is) = in_map (λ (r : MasterRow). order_of s.tables (item_at s i) Firm week r.quantity) (firm_rows s i week) o has in
         let (row, passes) = in_filter (λ (r : MasterRow). (r.item == i) && (r.week == week) && is_firm r.kind) s.tables.master r listed in
         let some : 0 < r.quantity = All-contains (λ (x : MasterRow). 0 < x.quantity) s.tables.master r rows row in
         let same : r.quantity ≡ o.quantity = ap (λ (x : Order). x.quantity) is in

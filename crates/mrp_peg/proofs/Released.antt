@@ -1,5 +1,5 @@
 -- The orders of a plan by the week of their release.
-use Rattle.std.proofs.Common.{◌≡◌, ◌∙◌, ◌≢◌, ℕ, zero, suc, ◌+◌, ◌-◌, ◌<◌, ◌≤◌, max, Bool, true, false, cond, List, [], ◌∷◌, ◌++◌, length, take, map, get_or, refl, sym, ap, subst, arith, append_assoc}
+use Rattle.std.proofs.Common.{◌≡◌, ◌∙◌, ◌≢◌, ℕ, zero, suc, ◌+◌, ◌-◌, ◌<◌, ◌≤◌, Bool, true, false, cond, List, [], ◌∷◌, ◌++◌, length, take, map, get_or, refl, sym, ap, subst, arith, append_assoc}
 use Rattle.std.specs.Prelude.{◌==◌, All, filter, flat_map, nat_lt}
 use Rattle.std.specs.List.{enumerate_from, range_with_len}
 use Rattle.std.specs.List.Sorted.{IsNonDecreasingBy}
@@ -14,7 +14,9 @@ use Rattle.mrp_item.specs.Inputs.{Inputs, horizon, item_at}
 use Rattle.mrp_item.specs.Orders.{firm_orders, order_of, orders_due, planned_order}
 use Rattle.mrp_item.specs.Own.{own_gross}
 use Rattle.mrp_item.specs.Plan.{IsRanked, Outcome, Planned, Over, Blocked, outcome_of, plan_in, receipts_of}
+use Rattle.mrp_item.specs.Releases.{release_of}
 use Rattle.mrp_item.specs.Rows.{firm_rows}
+use Rattle.mrp_item.proofs.Releases.{released-rises}
 use Rattle.mrp_peg.specs.declared.matching.Wanted.{Wanted}
 use Rattle.mrp_peg.specs.Rows.{order_wanted}
 use Rattle.mrp_peg.proofs.Lists.{All-weeks}
@@ -43,25 +45,22 @@ rising_weeks {X} key of up f all first (suc count) =
     let later : All (λ x. of first ≤ key x) (flat_map f (range_with_len (first + 1) count)) = All-weeks (λ x. of first ≤ key x) f (first + 1) count (λ w low high k d g. omega (arith, all w k d g, up first w (omega (arith, low)))) in
     rising_append key (f first) (flat_map f (range_with_len (first + 1) count)) (all_one key (of first) (f first) (all first)) (rising_weeks key of up f all (first + 1) count) (of first) (λ k d g. omega (arith, all first k d g)) later
 
-release_in : (s : Inputs) (i : ℕ) (receipts : List ℕ) (w : ℕ) → All (λ (o : Order). o.release ≡ max 1 (w - (item_at s i).lead)) (orders_due s i receipts w)
+release_in : (s : Inputs) (i : ℕ) (receipts : List ℕ) (w : ℕ) → All (λ (o : Order). o.release ≡ (release_of s.tables w (item_at s i).lead).week) (orders_due s i receipts w)
 release_in s i receipts w =
-    All-append IsReleased (firm_orders s i w) (planned_order (item_at s i) w (in_week receipts (w - 1)) (in_week receipts w))
-    (All-map IsReleased (λ (r : MasterRow). order_of (item_at s i) Firm w r.quantity) (firm_rows s i w) (λ k d h. refl))
+    All-append IsReleased (firm_orders s i w) (planned_order s.tables (item_at s i) w (in_week receipts (w - 1)) (in_week receipts w))
+    (All-map IsReleased (λ (r : MasterRow). order_of s.tables (item_at s i) Firm w r.quantity) (firm_rows s i w) (λ k d h. refl))
     (by (nat_lt (in_week receipts (w - 1)) (in_week receipts w)))
   where
     IsReleased : Order → Type 0
-    IsReleased o = o.release ≡ max 1 (w - (item_at s i).lead)
+    IsReleased o = o.release ≡ (release_of s.tables w (item_at s i).lead).week
 
-    by : (b : Bool) → All IsReleased (cond b (order_of (item_at s i) Made w (in_week receipts w - in_week receipts (w - 1)) ∷ []) [])
+    by : (b : Bool) → All IsReleased (cond b (order_of s.tables (item_at s i) Made w (in_week receipts w - in_week receipts (w - 1)) ∷ []) [])
     by true zero d h = refl
     by true (suc k) d h = absurd (omega (arith, h))
     by false k d h = absurd (omega (arith, h))
 
 abbrev release : Order → ℕ
 release o = o.release
-
-no_later : (lead v w : ℕ) → v ≤ w → max 1 (v - lead) ≤ max 1 (w - lead)
-no_later lead v w le = omega arith
 
 -- the orders of any item of the plan are released one after the other
 pub all_rising : (s : Inputs) (code : ℕ → ℕ) → IsRanked s code → (i : ℕ) → IsNonDecreasingBy (λ (o : Order). o.release) (plan_in (outcome_of s i)).orders
@@ -74,7 +73,7 @@ all_rising s code ranked i = by (outcome_of s i) refl
     by (Planned plan) e a b d le h =
         let receipts = receipts_of s i (own_gross s i) in
         subst Rising (sym (ap (λ o. (plan_in o).orders) (sym e) ∙ orders-own s i (own s i code plan ranked e)))
-        (rising_weeks release (λ w. max 1 (w - (item_at s i).lead)) (no_later (item_at s i).lead) (orders_due s i receipts) (release_in s i receipts) 1 (horizon s)) a b d le h
+        (rising_weeks release (λ w. (release_of s.tables w (item_at s i).lead).week) (released-rises s.tables (item_at s i).lead) (orders_due s i receipts) (release_in s i receipts) 1 (horizon s)) a b d le h
     by Over e a b d le h = absurd (omega (arith, h))
     by Blocked e a b d le h = absurd (omega (arith, h))
 
