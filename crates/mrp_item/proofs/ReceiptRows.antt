@@ -10,7 +10,7 @@ use Rattle.mrp_net.specs.declared.fault.NetFault.{NetFault}
 use Rattle.mrp_net.specs.declared.fault.NetFault.TheVariants.{TooLarge, NoMemory}
 use Rattle.mrp_net.specs.Need.{need}
 use Rattle.mrp_lots.specs.Lots.{receipts}
-use Rattle.mrp_tables.specs.declared.item.LotRule.{LotRule}
+use Rattle.mrp_tables.specs.declared.item.Item.{Item}
 use Rattle.mrp_item.specs.declared.stop.Stop.TheVariants.{Over}
 use Rattle.mrp_item.specs.Inputs.{Inputs, horizon, item_at}
 use Rattle.mrp_item.specs.Rows.{stock_of}
@@ -31,27 +31,27 @@ pub length-needs : (s : Inputs) (i : ℕ) (gross needs : List ℕ) → needs ≡
 length-needs s i gross needs are = ap length are ∙ length-row (need (stock_of s i) gross) (horizon s)
 
 -- the receipts up to a week, as the item's
-receipt_is : (s : Inputs) (i : ℕ) (gross needs : List ℕ) (lot : LotRule) (t : ℕ) → needs ≡ needs_of s i gross → lot ≡ (item_at s i).lot
-    → receipts (rule_of lot) (length needs) (in_week needs) t ≡ receipts (rule_of (item_at s i).lot) (horizon s) (in_week (needs_of s i gross)) t
-receipt_is s i gross needs lot t are is =
-    ap (λ (x : LotRule). receipts (rule_of x) (length needs) (in_week needs) t) is
-    ∙ ap (λ n. receipts (rule_of (item_at s i).lot) n (in_week needs) t) (length-needs s i gross needs are)
-    ∙ ap (λ (xs : List ℕ). receipts (rule_of (item_at s i).lot) (horizon s) (in_week xs) t) are
+receipt_is : (s : Inputs) (i : ℕ) (gross needs : List ℕ) (item : Item) (t : ℕ) → needs ≡ needs_of s i gross → item ≡ item_at s i
+    → receipts (rule_of item) (length needs) (in_week needs) t ≡ receipts (rule_of (item_at s i)) (horizon s) (in_week (needs_of s i gross)) t
+receipt_is s i gross needs item t are is =
+    ap (λ (x : Item). receipts (rule_of x) (length needs) (in_week needs) t) is
+    ∙ ap (λ n. receipts (rule_of (item_at s i)) n (in_week needs) t) (length-needs s i gross needs are)
+    ∙ ap (λ (xs : List ℕ). receipts (rule_of (item_at s i)) (horizon s) (in_week xs) t) are
 
-pub receipts_are : (s : Inputs) (i : ℕ) (gross needs received : List ℕ) (lot : LotRule) → needs ≡ needs_of s i gross → lot ≡ (item_at s i).lot
-    → received ≡ row (length needs) (receipts (rule_of lot) (length needs) (in_week needs)) → received ≡ receipts_of s i gross
-receipts_are s i gross needs received lot are is row_is =
+pub receipts_are : (s : Inputs) (i : ℕ) (gross needs received : List ℕ) (item : Item) → needs ≡ needs_of s i gross → item ≡ item_at s i
+    → received ≡ row (length needs) (receipts (rule_of item) (length needs) (in_week needs)) → received ≡ receipts_of s i gross
+receipts_are s i gross needs received item are is row_is =
     row_is
-    ∙ ap (λ n. row n (receipts (rule_of lot) (length needs) (in_week needs))) (length-needs s i gross needs are)
-    ∙ ap (row (horizon s)) (λ j t. receipt_is s i gross needs lot t are is j)
+    ∙ ap (λ n. row n (receipts (rule_of item) (length needs) (in_week needs))) (length-needs s i gross needs are)
+    ∙ ap (row (horizon s)) (λ j t. receipt_is s i gross needs item t are is j)
 
 -- the last week's receipts
-pub last_is : (s : Inputs) (i : ℕ) (gross needs : List ℕ) (lot : LotRule) → 0 < horizon s → needs ≡ needs_of s i gross → lot ≡ (item_at s i).lot
-    → receipts (rule_of lot) (length needs) (in_week needs) (length needs) ≡ in_week (receipts_of s i gross) (horizon s)
-last_is s i gross needs lot some are is =
-    ap (receipts (rule_of lot) (length needs) (in_week needs)) (length-needs s i gross needs are)
-    ∙ receipt_is s i gross needs lot (horizon s) are is
-    ∙ sym (in_week_row (receipts (rule_of (item_at s i).lot) (horizon s) (in_week (needs_of s i gross))) (horizon s) (horizon s) some (omega arith))
+pub last_is : (s : Inputs) (i : ℕ) (gross needs : List ℕ) (item : Item) → 0 < horizon s → needs ≡ needs_of s i gross → item ≡ item_at s i
+    → receipts (rule_of item) (length needs) (in_week needs) (length needs) ≡ in_week (receipts_of s i gross) (horizon s)
+last_is s i gross needs item some are is =
+    ap (receipts (rule_of item) (length needs) (in_week needs)) (length-needs s i gross needs are)
+    ∙ receipt_is s i gross needs item (horizon s) are is
+    ∙ sym (in_week_row (receipts (rule_of (item_at s i)) (horizon s) (in_week (needs_of s i gross))) (horizon s) (horizon s) some (omega arith))
 
 -- a quantity is within the greatest
 pub quantity_of-within : (q n : ℕ) → Some q ≡ quantity_of n → n ≤ greatest_quantity

@@ -12,7 +12,7 @@ use Rattle.mrp_tables.specs.declared.rows.BillLine.{BillLine}
 use Rattle.mrp_bill.specs.Bill.{is_parent, IsParent}
 use Rattle.mrp_bill.specs.Shop.{Shop, IsShop}
 use Rattle.mrp_item.specs.Inputs.{Inputs, count}
-use Rattle.mrp_item.specs.Limits.{IsPlannable, IsSized}
+use Rattle.mrp_item.specs.Limits.{HasSize, IsPlannable}
 use Rattle.mrp_item.specs.Plan.{IsRanked, HasParents}
 
 parent_within : (lines : List BillLine) (n : ℕ) → All (λ line. line.parent < n) lines → (p i : ℕ) → IsParent lines p i → p < n
@@ -41,7 +41,7 @@ is_ranked s shop same kept = record {
   within = λ i. omega (arith, code_within shop.codes (length shop.tables.items) kept.low i, ap (λ t. length t.items) same);
 }
 
-sized : (lot : LotRule) (item : Item) → item.lot ≡ lot → IsItem item → IsSized lot
+sized : (lot : LotRule) (item : Item) → item.lot ≡ lot → IsItem item → HasSize lot
 sized LotForLot item same kept = tt
 sized (Fixed size) item same kept = let range = kept.fixed size same in omega (arith, range.0)
 sized (Period n) item same kept = let range = kept.period n same in omega (arith, range.0)

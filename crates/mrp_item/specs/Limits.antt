@@ -5,14 +5,17 @@ use Rattle.mrp_tables.specs.declared.item.LotRule.{LotRule}
 use Rattle.mrp_tables.specs.declared.item.LotRule.TheVariants.{LotForLot, Fixed, Period}
 use Rattle.mrp_tables.specs.declared.item.Item.{Item}
 
--- a lot rule's size is at least 1
-abbrev pub IsSized : LotRule → Type 0
-IsSized LotForLot = ⊤
-IsSized (Fixed size) = 0 < size
-IsSized (Period n) = 0 < n
+abbrev pub HasSize : LotRule → Type 0
+HasSize LotForLot = ⊤
+HasSize (Fixed size) = 0 < size
+HasSize (Period n) = 0 < n
+
+-- the size of an item's lots is at least 1
+abbrev pub IsSized : Item → Type 0
+IsSized item = HasSize item.lot
 
 -- scrap, lead and lot size
 pub record IsPlannable (item : Item) : Type 0 where
   pub scrap : item.scrap ≤ MOST_SCRAP
   pub lead : item.lead ≤ MOST_LEAD
-  pub sized : IsSized item.lot
+  pub sized : IsSized item

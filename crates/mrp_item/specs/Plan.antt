@@ -59,7 +59,7 @@ abbrev pub needs_of : Inputs → ℕ → List ℕ → List ℕ
 needs_of s i gross = row (horizon s) (need (stock_of s i) gross)
 
 abbrev pub receipts_of : Inputs → ℕ → List ℕ → List ℕ
-receipts_of s i gross = row (horizon s) (receipts (rule_of (item_at s i).lot) (horizon s) (in_week (needs_of s i gross)))
+receipts_of s i gross = row (horizon s) (receipts (rule_of (item_at s i)) (horizon s) (in_week (needs_of s i gross)))
 
 abbrev pub item_plan : Inputs → ℕ → List ℕ → ItemPlan
 item_plan s i gross = record { gross = gross; receipts = receipts_of s i gross; orders = orders_of s i (receipts_of s i gross) }

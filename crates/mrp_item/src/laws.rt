@@ -31,7 +31,7 @@ pub fn asking()
 
 /// No requirement is unserved: supplies up to a week are at least requirements and safety stock.
 pub fn service()
-    ensures { (s : Inputs) (i : ℕ) (gross : List ℕ) (t : ℕ) → IsSized (item_at s i).lot → 0 < t → t ≤ horizon s → sum_to gross t + (stock_of s i).safety ≤ (stock_of s i).on_hand + sum_to (stock_of s i).scheduled t + in_week (receipts_of s i gross) t }
+    ensures { (s : Inputs) (i : ℕ) (gross : List ℕ) (t : ℕ) → IsSized (item_at s i) → 0 < t → t ≤ horizon s → sum_to gross t + (stock_of s i).safety ≤ (stock_of s i).on_hand + sum_to (stock_of s i).scheduled t + in_week (receipts_of s i gross) t }
 {}
 
 /// An item's outcome is that of its parents' outcomes, and nothing else is; parents may be planned

@@ -8,7 +8,7 @@ ghost use Rattle.mrp_lots.specs.Lots.{receipts};
 ghost use Rattle.mrp_item.specs.Limits.{IsSized};
 ghost use Rattle.mrp_item.specs.Inputs.{count, horizon};
 ghost use Rattle.mrp_item.specs.Lot.{rule_of};
-ghost use Rattle.mrp_item.specs.Kept.{plan_in_rows};
+ghost use Rattle.mrp_item.specs.Kept.{AreRowsOf};
 ghost use Rattle.mrp_item.specs.Made.{item_from, parents_from};
 ghost use Rattle.mrp_item.specs.Orders.{started_in};
 ghost use Rattle.mrp_item.specs.Own.{AreWithin, ArePast, IsReady, own_gross};
@@ -28,7 +28,7 @@ use mrp_lots::{Fixed, LotForLot, Period, receipts};
 use mrp_net::{NeedRow, NetFault, Stock, need};
 use mrp_phase::Weeks;
 use mrp_qty::{NoMemory, Qty};
-use mrp_tables::LotRule;
+use mrp_tables::{Item, LotRule};
 use std::alloc::Global;
 use std::sync::Arc;
 
@@ -52,13 +52,13 @@ fn gross_row(
     }
 }
 
-// The planned receipts that a lot rule makes of needs.
-fn lot_receipts(alloc: Global, needs: &NeedRow, lot: LotRule) -> Result<Weeks<Qty>, NetFault>
-    requires { IsSized lot }
-    ensures value { IfOk result (λ w. w ≡ row (length needs.now) (receipts (rule_of lot) (length needs.now) (in_week needs.now))) }
-    ensures too_large { IfErr result (λ fault. fault ≡ NetFault.TooLarge → greatest_quantity < receipts (rule_of lot) (length needs.now) (in_week needs.now) (length needs.now)) }
+// The planned receipts that an item's lot rule makes of needs.
+fn lot_receipts(alloc: Global, needs: &NeedRow, item: &Item) -> Result<Weeks<Qty>, NetFault>
+    requires { IsSized item.now }
+    ensures value { IfOk result (λ w. w ≡ row (length needs.now) (receipts (rule_of item.now) (length needs.now) (in_week needs.now))) }
+    ensures too_large { IfErr result (λ fault. fault ≡ NetFault.TooLarge → greatest_quantity < receipts (rule_of item.now) (length needs.now) (in_week needs.now) (length needs.now)) }
 {
-    match lot {
+    match item.lot {
         LotRule::LotForLot => receipts(alloc, needs, &LotForLot),
         LotRule::Fixed(size) => receipts(alloc, needs, &Fixed::new(size)),
         LotRule::Period(weeks) => receipts(alloc, needs, &Period::new(weeks)),

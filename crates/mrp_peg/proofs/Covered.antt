@@ -43,15 +43,15 @@ abbrev offered : Supply → ℕ
 offered x = x.quantity
 
 -- the receipts of an item do not fall
-rising : (s : Inputs) (i : ℕ) (gross : List ℕ) → IsSized (item_at s i).lot → IsNeed (horizon s) (in_week (receipts_of s i gross))
+rising : (s : Inputs) (i : ℕ) (gross : List ℕ) → IsSized (item_at s i) → IsNeed (horizon s) (in_week (receipts_of s i gross))
 rising s i gross sized =
-    let lot = (item_at s i).lot in
+    let item = item_at s i in
     let needs = in_week (needs_of s i gross) in
-    row_rises (receipts (rule_of lot) (horizon s) needs) (horizon s)
-    (rises (rule_of lot) (rule_of-kept lot sized) (horizon s) needs (row_rises (need (stock_of s i) gross) (horizon s) (need_rises (stock_of s i) gross (horizon s))))
+    row_rises (receipts (rule_of item) (horizon s) needs) (horizon s)
+    (rises (rule_of item) (rule_of-kept item sized) (horizon s) needs (row_rises (need (stock_of s i) gross) (horizon s) (need_rises (stock_of s i) gross (horizon s))))
 
 -- no requirement is unserved at the end of the horizon
-served : (s : Inputs) (i : ℕ) (gross : List ℕ) → IsSized (item_at s i).lot → 0 < horizon s
+served : (s : Inputs) (i : ℕ) (gross : List ℕ) → IsSized (item_at s i) → 0 < horizon s
     → sum_to gross (horizon s) + (stock_of s i).safety ≤ (stock_of s i).on_hand + sum_to (stock_of s i).scheduled (horizon s) + in_week (receipts_of s i gross) (horizon s)
 served s i gross sized a =
     let h = horizon s in
@@ -62,8 +62,8 @@ served s i gross sized a =
       arith,
       greatest_above (shortage (stock_of s i) gross) h a,
       in_week_row (need (stock_of s i) gross) h h a within,
-      in_week_row (receipts (rule_of (item_at s i).lot) h needs) h h a within,
-      covers (rule_of (item_at s i).lot) (rule_of-kept (item_at s i).lot sized) h needs up h a within,
+      in_week_row (receipts (rule_of (item_at s i)) h needs) h h a within,
+      covers (rule_of (item_at s i)) (rule_of-kept (item_at s i) sized) h needs up h a within,
     )
 
 abbrev received_in : Inputs → ℕ → ℕ → ℕ
@@ -119,7 +119,7 @@ scheduled_sum s i =
     )
 
 -- what is required of a planned item is supplied; without weeks nothing is required
-pub covered_item : (s : Inputs) (i : ℕ) → IsOwn s i → IsSized (item_at s i).lot → total (requirements s i) ≤ total (supplies s i)
+pub covered_item : (s : Inputs) (i : ℕ) → IsOwn s i → IsSized (item_at s i) → total (requirements s i) ≤ total (supplies s i)
 covered_item s i is sized = by (cases_lt 0 (horizon s))
   where
     gross : List ℕ

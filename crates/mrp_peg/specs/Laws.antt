@@ -44,7 +44,7 @@ SuppliesArePegged = (s : Inputs) (i : ℕ) → AddUpToSupplies s i (pegs_of s i)
 
 -- the supplies of a planned item cover its requirements
 abbrev pub RequirementsAreCovered : Type 0
-RequirementsAreCovered = (s : Inputs) (i : ℕ) (code : ℕ → ℕ) (plan : ItemPlan) → IsRanked s code → outcome_of s i ≡ Planned plan → IsSized (item_at s i).lot → total (requirements s i) ≤ total (supplies s i)
+RequirementsAreCovered = (s : Inputs) (i : ℕ) (code : ℕ → ℕ) (plan : ItemPlan) → IsRanked s code → outcome_of s i ≡ Planned plan → IsSized (item_at s i) → total (requirements s i) ≤ total (supplies s i)
 
 -- where the numbers of the bookings rise, the needs of an item differ
 abbrev pub NeedsDiffer : Type 0

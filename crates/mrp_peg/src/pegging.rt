@@ -26,7 +26,7 @@ use std::alloc::Global;
 pub fn is_master_item(inputs: &Inputs, item: usize) -> bool
     requires { item < count inputs.now }
     ensures class { result ≡ is_master inputs.now item }
-    ensures sized { IsSized (item_at inputs.now item).lot }
+    ensures sized { IsSized (item_at inputs.now item) }
 {
     inputs.entry(item).class.is_master()
 }
@@ -37,7 +37,7 @@ fn listed_needs(alloc: Global, plan: &Plan, item: usize) -> Result<Vec<Wanted>, 
     requires own { IsOwn plan.now.inputs item }
     requires within { AreWithin (λ wanted. wanted.need.week) 1 (horizon plan.now.inputs) (all_wanted plan.now.inputs item) }
     ensures needs { IfOk result (λ needs. needs.items ≡ by_weeks (λ wanted. wanted.need.week) (weeks (horizon plan.now.inputs)) (all_wanted plan.now.inputs item)) }
-    ensures sized { IsSized (item_at plan.now.inputs item).lot }
+    ensures sized { IsSized (item_at plan.now.inputs item) }
 {
     let inputs: &Inputs = plan.inputs();
     if is_master_item(inputs, item) {

@@ -20,6 +20,6 @@ returns c = λ s i gross t sized a b.
       arith,
       greatest_above (shortage (stock_of s i) gross) t a,
       in_week_row (need (stock_of s i) gross) (horizon s) t a b,
-      in_week_row (receipts (rule_of (item_at s i).lot) (horizon s) needs) (horizon s) t a b,
-      covers (rule_of (item_at s i).lot) (rule_of-kept (item_at s i).lot sized) (horizon s) needs rises t a b,
+      in_week_row (receipts (rule_of (item_at s i)) (horizon s) needs) (horizon s) t a b,
+      covers (rule_of (item_at s i)) (rule_of-kept (item_at s i) sized) (horizon s) needs rises t a b,
     )

@@ -72,8 +72,8 @@ returns-clause-needs c =
 
 pub returns-then-is_master_item-clause-sized : goal.returns-then-is_master_item-clause-sized
 returns-then-is_master_item-clause-sized c =
-    subst (λ (y : Inputs). IsSized (item_at y c.args.item).lot) (c.deref-inputs.ensures ∙ c.inputs.ensures.inputs) c.is_master_item.ensures.sized
+    subst (λ (y : Inputs). IsSized (item_at y c.args.item)) (c.deref-inputs.ensures ∙ c.inputs.ensures.inputs) c.is_master_item.ensures.sized
 
 pub returns-clause-sized : goal.returns-clause-sized
 returns-clause-sized c =
-    subst (λ (y : Inputs). IsSized (item_at y c.args.item).lot) (c.deref-inputs.ensures ∙ c.inputs.ensures.inputs) c.is_master_item.ensures.sized
+    subst (λ (y : Inputs). IsSized (item_at y c.args.item)) (c.deref-inputs.ensures ∙ c.inputs.ensures.inputs) c.is_master_item.ensures.sized

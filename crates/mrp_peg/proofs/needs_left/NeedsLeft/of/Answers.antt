@@ -24,5 +24,5 @@ returns-clause-covered c =
     let code = slice_index c.shop-ranked.result.now.codes in
     let e : c.deref-inputs.result.now ≡ s = c.deref-inputs.ensures ∙ c.inputs.ensures.inputs in
     let R : Inputs → Type 0 = λ x. IsRanked x code in
-    let sized : IsSized (item_at s i).lot = subst (λ (x : Inputs). IsSized (item_at x i).lot) e c.is_master_item.ensures.sized in
+    let sized : IsSized (item_at s i) = subst (λ (x : Inputs). IsSized (item_at x i)) e c.is_master_item.ensures.sized in
     covered_item s i (own-of_all s i code c.args.plan.now.plans (subst R e c.shop-ranked.ensures.ranked) (subst HasParents e c.shop-ranked.ensures.parents) c.inputs.ensures.plan c.requires) sized
