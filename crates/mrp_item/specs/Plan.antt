@@ -49,10 +49,13 @@ is_over Blocked = false
 abbrev pub asked_by : (ℕ → Outcome) → ℕ → BillLine → ℕ
 asked_by above week line = sum_by (λ order. order.start * line.per) (released_in week (plan_in (above line.parent)).orders)
 
--- the gross requirement of an item in a week (Orlicky: gross requirements): the demand of a master item (profile), and what
--- the lines ask of another
+-- the gross requirement of a part in a week: what the lines to it ask
+abbrev pub part_gross : Inputs → ℕ → (ℕ → Outcome) → ℕ → ℕ
+part_gross s i above week = sum_by (asked_by above week) (lines_to s i)
+
+-- the gross requirement of an item in a week (Orlicky: gross requirements): the demand of a master item (profile), or a part's
 abbrev pub gross_in : Inputs → ℕ → (ℕ → Outcome) → ℕ → ℕ
-gross_in s i above week = if is_master s i then demand s i week else sum_by (asked_by above week) (lines_to s i)
+gross_in s i above week = if is_master s i then demand s i week else part_gross s i above week
 
 -- the need up to each week, and the receipts up to each week that the lot rule makes of it
 abbrev pub needs_of : Inputs → ℕ → List ℕ → List ℕ

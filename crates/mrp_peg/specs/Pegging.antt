@@ -42,9 +42,13 @@ line_needs s i week place =
 abbrev pub parent_needs : Inputs → ℕ → ℕ → List (Amount Need)
 parent_needs s i week = flat_map (line_needs s i week) (lines_of s.tables.bills i)
 
--- the requirements of a week: of a master item bookings and forecast, of another what parents ask
+-- the requirements of a part in a week: what parents ask
+abbrev pub part_needs : Inputs → ℕ → ℕ → List (Amount Need)
+part_needs s i week = parent_needs s i week
+
+-- the requirements of a week: of a master item bookings and forecast, or a part's
 abbrev pub needs_in : Inputs → ℕ → ℕ → List (Amount Need)
-needs_in s i week = if is_master s i then booking_needs s i week ++ forecast_needs s i week else parent_needs s i week
+needs_in s i week = if is_master s i then booking_needs s i week ++ forecast_needs s i week else part_needs s i week
 
 -- the requirements of an item, week by week
 unfoldable pub requirements : Inputs → ℕ → List (Amount Need)

@@ -45,5 +45,9 @@ demand_wanted s i =
 abbrev pub parents_wanted : Inputs → ℕ → List Wanted
 parents_wanted s i = flat_map (line_wanted s i) (lines_of s.tables.bills i)
 
+-- what a part needs: what parents ask
+abbrev pub part_wanted : Inputs → ℕ → List Wanted
+part_wanted s i = parents_wanted s i
+
 abbrev pub all_wanted : Inputs → ℕ → List Wanted
-all_wanted s i = if is_master s i then demand_wanted s i else parents_wanted s i
+all_wanted s i = if is_master s i then demand_wanted s i else part_wanted s i
