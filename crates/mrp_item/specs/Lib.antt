@@ -9,6 +9,7 @@ pub mod Releases
 pub mod Orders
 pub mod Recursion
 pub mod Plan
+pub mod NetChange
 pub mod ShopRows
 pub mod View
 pub mod Places

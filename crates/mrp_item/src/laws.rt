@@ -8,6 +8,7 @@ ghost use Rattle.mrp_phase.specs.Weeks.{in_week, row, sum_to, weeks};
 ghost use Rattle.mrp_item.specs.Inputs.{Inputs, count, horizon, item_at};
 ghost use Rattle.mrp_item.specs.Rows.{firm_rows, stock_of};
 ghost use Rattle.mrp_item.specs.Limits.{IsSized};
+ghost use Rattle.mrp_item.specs.NetChange.{IsUntouched};
 ghost use Rattle.mrp_item.specs.Releases.{release_of};
 ghost use Rattle.mrp_item.specs.Orders.{orders_of, started_in};
 ghost use Rattle.mrp_item.specs.Plan.{asked_by, plan_in, HasParents, IsRanked, IsSolution, Planned, Over, Blocked, first_over, gross_in, is_too_large, item_plan, outcome_of, outcome_step, plan_of, receipts_of};
@@ -42,6 +43,13 @@ pub fn recursion()
     // The step looks at the parents alone.
     ensures parents_alone { (s : Inputs) (i : ℕ) (f g : ℕ → _) → ((p : ℕ) → IsParent s.tables.bills p i → f p ≡ g p) → outcome_step s i f ≡ outcome_step s i g }
     ensures any_order { (s : Inputs) (code : ℕ → ℕ) → IsRanked s code → (f : ℕ → _) (i : ℕ) → ((p : ℕ) → IsParent s.tables.bills p i → f p ≡ outcome_of s p) → outcome_step s i f ≡ outcome_of s i }
+{}
+
+/// An item's outcome stays where the tables, its own bookings and its parents' orders do (Orlicky:
+/// net change).
+pub fn net_change()
+    ensures step { (old new : Inputs) (i : ℕ) (f g : ℕ → _) → IsUntouched old new i f g → outcome_step old i f ≡ outcome_step new i g }
+    ensures outcome { (old new : Inputs) (code : ℕ → ℕ) → IsRanked old code → (i : ℕ) → IsUntouched old new i (outcome_of old) (outcome_of new) → outcome_of old i ≡ outcome_of new i }
 {}
 
 /// An item is blocked exactly where one above it is over, and over exactly where it is too large
