@@ -6,7 +6,6 @@ pub mod OrderWeeks
 pub mod Asks
 pub mod Parents
 pub mod StartedRows
-pub mod PlannedStock
 pub mod PlannedRows
 pub mod ByKeys
 pub mod SupplyOrder

@@ -14,7 +14,6 @@ mod planned;
 mod planning;
 mod release;
 mod shop_rows;
-mod stocked;
 mod stop;
 mod supplies;
 mod supply;

@@ -2,6 +2,7 @@
 
 use crate::inputs::Inputs;
 use crate::order::Order;
+use mrp_net::Stock;
 use mrp_phase::Weeks;
 use mrp_qty::{NoMemory, Qty};
 use std::marker::Model;
@@ -14,6 +15,7 @@ pub struct PlanRows {
     pub receipts: Weeks<Qty>,
     pub orders: Vec<Order>,
     pub started: Weeks<Qty>,
+    pub stock: Stock,
 }
 
 /// An item's plan, for the inputs that it holds. Its copies share its rows.
@@ -43,13 +45,13 @@ impl Planned {
     ghost use Rattle.mrp_item.specs.Orders.{started_in};
     ghost use Rattle.mrp_item.specs.Plan as plan;
     ghost use Rattle.mrp_item.specs.Plan.{outcome_of};
-    ghost use Rattle.mrp_item.specs.Kept.{plan_in_rows};
+    ghost use Rattle.mrp_item.specs.Rows.{stock_of};
+    ghost use Rattle.mrp_item.specs.Kept.{AreRowsOf, plan_in_rows};
 
     // A plan that is the item's.
     pub(crate) fn new(inputs: Arc<Inputs>, item: usize, rows: Arc<PlanRows>) -> Planned
         requires within { item < count inputs.value }
-        requires outcome { outcome_of inputs.value item ≡ plan.Planned (plan_in_rows rows.value) }
-        requires started { rows.value.started ≡ row (horizon inputs.value) (started_in rows.value.orders.items) }
+        requires rows { AreRowsOf inputs.value item rows.value }
         ensures { result ≡ record { inputs = inputs.value; item = item; plan = plan_in_rows rows.value } }
     {
         Planned { inputs, item, rows }
@@ -101,6 +103,13 @@ impl Planned {
         ensures outcome { outcome_of self.now.inputs self.now.item ≡ plan.Planned self.now.plan }
     {
         &self.rows.started
+    }
+
+    /// What the item has without planning.
+    pub fn stock(&self) -> &Stock
+        ensures { result.now ≡ stock_of self.now.inputs self.now.item }
+    {
+        &self.rows.stock
     }
 
     /// An equal plan, which shares the rows.

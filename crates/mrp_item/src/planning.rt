@@ -12,6 +12,7 @@ ghost use Rattle.mrp_item.specs.Kept.{AreRowsOf};
 ghost use Rattle.mrp_item.specs.Made.{item_from, parents_from};
 ghost use Rattle.mrp_item.specs.Orders.{started_in};
 ghost use Rattle.mrp_item.specs.Own.{AreWithin, ArePast, IsReady, own_gross};
+ghost use Rattle.mrp_item.specs.Rows.{stock_of};
 ghost use Rattle.mrp_item.specs.Plan as plan;
 ghost use Rattle.mrp_item.specs.Plan.{is_planned, outcome_of, receipts_of};
 
@@ -88,24 +89,25 @@ fn started_row(alloc: Global, weeks: u16, orders: &[Order]) -> Result<Weeks<Qty>
     Ok(started)
 }
 
-// The planned receipts of an item, from its gross requirements.
+// The planned receipts of an item, from its gross requirements and what it has without planning.
 fn receipts_row(
     alloc: Global,
     inputs: &Inputs,
     item: usize,
     gross: &Weeks<Qty>,
+    stock: &Stock,
 ) -> Result<Weeks<Qty>, Stop>
     requires item { item < count inputs.now }
     requires weeks { length gross.now ≡ horizon inputs.now }
+    requires stock { stock.now ≡ stock_of inputs.now item }
     ensures value { IfOk result (λ w. w ≡ receipts_of inputs.now item gross.now) }
     ensures within { OnOk result (AreWithin inputs.now item gross.now) }
     ensures over { IfErr result (λ stop. stop ≡ Stop.Over → ArePast inputs.now item gross.now) }
 {
     let weeks = inputs.weeks();
-    let stock = stock_for(alloc, inputs, item)?;
-    let needs = need(alloc, gross, &stock)?;
-    let received = lot_receipts(alloc, &needs, inputs.entry(item).lot)?;
-    or_over(supplies(&stock, received.at(weeks)))?;
+    let needs = need(alloc, gross, stock)?;
+    let received = lot_receipts(alloc, &needs, &inputs.entry(item))?;
+    or_over(supplies(stock, received.at(weeks)))?;
     Ok(received)
 }
 
@@ -126,22 +128,24 @@ fn own_rows(
     requires item { item < count inputs.now }
     requires parents { parents.now ≡ parents_from inputs.now item }
     requires ready { IsReady inputs.now item }
-    ensures outcome { IfOk result (λ rows. outcome_of inputs.now item ≡ plan.Planned (record { gross = rows.gross; receipts = rows.receipts; orders = rows.orders.items })) }
-    ensures started { IfOk result (λ rows. rows.started ≡ row (horizon inputs.now) (started_in rows.orders.items)) }
+    ensures rows { IfOk result (λ rows. AreRowsOf inputs.now item rows.value) }
     ensures over { IfErr result (λ stop. stop ≡ Stop.Over → outcome_of inputs.now item ≡ plan.Over) }
 {
     // Its codes rank the items, parents above their components.
     let _ranked = inputs.shop();
     let gross = gross_row(alloc, inputs, item, parents)?;
-    let receipts = receipts_row(alloc, inputs, item, &gross)?;
+    let stock = stock_for(alloc, inputs, item)?;
+    let receipts = receipts_row(alloc, inputs, item, &gross, &stock)?;
     let orders = orders_for(alloc, inputs, item, receipts.as_slice())?.into_vec();
     let started = started_row(alloc, inputs.weeks(), orders.as_slice())?;
-    Ok(PlanRows {
+    let rows = PlanRows {
         gross,
         receipts,
         orders,
         started,
-    })
+        stock,
+    };
+    Ok(Arc::new(alloc, rows)?)
 }
 
 // What planning makes of an item whose rows can't be finished.

@@ -52,7 +52,7 @@ fn of_one_length(rt: &impl Abort, left: &Weeks<Qty>, right: &Weeks<Qty>)
 fn is_planned(rt: &impl Abort, alloc: Global, planned: &Planned, want: &Worked) {
     let gross = planned.gross();
     let receipts = planned.receipts();
-    let stock = planned.stock(alloc).expect(rt, "memory");
+    let stock = planned.stock();
     has_row(rt, gross, &want.gross);
     has_row(rt, receipts, &want.receipts);
     has_row(rt, planned.started(), &want.started);
@@ -60,9 +60,9 @@ fn is_planned(rt: &impl Abort, alloc: Global, planned: &Planned, want: &Worked) 
     of_one_length(rt, &stock.scheduled, gross);
     of_one_length(rt, receipts, gross);
     assert!(rt; never_fall(receipts.as_slice()));
-    let balances = balance_row(alloc, gross, &stock, receipts).expect(rt, "balances");
+    let balances = balance_row(alloc, gross, stock, receipts).expect(rt, "balances");
     has_row(rt, &balances, &want.balances);
-    drop((stock, balances));
+    drop(balances);
 }
 
 // Fails unless the items of a plan are planned so.
