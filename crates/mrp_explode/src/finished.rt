@@ -1,6 +1,6 @@
 //! The items that are planned so far, parents before their components.
 
-ghost use Rattle.std.specs.Prelude.{◌≡◌, ◌<◌, ℕ, All, Some, None, IfOk, IsSome, OnOk, OnErr, is_some, map, replicate, set};
+ghost use Rattle.std.specs.Prelude.{◌≡◌, ◌≢◌, ◌<◌, ℕ, All, Some, None, IfOk, IfErr, IsSome, OnOk, OnErr, is_some, map, replicate, set};
 ghost use Rattle.std.specs.List.{list_all, slice_index_or};
 ghost use Rattle.mrp_bill.specs.Bill.{parents_of};
 ghost use Rattle.mrp_item.specs.Inputs.{count};
@@ -37,6 +37,18 @@ fn too_large(item: usize) -> RunFault
     ensures { result ≡ RunFault.TooLarge item }
 {
     RunFault::TooLarge { item }
+}
+
+// The plan that all items' outcomes make, or why there is none, for which memory is no reason.
+fn plan_from(inputs: Arc<Inputs>, outcomes: Vec<Outcome>) -> Result<Plan, RunFault>
+    requires { outcomes.items ≡ all_from inputs.value }
+    ensures plan { Explodes inputs.value result }
+    ensures told { IfErr result (λ fault. fault ≢ RunFault.NoMemory) }
+{
+    match Plan::of(inputs, outcomes) {
+        Ok(plan) => Ok(plan),
+        Err(item) => Err(too_large(item)),
+    }
 }
 
 // The outcomes in a list of places, none of which is empty.
@@ -195,7 +207,7 @@ impl Finished {
     {
         let Finished { inputs, outcomes } = self;
         let all = out_of_places(alloc, outcomes)?;
-        Plan::of(inputs, all).map_err(too_large)
+        plan_from(inputs, all)
     }
 
     /// The plan of all items, each of which is finished, made of copies of their outcomes.
@@ -207,6 +219,6 @@ impl Finished {
     {
         let outcomes = self.all(alloc)?;
         let inputs = self.share_inputs()?;
-        Plan::of(inputs, outcomes).map_err(too_large)
+        plan_from(inputs, outcomes)
     }
 }

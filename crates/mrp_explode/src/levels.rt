@@ -1,6 +1,6 @@
 //! Explosion by low-level codes: the items of a code are planned side by side.
 
-ghost use Rattle.std.specs.Prelude.{◌≡◌, ◌<◌, All, IfOk, OnOk};
+ghost use Rattle.std.specs.Prelude.{◌≡◌, ◌==◌, ◌<◌, ◌%◌, if◌then◌else◌, vec_capacity, All, IfOk, OnOk, OnErr};
 ghost use Rattle.mrp_item.specs.Inputs.{count};
 ghost use Rattle.mrp_item.specs.Made.{item_from, items_from};
 ghost use Rattle.mrp_explode.specs.Explosion.{Explodes};
@@ -25,13 +25,14 @@ const ITEMS_OF_ROOM: usize = 8;
 // The bytes of that room: an item with an order in each of 104 weeks keeps some 5,000, and its planning takes others.
 const ROOM: usize = 60_000;
 
-// Asks for the room of some items at once, and gives it back to the thread's own heap. That grows by what is asked for, so
-// else by a page or two at a time, and while the heap of one thread grows no other's can.
-fn make_room(alloc: Global, item: usize) -> Result<(), NoMemory> {
-    if item % ITEMS_OF_ROOM == 0 {
-        let _room = Vec::<u8>::with_capacity(alloc, ROOM)?;
-    }
-    Ok(())
+// The room that is asked for at an item: that of some items at once, or none. Given back, it is the thread's own heap's.
+// That grows by what is asked for, so else by a page or two at a time, and while the heap of one thread grows no other's can.
+fn make_room(alloc: Global, item: usize) -> Result<Vec<u8>, NoMemory>
+    ensures room { IfOk result (λ room. vec_capacity room ≡ (if item % ITEMS_OF_ROOM == 0 then ROOM else 0)) }
+    ensures refused { OnErr result (item % ITEMS_OF_ROOM ≡ 0) }
+{
+    let bytes = if item % ITEMS_OF_ROOM == 0 { ROOM } else { 0 };
+    Ok(Vec::with_capacity(alloc, bytes)?)
 }
 
 // What planning makes of items whose parents are finished, side by side.
@@ -54,7 +55,7 @@ fn outcomes_for(
                 requires ready { IsReady finished.now item.now }
                 ensures { IfOk result (λ o. o ≡ item_from finished.entry.now.inputs item.now) }
             {
-                make_room(alloc, *item)?;
+                drop(make_room(alloc, *item)?);
                 finished.outcome_for(alloc, *item)
             },
         )

@@ -1,6 +1,6 @@
 //! The plan of an item, from its parents' outcomes.
 
-ghost use Rattle.std.specs.Prelude.{◌≡◌, ◌≤◌, ◌<◌, ◌+◌, ◌↔◌, ℕ, true, IsTrue, length, sum, sum_by, IfOk, OnOk, IfErr, MatchResult};
+ghost use Rattle.std.specs.Prelude.{◌≡◌, ◌≤◌, ◌<◌, ◌+◌, ◌↔◌, ℕ, true, IsTrue, length, sum, sum_by, IfOk, OnOk, IfErr, IsErrOf, MatchResult};
 ghost use Rattle.std.specs.List.{list_all};
 ghost use Rattle.mrp_qty.specs.Quantity.{greatest_quantity, quantity_of};
 ghost use Rattle.mrp_phase.specs.Weeks.{in_week, row};
@@ -124,7 +124,7 @@ fn own_rows(
     inputs: &Inputs,
     item: usize,
     parents: &[Outcome],
-) -> Result<PlanRows, Stop>
+) -> Result<Arc<PlanRows>, Stop>
     requires item { item < count inputs.now }
     requires parents { parents.now ≡ parents_from inputs.now item }
     requires ready { IsReady inputs.now item }
@@ -148,14 +148,21 @@ fn own_rows(
     Ok(Arc::new(alloc, rows)?)
 }
 
-// What planning makes of an item whose rows can't be finished.
-fn unfinished(source: Arc<Inputs>, item: usize, stop: Stop) -> Result<Outcome, NoMemory>
-    requires { stop ≡ Stop.Over → outcome_of source.value item ≡ plan.Over }
-    ensures { MatchResult result (λ o. (stop ≡ Stop.Over) × (o ≡ item_from source.value item)) (λ _. stop ≡ Stop.NoMemory) }
+// What planning makes of an item, by its rows, or by why they can't be finished.
+fn outcome_from(
+    source: Arc<Inputs>,
+    item: usize,
+    rows: Result<Arc<PlanRows>, Stop>,
+) -> Result<Outcome, NoMemory>
+    requires item { item < count source.value }
+    requires rows { IfOk rows (λ rows. AreRowsOf source.value item rows.value) }
+    requires over { IfErr rows (λ stop. stop ≡ Stop.Over → outcome_of source.value item ≡ plan.Over) }
+    ensures { MatchResult result (λ o. o ≡ item_from source.value item) (λ _. IsErrOf rows Stop.NoMemory) }
 {
-    match stop {
-        Stop::Over => Ok(Outcome::over(source, item)),
-        Stop::NoMemory => Err(NoMemory),
+    match rows {
+        Ok(rows) => Ok(Outcome::planned(Planned::new(source, item, rows))),
+        Err(Stop::Over) => Ok(Outcome::over(source, item)),
+        Err(Stop::NoMemory) => Err(NoMemory),
     }
 }
 
@@ -181,11 +188,5 @@ pub fn plan_item(
     if !are_planned(parents) {
         return Ok(Outcome::blocked(source, item));
     }
-    match own_rows(alloc, inputs, item, parents) {
-        Ok(rows) => {
-            let planned = Planned::new(source, item, Arc::new(alloc, rows)?);
-            Ok(Outcome::planned(planned))
-        }
-        Err(stop) => unfinished(source, item, stop),
-    }
+    outcome_from(source, item, own_rows(alloc, inputs, item, parents))
 }

@@ -9,5 +9,5 @@ out_of_places-requires c =
     all-there c.self.inside.inputs.value c.self.inside.outcomes.items c.self.invariant
     (subst (λ (p : Progress). (i : ℕ) → i < count p.inputs → IsFinished p i) (sym c.self.view_is) c.requires)
 
-pub of-requires : goal.of-requires
-of-requires c = all-own c.self.inside.inputs.value c.self.inside.outcomes.items c.in_ok-all.all.items c.self.invariant c.in_ok-all.ensures
+pub plan_from-requires : goal.plan_from-requires
+plan_from-requires c = all-own c.self.inside.inputs.value c.self.inside.outcomes.items c.in_ok-all.all.items c.self.invariant c.in_ok-all.ensures
