@@ -32,12 +32,8 @@ pub struct NeedsLeft<'a> {
 const AT_ONCE: usize = 32_768;
 
 // Whether a part has at most so many requirements, also where each parent has an order a week.
-fn are_few(plan: &Plan, item: usize) -> bool
-    requires { item < count plan.now.inputs }
-{
-    let inputs: &Inputs = plan.inputs();
-    let used = WhereUsed::of(plan, item);
-    if used.len().saturating_mul(usize::from(inputs.weeks())) > AT_ONCE {
+fn are_few(used: &WhereUsed<'_>, weeks: u16) -> bool {
+    if used.len().saturating_mul(usize::from(weeks)) > AT_ONCE {
         return false;
     }
     let mut left = AT_ONCE;
@@ -80,10 +76,11 @@ impl<'a> NeedsLeft<'a> {
         if is_master_item(inputs, item) {
             return NeedsLeft::listed(alloc, plan, item);
         }
-        if are_few(plan, item) {
+        let used = WhereUsed::of(plan, item);
+        if are_few(&used, inputs.weeks()) {
             return NeedsLeft::listed(alloc, plan, item);
         }
-        let part = Part { plan, item };
+        let part = Part { plan, item, used };
         Ok(NeedsLeft {
             part: Some(part),
             week: 0,

@@ -4,7 +4,6 @@ ghost use Rattle.std.specs.Prelude.{◌≡◌, ◌==◌, ◌≤◌, ◌<◌, ◌
 ghost use Rattle.std.specs.List.{enumerate_from, slice_index_or};
 ghost use Rattle.std.specs.List.Sorted.{IsNonDecreasingBy, IsPartitionPoint};
 ghost use Rattle.mrp_qty.specs.Quantity.{greatest_quantity};
-ghost use Rattle.mrp_bill.specs.Bill.{line_at};
 ghost use Rattle.mrp_peg.specs.Rows.{order_wanted};
 ghost use Rattle.mrp_peg.specs.Weekly.{of_week};
 
@@ -14,14 +13,14 @@ use crate::peg::{Need, NeedKind};
 use mrp_bill::Numbered;
 use mrp_item::Order;
 use mrp_qty::NoMemory;
-use mrp_tables::BillLine;
 
-// The line at a place of the bill table.
-pub fn line_of(bills: &[BillLine], place: usize) -> BillLine
-    requires { place < length bills.now }
-    ensures { result ≡ line_at bills.now place }
-{
-    bills[place]
+// A bill line to an item: the number of its record from 1, the pieces that go into one, and the
+// parent's orders.
+#[derive(Clone, Copy)]
+pub struct UsedBy<'a> {
+    pub line: usize,
+    pub per: u64,
+    pub orders: &'a [Order],
 }
 
 // Whether the orders in front of a place are released before a week.
@@ -62,13 +61,13 @@ fn first_released(orders: &[Order], week: u16, likely: usize) -> usize
     orders.partition_point(|order| order.release < week)
 }
 
-// What an order of a parent asks by a bill line, of which so many pieces go into one.
-fn asked_by(item: usize, line: usize, per: u64, number: usize, order: &Order) -> Wanted
-    requires { order.now.start * per ≤ greatest_quantity }
-    ensures { result ≡ order_wanted item line per (number, order.now) }
+// What an order of a parent asks by a bill line.
+fn asked_by(item: usize, by: &UsedBy<'_>, number: usize, order: &Order) -> Wanted
+    requires { order.now.start * by.now.per ≤ greatest_quantity }
+    ensures { result ≡ order_wanted item by.now.line by.now.per (number, order.now) }
 {
     let kind = NeedKind::Parent {
-        line,
+        line: by.line,
         order: number,
     };
     let need = Need {
@@ -76,7 +75,7 @@ fn asked_by(item: usize, line: usize, per: u64, number: usize, order: &Order) ->
         week: order.release,
         kind,
     };
-    let quantity = order.start.times(per).unwrap();
+    let quantity = order.start.times(by.per).unwrap();
     Wanted { need, quantity }
 }
 
@@ -85,19 +84,18 @@ fn asked_by(item: usize, line: usize, per: u64, number: usize, order: &Order) ->
 pub fn add_released(
     needs: &mut Vec<Wanted>,
     item: usize,
-    line: usize,
-    per: u64,
-    orders: &[Order],
+    by: &UsedBy<'_>,
     week: u16,
     likely: usize,
 ) -> Result<usize, NoMemory>
-    requires rising { IsNonDecreasingBy (λ order. order.release) orders.now }
-    requires small { All (λ order. order.start * per ≤ greatest_quantity) orders.now }
-    ensures { OnOk result (needs.new.items ≡ needs.old.items ++ filter (λ wanted. wanted.need.week == week) (map (order_wanted item line per) (enumerate_from 1 orders.now))) }
+    requires rising { IsNonDecreasingBy (λ order. order.release) by.now.orders.now }
+    requires small { All (λ order. order.start * by.now.per ≤ greatest_quantity) by.now.orders.now }
+    ensures { OnOk result (needs.new.items ≡ needs.old.items ++ filter (λ wanted. wanted.need.week == week) (map (order_wanted item by.now.line by.now.per) (enumerate_from 1 by.now.orders.now))) }
 {
+    let orders = by.orders;
     let mut place = first_released(orders, week, likely);
     while place < orders.len() && orders[place].release == week {
-        needs.push(asked_by(item, line, per, place + 1, &orders[place]))?;
+        needs.push(asked_by(item, by, place + 1, &orders[place]))?;
         place += 1;
     }
     Ok(place)
@@ -107,15 +105,14 @@ pub fn add_released(
 pub fn add_all(
     rows: &mut Vec<Numbered<Wanted>>,
     item: usize,
-    line: usize,
-    per: u64,
-    orders: &[Order],
+    by: &UsedBy<'_>,
 ) -> Result<(), NoMemory>
-    requires { All (λ order. order.start * per ≤ greatest_quantity) orders.now }
-    ensures { OnOk result (rows.new.items ≡ rows.old.items ++ map of_week (map (order_wanted item line per) (enumerate_from 1 orders.now))) }
+    requires { All (λ order. order.start * by.now.per ≤ greatest_quantity) by.now.orders.now }
+    ensures { OnOk result (rows.new.items ≡ rows.old.items ++ map of_week (map (order_wanted item by.now.line by.now.per) (enumerate_from 1 by.now.orders.now))) }
 {
+    let orders = by.orders;
     for (place, order) in orders.iter().enumerate() {
-        rows.push(with_week(asked_by(item, line, per, place + 1, order)))?;
+        rows.push(with_week(asked_by(item, by, place + 1, order)))?;
     }
     Ok(())
 }

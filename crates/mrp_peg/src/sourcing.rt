@@ -7,9 +7,9 @@ ghost use Rattle.mrp_peg.specs.Causes as causes;
 ghost use Rattle.mrp_peg.specs.Causes.{is_need_of, is_order, order_pegs, same_need, sources_of};
 
 use crate::matching::Wanted;
-use crate::parents::line_of;
 use crate::peg::{Need, NeedKind, Peg};
 use crate::pegging::{item_pegs, needs_of};
+use crate::where_used::line_of;
 use mrp_item::{Plan, Supplied};
 use mrp_qty::NoMemory;
 use mrp_tables::BillLine;

@@ -4,7 +4,7 @@ ghost use Rattle.std.specs.Prelude.{◌≡◌, ◌==◌, ◌+◌, ◌<◌, ◌�
 ghost use Rattle.std.specs.List.{enumerate_from};
 ghost use Rattle.std.specs.List.Sorted.{IsNonDecreasingBy};
 ghost use Rattle.mrp_tables.specs.declared.limits.TheConstants.{MOST_ROWS};
-ghost use Rattle.mrp_bill.specs.Bill.{lines_of};
+ghost use Rattle.mrp_bill.specs.Bill.{line_at, lines_of};
 ghost use Rattle.mrp_item.specs.Inputs.{count, horizon, is_master};
 ghost use Rattle.mrp_item.specs.Plan.{HasParents, outcome_of, plan_in};
 ghost use Rattle.mrp_peg.specs.Own.{IsOwn};
@@ -15,9 +15,9 @@ ghost use Rattle.mrp_phase.specs.Weeks.{weeks};
 use crate::matching::Wanted;
 use crate::next_orders::NextOrders;
 use crate::ordering::in_order;
-use crate::parents::{add_all, add_released, line_of};
+use crate::parents::{UsedBy, add_all, add_released};
 use mrp_bill::Numbered;
-use mrp_item::{Inputs, Order, Plan};
+use mrp_item::{Inputs, Plan};
 use mrp_qty::NoMemory;
 use mrp_tables::BillLine;
 use std::alloc::Global;
@@ -36,21 +36,20 @@ pub struct WhereUsed<'a> {
     ghost few: { length bills.now ≤ MOST_ROWS },
 }
 
-// A bill line to an item: the number of its record from 1, the pieces that go into one, and the
-// parent's orders.
-#[derive(Clone, Copy)]
-pub struct UsedBy<'a> {
-    pub line: usize,
-    pub per: u64,
-    pub orders: &'a [Order],
-}
-
 // The place in the bill table of one of the lines to an item.
 fn place_at(places: &[usize], at: usize) -> usize
     requires { at < length places.now }
     ensures { result ≡ slice_index places.now at }
 {
     places[at]
+}
+
+// The line at a place of the bill table.
+pub fn line_of(bills: &[BillLine], place: usize) -> BillLine
+    requires { place < length bills.now }
+    ensures { result ≡ line_at bills.now place }
+{
+    bills[place]
 }
 
 impl<'a> WhereUsed<'a> {
@@ -115,7 +114,7 @@ impl<'a> WhereUsed<'a> {
         for at in 0..self.len() {
             let by = self.line(at);
             let likely = next.place(at);
-            let behind = add_released(needs, self.item, by.line, by.per, by.orders, week, likely)?;
+            let behind = add_released(needs, self.item, &by, week, likely)?;
             next.set(at, behind);
         }
         Ok(())
@@ -132,7 +131,7 @@ impl<'a> WhereUsed<'a> {
         let mut rows = Vec::new(alloc);
         for at in 0..self.len() {
             let by = self.line(at);
-            add_all(&mut rows, self.item, by.line, by.per, by.orders)?;
+            add_all(&mut rows, self.item, &by)?;
         }
         Ok(rows)
     }

@@ -11,19 +11,19 @@ use Rattle.mrp_peg.proofs.parents.add_all.Goals as goal
 pub loop-place-preserved : goal.loop-place-preserved
 loop-place-preserved c =
     let old = c.args.rows.now.items in
-    let orders = c.args.orders.now in
+    let orders = c.args.by.now.orders.now in
     let k = c.loop-place.place in
     let o = c.index-orders-place.result in
-    let f = order_wanted c.args.item c.args.line c.args.per in
+    let f = order_wanted c.args.item c.args.by.now.line c.args.by.now.per in
     let there : k < length orders = omega (arith, c.loop-place-test.true) in
     c.in_ok-push.ensures.items
     ∙ ap (λ (r : Numbered Wanted). c.loop-place.rows.items ++ r ∷ []) (c.with_week.ensures ∙ ap of_week c.asked_by.ensures)
     ∙ ap (λ (rows : List (Numbered Wanted)). rows ++ of_week (f (k + 1, o)) ∷ []) c.loop-place.invariant
     ∙ append_assoc old (map of_week (map f (enumerate_from 1 (take k orders)))) (of_week (f (k + 1, o)) ∷ [])
-    ∙ ap (λ (rows : List (Numbered Wanted)). old ++ rows) (all_more c.args.item c.args.line c.args.per k orders o there c.index-orders-place.is)
+    ∙ ap (λ (rows : List (Numbered Wanted)). old ++ rows) (all_more c.args.item c.args.by.now.line c.args.by.now.per k orders o there c.index-orders-place.is)
 
 pub returns : goal.returns
 returns c =
-    let f = order_wanted c.args.item c.args.line c.args.per in
+    let f = order_wanted c.args.item c.args.by.now.line c.args.by.now.per in
     c.loop-place.invariant
-    ∙ ap (λ (os : List Order). c.args.rows.now.items ++ map of_week (map f (enumerate_from 1 os))) (take_all c.loop-place.place c.args.orders.now (omega (arith, c.loop-place-test.false)))
+    ∙ ap (λ (os : List Order). c.args.rows.now.items ++ map of_week (map f (enumerate_from 1 os))) (take_all c.loop-place.place c.args.by.now.orders.now (omega (arith, c.loop-place-test.false)))

@@ -5,4 +5,4 @@ use Rattle.mrp_peg.specs.Weekly.{of_week}
 use Rattle.mrp_peg.proofs.parents.add_all.Given as goal
 
 abbrev pub invariant-loop-place : goal.invariant-loop-place
-invariant-loop-place l = l.rows.items ≡ l.initial.rows.items ++ map of_week (map (order_wanted l.item l.line l.per) (enumerate_from 1 (take l.place l.orders)))
+invariant-loop-place l = l.rows.items ≡ l.initial.rows.items ++ map of_week (map (order_wanted l.item l.by.line l.by.per) (enumerate_from 1 (take l.place l.orders)))

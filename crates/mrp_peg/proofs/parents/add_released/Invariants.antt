@@ -6,7 +6,7 @@ use Rattle.mrp_peg.proofs.parents.add_released.Given as goal
 
 abbrev pub invariant-loop-place : goal.invariant-loop-place
 invariant-loop-place l = record {
-  needs : l.needs.items ≡ l.initial.needs.items ++ filter (λ wanted. wanted.need.week == l.week) (map (order_wanted l.item l.line l.per) (enumerate_from 1 (take l.place l.orders)));
+  needs : l.needs.items ≡ l.initial.needs.items ++ filter (λ wanted. wanted.need.week == l.week) (map (order_wanted l.item l.by.line l.by.per) (enumerate_from 1 (take l.place l.orders)));
   begun : l.initial.place ≤ l.place;
   within : l.place ≤ length l.orders;
 }
