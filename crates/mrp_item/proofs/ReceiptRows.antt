@@ -6,22 +6,13 @@ use Rattle.mrp_qty.specs.Quantity.{greatest_quantity, quantity_of}
 use Rattle.mrp_phase.specs.Weeks.{row, in_week}
 use Rattle.mrp_phase.proofs.WeekRows.{length-row, in_week_row}
 use Rattle.mrp_net.specs.declared.stock.Stock.{Stock}
-use Rattle.mrp_net.specs.declared.fault.NetFault.{NetFault}
-use Rattle.mrp_net.specs.declared.fault.NetFault.TheVariants.{TooLarge, NoMemory}
 use Rattle.mrp_net.specs.Need.{need}
 use Rattle.mrp_lots.specs.Lots.{receipts}
 use Rattle.mrp_tables.specs.declared.item.Item.{Item}
-use Rattle.mrp_item.specs.declared.stop.Stop.TheVariants.{Over}
 use Rattle.mrp_item.specs.Inputs.{Inputs, horizon, item_at}
 use Rattle.mrp_item.specs.Rows.{stock_of}
 use Rattle.mrp_item.specs.Lot.{rule_of}
 use Rattle.mrp_item.specs.Plan.{needs_of, receipts_of}
-use Rattle.mrp_item.specs.Stops.{stop_of}
-
--- only too large a sum stops an item's plan as over
-pub stop_of-over : (fault : NetFault) → stop_of fault ≡ Over → fault ≡ TooLarge
-stop_of-over TooLarge h = refl
-stop_of-over NoMemory h = absurd (cc)
 
 -- the needs as the item's needs
 pub needs_are : (s : Inputs) (i : ℕ) (gross needs : List ℕ) (stock : Stock) → length gross ≡ horizon s → stock ≡ stock_of s i → needs ≡ row (length gross) (need stock gross) → needs ≡ needs_of s i gross

@@ -1,4 +1,3 @@
-pub mod Stops
 pub mod Inputs
 pub mod Rows
 pub mod Dues

@@ -14,8 +14,8 @@ ghost use Rattle.mrp_item.specs.Own.{IsReady};
 use crate::due::nothing;
 use crate::inputs::Inputs;
 use crate::outcome::Outcome;
-use crate::stop::{Stop, or_over};
-use mrp_phase::Weeks;
+use crate::over::or_over;
+use mrp_phase::{PhaseFault, Weeks};
 use mrp_qty::Qty;
 use mrp_tables::BillLine;
 use std::alloc::Global;
@@ -91,12 +91,12 @@ pub fn asked_row(
     inputs: &Inputs,
     item: usize,
     parents: &[Outcome],
-) -> Result<Weeks<Qty>, Stop>
+) -> Result<Weeks<Qty>, PhaseFault>
     requires item { item < count inputs.now }
     requires parents { parents.now ≡ parents_from inputs.now item }
     requires ready { IsReady inputs.now item }
     ensures value { IfOk result (λ w. w ≡ row (horizon inputs.now) (asked_in inputs.now item)) }
-    ensures over { IfErr result (λ stop. stop ≡ Stop.Over → greatest_quantity < sum (row (horizon inputs.now) (asked_in inputs.now item))) }
+    ensures over { IfErr result (λ fault. fault ≡ PhaseFault.TooLarge → greatest_quantity < sum (row (horizon inputs.now) (asked_in inputs.now item))) }
 {
     let bills = inputs.shop().tables().bills();
     let weeks = inputs.weeks();

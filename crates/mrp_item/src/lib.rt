@@ -9,12 +9,12 @@ pub mod laws;
 mod order;
 mod orders;
 mod outcome;
+mod over;
 mod plan;
 mod planned;
 mod planning;
 mod release;
 mod shop_rows;
-mod stop;
 mod supplies;
 mod supply;
 

@@ -11,9 +11,9 @@ ghost use Rattle.mrp_item.specs.declared.order.OrderKind.TheVariants.{Firm};
 use crate::due::Due;
 use crate::inputs::Inputs;
 use crate::order::{Order, OrderKind};
+use crate::over::or_over;
 use crate::release::release_for;
-use crate::stop::{Stop, or_over};
-use mrp_phase::Weeks;
+use mrp_phase::{PhaseFault, Weeks};
 use mrp_qty::{NoMemory, Qty};
 use mrp_tables::{Item, Tables};
 use std::alloc::Global;
@@ -39,13 +39,7 @@ impl Model for OrderList {
 }
 
 // An order for a quantity that is due in a week; None where its start passes the greatest quantity.
-fn order(
-    tables: &Tables,
-    item: &Item,
-    kind: OrderKind,
-    due: u16,
-    quantity: Qty,
-) -> Option<Order>
+fn order(tables: &Tables, item: &Item, kind: OrderKind, due: u16, quantity: Qty) -> Option<Order>
     requires { IsPlannable item.now }
     ensures { MatchOption result (greatest_quantity < start_of item.now.scrap quantity) (λ order. order ≡ order_of tables.now item.now kind due quantity) }
 {
@@ -81,9 +75,9 @@ impl OrderList {
     }
 
     // Puts an order at the end.
-    fn push(&mut self, order: Order) -> Result<(), Stop>
+    fn push(&mut self, order: Order) -> Result<(), PhaseFault>
         ensures added { OnOk result (self.new ≡ self.old ++ order ∷ []) }
-        ensures over { IfErr result (λ stop. stop ≡ Stop.Over → greatest_quantity < sum_by (λ x. x.start) self.old + order.start) }
+        ensures over { IfErr result (λ fault. fault ≡ PhaseFault.TooLarge → greatest_quantity < sum_by (λ x. x.start) self.old + order.start) }
     {
         let started = or_over(self.started.add(order.start))?;
         self.orders.push(order)?;
@@ -99,10 +93,10 @@ impl OrderList {
         kind: OrderKind,
         due: u16,
         quantity: Qty,
-    ) -> Result<(), Stop>
+    ) -> Result<(), PhaseFault>
         requires { IsPlannable item.now }
         ensures added { OnOk result (self.new ≡ self.old ++ order_of tables.now item.now kind due quantity ∷ []) }
-        ensures over { IfErr result (λ stop. stop ≡ Stop.Over → greatest_quantity < sum_by (λ x. x.start) self.old + start_of item.now.scrap quantity) }
+        ensures over { IfErr result (λ fault. fault ≡ PhaseFault.TooLarge → greatest_quantity < sum_by (λ x. x.start) self.old + start_of item.now.scrap quantity) }
     {
         self.push(or_over(order(tables, item, kind, due, quantity))?)
     }
@@ -114,10 +108,10 @@ impl OrderList {
         item: &Item,
         week: u16,
         dues: &[Due],
-    ) -> Result<(), Stop>
+    ) -> Result<(), PhaseFault>
         requires { IsPlannable item.now }
         ensures added { OnOk result (self.new ≡ self.old ++ map (order_of tables.now item.now Firm week) (due_in week dues.now)) }
-        ensures over { IfErr result (λ stop. stop ≡ Stop.Over → greatest_quantity < sum_by (λ x. x.start) (self.old ++ map (order_of tables.now item.now Firm week) (due_in week dues.now))) }
+        ensures over { IfErr result (λ fault. fault ≡ PhaseFault.TooLarge → greatest_quantity < sum_by (λ x. x.start) (self.old ++ map (order_of tables.now item.now Firm week) (due_in week dues.now))) }
     {
         for due in dues {
             if due.week == week {
@@ -135,10 +129,10 @@ impl OrderList {
         week: u16,
         before: Qty,
         received: Qty,
-    ) -> Result<(), Stop>
+    ) -> Result<(), PhaseFault>
         requires { IsPlannable item.now }
         ensures added { OnOk result (self.new ≡ self.old ++ planned_order tables.now item.now week before received) }
-        ensures over { IfErr result (λ stop. stop ≡ Stop.Over → greatest_quantity < sum_by (λ x. x.start) (self.old ++ planned_order tables.now item.now week before received)) }
+        ensures over { IfErr result (λ fault. fault ≡ PhaseFault.TooLarge → greatest_quantity < sum_by (λ x. x.start) (self.old ++ planned_order tables.now item.now week before received)) }
     {
         let more = received.value().saturating_sub(before.value());
         if more == 0 {
@@ -157,10 +151,10 @@ impl OrderList {
         dues: &[Due],
         before: Qty,
         received: Qty,
-    ) -> Result<(), Stop>
+    ) -> Result<(), PhaseFault>
         requires { IsPlannable item.now }
         ensures added { OnOk result (self.new ≡ self.old ++ (map (order_of tables.now item.now Firm week) (due_in week dues.now) ++ planned_order tables.now item.now week before received)) }
-        ensures over { IfErr result (λ stop. stop ≡ Stop.Over → greatest_quantity < sum_by (λ x. x.start) (self.old ++ (map (order_of tables.now item.now Firm week) (due_in week dues.now) ++ planned_order tables.now item.now week before received))) }
+        ensures over { IfErr result (λ fault. fault ≡ PhaseFault.TooLarge → greatest_quantity < sum_by (λ x. x.start) (self.old ++ (map (order_of tables.now item.now Firm week) (due_in week dues.now) ++ planned_order tables.now item.now week before received))) }
     {
         self.add_firm(tables, item, week, dues)?;
         self.add_planned(tables, item, week, before, received)
@@ -182,11 +176,11 @@ pub fn orders_for(
     inputs: &Inputs,
     item: usize,
     receipts: &[Qty],
-) -> Result<OrderList, Stop>
+) -> Result<OrderList, PhaseFault>
     requires item { item < count inputs.now }
     requires weeks { length receipts.now ≡ horizon inputs.now }
     ensures value { IfOk result (λ list. list ≡ orders_of inputs.now item receipts.now) }
-    ensures over { IfErr result (λ stop. stop ≡ Stop.Over → greatest_quantity < sum_by (λ order. order.start) (orders_of inputs.now item receipts.now)) }
+    ensures over { IfErr result (λ fault. fault ≡ PhaseFault.TooLarge → greatest_quantity < sum_by (λ order. order.start) (orders_of inputs.now item receipts.now)) }
 {
     let tables = inputs.shop().tables();
     let entry = inputs.entry(item);

@@ -22,12 +22,12 @@ use crate::inputs::Inputs;
 use crate::order::Order;
 use crate::orders::orders_for;
 use crate::outcome::Outcome;
+use crate::over::or_over;
 use crate::planned::{PlanRows, Planned};
-use crate::stop::{Stop, or_over};
 use crate::supply::{demand_row, stock_for};
 use mrp_lots::{Fixed, LotForLot, Period, receipts};
-use mrp_net::{NeedRow, NetFault, Stock, need};
-use mrp_phase::Weeks;
+use mrp_net::{NeedRow, Stock, need};
+use mrp_phase::{PhaseFault, Weeks};
 use mrp_qty::{NoMemory, Qty};
 use mrp_tables::{Item, LotRule};
 use std::alloc::Global;
@@ -39,12 +39,12 @@ fn gross_row(
     inputs: &Inputs,
     item: usize,
     parents: &[Outcome],
-) -> Result<Weeks<Qty>, Stop>
+) -> Result<Weeks<Qty>, PhaseFault>
     requires item { item < count inputs.now }
     requires parents { parents.now ≡ parents_from inputs.now item }
     requires ready { IsReady inputs.now item }
     ensures value { IfOk result (λ w. w ≡ own_gross inputs.now item) }
-    ensures over { IfErr result (λ stop. stop ≡ Stop.Over → greatest_quantity < sum (own_gross inputs.now item)) }
+    ensures over { IfErr result (λ fault. fault ≡ PhaseFault.TooLarge → greatest_quantity < sum (own_gross inputs.now item)) }
 {
     if inputs.entry(item).class.is_master() {
         demand_row(alloc, inputs, item)
@@ -54,10 +54,10 @@ fn gross_row(
 }
 
 // The planned receipts that an item's lot rule makes of needs.
-fn lot_receipts(alloc: Global, needs: &NeedRow, item: &Item) -> Result<Weeks<Qty>, NetFault>
+fn lot_receipts(alloc: Global, needs: &NeedRow, item: &Item) -> Result<Weeks<Qty>, PhaseFault>
     requires { IsSized item.now }
     ensures value { IfOk result (λ w. w ≡ row (length needs.now) (receipts (rule_of item.now) (length needs.now) (in_week needs.now))) }
-    ensures too_large { IfErr result (λ fault. fault ≡ NetFault.TooLarge → greatest_quantity < receipts (rule_of item.now) (length needs.now) (in_week needs.now) (length needs.now)) }
+    ensures too_large { IfErr result (λ fault. fault ≡ PhaseFault.TooLarge → greatest_quantity < receipts (rule_of item.now) (length needs.now) (in_week needs.now) (length needs.now)) }
 {
     match item.lot {
         LotRule::LotForLot => receipts(alloc, needs, &LotForLot),
@@ -70,17 +70,13 @@ fn lot_receipts(alloc: Global, needs: &NeedRow, item: &Item) -> Result<Weeks<Qty
 fn supplies(stock: &Stock, received: Qty) -> Option<Qty>
     ensures { result ≡ quantity_of (stock.now.on_hand + sum stock.now.scheduled + received) }
 {
-    let mut so_far = stock.on_hand;
-    for scheduled in stock.scheduled.as_slice() {
-        so_far = so_far.add(*scheduled)?;
-    }
-    so_far.add(received)
+    stock.scheduled.sum_from(stock.on_hand)?.add(received)
 }
 
 // What starts in each week of orders.
-fn started_row(alloc: Global, weeks: u16, orders: &[Order]) -> Result<Weeks<Qty>, Stop>
+fn started_row(alloc: Global, weeks: u16, orders: &[Order]) -> Result<Weeks<Qty>, PhaseFault>
     ensures value { IfOk result (λ w. w ≡ row weeks (started_in orders.now)) }
-    ensures over { IfErr result (λ stop. stop ≡ Stop.Over → greatest_quantity < sum_by (λ order. order.start) orders.now) }
+    ensures over { IfErr result (λ fault. fault ≡ PhaseFault.TooLarge → greatest_quantity < sum_by (λ order. order.start) orders.now) }
 {
     let mut started = nothing(alloc, weeks)?;
     for order in orders {
@@ -96,13 +92,13 @@ fn receipts_row(
     item: usize,
     gross: &Weeks<Qty>,
     stock: &Stock,
-) -> Result<Weeks<Qty>, Stop>
+) -> Result<Weeks<Qty>, PhaseFault>
     requires item { item < count inputs.now }
     requires weeks { length gross.now ≡ horizon inputs.now }
     requires stock { stock.now ≡ stock_of inputs.now item }
     ensures value { IfOk result (λ w. w ≡ receipts_of inputs.now item gross.now) }
     ensures within { OnOk result (AreWithin inputs.now item gross.now) }
-    ensures over { IfErr result (λ stop. stop ≡ Stop.Over → ArePast inputs.now item gross.now) }
+    ensures over { IfErr result (λ fault. fault ≡ PhaseFault.TooLarge → ArePast inputs.now item gross.now) }
 {
     let weeks = inputs.weeks();
     let needs = need(alloc, gross, stock)?;
@@ -124,12 +120,12 @@ fn own_rows(
     inputs: &Inputs,
     item: usize,
     parents: &[Outcome],
-) -> Result<Arc<PlanRows>, Stop>
+) -> Result<Arc<PlanRows>, PhaseFault>
     requires item { item < count inputs.now }
     requires parents { parents.now ≡ parents_from inputs.now item }
     requires ready { IsReady inputs.now item }
     ensures rows { IfOk result (λ rows. AreRowsOf inputs.now item rows.value) }
-    ensures over { IfErr result (λ stop. stop ≡ Stop.Over → outcome_of inputs.now item ≡ plan.Over) }
+    ensures over { IfErr result (λ fault. fault ≡ PhaseFault.TooLarge → outcome_of inputs.now item ≡ plan.Over) }
 {
     // Its codes rank the items, parents above their components.
     let _ranked = inputs.shop();
@@ -152,17 +148,17 @@ fn own_rows(
 fn outcome_from(
     source: Arc<Inputs>,
     item: usize,
-    rows: Result<Arc<PlanRows>, Stop>,
+    rows: Result<Arc<PlanRows>, PhaseFault>,
 ) -> Result<Outcome, NoMemory>
     requires item { item < count source.value }
     requires rows { IfOk rows (λ rows. AreRowsOf source.value item rows.value) }
-    requires over { IfErr rows (λ stop. stop ≡ Stop.Over → outcome_of source.value item ≡ plan.Over) }
-    ensures { MatchResult result (λ o. o ≡ item_from source.value item) (λ _. IsErrOf rows Stop.NoMemory) }
+    requires over { IfErr rows (λ fault. fault ≡ PhaseFault.TooLarge → outcome_of source.value item ≡ plan.Over) }
+    ensures { MatchResult result (λ o. o ≡ item_from source.value item) (λ _. IsErrOf rows PhaseFault.NoMemory) }
 {
     match rows {
         Ok(rows) => Ok(Outcome::planned(Planned::new(source, item, rows))),
-        Err(Stop::Over) => Ok(Outcome::over(source, item)),
-        Err(Stop::NoMemory) => Err(NoMemory),
+        Err(PhaseFault::TooLarge) => Ok(Outcome::over(source, item)),
+        Err(PhaseFault::NoMemory) => Err(NoMemory),
     }
 }
 

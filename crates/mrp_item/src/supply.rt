@@ -9,9 +9,8 @@ ghost use Rattle.mrp_item.specs.Dues.{due_sum};
 
 use crate::due::{Due, dated};
 use crate::inputs::Inputs;
-use crate::stop::Stop;
 use mrp_net::Stock;
-use mrp_phase::Weeks;
+use mrp_phase::{PhaseFault, Weeks};
 use mrp_qty::{NoMemory, Qty};
 use std::alloc::Global;
 
@@ -28,10 +27,10 @@ fn scheduled_dues(inputs: &Inputs, item: usize) -> &[Due]
 }
 
 // What an item has without planning.
-pub fn stock_for(alloc: Global, inputs: &Inputs, item: usize) -> Result<Stock, Stop>
+pub fn stock_for(alloc: Global, inputs: &Inputs, item: usize) -> Result<Stock, PhaseFault>
     requires { item < count inputs.now }
     ensures value { IfOk result (λ stock. stock ≡ stock_of inputs.now item) }
-    ensures over { IfErr result (λ stop. stop ≡ Stop.Over → greatest_quantity < (stock_of inputs.now item).on_hand + sum (stock_of inputs.now item).scheduled) }
+    ensures over { IfErr result (λ fault. fault ≡ PhaseFault.TooLarge → greatest_quantity < (stock_of inputs.now item).on_hand + sum (stock_of inputs.now item).scheduled) }
 {
     let entry = inputs.entry(item);
     let on_hand = inputs.on_hand(item);
@@ -57,10 +56,10 @@ fn higher(alloc: Global, one: &[Qty], other: &[Qty]) -> Result<Weeks<Qty>, NoMem
 }
 
 // What is demanded of a master item in each week.
-pub fn demand_row(alloc: Global, inputs: &Inputs, item: usize) -> Result<Weeks<Qty>, Stop>
+pub fn demand_row(alloc: Global, inputs: &Inputs, item: usize) -> Result<Weeks<Qty>, PhaseFault>
     requires { item < count inputs.now }
     ensures value { IfOk result (λ w. w ≡ row (horizon inputs.now) (demand inputs.now item)) }
-    ensures over { IfErr result (λ stop. stop ≡ Stop.Over → greatest_quantity < sum (row (horizon inputs.now) (demand inputs.now item))) }
+    ensures over { IfErr result (λ fault. fault ≡ PhaseFault.TooLarge → greatest_quantity < sum (row (horizon inputs.now) (demand inputs.now item))) }
 {
     let weeks = inputs.weeks();
     let forecast = dated(alloc, weeks, inputs.forecasts(item))?;

@@ -10,7 +10,7 @@ use Rattle.mrp_item.specs.Inputs.{horizon, item_at}
 use Rattle.mrp_item.specs.Lot.{rule_of}
 use Rattle.mrp_item.specs.Rows.{scheduled_in}
 use Rattle.mrp_item.specs.Plan.{needs_of, receipts_of}
-use Rattle.mrp_item.proofs.ReceiptRows.{last_is, length-needs, needs_are, quantity_of-within, receipts_are, stop_of-over}
+use Rattle.mrp_item.proofs.ReceiptRows.{last_is, length-needs, needs_are, quantity_of-within, receipts_are}
 use Rattle.mrp_item.proofs.planning.receipts_row.Goals as goal
 
 pub need-requires : goal.need-requires
@@ -30,7 +30,7 @@ returns-in_err-received-clause-over c =
     let some : 0 < horizon s = omega (arith, c.weeks-weeks.ensures.first, c.weeks-weeks.ensures.value) in
     let last = last_is s i gross needs c.entry.result some are entry in
     rw (p.1, p.2) (λ over.
-    let past = c.in_err-received.ensures.too_large (stop_of-over c.in_err-received.field-0.0 over) in
+    let past = c.in_err-received.ensures.too_large over in
     inr (omega (arith, past, last)))
 
 pub at-requires-clause-first : goal.at-requires-clause-first
