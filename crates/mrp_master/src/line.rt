@@ -60,22 +60,22 @@ impl Line {
     }
 
     /// The item, by its place.
-    pub fn item(self) -> usize
-        ensures { result ≡ self.item }
+    pub fn item(&self) -> usize
+        ensures { result ≡ self.now.item }
     {
         self.item
     }
 
     /// The week, from 1.
-    pub fn week(self) -> u16
-        ensures { result ≡ self.week }
+    pub fn week(&self) -> u16
+        ensures { result ≡ self.now.week }
     {
         self.week
     }
 
     /// The pieces.
-    pub fn quantity(self) -> Qty
-        ensures { result ≡ self.quantity }
+    pub fn quantity(&self) -> Qty
+        ensures { result ≡ self.now.quantity }
     {
         self.quantity
     }

@@ -32,15 +32,15 @@ impl Spot {
     }
 
     /// The item, by its place.
-    pub fn item(self) -> usize
-        ensures { result ≡ self.item }
+    pub fn item(&self) -> usize
+        ensures { result ≡ self.now.item }
     {
         self.item
     }
 
     /// The week, from 1.
-    pub fn week(self) -> u16
-        ensures { result ≡ self.week }
+    pub fn week(&self) -> u16
+        ensures { result ≡ self.now.week }
     {
         self.week
     }

@@ -33,15 +33,15 @@ impl Wish {
     }
 
     /// The item, by its place.
-    pub fn item(self) -> usize
-        ensures { result ≡ self.item }
+    pub fn item(&self) -> usize
+        ensures { result ≡ self.now.item }
     {
         self.item
     }
 
     /// The pieces.
-    pub fn quantity(self) -> Qty
-        ensures { result ≡ self.quantity }
+    pub fn quantity(&self) -> Qty
+        ensures { result ≡ self.now.quantity }
     {
         self.quantity
     }
