@@ -7,8 +7,8 @@ ghost use Rattle.mrp_master.specs.AtpRow.{IsCoveredRow, IsWeekOf, atp_row, with_
 ghost use Rattle.mrp_master.specs.Supply.{IsMaster};
 ghost use Rattle.mrp_book.specs.Made.{HasRows};
 
-use mrp_master::{AtpRow, Supply};
-use mrp_qty::{NoMemory, Qty};
+use mrp_master::{AtpRow, Line, Supply};
+use mrp_qty::NoMemory;
 use std::alloc::Global;
 
 // The row of each master item of a shop with so many items; a part has none.
@@ -37,24 +37,24 @@ fn row_of(alloc: Global, supply: &Supply, item: usize) -> Result<Option<AtpRow>,
     Ok(Some(AtpRow::of(alloc, supply, item)?))
 }
 
-// Books so much in a week of a row that there is.
-pub(crate) fn take(row: &mut Option<AtpRow>, week: u16, quantity: Qty)
-    requires week { ForSome row.old (λ r. IsWeekOf r week) }
-    requires available { ForSome row.old (λ r. IsCoveredRow (with_booking r week quantity)) }
-    ensures { row.new ≡ option_map (λ r. with_booking r week quantity) row.old }
+// Books a line in its item's row, which there is.
+pub(crate) fn take(row: &mut Option<AtpRow>, line: Line)
+    requires week { ForSome row.old (λ r. IsWeekOf r line.week) }
+    requires available { ForSome row.old (λ r. IsCoveredRow (with_booking r line.week line.quantity)) }
+    ensures { row.new ≡ option_map (λ r. with_booking r line.week line.quantity) row.old }
 {
     if let Some(row) = row {
-        row.take(week, quantity);
+        row.take(line.week(), line.quantity());
     }
 }
 
-// Gives back so much of what is booked in a week of a row that there is.
-pub(crate) fn give(row: &mut Option<AtpRow>, week: u16, quantity: Qty)
-    requires week { ForSome row.old (λ r. IsWeekOf r week) }
-    requires booked { ForSome row.old (λ r. quantity ≤ in_week r.booked week) }
-    ensures { row.new ≡ option_map (λ r. without_booking r week quantity) row.old }
+// Gives back what a line booked in its item's row, which there is.
+pub(crate) fn give(row: &mut Option<AtpRow>, line: Line)
+    requires week { ForSome row.old (λ r. IsWeekOf r line.week) }
+    requires booked { ForSome row.old (λ r. line.quantity ≤ in_week r.booked line.week) }
+    ensures { row.new ≡ option_map (λ r. without_booking r line.week line.quantity) row.old }
 {
     if let Some(row) = row {
-        row.give(week, quantity);
+        row.give(line.week(), line.quantity());
     }
 }

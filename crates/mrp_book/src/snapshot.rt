@@ -108,7 +108,7 @@ impl Snapshot {
         for booking in self.standing.as_slice() {
             let line = &booking.line;
             if is_in(line, item, weeks) {
-                demand.add_at(line.week, line.quantity).unwrap();
+                demand.add_at(line.week(), line.quantity()).unwrap();
             }
         }
         Ok(demand)
@@ -132,7 +132,7 @@ impl Snapshot {
 fn is_in(line: &Line, item: usize, weeks: u16) -> bool
     ensures { IsTrue result ↔ ((line.now.item ≡ item) × (1 ≤ line.now.week) × (line.now.week ≤ weeks)) }
 {
-    line.item == item && 1 <= line.week && line.week <= weeks
+    line.item() == item && 1 <= line.week() && line.week() <= weeks
 }
 
 // Whether the bookings together have at most 10^15 pieces.
@@ -141,7 +141,7 @@ fn is_little(bookings: &[Booking]) -> bool
 {
     let mut pieces = Qty::new(0).unwrap();
     for booking in bookings {
-        match pieces.add(booking.line.quantity) {
+        match pieces.add(booking.line.quantity()) {
             Some(sum) => pieces = sum,
             None => return false,
         }

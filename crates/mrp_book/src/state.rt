@@ -141,8 +141,8 @@ impl BookState {
         requires fits { Fits self.now.supply (call.Book line) }
         ensures { (desk : ℕ) → IsReplyIn self.now desk (call.Book line) result }
     {
-        let available = self.available(line.item, line.week);
-        if line.quantity.value() <= available.value() {
+        let available = self.available(line.item(), line.week());
+        if line.quantity().value() <= available.value() {
             Reply::Booked(self.next_number())
         } else {
             Reply::Short(available)
@@ -163,14 +163,14 @@ impl BookState {
         requires fits { Fits self.now.supply (call.Ask spot) }
         ensures { (desk : ℕ) → IsReplyIn self.now desk (call.Ask spot) result }
     {
-        Reply::Available(self.available(spot.item, spot.week))
+        Reply::Available(self.available(spot.item(), spot.week()))
     }
 
     fn reply_to_when(&self, wish: Wish) -> Reply
         requires fits { Fits self.now.supply (call.When wish) }
         ensures { (desk : ℕ) → IsReplyIn self.now desk (call.When wish) result }
     {
-        match self.earliest(wish.item, wish.quantity) {
+        match self.earliest(wish.item(), wish.quantity()) {
             Some(week) => Reply::Week(week),
             None => Reply::NoWeek,
         }
@@ -254,7 +254,7 @@ impl BookState {
     {
         self.made.try_reserve(1)?;
         self.entries += 1;
-        take(&mut self.rows[line.item], line.week, line.quantity);
+        take(&mut self.rows[line.item()], line);
         self.made.push_reserved(Made {
             booking: Booking {
                 number: self.entries,
@@ -278,7 +278,7 @@ impl BookState {
         let made = &mut self.made[place];
         made.stands = false;
         let line = made.booking.line;
-        give(&mut self.rows[line.item], line.week, line.quantity);
+        give(&mut self.rows[line.item()], line);
         self.entries += 1;
     }
 }

@@ -1,4 +1,4 @@
 use Rattle.mrp_book.proofs.rows.give.Goals as goal
 
 pub give-requires-clause-week : goal.give-requires-clause-week
-give-requires-clause-week c = c.requires.week _ c.in-Some.is
+give-requires-clause-week c = rw c.week.ensures (c.requires.week _ c.in-Some.is)

@@ -23,7 +23,7 @@ loop-booking-init c = zero_is _ (Ok c.in_ok-demand.demand) _ _ refl c.in_ok-dema
 pub add_at-requires-clause-last : goal.add_at-requires-clause-last
 add_at-requires-clause-last c =
     let counted = c.if-is_in.ensures.0 refl in
-    omega (arith, counted.2, ap length c.loop-booking.invariant, length-row (demand_of (take c.loop-booking.booking-index c.as_slice-booking-items.result.now) c.args.item) c.self.inside.weeks)
+    omega (arith, counted.2, c.week.ensures, ap length c.loop-booking.invariant, length-row (demand_of (take c.loop-booking.booking-index c.as_slice-booking-items.result.now) c.args.item) c.self.inside.weeks)
 
 pub unwrap-requires : goal.unwrap-requires
 unwrap-requires c =
@@ -33,8 +33,11 @@ unwrap-requires c =
     let k : ℕ = c.loop-booking.booking-index in
     let same : bs ≡ c.self.inside.standing.value.items = c.as_slice-booking-items.ensures.value ∙ ap (λ v. v.items) c.deref.ensures in
     let little : AreLittle c.self.inside.weeks bs = subst (λ (x : List Booking). AreLittle c.self.inside.weeks x) (sym same) c.self.invariant in
-    c.add_at.ensures.fits.1 (subst (λ (x : List ℕ). in_week x b.line.week + b.line.quantity ≤ greatest_quantity) (sym c.loop-booking.invariant)
-    (demand_fits c.self.inside.weeks c.args.item k bs b (omega arith) c.booking-item.is little counted.0 counted.1 counted.2))
+    let fits : in_week c.loop-booking.demand b.line.week + b.line.quantity ≤ greatest_quantity =
+    subst (λ (x : List ℕ). in_week x b.line.week + b.line.quantity ≤ greatest_quantity) (sym c.loop-booking.invariant)
+    (demand_fits c.self.inside.weeks c.args.item k bs b (omega arith) c.booking-item.is little counted.0 counted.1 counted.2) in
+    c.add_at.ensures.fits.1 (subst (λ (week : ℕ). in_week c.loop-booking.demand week + c.quantity.result ≤ greatest_quantity) (sym c.week.ensures)
+    (subst (λ (quantity : ℕ). in_week c.loop-booking.demand b.line.week + quantity ≤ greatest_quantity) (sym c.quantity.ensures) fits))
 
 pub loop-booking-preserved : goal.loop-booking-preserved
 loop-booking-preserved c =
@@ -45,7 +48,10 @@ loop-booking-preserved c =
     elim c.if-is_in.branch [
       | then-is_in w ↦
           let counted = w.if-is_in.ensures.0 refl in
-          let added : w.add_at.new.self ≡ with_week c.loop-booking.demand b.line.week (in_week c.loop-booking.demand b.line.week + b.line.quantity) = on_some w.add_at.result _ _ w.unwrap.ensures w.add_at.ensures.added in
+          let told : w.add_at.new.self ≡ with_week c.loop-booking.demand w.week.result (in_week c.loop-booking.demand w.week.result + w.quantity.result) = on_some w.add_at.result _ _ w.unwrap.ensures w.add_at.ensures.added in
+          let added : w.add_at.new.self ≡ with_week c.loop-booking.demand b.line.week (in_week c.loop-booking.demand b.line.week + b.line.quantity) =
+          subst (λ (week : ℕ). w.add_at.new.self ≡ with_week c.loop-booking.demand week (in_week c.loop-booking.demand week + b.line.quantity)) w.week.ensures
+          (subst (λ (quantity : ℕ). w.add_at.new.self ≡ with_week c.loop-booking.demand w.week.result (in_week c.loop-booking.demand w.week.result + quantity)) w.quantity.ensures told) in
           w.demand-is ∙ added ∙ ap (λ (x : List ℕ). with_week x b.line.week (in_week x b.line.week + b.line.quantity)) c.loop-booking.invariant
           ∙ demand_counted weeks c.args.item k bs b (omega arith) c.booking-item.is counted.0 counted.1 counted.2
       | else-is_in w ↦

@@ -1,17 +1,17 @@
 use Rattle.std.specs.Prelude.{find, is_some}
 use Rattle.std.specs.List.{HoldsAt}
-use Rattle.std.proofs.Common.{◌≡◌, ◌∙◌, ◌+◌, ◌<◌, List, true, length, ap, subst, sym, arith}
+use Rattle.std.proofs.Common.{◌≡◌, ◌∙◌, ◌+◌, ◌<◌, ℕ, List, true, false, length, ap, get_or, set, subst, sym, arith}
 use Rattle.mrp_book.specs.declared.booking.Booking.{Booking}
 use Rattle.mrp_book.specs.declared.call.Call.TheVariants as call
 use Rattle.mrp_book.specs.declared.made.Made.{Made}
 use Rattle.mrp_book.specs.declared.reply.Reply.TheVariants as reply
 use Rattle.mrp_book.specs.BookState.{BookState}
 use Rattle.mrp_book.specs.History.{state_after}
-use Rattle.mrp_book.specs.Made.{standing_of}
+use Rattle.mrp_book.specs.Made.{KeepsState, standing_of}
 use Rattle.mrp_book.proofs.Entries.{cancel_leaves, cancel_lines, give_booked, give_week, keeps_cancel, row_inside, stands_if_found}
-use Rattle.mrp_book.proofs.Numbers.{NoneHas, find-none, has_number}
+use Rattle.mrp_book.proofs.Numbers.{NoneHas, cancelled, find-none, has_number}
 use Rattle.mrp_book.proofs.state.BookState.enter_cancel.Goals as goal
-use Rattle.mrp_book.proofs.state.BookState.enter_cancel.Goals.{After-index_mut-made}
+use Rattle.mrp_book.proofs.state.BookState.enter_cancel.Goals.{After-index_mut, After-index_mut-made}
 
 pub unreachable-requires : goal.unreachable-requires
 unreachable-requires c =
@@ -38,6 +38,10 @@ stands c =
     let some : is_some (find (has_number c.args.number) (standing_of i.made.items)) ≡ true = subst (λ b. is_some (find (has_number c.args.number) b.standing) ≡ true) (sym c.self.view_is) c.requires.stands in
     stands_if_found i.supply i.entries i.rows.items i.made.items c.self.invariant c.in-Some.place c.index_mut-made.result.now within c.index_mut-made.ensures.value c.args.number holds some
 
+-- the row that is found is the item's
+row_at : (c : After-index_mut) → c.index_mut.result.now ≡ get_or c.self.inside.rows.items c.index_mut-made.result.now.booking.line.item c.index_mut.result.now
+row_at c = subst (λ (x : ℕ). c.index_mut.result.now ≡ get_or c.self.inside.rows.items x c.index_mut.result.now) c.item.ensures c.index_mut.ensures.value
+
 pub index_mut-requires : goal.index_mut-requires
 index_mut-requires c =
     let i = c.self.inside in
@@ -45,7 +49,7 @@ index_mut-requires c =
     let m : Made = c.index_mut-made.result.now in
     let before = (goal.at.index_mut-requires c).After-index_mut-made in
     let within = (found before).0 in
-    omega (arith, i.rows.ok.0, row_inside i.supply i.entries i.rows.items i.made.items c.self.invariant m.booking.line.item (cancel_lines i.supply i.entries i.rows.items i.made.items c.self.invariant place m within c.index_mut-made.ensures.value (stands before)).item)
+    omega (arith, i.rows.ok.0, c.item.ensures, row_inside i.supply i.entries i.rows.items i.made.items c.self.invariant m.booking.line.item (cancel_lines i.supply i.entries i.rows.items i.made.items c.self.invariant place m within c.index_mut-made.ensures.value (stands before)).item)
 
 pub give-requires-clause-week : goal.give-requires-clause-week
 give-requires-clause-week c =
@@ -54,7 +58,7 @@ give-requires-clause-week c =
     let m : Made = c.index_mut-made.result.now in
     let before = (goal.at.give-requires-clause-week c).After-index_mut-made in
     let within = (found before).0 in
-    give_week i.supply i.entries i.rows.items i.made.items c.self.invariant place m within c.index_mut-made.ensures.value (stands before) c.index_mut.result.now c.index_mut.ensures.value
+    give_week i.supply i.entries i.rows.items i.made.items c.self.invariant place m within c.index_mut-made.ensures.value (stands before) c.index_mut.result.now (row_at (goal.at.give-requires-clause-week c).After-index_mut)
 
 pub give-requires-clause-booked : goal.give-requires-clause-booked
 give-requires-clause-booked c =
@@ -63,7 +67,7 @@ give-requires-clause-booked c =
     let m : Made = c.index_mut-made.result.now in
     let before = (goal.at.give-requires-clause-booked c).After-index_mut-made in
     let within = (found before).0 in
-    give_booked i.supply i.entries i.rows.items i.made.items c.self.invariant place m within c.index_mut-made.ensures.value (stands before) c.index_mut.result.now c.index_mut.ensures.value
+    give_booked i.supply i.entries i.rows.items i.made.items c.self.invariant place m within c.index_mut-made.ensures.value (stands before) c.index_mut.result.now (row_at (goal.at.give-requires-clause-booked c).After-index_mut)
 
 pub invariant_of-self : goal.invariant_of-self
 invariant_of-self c =
@@ -73,7 +77,8 @@ invariant_of-self c =
     let before = (goal.at.invariant_of-self c).After-index_mut-made in
     let within = (found before).0 in
     let few : i.entries < 1000000 = subst (λ b. b.entries < 1000000) (sym c.self.view_is) c.requires.few in
-    keeps_cancel i.supply i.entries i.rows.items i.made.items c.self.invariant place m within c.index_mut-made.ensures.value (stands before) few c.index_mut.result.now c.give.new.row c.index_mut.ensures.value c.give.ensures
+    subst (λ (x : ℕ). KeepsState i.supply (i.entries + 1) (set i.rows.items x c.give.new.row) (set i.made.items place (cancelled m))) (sym c.item.ensures)
+    (keeps_cancel i.supply i.entries i.rows.items i.made.items c.self.invariant place m within c.index_mut-made.ensures.value (stands before) few c.index_mut.result.now c.give.new.row (row_at (goal.at.invariant_of-self c).After-index_mut) c.give.ensures)
 
 pub returns : goal.returns
 returns c = λ desk.
