@@ -25,7 +25,7 @@ use Rattle.mrp_book.proofs.Histories.{history-unique, legal-front}
 use Rattle.mrp_item.specs.Inputs.{Inputs}
 use Rattle.mrp_item.specs.Plan.{ItemPlan, plan_of}
 use Rattle.mrp_report.specs.ReportText.{report_text}
-use Rattle.mrp_report.specs.page.Rows.{section_head}
+use Rattle.mrp_day.specs.Sections.{head_of}
 use Rattle.mrp_engine.specs.day.Script.{Script, call_of, is_run, record_of, script_of, with_run}
 use Rattle.mrp_engine.specs.day.Day.{IsAccepted, runs_of}
 use Rattle.mrp_engine.specs.day.RightDay.{AnswersDesks, FollowsDesks, IsRightDay, asked_by, right_text, run_report, text_of_plan}
@@ -196,7 +196,7 @@ claims-made t h before (e ∷ later) kept legal cut few all =
 -- What follows a right day's history.
 
 report-begins : (s : Inputs) (rest : List ℕ) → EndsHistory (report_text s ++ rest)
-unfolding report_text section_head
+unfolding report_text head_of
 report-begins s rest = refl
 
 reports-end : (runs : List Inputs) → EndsHistory (reports_text runs)

@@ -6,7 +6,7 @@ use Rattle.std.proofs.lemmas.List.Elements.{All-push}
 use Rattle.csv.specs.Writing.{escaped, fields_text, is_blank}
 use Rattle.mrp_tables.specs.Tables.{Tables}
 use Rattle.mrp_report.specs.section.HistoryText.{history_head}
-use Rattle.mrp_report.specs.page.Rows.{section_head}
+use Rattle.mrp_day.specs.Sections.{head_of}
 use Rattle.mrp_audit.specs.declared.claim.Claim.{Claim}
 use Rattle.mrp_audit.specs.declared.fault.AuditFault.{AuditFault}
 use Rattle.mrp_audit.specs.declared.fault.AuditFault.TheVariants as fault
@@ -20,7 +20,7 @@ abbrev pub head : List ℕ
 head = codes "[history]\nentry,desk,call,item,week,quantity,number,reply,value\n"
 
 pub head-is : history_head ≡ head
-unfolding section_head is_blank fields_text escaped
+unfolding head_of is_blank fields_text escaped
 head-is = refl
 
 -- a text begins with these claims, which are so many bytes

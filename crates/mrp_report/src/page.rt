@@ -2,8 +2,9 @@
 
 ghost use Rattle.std.specs.Prelude.{◌≡◌, ◌+◌, ◌≤◌, ◌-◌, [], ◌∷◌, ◌++◌, Err, OnOk, OnErr, length, map, take, vec_len};
 ghost use Rattle.csv.specs.Writing.{default_writer, escaped, quoted};
+ghost use Rattle.mrp_day.specs.Sections.{head_of};
 ghost use Rattle.mrp_report.specs.page.CsvCells.{cell_text, next_cell};
-ghost use Rattle.mrp_report.specs.page.Rows.{row, section_head};
+ghost use Rattle.mrp_report.specs.page.Rows.{row};
 ghost use Rattle.mrp_report.specs.Written.{HasTaken, HasTakenFront, HasGivenUp, HasGoneOn, PassesOn};
 
 mod cells;
@@ -21,6 +22,7 @@ pub(crate) use csv_name::CsvName;
 pub(crate) use line::Line;
 use line::ROOM;
 pub(crate) use minutes::TimeBuffer;
+use mrp_day::Section;
 use mrp_qty::NoMemory;
 use mrp_rows::{Told, Tries, write_text};
 pub(crate) use number::put_number;
@@ -164,15 +166,13 @@ impl Page {
         self.add(b"\n")
     }
 
-    // Adds what a section begins with: its line and its header.
-    #[tactic(auto, unfolding(crate::specs::page::Rows::section_head))]
-    pub(crate) fn section(&mut self, line: &[u8], header: &[&[u8]]) -> Result<(), NoMemory>
-        requires { 2 ≤ length header.now }
-        ensures { OnOk result (self.new ≡ self.old ++ section_head line.now (map (λ cell. cell.now) header.now)) }
+    /// Adds what a section of a day begins with: its line and its header.
+    ///
+    /// Errors: where a growth of memory was refused.
+    pub(crate) fn begin(&mut self, section: Section) -> Result<(), NoMemory>
+        ensures { OnOk result (self.new ≡ self.old ++ head_of section) }
     {
-        self.add(line)?;
-        self.add(b"\n")?;
-        self.row(header)
+        self.add(section.head().as_bytes())
     }
 
     /// Whether so much text stands on the page that it is worth a call of the writer. It may be

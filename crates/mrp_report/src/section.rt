@@ -1,8 +1,9 @@
 //! The sections of a day, each with its rows; here those of a report that go over the items or the work centres.
 
 ghost use Rattle.std.specs.Prelude.{◌≡◌, ◌<◌, ◌++◌, OnOk};
+ghost use Rattle.mrp_day.specs.Sections.{head_of};
 ghost use Rattle.mrp_report.specs.ReportText.{ordered_text, told_text};
-ghost use Rattle.mrp_report.specs.section.Sections.{count_in, head_of, rows_of};
+ghost use Rattle.mrp_report.specs.section.Sections.{count_in, of_day, rows_of};
 
 mod centre;
 mod history;
@@ -25,17 +26,14 @@ use crate::page::Page;
 use centre::centre_rows;
 pub use history::write_history;
 use item::item_rows;
-use loads::loads_section;
-use messages::{message_rows, messages_section};
+use messages::message_rows;
 use mrp_item::{Plan, Planned};
 use mrp_notes::item_messages;
 use mrp_qty::NoMemory;
-use orders::{order_rows, orders_section};
+use orders::order_rows;
 pub(crate) use pegs::PegRows;
-use pegs::{pegged_rows, pegs_section};
-use plan::plan_section;
+use pegs::pegged_rows;
 use promise_item::item_promises;
-use promises::promises_section;
 pub(crate) use readings::Readings;
 pub(crate) use run::run_section;
 use shop_names::ShopNames;
@@ -91,18 +89,25 @@ fn told_rows(
 }
 
 impl Section {
-    // Adds the section's line and its header.
-    pub(crate) fn begin(self, page: &mut Page) -> Result<(), NoMemory>
-        ensures { OnOk result (page.new ≡ page.old ++ head_of self) }
+    // Which section of a day it is.
+    fn of_day(self) -> mrp_day::Section
+        ensures { result ≡ of_day self }
     {
         match self {
-            Section::Promises => promises_section(page),
-            Section::Plan => plan_section(page),
-            Section::Orders => orders_section(page),
-            Section::Pegs => pegs_section(page),
-            Section::Messages => messages_section(page),
-            Section::Loads => loads_section(page),
+            Section::Promises => mrp_day::Section::Promises,
+            Section::Plan => mrp_day::Section::Plan,
+            Section::Orders => mrp_day::Section::Orders,
+            Section::Pegs => mrp_day::Section::Pegs,
+            Section::Messages => mrp_day::Section::Messages,
+            Section::Loads => mrp_day::Section::Loads,
         }
+    }
+
+    // Adds the section's line and its header.
+    pub(crate) fn begin(self, page: &mut Page) -> Result<(), NoMemory>
+        ensures { OnOk result (page.new ≡ page.old ++ head_of (of_day self)) }
+    {
+        page.begin(self.of_day())
     }
 
     // How many items or work centres it goes over.

@@ -8,12 +8,13 @@ use Rattle.mrp_book.specs.declared.call.Call.TheVariants as call
 use Rattle.mrp_book.specs.declared.reply.Reply.{Reply}
 use Rattle.mrp_book.specs.declared.reply.Reply.TheVariants as reply
 use Rattle.mrp_book.specs.Standing.{History}
+use Rattle.mrp_day.specs.Sections.{head_of}
+use Rattle.mrp_day.specs.declared.section.Section.TheVariants as section
 use Rattle.mrp_report.specs.section.Cells.{name_at}
-use Rattle.mrp_report.specs.page.Rows.{row, section_head}
+use Rattle.mrp_report.specs.page.Rows.{row}
 
 abbrev pub history_head : List ℕ
-history_head = section_head (codes "[history]")
-    (codes "entry" ∷ codes "desk" ∷ codes "call" ∷ codes "item" ∷ codes "week" ∷ codes "quantity" ∷ codes "number" ∷ codes "reply" ∷ codes "value" ∷ [])
+history_head = head_of section.History
 
 -- a call: its word, item, week, quantity and number
 abbrev pub call_cells : Tables → Call → List (List ℕ)

@@ -6,11 +6,8 @@ use Rattle.mrp_notes.specs.declared.message.Advice.{Advice}
 use Rattle.mrp_notes.specs.declared.message.Advice.TheVariants as advice
 use Rattle.mrp_notes.specs.declared.message.Message.{Message}
 use Rattle.mrp_report.specs.section.Cells.{number_cell}
-use Rattle.mrp_report.specs.page.Rows.{row, section_head}
+use Rattle.mrp_report.specs.page.Rows.{row}
 use Rattle.mrp_report.specs.section.SourceText.{source_name, source_word}
-
-abbrev pub messages_head : List ℕ
-messages_head = section_head (codes "[messages]") (codes "item" ∷ codes "supply" ∷ codes "source" ∷ codes "message" ∷ codes "value" ∷ [])
 
 -- what is said of a supply (APICS Dictionary: action message)
 abbrev pub advice_word : Advice → List ℕ

@@ -3,11 +3,7 @@ use Rattle.std.specs.Prelude.{ℕ, List, [], ◌∷◌, codes, decimal}
 use Rattle.mrp_item.specs.declared.order.OrderKind.{OrderKind}
 use Rattle.mrp_item.specs.declared.order.OrderKind.TheVariants.{Firm, Planned}
 use Rattle.mrp_item.specs.declared.order.Order.{Order}
-use Rattle.mrp_report.specs.page.Rows.{row, section_head}
-
-abbrev pub orders_head : List ℕ
-orders_head = section_head (codes "[orders]")
-    (codes "item" ∷ codes "order" ∷ codes "kind" ∷ codes "due" ∷ codes "quantity" ∷ codes "start" ∷ codes "release" ∷ codes "late" ∷ [])
+use Rattle.mrp_report.specs.page.Rows.{row}
 
 -- the word for who made an order
 abbrev pub kind_word : OrderKind → List ℕ

@@ -7,12 +7,8 @@ use Rattle.mrp_peg.specs.declared.peg.NeedKind.{NeedKind}
 use Rattle.mrp_peg.specs.declared.peg.NeedKind.TheVariants as kind
 use Rattle.mrp_peg.specs.declared.peg.Peg.{Peg}
 use Rattle.mrp_report.specs.section.Cells.{parent_name}
-use Rattle.mrp_report.specs.page.Rows.{row, section_head}
+use Rattle.mrp_report.specs.page.Rows.{row}
 use Rattle.mrp_report.specs.section.SourceText.{source_name, source_word}
-
-abbrev pub pegs_head : List ℕ
-pegs_head = section_head (codes "[pegs]")
-    (codes "item" ∷ codes "week" ∷ codes "need" ∷ codes "number" ∷ codes "parent" ∷ codes "line" ∷ codes "supply" ∷ codes "source" ∷ codes "quantity" ∷ [])
 
 -- what needs: the word, the number of the booking or of the parent's order, the parent, and the bill line
 abbrev pub kind_cells : Tables → NeedKind → List (List ℕ)

@@ -1,11 +1,7 @@
 -- The section `plan` (profile).
-use Rattle.std.specs.Prelude.{ℕ, List, [], ◌∷◌, codes, decimal}
+use Rattle.std.specs.Prelude.{ℕ, List, [], ◌∷◌, decimal}
 use Rattle.mrp_report.specs.declared.section.plan.PlanRow.{PlanRow}
-use Rattle.mrp_report.specs.page.Rows.{row, section_head}
-
-abbrev pub plan_head : List ℕ
-plan_head = section_head (codes "[plan]")
-    (codes "item" ∷ codes "week" ∷ codes "gross" ∷ codes "open" ∷ codes "firm" ∷ codes "planned" ∷ codes "start" ∷ codes "balance" ∷ [])
+use Rattle.mrp_report.specs.page.Rows.{row}
 
 -- a week of an item
 abbrev pub week_text : List ℕ → PlanRow → List ℕ

@@ -1,11 +1,7 @@
 -- The section `promises` (profile).
-use Rattle.std.specs.Prelude.{ℕ, List, [], ◌∷◌, codes, decimal}
+use Rattle.std.specs.Prelude.{ℕ, List, [], ◌∷◌, decimal}
 use Rattle.mrp_report.specs.declared.section.promises.PromiseRow.{PromiseRow}
-use Rattle.mrp_report.specs.page.Rows.{row, section_head}
-
-abbrev pub promises_head : List ℕ
-promises_head = section_head (codes "[promises]")
-    (codes "item" ∷ codes "week" ∷ codes "firm" ∷ codes "booked" ∷ codes "bucket" ∷ codes "available" ∷ [])
+use Rattle.mrp_report.specs.page.Rows.{row}
 
 -- a week of an item
 abbrev pub promise_text : List ℕ → PromiseRow → List ℕ

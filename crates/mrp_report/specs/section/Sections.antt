@@ -1,26 +1,23 @@
 -- The sections that go over the items or the work centres, as they are written.
 use Rattle.std.specs.Prelude.{ℕ, List, ◌++◌, flat_map, length}
 use Rattle.std.specs.List.{range_with_len}
+use Rattle.mrp_day.specs.Sections.{head_of}
+use Rattle.mrp_day.specs.declared.section.Section.{Section as DaySection}
+use Rattle.mrp_day.specs.declared.section.Section.TheVariants as day
 use Rattle.mrp_item.specs.Inputs.{Inputs, count}
 use Rattle.mrp_item.specs.Plan.{outcome_of, plan_in}
 use Rattle.mrp_report.specs.declared.section.Section.{Section}
 use Rattle.mrp_report.specs.declared.section.Section.TheVariants as section
-use Rattle.mrp_report.specs.section.PromiseText.{promises_head}
-use Rattle.mrp_report.specs.section.PlanText.{plan_head}
-use Rattle.mrp_report.specs.section.OrderText.{orders_head}
-use Rattle.mrp_report.specs.section.PegText.{pegs_head}
-use Rattle.mrp_report.specs.section.MessageText.{messages_head}
-use Rattle.mrp_report.specs.section.LoadText.{loads_head}
 use Rattle.mrp_report.specs.ReportText.{item_text, loaded_text, ordered_text, pegged_text, promised_text, told_text}
 
--- what a section begins with
-abbrev pub head_of : Section → List ℕ
-head_of section.Promises = promises_head
-head_of section.Plan = plan_head
-head_of section.Orders = orders_head
-head_of section.Pegs = pegs_head
-head_of section.Messages = messages_head
-head_of section.Loads = loads_head
+-- which section of a day it is
+abbrev pub of_day : Section → DaySection
+of_day section.Promises = day.Promises
+of_day section.Plan = day.Plan
+of_day section.Orders = day.Orders
+of_day section.Pegs = day.Pegs
+of_day section.Messages = day.Messages
+of_day section.Loads = day.Loads
 
 -- how many items or work centres a section goes over
 abbrev pub count_in : Inputs → Section → ℕ
@@ -50,4 +47,4 @@ all_rows s section = flat_map (rows_of s section) (places_in s section)
 
 -- a section, with the rows of each in table order
 abbrev pub section_text : Inputs → Section → List ℕ
-section_text s section = head_of section ++ all_rows s section
+section_text s section = head_of (of_day section) ++ all_rows s section

@@ -2,7 +2,7 @@
 
 ghost use Rattle.std.specs.Prelude.{◌≡◌, ◌++◌, ◌∷◌, Err, OnOk, OnErr, decimal};
 ghost use Rattle.mrp_master.specs.Supply.{supply_of};
-ghost use Rattle.mrp_report.specs.section.HistoryText.{call_cells, entry_text, history_head, history_text, reply_cells};
+ghost use Rattle.mrp_report.specs.section.HistoryText.{call_cells, entry_text, history_text, reply_cells};
 ghost use Rattle.mrp_report.specs.section.EntryCells.{called_cells, replied_cells};
 ghost use Rattle.mrp_report.specs.page.Rows.{row};
 ghost use Rattle.mrp_report.specs.Written.{HasGivenUp, HasGoneOn, HasTakenFront, HasTakenWhole};
@@ -12,29 +12,11 @@ use crate::page::{Cell, Line, Page, Word, put_byte, put_first_number, put_number
 use crate::section::shop_names::ShopNames;
 use mrp_bill::Shop;
 use mrp_book::{Call, Entry, History, Reply};
+use mrp_day::Section;
 use mrp_qty::NoMemory;
 use mrp_rows::{Told, Tries, WRITE_TRIES};
 use std::alloc::Global;
 use std::io::Write;
-
-// Adds the line and the header of the section.
-#[tactic(auto, unfolding(csv::specs::Writing::fields_text, csv::specs::Writing::is_blank))]
-fn history_section(page: &mut Page) -> Result<(), NoMemory>
-    ensures { OnOk result (page.new ≡ page.old ++ history_head) }
-{
-    let header: [&[u8]; 9] = [
-        b"entry",
-        b"desk",
-        b"call",
-        b"item",
-        b"week",
-        b"quantity",
-        b"number",
-        b"reply",
-        b"value",
-    ];
-    page.section(b"[history]", &header)
-}
 
 // What a row has of a call.
 #[derive(Clone, Copy)]
@@ -180,7 +162,7 @@ pub fn write_history<W: Write>(
     let names = ShopNames::of(alloc, shop.tables())?;
     let mut tries = Tries::new();
     let mut page = Page::new(alloc);
-    history_section(&mut page)?;
+    page.begin(Section::History)?;
     for (place, entry) in history.entries().iter().enumerate() {
         entry_row(&mut page, &names, place + 1, entry)?;
         page.pass_on(writer, &mut tries)?;

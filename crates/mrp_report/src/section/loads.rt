@@ -1,7 +1,7 @@
 //! The section `loads`.
 
 ghost use Rattle.std.specs.Prelude.{◌≡◌, ◌++◌, OnOk};
-ghost use Rattle.mrp_report.specs.section.LoadText.{load_text, loads_head};
+ghost use Rattle.mrp_report.specs.section.LoadText.{load_text};
 
 use crate::page::{CsvName, Line, Page, TimeBuffer, put_byte, put_number, put_text};
 use mrp_qty::{Milli, NoMemory};
@@ -17,17 +17,6 @@ pub(crate) struct LoadRow {
     pub capacity: Milli,
     /// By how much the load exceeds the capacity (APICS Dictionary: overload).
     pub over: Milli,
-}
-
-/// Adds the line and the header of the section `loads`.
-///
-/// Errors: where a growth of memory was refused.
-#[tactic(auto, unfolding(csv::specs::Writing::fields_text, csv::specs::Writing::is_blank))]
-pub(crate) fn loads_section(page: &mut Page) -> Result<(), NoMemory>
-    ensures { OnOk result (page.new ≡ page.old ++ loads_head) }
-{
-    let header: [&[u8]; 5] = [b"centre", b"week", b"load", b"capacity", b"over"];
-    page.section(b"[loads]", &header)
 }
 
 // A week of a work centre with this name.

@@ -3,7 +3,7 @@
 ghost use Rattle.std.specs.Prelude.{◌≡◌, [], ◌∷◌, ◌++◌, OnOk, flat_map};
 ghost use Rattle.mrp_report.specs.page.CellOf.{cell_of};
 ghost use Rattle.mrp_report.specs.section.Cells.{number_cell};
-ghost use Rattle.mrp_report.specs.section.MessageText.{advice_value, advice_word, message_text, messages_head};
+ghost use Rattle.mrp_report.specs.section.MessageText.{advice_value, advice_word, message_text};
 ghost use Rattle.mrp_report.specs.page.Rows.{row};
 ghost use Rattle.mrp_report.specs.page.WordText.{word_text};
 
@@ -13,15 +13,6 @@ use crate::section::source::{source_cell, source_word};
 use mrp_item::Order;
 use mrp_notes::{Advice, Message};
 use mrp_qty::NoMemory;
-
-// Adds the line and the header of the section.
-#[tactic(auto, unfolding(csv::specs::Writing::fields_text, csv::specs::Writing::is_blank))]
-pub(crate) fn messages_section(page: &mut Page) -> Result<(), NoMemory>
-    ensures { OnOk result (page.new ≡ page.old ++ messages_head) }
-{
-    let header: [&[u8]; 5] = [b"item", b"supply", b"source", b"message", b"value"];
-    page.section(b"[messages]", &header)
-}
 
 // The word for what is said of a supply.
 fn advice_word(advice: Advice) -> Word

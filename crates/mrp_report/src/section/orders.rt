@@ -2,30 +2,12 @@
 
 ghost use Rattle.std.specs.Prelude.{◌≡◌, ◌++◌, OnOk, flat_map};
 ghost use Rattle.std.specs.List.{enumerate_from};
-ghost use Rattle.mrp_report.specs.section.OrderText.{kind_word, order_text, orders_head};
+ghost use Rattle.mrp_report.specs.section.OrderText.{kind_word, order_text};
 ghost use Rattle.mrp_report.specs.page.WordText.{word_text};
 
 use crate::page::{CsvName, Line, Page, Word, put_byte, put_number, put_word};
 use mrp_item::{Order, OrderKind};
 use mrp_qty::NoMemory;
-
-// Adds the line and the header of the section.
-#[tactic(auto, unfolding(csv::specs::Writing::fields_text, csv::specs::Writing::is_blank))]
-pub(crate) fn orders_section(page: &mut Page) -> Result<(), NoMemory>
-    ensures { OnOk result (page.new ≡ page.old ++ orders_head) }
-{
-    let header: [&[u8]; 8] = [
-        b"item",
-        b"order",
-        b"kind",
-        b"due",
-        b"quantity",
-        b"start",
-        b"release",
-        b"late",
-    ];
-    page.section(b"[orders]", &header)
-}
 
 // The word for who made an order.
 pub(crate) fn kind_word(kind: OrderKind) -> Word

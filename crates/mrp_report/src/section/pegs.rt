@@ -2,7 +2,7 @@
 
 ghost use Rattle.std.specs.Prelude.{◌≡◌, ◌<◌, [], ◌∷◌, ◌++◌, IfOk, IsTrue, OnOk, decimal, false};
 ghost use Rattle.mrp_report.specs.page.CellOf.{cell_of};
-ghost use Rattle.mrp_report.specs.section.PegText.{need_cells, peg_text, pegs_head};
+ghost use Rattle.mrp_report.specs.section.PegText.{need_cells, peg_text};
 ghost use Rattle.mrp_item.specs.Inputs.{count};
 ghost use Rattle.mrp_item.specs.Plan.{outcome_of, plan_in};
 ghost use Rattle.mrp_report.specs.section.PegRows.{IsAdded, count_left, rows_left};
@@ -18,25 +18,6 @@ use mrp_item::{Order, Plan};
 use mrp_peg::{Need, NeedKind, Peg, PegWalk};
 use mrp_qty::NoMemory;
 use std::alloc::Global;
-
-// Adds the line and the header of the section.
-#[tactic(auto, unfolding(csv::specs::Writing::fields_text, csv::specs::Writing::is_blank))]
-pub(crate) fn pegs_section(page: &mut Page) -> Result<(), NoMemory>
-    ensures { OnOk result (page.new ≡ page.old ++ pegs_head) }
-{
-    let header: [&[u8]; 9] = [
-        b"item",
-        b"week",
-        b"need",
-        b"number",
-        b"parent",
-        b"line",
-        b"supply",
-        b"source",
-        b"quantity",
-    ];
-    page.section(b"[pegs]", &header)
-}
 
 // What a row has of a requirement, or of surplus.
 #[derive(Clone, Copy)]

@@ -1,7 +1,7 @@
 //! The section `plan`.
 
 ghost use Rattle.std.specs.Prelude.{◌≡◌, ◌++◌, OnOk};
-ghost use Rattle.mrp_report.specs.section.PlanText.{plan_head, week_text};
+ghost use Rattle.mrp_report.specs.section.PlanText.{week_text};
 
 use crate::page::{CsvName, Line, Page, put_byte, put_number};
 use mrp_qty::NoMemory;
@@ -23,19 +23,6 @@ pub(crate) struct PlanRow {
     pub start: u64,
     /// What is left at the week's end (APICS Dictionary: projected available balance).
     pub balance: u64,
-}
-
-/// Adds the line and the header of the section `plan`.
-///
-/// Errors: where a growth of memory was refused.
-#[tactic(auto, unfolding(csv::specs::Writing::fields_text, csv::specs::Writing::is_blank))]
-pub(crate) fn plan_section(page: &mut Page) -> Result<(), NoMemory>
-    ensures { OnOk result (page.new ≡ page.old ++ plan_head) }
-{
-    let header: [&[u8]; 8] = [
-        b"item", b"week", b"gross", b"open", b"firm", b"planned", b"start", b"balance",
-    ];
-    page.section(b"[plan]", &header)
 }
 
 // A week of an item with this name.

@@ -1,7 +1,7 @@
 //! The section `promises`.
 
 ghost use Rattle.std.specs.Prelude.{◌≡◌, ◌++◌, OnOk};
-ghost use Rattle.mrp_report.specs.section.PromiseText.{promises_head, promise_text};
+ghost use Rattle.mrp_report.specs.section.PromiseText.{promise_text};
 
 use crate::page::{CsvName, Line, Page, put_byte, put_number};
 use mrp_qty::NoMemory;
@@ -19,24 +19,6 @@ pub(crate) struct PromiseRow {
     pub bucket: u64,
     /// What is available to promise (APICS Dictionary: available-to-promise).
     pub available: u64,
-}
-
-/// Adds the line and the header of the section `promises`.
-///
-/// Errors: where a growth of memory was refused.
-#[tactic(auto, unfolding(csv::specs::Writing::fields_text, csv::specs::Writing::is_blank))]
-pub(crate) fn promises_section(page: &mut Page) -> Result<(), NoMemory>
-    ensures { OnOk result (page.new ≡ page.old ++ promises_head) }
-{
-    let header: [&[u8]; 6] = [
-        b"item",
-        b"week",
-        b"firm",
-        b"booked",
-        b"bucket",
-        b"available",
-    ];
-    page.section(b"[promises]", &header)
 }
 
 // What can be promised in a week of an item with this name.

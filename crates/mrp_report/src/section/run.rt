@@ -5,6 +5,7 @@ ghost use Rattle.mrp_report.specs.section.RunText.{run_text};
 
 use crate::page::Page;
 use itoa::Buffer;
+use mrp_day::Section;
 use mrp_qty::NoMemory;
 
 /// Adds the section `run`: the entry of the book that is planned from, and how many bookings stand
@@ -17,7 +18,7 @@ pub(crate) fn run_section(page: &mut Page, front: u64, standing: u64) -> Result<
 {
     let mut front_text = Buffer::new();
     let mut standing_text = Buffer::new();
-    page.section(b"[run]", &[b"front", b"standing"])?;
+    page.begin(Section::Run)?;
     page.row(&[
         front_text.format(front).as_bytes(),
         standing_text.format(standing).as_bytes(),

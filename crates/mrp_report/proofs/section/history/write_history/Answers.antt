@@ -15,8 +15,8 @@ pub loop-place-init : goal.loop-place-init
 loop-place-init g c =
     let t = c.args.shop.now.tables in
     let h = c.args.history.now.entries in
-    let head : c.history_section.new.page ≡ history_head = c.in_ok-history_section.ensures ∙ ap (λ (page : List ℕ). page ++ history_head) c.new-page.ensures in
-    written-none g.W.Write.contents c.args.writer.now 1000000 c.new-tries.result c.history_section.new.page (so_far t h 0) c.new-tries.ensures (head ∙ so_far-none t h)
+    let head : c.begin.new.self ≡ history_head = c.in_ok-begin.ensures ∙ ap (λ (page : List ℕ). page ++ history_head) c.new-page.ensures in
+    written-none g.W.Write.contents c.args.writer.now 1000000 c.new-tries.result c.begin.new.self (so_far t h 0) c.new-tries.ensures (head ∙ so_far-none t h)
 
 pub returns-in_err-names-clause-front : goal.returns-in_err-names-clause-front
 returns-in_err-names-clause-front g c =
