@@ -18,8 +18,8 @@ use std::alloc::Global;
 use std::io::Write;
 use std::thread::Threads;
 
-/// The most workers that make the rows of a report.
-pub const MOST_WORKERS: u64 = 64;
+/// The most workers that make the rows of a report: the core numbers workers as it numbers desks.
+pub const MOST_WORKERS: u64 = mrp_tables::limits::MOST_DESKS;
 
 // Adds the section `run`.
 fn write_run(page: &mut Page, plan: &Plan) -> Result<(), NoMemory>
@@ -34,8 +34,8 @@ fn write_run(page: &mut Page, plan: &Plan) -> Result<(), NoMemory>
 fn write_beside<W: Write>(
     rt: &(impl Threads + Sync),
     alloc: Global,
-    slots: &mut [Slot],
     chunks: &Chunks<'_>,
+    slots: &mut [Slot],
     page: &mut Page,
     writer: &mut Told<W>,
     tries: &mut Tries,
@@ -48,7 +48,7 @@ fn write_beside<W: Write>(
     ensures memory { result ≡ Err ReportFault.NoMemory → HasGoneOn writer.old writer.new tries.old }
 {
     page.hand_over(writer, tries)?;
-    write_waves(rt, alloc, slots, chunks, writer, tries)
+    write_waves(rt, alloc, chunks, slots, writer, tries)
 }
 
 // Adds the rows of a section, and hands full pages over. They are made side by side where there are
@@ -56,8 +56,8 @@ fn write_beside<W: Write>(
 fn write_rows<W: Write>(
     rt: &(impl Threads + Sync),
     alloc: Global,
-    slots: &mut [Slot],
     chunks: &Chunks<'_>,
+    slots: &mut [Slot],
     page: &mut Page,
     writer: &mut Told<W>,
     tries: &mut Tries,
@@ -69,7 +69,7 @@ fn write_rows<W: Write>(
     ensures memory { result ≡ Err ReportFault.NoMemory → HasGoneOn writer.old writer.new tries.old }
 {
     if slots.len() > 1 && chunks.are_many() {
-        write_beside(rt, alloc, slots, chunks, page, writer, tries)
+        write_beside(rt, alloc, chunks, slots, page, writer, tries)
     } else {
         write_in_turn(alloc, chunks, page, writer, tries)
     }
@@ -79,8 +79,8 @@ fn write_rows<W: Write>(
 fn write_section<W: Write>(
     rt: &(impl Threads + Sync),
     alloc: Global,
-    slots: &mut [Slot],
     chunks: &Chunks<'_>,
+    slots: &mut [Slot],
     page: &mut Page,
     writer: &mut Told<W>,
     tries: &mut Tries,
@@ -92,7 +92,7 @@ fn write_section<W: Write>(
     ensures memory { result ≡ Err ReportFault.NoMemory → HasGoneOn writer.old writer.new tries.old }
 {
     chunks.section.begin(page)?;
-    write_rows(rt, alloc, slots, chunks, page, writer, tries)
+    write_rows(rt, alloc, chunks, slots, page, writer, tries)
 }
 
 /// Writes the report of a run: the sections `run`, `promises`, `plan`, `orders`, `pegs`, `messages`
@@ -128,8 +128,8 @@ pub fn write_report<W: Write>(
         write_section(
             rt,
             alloc,
-            slots.as_mut_slice(),
             &chunks,
+            slots.as_mut_slice(),
             &mut page,
             writer,
             &mut tries,

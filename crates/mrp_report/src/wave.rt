@@ -29,9 +29,9 @@ fn fill_one(alloc: Global, chunks: &Chunks<'_>, from: usize, slots: &mut [Slot])
     slots[0].fill(alloc, chunks, from);
 }
 
-// Fills pages with the chunks from a place, each in a thread of its own where one can be started. This
-// thread starts them all: where threads that it started started others, two of them were seen to share
-// a processor, in each wave, while another one had nothing to do.
+// Fills pages with the chunks from a place: the last one on this thread, each of the others in a thread of its own where
+// one can be started. This thread starts them all: where threads that it started started others, two of them were seen to
+// share a processor, in each wave, while another one had nothing to do.
 #[cycle(wave)]
 fn fill_wave<R: Threads + Sync>(
     rt: &R,
@@ -52,7 +52,7 @@ fn fill_wave<R: Threads + Sync>(
     fill_beside(rt, alloc, chunks, from, first, rest);
 }
 
-// Fills a page in a thread of its own, and others here, in which the next chunks stand.
+// Fills a page in a thread of its own, and in parallel the others with the next chunks.
 #[cycle(wave)]
 fn fill_beside<R: Threads + Sync>(
     rt: &R,
@@ -84,9 +84,9 @@ fn fill_beside<R: Threads + Sync>(
 fn write_wave<W: Write>(
     rt: &(impl Threads + Sync),
     alloc: Global,
-    slots: &mut [Slot],
     chunks: &Chunks<'_>,
     from: usize,
+    slots: &mut [Slot],
     writer: &mut Told<W>,
     tries: &mut Tries,
 ) -> Result<(), ReportFault>
@@ -114,8 +114,8 @@ fn write_wave<W: Write>(
 pub(crate) fn write_waves<W: Write>(
     rt: &(impl Threads + Sync),
     alloc: Global,
-    slots: &mut [Slot],
     chunks: &Chunks<'_>,
+    slots: &mut [Slot],
     writer: &mut Told<W>,
     tries: &mut Tries,
 ) -> Result<(), ReportFault>
@@ -130,7 +130,7 @@ pub(crate) fn write_waves<W: Write>(
     let mut from = 0;
     while from < count {
         let size = chunks.left(from).min(slots.len());
-        write_wave(rt, alloc, &mut slots[..size], chunks, from, writer, tries)?;
+        write_wave(rt, alloc, chunks, from, &mut slots[..size], writer, tries)?;
         from = chunks.reach(from, size);
     }
     Ok(())

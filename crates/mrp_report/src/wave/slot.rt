@@ -1,6 +1,6 @@
 //! Pages that are filled side by side.
 
-ghost use Rattle.std.specs.Prelude.{◌≡◌, ◌≤◌, IfOk, IfSome, Some, length};
+ghost use Rattle.std.specs.Prelude.{◌≡◌, ◌≤◌, IfOk, IfSome, None, OnErr, OnOk, Some, length};
 ghost use Rattle.mrp_report.specs.wave.Chunks.{count_of, rows_from};
 
 use crate::page::Page;
@@ -27,6 +27,17 @@ impl Model for Slot {
 }
 
 impl Slot {
+    // A page on which rows were put, or on which memory for them was refused.
+    fn of(page: Page, added: Result<(), NoMemory>) -> Slot
+        ensures added { OnOk added (result ≡ Some page) }
+        ensures refused { OnErr added (result ≡ None) }
+    {
+        Slot {
+            page,
+            is_refused: added.is_err(),
+        }
+    }
+
     // Puts the rows of the chunk from a place on the page, and nothing else.
     pub(crate) fn fill(&mut self, alloc: Global, chunks: &Chunks<'_>, from: usize)
         requires { from ≤ count_of chunks.now }
@@ -36,15 +47,16 @@ impl Slot {
         // would be taken from one processor to another with each row.
         let mut page = mem::replace(&mut self.page, Page::new(alloc));
         page.clear();
-        self.is_refused = chunks.add(alloc, &mut page, from).is_err();
-        self.page = page;
+        let added = chunks.add(alloc, &mut page, from);
+        *self = Slot::of(page, added);
     }
 
     // The page.
     //
     // Errors: where memory was refused while it was filled.
     pub(crate) fn page(&self) -> Result<&Page, NoMemory>
-        ensures { IfOk result (λ page. self.now ≡ Some page.now) }
+        ensures page { IfOk result (λ page. self.now ≡ Some page.now) }
+        ensures refused { OnErr result (self.now ≡ None) }
     {
         if self.is_refused {
             Err(NoMemory)

@@ -10,7 +10,7 @@ loop-slot-init g c = no-chunk g.W.Write.contents c.args.writer.now c.args.tries.
 pub loop-slot-preserved : goal.loop-slot-preserved
 loop-slot-preserved g c =
     next-chunk g.W.Write.contents c.args.writer.now c.args.tries.now c.loop-slot.writer c.write.new.writer c.loop-slot.tries c.write.new.tries c.args.chunks.now c.args.from c.loop-slot.slot-index c.in_ok-page.page.now
-    c.requires.from (chunk-of c.args.chunks.now c.args.from c.loop-slot.slot-index c.fill_wave.new.slots c.slot-item.result c.in_ok-page.page.now c.fill_wave.ensures (omega arith) c.slot-item.is c.in_ok-page.ensures) c.loop-slot.invariant c.in_ok-write.ensures.tries c.in_ok-write.ensures.whole
+    c.requires.from (chunk-of c.args.chunks.now c.args.from c.loop-slot.slot-index c.fill_wave.new.slots c.slot-item.result c.in_ok-page.page.now c.fill_wave.ensures (omega arith) c.slot-item.is c.in_ok-page.ensures.page) c.loop-slot.invariant c.in_ok-write.ensures.tries c.in_ok-write.ensures.whole
 
 pub returns-in_err-page-clause-front : goal.returns-in_err-page-clause-front
 returns-in_err-page-clause-front g c =
@@ -21,7 +21,7 @@ pub returns-in_err-write-clause-front : goal.returns-in_err-write-clause-front
 returns-in_err-write-clause-front g c =
     on-err c.from_residual-in_err-write.result
     (chunk-front g.W.Write.contents c.args.writer.now c.args.tries.now c.loop-slot.writer c.write.new.writer c.loop-slot.tries c.args.chunks.now c.args.from c.loop-slot.slot-index (length c.args.slots.now) c.in_ok-page.page.now
-    c.requires.from (omega arith) (chunk-of c.args.chunks.now c.args.from c.loop-slot.slot-index c.fill_wave.new.slots c.slot-item.result c.in_ok-page.page.now c.fill_wave.ensures (omega arith) c.slot-item.is c.in_ok-page.ensures) c.loop-slot.invariant c.in_err-write.ensures.front)
+    c.requires.from (omega arith) (chunk-of c.args.chunks.now c.args.from c.loop-slot.slot-index c.fill_wave.new.slots c.slot-item.result c.in_ok-page.page.now c.fill_wave.ensures (omega arith) c.slot-item.is c.in_ok-page.ensures.page) c.loop-slot.invariant c.in_err-write.ensures.front)
 
 pub returns-in_err-page-clause-memory : goal.returns-in_err-page-clause-memory
 returns-in_err-page-clause-memory g c refused =
