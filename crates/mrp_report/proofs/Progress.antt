@@ -2,12 +2,15 @@
 use Rattle.std.proofs.Common.{◌≡◌, ◌∙◌, ℕ, ◌+◌, ◌-◌, ◌≤◌, List, [], ◌++◌, take, length, Option, Some, None, sym, ap, subst, inl, inr, refl, arith, append_assoc}
 use Rattle.std.proofs.Math.Seq.{take-append_seam, take-append-add}
 use Rattle.std.proofs.lemmas.List.{append-nil, take-append-le, length-append}
+use Rattle.std.proofs.lemmas.Result.{on_err_weaker, on_ok_weaker}
 use Rattle.std.specs.Prelude.{Result, Ok, Err, OnErr}
 use Rattle.std.specs.Io.KnownBytes.{Appends}
 use Rattle.mrp_rows.specs.declared.told.Told.{Told}
 use Rattle.mrp_rows.specs.Told.{inner_of, failures_of, interrupted_of, HasRisenBy}
 use Rattle.mrp_rows.specs.Streams.{RisesBy}
-use Rattle.mrp_report.specs.Written.{HasTaken, HasTakenFront, HasTakenWhole, HasGivenUp, HasGoneOn, PassesOn}
+use Rattle.mrp_report.specs.Written.{Ends, HasTaken, HasTakenFront, HasTakenWhole, HasGivenUp, HasGoneOn, Passes, PassesOn, Writes, WritesWhole}
+use Rattle.mrp_report.specs.declared.fault.ReportFault.{ReportFault}
+use Rattle.mrp_report.specs.declared.fault.ReportFault.TheVariants.{NoMemory, Write}
 
 appends-none : (a : Option (List ℕ)) → Appends a a []
 appends-none None = tt
@@ -171,3 +174,88 @@ written-whole {W} contents start now then tries fewer page text w less p = (
 pub on-err : {T E P : Type 0} (r : Result T E) → P → OnErr r P
 on-err (Ok x) p = tt
 on-err (Err e) p = p
+
+same-fault : {S T : Type 0} (f g : ReportFault) → ◌≡◌ {A = Result T ReportFault} (Err f) (Err g) → ◌≡◌ {A = Result S ReportFault} (Err f) (Err g)
+same-fault {S} f g e =
+    let same : f ≡ g = cc in
+    ap (λ (h : ReportFault). Err h) same
+
+-- a call has done what it was to do
+pub ends-done : {W D : Type 0} (contents : W → Option (List ℕ)) (old new : Told W) (text : List ℕ) (allowed left : ℕ) → left ≤ allowed → D → Ends {T = Unit {0}} contents old new text allowed left (Ok tt) D
+ends-done contents old new text allowed left less done = record {
+  whole = done;
+  tries = less;
+  front = tt;
+  refused = λ e. absurd cc;
+  memory = λ e. absurd cc;
+}
+
+-- memory was refused behind a part of a text
+pub ends-refused : {W T D : Type 0} (contents : W → Option (List ℕ)) (start now : Told W) (first tries : ℕ) (page text rest whole : List ℕ) (r : Result T ReportFault) → IsWritten contents start now first tries page text
+    → whole ≡ text ++ rest → r ≡ Err NoMemory → Ends contents start now whole first tries r D
+ends-refused {W} {T} {D} contents start now first tries page text rest whole r w is refused =
+    subst (λ (r : Result T ReportFault). Ends contents start now whole first tries r D) (sym refused)
+    (record {
+      whole = tt;
+      tries = w.within;
+      front = front-now contents start now first tries page text rest whole w is;
+      refused = λ e. absurd cc;
+      memory = λ e. gone-on contents start now first tries page text w;
+    })
+
+-- memory was refused before anything was written
+pub ends-at_once : {W T D : Type 0} (contents : W → Option (List ℕ)) (w : Told W) (first : ℕ) (whole : List ℕ) (r : Result T ReportFault) → r ≡ Err NoMemory → Ends contents w w whole first first r D
+ends-at_once contents w first whole r refused =
+    ends-refused contents w w first first [] [] whole whole r (written-none contents w first first [] [] refl refl) refl refused
+
+-- the call for the next part failed
+pub ends-failed : {W S T D E : Type 0} (contents : W → Option (List ℕ)) (start now then : Told W) (first tries left : ℕ) (page text rest whole : List ℕ) (f : ReportFault) (r : Result T ReportFault)
+    → IsWritten contents start now first tries page text → whole ≡ text ++ rest → Ends {T = S} contents now then page tries left (Err f) E → r ≡ Err f → Ends contents start then whole first left r D
+ends-failed {W} {S} {T} {D} contents start now then first tries left page text rest whole f r w is part failed =
+    let less = part.tries in
+    subst (λ (r : Result T ReportFault). Ends contents start then whole first left r D) (sym failed)
+    (record {
+      whole = tt;
+      tries = omega (arith, less, w.within);
+      front = front-then contents start now then first tries page text rest whole w is part.front;
+      refused = λ e. given-up contents start now then first tries page text w (part.refused (same-fault f Write e));
+      memory = λ e. gone-on-then contents start now then first tries page text w (part.memory (same-fault f NoMemory e));
+    })
+
+-- the call for the last part ended
+pub ends-last : {W T D E : Type 0} (contents : W → Option (List ℕ)) (start now then : Told W) (first tries left : ℕ) (page text whole : List ℕ) (r : Result T ReportFault)
+    → IsWritten contents start now first tries page text → whole ≡ text → Ends contents now then page tries left r E → (E → D) → Ends contents start then whole first left r D
+ends-last contents start now then first tries left page text whole r w is part all =
+    let less = part.tries in
+    record {
+      whole = on_ok_weaker r all part.whole;
+      tries = omega (arith, less, w.within);
+      front = on_err_weaker r (front-then contents start now then first tries page text [] whole w (is ∙ sym (append-nil text))) part.front;
+      refused = λ e. given-up contents start now then first tries page text w (part.refused e);
+      memory = λ e. gone-on-then contents start now then first tries page text w (part.memory e);
+    }
+
+-- whoever calls has no tries of its own
+pub ends-of_call : {W T D : Type 0} {contents : W → Option (List ℕ)} {start then : Told W} {whole : List ℕ} {first left : ℕ} {r : Result T ReportFault} → Ends contents start then whole first left r D → Ends contents start then whole first 0 r D
+ends-of_call e = record {
+  whole = e.whole;
+  tries = omega arith;
+  front = e.front;
+  refused = e.refused;
+  memory = e.memory;
+}
+
+-- the call for the last part passed it on
+pub ends-passed : {W T : Type 0} (contents : W → Option (List ℕ)) (start now then : Told W) (first tries left : ℕ) (page kept text whole : List ℕ) (r : Result T ReportFault)
+    → IsWritten contents start now first tries page text → whole ≡ text → Passes contents now then page kept tries left r → Passes contents start then whole kept first left r
+ends-passed {W} contents start now then first tries left page kept text whole r w is part =
+    ends-last contents start now then first tries left page text whole r w is part (λ (passed : PassesOn contents now then page kept (tries - left)).
+    subst (λ (t : List ℕ). PassesOn contents start then t kept (first - left)) (sym is)
+    (passes-on contents start then first left kept text (written-passed contents start now then first tries left page kept text w part.tries passed)))
+
+-- and the last page was written
+pub ends-whole : {W T : Type 0} (contents : W → Option (List ℕ)) (start now then : Told W) (tries left : ℕ) (page whole : List ℕ) (r : Result T ReportFault) → IsWritten contents start now 1000000 tries page whole
+    → Writes contents now then page tries left r → WritesWhole contents start then whole r
+ends-whole contents start now then tries left page whole r w part =
+    ends-of_call (ends-last contents start now then 1000000 tries left page whole whole r w refl part
+    (written-whole contents start now then tries left page whole w part.tries))

@@ -1,10 +1,12 @@
 -- What a told writer has taken of a text (profile).
-use Rattle.std.specs.Prelude.{ℕ, ◌≡◌, ◌≤◌, ◌+◌, ◌++◌, ◌⊎◌, List, Option}
+use Rattle.std.specs.Prelude.{ℕ, ◌≡◌, ◌≤◌, ◌+◌, ◌-◌, ◌++◌, ◌⊎◌, List, Option, Result, Err, OnOk, OnErr}
 use Rattle.std.specs.Io.KnownBytes.{Appends}
 use Rattle.mrp_rows.specs.declared.told.Told.{Told}
 use Rattle.mrp_rows.specs.Told.{inner_of, failures_of, interrupted_of, HasRisenBy}
 use Rattle.mrp_rows.specs.declared.streams.TheConstants.{WRITE_TRIES}
 use Rattle.mrp_rows.specs.Streams.{RisesBy, WritesFront}
+use Rattle.mrp_report.specs.declared.fault.ReportFault.{ReportFault}
+use Rattle.mrp_report.specs.declared.fault.ReportFault.TheVariants.{NoMemory, Write}
 
 -- a writer took a text whole: it didn't fail, and that many interrupted writes were tried again
 pub record HasTaken {W : Type 0} (contents : W → Option (List ℕ)) (old new : Told W) (text : List ℕ) (retried : ℕ) : Type 0 where
@@ -34,3 +36,24 @@ pub record PassesOn {W : Type 0} (contents : W → Option (List ℕ)) (old new :
 -- a writer took a text whole, within the tries of one call
 abbrev pub HasTakenWhole : {W : Type 0} → (W → Option (List ℕ)) → Told W → Told W → List ℕ → Type 0
 HasTakenWhole contents old new text = (retried : ℕ) × (retried ≤ WRITE_TRIES) × HasTaken contents old new text retried
+
+-- how a call ends that is to write a text and has so many tries: it has done that, or a front of the text is taken. It fails
+-- as a writer that gave up, or for want of memory, and then the writer has gone on
+pub record Ends {W T : Type 0} (contents : W → Option (List ℕ)) (old new : Told W) (text : List ℕ) (allowed left : ℕ) (result : Result T ReportFault) (Done : Type 0) : Type 0 where
+  pub whole : OnOk result Done
+  pub tries : left ≤ allowed
+  pub front : OnErr result (HasTakenFront contents old new text)
+  pub refused : result ≡ Err Write → HasGivenUp old new allowed
+  pub memory : result ≡ Err NoMemory → HasGoneOn old new allowed
+
+-- a text is written; so many tries are left of those before
+abbrev pub Writes : {W T : Type 0} → (W → Option (List ℕ)) → Told W → Told W → List ℕ → ℕ → ℕ → Result T ReportFault → Type 0
+Writes contents old new text allowed left result = Ends contents old new text allowed left result (HasTaken contents old new text (allowed - left))
+
+-- a text is written, or a front of it, and the rest stands on a page
+abbrev pub Passes : {W T : Type 0} → (W → Option (List ℕ)) → Told W → Told W → List ℕ → List ℕ → ℕ → ℕ → Result T ReportFault → Type 0
+Passes contents old new text page allowed left result = Ends contents old new text allowed left result (PassesOn contents old new text page (allowed - left))
+
+-- a text is written within the tries of one call
+abbrev pub WritesWhole : {W T : Type 0} → (W → Option (List ℕ)) → Told W → Told W → List ℕ → Result T ReportFault → Type 0
+WritesWhole contents old new text result = Ends contents old new text WRITE_TRIES 0 result (HasTakenWhole contents old new text)

@@ -1,11 +1,11 @@
 //! Pages, which are rows of csv text in memory, and the cells, words and numbers that rows are made of.
 
-ghost use Rattle.std.specs.Prelude.{◌≡◌, ◌+◌, ◌≤◌, ◌-◌, [], ◌∷◌, ◌++◌, Err, OnOk, OnErr, length, map, take, vec_len};
+ghost use Rattle.std.specs.Prelude.{◌≡◌, ◌+◌, ◌≤◌, [], ◌∷◌, ◌++◌, OnOk, length, map, take, vec_len};
 ghost use Rattle.csv.specs.Writing.{default_writer, escaped, quoted};
 ghost use Rattle.mrp_day.specs.Sections.{head_of};
 ghost use Rattle.mrp_report.specs.page.CsvCells.{cell_text, next_cell};
 ghost use Rattle.mrp_report.specs.page.Rows.{row};
-ghost use Rattle.mrp_report.specs.Written.{HasTaken, HasTakenFront, HasGivenUp, HasGoneOn, PassesOn};
+ghost use Rattle.mrp_report.specs.Written.{Passes, Writes};
 
 mod cells;
 mod csv_name;
@@ -204,11 +204,7 @@ impl Page {
         writer: &mut Told<W>,
         tries: &mut Tries,
     ) -> Result<(), ReportFault>
-        ensures whole { OnOk result (HasTaken W.contents writer.old writer.new self.now (tries.old - tries.new)) }
-        ensures tries { tries.new ≤ tries.old }
-        ensures front { OnErr result (HasTakenFront W.contents writer.old writer.new self.now) }
-        ensures refused { result ≡ Err ReportFault.Write → HasGivenUp writer.old writer.new tries.old }
-        ensures memory { result ≡ Err ReportFault.NoMemory → HasGoneOn writer.old writer.new tries.old }
+        ensures { Writes W.contents writer.old writer.new self.now tries.old tries.new result }
     {
         write_text(writer, self.text(), tries)?;
         Ok(())
@@ -223,12 +219,8 @@ impl Page {
         writer: &mut Told<W>,
         tries: &mut Tries,
     ) -> Result<(), ReportFault>
-        ensures whole { OnOk result (HasTaken W.contents writer.old writer.new self.old (tries.old - tries.new)) }
-        ensures tries { tries.new ≤ tries.old }
+        ensures written { Writes W.contents writer.old writer.new self.old tries.old tries.new result }
         ensures empty { OnOk result (self.new ≡ []) }
-        ensures front { OnErr result (HasTakenFront W.contents writer.old writer.new self.old) }
-        ensures refused { result ≡ Err ReportFault.Write → HasGivenUp writer.old writer.new tries.old }
-        ensures memory { result ≡ Err ReportFault.NoMemory → HasGoneOn writer.old writer.new tries.old }
     {
         self.write(writer, tries)?;
         self.clear();
@@ -241,11 +233,7 @@ impl Page {
         writer: &mut Told<W>,
         tries: &mut Tries,
     ) -> Result<(), ReportFault>
-        ensures passed { OnOk result (PassesOn W.contents writer.old writer.new self.old self.new (tries.old - tries.new)) }
-        ensures tries { tries.new ≤ tries.old }
-        ensures front { OnErr result (HasTakenFront W.contents writer.old writer.new self.old) }
-        ensures refused { result ≡ Err ReportFault.Write → HasGivenUp writer.old writer.new tries.old }
-        ensures memory { result ≡ Err ReportFault.NoMemory → HasGoneOn writer.old writer.new tries.old }
+        ensures { Passes W.contents writer.old writer.new self.old self.new tries.old tries.new result }
     {
         if self.is_full() {
             self.hand_over(writer, tries)

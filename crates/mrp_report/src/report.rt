@@ -1,11 +1,11 @@
 //! The report of a run.
 
-ghost use Rattle.std.specs.Prelude.{◌≡◌, ◌<◌, ◌≤◌, ◌-◌, ◌++◌, Err, OnOk, OnErr, length};
+ghost use Rattle.std.specs.Prelude.{◌≡◌, ◌<◌, ◌++◌, OnOk, length};
 ghost use Rattle.std.specs.Int.{IsInRange};
 ghost use Rattle.mrp_report.specs.ReportText.{report_text};
 ghost use Rattle.mrp_report.specs.section.RunText.{run_text};
 ghost use Rattle.mrp_report.specs.wave.Chunks.{rows_in, text_of};
-ghost use Rattle.mrp_report.specs.Written.{HasGivenUp, HasGoneOn, HasTakenFront, HasTakenWhole, PassesOn};
+ghost use Rattle.mrp_report.specs.Written.{Passes, WritesWhole};
 
 use crate::fault::ReportFault;
 use crate::page::Page;
@@ -41,11 +41,7 @@ fn write_beside<W: Write>(
     tries: &mut Tries,
 ) -> Result<(), ReportFault>
     requires { 0 < length slots.old }
-    ensures passed { OnOk result (PassesOn W.contents writer.old writer.new (page.old ++ rows_in chunks.now) page.new (tries.old - tries.new)) }
-    ensures tries { tries.new ≤ tries.old }
-    ensures front { OnErr result (HasTakenFront W.contents writer.old writer.new (page.old ++ rows_in chunks.now)) }
-    ensures refused { result ≡ Err ReportFault.Write → HasGivenUp writer.old writer.new tries.old }
-    ensures memory { result ≡ Err ReportFault.NoMemory → HasGoneOn writer.old writer.new tries.old }
+    ensures { Passes W.contents writer.old writer.new (page.old ++ rows_in chunks.now) page.new tries.old tries.new result }
 {
     page.hand_over(writer, tries)?;
     write_waves(rt, alloc, chunks, slots, writer, tries)
@@ -62,11 +58,7 @@ fn write_rows<W: Write>(
     writer: &mut Told<W>,
     tries: &mut Tries,
 ) -> Result<(), ReportFault>
-    ensures passed { OnOk result (PassesOn W.contents writer.old writer.new (page.old ++ rows_in chunks.now) page.new (tries.old - tries.new)) }
-    ensures tries { tries.new ≤ tries.old }
-    ensures front { OnErr result (HasTakenFront W.contents writer.old writer.new (page.old ++ rows_in chunks.now)) }
-    ensures refused { result ≡ Err ReportFault.Write → HasGivenUp writer.old writer.new tries.old }
-    ensures memory { result ≡ Err ReportFault.NoMemory → HasGoneOn writer.old writer.new tries.old }
+    ensures { Passes W.contents writer.old writer.new (page.old ++ rows_in chunks.now) page.new tries.old tries.new result }
 {
     if slots.len() > 1 && chunks.are_many() {
         write_beside(rt, alloc, chunks, slots, page, writer, tries)
@@ -85,11 +77,7 @@ fn write_section<W: Write>(
     writer: &mut Told<W>,
     tries: &mut Tries,
 ) -> Result<(), ReportFault>
-    ensures passed { OnOk result (PassesOn W.contents writer.old writer.new (page.old ++ text_of chunks.now) page.new (tries.old - tries.new)) }
-    ensures tries { tries.new ≤ tries.old }
-    ensures front { OnErr result (HasTakenFront W.contents writer.old writer.new (page.old ++ text_of chunks.now)) }
-    ensures refused { result ≡ Err ReportFault.Write → HasGivenUp writer.old writer.new tries.old }
-    ensures memory { result ≡ Err ReportFault.NoMemory → HasGoneOn writer.old writer.new tries.old }
+    ensures { Passes W.contents writer.old writer.new (page.old ++ text_of chunks.now) page.new tries.old tries.new result }
 {
     chunks.section.begin(page)?;
     write_rows(rt, alloc, chunks, slots, page, writer, tries)
@@ -113,10 +101,7 @@ pub fn write_report<W: Write>(
     workers: usize,
 ) -> Result<(), ReportFault>
     requires workers { IsInRange 1 MOST_WORKERS workers }
-    ensures whole { OnOk result (HasTakenWhole W.contents writer.old writer.new (report_text plan.now.inputs)) }
-    ensures front { OnErr result (HasTakenFront W.contents writer.old writer.new (report_text plan.now.inputs)) }
-    ensures refused { result ≡ Err ReportFault.Write → HasGivenUp writer.old writer.new WRITE_TRIES }
-    ensures memory { result ≡ Err ReportFault.NoMemory → HasGoneOn writer.old writer.new WRITE_TRIES }
+    ensures { WritesWhole W.contents writer.old writer.new (report_text plan.now.inputs) result }
 {
     let mut tries = Tries::new();
     let mut page = Page::new(alloc);

@@ -1,9 +1,9 @@
 //! How a section's rows reach the writer: one after the other, or in chunks that are made in parallel, wave by wave.
 
 ghost use denote.Param.Send.{IsSync};
-ghost use Rattle.std.specs.Prelude.{◌≡◌, ◌<◌, ◌≤◌, ◌-◌, Err, OnOk, OnErr, length};
+ghost use Rattle.std.specs.Prelude.{◌≡◌, ◌<◌, ◌≤◌, length};
 ghost use Rattle.mrp_report.specs.wave.Chunks.{AreChunks, count_of, end_of, rows_from, rows_in};
-ghost use Rattle.mrp_report.specs.Written.{HasGivenUp, HasGoneOn, HasTaken, HasTakenFront};
+ghost use Rattle.mrp_report.specs.Written.{Writes};
 
 mod chunks;
 mod cut;
@@ -92,11 +92,7 @@ fn write_wave<W: Write>(
 ) -> Result<(), ReportFault>
     requires slots { 0 < length slots.old }
     requires from { from ≤ count_of chunks.now }
-    ensures whole { OnOk result (HasTaken W.contents writer.old writer.new (rows_from chunks.now from (length slots.old)) (tries.old - tries.new)) }
-    ensures tries { tries.new ≤ tries.old }
-    ensures front { OnErr result (HasTakenFront W.contents writer.old writer.new (rows_from chunks.now from (length slots.old))) }
-    ensures refused { result ≡ Err ReportFault.Write → HasGivenUp writer.old writer.new tries.old }
-    ensures memory { result ≡ Err ReportFault.NoMemory → HasGoneOn writer.old writer.new tries.old }
+    ensures { Writes W.contents writer.old writer.new (rows_from chunks.now from (length slots.old)) tries.old tries.new result }
 {
     fill_wave(rt, alloc, chunks, from, slots);
     for slot in slots.iter() {
@@ -120,11 +116,7 @@ pub(crate) fn write_waves<W: Write>(
     tries: &mut Tries,
 ) -> Result<(), ReportFault>
     requires { 0 < length slots.old }
-    ensures whole { OnOk result (HasTaken W.contents writer.old writer.new (rows_in chunks.now) (tries.old - tries.new)) }
-    ensures tries { tries.new ≤ tries.old }
-    ensures front { OnErr result (HasTakenFront W.contents writer.old writer.new (rows_in chunks.now)) }
-    ensures refused { result ≡ Err ReportFault.Write → HasGivenUp writer.old writer.new tries.old }
-    ensures memory { result ≡ Err ReportFault.NoMemory → HasGoneOn writer.old writer.new tries.old }
+    ensures { Writes W.contents writer.old writer.new (rows_in chunks.now) tries.old tries.new result }
 {
     let count = chunks.count();
     let mut from = 0;

@@ -1,11 +1,11 @@
 //! The section `history`: what the order book was asked, and what it replied.
 
-ghost use Rattle.std.specs.Prelude.{◌≡◌, ◌++◌, ◌∷◌, Err, OnOk, OnErr, decimal};
+ghost use Rattle.std.specs.Prelude.{◌≡◌, ◌++◌, ◌∷◌, OnOk, decimal};
 ghost use Rattle.mrp_master.specs.Supply.{supply_of};
 ghost use Rattle.mrp_report.specs.section.HistoryText.{call_cells, entry_text, history_text, reply_cells};
 ghost use Rattle.mrp_report.specs.section.EntryCells.{called_cells, replied_cells};
 ghost use Rattle.mrp_report.specs.page.Rows.{row};
-ghost use Rattle.mrp_report.specs.Written.{HasGivenUp, HasGoneOn, HasTakenFront, HasTakenWhole};
+ghost use Rattle.mrp_report.specs.Written.{WritesWhole};
 
 use crate::fault::ReportFault;
 use crate::page::{Cell, Line, Page, Word, put_byte, put_first_number, put_number, put_word};
@@ -154,10 +154,7 @@ pub fn write_history<W: Write>(
     writer: &mut Told<W>,
 ) -> Result<(), ReportFault>
     requires { history.now.supply ≡ supply_of shop.now.tables }
-    ensures whole { OnOk result (HasTakenWhole W.contents writer.old writer.new (history_text shop.now.tables history.now.entries)) }
-    ensures front { OnErr result (HasTakenFront W.contents writer.old writer.new (history_text shop.now.tables history.now.entries)) }
-    ensures refused { result ≡ Err ReportFault.Write → HasGivenUp writer.old writer.new WRITE_TRIES }
-    ensures memory { result ≡ Err ReportFault.NoMemory → HasGoneOn writer.old writer.new WRITE_TRIES }
+    ensures { WritesWhole W.contents writer.old writer.new (history_text shop.now.tables history.now.entries) result }
 {
     let names = ShopNames::of(alloc, shop.tables())?;
     let mut tries = Tries::new();

@@ -1,11 +1,11 @@
 //! Rows of a section, one after the other.
 
-ghost use Rattle.std.specs.Prelude.{◌≡◌, ◌<◌, ◌≤◌, ◌-◌, ◌++◌, Err, OnOk, OnErr};
+ghost use Rattle.std.specs.Prelude.{◌<◌, ◌++◌};
 ghost use Rattle.mrp_item.specs.Inputs.{count};
 ghost use Rattle.mrp_item.specs.Plan.{outcome_of, plan_in};
 ghost use Rattle.mrp_report.specs.wave.Chunks.{count_of, row_of, rows_in};
 ghost use Rattle.mrp_report.specs.ReportText.{pegged_text};
-ghost use Rattle.mrp_report.specs.Written.{HasGivenUp, HasGoneOn, HasTakenFront, PassesOn};
+ghost use Rattle.mrp_report.specs.Written.{Passes};
 
 use crate::fault::ReportFault;
 use crate::page::Page;
@@ -25,11 +25,7 @@ fn write_pegged<W: Write>(
     tries: &mut Tries,
 ) -> Result<(), ReportFault>
     requires { item < count readings.now.plan.now.inputs }
-    ensures passed { OnOk result (PassesOn W.contents writer.old writer.new (page.old ++ pegged_text readings.now.plan.now.inputs item (plan_in (outcome_of readings.now.plan.now.inputs item))) page.new (tries.old - tries.new)) }
-    ensures tries { tries.new ≤ tries.old }
-    ensures front { OnErr result (HasTakenFront W.contents writer.old writer.new (page.old ++ pegged_text readings.now.plan.now.inputs item (plan_in (outcome_of readings.now.plan.now.inputs item)))) }
-    ensures refused { result ≡ Err ReportFault.Write → HasGivenUp writer.old writer.new tries.old }
-    ensures memory { result ≡ Err ReportFault.NoMemory → HasGoneOn writer.old writer.new tries.old }
+    ensures { Passes W.contents writer.old writer.new (page.old ++ pegged_text readings.now.plan.now.inputs item (plan_in (outcome_of readings.now.plan.now.inputs item))) page.new tries.old tries.new result }
 {
     let mut rows = PegRows::of(alloc, readings.plan, &readings.names, item)?;
     while rows.add_next(page)? {
@@ -48,11 +44,7 @@ fn write_place<W: Write>(
     tries: &mut Tries,
 ) -> Result<(), ReportFault>
     requires { place < count_of chunks.now }
-    ensures passed { OnOk result (PassesOn W.contents writer.old writer.new (page.old ++ row_of chunks.now place) page.new (tries.old - tries.new)) }
-    ensures tries { tries.new ≤ tries.old }
-    ensures front { OnErr result (HasTakenFront W.contents writer.old writer.new (page.old ++ row_of chunks.now place)) }
-    ensures refused { result ≡ Err ReportFault.Write → HasGivenUp writer.old writer.new tries.old }
-    ensures memory { result ≡ Err ReportFault.NoMemory → HasGoneOn writer.old writer.new tries.old }
+    ensures { Passes W.contents writer.old writer.new (page.old ++ row_of chunks.now place) page.new tries.old tries.new result }
 {
     if let Section::Pegs = chunks.section {
         return write_pegged(alloc, chunks.readings, place, page, writer, tries);
@@ -69,11 +61,7 @@ pub(crate) fn write_in_turn<W: Write>(
     writer: &mut Told<W>,
     tries: &mut Tries,
 ) -> Result<(), ReportFault>
-    ensures passed { OnOk result (PassesOn W.contents writer.old writer.new (page.old ++ rows_in chunks.now) page.new (tries.old - tries.new)) }
-    ensures tries { tries.new ≤ tries.old }
-    ensures front { OnErr result (HasTakenFront W.contents writer.old writer.new (page.old ++ rows_in chunks.now)) }
-    ensures refused { result ≡ Err ReportFault.Write → HasGivenUp writer.old writer.new tries.old }
-    ensures memory { result ≡ Err ReportFault.NoMemory → HasGoneOn writer.old writer.new tries.old }
+    ensures { Passes W.contents writer.old writer.new (page.old ++ rows_in chunks.now) page.new tries.old tries.new result }
 {
     for place in 0..chunks.count() {
         write_place(alloc, chunks, place, page, writer, tries)?;

@@ -1,12 +1,14 @@
 -- Rows of places and chunks are written, one after the other.
-use Rattle.std.proofs.Common.{◌≡◌, ◌∙◌, ℕ, zero, suc, ◌+◌, ◌-◌, ◌<◌, ◌≤◌, List, [], ◌∷◌, ◌++◌, Option, Some, None, IfSome, get_or, length, sym, ap, subst, refl, arith, append_assoc}
+use Rattle.std.proofs.Common.{◌≡◌, ◌∙◌, ℕ, zero, suc, ◌+◌, ◌-◌, ◌<◌, ◌≤◌, List, [], ◌∷◌, ◌++◌, Option, Some, None, IfSome, Result, Err, get_or, length, sym, ap, subst, refl, arith, append_assoc}
 use Rattle.std.proofs.lemmas.List.{get_or_default}
 use Rattle.mrp_rows.specs.declared.told.Told.{Told}
 use Rattle.mrp_report.specs.wave.Chunks.{AreChunks, between, count_of, end_of, row_of, rows_from, rows_in}
-use Rattle.mrp_report.specs.Written.{HasTaken, HasTakenFront}
+use Rattle.mrp_report.specs.Written.{Ends, HasTaken}
+use Rattle.mrp_report.specs.declared.fault.ReportFault.{ReportFault}
+use Rattle.mrp_report.specs.declared.fault.ReportFault.TheVariants.{NoMemory}
 use Rattle.mrp_report.specs.declared.wave.cut.Chunks.{Chunks}
 use Rattle.mrp_report.proofs.lemmas.wave.ChunkTexts.{behind-places, between-both, between-none, chunk-more, chunks-rest, reach-from, reach-next, reach-none, reach-within, rows-rest}
-use Rattle.mrp_report.proofs.Progress.{IsWritten, front-now, front-then, written-more, written-next, written-none, written-taken}
+use Rattle.mrp_report.proofs.Progress.{IsWritten, ends-failed, ends-refused, written-more, written-next, written-none, written-taken}
 
 -- what there is, where there is some
 pub some-is : {A : Type 0} (o : Option A) (x : A) (P : A → Type 0) → IfSome o P → o ≡ Some x → P x
@@ -39,18 +41,18 @@ module _ {W : Type 0} (contents : W → Option (List ℕ)) (start : Told W) (fir
   next-chunk now then tries fewer c from k page within is w less taken =
       written-taken contents start now then first tries fewer page (rows_from c from (k + 1)) (with-chunk now tries c from k page within is w) less taken
 
-  -- the chunks so far are a front of all of them
-  pub chunks-front : (now : Told W) (tries : ℕ) (c : Chunks) (from k all : ℕ) → from ≤ count_of c → k ≤ all → IsWritten contents start now first tries [] (rows_from c from k)
-      → HasTakenFront contents start now (rows_from c from all)
-  chunks-front now tries c from k all within less w =
-      front-now contents start now first tries [] (rows_from c from k) (between (row_of c) (end_of c from k) (end_of c from all)) (rows_from c from all) w (chunks-rest c from k all within less)
+  -- memory was refused for the next chunk
+  pub chunk-refused : {T D : Type 0} (now : Told W) (tries : ℕ) (c : Chunks) (from k all : ℕ) (r : Result T ReportFault) → from ≤ count_of c → k ≤ all → IsWritten contents start now first tries [] (rows_from c from k)
+      → r ≡ Err NoMemory → Ends contents start now (rows_from c from all) first tries r D
+  chunk-refused now tries c from k all r within less w refused =
+      ends-refused contents start now first tries [] (rows_from c from k) (between (row_of c) (end_of c from k) (end_of c from all)) (rows_from c from all) r w (chunks-rest c from k all within less) refused
 
-  -- and so they are with a front of the next
-  pub chunk-front : (now then : Told W) (tries : ℕ) (c : Chunks) (from k all : ℕ) (page : List ℕ) → from ≤ count_of c → k + 1 ≤ all → page ≡ rows_from c (end_of c from k) 1
-      → IsWritten contents start now first tries [] (rows_from c from k) → HasTakenFront contents now then page → HasTakenFront contents start then (rows_from c from all)
-  chunk-front now then tries c from k all page within less is w front =
-      front-then contents start now then first tries page (rows_from c from (k + 1)) (between (row_of c) (end_of c from (k + 1)) (end_of c from all)) (rows_from c from all)
-      (with-chunk now tries c from k page within is w) (chunks-rest c from (k + 1) all within less) front
+  -- the next chunk was not written whole
+  pub chunk-failed : {S T D E : Type 0} (now then : Told W) (tries left : ℕ) (c : Chunks) (from k all : ℕ) (page : List ℕ) (f : ReportFault) (r : Result T ReportFault) → from ≤ count_of c → k + 1 ≤ all → page ≡ rows_from c (end_of c from k) 1
+      → IsWritten contents start now first tries [] (rows_from c from k) → Ends {T = S} contents now then page tries left (Err f) E → r ≡ Err f → Ends contents start then (rows_from c from all) first left r D
+  chunk-failed now then tries left c from k all page f r within less is w part failed =
+      ends-failed contents start now then first tries left page (rows_from c from (k + 1)) (between (row_of c) (end_of c from (k + 1)) (end_of c from all)) (rows_from c from all) f r
+      (with-chunk now tries c from k page within is w) (chunks-rest c from (k + 1) all within less) part failed
 
   -- some chunks are to be written behind the places so far
   with-wave : (now : Told W) (tries : ℕ) (c : Chunks) (from k : ℕ) → from ≤ count_of c → IsWritten contents start now first tries [] (between (row_of c) 0 from)
@@ -65,13 +67,13 @@ module _ {W : Type 0} (contents : W → Option (List ℕ)) (start : Told W) (fir
   next-wave now then tries fewer c from k within w less taken =
       written-taken contents start now then first tries fewer (rows_from c from k) (between (row_of c) 0 (end_of c from k)) (with-wave now tries c from k within w) less taken
 
-  -- or a front of them
-  pub wave-front : (now then : Told W) (tries : ℕ) (c : Chunks) (from k : ℕ) → from ≤ count_of c → IsWritten contents start now first tries [] (between (row_of c) 0 from)
-      → HasTakenFront contents now then (rows_from c from k) → HasTakenFront contents start then (rows_in c)
-  wave-front now then tries c from k within w front =
+  -- or not all of them
+  pub wave-failed : {S T D E : Type 0} (now then : Told W) (tries left : ℕ) (c : Chunks) (from k : ℕ) (f : ReportFault) (r : Result T ReportFault) → from ≤ count_of c → IsWritten contents start now first tries [] (between (row_of c) 0 from)
+      → Ends {T = S} contents now then (rows_from c from k) tries left (Err f) E → r ≡ Err f → Ends contents start then (rows_in c) first left r D
+  wave-failed now then tries left c from k f r within w part failed =
       let there : ℕ = end_of c from k in
-      front-then contents start now then first tries (rows_from c from k) (between (row_of c) 0 there) (between (row_of c) there (count_of c)) (rows_in c) (with-wave now tries c from k within w)
-      (rows-rest c there (reach-within (count_of c) c.size from k)) front
+      ends-failed contents start now then first tries left (rows_from c from k) (between (row_of c) 0 there) (between (row_of c) there (count_of c)) (rows_in c) f r (with-wave now tries c from k within w)
+      (rows-rest c there (reach-within (count_of c) c.size from k)) part failed
 
 -- the page at a place of a wave has its chunk
 pub chunk-of : (c : Chunks) (from k : ℕ) (slots : List (Option (List ℕ))) (slot : Option (List ℕ)) (page : List ℕ) → AreChunks c from slots → k < length slots → slot ≡ get_or slots k slot → slot ≡ Some page

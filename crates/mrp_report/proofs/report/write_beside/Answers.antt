@@ -1,42 +1,30 @@
-use Rattle.std.proofs.Common.{◌++◌, ◌-◌, [], List, ℕ, sym, subst, refl}
-use Rattle.std.proofs.lemmas.List.{append-nil}
-use Rattle.std.proofs.lemmas.Result.{on_err_weaker, on_ok_weaker}
+use Rattle.std.proofs.Common.{◌++◌, ◌-◌, [], List, ℕ, sym, subst, refl, rules}
 use Rattle.mrp_report.specs.wave.Chunks.{rows_in}
-use Rattle.mrp_report.specs.Written.{PassesOn}
+use Rattle.mrp_report.specs.Written.{HasTaken, PassesOn}
 use Rattle.mrp_report.proofs.lemmas.wave.PlacesWritten.{written-page}
-use Rattle.mrp_report.proofs.Progress.{front-then, given-up, gone-on-then, on-err, passes-on, written-next, written-none, written-taken}
+use Rattle.mrp_report.proofs.Progress.{ends-failed, ends-last, passes-on, written-next, written-none, written-taken}
 use Rattle.mrp_report.proofs.report.write_beside.Goals as goal
 
-pub returns-in_err-hand_over-clause-front : goal.returns-in_err-hand_over-clause-front
-returns-in_err-hand_over-clause-front g c =
+pub returns-in_err-hand_over : goal.returns-in_err-hand_over
+returns-in_err-hand_over g c =
     let page = c.args.page.now in
-    on-err c.from_residual.result
-    (front-then g.W.Write.contents c.args.writer.now c.args.writer.now c.hand_over.new.writer c.args.tries.now c.args.tries.now page page (rows_in c.args.chunks.now) (page ++ rows_in c.args.chunks.now)
-    (written-none g.W.Write.contents c.args.writer.now c.args.tries.now c.args.tries.now page page refl refl) refl c.in_err-hand_over.ensures.front)
+    let rows : List ℕ = rows_in c.args.chunks.now in
+    ends-failed g.W.Write.contents c.args.writer.now c.args.writer.now c.hand_over.new.writer c.args.tries.now c.args.tries.now c.hand_over.new.tries page page rows (page ++ rows) _ c.from_residual.result
+    (written-none g.W.Write.contents c.args.writer.now c.args.tries.now c.args.tries.now page page refl refl) refl c.in_err-hand_over.ensures.written (search rules)
 
-pub returns-clause-passed : goal.returns-clause-passed
-returns-clause-passed g c =
-    let text : List ℕ = c.args.page.now ++ rows_in c.args.chunks.now in
-    on_ok_weaker c.write_waves.result
-    (λ taken. subst (λ (left : List ℕ). PassesOn g.W.Write.contents c.args.writer.now c.write_waves.new.writer text left (c.args.tries.now - c.write_waves.new.tries)) (sym c.in_ok-hand_over.ensures.empty)
-    (passes-on g.W.Write.contents c.args.writer.now c.write_waves.new.writer c.args.tries.now c.write_waves.new.tries [] text
-    (written-taken g.W.Write.contents c.args.writer.now c.hand_over.new.writer c.write_waves.new.writer c.args.tries.now c.hand_over.new.tries c.write_waves.new.tries (rows_in c.args.chunks.now) text (written-next g.W.Write.contents c.args.writer.now c.hand_over.new.writer c.args.tries.now c.hand_over.new.tries c.args.page.now (rows_in c.args.chunks.now)
-    (written-page g.W.Write.contents c.args.writer.now c.hand_over.new.writer c.args.tries.now c.hand_over.new.tries c.args.page.now c.in_ok-hand_over.ensures.tries c.in_ok-hand_over.ensures.whole))
-    c.write_waves.ensures.tries taken)))
-    c.write_waves.ensures.whole
-
-pub returns-clause-front : goal.returns-clause-front
-returns-clause-front g c =
-    let text : List ℕ = c.args.page.now ++ rows_in c.args.chunks.now in
-    on_err_weaker c.write_waves.result
-    (front-then g.W.Write.contents c.args.writer.now c.hand_over.new.writer c.write_waves.new.writer c.args.tries.now c.hand_over.new.tries (rows_in c.args.chunks.now) text [] text (written-next g.W.Write.contents c.args.writer.now c.hand_over.new.writer c.args.tries.now c.hand_over.new.tries c.args.page.now (rows_in c.args.chunks.now)
-    (written-page g.W.Write.contents c.args.writer.now c.hand_over.new.writer c.args.tries.now c.hand_over.new.tries c.args.page.now c.in_ok-hand_over.ensures.tries c.in_ok-hand_over.ensures.whole)) (sym (append-nil text)))
-    c.write_waves.ensures.front
-
-pub returns-clause-refused : goal.returns-clause-refused
-returns-clause-refused g c refused =
-    given-up g.W.Write.contents c.args.writer.now c.hand_over.new.writer c.write_waves.new.writer c.args.tries.now c.hand_over.new.tries [] c.args.page.now (written-page g.W.Write.contents c.args.writer.now c.hand_over.new.writer c.args.tries.now c.hand_over.new.tries c.args.page.now c.in_ok-hand_over.ensures.tries c.in_ok-hand_over.ensures.whole) (c.write_waves.ensures.refused refused)
-
-pub returns-clause-memory : goal.returns-clause-memory
-returns-clause-memory g c refused =
-    gone-on-then g.W.Write.contents c.args.writer.now c.hand_over.new.writer c.write_waves.new.writer c.args.tries.now c.hand_over.new.tries [] c.args.page.now (written-page g.W.Write.contents c.args.writer.now c.hand_over.new.writer c.args.tries.now c.hand_over.new.tries c.args.page.now c.in_ok-hand_over.ensures.tries c.in_ok-hand_over.ensures.whole) (c.write_waves.ensures.memory refused)
+pub returns : goal.returns
+returns g c =
+    let contents = g.W.Write.contents in
+    let old = c.args.writer.now in
+    let mid = c.hand_over.new.writer in
+    let new = c.write_waves.new.writer in
+    let page = c.args.page.now in
+    let rows : List ℕ = rows_in c.args.chunks.now in
+    let first = c.args.tries.now in
+    let tries = c.hand_over.new.tries in
+    let left = c.write_waves.new.tries in
+    let handed = c.in_ok-hand_over.ensures.written in
+    let w = written-next contents old mid first tries page rows (written-page contents old mid first tries page handed.tries handed.whole) in
+    ends-last contents old mid new first tries left rows (page ++ rows) (page ++ rows) c.write_waves.result w refl c.write_waves.ensures (λ (taken : HasTaken contents mid new rows (tries - left)).
+    subst (λ (kept : List ℕ). PassesOn contents old new (page ++ rows) kept (first - left)) (sym c.in_ok-hand_over.ensures.empty)
+    (passes-on contents old new first left [] (page ++ rows) (written-taken contents old mid new first tries left rows (page ++ rows) w c.write_waves.ensures.tries taken)))

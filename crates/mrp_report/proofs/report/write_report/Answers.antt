@@ -1,17 +1,16 @@
-use Rattle.std.proofs.Common.{◌≡◌, ◌∙◌, ◌+◌, ◌-◌, ◌++◌, ℕ, List, [], length, get_or, ap, sym, subst, refl, arith, rules}
-use Rattle.std.proofs.lemmas.List.{append-nil}
-use Rattle.std.proofs.lemmas.Result.{on_err_weaker, on_ok_weaker}
+use Rattle.std.proofs.Common.{◌≡◌, ◌∙◌, ◌+◌, ◌-◌, ◌++◌, ℕ, List, length, get_or, ap, sym, subst, refl, arith, rules}
+use Rattle.mrp_report.specs.wave.Chunks.{text_of}
 use Rattle.mrp_item.specs.Places.{WholePlan}
 use Rattle.mrp_report.specs.ReportText.{report_text}
 use Rattle.mrp_report.specs.section.RunText.{run_text}
 use Rattle.mrp_report.specs.section.Sections.{section_text}
-use Rattle.mrp_report.specs.Written.{HasTakenFront, PassesOn}
+use Rattle.mrp_report.specs.Written.{PassesOn}
 use Rattle.mrp_report.specs.declared.section.Section.{Section}
 use Rattle.mrp_report.specs.declared.section.Section.TheVariants as section
 use Rattle.mrp_report.proofs.lemmas.wave.ChunkTexts.{text-is}
 use Rattle.mrp_report.proofs.lemmas.section.ListTexts.{so_far, so_far-none, to-come, whole}
 use Rattle.mrp_report.proofs.lemmas.section.ListWritten.{next-passed, next-written}
-use Rattle.mrp_report.proofs.Progress.{IsWritten, front-now, front-then, on-err, given-up, gone-on-then, written-none, written-whole}
+use Rattle.mrp_report.proofs.Progress.{IsWritten, ends-at_once, ends-failed, ends-of_call, ends-whole, written-none}
 use Rattle.mrp_report.proofs.lemmas.section.SectionTexts.{in_order, report-is}
 use Rattle.mrp_report.proofs.report.write_report.Goals as goal
 
@@ -22,23 +21,17 @@ loop-section-init g c =
     let head : c.write_run.new.page ≡ run = c.in_ok-write_run.ensures ∙ ap (λ (page : List ℕ). page ++ run) c.new-page.ensures in
     written-none g.W.Write.contents c.args.writer.now 1000000 c.new-tries.result c.write_run.new.page (so_far run (section_text s) in_order 0) c.new-tries.ensures (head ∙ so_far-none run (section_text s) in_order)
 
-pub returns-in_err-readings-clause-front : goal.returns-in_err-readings-clause-front
-returns-in_err-readings-clause-front g c =
-    let text : List ℕ = report_text c.args.plan.now.inputs in
-    on-err c.from_residual-in_err-readings.result
-    (front-now g.W.Write.contents c.args.writer.now c.args.writer.now 1000000 1000000 [] [] text text (written-none g.W.Write.contents c.args.writer.now 1000000 1000000 [] [] refl refl) refl)
+pub returns-in_err-slots : goal.returns-in_err-slots
+returns-in_err-slots g c = ends-of_call (ends-at_once g.W.Write.contents c.args.writer.now 1000000 (report_text c.args.plan.now.inputs) c.from_residual.result (search rules))
 
-pub returns-in_err-slots-clause-front : goal.returns-in_err-slots-clause-front
-returns-in_err-slots-clause-front g c =
-    let text : List ℕ = report_text c.args.plan.now.inputs in
-    on-err c.from_residual.result
-    (front-now g.W.Write.contents c.args.writer.now c.args.writer.now 1000000 1000000 [] [] text text (written-none g.W.Write.contents c.args.writer.now 1000000 1000000 [] [] refl refl) refl)
+pub returns-in_err-readings : goal.returns-in_err-readings
+returns-in_err-readings g c = ends-of_call (ends-at_once g.W.Write.contents c.args.writer.now 1000000 (report_text c.args.plan.now.inputs) c.from_residual-in_err-readings.result (search rules))
 
-pub returns-in_err-slots-clause-memory : goal.returns-in_err-slots-clause-memory
-returns-in_err-slots-clause-memory g c refused = (refl, omega arith)
+pub returns-in_err-write_run : goal.returns-in_err-write_run
+returns-in_err-write_run g c = ends-of_call (ends-at_once g.W.Write.contents c.args.writer.now 1000000 (report_text c.args.plan.now.inputs) c.from_residual-in_err-write_run.result (search rules))
 
-pub returns-in_err-write_section-clause-front : goal.returns-in_err-write_section-clause-front
-returns-in_err-write_section-clause-front g c =
+pub returns-in_err-write_section : goal.returns-in_err-write_section
+returns-in_err-write_section g c =
     let s = c.args.plan.now.inputs in
     let run : List ℕ = run_text s.front (length s.standing) in
     let k = c.loop-section.section-index in
@@ -47,10 +40,9 @@ returns-in_err-write_section-clause-front g c =
     next-written g.W.Write.contents c.args.writer.now c.loop-section.writer 1000000 c.loop-section.tries c.loop-section.page (c.loop-section.page ++ section_text s x) run (section_text s) in_order k x section.Promises
     c.loop-section.invariant c.loop-section-test.true refl refl in
     let (rest, is) = to-come run (section_text s) in_order (k + 1) in
-    on-err c.from_residual-in_err-write_section.result
-    (front-then g.W.Write.contents c.args.writer.now c.loop-section.writer c.write_section.new.writer 1000000 c.loop-section.tries (c.loop-section.page ++ section_text s x) (so_far run (section_text s) in_order (k + 1)) rest
-    (report_text s) next (report-is s ∙ is)
-    (subst (λ (t : List ℕ). HasTakenFront g.W.Write.contents c.loop-section.writer c.write_section.new.writer (c.loop-section.page ++ t)) (text-is c.of-chunks.result c.args.plan.now.inputs (get_or in_order c.loop-section.section-index section.Promises) (c.of-chunks.ensures.inputs ∙ ap (λ (p : WholePlan). p.inputs) c.in_ok-readings.ensures) c.of-chunks.ensures.section) c.in_err-write_section.ensures.front))
+    let texts : text_of c.of-chunks.result ≡ section_text s x = text-is c.of-chunks.result s x (c.of-chunks.ensures.inputs ∙ ap (λ (p : WholePlan). p.inputs) c.in_ok-readings.ensures) c.of-chunks.ensures.section in
+    ends-of_call (ends-failed g.W.Write.contents c.args.writer.now c.loop-section.writer c.write_section.new.writer 1000000 c.loop-section.tries c.write_section.new.tries (c.loop-section.page ++ section_text s x)
+    (so_far run (section_text s) in_order (k + 1)) rest (report_text s) _ c.from_residual-in_err-write_section.result next (report-is s ∙ is) (rw texts at c.in_err-write_section.ensures) (search rules))
 
 pub loop-section-preserved : goal.loop-section-preserved
 loop-section-preserved g c =
@@ -60,60 +52,14 @@ loop-section-preserved g c =
     next-passed g.W.Write.contents c.args.writer.now c.loop-section.writer c.write_section.new.writer 1000000 c.loop-section.tries c.write_section.new.tries c.loop-section.page c.write_section.new.page run (section_text s)
     in_order k (get_or in_order k section.Promises) section.Promises c.loop-section.invariant c.loop-section-test.true refl c.in_ok-write_section.ensures.tries
     (subst (λ (t : List ℕ). PassesOn g.W.Write.contents c.loop-section.writer c.write_section.new.writer (c.loop-section.page ++ t) c.write_section.new.page (c.loop-section.tries - c.write_section.new.tries)) (text-is c.of-chunks.result c.args.plan.now.inputs (get_or in_order c.loop-section.section-index section.Promises) (c.of-chunks.ensures.inputs ∙ ap (λ (p : WholePlan). p.inputs) c.in_ok-readings.ensures) c.of-chunks.ensures.section)
-    c.in_ok-write_section.ensures.passed)
+    c.in_ok-write_section.ensures.whole)
 
-pub returns-clause-whole : goal.returns-clause-whole
-returns-clause-whole g c =
+pub returns : goal.returns
+returns g c =
     let s = c.args.plan.now.inputs in
     let run : List ℕ = run_text s.front (length s.standing) in
     let all : c.loop-section.section-index ≡ length in_order = omega (arith, c.loop-section-test.false, c.loop-section.auto.section-index-end) in
     let written : IsWritten g.W.Write.contents c.args.writer.now c.loop-section.writer 1000000 c.loop-section.tries c.loop-section.page (report_text s) =
     subst (λ (t : List ℕ). IsWritten g.W.Write.contents c.args.writer.now c.loop-section.writer 1000000 c.loop-section.tries c.loop-section.page t)
     (whole run (section_text s) in_order c.loop-section.section-index all ∙ sym (report-is s)) c.loop-section.invariant in
-    on_ok_weaker c.hand_over.result
-    (written-whole g.W.Write.contents c.args.writer.now c.loop-section.writer c.hand_over.new.writer c.loop-section.tries c.hand_over.new.tries c.loop-section.page (report_text s) written c.hand_over.ensures.tries)
-    c.hand_over.ensures.whole
-
-pub returns-clause-front : goal.returns-clause-front
-returns-clause-front g c =
-    let s = c.args.plan.now.inputs in
-    let run : List ℕ = run_text s.front (length s.standing) in
-    let all : c.loop-section.section-index ≡ length in_order = omega (arith, c.loop-section-test.false, c.loop-section.auto.section-index-end) in
-    let written : IsWritten g.W.Write.contents c.args.writer.now c.loop-section.writer 1000000 c.loop-section.tries c.loop-section.page (report_text s) =
-    subst (λ (t : List ℕ). IsWritten g.W.Write.contents c.args.writer.now c.loop-section.writer 1000000 c.loop-section.tries c.loop-section.page t)
-    (whole run (section_text s) in_order c.loop-section.section-index all ∙ sym (report-is s)) c.loop-section.invariant in
-    on_err_weaker c.hand_over.result
-    (front-then g.W.Write.contents c.args.writer.now c.loop-section.writer c.hand_over.new.writer 1000000 c.loop-section.tries c.loop-section.page (report_text s) [] (report_text s) written
-    (sym (append-nil (report_text s))))
-    c.hand_over.ensures.front
-
-pub returns-in_err-write_section-clause-refused : goal.returns-in_err-write_section-clause-refused
-returns-in_err-write_section-clause-refused g c refused =
-    let s = c.args.plan.now.inputs in
-    let run : List ℕ = run_text s.front (length s.standing) in
-    given-up g.W.Write.contents c.args.writer.now c.loop-section.writer c.write_section.new.writer 1000000 c.loop-section.tries c.loop-section.page
-    (so_far run (section_text s) in_order c.loop-section.section-index) c.loop-section.invariant (c.in_err-write_section.ensures.refused (search rules))
-
-pub returns-in_err-readings-clause-memory : goal.returns-in_err-readings-clause-memory
-returns-in_err-readings-clause-memory g c refused = (refl, omega arith)
-
-pub returns-in_err-write_section-clause-memory : goal.returns-in_err-write_section-clause-memory
-returns-in_err-write_section-clause-memory g c refused =
-    let s = c.args.plan.now.inputs in
-    let run : List ℕ = run_text s.front (length s.standing) in
-    gone-on-then g.W.Write.contents c.args.writer.now c.loop-section.writer c.write_section.new.writer 1000000 c.loop-section.tries c.loop-section.page
-    (so_far run (section_text s) in_order c.loop-section.section-index) c.loop-section.invariant (c.in_err-write_section.ensures.memory (search rules))
-
-pub returns-clause-memory : goal.returns-clause-memory
-returns-clause-memory g c refused =
-    let s = c.args.plan.now.inputs in
-    let run : List ℕ = run_text s.front (length s.standing) in
-    gone-on-then g.W.Write.contents c.args.writer.now c.loop-section.writer c.hand_over.new.writer 1000000 c.loop-section.tries c.loop-section.page
-    (so_far run (section_text s) in_order c.loop-section.section-index) c.loop-section.invariant (c.hand_over.ensures.memory refused)
-
-pub returns-clause-refused : goal.returns-clause-refused
-returns-clause-refused g c refused =
-    let s = c.args.plan.now.inputs in
-    let run : List ℕ = run_text s.front (length s.standing) in
-    given-up g.W.Write.contents c.args.writer.now c.loop-section.writer c.hand_over.new.writer 1000000 c.loop-section.tries c.loop-section.page
-    (so_far run (section_text s) in_order c.loop-section.section-index) c.loop-section.invariant (c.hand_over.ensures.refused refused)
+    ends-whole g.W.Write.contents c.args.writer.now c.loop-section.writer c.hand_over.new.writer c.loop-section.tries c.hand_over.new.tries c.loop-section.page (report_text s) c.hand_over.result written c.hand_over.ensures.written

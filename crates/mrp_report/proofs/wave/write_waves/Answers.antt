@@ -2,8 +2,8 @@ use Rattle.std.proofs.Common.{◌≡◌, ◌∙◌, ◌<◌, ℕ, List, [], leng
 use Rattle.std.proofs.lemmas.List.{length-take}
 use Rattle.mrp_report.specs.wave.Chunks.{between, count_of, end_of, row_of, rows_in}
 use Rattle.mrp_report.proofs.lemmas.wave.ChunkTexts.{reach-past, rows-between}
-use Rattle.mrp_report.proofs.lemmas.wave.PlacesWritten.{next-wave, wave-front}
-use Rattle.mrp_report.proofs.Progress.{IsWritten, given-up, gone-on-then, on-err, taken-whole}
+use Rattle.mrp_report.proofs.lemmas.wave.PlacesWritten.{next-wave, wave-failed}
+use Rattle.mrp_report.proofs.Progress.{IsWritten, ends-done, taken-whole}
 use Rattle.mrp_report.proofs.wave.write_waves.Goals as goal
 
 pub loop-from-preserved : goal.loop-from-preserved
@@ -26,26 +26,17 @@ loop-from-smaller g c =
     let past : c.loop-from.from < end_of chunks c.loop-from.from c.min-size.result = reach-past (count_of chunks) chunks.size c.loop-from.from c.min-size.result within c.left.ensures.filled some in
     omega (arith, past, within, c.reach-from.ensures, c.count-count.ensures)
 
-pub returns-in_err-write_wave-clause-front : goal.returns-in_err-write_wave-clause-front
-returns-in_err-write_wave-clause-front g c =
-    on-err c.from_residual.result
-    (wave-front g.W.Write.contents c.args.writer.now c.args.tries.now c.loop-from.writer c.write_wave.new.writer c.loop-from.tries c.args.chunks.now c.loop-from.from (length (take c.min-size.result c.loop-from.slots)) c.loop-from.invariant.0
-    c.loop-from.invariant.1 c.in_err-write_wave.ensures.front)
+pub returns-in_err-write_wave : goal.returns-in_err-write_wave
+returns-in_err-write_wave g c =
+    wave-failed g.W.Write.contents c.args.writer.now c.args.tries.now c.loop-from.writer c.write_wave.new.writer c.loop-from.tries c.write_wave.new.tries c.args.chunks.now c.loop-from.from
+    (length (take c.min-size.result c.loop-from.slots)) _ c.from_residual.result c.loop-from.invariant.0 c.loop-from.invariant.1 c.in_err-write_wave.ensures (search rules)
 
-pub returns-in_err-write_wave-clause-refused : goal.returns-in_err-write_wave-clause-refused
-returns-in_err-write_wave-clause-refused g c refused =
-    given-up g.W.Write.contents c.args.writer.now c.loop-from.writer c.write_wave.new.writer c.args.tries.now c.loop-from.tries [] (between (row_of c.args.chunks.now) 0 c.loop-from.from) c.loop-from.invariant.1
-    (c.in_err-write_wave.ensures.refused (search rules))
-
-pub returns-in_err-write_wave-clause-memory : goal.returns-in_err-write_wave-clause-memory
-returns-in_err-write_wave-clause-memory g c refused =
-    gone-on-then g.W.Write.contents c.args.writer.now c.loop-from.writer c.write_wave.new.writer c.args.tries.now c.loop-from.tries [] (between (row_of c.args.chunks.now) 0 c.loop-from.from) c.loop-from.invariant.1
-    (c.in_err-write_wave.ensures.memory (search rules))
-
-pub returns-clause-whole : goal.returns-clause-whole
-returns-clause-whole g c =
+pub returns : goal.returns
+returns g c =
     let chunks = c.args.chunks.now in
+    let w = c.loop-from.invariant.1 in
     let all : c.loop-from.from ≡ count_of chunks = omega (arith, c.loop-from.invariant.0, c.loop-from-test.false) in
     let whole : between (row_of chunks) 0 c.loop-from.from ≡ rows_in chunks = ap (between (row_of chunks) 0) all ∙ sym (rows-between chunks) in
-    taken-whole g.W.Write.contents c.args.writer.now c.loop-from.writer c.args.tries.now c.loop-from.tries (rows_in chunks)
-    (subst (λ (t : List ℕ). IsWritten g.W.Write.contents c.args.writer.now c.loop-from.writer c.args.tries.now c.loop-from.tries [] t) whole c.loop-from.invariant.1)
+    ends-done g.W.Write.contents c.args.writer.now c.loop-from.writer (rows_in chunks) c.args.tries.now c.loop-from.tries w.within
+    (taken-whole g.W.Write.contents c.args.writer.now c.loop-from.writer c.args.tries.now c.loop-from.tries (rows_in chunks)
+    (subst (λ (t : List ℕ). IsWritten g.W.Write.contents c.args.writer.now c.loop-from.writer c.args.tries.now c.loop-from.tries [] t) whole w))
