@@ -54,9 +54,9 @@ impl<'a> Called<'a> {
     {
         match call {
             Call::Book(line) => Called {
-                item: Cell::Name(names.item(line.item)),
-                week: Cell::Number(u64::from(line.week)),
-                quantity: Cell::Number(line.quantity.value()),
+                item: Cell::Name(names.item(line.item())),
+                week: Cell::Number(u64::from(line.week())),
+                quantity: Cell::Number(line.quantity().value()),
                 ..Called::word(Word::Book)
             },
             Call::Cancel(number) => Called {
@@ -64,13 +64,13 @@ impl<'a> Called<'a> {
                 ..Called::word(Word::CancelBooking)
             },
             Call::Ask(spot) => Called {
-                item: Cell::Name(names.item(spot.item)),
-                week: Cell::Number(u64::from(spot.week)),
+                item: Cell::Name(names.item(spot.item())),
+                week: Cell::Number(u64::from(spot.week())),
                 ..Called::word(Word::Ask)
             },
             Call::When(wish) => Called {
-                item: Cell::Name(names.item(wish.item)),
-                quantity: Cell::Number(wish.quantity.value()),
+                item: Cell::Name(names.item(wish.item())),
+                quantity: Cell::Number(wish.quantity().value()),
                 ..Called::word(Word::When)
             },
             Call::Snapshot => Called::word(Word::Run),
