@@ -22,7 +22,7 @@ const LEAST_ITEMS: usize = 64;
 // An item whose place is a multiple of this asks for the room of so many.
 const ITEMS_OF_ROOM: usize = 8;
 
-// The bytes of that room: an item with an order in each of 104 weeks keeps some 5,000, and its planning takes others.
+// The bytes of that room: an item with an order in each of 104 weeks keeps some 6,700, and its planning takes others.
 const ROOM: usize = 60_000;
 
 // The room that is asked for at an item: that of some items at once, or none. Given back, it is the thread's own heap's.
