@@ -47,11 +47,11 @@ fn due_of_booking(booking: &Booking) -> Numbered<Due>
 {
     let line = booking.line;
     Numbered {
-        number: line.item,
+        number: line.item(),
         value: Due {
             number: booking.number,
-            week: line.week,
-            quantity: line.quantity,
+            week: line.week(),
+            quantity: line.quantity(),
         },
     }
 }
