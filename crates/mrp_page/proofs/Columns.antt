@@ -10,7 +10,7 @@ use Rattle.mrp_page.specs.Pictures.{drawn_balance, drawn_load}
 use Rattle.mrp_page.specs.Row.{RowView}
 use Rattle.mrp_page.specs.Rows.{rows_in, rows_named}
 use Rattle.mrp_page.specs.Template.{row_html, rows_html}
-use Rattle.mrp_page.specs.declared.section.Section.TheVariants as s
+use Rattle.mrp_day.specs.declared.section.Section.TheVariants as s
 
 pub record-is : (report : List RowView) (name : List ℕ) → named_record (item_lists report) name ≡ record_or_none name (rows_named name (rows_in s.Plan report)) (rows_named name (rows_in s.Promises report))
 unfolding named_record

@@ -7,7 +7,7 @@ use Rattle.mrp_page.specs.Notes.{Noted, history_rows, is_shown, none_noted, note
 use Rattle.mrp_page.specs.Row.{Cells, RowView}
 use Rattle.mrp_page.specs.Section.{is_history}
 use Rattle.mrp_page.specs.Spot.{Names, after, begins_run}
-use Rattle.mrp_page.specs.declared.section.Section.{Section}
+use Rattle.mrp_day.specs.declared.section.Section.{Section}
 use Rattle.mrp_page.specs.declared.spot.Spot.{Spot}
 
 -- a row whose cells are one of these records

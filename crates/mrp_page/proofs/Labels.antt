@@ -12,7 +12,7 @@ use Rattle.mrp_page.specs.Labels.{AreFirm}
 use Rattle.mrp_page.specs.Layout.{firm_label, scheduled_label}
 use Rattle.mrp_page.specs.Row.{RowView, cell_at, same_text}
 use Rattle.mrp_page.specs.Rows.{greatest, higher, rank, ranked}
-use Rattle.mrp_page.specs.declared.section.Section.TheVariants as s
+use Rattle.mrp_day.specs.declared.section.Section.TheVariants as s
 use Rattle.mrp_page.proofs.NamesOnce.{text-same}
 
 -- a number by which texts are compared does not fall with more digits

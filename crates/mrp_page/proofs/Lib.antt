@@ -15,3 +15,4 @@ pub mod SectionRows
 pub mod ShownItems
 pub mod Todo
 pub mod Labels
+pub mod Steps

@@ -9,7 +9,7 @@ use Rattle.mrp_page.specs.Page.{items_of, load_section, page_html, page_of, rest
 use Rattle.mrp_page.specs.Row.{RowView, cell_at}
 use Rattle.mrp_page.specs.Rows.{rows_in}
 use Rattle.mrp_page.specs.Template.{row_html}
-use Rattle.mrp_page.specs.declared.section.Section.TheVariants as s
+use Rattle.mrp_day.specs.declared.section.Section.TheVariants as s
 use Rattle.mrp_page.specs.Unshown.{unshown}
 
 pub link-is : (name : List ℕ) → link_html name ≡ codes "<a href=\"#i-" ++ (escaped name ++ (codes "\">" ++ (escaped name ++ codes "</a>")))

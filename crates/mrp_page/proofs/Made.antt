@@ -23,8 +23,8 @@ use Rattle.mrp_page.specs.Rows.{greatest, higher, leader_rows, leaders, rank, ro
 use Rattle.mrp_page.specs.Template.{Drawn, Mark, Number, Text, Where, has_word, number_at, numbers_html, part_html, row_html, rows_html}
 use Rattle.mrp_page.specs.declared.limits.TheConstants.{MOST_ITEMS}
 use Rattle.mrp_page.specs.declared.counts.Counts.{Counts}
-use Rattle.mrp_page.specs.declared.section.Section.{Section}
-use Rattle.mrp_page.specs.declared.section.Section.TheVariants as s
+use Rattle.mrp_day.specs.declared.section.Section.{Section}
+use Rattle.mrp_day.specs.declared.section.Section.TheVariants as s
 use Rattle.mrp_page.specs.Unshown.{unshown}
 
 -- what one of the parts has, all of them have

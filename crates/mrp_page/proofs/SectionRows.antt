@@ -2,19 +2,20 @@
 use Rattle.std.proofs.Common.{◌≡◌, ◌∙◌, ◌⊎◌, ◌+◌, ◌*◌, ◌<◌, ◌≤◌, ℕ, zero, suc, Bool, true, false, not, List, [], ◌∷◌, ◌++◌, Option, Some, None, length, take, drop, refl, sym, ap, subst, arith, inl, inr, append_assoc}
 use Rattle.std.specs.Prelude.{◌&&◌, ◌||◌, ◌==◌, if◌then◌else◌}
 use Rattle.std.specs.List.{All, before_first, list_any, position_or_len}
-use Rattle.std.proofs.lemmas.Bool.{and_right, cases_lt, eqb-true, false_from_ne_true, ne_eqb}
+use Rattle.std.proofs.lemmas.Bool.{and_right, both_ways, cases_lt, eqb-true, false_from_ne_true, ne_eqb}
 use Rattle.std.proofs.lemmas.List.{append-nil, get_or_append_left, length-append}
 use Rattle.std.proofs.lemmas.List.Elements.{All-cons, All-head, All-nil, All-tail}
 use Rattle.mrp_page.specs.Notes.{counts_at, counts_if, is_shown, rows_taken}
 use Rattle.mrp_page.specs.Row.{Cells, RowView, is_in}
 use Rattle.mrp_page.specs.Rows.{stretch}
-use Rattle.mrp_page.specs.Section.{columns_of, is_history, line_of, next_of, place_of}
+use Rattle.mrp_day.specs.Sections.{columns_of, line_of}
+use Rattle.mrp_page.specs.Section.{is_history, next_of, place_of}
 use Rattle.mrp_page.specs.Shown.{StandTogether, is_row_of, row_if, rows_from, runs_from, runs_with}
 use Rattle.mrp_page.specs.Spot.{begins_run, begun, inside, is_run, is_wrong, place_after, place_from, same_cells, section_if}
 use Rattle.mrp_page.proofs.KeptItems.{IsItemSection}
 use Rattle.mrp_page.specs.declared.counts.Counts.{Counts}
-use Rattle.mrp_page.specs.declared.section.Section.{Section}
-use Rattle.mrp_page.specs.declared.section.Section.TheVariants as s
+use Rattle.mrp_day.specs.declared.section.Section.{Section}
+use Rattle.mrp_day.specs.declared.section.Section.TheVariants as s
 use Rattle.mrp_page.specs.declared.spot.Place.{Place}
 use Rattle.mrp_page.specs.declared.spot.Place.TheVariants as place
 use Rattle.mrp_page.specs.declared.spot.Spot.{Spot}
@@ -123,6 +124,16 @@ at-place s.Pegs = refl
 at-place s.Messages = refl
 at-place s.Loads = refl
 
+pub place-most : (x : Section) → place_of x ≤ 7
+place-most s.History = omega arith
+place-most s.Run = omega arith
+place-most s.Promises = omega arith
+place-most s.Plan = omega arith
+place-most s.Orders = omega arith
+place-most s.Pegs = omega arith
+place-most s.Messages = omega arith
+place-most s.Loads = omega arith
+
 -- two sections of one place are one
 pub same-place : (x y : Section) → place_of x ≡ place_of y → x ≡ y
 same-place x y e = sym (at-place x) ∙ ap section_at e ∙ at-place y
@@ -173,7 +184,7 @@ after-line x c = by (same_cells c (columns_of x))
     by true = inl refl
     by false = inr refl
 
-after-begun : (x : Section) (c : Cells) → (begun x c ≡ place.Line x) ⊎ (begun x c ≡ place.Wrong)
+pub after-begun : (x : Section) (c : Cells) → (begun x c ≡ place.Line x) ⊎ (begun x c ≡ place.Wrong)
 after-begun x c = by (same_cells c (line_of x ∷ []))
   where
     by : (b : Bool) → ((if b then place.Line x else place.Wrong) ≡ place.Line x) ⊎ ((if b then place.Line x else place.Wrong) ≡ place.Wrong)
@@ -191,11 +202,11 @@ after-rows x c = by (length c == length (columns_of x))
 abbrev pub Nears : Section → Place → Type 0
 Nears S next = (next ≡ place.Header S) ⊎ ((stage next ≤ 3 * place_of S + 1) ⊎ (next ≡ place.Wrong))
 
-near-rows : (S : Section) → IsItemSection S → (x : Section) → place_of x < place_of S → (c : Cells) → Nears S (inside x c)
-near-rows S is x before c = by (after-rows x c)
+near-rows : (S : Section) → 2 ≤ place_of S → (x : Section) → place_of x < place_of S → (c : Cells) → Nears S (inside x c)
+near-rows S low x before c = by (after-rows x c)
   where
     next : inside x c ≡ place.Line (next_of x) → (is_run (next_of x) ≡ true) ⊎ ((place_of (next_of x) ≡ place_of x + 1) × (is_run (next_of x) ≡ false)) → Nears S (inside x c)
-    next e (inl runs) = inr (inl (rw e (omega (arith, run-place (next_of x) runs, is.first))))
+    next e (inl runs) = inr (inl (rw e (omega (arith, run-place (next_of x) runs, low))))
     next e (inr more) = inr (inl (rw e (omega (arith, more.0))))
 
     by : (inside x c ≡ place.Row x) ⊎ ((inside x c ≡ place.Line (next_of x)) ⊎ (inside x c ≡ place.Wrong)) → Nears S (inside x c)
@@ -221,12 +232,12 @@ near-front S c = by (after-begun s.History c)
     by (inl e) = inr (inl (rw e (omega arith)))
     by (inr e) = inr (inr e)
 
-pub near : (S : Section) → IsItemSection S → (here : Place) → stage here ≤ 3 * place_of S + 1 → (c : Cells) → Nears S (place_after here c)
-near S is place.Front low c = near-front S c
-near S is (place.Line x) low c = near-line S x (omega arith) c
-near S is (place.Header x) low c = near-rows S is x (omega arith) c
-near S is (place.Row x) low c = near-rows S is x (omega arith) c
-near S is place.Wrong low c = absurd (omega (arith, is.last))
+pub near : (S : Section) → 2 ≤ place_of S → (here : Place) → stage here ≤ 3 * place_of S + 1 → (c : Cells) → Nears S (place_after here c)
+near S low place.Front before c = near-front S c
+near S low (place.Line x) before c = near-line S x (omega arith) c
+near S low (place.Header x) before c = near-rows S low x (omega arith) c
+near S low (place.Row x) before c = near-rows S low x (omega arith) c
+near S low place.Wrong before c = absurd (omega (arith, place-most S))
 
 -- in a report no run begins before such a section
 abbrev pub IsInReport : Place → Type 0
@@ -255,59 +266,82 @@ report-line x low c = by (after-line x c)
     by (inl e) = rw e (refl, omega arith)
     by (inr e) = rw e (refl, omega arith)
 
-pub in-report : (S : Section) → IsItemSection S → (here : Place) → 4 ≤ stage here → stage here ≤ 3 * place_of S + 1 → (c : Cells) → IsInReport (place_after here c)
-in-report S is place.Front low high c = absurd (omega arith)
-in-report S is (place.Line x) low high c = report-line x (omega arith) c
-in-report S is (place.Header x) low high c = report-rows x (omega arith) (omega (arith, is.last)) c
-in-report S is (place.Row x) low high c = report-rows x (omega arith) (omega (arith, is.last)) c
-in-report S is place.Wrong low high c = absurd (omega (arith, is.last))
+pub in-report : (S : Section) → (here : Place) → 4 ≤ stage here → stage here ≤ 3 * place_of S + 1 → (c : Cells) → IsInReport (place_after here c)
+in-report S place.Front low high c = absurd (omega arith)
+in-report S (place.Line x) low high c = report-line x (omega arith) c
+in-report S (place.Header x) low high c = report-rows x (omega arith) (omega (arith, place-most S)) c
+in-report S (place.Row x) low high c = report-rows x (omega arith) (omega (arith, place-most S)) c
+in-report S place.Wrong low high c = absurd (omega (arith, place-most S))
+
+rows-stay : (x : Section) → 1 ≤ place_of x → (c : Cells) → 4 ≤ stage (inside x c)
+rows-stay x low c = by (after-rows x c)
+  where
+    next : (is_run (next_of x) ≡ true) ⊎ ((place_of (next_of x) ≡ place_of x + 1) × (is_run (next_of x) ≡ false)) → 4 ≤ stage (place.Line (next_of x))
+    next (inl runs) = omega (arith, run-place (next_of x) runs)
+    next (inr more) = omega (arith, more.0)
+
+    by : (inside x c ≡ place.Row x) ⊎ ((inside x c ≡ place.Line (next_of x)) ⊎ (inside x c ≡ place.Wrong)) → 4 ≤ stage (inside x c)
+    by (inl e) = rw e (omega arith)
+    by (inr (inl e)) = rw e (next (next-section x))
+    by (inr (inr e)) = rw e (omega arith)
+
+-- behind the history reports follow
+pub stays-in-report : (here : Place) → 4 ≤ stage here → (c : Cells) → 4 ≤ stage (place_after here c)
+stays-in-report place.Front high c = absurd (omega arith)
+stays-in-report (place.Line x) high c = (report-line x (omega arith) c).1
+stays-in-report (place.Header x) high c = rows-stay x (omega arith) c
+stays-in-report (place.Row x) high c = rows-stay x (omega arith) c
+stays-in-report place.Wrong high c = omega arith
 
 -- behind such a section the next run begins, or the report goes on
 abbrev pub GoesOn : Section → Place → Type 0
 GoesOn S next = (begins_run next ≡ true) ⊎ ((begins_run next ≡ false) × (3 * place_of S + 3 < stage next))
 
-on-rows : (S : Section) → IsItemSection S → (x : Section) → place_of S < place_of x → (c : Cells) → GoesOn S (inside x c)
-on-rows S is x behind c = by (after-rows x c)
+-- behind a row the section goes on, or the report, or the next run begins
+after-row : (S x : Section) → place_of S ≤ place_of x → (c : Cells) → (inside x c ≡ place.Row x) ⊎ GoesOn S (inside x c)
+after-row S x least c = by (after-rows x c)
   where
     next : inside x c ≡ place.Line (next_of x) → (is_run (next_of x) ≡ true) ⊎ ((place_of (next_of x) ≡ place_of x + 1) × (is_run (next_of x) ≡ false)) → GoesOn S (inside x c)
     next e (inl runs) = inl (rw e runs)
     next e (inr more) = inr (rw e (more.1, omega (arith, more.0)))
 
-    by : (inside x c ≡ place.Row x) ⊎ ((inside x c ≡ place.Line (next_of x)) ⊎ (inside x c ≡ place.Wrong)) → GoesOn S (inside x c)
-    by (inl e) = inr (rw e (refl, omega arith))
-    by (inr (inl e)) = next e (next-section x)
-    by (inr (inr e)) = inr (rw e (refl, omega (arith, is.last)))
+    by : (inside x c ≡ place.Row x) ⊎ ((inside x c ≡ place.Line (next_of x)) ⊎ (inside x c ≡ place.Wrong)) → (inside x c ≡ place.Row x) ⊎ GoesOn S (inside x c)
+    by (inl e) = inl e
+    by (inr (inl e)) = inr (next e (next-section x))
+    by (inr (inr e)) = inr (inr (rw e (refl, omega (arith, place-most S))))
 
-on-line : (S : Section) → IsItemSection S → (x : Section) → place_of S < place_of x → (c : Cells) → GoesOn S (place_after (place.Line x) c)
-on-line S is x behind c = by (after-line x c)
+pub rows-leave : (S : Section) (c : Cells) → (inside S c ≡ place.Row S) ⊎ GoesOn S (inside S c)
+rows-leave S c = after-row S S (omega arith) c
+
+on-rows : (S x : Section) → place_of S < place_of x → (c : Cells) → GoesOn S (inside x c)
+on-rows S x behind c = by (after-row S x (omega arith) c)
+  where
+    by : (inside x c ≡ place.Row x) ⊎ GoesOn S (inside x c) → GoesOn S (inside x c)
+    by (inl e) = inr (rw e (refl, omega arith))
+    by (inr on) = on
+
+on-line : (S x : Section) → place_of S < place_of x → (c : Cells) → GoesOn S (place_after (place.Line x) c)
+on-line S x behind c = by (after-line x c)
   where
     by : (place_after (place.Line x) c ≡ place.Header x) ⊎ (place_after (place.Line x) c ≡ place.Wrong) → GoesOn S (place_after (place.Line x) c)
     by (inl e) = inr (rw e (refl, omega arith))
-    by (inr e) = inr (rw e (refl, omega (arith, is.last)))
+    by (inr e) = inr (rw e (refl, omega (arith, place-most S)))
 
-pub goes-on : (S : Section) → IsItemSection S → (here : Place) → 3 * place_of S + 3 < stage here → (c : Cells) → GoesOn S (place_after here c)
-goes-on S is place.Front high c = absurd (omega arith)
-goes-on S is (place.Line x) high c = on-line S is x (omega arith) c
-goes-on S is (place.Header x) high c = on-rows S is x (omega arith) c
-goes-on S is (place.Row x) high c = on-rows S is x (omega arith) c
-goes-on S is place.Wrong high c = inr (refl, omega (arith, is.last))
+pub goes-on : (S : Section) → (here : Place) → 3 * place_of S + 3 < stage here → (c : Cells) → GoesOn S (place_after here c)
+goes-on S place.Front high c = absurd (omega arith)
+goes-on S (place.Line x) high c = on-line S x (omega arith) c
+goes-on S (place.Header x) high c = on-rows S x (omega arith) c
+goes-on S (place.Row x) high c = on-rows S x (omega arith) c
+goes-on S place.Wrong high c = inr (refl, omega (arith, place-most S))
 
--- in such a section its rows go on, or the report
+-- among the rows of a section before the last no run begins
 pub rows-go-on : (S : Section) → IsItemSection S → (c : Cells) → (inside S c ≡ place.Row S) ⊎ ((begins_run (inside S c) ≡ false) × (3 * place_of S + 3 < stage (inside S c)))
-rows-go-on S is c = by (after-rows S c)
+rows-go-on S is c = by (rows-leave S c)
   where
-    next : inside S c ≡ place.Line (next_of S) → (is_run (next_of S) ≡ true) ⊎ ((place_of (next_of S) ≡ place_of S + 1) × (is_run (next_of S) ≡ false)) → (begins_run (inside S c) ≡ false) × (3 * place_of S + 3 < stage (inside S c))
-    next e (inl runs) = absurd (ends (history-or-loads S runs))
-      where
-        ends : (place_of S ≡ 0) ⊎ (place_of S ≡ 7) → ⊥
-        ends (inl e) = omega (arith, is.first)
-        ends (inr e) = omega (arith, is.last)
-    next e (inr more) = rw e (more.1, omega (arith, more.0))
-
-    by : (inside S c ≡ place.Row S) ⊎ ((inside S c ≡ place.Line (next_of S)) ⊎ (inside S c ≡ place.Wrong)) → (inside S c ≡ place.Row S) ⊎ ((begins_run (inside S c) ≡ false) × (3 * place_of S + 3 < stage (inside S c)))
+    by : (inside S c ≡ place.Row S) ⊎ GoesOn S (inside S c) → (inside S c ≡ place.Row S) ⊎ ((begins_run (inside S c) ≡ false) × (3 * place_of S + 3 < stage (inside S c)))
     by (inl e) = inl e
-    by (inr (inl e)) = inr (next e (next-section S))
-    by (inr (inr e)) = inr (rw e (refl, omega (arith, is.last)))
+    by (inr (inl begun)) = absurd (both_ways (begins_run (inside S c)) (report-rows S (omega (arith, is.first)) is.last c).0 begun)
+    by (inr (inr on)) = inr on
 
 -- a row of a section stands at its stage
 row-stage : (S : Section) (here : Place) → is_row_of S here ≡ true → stage here ≡ 3 * place_of S + 3
@@ -391,22 +425,22 @@ items-unshown asked spot place.Wrong counts e = refl
 
 -- the first stretch of elements that pass, between others
 module _ {A : Type 0} (p : A → Bool) where
-  skip : (x : A) (xs : List A) → p x ≡ false → stretch p (x ∷ xs) ≡ stretch p xs
+  pub skip : (x : A) (xs : List A) → p x ≡ false → stretch p (x ∷ xs) ≡ stretch p xs
   skip x xs e =
       let next : position_or_len p (x ∷ xs) ≡ suc (position_or_len p xs) = rw e (omega arith) in
       ap (λ (k : ℕ). before_first (λ y. not (p y)) (drop k (x ∷ xs))) next
 
-  begins : (x : A) (xs : List A) → p x ≡ true → before_first (λ y. not (p y)) (x ∷ xs) ≡ x ∷ before_first (λ y. not (p y)) xs
+  pub begins : (x : A) (xs : List A) → p x ≡ true → before_first (λ y. not (p y)) (x ∷ xs) ≡ x ∷ before_first (λ y. not (p y)) xs
   begins x xs e =
       let next : position_or_len (λ y. not (p y)) (x ∷ xs) ≡ suc (position_or_len (λ y. not (p y)) xs) = rw e (omega arith) in
       ap (λ (k : ℕ). take k (x ∷ xs)) next
 
-  here : (x : A) (xs : List A) → p x ≡ true → stretch p (x ∷ xs) ≡ x ∷ before_first (λ y. not (p y)) xs
+  pub here : (x : A) (xs : List A) → p x ≡ true → stretch p (x ∷ xs) ≡ x ∷ before_first (λ y. not (p y)) xs
   here x xs e =
       let none : position_or_len p (x ∷ xs) ≡ 0 = rw e refl in
       ap (λ (k : ℕ). before_first (λ y. not (p y)) (drop k (x ∷ xs))) none ∙ begins x xs e
 
-  ends : (back : List A) → All (λ x. p x ≡ false) back → before_first (λ y. not (p y)) back ≡ []
+  pub ends : (back : List A) → All (λ x. p x ≡ false) back → before_first (λ y. not (p y)) back ≡ []
   ends [] all = refl
   ends (x ∷ back) all =
       let none : position_or_len (λ y. not (p y)) (x ∷ back) ≡ 0 = rw (All-head (λ y. p y ≡ false) x back all) refl in

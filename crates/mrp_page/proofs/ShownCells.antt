@@ -14,7 +14,7 @@ use Rattle.mrp_page.specs.Page.{head_html, items_of, load_section, page_html, pa
 use Rattle.mrp_page.specs.Row.{RowView, cell_at}
 use Rattle.mrp_page.specs.Rows.{rows_in}
 use Rattle.mrp_page.specs.Template.{Drawn, Mark, Number, Text, Where, part_html, row_html}
-use Rattle.mrp_page.specs.declared.section.Section.TheVariants as s
+use Rattle.mrp_day.specs.declared.section.Section.TheVariants as s
 
 part-is : (row : RowView) (part : Drawn) → part_html row part ≡ flat_map piece_html (part_pieces row part)
 part-is row (Mark markup) = sym (append-nil markup)

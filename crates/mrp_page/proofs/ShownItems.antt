@@ -1,31 +1,32 @@
 -- The items that a page shows are the first of all that it is to show.
 use Rattle.std.proofs.Common.{◌≡◌, ◌≢◌, ◌∙◌, ◌⊎◌, ◌+◌, ◌*◌, ◌-◌, ◌^◌, ◌<◌, ◌≤◌, ℕ, Bool, true, false, not, List, [], ◌∷◌, ◌++◌, Option, Some, None, length, map, take, refl, sym, ap, subst, arith, inl, inr, append_assoc}
-use Rattle.std.specs.Prelude.{◌&&◌, ◌||◌, ◌==◌, if◌then◌else◌, is_some, min}
+use Rattle.std.specs.Prelude.{◌&&◌, ◌||◌, if◌then◌else◌, is_some}
 use Rattle.std.specs.List.{All, flat_map, list_any}
-use Rattle.std.proofs.lemmas.Bool.{and_left, and_parts, and_right, both_ways, cases_lt, eq-eqb, false_from_ne_true, leb-true, ne_eqb}
+use Rattle.std.proofs.lemmas.Bool.{and_parts, both_ways, cases_lt, eq-eqb, false_from_ne_true, leb-true}
 use Rattle.std.proofs.lemmas.Cmp.{nat_list_eq_equiv}
 use Rattle.std.proofs.lemmas.List.{append-nil, length_push, length-append, map-append, map_push, take-map}
 use Rattle.std.proofs.lemmas.List.Elements.{All-append, All-head, All-nil, All-push, All-tail}
 use Rattle.mrp_page.specs.Known.{names_shown}
-use Rattle.mrp_page.specs.Notes.{Noted, counts_at, has_run, is_shown, none_noted, noted, noted_from, notes_of, rows_left, rows_taken}
+use Rattle.mrp_page.specs.Notes.{Noted, counts_at, has_run, is_shown, none_noted, noted, noted_from, notes_of, rows_taken}
 use Rattle.mrp_page.specs.Page.{is_told, shown_items, told_first, untold_rows}
 use Rattle.mrp_page.specs.Reading.{IsDayOf}
 use Rattle.mrp_page.specs.Row.{Cells, RowView, cell_at, is_in, is_of, same_text}
 use Rattle.mrp_page.specs.Rows.{leader_rows, leaders, rows_in, rows_named, stretch}
 use Rattle.mrp_page.specs.Section.{place_of}
-use Rattle.mrp_page.specs.Shown.{IsByItems, StandTogether, each_once, has_name, is_row_of, items_in, items_of_plan, items_to_show, others, row_if, row_names, rows_from, rows_of, run_shown, runs_from, runs_of, runs_with}
-use Rattle.mrp_page.specs.Spot.{Names, after, begins_run, inside, is_end, is_loads, is_wanted, is_wrong, leads, place_after, place_from, room_at, run_at, section_if, spot_at, starts_at, wants}
+use Rattle.mrp_page.specs.Shown.{IsByItems, StandTogether, each_once, has_name, is_row_of, items_in, items_of_plan, items_to_show, others, row_names, rows_from, rows_of, run_shown, runs_from, runs_of}
+use Rattle.mrp_page.specs.Spot.{Names, after, begins_run, inside, is_end, is_loads, is_wanted, is_wrong, leads, place_after, place_from, room_at, section_if, spot_at, starts_at, wants}
 use Rattle.mrp_page.specs.Spot.{place_of as place_in}
 use Rattle.mrp_page.specs.declared.limits.TheConstants.{MOST_ITEMS}
-use Rattle.mrp_page.specs.declared.section.Section.{Section}
-use Rattle.mrp_page.specs.declared.section.Section.TheVariants as s
+use Rattle.mrp_day.specs.declared.section.Section.{Section}
+use Rattle.mrp_day.specs.declared.section.Section.TheVariants as s
 use Rattle.mrp_page.specs.declared.spot.Place.{Place}
 use Rattle.mrp_page.specs.declared.spot.Place.TheVariants as place
 use Rattle.mrp_page.specs.declared.spot.Spot.{Spot}
 use Rattle.mrp_page.proofs.KeptItems.{Inside, IsItemSection, inside-more, inside-none, leader_names, name_of, of-messages, of-plan, wants-asked, with_row}
 use Rattle.mrp_page.proofs.Made.{all-leaders}
 use Rattle.mrp_page.proofs.NamesOnce.{Keeps, first-shown, items-distinct, keeps-none, text-same}
-use Rattle.mrp_page.proofs.SectionRows.{goes-on, in-report, items-header, items-kept, items-row, items-unshown, near, no-row, none-added, others-added, place-more, row-added, rows-append, rows-go-on, rows-later, rows-more, run-stage, runs-more, runs-most, stage, stand-front, stretch-between, stretch-some, wrong-stays}
+use Rattle.mrp_page.proofs.Steps.{FreshRun, SameRun, Step, step-of}
+use Rattle.mrp_page.proofs.SectionRows.{goes-on, in-report, items-header, items-kept, items-row, items-unshown, near, no-row, others-added, row-added, rows-append, rows-go-on, rows-later, run-stage, stage, stand-front, stretch-between, stretch-some, wrong-stays}
 
 -- what is kept of all rows of a section
 record KeptOf (items : Names) (rows : List Cells) (kept : List RowView) : Type 0 where
@@ -43,7 +44,7 @@ loads-place s.Messages e = absurd cc
 loads-place s.Loads e = refl
 
 -- a day may end in the loads of a run
-end-stage : (here : Place) → is_end here ≡ true → (23 ≤ stage here) × (is_wrong here ≡ false)
+pub end-stage : (here : Place) → is_end here ≡ true → (23 ≤ stage here) × (is_wrong here ≡ false)
 end-stage place.Front e = absurd cc
 end-stage (place.Line x) e = absurd cc
 end-stage (place.Header x) e = (omega (arith, loads-place x e), refl)
@@ -129,75 +130,14 @@ module _ (items : Names) (asked : Option ℕ) (S : Section) (is : IsItemSection 
     abbrev added : List RowView
     added = rows_taken (is_shown asked next_spot.run) (section_if (takes_at here) here) c
 
-    here-is : here ≡ place_in more
-    here-is = ap (λ (q : Place). place_after q c) inv.place ∙ sym (place-more place.Front done c)
+    abbrev Same : Type 0
+    Same = SameRun items asked S done n c
 
-    runs-is : runs_of more ≡ runs_with (runs_of done) here
-    runs-is = runs-more 0 place.Front done c ∙ ap (λ (q : Place). runs_with (runs_of done) (place_after q c)) (sym inv.place)
+    abbrev Fresh : Type 0
+    Fresh = FreshRun items asked S done n c
 
-    run-is : next_spot.run ≡ runs_of more
-    run-is = ap (λ (m : ℕ). run_at m here) inv.runs ∙ by (begins_run here) ∙ sym runs-is
-      where
-        by : (b : Bool) → (if b then min (runs_of done + 1) (2 ^ 64 - 1) else runs_of done) ≡ (if b then runs_of done + 1 else runs_of done)
-        by true = omega (arith, runs-most 0 place.Front done)
-        by false = refl
-
-    begun-run : begins_run here ≡ true → runs_of more ≡ runs_of done + 1
-    begun-run e = runs-is ∙ ap (λ (b : Bool). if b then runs_of done + 1 else runs_of done) e
-
-    same-run : begins_run here ≡ false → runs_of more ≡ runs_of done
-    same-run e = runs-is ∙ ap (λ (b : Bool). if b then runs_of done + 1 else runs_of done) e
-
-    is-shown : runs_of more ≡ shown_in more → is_shown asked next_spot.run ≡ true
-    is-shown e = ap (is_shown asked) run-is ∙ by asked e
-      where
-        by : (a : Option ℕ) → runs_of more ≡ run_shown a more → is_shown a (runs_of more) ≡ true
-        by None same = refl
-        by (Some number) same = eq-eqb number (runs_of more) (sym same)
-
-    not-shown : (runs_of more ≡ shown_in more → ⊥) → is_shown asked next_spot.run ≡ false
-    not-shown e = ap (is_shown asked) run-is ∙ by asked e
-      where
-        by : (a : Option ℕ) → (runs_of more ≡ run_shown a more → ⊥) → is_shown a (runs_of more) ≡ false
-        by None other = absurd (other refl)
-        by (Some number) other = ne_eqb number (runs_of more) (λ same. other (sym same))
-
-    rows-are : section_rows more ≡ rows_of S (shown_in more) done ++ row_if (is_row_of S here && (runs_of more == shown_in more)) c
-    rows-are =
-        rows-more S (shown_in more) 0 place.Front done c
-        ∙ ap (λ (q : Place). rows_of S (shown_in more) done ++ row_if (is_row_of S (place_after q c) && (runs_with (runs_of done) (place_after q c) == shown_in more)) c) (sym inv.place)
-        ∙ ap (λ (m : ℕ). rows_of S (shown_in more) done ++ row_if (is_row_of S here && (m == shown_in more)) c) (sym runs-is)
-
-    rows-other : is_row_of S here ≡ false → section_rows more ≡ rows_of S (shown_in more) done
-    rows-other e = rows-are ∙ ap (λ (b : Bool). rows_of S (shown_in more) done ++ row_if b c) (and_left (is_row_of S here) (runs_of more == shown_in more) e) ∙ append-nil (rows_of S (shown_in more) done)
-
-    rows-unshown : (runs_of more ≡ shown_in more → ⊥) → section_rows more ≡ rows_of S (shown_in more) done
-    rows-unshown e =
-        rows-are ∙ ap (λ (b : Bool). rows_of S (shown_in more) done ++ row_if b c) (and_right (is_row_of S here) (runs_of more == shown_in more) (ne_eqb (runs_of more) (shown_in more) e)) ∙ append-nil (rows_of S (shown_in more) done)
-
-    rows-added : here ≡ place.Row S → runs_of more ≡ shown_in more → section_rows more ≡ rows_of S (shown_in more) done ++ (c ∷ [])
-    rows-added at e =
-        rows-are ∙ ap (λ (q : Place). rows_of S (shown_in more) done ++ row_if (is_row_of S q && (runs_of more == shown_in more)) c) at
-        ∙ ap (λ (b : Bool). rows_of S (shown_in more) done ++ row_if b c) (ap (λ (b : Bool). b && (runs_of more == shown_in more)) (eq-eqb (place_of S) (place_of S) refl) ∙ eq-eqb (runs_of more) (shown_in more) e)
-
-    -- the same run is shown as before, or the last one, which begins here
-    record Same : Type 0 where
-      run : shown_in more ≡ shown_in done
-      left : rows_left asked next_spot n.report ≡ n.report
-      begun : begins_run here ≡ true → is_some asked ≡ true
-
-    record Fresh : Type 0 where
-      begun : begins_run here ≡ true
-      run : runs_of more ≡ shown_in more
-      left : rows_left asked next_spot n.report ≡ []
-
-    same-or-fresh : Same ⊎ Fresh
-    same-or-fresh = by asked refl (begins_run here) refl
-      where
-        by : (a : Option ℕ) → asked ≡ a → (b : Bool) → begins_run here ≡ b → Same ⊎ Fresh
-        by (Some number) e b begun = inl (record { run = rw e refl; left = rw e refl; begun = λ _. rw e refl })
-        by None e true begun = inr (record { begun = begun; run = rw e refl; left = rw (e, begun) refl })
-        by None e false begun = inl (record { run = rw e (same-run begun); left = rw (e, begun) refl; begun = λ yes. absurd (both_ways (begins_run here) begun yes) })
+    step : Step items asked S done n c
+    step = step-of items asked S done n c inv.place inv.runs countable
 
     report-other : (report : List RowView) → is_row_of S here ≡ false → All (IsNot S) report → All (IsNot S) (report ++ added)
     report-other report e all = All-append (IsNot S) report added all (others-added S (is_shown asked next_spot.run) (takes_at here) here c e)
@@ -205,15 +145,12 @@ module _ (items : Names) (asked : Option ℕ) (S : Section) (is : IsItemSection 
     report-same : Same → next.report ≡ n.report ++ added
     report-same same = ap (λ (t : List RowView). t ++ added) same.left
 
-    none-more : (runs_of more ≡ shown_in more → ⊥) → added ≡ []
-    none-more e = ap (λ (b : Bool). rows_taken b (section_if (takes_at here) here) c) (not-shown e) ∙ none-added (section_if (takes_at here) here) c
-
     -- before the section
     before-more : Same → Before done n → Phase more next
     before-more same before = by before.early
       where
         stays : is_row_of S here ≡ false → section_rows more ≡ []
-        stays e = rows-other e ∙ ap (λ (k : ℕ). rows_of S k done) same.run ∙ before.none
+        stays e = step.rows-other e ∙ ap (λ (k : ℕ). rows_of S k done) same.run ∙ before.none
 
         still : (runs_of more < shown_in more) ⊎ ((runs_of more ≡ shown_in more) × (stage here ≤ 3 * place_of S + 1) × (is_some asked ≡ true → 4 ≤ stage here)) → is_row_of S here ≡ false → Phase more next
         still early e = inl (record {
@@ -225,17 +162,17 @@ module _ (items : Names) (asked : Option ℕ) (S : Section) (is : IsItemSection 
         later : runs_of done < shown_in done → (b : Bool) → begins_run here ≡ b → (runs_of more < shown_in more) ⊎ (shown_in more ≤ runs_of more) → Phase more next
         later low true begun (inl less) = still (inl less) (no-row S here (λ e. omega (arith, run-stage here begun, is.first)))
         later low true begun (inr most) =
-            still (inr (omega (arith, begun-run begun, same.run), omega (arith, run-stage here begun, is.first), λ _. omega (arith, run-stage here begun))) (no-row S here (λ e. omega (arith, run-stage here begun, is.first)))
+            still (inr (omega (arith, step.begun-run begun, same.run), omega (arith, run-stage here begun, is.first), λ _. omega (arith, run-stage here begun))) (no-row S here (λ e. omega (arith, run-stage here begun, is.first)))
         later low false begun (inl less) = inl (record {
           early = inl less;
-          none = rows-unshown (λ e. omega arith) ∙ ap (λ (k : ℕ). rows_of S k done) same.run ∙ before.none;
-          no_rows = subst (All (IsNot S)) (sym (report-same same ∙ ap (λ (t : List RowView). n.report ++ t) (none-more (λ e. omega arith)) ∙ append-nil n.report)) before.no_rows;
+          none = step.rows-unshown (λ e. omega arith) ∙ ap (λ (k : ℕ). rows_of S k done) same.run ∙ before.none;
+          no_rows = subst (All (IsNot S)) (sym (report-same same ∙ ap (λ (t : List RowView). n.report ++ t) (step.none-more (λ e. omega arith)) ∙ append-nil n.report)) before.no_rows;
         })
-        later low false begun (inr most) = absurd (omega (arith, same-run begun, same.run))
+        later low false begun (inr most) = absurd (omega (arith, step.same-run begun, same.run))
 
         enters : begins_run here ≡ false → runs_of done ≡ shown_in done → here ≡ place.Header S → Phase more next
         enters begun now at =
-            let now' : runs_of more ≡ shown_in more = same-run begun ∙ now ∙ sym same.run in
+            let now' : runs_of more ≡ shown_in more = step.same-run begun ∙ now ∙ sym same.run in
             let other : is_row_of S here ≡ false = rw at refl in
             let none : section_rows more ≡ [] = stays other in
             inr (inl (record {
@@ -253,14 +190,14 @@ module _ (items : Names) (asked : Option ℕ) (S : Section) (is : IsItemSection 
           where
             counts : place_of S ≡ 3 → runs_of more ≡ shown_in more → here ≡ place.Header S → next.counts.items ≡ 0
             counts plan now' at' =
-                ap (λ (q : Place). (counts_at asked next_spot q n.counts).items) at' ∙ items-header S asked next_spot n.counts plan (is-shown now') ∙ ap (λ (q : Place). (spot_at items n.spot q n.last c).items) at'
+                ap (λ (q : Place). (counts_at asked next_spot q n.counts).items) at' ∙ items-header S asked next_spot n.counts plan (step.is-shown now') ∙ ap (λ (q : Place). (spot_at items n.spot q n.last c).items) at'
 
         wrong : begins_run here ≡ false → runs_of done ≡ shown_in done → here ≡ place.Wrong → Phase more next
         wrong begun now at =
             let other : is_row_of S here ≡ false = rw at refl in
             let none : section_rows more ≡ [] = stays other in
             inr (inr (record {
-              late = inr (same-run begun ∙ now ∙ sym same.run, rw at (omega (arith, is.last)));
+              late = inr (step.same-run begun ∙ now ∙ sym same.run, rw at (omega (arith, is.last)));
               front = n.report ++ added;
               kept = [];
               back = [];
@@ -273,15 +210,15 @@ module _ (items : Names) (asked : Option ℕ) (S : Section) (is : IsItemSection 
             }))
 
         shown : runs_of done ≡ shown_in done → stage n.spot.place ≤ 3 * place_of S + 1 → (is_some asked ≡ true → 4 ≤ stage n.spot.place) → Phase more next
-        shown now high low = nears (near S is n.spot.place high c)
+        shown now high low = nears (near S is.first n.spot.place high c)
           where
             no-run : begins_run here ≡ false
-            no-run = false_from_ne_true (begins_run here) (λ begun. both_ways (begins_run here) (in-report S is n.spot.place (low (same.begun begun)) high c).0 begun)
+            no-run = false_from_ne_true (begins_run here) (λ begun. both_ways (begins_run here) (in-report S n.spot.place (low (same.begun begun)) high c).0 begun)
 
             nears : (here ≡ place.Header S) ⊎ ((stage here ≤ 3 * place_of S + 1) ⊎ (here ≡ place.Wrong)) → Phase more next
             nears (inl at) = enters no-run now at
             nears (inr (inl under)) =
-                still (inr (same-run no-run ∙ now ∙ sym same.run, under, λ some. (in-report S is n.spot.place (low some) high c).1)) (no-row S here (λ e. omega arith))
+                still (inr (step.same-run no-run ∙ now ∙ sym same.run, under, λ some. (in-report S n.spot.place (low some) high c).1)) (no-row S here (λ e. omega arith))
             nears (inr (inr at)) = wrong no-run now at
 
         by : (runs_of done < shown_in done) ⊎ ((runs_of done ≡ shown_in done) × (stage n.spot.place ≤ 3 * place_of S + 1) × (is_some asked ≡ true → 4 ≤ stage n.spot.place)) → Phase more next
@@ -302,8 +239,8 @@ module _ (items : Names) (asked : Option ℕ) (S : Section) (is : IsItemSection 
 
         goes : here ≡ place.Row S → Phase more next
         goes at =
-            let now : runs_of more ≡ shown_in more = same-run (ap begins_run at) ∙ amid.now ∙ sym same.run in
-            let rows : section_rows more ≡ section_rows done ++ (c ∷ []) = rows-added at now ∙ ap (λ (k : ℕ). rows_of S k done ++ (c ∷ [])) same.run in
+            let now : runs_of more ≡ shown_in more = step.same-run (ap begins_run at) ∙ amid.now ∙ sym same.run in
+            let rows : section_rows more ≡ section_rows done ++ (c ∷ []) = step.rows-added at now ∙ ap (λ (k : ℕ). rows_of S k done ++ (c ∷ [])) same.run in
             let together : StandTogether (row_names (section_rows done) ++ (name_of c ∷ [])) =
             subst StandTogether (ap row_names rows ∙ map_push (λ (cells : Cells). name_of cells) (section_rows done) c) (stand (shown_in more)) in
             let kept : List RowView = with_row S amid.kept c (takes_at (place.Row S)) in
@@ -316,7 +253,7 @@ module _ (items : Names) (asked : Option ℕ) (S : Section) (is : IsItemSection 
             (subst (λ (q : Place). Inside items S (length done + 1) (section_rows done ++ (c ∷ [])) kept (spot_at items n.spot q n.last c) c) (sym at) inside)) in
             let new : added ≡ (if takes_at (place.Row S) then record { section = S; cells = c } ∷ [] else []) =
             ap (λ (q : Place). rows_taken (is_shown asked next_spot.run) (section_if (takes_at q) q) c) at
-            ∙ ap (λ (b : Bool). rows_taken b (section_if (takes_at (place.Row S)) (place.Row S)) c) (is-shown now) ∙ row-added S is.report (takes_at (place.Row S)) c in
+            ∙ ap (λ (b : Bool). rows_taken b (section_if (takes_at (place.Row S)) (place.Row S)) c) (step.is-shown now) ∙ row-added S is.report (takes_at (place.Row S)) c in
             inr (inl (record {
               now = now;
               at = inr at;
@@ -326,15 +263,15 @@ module _ (items : Names) (asked : Option ℕ) (S : Section) (is : IsItemSection 
               others_before = amid.others_before;
               its_rows = All-append (λ (q : RowView). is_in S q ≡ true) amid.kept _ amid.its_rows (of-section (takes_at (place.Row S)));
               state = state;
-              counted = λ plan. ap (λ (q : Place). (counts_at asked next_spot q n.counts).items) at ∙ items-row S asked next_spot n.counts plan (is-shown now) ∙ state.counts;
+              counted = λ plan. ap (λ (q : Place). (counts_at asked next_spot q n.counts).items) at ∙ items-row S asked next_spot n.counts plan (step.is-shown now) ∙ state.counts;
             }))
 
         leaves : begins_run here ≡ false → 3 * place_of S + 3 < stage here → Phase more next
         leaves begun past =
             let other : is_row_of S here ≡ false = no-row S here (λ e. omega arith) in
-            let rows : section_rows more ≡ section_rows done = rows-other other ∙ ap (λ (k : ℕ). rows_of S k done) same.run in
+            let rows : section_rows more ≡ section_rows done = step.rows-other other ∙ ap (λ (k : ℕ). rows_of S k done) same.run in
             inr (inr (record {
-              late = inr (same-run begun ∙ amid.now ∙ sym same.run, past);
+              late = inr (step.same-run begun ∙ amid.now ∙ sym same.run, past);
               front = amid.front;
               kept = amid.kept;
               back = added;
@@ -359,27 +296,27 @@ module _ (items : Names) (asked : Option ℕ) (S : Section) (is : IsItemSection 
 
         gone : shown_in more < runs_of more → Phase more next
         gone past =
-            let rows : section_rows more ≡ section_rows done = rows-unshown (λ e. omega arith) ∙ ap (λ (k : ℕ). rows_of S k done) same.run in
+            let rows : section_rows more ≡ section_rows done = step.rows-unshown (λ e. omega arith) ∙ ap (λ (k : ℕ). rows_of S k done) same.run in
             inr (inr (record {
               late = inl past;
               front = behind.front;
               kept = behind.kept;
               back = behind.back;
-              split = report-same same ∙ ap (λ (t : List RowView). n.report ++ t) (none-more (λ e. omega arith)) ∙ append-nil n.report ∙ behind.split;
+              split = report-same same ∙ ap (λ (t : List RowView). n.report ++ t) (step.none-more (λ e. omega arith)) ∙ append-nil n.report ∙ behind.split;
               others_before = behind.others_before;
               its_rows = behind.its_rows;
               others_behind = behind.others_behind;
               state = subst (λ (rs : List Cells). KeptOf items rs behind.kept) (sym rows) behind.state;
-              counted = λ right plan. items-unshown asked next_spot here n.counts (not-shown (λ e. omega arith)) ∙ behind.counted (right-before right) plan ∙ sym (ap (λ (rs : List Cells). length (items_in items rs)) rows);
+              counted = λ right plan. items-unshown asked next_spot here n.counts (step.not-shown (λ e. omega arith)) ∙ behind.counted (right-before right) plan ∙ sym (ap (λ (rs : List Cells). length (items_in items rs)) rows);
             }))
 
         on : runs_of done ≡ shown_in done → (begins_run here ≡ true) ⊎ ((begins_run here ≡ false) × (3 * place_of S + 3 < stage here)) → Phase more next
-        on now (inl begun) = gone (omega (arith, begun-run begun, same.run))
+        on now (inl begun) = gone (omega (arith, step.begun-run begun, same.run))
         on now (inr past) =
             let other : is_row_of S here ≡ false = no-row S here (λ e. omega (arith, past.1)) in
-            let rows : section_rows more ≡ section_rows done = rows-other other ∙ ap (λ (k : ℕ). rows_of S k done) same.run in
+            let rows : section_rows more ≡ section_rows done = step.rows-other other ∙ ap (λ (k : ℕ). rows_of S k done) same.run in
             inr (inr (record {
-              late = inr (same-run past.0 ∙ now ∙ sym same.run, past.1);
+              late = inr (step.same-run past.0 ∙ now ∙ sym same.run, past.1);
               front = behind.front;
               kept = behind.kept;
               back = behind.back ++ added;
@@ -394,12 +331,12 @@ module _ (items : Names) (asked : Option ℕ) (S : Section) (is : IsItemSection 
             }))
 
         least : (b : Bool) → begins_run here ≡ b → runs_of done ≤ runs_of more
-        least true e = omega (arith, begun-run e)
-        least false e = omega (arith, same-run e)
+        least true e = omega (arith, step.begun-run e)
+        least false e = omega (arith, step.same-run e)
 
         by : (shown_in done < runs_of done) ⊎ ((runs_of done ≡ shown_in done) × (3 * place_of S + 3 < stage n.spot.place)) → Phase more next
         by (inl past) = gone (omega (arith, least (begins_run here) refl, same.run))
-        by (inr now) = on now.0 (goes-on S is n.spot.place now.1 c)
+        by (inr now) = on now.0 (goes-on S n.spot.place now.1 c)
 
     -- where the next run begins, and the last one is shown
     fresh-more : Fresh → Phase more next
@@ -407,12 +344,12 @@ module _ (items : Names) (asked : Option ℕ) (S : Section) (is : IsItemSection 
         let other : is_row_of S here ≡ false = no-row S here (λ e. omega (arith, run-stage here fresh.begun, is.first)) in
         inl (record {
           early = inr (fresh.run, omega (arith, run-stage here fresh.begun, is.first), λ _. omega (arith, run-stage here fresh.begun));
-          none = rows-other other ∙ rows-later S (shown_in more) 0 place.Front done (omega (arith, fresh.run, begun-run fresh.begun));
+          none = step.rows-other other ∙ rows-later S (shown_in more) 0 place.Front done (omega (arith, fresh.run, step.begun-run fresh.begun));
           no_rows = subst (λ (t : List RowView). All (IsNot S) (t ++ added)) (sym fresh.left) (others-added S (is_shown asked next_spot.run) (takes_at here) here c other);
         })
 
     inv-more : Inv more next
-    inv-more = record { place = here-is; runs = run-is; phase = by same-or-fresh inv.phase }
+    inv-more = record { place = step.here-is; runs = step.run-is; phase = by step.same-or-fresh inv.phase }
       where
         by : Same ⊎ Fresh → Phase done n → Phase more next
         by (inr fresh) phase = fresh-more fresh
@@ -545,10 +482,10 @@ shown-names messages plan named =
     ∙ ap (λ (t : List (List ℕ)). take MOST_ITEMS (leader_names messages ++ t)) (untold-names messages (leaders [] plan) (all-leaders (λ (r : RowView). cell_at r 0 ≢ []) [] plan named))
 
 -- a run that is asked for has a number, and has begun
-asked-from : (asked : Option ℕ) (runs : ℕ) → has_run asked runs ≡ true → (number : ℕ) → asked ≡ Some number → 1 ≤ number
+pub asked-from : (asked : Option ℕ) (runs : ℕ) → has_run asked runs ≡ true → (number : ℕ) → asked ≡ Some number → 1 ≤ number
 asked-from asked runs has number e = leb-true 1 number (and_parts _ _ (subst (λ (a : Option ℕ). has_run a runs ≡ true) e has)).0
 
-has-begun : (asked : Option ℕ) (records : List Cells) → has_run asked (runs_of records) ≡ true → run_shown asked records ≤ runs_of records
+pub has-begun : (asked : Option ℕ) (records : List Cells) → has_run asked (runs_of records) ≡ true → run_shown asked records ≤ runs_of records
 has-begun None records has = omega arith
 has-begun (Some number) records has = leb-true number (runs_of records) (and_parts _ _ has).1
 

@@ -1,6 +1,6 @@
 -- The rows of a report that are of items, section by section.
 use Rattle.std.specs.Prelude.{List}
-use Rattle.mrp_page.specs.declared.section.Section.TheVariants as s
+use Rattle.mrp_day.specs.declared.section.Section.TheVariants as s
 use Rattle.mrp_page.specs.Row.{RowView}
 use Rattle.mrp_page.specs.Rows.{rows_in}
 

@@ -2,7 +2,7 @@
 use Rattle.std.specs.Prelude.{ℕ, ◌≡◌, ◌<◌, ◌^◌, List, All, codes, decimal, map}
 use Rattle.mrp_page.specs.Columns.{column}
 use Rattle.mrp_page.specs.Row.{RowView, cell_at}
-use Rattle.mrp_page.specs.declared.section.Section.TheVariants as s
+use Rattle.mrp_day.specs.declared.section.Section.TheVariants as s
 
 -- the rows of a plan say that these pieces are firm, row by row
 pub record AreFirm (plan : List RowView) (firm : List ℕ) : Type 0 where

@@ -1,7 +1,7 @@
 -- What is kept of a day while it is read.
 use Rattle.std.specs.Prelude.{ℕ, Bool, true, ◌&&◌, ◌||◌, ◌==◌, ◌++◌, List, [], ◌∷◌, Option, Some, None, is_some, not, nat_le, if◌then◌else◌}
-use Rattle.mrp_page.specs.declared.section.Section.{Section}
-use Rattle.mrp_page.specs.declared.section.Section.TheVariants as s
+use Rattle.mrp_day.specs.declared.section.Section.{Section}
+use Rattle.mrp_day.specs.declared.section.Section.TheVariants as s
 use Rattle.mrp_page.specs.declared.counts.Counts.{Counts}
 use Rattle.mrp_page.specs.declared.spot.Place.{Place}
 use Rattle.mrp_page.specs.declared.spot.Place.TheVariants as place

@@ -10,7 +10,7 @@ use Rattle.mrp_page.specs.Notes.{Noted}
 use Rattle.mrp_page.specs.Row.{RowView, cell_at}
 use Rattle.mrp_page.specs.Rows.{leaders, rows_in, rows_named}
 use Rattle.mrp_page.specs.Template.{row_html}
-use Rattle.mrp_page.specs.declared.section.Section.TheVariants as s
+use Rattle.mrp_day.specs.declared.section.Section.TheVariants as s
 use Rattle.mrp_page.specs.Unshown.{unshown}
 
 -- the head of a page

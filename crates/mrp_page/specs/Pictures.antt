@@ -3,8 +3,8 @@ use Rattle.std.specs.Prelude.{ℕ, List, ◌++◌, codes}
 use Rattle.mrp_page.specs.Columns.{column}
 use Rattle.mrp_page.specs.Escaped.{escaped}
 use Rattle.mrp_page.specs.Row.{RowView, cell_at}
-use Rattle.mrp_page.specs.declared.section.Section.{Section}
-use Rattle.mrp_page.specs.declared.section.Section.TheVariants as s
+use Rattle.mrp_day.specs.declared.section.Section.{Section}
+use Rattle.mrp_day.specs.declared.section.Section.TheVariants as s
 
 -- a row's text in a column of its section
 abbrev text_in : Section → List ℕ → RowView → List ℕ

@@ -2,7 +2,7 @@
 use Rattle.std.specs.Prelude.{ℕ, Bool, List, [], slice_index_or, nat_eq}
 use Rattle.std.specs.Cmp.Lexicographic.{pointwise}
 use Rattle.mrp_page.specs.Section.{same_section}
-use Rattle.mrp_page.specs.declared.section.Section.{Section}
+use Rattle.mrp_day.specs.declared.section.Section.{Section}
 
 -- the cells of a record
 abbrev pub Cells : Type 0

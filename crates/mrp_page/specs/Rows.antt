@@ -1,7 +1,7 @@
 -- Which rows of a report belong together.
 use Rattle.std.specs.Prelude.{ℕ, Bool, ◌+◌, ◌*◌, ◌-◌, ◌^◌, min, nat_lt, not, List, [], ◌∷◌, ◌++◌, drop, if◌then◌else◌}
 use Rattle.std.specs.List.{before_first, fold, position_or_len}
-use Rattle.mrp_page.specs.declared.section.Section.{Section}
+use Rattle.mrp_day.specs.declared.section.Section.{Section}
 use Rattle.mrp_page.specs.Row.{RowView, cell_at, is_in, is_of}
 
 -- the first stretch of elements that pass

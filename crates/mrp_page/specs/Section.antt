@@ -1,32 +1,10 @@
--- The sections of a day: a history, and for each run seven of its report.
-use Rattle.std.specs.Prelude.{ℕ, Bool, true, false, List, [], ◌∷◌, ◌==◌, codes}
+-- What a page keeps of the sections of a day: a history, and for each run seven of its report.
+use Rattle.std.specs.Prelude.{ℕ, Bool, true, false, ◌==◌}
 use Rattle.mrp_page.specs.declared.limits.TheConstants as limits
-use Rattle.mrp_page.specs.declared.section.Section.{Section}
-use Rattle.mrp_page.specs.declared.section.Section.TheVariants as s
+use Rattle.mrp_day.specs.declared.section.Section.{Section}
+use Rattle.mrp_day.specs.declared.section.Section.TheVariants as s
 
--- the line that a section begins with
-abbrev pub line_of : Section → List ℕ
-line_of s.History = codes "[history]"
-line_of s.Run = codes "[run]"
-line_of s.Promises = codes "[promises]"
-line_of s.Plan = codes "[plan]"
-line_of s.Orders = codes "[orders]"
-line_of s.Pegs = codes "[pegs]"
-line_of s.Messages = codes "[messages]"
-line_of s.Loads = codes "[loads]"
-
--- the names of its columns
-abbrev pub columns_of : Section → List (List ℕ)
-columns_of s.History = codes "entry" ∷ codes "desk" ∷ codes "call" ∷ codes "item" ∷ codes "week" ∷ codes "quantity" ∷ codes "number" ∷ codes "reply" ∷ codes "value" ∷ []
-columns_of s.Run = codes "front" ∷ codes "standing" ∷ []
-columns_of s.Promises = codes "item" ∷ codes "week" ∷ codes "firm" ∷ codes "booked" ∷ codes "bucket" ∷ codes "available" ∷ []
-columns_of s.Plan = codes "item" ∷ codes "week" ∷ codes "gross" ∷ codes "open" ∷ codes "firm" ∷ codes "planned" ∷ codes "start" ∷ codes "balance" ∷ []
-columns_of s.Orders = codes "item" ∷ codes "order" ∷ codes "kind" ∷ codes "due" ∷ codes "quantity" ∷ codes "start" ∷ codes "release" ∷ codes "late" ∷ []
-columns_of s.Pegs = codes "item" ∷ codes "week" ∷ codes "need" ∷ codes "number" ∷ codes "parent" ∷ codes "line" ∷ codes "supply" ∷ codes "source" ∷ codes "quantity" ∷ []
-columns_of s.Messages = codes "item" ∷ codes "supply" ∷ codes "source" ∷ codes "message" ∷ codes "value" ∷ []
-columns_of s.Loads = codes "centre" ∷ codes "week" ∷ codes "load" ∷ codes "capacity" ∷ codes "over" ∷ []
-
--- the section behind it; behind the last one the report of the next run begins
+-- the section behind another; behind the last one the report of the next run begins
 abbrev pub next_of : Section → Section
 next_of s.History = s.Run
 next_of s.Run = s.Promises

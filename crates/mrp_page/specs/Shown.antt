@@ -2,8 +2,8 @@
 use Rattle.std.specs.Prelude.{ℕ, Bool, false, true, ◌≡◌, ◌≢◌, ◌≤◌, ◌<◌, ◌+◌, ◌^◌, ◌==◌, ◌&&◌, not, List, [], ◌∷◌, ◌++◌, Option, Some, None, length, map, take, slice_index_or, if◌then◌else◌}
 use Rattle.std.specs.List.{All, filter, fold, list_any}
 use Rattle.mrp_page.specs.declared.limits.TheConstants.{MOST_ITEMS}
-use Rattle.mrp_page.specs.declared.section.Section.{Section}
-use Rattle.mrp_page.specs.declared.section.Section.TheVariants as s
+use Rattle.mrp_day.specs.declared.section.Section.{Section}
+use Rattle.mrp_day.specs.declared.section.Section.TheVariants as s
 use Rattle.mrp_page.specs.declared.spot.Place.{Place}
 use Rattle.mrp_page.specs.declared.spot.Place.TheVariants as place
 use Rattle.mrp_page.specs.Row.{Cells, same_text}

@@ -4,13 +4,14 @@ use Rattle.std.specs.List.{list_any}
 use Rattle.std.proofs.Common.{Bor}
 use Rattle.std.specs.Cmp.Lexicographic.{pointwise}
 use Rattle.mrp_page.specs.declared.limits.TheConstants.{MOST_ITEMS}
-use Rattle.mrp_page.specs.declared.section.Section.{Section}
-use Rattle.mrp_page.specs.declared.section.Section.TheVariants as s
+use Rattle.mrp_day.specs.declared.section.Section.{Section}
+use Rattle.mrp_day.specs.declared.section.Section.TheVariants as s
 use Rattle.mrp_page.specs.declared.spot.Place.{Place}
 use Rattle.mrp_page.specs.declared.spot.Place.TheVariants as place
 use Rattle.mrp_page.specs.declared.spot.Spot.{Spot}
 use Rattle.mrp_page.specs.Row.{Cells, same_text}
-use Rattle.mrp_page.specs.Section.{columns_of, is_by_weeks, is_of_items, is_plan, items_of, line_of, next_of, room_of}
+use Rattle.mrp_day.specs.Sections.{columns_of, line_of}
+use Rattle.mrp_page.specs.Section.{is_by_weeks, is_of_items, is_plan, items_of, next_of, room_of}
 
 -- a record's cells are these
 abbrev pub same_cells : Cells → Cells → Bool

@@ -6,7 +6,7 @@ use Rattle.mrp_page.specs.Escaped.{escaped}
 use Rattle.mrp_page.specs.Layout.{other_words, task_words}
 use Rattle.mrp_page.specs.Row.{RowView, cell_at}
 use Rattle.mrp_page.specs.Template.{has_word}
-use Rattle.mrp_page.specs.declared.section.Section.TheVariants as s
+use Rattle.mrp_day.specs.declared.section.Section.TheVariants as s
 
 -- the words of messages that a page says more plainly, the most urgent first (profile)
 abbrev pub urgent_words : List (List ℕ)

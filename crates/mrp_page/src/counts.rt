@@ -4,8 +4,8 @@ ghost use Rattle.std.specs.Prelude.{◌≡◌};
 ghost use Rattle.mrp_page.specs.Counts.{none_counted};
 ghost use Rattle.mrp_page.specs.Notes.{counts_of};
 
-use crate::section::Section;
 use crate::spot::Spot;
+use mrp_day::Section;
 
 // How many rows of a section are not kept, and how many items its plan has.
 #[derive(Clone, Copy)]

@@ -5,8 +5,8 @@ ghost use Rattle.mrp_page.specs.Frame.{count_row, frame, frame_of, heading, last
 
 use crate::row::Row;
 use crate::rows::{greatest, rows_in};
-use crate::section::Section;
 use csv::ByteRecord;
+use mrp_day::Section;
 use mrp_qty::{NoMemory, number_text};
 use std::alloc::Global;
 

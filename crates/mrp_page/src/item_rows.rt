@@ -5,7 +5,7 @@ ghost use Rattle.mrp_page.specs.ItemRows.{item_lists};
 
 use crate::row::Row;
 use crate::rows::rows_in;
-use crate::section::Section;
+use mrp_day::Section;
 use std::marker::Model;
 
 // The rows of a report that are of items, section by section.

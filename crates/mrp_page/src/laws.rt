@@ -19,7 +19,7 @@ ghost use Rattle.mrp_page.specs.Shown.{IsByItems, items_of_plan, items_to_show, 
 ghost use Rattle.mrp_page.specs.Spot.{Names};
 ghost use Rattle.mrp_page.specs.Template.{Drawn, row_html};
 ghost use Rattle.mrp_page.specs.Todo.{by_urgency, message_html, said, said_of_another, word_of};
-ghost use Rattle.mrp_page.specs.declared.section.Section.TheVariants as section;
+ghost use Rattle.mrp_day.specs.declared.section.Section.TheVariants as section;
 
 /// A page begins and ends as a whole one.
 pub fn pages_are_whole()

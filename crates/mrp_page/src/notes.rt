@@ -6,9 +6,10 @@ ghost use Rattle.mrp_page.specs.Notes.{counts_at, history_rows, is_shown, none_n
 
 use crate::counts::Counts;
 use crate::row::Row;
-use crate::section::Section;
+use crate::section::is_history;
 use crate::spot::{Place, Spot};
 use csv::ByteRecord;
+use mrp_day::Section;
 use mrp_qty::NoMemory;
 use std::alloc::Global;
 use std::marker::Model;
@@ -90,7 +91,7 @@ fn note_counts(counts: &mut Counts, asked: Option<u64>, spot: Spot)
 {
     match spot.place {
         Place::Header(section) | Place::Row(section)
-            if section.is_history() || is_shown(asked, spot.run) => {
+            if is_history(section) || is_shown(asked, spot.run) => {
             counts.note(section, spot);
         }
         _ => {}

@@ -13,9 +13,9 @@ use crate::limits::MOST_ITEMS;
 use crate::notes::Notes;
 use crate::row::Row;
 use crate::rows::{leaders, rows_in, rows_named};
-use crate::section::Section;
 use crate::template::put_row;
 use crate::unshown::unshown;
+use mrp_day::Section;
 use mrp_qty::NoMemory;
 use std::alloc::Global;
 

@@ -5,8 +5,9 @@ ghost use Rattle.csv.specs.Records.{fields_of};
 ghost use Rattle.mrp_page.specs.Row.{cell_at, is_in, is_of};
 
 use crate::cells::cell_of;
-use crate::section::Section;
+use crate::section::same_section;
 use csv::ByteRecord;
+use mrp_day::Section;
 use std::marker::Model;
 
 /// A row of a day, with the section that it stands in, seen as that section and its cells.
@@ -43,7 +44,7 @@ impl Row {
     pub(crate) fn is_in(&self, section: Section) -> bool
         ensures { result ≡ is_in section self.now }
     {
-        self.section.is(section)
+        same_section(self.section, section)
     }
 
     /// What the row is of: its first cell.

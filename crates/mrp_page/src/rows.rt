@@ -6,7 +6,7 @@ ghost use Rattle.mrp_page.specs.Row.{is_in, is_of};
 ghost use Rattle.mrp_page.specs.Rows.{greatest, higher, leader_rows, leaders, rank, ranked, rows_in, rows_named};
 
 use crate::row::Row;
-use crate::section::Section;
+use mrp_day::Section;
 use mrp_qty::NoMemory;
 use std::alloc::Global;
 

@@ -1,150 +1,96 @@
-//! The sections of a day.
+//! What a page keeps of the sections of a day.
 
-ghost use Rattle.std.specs.Prelude.{◌≡◌, map};
-ghost use Rattle.mrp_page.specs.Section.{columns_of, is_by_weeks, is_history, is_of_items, is_plan, items_of, line_of, next_of, place_of, room_of, same_section};
+ghost use Rattle.std.specs.Prelude.{◌≡◌};
+ghost use Rattle.mrp_page.specs.Section.{is_by_weeks, is_history, is_of_items, is_plan, items_of, next_of, place_of, room_of, same_section};
 
 use crate::limits::{MOST_ENTRIES, MOST_ITEMS, MOST_PEGS, MOST_ROWS};
+use mrp_day::Section;
 
-// A section of a day.
-#[derive(Clone, Copy, Debug, PartialEq, Eq)]
-pub(crate) enum Section {
-    History,
-    Run,
-    Promises,
-    Plan,
-    Orders,
-    Pegs,
-    Messages,
-    Loads,
+// The section behind another. The report of another run may stand behind the last.
+pub(crate) fn next_of(section: Section) -> Section
+    ensures { result ≡ next_of section }
+{
+    match section {
+        Section::History => Section::Run,
+        Section::Run => Section::Promises,
+        Section::Promises => Section::Plan,
+        Section::Plan => Section::Orders,
+        Section::Orders => Section::Pegs,
+        Section::Pegs => Section::Messages,
+        Section::Messages => Section::Loads,
+        Section::Loads => Section::Run,
+    }
 }
 
-impl Section {
-    // The line that it begins with.
-    pub(crate) fn line(self) -> &'static str
-        ensures { result.now ≡ line_of self }
-    {
-        match self {
-            Section::History => "[history]",
-            Section::Run => "[run]",
-            Section::Promises => "[promises]",
-            Section::Plan => "[plan]",
-            Section::Orders => "[orders]",
-            Section::Pegs => "[pegs]",
-            Section::Messages => "[messages]",
-            Section::Loads => "[loads]",
-        }
+// How many of a section's rows are kept.
+pub(crate) fn room_of(section: Section) -> u64
+    ensures { result ≡ room_of section }
+{
+    match section {
+        Section::History => MOST_ENTRIES,
+        Section::Run => 1,
+        Section::Pegs => MOST_PEGS,
+        _ => MOST_ROWS,
     }
+}
 
-    // The names of its columns.
-    pub(crate) fn columns(self) -> &'static [&'static str]
-        ensures { map (λ c. c.now) result.now ≡ columns_of self }
-    {
-        match self {
-            Section::History => &[
-                "entry", "desk", "call", "item", "week", "quantity", "number", "reply", "value",
-            ],
-            Section::Run => &["front", "standing"],
-            Section::Promises => &["item", "week", "firm", "booked", "bucket", "available"],
-            Section::Plan => &[
-                "item", "week", "gross", "open", "firm", "planned", "start", "balance",
-            ],
-            Section::Orders => &[
-                "item", "order", "kind", "due", "quantity", "start", "release", "late",
-            ],
-            Section::Pegs => &[
-                "item", "week", "need", "number", "parent", "line", "supply", "source", "quantity",
-            ],
-            Section::Messages => &["item", "supply", "source", "message", "value"],
-            Section::Loads => &["centre", "week", "load", "capacity", "over"],
-        }
+// Of how many items, or work centres, rows are kept even where a section's room is full.
+pub(crate) fn items_of(section: Section) -> u64
+    ensures { result ≡ items_of section }
+{
+    match section {
+        Section::Promises | Section::Plan | Section::Messages | Section::Loads => MOST_ITEMS,
+        _ => 0,
     }
+}
 
-    // The section behind it. The report of another run may stand behind the last.
-    pub(crate) fn next(self) -> Section
-        ensures { result ≡ next_of self }
-    {
-        match self {
-            Section::History => Section::Run,
-            Section::Run => Section::Promises,
-            Section::Promises => Section::Plan,
-            Section::Plan => Section::Orders,
-            Section::Orders => Section::Pegs,
-            Section::Pegs => Section::Messages,
-            Section::Messages => Section::Loads,
-            Section::Loads => Section::Run,
-        }
-    }
+// Whether an item, or a work centre, has a row for each week in a section.
+pub(crate) fn is_by_weeks(section: Section) -> bool
+    ensures { result ≡ is_by_weeks section }
+{
+    matches!(section, Section::Promises | Section::Plan | Section::Loads)
+}
 
-    // How many of its rows are kept.
-    pub(crate) fn room(self) -> u64
-        ensures { result ≡ room_of self }
-    {
-        match self {
-            Section::History => MOST_ENTRIES,
-            Section::Run => 1,
-            Section::Pegs => MOST_PEGS,
-            _ => MOST_ROWS,
-        }
-    }
+// Whether a section is the plan.
+pub(crate) fn is_plan(section: Section) -> bool
+    ensures { result ≡ is_plan section }
+{
+    matches!(section, Section::Plan)
+}
 
-    // Of how many items, or work centres, rows are kept even where its room is full.
-    pub(crate) fn items(self) -> u64
-        ensures { result ≡ items_of self }
-    {
-        match self {
-            Section::Promises | Section::Plan | Section::Messages | Section::Loads => MOST_ITEMS,
-            _ => 0,
-        }
-    }
+// Whether a section is the history.
+pub(crate) fn is_history(section: Section) -> bool
+    ensures { result ≡ is_history section }
+{
+    matches!(section, Section::History)
+}
 
-    // Whether an item, or a work centre, has a row for each week there.
-    pub(crate) fn is_by_weeks(self) -> bool
-        ensures { result ≡ is_by_weeks self }
-    {
-        matches!(self, Section::Promises | Section::Plan | Section::Loads)
-    }
+// Whether a section's rows are of items.
+pub(crate) fn is_of_items(section: Section) -> bool
+    ensures { result ≡ is_of_items section }
+{
+    !matches!(section, Section::History | Section::Run | Section::Loads)
+}
 
-    // Whether it is the plan.
-    pub(crate) fn is_plan(self) -> bool
-        ensures { result ≡ is_plan self }
-    {
-        matches!(self, Section::Plan)
+// A section's place among all of them.
+fn place_of(section: Section) -> u8
+    ensures { result ≡ place_of section }
+{
+    match section {
+        Section::History => 0,
+        Section::Run => 1,
+        Section::Promises => 2,
+        Section::Plan => 3,
+        Section::Orders => 4,
+        Section::Pegs => 5,
+        Section::Messages => 6,
+        Section::Loads => 7,
     }
+}
 
-    // Whether it is the history.
-    pub(crate) fn is_history(self) -> bool
-        ensures { result ≡ is_history self }
-    {
-        matches!(self, Section::History)
-    }
-
-    // Its place among the sections.
-    fn place(self) -> u8
-        ensures { result ≡ place_of self }
-    {
-        match self {
-            Section::History => 0,
-            Section::Run => 1,
-            Section::Promises => 2,
-            Section::Plan => 3,
-            Section::Orders => 4,
-            Section::Pegs => 5,
-            Section::Messages => 6,
-            Section::Loads => 7,
-        }
-    }
-
-    // Whether it is this section.
-    pub(crate) fn is(self, other: Section) -> bool
-        ensures { result ≡ same_section self other }
-    {
-        self.place() == other.place()
-    }
-
-    // Whether its rows are of items.
-    pub(crate) fn is_of_items(self) -> bool
-        ensures { result ≡ is_of_items self }
-    {
-        !matches!(self, Section::History | Section::Run | Section::Loads)
-    }
+// Whether two sections are the same.
+pub(crate) fn same_section(a: Section, b: Section) -> bool
+    ensures { result ≡ same_section a b }
+{
+    place_of(a) == place_of(b)
 }

@@ -6,8 +6,9 @@ ghost use Rattle.mrp_page.specs.Spot.{after, begun, begins_run, counted, has_roo
 
 use crate::cells::{are_texts, cell_of};
 use crate::limits::MOST_ITEMS;
-use crate::section::Section;
+use crate::section::{is_by_weeks, is_of_items, is_plan, items_of, next_of, room_of};
 use csv::ByteRecord;
+use mrp_day::Section;
 
 // What a record is in a day.
 #[derive(Clone, Copy, Debug, PartialEq, Eq)]
@@ -60,7 +61,7 @@ fn inside(section: Section, cells: &ByteRecord) -> Place
     if cells.len() == section.columns().len() {
         Place::Row(section)
     } else {
-        begun(section.next(), cells)
+        begun(next_of(section), cells)
     }
 }
 
@@ -75,7 +76,7 @@ fn is_among(items: &[&[u8]], name: &[u8]) -> bool
 fn wants(items: &[&[u8]], section: Section, cells: &ByteRecord) -> bool
     ensures { result ≡ wants items.now section (fields_of cells.now) }
 {
-    if items.is_empty() || !section.is_of_items() {
+    if items.is_empty() || !is_of_items(section) {
         return true;
     }
     is_among(items, cell_of(cells, 0))
@@ -124,7 +125,7 @@ fn starts_at(place: Place, cells: &ByteRecord) -> bool
     ensures { result ≡ starts_at place (fields_of cells.now) }
 {
     match place {
-        Place::Row(section) => section.is_plan() && cell_of(cells, 6) != b"0".as_slice(),
+        Place::Row(section) => is_plan(section) && cell_of(cells, 6) != b"0".as_slice(),
         _ => false,
     }
 }
@@ -203,13 +204,13 @@ impl Spot {
     fn has_room(self, section: Section, leads: bool, urgent: bool) -> bool
         ensures { result ≡ has_room section self leads urgent }
     {
-        if self.taken < section.room() {
+        if self.taken < room_of(section) {
             return true;
         }
         if leads {
-            self.items < section.items() || urgent && self.urgent < MOST_ITEMS
+            self.items < items_of(section) || urgent && self.urgent < MOST_ITEMS
         } else {
-            section.is_by_weeks() && self.takes.is_some()
+            is_by_weeks(section) && self.takes.is_some()
         }
     }
 
