@@ -16,3 +16,6 @@ pub mod ShownItems
 pub mod Todo
 pub mod Labels
 pub mod Steps
+pub mod CountedRows
+pub mod CountedEntries
+pub mod OrderedRows

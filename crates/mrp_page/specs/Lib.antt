@@ -1,4 +1,5 @@
 pub mod Columns
+pub mod Counted
 pub mod Counts
 pub mod Draw
 pub mod Escaped

@@ -1,7 +1,8 @@
 //! What follows from the definitions alone, each law the contract of a function that does nothing.
 
-ghost use Rattle.std.specs.Prelude.{◌≡◌, ◌++◌, ◌-◌, ◌⊎◌, ◌<◌, ℕ, All, Contains, IsPermutation, List, Option, [], ◌∷◌, codes, flat_map, length};
+ghost use Rattle.std.specs.Prelude.{◌≡◌, ◌++◌, ◌+◌, ◌-◌, ◌^◌, ◌⊎◌, ◌<◌, ◌≤◌, ℕ, All, Contains, IsPermutation, List, Option, [], ◌∷◌, codes, flat_map, length};
 ghost use Rattle.mrp_page.specs.Columns.{column};
+ghost use Rattle.mrp_page.specs.Counted.{kept_of, missed_of, wanted_rows};
 ghost use Rattle.mrp_page.specs.Draw.{bars_html, booked_html, item_html, items_html, link_html, loads_html, measure_html, more_html, named_record, named_tasks, planned_html, points_html, promised_html, record_or_none, record_rows, supplies_html};
 ghost use Rattle.mrp_page.specs.Escaped.{escaped};
 ghost use Rattle.mrp_page.specs.ItemRows.{ItemLists, item_lists};
@@ -15,10 +16,12 @@ ghost use Rattle.mrp_page.specs.Pictures.{drawn_balance, drawn_load};
 ghost use Rattle.mrp_page.specs.Reading.{IsDayOf};
 ghost use Rattle.mrp_page.specs.Row.{Cells, RowView, cell_at};
 ghost use Rattle.mrp_page.specs.Rows.{rows_in, rows_named};
-ghost use Rattle.mrp_page.specs.Shown.{IsByItems, items_of_plan, items_to_show, run_shown};
+ghost use Rattle.mrp_page.specs.Section.{place_of};
+ghost use Rattle.mrp_page.specs.Shown.{IsByItems, items_of_plan, items_to_show, rows_of, run_shown};
 ghost use Rattle.mrp_page.specs.Spot.{Names};
 ghost use Rattle.mrp_page.specs.Template.{Drawn, row_html};
 ghost use Rattle.mrp_page.specs.Todo.{by_urgency, message_html, said, said_of_another, word_of};
+ghost use Rattle.mrp_day.specs.declared.section.Section.{Section};
 ghost use Rattle.mrp_day.specs.declared.section.Section.TheVariants as section;
 
 /// A page begins and ends as a whole one.
@@ -37,6 +40,15 @@ pub fn rows_show_their_cells()
 pub fn kept_rows_stand_in_the_day()
     ensures history { (items : Names) (asked : Option ℕ) (records : List Cells) → All (λ r. Contains records r.cells) (notes_of items asked records).history }
     ensures report { (items : Names) (asked : Option ℕ) (records : List Cells) → All (λ r. Contains records r.cells) (notes_of items asked records).report }
+{}
+
+/// The rows that are kept of a section and those that are counted as left out are all of the day's that a page
+/// is to show: those of the history, and of each section of the report that it shows, where items are named
+/// those of these items. They stand together, so the page finds all of them.
+pub fn rows_are_kept_or_counted()
+    ensures history { (items : Names) (asked : Option ℕ) (records : List Cells) (notes : Noted) → IsDayOf items asked records notes → length records < 2 ^ 64 → length notes.history + notes.counts.history ≡ length (rows_of section.History 0 records) }
+    ensures report { (items : Names) (asked : Option ℕ) (records : List Cells) (notes : Noted) → IsDayOf items asked records notes → length records < 2 ^ 64 → (section : Section) → 2 ≤ place_of section → length (kept_of section notes) + missed_of section notes.counts ≡ length (wanted_rows items section (run_shown asked records) records) }
+    ensures together { (items : Names) (asked : Option ℕ) (records : List Cells) → length records < 2 ^ 64 → (section : Section) → rows_in section (notes_of items asked records).report ≡ kept_of section (notes_of items asked records) }
 {}
 
 /// A page is made of its own words, in which no day has a say, and of texts, escaped, that are known:
