@@ -66,7 +66,7 @@ IsAfterReading (Err Read) = ⊥
 IsAfterReading (Err Write) = ⊤
 IsAfterReading (Err NoMemory) = ⊥
 
--- a writer took a text whole, or a front of it: it gave up, or memory was refused and it did not fail
+-- a writer took a text whole, or a prefix of it: it gave up, or memory was refused and it did not fail
 pub record WritesText {W : Type 0} (contents : W → Option (List ℕ)) (old new : Told W) (text : List ℕ) (result : Result (Unit {0}) DayFault) : Type 0 where
   pub whole : OnOk result (HasTakenAll contents old new text)
   pub front : OnErr result (HasTakenFront contents old new text)
@@ -74,7 +74,7 @@ pub record WritesText {W : Type 0} (contents : W → Option (List ℕ)) (old new
   pub unfailed : result ≡ Err NoMemory → HasNotFailed old new
   pub writing : IfErr result IsWhileWriting
 
--- what is written of what was given: the text of a day of the bundle, in which its script is answered like this, or a front of one, or nothing; want of memory leaves a front only once this has ended, and no reading failed but like this
+-- what is written of the bundle that was given: the text of a day of it, in which its script is answered like this, or a prefix of such a text, or nothing. Where memory was refused a prefix is left only after this end, and a read that failed is one that failed so
 pub record WritesDay (Answers : Answering) {W : Type 0} (contents : W → Option (List ℕ)) (given : Option (List ℕ)) (ended failed : Type 0) (old new : Told W) (result : Result (Unit {0}) DayFault) : Type 0 where
   -- the text of a day of the bundle was written
   pub day : OnOk result ((text : List ℕ) × TellsDayBy Answers given text × HasTakenAll contents old new text)
@@ -88,7 +88,7 @@ pub record WritesDay (Answers : Answering) {W : Type 0} (contents : W → Option
   -- nothing is written before every run is planned
   pub unwritten : IfErr result (λ fault. IsBeforeWriting fault → new ≡ old)
 
--- what is written of what a reader had left, and what is left of the reader: it was read to its end, within the limits, and a front of it was taken
+-- what is written of what a reader had left, and what becomes of the reader: it was read to its end, within the limits, and a prefix of it was taken
 pub record MakesDay (Answers : Answering) {R W : Type 0} (remaining : R → Option (List ℕ)) (contents : W → Option (List ℕ)) (reader read : Told R) (writer written : Told W) (result : Result (Unit {0}) DayFault) : Type 0 where
   pub writes : WritesDay Answers contents (remaining (inner_of reader)) (IsAtEnd (remaining (inner_of read))) (HasPassedLimits reader read) writer written result
   pub unfailed : result ≡ Err NoMemory → IsReadWithin reader read

@@ -30,7 +30,7 @@ pub enum DayFault {
 /// Why the shop of a bundle was not opened.
 #[derive(Clone, Copy, Debug, PartialEq, Eq, Error)]
 pub enum OpenFault {
-    /// The bundle has this fault; never want of memory.
+    /// The bundle has this fault; it is never out of memory.
     #[error("refused")]
     Refused(Fault),
     /// A growth of memory was refused.

@@ -93,7 +93,7 @@ pub fn run_bundle<W: Write>(
 /// Reads a bundle to its end, and makes its day as [`run_bundle`] does. An interrupted read is tried
 /// again.
 ///
-/// Errors: as of `run_bundle`, and `Read` where the reader failed in this call, needed more than
+/// Errors: as of `run_bundle`; also `Read` where the reader failed in this call, needed more than
 /// 100,000,000 calls or gave more than 67,108,864 bytes; `NoMemory` where memory was refused, and no
 /// read or write failed.
 pub fn run_day<R: Read, W: Write>(

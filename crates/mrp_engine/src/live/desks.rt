@@ -108,10 +108,8 @@ fn add_run<R: Wait>(
     let Some((_, call)) = added_run(script) else {
         return Ok(());
     };
-    match make(rt, office, &mut desks[0], call) {
-        Ok(_) => Ok(()),
-        Err(refused) => Err(refused),
-    }
+    make(rt, office, &mut desks[0], call)?;
+    Ok(())
 }
 
 // Ends an office whose desks have made the calls of their records, and gives its history.

@@ -13,6 +13,6 @@ returns c =
     let all = all-taken c.loop-row.calls.items script c.loop-row.row-index c.loop-row.invariant (omega (arith, c.loop-row-test.false)) in
     let from = ap (λ (rows : List ScriptRow). with_run (map record_of rows)) c.script-script.ensures.rows in
     elim c.match-added_run.branch [
-      | in-Some+in_ok-push-2 w ↦ rw w.calls-is (w.in_ok-push-2.ensures.items ∙ ap (λ (r : Script). r ++ w.in-Some.run ∷ []) all ∙ sym w.in-Some.ensures.added ∙ from)
+      | in-Some+in_ok-push-2 w ↦ rw w.calls-is (w.in_ok-push-2.ensures.items ∙ ap (λ (r : Script). r ++ w.in-Some.last ∷ []) all ∙ sym w.in-Some.ensures.added ∙ from)
       | in_default w ↦ rw w.calls-is (all ∙ sym (c.added_run.ensures.none (none-added c.added_run.result w.in_default.not-Some)) ∙ from)
     ]
