@@ -1,6 +1,6 @@
 //! A live day: the desks of its script answer beside one another.
 
-ghost use Rattle.std.specs.Prelude.{◌≡◌, ◌≤◌, Some, ⊤, vec_len};
+ghost use Rattle.std.specs.Prelude.{◌≤◌, Some, ⊤, vec_len};
 ghost use Rattle.std.specs.Int.{IsInRange};
 ghost use Rattle.mrp_rows.specs.declared.streams.TheConstants.{GREATEST_BUNDLE};
 ghost use Rattle.mrp_engine.specs.day.Planned.{PlansDay};

@@ -1,5 +1,5 @@
 -- What desks leave that have made their calls (profile).
-use Rattle.std.specs.Prelude.{ℕ, ◌≡◌, ◌<◌, ◌≤◌, ◌+◌, ◌++◌, ◌⊎◌, List, [], ◌∷◌, All, Any, Result, Ok, Err, IfErr, IsOk, OnErr, OnOk, length, slice_index_or}
+use Rattle.std.specs.Prelude.{ℕ, ◌≡◌, ◌<◌, ◌≤◌, ◌+◌, ◌++◌, ◌⊎◌, List, ◌∷◌, All, Any, Result, Ok, Err, IfErr, IsOk, OnOk, length, slice_index_or}
 use Rattle.mrp_tables.specs.declared.rows.ScriptRow.{ScriptRow}
 use Rattle.mrp_bill.specs.Shop.{Shop}
 use Rattle.mrp_turn.specs.Seen.{TurnId}

@@ -1,5 +1,5 @@
 use Rattle.std.proofs.Common.{◌≡◌, ◌∙◌, ◌<◌, ◌≤◌, ℕ, Ok, Option, Some, ap, length, subst, sym}
-use Rattle.std.specs.Prelude.{All, ⊤}
+use Rattle.std.specs.Prelude.{All}
 use Rattle.mrp_tables.specs.Facts.{IsScriptRow}
 use Rattle.mrp_tables.specs.Tables.{Tables}
 use Rattle.mrp_master.specs.Supply.{Supply, supply_of}

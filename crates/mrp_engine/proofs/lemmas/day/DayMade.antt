@@ -1,5 +1,5 @@
 -- A day is made of a bundle: it is refused, one of its runs is, or its texts are written.
-use Rattle.std.proofs.Common.{◌≡◌, ◌≢◌, ◌∙◌, ℕ, ◌≤◌, List, length, Option, Some, None, Result, Ok, Err, IfSome, ap, inl, inr, refl, subst, sym}
+use Rattle.std.proofs.Common.{◌≡◌, ◌≢◌, ◌∙◌, ℕ, ◌≤◌, List, length, Option, Some, None, Result, Ok, Err, IfSome, ap, inl, inr, refl, subst}
 use Rattle.std.specs.Prelude.{All, IfErr, OnErr, ⊤}
 use Rattle.std.specs.Io.KnownBytes.{IsAtEnd}
 use Rattle.std.proofs.lemmas.Result.{on_ok_weaker}
@@ -12,7 +12,6 @@ use Rattle.mrp_rows.specs.declared.told.Told.{Told}
 use Rattle.mrp_rows.specs.Streams.{TakesFront}
 use Rattle.mrp_rows.specs.Told.{inner_of, moved_of}
 use Rattle.mrp_tables.specs.Tables.{Tables}
-use Rattle.mrp_bill.specs.Shop.{Shop}
 use Rattle.mrp_report.specs.Written.{HasTakenFront}
 use Rattle.mrp_engine.specs.day.Day.{Answering, IsAccepted, IsPlannable, IsRefused, IsTooLargeBy, day_text, runs_of}
 use Rattle.mrp_engine.specs.day.Fault.{opening_fault, reading_fault}

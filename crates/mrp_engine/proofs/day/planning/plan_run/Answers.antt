@@ -1,4 +1,4 @@
-use Rattle.std.proofs.Common.{◌∙◌, subst}
+use Rattle.std.proofs.Common.{subst}
 use Rattle.mrp_item.specs.Inputs.{Inputs}
 use Rattle.mrp_explode.specs.Explosion.{Explodes}
 use Rattle.mrp_engine.proofs.day.planning.plan_run.Goals as goal
