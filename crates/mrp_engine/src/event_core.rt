@@ -76,7 +76,8 @@ impl Core {
     /// shop.
     ///
     /// Errors: `NoMemory` where memory is refused. Nothing has changed then. An event that has no
-    /// meaning takes no memory, nor does one that a full order book is asked.
+    /// meaning takes no memory, nor does one that a full order book is asked, or one that is answered
+    /// `NotYet`.
     pub fn step(
         &mut self,
         rt: &(impl Alloc + Threads + Sync),
@@ -247,10 +248,7 @@ impl Core {
         requires { All (FitsShop shop.tables) events.now }
         ensures { IfOk result (λ answers. RunsRight shop.tables events.now answers.items) }
     {
-        // Its tables keep their limits, and no item needs itself.
-        let tables = shop.tables();
-        let _items = tables.items();
-        let _lines = tables.bills();
+        shop.tables().keep_limits();
         let mut core = Core::new(alloc, shop)?;
         let mut answers = Vec::with_capacity(alloc, events.len())?;
         for event in events {

@@ -1,6 +1,6 @@
 //! What follows from the definitions alone, each law the contract of a function that does nothing.
 
-ghost use Rattle.std.specs.Prelude.{◌≡◌, List, ℕ};
+ghost use Rattle.std.specs.Prelude.{◌≡◌, ◌++◌, ◌∷◌, [], List, ℕ};
 ghost use Rattle.mrp_rows.specs.declared.fault.Fault.{Fault};
 ghost use Rattle.mrp_tables.specs.Tables.{AreTables, Tables};
 ghost use Rattle.mrp_book.specs.Standing.{History};
@@ -8,7 +8,9 @@ ghost use Rattle.mrp_item.specs.Inputs.{Inputs};
 ghost use Rattle.mrp_engine.specs.day.Day.{AnswersScript, IsDay, IsDayBy, IsRefused, IsTooLarge};
 ghost use Rattle.mrp_engine.specs.day.RightDay.{AnswersDesks, IsRightDay};
 ghost use Rattle.mrp_bill.specs.Shop.{Shop};
-ghost use Rattle.mrp_engine.specs.event_core.Core.{IsRight, Step};
+ghost use Rattle.mrp_engine.specs.declared.event_core.event.Event.{Event};
+ghost use Rattle.mrp_engine.specs.declared.event_core.event.Answer.{Answer};
+ghost use Rattle.mrp_engine.specs.event_core.Core.{FitsShop, IsAnswer, IsRight, Step, after, core_of, opened};
 ghost use Rattle.mrp_engine.specs.event_core.Headline.{Headline, IsAcceptedShop};
 ghost use Rattle.mrp_engine.specs.Laws.{ArePlannedOrRefused, BooksWithin, CallsByWords, CallsFromScript, HasDay, HasLoopOrNone, HasReading, PlansWhatStood, StaysCovered};
 
@@ -76,6 +78,18 @@ pub fn right_days()
     ensures what_stood { (tables : Tables) (h : History) → AnswersDesks tables h → PlansWhatStood tables h }
     ensures within { (tables : Tables) (h : History) → AnswersDesks tables h → BooksWithin tables h }
     ensures covered { (tables : Tables) (h : History) → AnswersDesks tables h → StaysCovered tables h }
+{}
+
+/// Events that are asked of `Core::step` one by one. So the events that it was asked so far, with its
+/// answers, are right, and keep the headline.
+pub fn steps()
+    // No events are right, and leave the core that was opened.
+    ensures none { (tables : Tables) → IsRight tables [] × (core_of tables [] ≡ opened tables) }
+    // Right ones stay right with one more of the shop that is answered by the core which they leave.
+    ensures more { (tables : Tables) (steps : List Step) (e : Event) (a : Answer) → IsRight tables steps → FitsShop tables e → IsAnswer (core_of tables steps) e a → IsRight tables (steps ++ (e, a) ∷ []) }
+    // It leaves that core as `after` says, and its tables are always the shop's.
+    ensures after { (tables : Tables) (steps : List Step) (e : Event) (a : Answer) → core_of tables (steps ++ (e, a) ∷ []) ≡ after (core_of tables steps) e a }
+    ensures tables { (tables : Tables) (steps : List Step) → (core_of tables steps).tables ≡ tables }
 {}
 
 /// The headline. For every interleaving of bookings, cancellations, snapshots and item steps, with any

@@ -1,5 +1,10 @@
 pub mod BoardLogs
 pub mod BoardLaws
+pub mod FirstTakes
 pub mod CoreLaws
+pub mod CoreAnswers
+pub mod LoadsByOrder
+pub mod Headlines
 pub mod CoreSteps
 pub mod CoreRuns
+pub mod RunReports

@@ -1,5 +1,5 @@
 -- The core: which events have meaning, what each is answered, and what its answer adds to the history and to the runs (profile).
-use Rattle.std.specs.Prelude.{ℕ, ◌≡◌, ◌≤◌, ◌+◌, ◌-◌, ◌⊎◌, true, List, [], ◌∷◌, ◌++◌, Option, Some, None, IsSome, length, take, set}
+use Rattle.std.specs.Prelude.{ℕ, ◌≡◌, ◌≤◌, ◌+◌, ◌-◌, ◌⊎◌, true, List, [], ◌∷◌, ◌++◌, Option, Some, None, IsSome, Result, Ok, Err, length, take, set}
 use Rattle.std.specs.List.{slice_index_or}
 use Rattle.std.specs.Global.{Vec}
 use Rattle.mrp_tables.specs.Tables.{Tables}
@@ -11,6 +11,9 @@ use Rattle.mrp_book.specs.declared.reply.Reply.TheVariants as reply
 use Rattle.mrp_book.specs.Standing.{History, standing}
 use Rattle.mrp_book.specs.History.{Fits, IsFull, IsReply, next_number}
 use Rattle.mrp_item.specs.Inputs.{Inputs}
+use Rattle.mrp_item.specs.Places.{WholePlan}
+use Rattle.mrp_explode.specs.declared.fault.RunFault.{RunFault}
+use Rattle.mrp_explode.specs.declared.fault.RunFault.TheVariants as fault
 use Rattle.mrp_report.specs.ReportText.{report_text}
 use Rattle.mrp_engine.specs.declared.event_core.board.BoardCall.TheVariants as board_call
 use Rattle.mrp_engine.specs.declared.event_core.board.BoardReply.{BoardReply}
@@ -76,9 +79,16 @@ IsOfDesk e = ⊥
 abbrev pub AsksFullBook : Core → Event → Type 0
 AsksFullBook core e = IsOfDesk e × HasMeaning core e × IsFull core.history
 
--- an event that may be refused for want of memory: one that has meaning, and asks no full order book
-abbrev pub WantsMemory : Core → Event → Type 0
-WantsMemory core e = HasMeaning core e × (¬ AsksFullBook core e)
+-- a worker that takes is told to come again
+abbrev pub IsToldLater : Core → Event → Type 0
+IsToldLater core (event.Take run who) = board_reply (run_inputs core run) (log_at core run) who board_call.Take ≡ None
+IsToldLater core e = ⊥
+
+-- an event that may be refused for want of memory: one that has meaning, asks no full order book, and is not told to come again
+pub record WantsMemory (core : Core) (e : Event) : Type 0 where
+  pub meant : HasMeaning core e
+  pub not_full : ¬ AsksFullBook core e
+  pub not_later : ¬ IsToldLater core e
 
 -- a board's reply, as the core tells it; none is NotYet
 abbrev pub told : Option BoardReply → Answer
@@ -93,6 +103,12 @@ told (Some board_reply.Stopped) = answer.Stopped
 abbrev pub IsReport : Inputs → Answer → Type 0
 IsReport s a = ((bytes : Vec ℕ) × (a ≡ answer.Bytes bytes) × IsPlannable s × (bytes.items ≡ report_text s)) ⊎ ((name : List ℕ) × (a ≡ answer.TooLarge name) × IsRefusedBy s name)
 
+-- the report of a plan, or why there is none; memory may be refused for the report
+abbrev pub Reports : Result WholePlan RunFault → Result (Vec ℕ) RunFault → Type 0
+Reports (Ok plan) (Ok bytes) = bytes.items ≡ report_text plan.inputs
+Reports (Ok plan) (Err f) = f ≡ fault.NoMemory
+Reports (Err f) report = report ≡ Err f
+
 -- what an event that has meaning is answered: by the order book, which is full at 1,000,000 entries; by the run's board; or by
 -- the run's report
 abbrev pub IsAnswered : Core → Event → Answer → Type 0
@@ -103,8 +119,9 @@ IsAnswered core (event.Start desk) a =
     (IsFull core.history × (a ≡ answer.Full))
     ⊎ ((¬ IsFull core.history) × (a ≡ answer.Started (length core.runs + 1) (next_number core.history)))
 IsAnswered core (event.Take run who) a = a ≡ told (board_reply (run_inputs core run) (log_at core run) who board_call.Take)
-IsAnswered core (event.Finish run who) a = a ≡ answer.Stored
-IsAnswered core (event.GiveUp run who) a = a ≡ answer.Stopped
+IsAnswered core (event.Finish run who) a =
+    (item : ℕ) × (held who (log_at core run) ≡ Some item) × (a ≡ told (board_reply (run_inputs core run) (log_at core run) who (board_call.Finish item)))
+IsAnswered core (event.GiveUp run who) a = a ≡ told (board_reply (run_inputs core run) (log_at core run) who board_call.GiveUp)
 IsAnswered core (event.Write run) a = IsReport (run_inputs core run) a
 
 -- an event that has meaning is answered so, and any other is answered Nothing

@@ -1,8 +1,8 @@
 -- What every right list of events and answers keeps.
-use Rattle.std.specs.Prelude.{ℕ, ◌≡◌, ◌≢◌, ◌↔◌, ◌<◌, ◌+◌, ◌==◌, List, [], ◌∷◌, ◌++◌, All, AllPairs, length, filter, sum_by, zip}
+use Rattle.std.specs.Prelude.{ℕ, ◌≡◌, ◌≢◌, ◌↔◌, ◌<◌, ◌+◌, ◌==◌, ◌&&◌, ◌⊎◌, true, List, [], ◌∷◌, ◌++◌, AllPairs, length, filter, sum_by, zip}
 use Rattle.std.specs.Global.{Vec}
-use Rattle.mrp_tables.specs.Tables.{Tables}
-use Rattle.mrp_tables.specs.Facts.{IsBillLine, IsItem}
+use Rattle.mrp_tables.specs.Tables.{AreTables, Tables}
+use Rattle.mrp_tables.specs.declared.rows.Operation.{Operation}
 use Rattle.mrp_bill.specs.Shop.{IsShop, Shop}
 use Rattle.mrp_turn.specs.declared.log.Entry.{Entry}
 use Rattle.mrp_turn.specs.Log.{entry}
@@ -14,9 +14,10 @@ use Rattle.mrp_book.specs.declared.reply.Reply.{Reply}
 use Rattle.mrp_book.specs.declared.reply.Reply.TheVariants as reply
 use Rattle.mrp_book.specs.Standing.{History, booked}
 use Rattle.mrp_book.specs.History.{IsLegal, next_number}
-use Rattle.mrp_item.specs.Inputs.{Inputs, count}
+use Rattle.mrp_item.specs.declared.order.Order.{Order}
+use Rattle.mrp_item.specs.Inputs.{Inputs, count, places}
 use Rattle.mrp_peg.specs.Laws.{AddUpToRequirements, AddUpToSupplies}
-use Rattle.mrp_peg.specs.Pegging.{pegs_of, requirements}
+use Rattle.mrp_peg.specs.Pegging.{pegs_of, requirements, supplies}
 use Rattle.mrp_load.specs.Loads.{load, operation_week, orders_in, standard_time}
 use Rattle.mrp_report.specs.ReportText.{report_text}
 use Rattle.mrp_engine.specs.declared.event_core.event.Event.{Event}
@@ -24,14 +25,13 @@ use Rattle.mrp_engine.specs.declared.event_core.event.Event.TheVariants as event
 use Rattle.mrp_engine.specs.declared.event_core.event.Answer.{Answer}
 use Rattle.mrp_engine.specs.declared.event_core.event.Answer.TheVariants as answer
 use Rattle.mrp_engine.specs.day.Day.{IsPlannable, IsRefusedBy}
-use Rattle.mrp_engine.specs.event_core.Board.{IsLegalBoard}
-use Rattle.mrp_engine.specs.event_core.Core.{AsksFullBook, HasMeaning, IsRight, IsStarted, Step, core_of, log_at, run_inputs, snapshot_of}
+use Rattle.mrp_engine.specs.event_core.Board.{IsLegalBoard, is_stored}
+use Rattle.mrp_engine.specs.event_core.Core.{AsksFullBook, HasMeaning, IsRight, IsStarted, Step, core_of, inputs_at, log_at, run_inputs, snapshot_of}
 
 -- a shop whose tables keep their limits, and in which no item needs itself
 pub record IsAcceptedShop (shop : Shop) : Type 0 where
   pub accepted : IsShop shop
-  pub items : All IsItem shop.tables.items
-  pub lines : All (IsBillLine shop.tables.items) shop.tables.bills
+  pub tables : AreTables shop.tables
 
 -- the entry of a history with this number
 pub record IsEntry (h : History) (number : ℕ) (e : Entry Call Reply) : Type 0 where
@@ -53,11 +53,25 @@ pub record WasWritten (tables : Tables) (steps : List Step) (s : Inputs) : Type 
   pub answered : WasAnswered steps before (event.Write run) (answer.Bytes bytes)
   pub inputs : s ≡ run_inputs (core_of tables before) run
 
--- the orders of an operation's item that stand in a week, with what each takes there
-abbrev pub time_in : Inputs → ℕ → ℕ → ℕ
-time_in s centre week =
-    sum_by (λ operation. sum_by (standard_time operation) (filter (λ order. operation_week operation order == week) (orders_in s operation.item)))
-    (filter (λ operation. operation.centre == centre) s.tables.routings)
+-- an entry of the order book is of a call that was replied with its number, or of a start that was told it as the run's front
+abbrev pub WasEntered : Tables → List Step → ℕ → Entry Call Reply → Type 0
+WasEntered tables steps number e =
+    ((before : List Step) × WasAnswered steps before (event.Call e.who e.call) (answer.Replied number e.reply))
+    ⊎ ((before : List Step) × (run : ℕ) × WasAnswered steps before (event.Start e.who) (answer.Started run number) × (e ≡ entry e.who call.Snapshot (snapshot_of (core_of tables before) number)))
+
+-- a desk started the run
+abbrev pub WasStarted : List Step → ℕ → Type 0
+WasStarted steps run = (before : List Step) × (desk : ℕ) × (front : ℕ) × WasAnswered steps before (event.Start desk) (answer.Started run front)
+
+-- the operations of an item at a work centre at which an order of it stands in a week
+abbrev pub operations_in : Inputs → ℕ → ℕ → ℕ → Order → List Operation
+operations_in s centre week item order =
+    filter (λ operation. (operation.item == item) && (operation.centre == centre) && (operation_week operation order == week)) s.tables.routings
+
+-- what the orders of all items, firm and planned, take of a work centre in a week, each in its operations that stand there (APICS Dictionary: standard time)
+abbrev pub time_of_orders : Inputs → ℕ → ℕ → ℕ
+time_of_orders s centre week =
+    sum_by (λ item. sum_by (λ order. sum_by (λ operation. standard_time operation order) (operations_in s centre week item order)) (orders_in s item)) (places s)
 
 -- the answers of which nothing is kept
 abbrev pub ChangesNothing : Answer → Type 0
@@ -83,12 +97,21 @@ pub record Headline (tables : Tables) (steps : List Step) : Type 0 where
   pub entered : (before : List Step) (desk n : ℕ) (c : Call) (r : Reply) → WasAnswered steps before (event.Call desk c) (answer.Replied n r) → IsEntry (core_of tables steps).history n (entry desk c r)
   pub snapped : (before : List Step) (desk run front : ℕ) → WasAnswered steps before (event.Start desk) (answer.Started run front)
       → IsEntry (core_of tables steps).history front (entry desk call.Snapshot (snapshot_of (core_of tables before) front))
-  -- the bytes that a finished run wrote are the report of the plan that the tables and the first entries up to its front define,
-  -- whatever came between or after
+  -- and no other entry stands there
+  pub answered : (number : ℕ) (e : Entry Call Reply) → IsEntry (core_of tables steps).history number e → WasEntered tables steps number e
+  -- a run plans from the tables and the first entries up to the front that its start was answered, whatever came between or after
+  pub fronts : (before : List Step) (desk run front : ℕ) → WasAnswered steps before (event.Start desk) (answer.Started run front)
+      → run_inputs (core_of tables steps) run ≡ inputs_at tables (core_of tables steps).history front
+  -- and at no point is there a run that no desk started
+  pub begun : (before after : List Step) (run : ℕ) → steps ≡ before ++ after → IsStarted (core_of tables before) run → WasStarted steps run
+  -- the bytes that a finished run wrote are the report of the plan that these define
   pub written : (before : List Step) (run : ℕ) (bytes : Vec ℕ) → WasAnswered steps before (event.Write run) (answer.Bytes bytes)
       → IsPlannable (run_inputs (core_of tables steps) run) × (bytes.items ≡ report_text (run_inputs (core_of tables steps) run))
   pub refused : (before : List Step) (run : ℕ) (name : List ℕ) → WasAnswered steps before (event.Write run) (answer.TooLarge name)
       → IsRefusedBy (run_inputs (core_of tables steps) run) name
+  -- and each of its items was stored then
+  pub finished : (before : List Step) (run : ℕ) (a : Answer) → WasAnswered steps before (event.Write run) a → a ≢ answer.Nothing
+      → (item : ℕ) → item < length tables.items → is_stored (log_at (core_of tables before) run) item ≡ true
   -- the log of each run's board is legal: an item is handed out where its parents are stored, and stored by the worker that it was handed to
   pub boards : (run : ℕ) → IsStarted (core_of tables steps) run → IsLegalBoard (run_inputs (core_of tables steps) run) (log_at (core_of tables steps) run)
   -- no accepted booking exceeded what was then available to promise
@@ -98,13 +121,15 @@ pub record Headline (tables : Tables) (steps : List Step) : Type 0 where
   pub covered : (before after : History) → (core_of tables steps).history ≡ before ++ after → IsCovered (supply_of tables) (booked before)
   -- of each run that is written, every requirement's pegs add up to it, and every supply's, with its surplus, to the supply
   pub pegged : (s : Inputs) → WasWritten tables steps s → (item : ℕ) → item < count s → AddUpToRequirements s item (pegs_of s item) × AddUpToSupplies s item (pegs_of s item)
-  -- and no two requirements are of one need
+  -- and no two requirements are of one need, and no two supplies of one source
   pub apart : (s : Inputs) → WasWritten tables steps s → (item : ℕ) → AllPairs (λ a b. a.of ≢ b.of) (requirements s item)
+  pub sources : (s : Inputs) → WasWritten tables steps s → (item : ℕ) → AllPairs (λ a b. a.of ≢ b.of) (supplies s item)
   -- and every work centre's load in a week is the standard minutes, in thousandths, of the orders that stand there
-  pub loaded : (s : Inputs) → WasWritten tables steps s → (centre week : ℕ) → load s centre week ≡ time_in s centre week
-  -- an event is answered Nothing exactly where it has no meaning
+  pub loaded : (s : Inputs) → WasWritten tables steps s → (centre week : ℕ) → load s centre week ≡ time_of_orders s centre week
+  -- an event is answered Nothing exactly where it has no meaning, and anything else where it has one
   pub meaning : (before : List Step) (e : Event) (a : Answer) → WasAnswered steps before e a → (a ≡ answer.Nothing) ↔ (¬ HasMeaning (core_of tables before) e)
-  -- it changes nothing then, nor where the book is full, the run is not ready, or a run is written
+  pub meant : (before : List Step) (e : Event) (a : Answer) → WasAnswered steps before e a → (a ≢ answer.Nothing) ↔ HasMeaning (core_of tables before) e
+  -- it changes nothing where it has none, nor where the book is full, the run is not ready, or a run is written
   pub unchanged : (before : List Step) (e : Event) (a : Answer) → WasAnswered steps before e a → ChangesNothing a → core_of tables (before ++ (e, a) ∷ []) ≡ core_of tables before
   -- a call or a start is answered that the order book is full exactly where it has its limit of entries
   pub full : (before : List Step) (e : Event) (a : Answer) → WasAnswered steps before e a → (a ≡ answer.Full) ↔ AsksFullBook (core_of tables before) e

@@ -3,7 +3,7 @@ use Rattle.std.specs.Prelude.{ℕ, ◌≡◌, Bool, true, false, List, [], Optio
 use Rattle.std.specs.List.{slice_index_or}
 use Rattle.mrp_item.specs.Inputs.{Inputs, count}
 use Rattle.mrp_explode.specs.Finished.{Progress, IsReady}
-use Rattle.mrp_engine.specs.event_core.Board.{BoardLog, RunLog, has_stopped, held, is_out, is_stored}
+use Rattle.mrp_engine.specs.event_core.Board.{BoardLog, IsLegalBoard, RunLog, has_stopped, held, is_out, is_out_to, is_stored}
 
 -- the marks of a board are those of its log; the parents of what is out are stored
 pub record KeepsLog (finished : Progress) (out : List Bool) (stopped : Bool) (log : BoardLog) : Type 0 where
@@ -13,6 +13,14 @@ pub record KeepsLog (finished : Progress) (out : List Bool) (stopped : Bool) (lo
   pub stopped_is : stopped ≡ has_stopped log
   pub ready : (item : ℕ) → is_out log item ≡ true → IsReady finished item
   pub held_out : (who item : ℕ) → held who log ≡ Some item → is_out log item ≡ true
+
+-- a legal log whose workers finish what they hold
+pub record KeepsBoard (s : Inputs) (log : BoardLog) : Type 0 where
+  pub legal : IsLegalBoard s log
+  pub held_out : (who i : ℕ) → held who log ≡ Some i → is_out_to who log i ≡ true
+  pub unstored : (who i : ℕ) → held who log ≡ Some i → is_stored log i ≡ false
+  pub one : (who other i : ℕ) → held who log ≡ Some i → held other log ≡ Some i → who ≡ other
+  pub stored_out : (i : ℕ) → is_stored log i ≡ true → is_out log i ≡ true
 
 abbrev pub log_of : Option RunLog → BoardLog
 log_of None = []

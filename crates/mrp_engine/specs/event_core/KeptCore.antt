@@ -6,11 +6,13 @@ use Rattle.mrp_book.specs.Standing.{History}
 use Rattle.mrp_engine.specs.declared.event_core.Core.TheInside.{Inside}
 use Rattle.mrp_engine.specs.event_core.Board.{RunLog}
 use Rattle.mrp_engine.specs.event_core.Core.{Core, Run, inputs_at}
+use Rattle.mrp_engine.specs.event_core.Kept.{KeepsBoard}
 
--- a run plans from the bookings that stood at its front
+-- a run plans from the bookings that stood at its front, and its board's log is legal
 pub record FollowsHistory (tables : Tables) (h : History) (run : RunLog) : Type 0 where
   pub inputs : run.inputs ≡ inputs_at tables h run.inputs.front
   pub before : run.inputs.front ≤ length h
+  pub board : KeepsBoard run.inputs run.log
 
 -- a run, as a core tells it
 abbrev pub brief : RunLog → Run

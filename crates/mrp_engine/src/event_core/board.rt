@@ -69,7 +69,7 @@ impl Model for Board {
 }
 
 impl Board {
-    ghost use Rattle.std.specs.Prelude.{◌≡◌, ◌++◌, ◌∷◌, ◌<◌, [], true, Some, IfOk, OnOk, OnErr, find};
+    ghost use Rattle.std.specs.Prelude.{◌≡◌, ◌≢◌, ◌++◌, ◌∷◌, ◌<◌, [], true, Some, None, IfOk, OnOk, OnErr, find};
     ghost use Rattle.mrp_turn.specs.Log.{entry};
     ghost use Rattle.mrp_item.specs.Inputs.{count, places};
     ghost use Rattle.mrp_explode.specs.Explosion.{Explodes};
@@ -200,11 +200,13 @@ impl Board {
     /// Answers a worker that takes, and makes an entry of it; None where it is told to come again,
     /// and nothing changes.
     ///
-    /// Errors: `NoMemory` where memory is refused. Nothing has changed then.
+    /// Errors: `NoMemory` where memory is refused, and it is not told to come again. Nothing has
+    /// changed then.
     pub fn take(&mut self, worker: u64) -> Result<Option<BoardReply>, NoMemory>
         ensures reply { IfOk result (λ reply. reply ≡ board_reply self.old.inputs self.old.log worker BoardCall.Take) }
         ensures entry { IfOk result (λ reply. self.new ≡ record self.old { log = self.old.log ++ taken worker reply }) }
         ensures refused { OnErr result (self.new ≡ self.old) }
+        ensures memory { OnErr result (board_reply self.old.inputs self.old.log worker BoardCall.Take ≢ None) }
     {
         if self.is_at_end() {
             self.end(worker)?;

@@ -1,13 +1,15 @@
 //! A run that was started.
 
-ghost use Rattle.std.specs.Prelude.{◌≡◌, ℕ, Err, IfOk, IsOk, OnErr, OnOk, Some};
+ghost use Rattle.std.specs.Prelude.{◌≡◌, ℕ, Ok, Err, IfOk, IsErr, OnErr, OnOk, Some, None};
+ghost use Rattle.std.specs.Global.{Vec};
 ghost use Rattle.mrp_master.specs.Supply.{supply_of};
 ghost use Rattle.mrp_book.specs.Booked.{AreBooked};
-ghost use Rattle.mrp_item.specs.Inputs.{inputs_of};
+ghost use Rattle.mrp_item.specs.Inputs.{inputs_of, item_at};
+ghost use Rattle.mrp_item.specs.Plan.{plan_of};
 ghost use Rattle.mrp_explode.specs.declared.fault.RunFault.TheVariants as fault;
-ghost use Rattle.mrp_explode.specs.Explosion.{Explodes};
 ghost use Rattle.mrp_report.specs.ReportText.{report_text};
-ghost use Rattle.mrp_engine.specs.event_core.Core.{IsReport, told};
+ghost use Rattle.mrp_engine.specs.declared.event_core.event.Answer.TheVariants as answer;
+ghost use Rattle.mrp_engine.specs.event_core.Core.{IsReport, Reports, told};
 ghost use Rattle.mrp_engine.specs.event_core.Kept.{IsBoardOf, log_of};
 
 use crate::day::name_of;
@@ -55,6 +57,7 @@ fn begin(
     requires board { IsBoardOf (inputs_of rows.now.value.tables snapshot.now) board.old }
     ensures begun { OnOk result (board.new ≡ Some (record { inputs = inputs_of rows.now.value.tables snapshot.now; log = log_of board.old })) }
     ensures refused { OnErr result (board.new ≡ board.old) }
+    ensures memory { OnErr result (board.old ≡ None) }
 {
     if board.is_none() {
         let inputs = Inputs::over(alloc, rows.clone()?, snapshot.copy()?)?;
@@ -78,19 +81,27 @@ fn report_of(
     }
 }
 
-// The report of a run's plan, or the item that refuses the plan.
-fn written(
+// The report of a run's plan, or why it has none.
+fn reported(
     rt: &(impl Alloc + Threads + Sync),
     alloc: Global,
-    inputs: &Inputs,
     planned: Result<Plan, RunFault>,
-) -> Result<Answer, NoMemory>
-    requires { Explodes inputs.now planned }
-    ensures report { IfOk result (IsReport inputs.now) }
-    ensures large { (item : ℕ) → planned ≡ Err (fault.TooLarge item) → IsOk result }
+) -> Result<Vec<u8>, RunFault>
+    ensures { Reports planned result }
 {
-    match planned {
-        Ok(plan) => Ok(Answer::Bytes(report_of(rt, alloc, &plan)?)),
+    let plan = planned?;
+    Ok(report_of(rt, alloc, &plan)?)
+}
+
+// What a core answers of a run's report, or of why it has none. It takes no memory.
+fn answer_of(inputs: &Inputs, report: Result<Vec<u8>, RunFault>) -> Result<Answer, NoMemory>
+    requires { (item : ℕ) → report ≡ Err (fault.TooLarge item) → plan_of inputs.now ≡ Err item }
+    ensures bytes { (bytes : Vec ℕ) → report ≡ Ok bytes → result ≡ Ok (answer.Bytes bytes) }
+    ensures large { (item : ℕ) → report ≡ Err (fault.TooLarge item) → result ≡ Ok (answer.TooLarge (item_at inputs.now item).name) }
+    ensures memory { report ≡ Err fault.NoMemory → IsErr result }
+{
+    match report {
+        Ok(bytes) => Ok(Answer::Bytes(bytes)),
         Err(RunFault::TooLarge { item }) => Ok(Answer::TooLarge(name_of(inputs, item))),
         Err(RunFault::NoMemory) => Err(NoMemory),
     }
@@ -132,12 +143,16 @@ impl Run {
 
     /// Answers a worker that takes.
     ///
-    /// Errors: `NoMemory` where memory is refused. Nothing has changed then.
+    /// Errors: `NoMemory` where memory is refused, and it is not told to come again. Nothing has
+    /// changed then.
     pub fn take(&mut self, alloc: Global, worker: u64) -> Result<Answer, NoMemory>
         ensures answer { IfOk result (λ a. a ≡ told (board_reply self.old.inputs self.old.log worker call.Take)) }
         ensures entry { OnOk result (self.new ≡ record self.old { log = self.old.log ++ taken worker (board_reply self.old.inputs self.old.log worker call.Take) }) }
         ensures refused { OnErr result (self.new ≡ self.old) }
+        ensures memory { OnErr result (board_reply self.old.inputs self.old.log worker call.Take ≢ None) }
     {
+        // No item needs itself, so of a new board some item can be taken, if there are any.
+        let _shop = self.rows.shop().tables();
         begin(alloc, &self.rows, &self.snapshot, &mut self.board)?;
         match &mut self.board {
             Some(board) => Ok(told(board.take(worker)?)),
@@ -210,7 +225,7 @@ impl Run {
         let Some(board) = &self.board else {
             unreachable!()
         };
-        written(rt, alloc, board.inputs(), board.plan(alloc))
+        answer_of(board.inputs(), reported(rt, alloc, board.plan(alloc)))
     }
 }
 

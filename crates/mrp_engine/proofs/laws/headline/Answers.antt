@@ -1,4 +1,4 @@
-use Rattle.mrp_engine.proofs.lemmas.event_core.CoreLaws.{headline}
+use Rattle.mrp_engine.proofs.lemmas.event_core.Headlines.{headline}
 use Rattle.mrp_engine.proofs.laws.headline.Goals as goal
 
 pub returns : goal.returns

@@ -1,6 +1,7 @@
 -- Each run's log is a legal log of its board.
 use Rattle.std.proofs.Common.{◌≡◌, ◌≢◌, ◌∙◌, ◌==◌, ◌||◌, ◌&&◌, ℕ, ◌⊎◌, Bool, true, false, cond, not, if◌then◌else◌, [], ◌∷◌, ◌++◌, Option, Some, None, inl, inr, refl, sym, ap, subst, arith}
 use Rattle.std.proofs.Math.Bool.{or-true}
+use Rattle.std.proofs.lemmas.List.{append-nil}
 use Rattle.std.proofs.lemmas.Bool.{cases_order, false_from_ne_true}
 use Rattle.std.proofs.lemmas.Bool.Decides.{nat_tests}
 use Rattle.std.specs.Prelude.{option_map, find}
@@ -15,7 +16,9 @@ use Rattle.mrp_engine.specs.declared.event_core.board.BoardCall.{BoardCall}
 use Rattle.mrp_engine.specs.declared.event_core.board.BoardCall.TheVariants as call
 use Rattle.mrp_engine.specs.declared.event_core.board.BoardReply.{BoardReply}
 use Rattle.mrp_engine.specs.declared.event_core.board.BoardReply.TheVariants as reply
-use Rattle.mrp_engine.specs.event_core.Board.{BoardEntry, BoardLog, IsLegalBoard, MayFollowOnBoard, board_reply, hands_out, held, is_at_end, is_out, is_out_to, is_ready, is_stored, item_in, stores}
+use Rattle.mrp_engine.specs.event_core.Board.{BoardEntry, BoardLog, MayFollowOnBoard, board_reply, hands_out, held, is_at_end, is_out, is_out_to, is_ready, is_stored, item_in, stores, taken}
+use Rattle.mrp_engine.specs.event_core.Core.{finish_of}
+use Rattle.mrp_engine.specs.event_core.Kept.{KeepsBoard}
 use Rattle.mrp_engine.proofs.lemmas.event_core.BoardLogs.{found-in, held-more, other-number, same-number, still-out, stored-more}
 
 -- Tests.
@@ -27,11 +30,11 @@ either : (a b : Bool) → (a || b) ≡ true → (a ≡ true) ⊎ (b ≡ true)
 either true b e = inl refl
 either false b e = inr e
 
-and-first : (a b : Bool) → (a && b) ≡ true → a ≡ true
+pub and-first : (a b : Bool) → (a && b) ≡ true → a ≡ true
 and-first true b e = refl
 and-first false b e = e
 
-not-out : (b : Bool) → not b ≡ true → b ≡ false
+pub not-out : (b : Bool) → not b ≡ true → b ≡ false
 not-out true e = sym e
 not-out false e = refl
 
@@ -46,10 +49,15 @@ out-to-out : (who : ℕ) (log : BoardLog) (i : ℕ) → is_out_to who log i ≡ 
 out-to-out who [] i e = e
 out-to-out who (x ∷ log) i e = less-asked (x.who == who) (hands_out i x.reply) (is_out_to who log i) (is_out log i) (out-to-out who log i) e
 
-out-to-more : (who : ℕ) (log : BoardLog) (e : BoardEntry) (i : ℕ) → is_out_to who (log ++ e ∷ []) i ≡ (is_out_to who log i || ((e.who == who) && hands_out i e.reply))
+pub out-to-more : (who : ℕ) (log : BoardLog) (e : BoardEntry) (i : ℕ) → is_out_to who (log ++ e ∷ []) i ≡ (is_out_to who log i || ((e.who == who) && hands_out i e.reply))
 out-to-more who log e i = any-more (λ (x : BoardEntry). (x.who == who) && hands_out i x.reply) log e
 
 -- Replies.
+
+pub found-new : (b : Bool) (o : Option ℕ) (i : ℕ) → (if b then Some reply.AllOut else option_map reply.Item o) ≡ Some (reply.Item i) → o ≡ Some i
+found-new true o i e = absurd (let n : Some reply.AllOut ≡ Some (reply.Item i) = e in cc)
+found-new false None i e = absurd (let n : None ≡ Some (reply.Item i) = e in cc)
+found-new false (Some j) i e = let n : Some (reply.Item j) ≡ Some (reply.Item i) = e in cc
 
 handed : (r : BoardReply) (i : ℕ) → item_in r ≡ Some i → hands_out i r ≡ true
 handed (reply.Item j) i e = same-number j i (let n : Some j ≡ Some i = e in cc)
@@ -66,14 +74,6 @@ takes-alone (call.Finish k) reply.AllOut i j e s = let n : false ≡ true = s in
 takes-alone (call.Finish k) (reply.Item m) i j e s = let n : false ≡ true = s in cc
 takes-alone (call.Finish k) reply.NotOut i j e s = let n : false ≡ true = s in cc
 takes-alone (call.Finish k) reply.Stopped i j e s = let n : false ≡ true = s in cc
-
--- a legal log whose workers finish what they hold
-pub record KeepsBoard (s : Inputs) (log : BoardLog) : Type 0 where
-  pub legal : IsLegalBoard s log
-  pub held_out : (who i : ℕ) → held who log ≡ Some i → is_out_to who log i ≡ true
-  pub unstored : (who i : ℕ) → held who log ≡ Some i → is_stored log i ≡ false
-  pub one : (who other i : ℕ) → held who log ≡ Some i → held other log ≡ Some i → who ≡ other
-  pub stored_out : (i : ℕ) → is_stored log i ≡ true → is_out log i ≡ true
 
 pub keeps-none : (s : Inputs) → KeepsBoard s []
 keeps-none s = record {
@@ -143,16 +143,17 @@ module _ (s : Inputs) (log : BoardLog) (k : KeepsBoard s log) where
       stored_out = λ i is. stored-is-out i (either (is_stored log i) (stores i e.call e.reply) (sym (stored-more log e i) ∙ is));
     }
 
+  -- what a worker that finishes what it holds is told
+  pub stored-reply : (who item : ℕ) → held who log ≡ Some item → board_reply s log who (call.Finish item) ≡ Some reply.Stored
+  stored-reply who item has =
+      ap (λ (b : Bool). if b && not (is_stored log item) then Some reply.Stored else Some reply.NotOut) (k.held_out who item has)
+      ∙ ap (λ (b : Bool). if not b then Some reply.Stored else Some reply.NotOut) (k.unstored who item has)
+
   -- a worker takes
   module _ (who : ℕ) (seat : IsSeatNumber who) where
     pub keeps-end : board_reply s log who call.Take ≡ Some reply.AllOut → KeepsBoard s (log ++ entry who call.Take reply.AllOut ∷ [])
     keeps-end is =
         keeps-more (entry who call.Take reply.AllOut) (seat, is) (λ i e. absurd (let n : false ≡ true = e in cc)) (λ i e. absurd (let n : None ≡ Some i = e in cc))
-
-    found-new : (b : Bool) (o : Option ℕ) (i : ℕ) → (if b then Some reply.AllOut else option_map reply.Item o) ≡ Some (reply.Item i) → o ≡ Some i
-    found-new true o i e = absurd (let n : Some reply.AllOut ≡ Some (reply.Item i) = e in cc)
-    found-new false None i e = absurd (let n : None ≡ Some (reply.Item i) = e in cc)
-    found-new false (Some j) i e = let n : Some (reply.Item j) ≡ Some (reply.Item i) = e in cc
 
     pub keeps-taken : (item : ℕ) → board_reply s log who call.Take ≡ Some (reply.Item item) → KeepsBoard s (log ++ entry who call.Take (reply.Item item) ∷ [])
     keeps-taken item is =
@@ -165,10 +166,7 @@ module _ (s : Inputs) (log : BoardLog) (k : KeepsBoard s log) where
     -- finishes what it holds
     pub keeps-stored : (item : ℕ) → held who log ≡ Some item → KeepsBoard s (log ++ entry who (call.Finish item) reply.Stored ∷ [])
     keeps-stored item has =
-        let says : board_reply s log who (call.Finish item) ≡ Some reply.Stored =
-        ap (λ (b : Bool). if b && not (is_stored log item) then Some reply.Stored else Some reply.NotOut) (k.held_out who item has)
-        ∙ ap (λ (b : Bool). if not b then Some reply.Stored else Some reply.NotOut) (k.unstored who item has) in
-        keeps-more (entry who (call.Finish item) reply.Stored) (seat, says)
+        keeps-more (entry who (call.Finish item) reply.Stored) (seat, stored-reply who item has)
         (λ i e. has ∙ ap (λ (n : ℕ). Some n) (equal item i e)) (λ i e. absurd (let n : None ≡ Some i = e in cc))
       where
         equal : (i j : ℕ) → (i == j) ≡ true → i ≡ j
@@ -178,3 +176,26 @@ module _ (s : Inputs) (log : BoardLog) (k : KeepsBoard s log) where
     pub keeps-stopped : KeepsBoard s (log ++ entry who call.GiveUp reply.Stopped ∷ [])
     keeps-stopped =
         keeps-more (entry who call.GiveUp reply.Stopped) (seat, refl) (λ i e. absurd (let n : false ≡ true = e in cc)) (λ i e. absurd (let n : None ≡ Some i = e in cc))
+
+    -- whatever it is told when it takes
+    told-taken : (b : Bool) (o : Option ℕ) (r : Option BoardReply) → (if b then Some reply.AllOut else option_map reply.Item o) ≡ r → board_reply s log who call.Take ≡ r → KeepsBoard s (log ++ taken who r)
+    told-taken b o None e is = subst (KeepsBoard s) (sym (append-nil log)) k
+    told-taken b o (Some reply.AllOut) e is = keeps-end is
+    told-taken b o (Some (reply.Item item)) e is = keeps-taken item is
+    told-taken true o (Some reply.Stored) e is = absurd (cc)
+    told-taken false None (Some reply.Stored) e is = absurd (cc)
+    told-taken false (Some i) (Some reply.Stored) e is = absurd (cc)
+    told-taken true o (Some reply.NotOut) e is = absurd (cc)
+    told-taken false None (Some reply.NotOut) e is = absurd (cc)
+    told-taken false (Some i) (Some reply.NotOut) e is = absurd (cc)
+    told-taken true o (Some reply.Stopped) e is = absurd (cc)
+    told-taken false None (Some reply.Stopped) e is = absurd (cc)
+    told-taken false (Some i) (Some reply.Stopped) e is = absurd (cc)
+
+    pub keeps-told : KeepsBoard s (log ++ taken who (board_reply s log who call.Take))
+    keeps-told = told-taken (is_at_end s log) (find (is_ready s log) (places s)) (board_reply s log who call.Take) refl refl
+
+    -- and of what it finishes, if it holds an item
+    pub keeps-finish : (o : Option ℕ) → held who log ≡ o → KeepsBoard s (log ++ finish_of who o)
+    keeps-finish None has = subst (KeepsBoard s) (sym (append-nil log)) k
+    keeps-finish (Some item) has = keeps-stored item has

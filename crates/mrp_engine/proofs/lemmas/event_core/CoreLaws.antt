@@ -1,36 +1,24 @@
 -- What right lists of events and answers come to.
-use Rattle.std.proofs.Common.{◌≡◌, ◌≢◌, ◌⊎◌, ◌∙◌, ◌<◌, ◌≤◌, ◌+◌, ◌-◌, ◌↔◌, ℕ, zero, suc, Bool, true, false, if◌then◌else◌, List, [], ◌∷◌, ◌++◌, Option, Some, None, Result, Ok, Err, length, map, set, take, drop, inl, inr, refl, sym, ap, subst, arith, append_assoc}
+use Rattle.std.proofs.Common.{◌≡◌, ◌≢◌, ◌⊎◌, ◌∙◌, ◌<◌, ◌≤◌, ◌+◌, ◌-◌, ◌↔◌, ℕ, zero, suc, Bool, true, false, List, [], ◌∷◌, ◌++◌, Option, Some, None, Result, Ok, Err, length, map, set, inl, inr, refl, sym, ap, subst, arith, append_assoc, ◌&&◌, not, if◌then◌else◌}
 use Rattle.std.proofs.Math.Seq.{get_or-append_seam}
 use Rattle.std.proofs.lemmas.Bool.{cases_lt, cases_order}
-use Rattle.std.proofs.lemmas.List.{append-nil, length-append, length-map, take-append-drop, take-append-le, get_or-set_other, get_or-set_same, get_or_append_left, length-set, map-append, map-set, set-get_or}
-use Rattle.std.specs.Prelude.{All, AllPairs, IfOk, IsSome, OnErr, option_map, find, slice_index}
+use Rattle.std.proofs.lemmas.List.{append-nil, length-append, length-map, take-append-le, get_or-set_other, get_or-set_same, get_or_append_left, length-set, map-append, map-set, set-get_or}
+use Rattle.std.specs.Prelude.{IfOk, IsSome, OnErr, option_map, find}
 use Rattle.std.specs.Global.{Vec}
 use Rattle.std.specs.List.{slice_index_or}
 use Rattle.mrp_turn.specs.declared.log.Entry.{Entry}
 use Rattle.mrp_turn.specs.Log.{IsSeatNumber, entry}
 use Rattle.mrp_turn.proofs.Logs.{EachFollows-front, InTurn, InTurn-from_Each, one_more}
 use Rattle.mrp_tables.specs.Tables.{Tables}
-use Rattle.mrp_tables.specs.Facts.{IsBillLine, IsItem}
 use Rattle.mrp_tables.specs.declared.item.Item.{Item}
-use Rattle.mrp_tables.specs.declared.item.Class.TheVariants.{Part}
-use Rattle.mrp_tables.specs.declared.item.LotRule.TheVariants.{LotForLot}
-use Rattle.mrp_bill.specs.Shop.{Shop}
 use Rattle.mrp_master.specs.Supply.{supply_of}
 use Rattle.mrp_book.specs.declared.call.Call.{Call}
 use Rattle.mrp_book.specs.declared.call.Call.TheVariants as call
 use Rattle.mrp_book.specs.declared.reply.Reply.{Reply}
 use Rattle.mrp_book.specs.Standing.{History, standing}
 use Rattle.mrp_book.specs.History.{IsFull, IsLegal, IsReply, next_number}
-use Rattle.mrp_book.proofs.Histories.{legal-front, legal-more, legal-none, prefix-covered}
-use Rattle.mrp_book.proofs.Promised.{booked_within, rising}
-use Rattle.mrp_item.specs.Inputs.{Inputs, count, item_at, places}
-use Rattle.mrp_item.proofs.ShopLemmas.{has_parents, is_plannable, is_ranked}
-use Rattle.mrp_peg.specs.Laws.{AddUpToRequirements, AddUpToSupplies}
-use Rattle.mrp_peg.specs.Pegging.{pegs_of, requirements}
-use Rattle.mrp_peg.proofs.Covered.{covered_item}
-use Rattle.mrp_peg.proofs.ItemSums.{to-requirements, to-supplies}
-use Rattle.mrp_peg.proofs.NeedsDiffer.{needs-differ}
-use Rattle.mrp_peg.proofs.Own.{own-of_all}
+use Rattle.mrp_book.proofs.Histories.{legal-more, legal-none}
+use Rattle.mrp_item.specs.Inputs.{Inputs, places}
 use Rattle.mrp_report.specs.ReportText.{report_text}
 use Rattle.mrp_engine.specs.declared.event_core.board.BoardCall.TheVariants as board_call
 use Rattle.mrp_engine.specs.declared.event_core.board.BoardReply.TheVariants as board_reply
@@ -40,15 +28,16 @@ use Rattle.mrp_engine.specs.declared.event_core.event.Answer.{Answer}
 use Rattle.mrp_engine.specs.declared.event_core.event.Answer.TheVariants as answer
 use Rattle.mrp_engine.specs.day.Day.{IsPlannable, IsRefusedBy}
 use Rattle.mrp_engine.specs.declared.event_core.board.BoardReply.{BoardReply}
-use Rattle.mrp_engine.specs.event_core.Board.{BoardLog, board_reply, held, is_at_end, is_ready}
+use Rattle.mrp_engine.specs.event_core.Board.{BoardLog, board_reply, held, is_at_end, is_out_to, is_ready, is_stored}
+use Rattle.mrp_engine.specs.event_core.Kept.{KeepsBoard}
 use Rattle.mrp_engine.specs.event_core.Core.{AsksFullBook, Core, FitsShop, HasMeaning, IsAnswer, IsAnswered, IsOfDesk, IsRight, IsStarted, MayFollowSteps, Run, Step, after, core_after, core_of, finish_of, inputs_at, log_at, no_run, opened, run_at, run_inputs, snapshot_of, told, with_entries}
-use Rattle.mrp_engine.proofs.lemmas.event_core.BoardLaws.{KeepsBoard, keeps-end, keeps-none, keeps-stopped, keeps-stored, keeps-taken}
-use Rattle.mrp_engine.specs.event_core.Headline.{ChangesNothing, Headline, IsAcceptedShop, IsEntry, WasAnswered, WasWritten}
+use Rattle.mrp_engine.proofs.lemmas.event_core.BoardLaws.{keeps-end, keeps-none, keeps-stopped, keeps-stored, keeps-taken, stored-reply}
+use Rattle.mrp_engine.specs.event_core.Headline.{ChangesNothing, IsEntry, WasAnswered}
 
 abbrev pub fronts : Core → List ℕ
 fronts core = map (λ (r : Run). r.front) core.runs
 
-front-at : (runs : List Run) (i : ℕ) → (slice_index_or runs i no_run).front ≡ slice_index_or (map (λ (r : Run). r.front) runs) i 0
+pub front-at : (runs : List Run) (i : ℕ) → (slice_index_or runs i no_run).front ≡ slice_index_or (map (λ (r : Run). r.front) runs) i 0
 front-at [] i = refl
 front-at (r ∷ runs) zero = refl
 front-at (r ∷ runs) (suc i) = front-at runs i
@@ -72,24 +61,24 @@ same-logged core run entries = record {
       ∙ set-get_or (fronts core) (run - 1) 0;
 }
 
-take-same : (core : Core) (run who : ℕ) (a : Answer) → Same core (after core (event.Take run who) a)
+pub take-same : (core : Core) (run who : ℕ) (a : Answer) → Same core (after core (event.Take run who) a)
 take-same core run who (answer.Item item) = same-logged core run (entry who board_call.Take (board_reply.Item item) ∷ [])
 take-same core run who answer.AllOut = same-logged core run (entry who board_call.Take board_reply.AllOut ∷ [])
 take-same core run who a = same-core core
 
-finish-same : (core : Core) (run who : ℕ) (a : Answer) → Same core (after core (event.Finish run who) a)
+pub finish-same : (core : Core) (run who : ℕ) (a : Answer) → Same core (after core (event.Finish run who) a)
 finish-same core run who answer.Stored = same-logged core run (finish_of who (held who (log_at core run)))
 finish-same core run who a = same-core core
 
-give_up-same : (core : Core) (run who : ℕ) (a : Answer) → Same core (after core (event.GiveUp run who) a)
+pub give_up-same : (core : Core) (run who : ℕ) (a : Answer) → Same core (after core (event.GiveUp run who) a)
 give_up-same core run who answer.Stopped = same-logged core run (entry who board_call.GiveUp board_reply.Stopped ∷ [])
 give_up-same core run who a = same-core core
 
-write-same : (core : Core) (run : ℕ) (a : Answer) → Same core (after core (event.Write run) a)
+pub write-same : (core : Core) (run : ℕ) (a : Answer) → Same core (after core (event.Write run) a)
 write-same core run a = same-core core
 
 -- what changes nothing
-unchanged : (core : Core) (e : Event) (a : Answer) → ChangesNothing a → after core e a ≡ core
+pub unchanged : (core : Core) (e : Event) (a : Answer) → ChangesNothing a → after core e a ≡ core
 unchanged core e (answer.Replied number r) is = absurd is
 unchanged core e (answer.Started number front) is = absurd is
 unchanged core e (answer.Item item) is = absurd is
@@ -273,7 +262,7 @@ module _ (core : Core) (sound : Sound core) where
   start-sound desk a (inl (seat, inr (open_, is))) = subst (λ (x : Answer). Sound (after core (event.Start desk) x)) (sym is) (sound-started core desk (length core.runs + 1) sound seat)
   start-sound desk a (inr (none, is)) = subst (λ (x : Answer). Sound (after core (event.Start desk) x)) (sym is) sound
 
-  step-sound : (e : Event) (a : Answer) → FitsShop core.tables e → IsAnswer core e a → Sound (after core e a)
+  pub step-sound : (e : Event) (a : Answer) → FitsShop core.tables e → IsAnswer core e a → Sound (after core e a)
   step-sound (event.Call desk c) a fits is = call-sound desk c a fits is
   step-sound (event.Start desk) a fits is = start-sound desk a is
   step-sound (event.Take run who) a fits is = sound-same core (after core (event.Take run who) a) sound (take-same core run who a)
@@ -307,7 +296,7 @@ module _ (tables : Tables) where
       ∙ ap (λ (h : History). inputs_at old.tables h (run_at old run).front) grows.history
       ∙ ap (λ (h : History). record { tables = old.tables; front = (run_at old run).front; standing = standing h }) (take-append-le (run_at old run).front old.history grows.entries low)
 
-  written-inputs : (steps before : List Step) (e : Event) (a : Answer) (run : ℕ) → IsRight tables steps → WasAnswered steps before e a → IsStarted (core_of tables before) run
+  pub written-inputs : (steps before : List Step) (e : Event) (a : Answer) (run : ℕ) → IsRight tables steps → WasAnswered steps before e a → IsStarted (core_of tables before) run
       → run_inputs (core_of tables steps) run ≡ run_inputs (core_of tables before) run
   written-inputs steps before e a run right was started =
       let rest : List Step = (e, a) ∷ was.after in
@@ -317,13 +306,17 @@ module _ (tables : Tables) where
       ∙ inputs-stay (core_of tables before) (core_after (core_of tables before) rest) run (right-sound before front) (steps-grow (core_of tables before) rest) started
 
   -- what an event was answered
-  answered : (steps before : List Step) (e : Event) (a : Answer) → IsRight tables steps → WasAnswered steps before e a → IsAnswer (core_of tables before) e a
+  pub answered : (steps before : List Step) (e : Event) (a : Answer) → IsRight tables steps → WasAnswered steps before e a → IsAnswer (core_of tables before) e a
   answered steps before e a right was = (right before (e, a) was.after was.place).1
 
 -- The boards of a core's runs are legal, and their workers finish what they hold.
 
-abbrev KeepsBoards : Core → Type 0
+abbrev pub KeepsBoards : Core → Type 0
 KeepsBoards core = (run : ℕ) → IsStarted core run → KeepsBoard (run_inputs core run) (log_at core run)
+
+-- a worker that finishes what it holds is told that it is stored
+finished-stored : (core : Core) → KeepsBoards core → (run who : ℕ) (a : Answer) → IsStarted core run → IsAnswered core (event.Finish run who) a → a ≡ answer.Stored
+finished-stored core boards run who a started (item, has, is) = is ∙ ap told (stored-reply (run_inputs core run) (log_at core run) (boards run started) who item has)
 
 module _ (tables : Tables) (core : Core) (sound : Sound core) (boards : KeepsBoards core) where
   -- a run whose log has more entries
@@ -411,7 +404,7 @@ module _ (tables : Tables) (core : Core) (sound : Sound core) (boards : KeepsBoa
       subst (λ (x : Answer). KeepsBoards (after core (event.Take run who) x)) (sym is)
       (took-boards run who (board_reply (run_inputs core run) (log_at core run) who board_call.Take) has.0 has.1 refl)
   step-boards (event.Finish run who) a (inl (has, is)) =
-      subst (λ (x : Answer). KeepsBoards (after core (event.Finish run who) x)) (sym is) (finished-boards run who (held who (log_at core run)) has.0 has.1 refl has.2)
+      subst (λ (x : Answer). KeepsBoards (after core (event.Finish run who) x)) (sym (finished-stored core boards run who a has.0 is)) (finished-boards run who (held who (log_at core run)) has.0 has.1 refl has.2)
   step-boards (event.GiveUp run who) a (inl (has, is)) =
       subst (λ (x : Answer). KeepsBoards (after core (event.GiveUp run who) x)) (sym is)
       (logged-boards run (entry who board_call.GiveUp board_reply.Stopped ∷ []) has.0 (keeps-stopped (run_inputs core run) (log_at core run) (boards run has.0) who has.1))
@@ -426,7 +419,7 @@ module _ (tables : Tables) where
       (subst (λ (c : Core). Sound c) (sym (core-one tables before x)) (step-sound (core_of tables before) sound x.0 x.1 (subst (λ (t : Tables). FitsShop t x.0) (sym (tables-stay tables before)) w.0.0) w.0.1))
       (subst KeepsBoards (sym (core-one tables before x)) (step-boards tables (core_of tables before) sound boards x.0 x.1 w.0.1)))
 
-  right-boards : (steps : List Step) → IsRight tables steps → KeepsBoards (core_of tables steps)
+  pub right-boards : (steps : List Step) → IsRight tables steps → KeepsBoards (core_of tables steps)
   right-boards steps right =
       boards-from [] steps (InTurn-from_Each (MayFollowSteps tables) [] steps right) (subst (λ (c : Core). Sound c) (sym (core-none (opened tables))) (sound-none tables))
       (subst KeepsBoards (sym (core-none (opened tables))) (λ run started. absurd (omega (arith, started.0, started.1))))
@@ -440,20 +433,20 @@ told-something s log who e = by (is_at_end s log) (find (is_ready s log) (places
     by false (Some i) k = cc
 
 -- an event that has meaning is never answered Nothing
-answered-something : (core : Core) (e : Event) → IsAnswered core e answer.Nothing → ⊥
-answered-something core (event.Call desk c) (inl (full, is)) = cc
-answered-something core (event.Call desk c) (inr (open_, r, said, is)) = cc
-answered-something core (event.Start desk) (inl (full, is)) = cc
-answered-something core (event.Start desk) (inr (open_, is)) = cc
-answered-something core (event.Take run who) is = told-something (run_inputs core run) (log_at core run) who (sym is)
-answered-something core (event.Finish run who) is = cc
-answered-something core (event.GiveUp run who) is = cc
-answered-something core (event.Write run) (inl (bytes, is, plannable, text)) = cc
-answered-something core (event.Write run) (inr (name, is, refused)) = cc
+answered-something : (core : Core) → KeepsBoards core → (e : Event) → HasMeaning core e → IsAnswered core e answer.Nothing → ⊥
+answered-something core boards (event.Call desk c) has (inl (full, is)) = cc
+answered-something core boards (event.Call desk c) has (inr (open_, r, said, is)) = cc
+answered-something core boards (event.Start desk) has (inl (full, is)) = cc
+answered-something core boards (event.Start desk) has (inr (open_, is)) = cc
+answered-something core boards (event.Take run who) has is = told-something (run_inputs core run) (log_at core run) who (sym is)
+answered-something core boards (event.Finish run who) has is = let k : answer.Nothing ≡ answer.Stored = finished-stored core boards run who answer.Nothing has.0 is in cc
+answered-something core boards (event.GiveUp run who) has is = cc
+answered-something core boards (event.Write run) has (inl (bytes, is, plannable, text)) = cc
+answered-something core boards (event.Write run) has (inr (name, is, refused)) = cc
 
-meaningless : (core : Core) (e : Event) (a : Answer) → IsAnswer core e a → (a ≡ answer.Nothing) ↔ (HasMeaning core e → ⊥)
-meaningless core e a (inl (has, is)) = (λ k. absurd (answered-something core e (subst (λ (x : Answer). IsAnswered core e x) k is)), λ none. absurd (none has))
-meaningless core e a (inr (none, is)) = (λ k. none, λ k. is)
+pub meaningless : (core : Core) → KeepsBoards core → (e : Event) (a : Answer) → IsAnswer core e a → (a ≡ answer.Nothing) ↔ (HasMeaning core e → ⊥)
+meaningless core boards e a (inl (has, is)) = (λ k. absurd (answered-something core boards e has (subst (λ (x : Answer). IsAnswered core e x) k is)), λ none. absurd (none has))
+meaningless core boards e a (inr (none, is)) = (λ k. none, λ k. is)
 
 told-full : (s : Inputs) (log : BoardLog) (who : ℕ) → told (board_reply s log who board_call.Take) ≡ answer.Full → ⊥
 told-full s log who e = by (is_at_end s log) (find (is_ready s log) (places s)) e
@@ -469,7 +462,11 @@ answered-full core (event.Call desk c) (inr (open_, r, said, is)) = absurd (cc)
 answered-full core (event.Start desk) (inl (full, is)) = (tt, full)
 answered-full core (event.Start desk) (inr (open_, is)) = absurd (cc)
 answered-full core (event.Take run who) is = absurd (told-full (run_inputs core run) (log_at core run) who (sym is))
-answered-full core (event.Finish run who) is = absurd (cc)
+answered-full core (event.Finish run who) (item, has, is) = absurd (finish-full (is_out_to who (log_at core run) item && not (is_stored (log_at core run) item)) (sym is))
+  where
+    finish-full : (b : Bool) → told (if b then Some board_reply.Stored else Some board_reply.NotOut) ≡ answer.Full → ⊥
+    finish-full true k = cc
+    finish-full false k = cc
 answered-full core (event.GiveUp run who) is = absurd (cc)
 answered-full core (event.Write run) (inl (bytes, is, plannable, text)) = absurd (cc)
 answered-full core (event.Write run) (inr (name, is, refused)) = absurd (cc)
@@ -484,19 +481,19 @@ told-of-full core (event.Finish run who) a of full is = absurd of
 told-of-full core (event.GiveUp run who) a of full is = absurd of
 told-of-full core (event.Write run) a of full is = absurd of
 
-full-is : (core : Core) (e : Event) (a : Answer) → IsAnswer core e a → (a ≡ answer.Full) ↔ AsksFullBook core e
+pub full-is : (core : Core) (e : Event) (a : Answer) → IsAnswer core e a → (a ≡ answer.Full) ↔ AsksFullBook core e
 full-is core e a (inl (has, is)) = (
   λ k. (let told_so = answered-full core e (subst (λ (x : Answer). IsAnswered core e x) k is) in (told_so.0, has, told_so.1)),
   λ asks. told-of-full core e a asks.0 asks.2 is,
 )
 full-is core e a (inr (none, is)) = (λ k. absurd (let n : answer.Full ≡ answer.Nothing = sym k ∙ is in cc), λ asks. absurd (none asks.1))
 
-numbered-is : (core : Core) (desk n : ℕ) (c : Call) (r : Reply) → IsAnswer core (event.Call desk c) (answer.Replied n r) → n ≡ next_number core.history
+pub numbered-is : (core : Core) (desk n : ℕ) (c : Call) (r : Reply) → IsAnswer core (event.Call desk c) (answer.Replied n r) → n ≡ next_number core.history
 numbered-is core desk n c r (inl (seat, inl (full, is))) = absurd (cc)
 numbered-is core desk n c r (inl (seat, inr (open_, q, said, is))) = cc
 numbered-is core desk n c r (inr (none, is)) = absurd (cc)
 
-started-is : (core : Core) (desk run front : ℕ) → IsAnswer core (event.Start desk) (answer.Started run front) → (run ≡ length core.runs + 1) × (front ≡ next_number core.history)
+pub started-is : (core : Core) (desk run front : ℕ) → IsAnswer core (event.Start desk) (answer.Started run front) → (run ≡ length core.runs + 1) × (front ≡ next_number core.history)
 started-is core desk run front (inl (seat, inl (full, is))) = absurd (cc)
 started-is core desk run front (inl (seat, inr (open_, is))) = (cc, cc)
 started-is core desk run front (inr (none, is)) = absurd (cc)
@@ -507,17 +504,17 @@ bytes-are core run bytes (inl (has, inl (given, is, plannable, text))) = let sam
 bytes-are core run bytes (inl (has, inr (name, is, refused))) = absurd (cc)
 bytes-are core run bytes (inr (none, is)) = absurd (cc)
 
-name-is : (core : Core) (run : ℕ) (name : List ℕ) → IsAnswer core (event.Write run) (answer.TooLarge name) → IsStarted core run × IsRefusedBy (run_inputs core run) name
+pub name-is : (core : Core) (run : ℕ) (name : List ℕ) → IsAnswer core (event.Write run) (answer.TooLarge name) → IsStarted core run × IsRefusedBy (run_inputs core run) name
 name-is core run name (inl (has, inl (given, is, plannable, text))) = absurd (cc)
 name-is core run name (inl (has, inr (other, is, refused))) = let same : name ≡ other = cc in (has.0, subst (λ (x : List ℕ). IsRefusedBy (run_inputs core run) x) (sym same) refused)
 name-is core run name (inr (none, is)) = absurd (cc)
 
 -- an entry that a step made stands in the history to the end
-core-next : (core : Core) (x : Step) (later : List Step) → core_after core (x ∷ later) ≡ core_after (after core x.0 x.1) later
+pub core-next : (core : Core) (x : Step) (later : List Step) → core_after core (x ∷ later) ≡ core_after (after core x.0 x.1) later
 unfolding core_after
 core-next core x later = refl
 
-stays-entered : (tables : Tables) (steps before : List Step) (e : Event) (a : Answer) → WasAnswered steps before e a → (n : ℕ) (x : Entry Call Reply)
+pub stays-entered : (tables : Tables) (steps before : List Step) (e : Event) (a : Answer) → WasAnswered steps before e a → (n : ℕ) (x : Entry Call Reply)
     → (after (core_of tables before) e a).history ≡ (core_of tables before).history ++ x ∷ [] → n ≡ next_number (core_of tables before).history → IsEntry (core_of tables steps).history n x
 stays-entered tables steps before e a was n x adds number =
     let core : Core = core_of tables before in
@@ -531,76 +528,3 @@ stays-entered tables steps before e a was n x adds number =
           ap (λ (c : Core). c.history) whole ∙ g.history ∙ ap (λ (h : History). h ++ g.entries) adds ∙ append_assoc core.history (x ∷ []) g.entries;
       counted = number;
     }
-
-abbrev no_item : Item
-no_item = record { name = []; class = Part; lead = 0; scrap = 0; lot = LotForLot; safety = 0 }
-
--- the pegs of a planned run
-planned-pegged : (shop : Shop) (s : Inputs) → IsAcceptedShop shop → shop.tables ≡ s.tables → IsPlannable s → (item : ℕ) → item < count s
-    → AddUpToRequirements s item (pegs_of s item) × AddUpToSupplies s item (pegs_of s item)
-planned-pegged shop s kept same plannable item within =
-    let code : ℕ → ℕ = slice_index shop.codes in
-    let lines = subst (λ (t : Tables). All (IsBillLine t.items) t.bills) same kept.lines in
-    let items = subst (λ (t : Tables). All IsItem t.items) same kept.items in
-    let own = own-of_all s item code plannable.0 (is_ranked s shop same kept.accepted) (has_parents s lines) plannable.1 within in
-    (to-requirements s item (covered_item s item own (is_plannable (item_at s item) (items item no_item within)).sized), to-supplies s item)
-
-module _ (shop : Shop) (kept : IsAcceptedShop shop) (steps : List Step) (right : IsRight shop.tables steps) where
-  abbrev tables : Tables
-  tables = shop.tables
-
-  abbrev end : Core
-  end = core_of shop.tables steps
-
-  end-legal : IsLegal (supply_of shop.tables) end.history
-  end-legal = subst (λ (t : Tables). IsLegal (supply_of t) end.history) (tables-stay shop.tables steps) (right-sound shop.tables steps right).legal
-
-  end-written : (before : List Step) (run : ℕ) (bytes : Vec ℕ) → WasAnswered steps before (event.Write run) (answer.Bytes bytes)
-      → IsPlannable (run_inputs end run) × (bytes.items ≡ report_text (run_inputs end run))
-  end-written before run bytes was =
-      let (started, plannable, text) = bytes-are (core_of shop.tables before) run bytes (answered shop.tables steps before (event.Write run) (answer.Bytes bytes) right was) in
-      let same = written-inputs shop.tables steps before (event.Write run) (answer.Bytes bytes) run right was started in
-      (subst (λ (s : Inputs). IsPlannable s) (sym same) plannable, text ∙ ap report_text (sym same))
-
-  end-refused : (before : List Step) (run : ℕ) (name : List ℕ) → WasAnswered steps before (event.Write run) (answer.TooLarge name) → IsRefusedBy (run_inputs end run) name
-  end-refused before run name was =
-      let (started, refused) = name-is (core_of shop.tables before) run name (answered shop.tables steps before (event.Write run) (answer.TooLarge name) right was) in
-      let same = written-inputs shop.tables steps before (event.Write run) (answer.TooLarge name) run right was started in
-      subst (λ (s : Inputs). IsRefusedBy s name) (sym same) refused
-
-  end-pegged : (s : Inputs) → WasWritten shop.tables steps s → (item : ℕ) → item < count s → AddUpToRequirements s item (pegs_of s item) × AddUpToSupplies s item (pegs_of s item)
-  end-pegged s was item within =
-      let core : Core = core_of shop.tables was.before in
-      let (started, plannable, text) = bytes-are core was.run was.bytes (answered shop.tables steps was.before (event.Write was.run) (answer.Bytes was.bytes) right was.answered) in
-      planned-pegged shop s kept (sym (ap (λ (x : Inputs). x.tables) was.inputs ∙ tables-stay shop.tables was.before)) (subst (λ (x : Inputs). IsPlannable x) (sym was.inputs) plannable) item within
-
-  end-apart : (s : Inputs) → WasWritten shop.tables steps s → (item : ℕ) → AllPairs (λ a b. a.of ≢ b.of) (requirements s item)
-  end-apart s was item =
-      let (started, plannable, text) = bytes-are (core_of shop.tables was.before) was.run was.bytes (answered shop.tables steps was.before (event.Write was.run) (answer.Bytes was.bytes) right was.answered) in
-      let same = written-inputs shop.tables steps was.before (event.Write was.run) (answer.Bytes was.bytes) was.run right was.answered started in
-      let front : ℕ = (run_at end was.run).front in
-      let legal : IsLegal (supply_of shop.tables) (take front end.history) =
-      legal-front (supply_of shop.tables) (take front end.history) (drop front end.history) (subst (λ (h : History). IsLegal (supply_of shop.tables) h) (sym (take-append-drop front end.history)) end-legal) in
-      needs-differ s item (subst (λ (x : Inputs). AllPairs (λ a b. a.number < b.number) x.standing) (same ∙ sym was.inputs) (rising (supply_of shop.tables) (take front end.history) legal).0)
-
-  pub headline : Headline shop.tables steps
-  headline = record {
-    legal = end-legal;
-    numbered = λ before desk n c r was. numbered-is (core_of shop.tables before) desk n c r (answered shop.tables steps before (event.Call desk c) (answer.Replied n r) right was);
-    started = λ before desk run front was. started-is (core_of shop.tables before) desk run front (answered shop.tables steps before (event.Start desk) (answer.Started run front) right was);
-    entered = λ before desk n c r was. stays-entered shop.tables steps before (event.Call desk c) (answer.Replied n r) was n (entry desk c r) refl
-        (numbered-is (core_of shop.tables before) desk n c r (answered shop.tables steps before (event.Call desk c) (answer.Replied n r) right was));
-    snapped = λ before desk run front was. stays-entered shop.tables steps before (event.Start desk) (answer.Started run front) was front (entry desk call.Snapshot (snapshot_of (core_of shop.tables before) front)) refl
-        (started-is (core_of shop.tables before) desk run front (answered shop.tables steps before (event.Start desk) (answer.Started run front) right was)).1;
-    written = end-written;
-    refused = end-refused;
-    boards = λ run started. (right-boards shop.tables steps right run started).legal;
-    within = λ before rest desk number l same. (booked_within (supply_of shop.tables) before rest desk number l (subst (λ (h : History). IsLegal (supply_of shop.tables) h) same end-legal)).0;
-    covered = λ before rest same. prefix-covered (supply_of shop.tables) before rest (subst (λ (h : History). IsLegal (supply_of shop.tables) h) same end-legal);
-    pegged = end-pegged;
-    apart = end-apart;
-    loaded = λ s was centre week. refl;
-    meaning = λ before e a was. meaningless (core_of shop.tables before) e a (answered shop.tables steps before e a right was);
-    unchanged = λ before e a was is. core-one shop.tables before (e, a) ∙ unchanged (core_of shop.tables before) e a is;
-    full = λ before e a was. full-is (core_of shop.tables before) e a (answered shop.tables steps before e a right was);
-  }

@@ -3,16 +3,14 @@ use Rattle.std.proofs.Common.{◌≡◌, ◌∙◌, ◌<◌, ◌≤◌, ◌+◌,
 use Rattle.std.proofs.lemmas.List.{take_all, take_more, length-append}
 use Rattle.std.specs.Prelude.{All, zip}
 use Rattle.mrp_turn.proofs.Logs.{EachFollows-more, EachFollows-nil}
-use Rattle.mrp_tables.specs.Tables.{Tables}
-use Rattle.mrp_tables.specs.Facts.{IsBillLine, IsItem}
-use Rattle.mrp_tables.specs.declared.item.Item.{Item}
-use Rattle.mrp_tables.specs.declared.rows.BillLine.{BillLine}
+use Rattle.mrp_tables.specs.Tables.{AreTables, Tables}
 use Rattle.mrp_bill.specs.Shop.{IsShop, Shop}
 use Rattle.mrp_engine.specs.declared.event_core.event.Event.{Event}
 use Rattle.mrp_engine.specs.declared.event_core.event.Answer.{Answer}
 use Rattle.mrp_engine.specs.event_core.Core.{Core, FitsShop, IsAnswer, IsRight, MayFollowSteps, Step, after, core_of, opened}
 use Rattle.mrp_engine.specs.event_core.Headline.{IsAcceptedShop, RunsRight}
-use Rattle.mrp_engine.proofs.lemmas.event_core.CoreLaws.{core-none, core-one, headline, tables-stay}
+use Rattle.mrp_engine.proofs.lemmas.event_core.CoreLaws.{core-none, core-one, tables-stay}
+use Rattle.mrp_engine.proofs.lemmas.event_core.Headlines.{headline}
 
 zip-last : {X Y : Type 0} (xs : List X) (ys : List Y) (x : X) (y : Y) → length xs ≡ length ys → zip (xs ++ x ∷ []) (ys ++ y ∷ []) ≡ zip xs ys ++ (x, y) ∷ []
 zip-last [] [] x y e = refl
@@ -63,10 +61,5 @@ step-more tables events k answers more core new e a fit within at has is now add
 pub all-answered : (shop : Shop) (events : List Event) (k : ℕ) (answers : List Answer) (core : Core) → IsAcceptedShop shop → length events ≤ k → HasAnswered shop.tables (take k events) answers core → RunsRight shop.tables events answers
 all-answered shop events k answers core kept past has = answered-all shop events answers core kept (subst (λ (l : List Event). HasAnswered shop.tables l answers core) (take_all k events past) has)
 
-pub accepted-shop : (shop : Shop) (tables : Tables) (items : List Item) (lines : List BillLine) → IsShop shop → tables ≡ shop.tables → All IsItem items → items ≡ tables.items → All (IsBillLine tables.items) lines → lines ≡ tables.bills
-    → IsAcceptedShop shop
-accepted-shop shop tables items lines is same all are each they = record {
-  accepted = is;
-  items = subst (λ (l : List Item). All IsItem l) (are ∙ ap (λ (t : Tables). t.items) same) all;
-  lines = subst (λ (t : Tables). All (IsBillLine t.items) t.bills) same (subst (λ (l : List BillLine). All (IsBillLine tables.items) l) they each);
-}
+pub accepted-shop : (shop : Shop) (tables : Tables) → IsShop shop → tables ≡ shop.tables → AreTables tables → IsAcceptedShop shop
+accepted-shop shop tables is same kept = record { accepted = is; tables = subst AreTables same kept }

@@ -1,5 +1,5 @@
 -- Steps of a core, by what it keeps.
-use Rattle.std.proofs.Common.{◌≡◌, ◌∙◌, ◌<◌, ◌≤◌, ◌+◌, ◌-◌, ℕ, zero, suc, Bool, true, false, if◌then◌else◌, List, [], ◌∷◌, ◌++◌, Option, Some, None, Result, Ok, Err, length, map, take, set, inl, inr, refl, sym, ap, subst, arith}
+use Rattle.std.proofs.Common.{◌≡◌, ◌≢◌, ◌∙◌, ◌<◌, ◌≤◌, ◌+◌, ◌-◌, ℕ, zero, suc, Bool, true, false, if◌then◌else◌, List, [], ◌∷◌, ◌++◌, Option, Some, None, Result, Ok, Err, length, map, take, set, inl, inr, refl, sym, ap, subst, arith}
 use Rattle.std.proofs.lemmas.List.{append-nil, length-append, length-map, take-append-le, map-append, map-set, set-get_or, take_all, get_or_default}
 use Rattle.std.proofs.lemmas.List.Elements.{All-set, All-weaker}
 use Rattle.std.specs.Prelude.{All, IfOk, OnErr, OnOk, IsSome, is_some, option_map, find}
@@ -25,8 +25,10 @@ use Rattle.mrp_engine.specs.declared.event_core.event.Event.TheVariants as event
 use Rattle.mrp_engine.specs.declared.event_core.event.Answer.{Answer}
 use Rattle.mrp_engine.specs.declared.event_core.event.Answer.TheVariants as answer
 use Rattle.mrp_engine.specs.event_core.Board.{BoardLog, RunLog, board_reply, held, is_at_end, is_finished, is_ready, taken}
-use Rattle.mrp_engine.specs.event_core.Core.{Core, HasMeaning, IsAnswer, IsReport, IsStarted, Run, WantsMemory, after, finish_of, inputs_at, log_at, no_run, run_at, run_inputs, snapshot_of, told, with_entries}
+use Rattle.mrp_engine.specs.event_core.Core.{Core, HasMeaning, IsAnswer, IsOfDesk, IsReport, IsStarted, IsToldLater, Run, WantsMemory, after, finish_of, inputs_at, log_at, no_run, run_at, run_inputs, snapshot_of, told, with_entries}
+use Rattle.mrp_engine.specs.event_core.Kept.{KeepsBoard}
 use Rattle.mrp_engine.specs.event_core.KeptCore.{FollowsHistory, brief}
+use Rattle.mrp_engine.proofs.lemmas.event_core.BoardLaws.{keeps-finish, keeps-none, keeps-stopped, keeps-told, stored-reply}
 
 -- an event without meaning
 pub no-meaning : (core : Core) (e : Event) → (HasMeaning core e → ⊥) → IsAnswer core e answer.Nothing
@@ -37,6 +39,7 @@ pub follows-more : (tables : Tables) (h : History) (e : Entry Call Reply) (r : R
 follows-more tables h e r f = record {
   inputs = f.inputs ∙ ap (λ (g : History). record { tables = tables; front = r.inputs.front; standing = standing g }) (sym (take-append-le r.inputs.front h (e ∷ []) f.before));
   before = omega (arith, f.before, length-append h (e ∷ []));
+  board = f.board;
 }
 
 pub follow-more : (tables : Tables) (h : History) (e : Entry Call Reply) (runs : List RunLog) → All (FollowsHistory tables h) runs → All (FollowsHistory tables (h ++ e ∷ [])) runs
@@ -87,10 +90,11 @@ module _ (tables : Tables) (h : History) where
         ∙ set-get_or (map brief runs) (run - 1) no_run
         )
 
-    pub follow-set : (now : RunLog) → now.inputs ≡ r.inputs → FollowsHistory tables h r → All (FollowsHistory tables h) runs → All (FollowsHistory tables h) (set runs place now)
-    follow-set now same f all = All-set (FollowsHistory tables h) runs place now (record {
+    pub follow-set : (now : RunLog) → now.inputs ≡ r.inputs → KeepsBoard r.inputs now.log → FollowsHistory tables h r → All (FollowsHistory tables h) runs → All (FollowsHistory tables h) (set runs place now)
+    follow-set now same board f all = All-set (FollowsHistory tables h) runs place now (record {
       inputs = subst (λ (s : Inputs). s ≡ inputs_at tables h s.front) (sym same) f.inputs;
       before = subst (λ (s : Inputs). s.front ≤ length h) (sym same) f.before;
+      board = subst (λ (s : Inputs). KeepsBoard s now.log) (sym same) board;
     }) all
 
     -- A worker takes.
@@ -120,24 +124,32 @@ module _ (tables : Tables) (h : History) where
 
     -- A worker finishes.
 
-    finish-by : (who : ℕ) (a : Answer) (o : Option ℕ) → held who r.log ≡ o → IsSeatNumber who → (IsSome o → a ≡ answer.Stored) → (o ≡ None → a ≡ answer.Nothing)
+    -- it is told that what it holds is stored
+    told-stored : FollowsHistory tables h r → (who item : ℕ) → held who r.log ≡ Some item
+        → told (board_reply (run_inputs (seen runs) run) (log_at (seen runs) run) who (board_call.Finish item)) ≡ answer.Stored
+    told-stored f who item has =
+        ap (λ (s : Inputs). told (board_reply s (log_at (seen runs) run) who (board_call.Finish item))) (inputs-are f)
+        ∙ ap (λ (l : BoardLog). told (board_reply r.inputs l who (board_call.Finish item))) log-is
+        ∙ ap told (stored-reply r.inputs r.log f.board who item has)
+
+    finish-by : FollowsHistory tables h r → (who : ℕ) (a : Answer) (o : Option ℕ) → held who r.log ≡ o → IsSeatNumber who → (IsSome o → a ≡ answer.Stored) → (o ≡ None → a ≡ answer.Nothing)
         → IsAnswer (seen runs) (event.Finish run who) a × (with_entries (seen runs) run (finish_of who o) ≡ after (seen runs) (event.Finish run who) a)
-    finish-by who a (Some item) has seat stored nothing = (
-      inl ((started, seat, subst (λ (x : Option ℕ). IsSome x) (sym (ap (held who) log-is ∙ has)) refl), stored refl),
+    finish-by f who a (Some item) has seat stored nothing = (
+      inl ((started, seat, subst (λ (x : Option ℕ). IsSome x) (sym (ap (held who) log-is ∙ has)) refl), (item, ap (held who) log-is ∙ has, stored refl ∙ sym (told-stored f who item has))),
       ap (λ (x : Option ℕ). with_entries (seen runs) run (finish_of who x)) (sym (ap (held who) log-is ∙ has)) ∙ ap (λ (x : Answer). after (seen runs) (event.Finish run who) x) (sym (stored refl)),
     )
-    finish-by who a None has seat stored nothing = (
+    finish-by f who a None has seat stored nothing = (
       subst (λ (x : Answer). IsAnswer (seen runs) (event.Finish run who) x) (sym (nothing refl))
           (no-meaning (seen runs) (event.Finish run who) (λ m. let k : IsSome {T = ℕ} None = subst (λ (x : Option ℕ). IsSome x) (ap (held who) log-is ∙ has) m.2 in absurd (let n : false ≡ true = k in cc))),
       unlogged ∙ ap (λ (x : Answer). after (seen runs) (event.Finish run who) x) (sym (nothing refl)),
     )
 
-    pub finish-answer : (who : ℕ) (a : Answer) → IsSeatNumber who → (IsSome (held who r.log) → a ≡ answer.Stored) → (held who r.log ≡ None → a ≡ answer.Nothing) → IsAnswer (seen runs) (event.Finish run who) a
-    finish-answer who a seat stored nothing = (finish-by who a (held who r.log) refl seat stored nothing).0
+    pub finish-answer : FollowsHistory tables h r → (who : ℕ) (a : Answer) → IsSeatNumber who → (IsSome (held who r.log) → a ≡ answer.Stored) → (held who r.log ≡ None → a ≡ answer.Nothing) → IsAnswer (seen runs) (event.Finish run who) a
+    finish-answer f who a seat stored nothing = (finish-by f who a (held who r.log) refl seat stored nothing).0
 
-    pub finish-after : (who : ℕ) (a : Answer) (now : RunLog) → IsSeatNumber who → (IsSome (held who r.log) → a ≡ answer.Stored) → (held who r.log ≡ None → a ≡ answer.Nothing)
+    pub finish-after : FollowsHistory tables h r → (who : ℕ) (a : Answer) (now : RunLog) → IsSeatNumber who → (IsSome (held who r.log) → a ≡ answer.Stored) → (held who r.log ≡ None → a ≡ answer.Nothing)
         → now ≡ record r { log = r.log ++ finish_of who (held who r.log) } → seen (set runs place now) ≡ after (seen runs) (event.Finish run who) a
-    finish-after who a now seat stored nothing is = logged now (finish_of who (held who r.log)) is ∙ (finish-by who a (held who r.log) refl seat stored nothing).1
+    finish-after f who a now seat stored nothing is = logged now (finish_of who (held who r.log)) is ∙ (finish-by f who a (held who r.log) refl seat stored nothing).1
 
     -- A worker gives up.
 
@@ -201,6 +213,7 @@ module _ (tables : Tables) (h : History) where
       subst (λ (x : RunLog). FollowsHistory tables (h ++ entry desk call.Snapshot (reply.Taken t) ∷ []) x) (sym run) (record {
         inputs = ap (λ (l : List Booking). record { tables = tables; front = t.front; standing = l }) (k.1 ∙ sym (stands-then t desk k.0));
         before = omega (arith, k.0, length-append h (entry desk call.Snapshot (reply.Taken t) ∷ []));
+        board = keeps-none (inputs_of tables t);
       })
 
   pub start-after : (runs : List RunLog) (t : Snapshot) (desk run front : ℕ) (now : RunLog) → IsReply (supply_of tables) h desk call.Snapshot (reply.Taken t) → front ≡ next_number h
@@ -240,8 +253,16 @@ at-err P Q (Ok x) p f = p
 at-err P Q (Err e) p f = f p
 
 -- a book that is not full may want memory
-pub desk-wants : (core : Core) (e : Event) → HasMeaning core e → (IsFull core.history → ⊥) → WantsMemory core e
-desk-wants core e has open_ = (has, λ asks. open_ asks.2)
+pub desk-wants : (core : Core) (e : Event) → IsOfDesk e → HasMeaning core e → (IsFull core.history → ⊥) → WantsMemory core e
+desk-wants core e of has open_ = record { meant = has; not_full = λ asks. open_ asks.2; not_later = never core e of }
+  where
+    never : (core : Core) (e : Event) → IsOfDesk e → IsToldLater core e → ⊥
+    never core (event.Call desk c) of later = later
+    never core (event.Start desk) of later = later
+    never core (event.Take run who) of later = of
+    never core (event.Finish run who) of later = of
+    never core (event.GiveUp run who) of later = of
+    never core (event.Write run) of later = of
 
 pub is-none : (o : Option ℕ) → is_some o ≡ false → o ≡ None
 is-none None e = refl
@@ -293,20 +314,37 @@ module _ (tables : Tables) (h : History) (runs : List RunLog) (now : Core) (run 
       let k = is-item o some in
       subst (λ (c : Core). IsAnswer c (event.Take run who) answer.Nothing) x.view (take-held tables h runs run place r x.at who k.0 (sym is ∙ k.1))
 
-  pub kept-set : {A E : Type 0} (res : Result A E) (log : BoardLog) (new : RunLog) → OnOk res (new ≡ record r { log = log }) → OnErr res (new ≡ r) → All (FollowsHistory tables h) (set runs place new)
-  kept-set (Ok a) log new grown same = follow-set tables h runs run place r x.at new (ap (λ (y : RunLog). y.inputs) grown) x.follows x.all
-  kept-set (Err e) log new grown same = follow-set tables h runs run place r x.at new (ap (λ (y : RunLog). y.inputs) same) x.follows x.all
+  kept-now : (new now : RunLog) → new ≡ now → now.inputs ≡ r.inputs → KeepsBoard r.inputs now.log → All (FollowsHistory tables h) (set runs place new)
+  kept-now new now is same board =
+      follow-set tables h runs run place r x.at new (ap (λ (y : RunLog). y.inputs) is ∙ same) (subst (λ (y : RunLog). KeepsBoard r.inputs y.log) (sym is) board) x.follows x.all
+
+  kept-set : {A E : Type 0} (res : Result A E) (log : BoardLog) (new : RunLog) → KeepsBoard r.inputs log → OnOk res (new ≡ record r { log = log }) → OnErr res (new ≡ r) → All (FollowsHistory tables h) (set runs place new)
+  kept-set (Ok a) log new board grown same = kept-now new (record r { log = log }) grown refl board
+  kept-set (Err e) log new board grown same = kept-now new r same refl x.follows.board
+
+  -- each run keeps its board as a worker takes, finishes and gives up
+  pub taken-set : {A E : Type 0} (who : ℕ) (res : Result A E) (new : RunLog) → IsSeatNumber who → OnOk res (new ≡ record r { log = r.log ++ taken who (board_reply r.inputs r.log who board_call.Take) }) → OnErr res (new ≡ r)
+      → All (FollowsHistory tables h) (set runs place new)
+  taken-set who res new seat = kept-set res (r.log ++ taken who (board_reply r.inputs r.log who board_call.Take)) new (keeps-told r.inputs r.log x.follows.board who seat)
+
+  pub finished-set : {A E : Type 0} (who : ℕ) (res : Result A E) (new : RunLog) → IsSeatNumber who → OnOk res (new ≡ record r { log = r.log ++ finish_of who (held who r.log) }) → OnErr res (new ≡ r)
+      → All (FollowsHistory tables h) (set runs place new)
+  finished-set who res new seat = kept-set res (r.log ++ finish_of who (held who r.log)) new (keeps-finish r.inputs r.log x.follows.board who seat (held who r.log) refl)
+
+  pub gave_up-set : {A E : Type 0} (who : ℕ) (res : Result A E) (new : RunLog) → IsSeatNumber who → OnOk res (new ≡ record r { log = r.log ++ entry who board_call.GiveUp board_reply.Stopped ∷ [] }) → OnErr res (new ≡ r)
+      → All (FollowsHistory tables h) (set runs place new)
+  gave_up-set who res new seat = kept-set res (r.log ++ entry who board_call.GiveUp board_reply.Stopped ∷ []) new (keeps-stopped r.inputs r.log x.follows.board who seat)
 
   pub finished-answer : {E : Type 0} (who : ℕ) (res : Result Answer E) → IsSeatNumber who → IfOk res (λ a. IsSome (held who r.log) → a ≡ answer.Stored) → IfOk res (λ a. held who r.log ≡ None → a ≡ answer.Nothing)
       → IfOk res (IsAnswer now (event.Finish run who))
   finished-answer who res seat stored nothing =
       if-two (λ a. IsSome (held who r.log) → a ≡ answer.Stored) (λ a. held who r.log ≡ None → a ≡ answer.Nothing) (IsAnswer now (event.Finish run who)) res stored nothing (λ a s n.
-      subst (λ (c : Core). IsAnswer c (event.Finish run who) a) x.view (finish-answer tables h runs run place r x.at who a seat s n))
+      subst (λ (c : Core). IsAnswer c (event.Finish run who) a) x.view (finish-answer tables h runs run place r x.at x.follows who a seat s n))
 
   pub finished-after : {E : Type 0} (who : ℕ) (res : Result Answer E) (new : RunLog) → IsSeatNumber who → IfOk res (λ a. IsSome (held who r.log) → a ≡ answer.Stored) → IfOk res (λ a. held who r.log ≡ None → a ≡ answer.Nothing)
       → OnOk res (new ≡ record r { log = r.log ++ finish_of who (held who r.log) }) → IfOk res (λ a. seen tables h (set runs place new) ≡ after now (event.Finish run who) a)
   finished-after who (Ok a) new seat stored nothing adds =
-      finish-after tables h runs run place r x.at who a new seat stored nothing adds ∙ ap (λ (c : Core). after c (event.Finish run who) a) x.view
+      finish-after tables h runs run place r x.at x.follows who a new seat stored nothing adds ∙ ap (λ (c : Core). after c (event.Finish run who) a) x.view
   finished-after who (Err e) new seat stored nothing adds = stored
 
   pub gave_up-after : (who : ℕ) (new : RunLog) → new ≡ record r { log = r.log ++ entry who board_call.GiveUp board_reply.Stopped ∷ [] }
@@ -323,20 +361,43 @@ module _ (tables : Tables) (h : History) (runs : List RunLog) (now : Core) (run 
   -- What may be refused for want of memory.
 
   pub take-wants : {E : Type 0} (who : ℕ) (o : Option ℕ) (q : RunLog) (res : Result Answer E) → IsSeatNumber who → is_some o ≡ false → o ≡ held who q.log → q ≡ slice_index_or runs place q
-      → OnErr res (WantsMemory now (event.Take run who))
-  take-wants who o q res seat none is read =
+      → OnErr res (board_reply r.inputs r.log who board_call.Take ≢ None) → OnErr res (WantsMemory now (event.Take run who))
+  take-wants who o q res seat none is read memory =
       let free : held who r.log ≡ None = ap (λ (y : RunLog). held who y.log) (sym (same-run q read)) ∙ sym is ∙ is-none o none in
-      on-err (WantsMemory now (event.Take run who)) res (subst (λ (c : Core). WantsMemory c (event.Take run who)) x.view
-      ((started tables h runs run place r x.at, seat, ap (held who) (log-is tables h runs run place r x.at) ∙ free), λ asks. asks.0))
+      let says : board_reply (run_inputs (seen tables h runs) run) (log_at (seen tables h runs) run) who board_call.Take ≡ board_reply r.inputs r.log who board_call.Take =
+      ap (λ (s : Inputs). board_reply s (log_at (seen tables h runs) run) who board_call.Take) (inputs-are tables h runs run place r x.at x.follows)
+      ∙ ap (λ (l : BoardLog). board_reply r.inputs l who board_call.Take) (log-is tables h runs run place r x.at) in
+      at-err (board_reply r.inputs r.log who board_call.Take ≢ None) (WantsMemory now (event.Take run who)) res memory (λ now_told.
+      subst (λ (c : Core). WantsMemory c (event.Take run who)) x.view (record {
+        meant = (started tables h runs run place r x.at, seat, ap (held who) (log-is tables h runs run place r x.at) ∙ free);
+        not_full = λ asks. asks.0;
+        not_later = λ later. now_told (sym says ∙ later);
+      }))
 
   pub finish-wants : {E : Type 0} (who : ℕ) (res : Result Answer E) → IsSeatNumber who → OnErr res (IsSome (held who r.log)) → OnErr res (WantsMemory now (event.Finish run who))
   finish-wants who res seat memory =
       at-err (IsSome (held who r.log)) (WantsMemory now (event.Finish run who)) res memory (λ some.
       subst (λ (c : Core). WantsMemory c (event.Finish run who)) x.view
-      ((started tables h runs run place r x.at, seat, subst (λ (o : Option ℕ). IsSome o) (sym (ap (held who) (log-is tables h runs run place r x.at))) some), λ asks. asks.0))
+      (record {
+        meant = (started tables h runs run place r x.at, seat, subst (λ (o : Option ℕ). IsSome o) (sym (ap (held who) (log-is tables h runs run place r x.at))) some);
+        not_full = λ asks. asks.0;
+        not_later = λ later. later;
+      }))
+
+  pub give_up-wants : {E : Type 0} (who : ℕ) (res : Result Answer E) → IsSeatNumber who → OnErr res (WantsMemory now (event.GiveUp run who))
+  give_up-wants who res seat =
+      on-err (WantsMemory now (event.GiveUp run who)) res (subst (λ (c : Core). WantsMemory c (event.GiveUp run who)) x.view (record {
+        meant = (started tables h runs run place r x.at, seat);
+        not_full = λ asks. asks.0;
+        not_later = λ later. later;
+      }))
 
   pub write-wants : {E : Type 0} (res : Result Answer E) → OnErr res (is_finished r.inputs r.log ≡ true) → OnErr res (WantsMemory now (event.Write run))
   write-wants res memory =
       at-err (is_finished r.inputs r.log ≡ true) (WantsMemory now (event.Write run)) res memory (λ done.
       subst (λ (c : Core). WantsMemory c (event.Write run)) x.view
-      ((started tables h runs run place r x.at, finished-is tables h runs run place r x.at x.follows ∙ done), λ asks. asks.0))
+      (record {
+        meant = (started tables h runs run place r x.at, finished-is tables h runs run place r x.at x.follows ∙ done);
+        not_full = λ asks. asks.0;
+        not_later = λ later. later;
+      }))

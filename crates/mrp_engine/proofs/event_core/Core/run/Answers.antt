@@ -22,6 +22,5 @@ loop-event-preserved g c =
 
 pub returns : goal.returns
 returns g c =
-    let kept = accepted-shop c.args.shop c.tables-tables.result.now c.items-items.result.now c.bills-lines.result.now c.tables-tables.ensures.accepted c.tables-tables.ensures.value c.items-items.ensures.within
-    c.items-items.ensures.rows c.bills-lines.ensures.within c.bills-lines.ensures.rows in
+    let kept = accepted-shop c.args.shop c.tables.result.now c.tables.ensures.accepted c.tables.ensures.value c.keep_limits.ensures in
     all-answered c.args.shop c.args.events.now c.loop-event.event-index c.loop-event.answers.items c.loop-event.core kept (omega (arith, c.loop-event-test.false)) c.loop-event.invariant

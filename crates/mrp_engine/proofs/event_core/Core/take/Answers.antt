@@ -1,8 +1,5 @@
 use Rattle.std.proofs.Common.{◌∙◌, sym}
-use Rattle.mrp_engine.specs.declared.event_core.board.BoardCall.TheVariants as call
-use Rattle.std.proofs.Common.{◌++◌}
-use Rattle.mrp_engine.specs.event_core.Board.{board_reply, taken}
-use Rattle.mrp_engine.proofs.lemmas.event_core.CoreSteps.{held-nothing, here-of, kept-set, take-wants, taken-after, taken-answer}
+use Rattle.mrp_engine.proofs.lemmas.event_core.CoreSteps.{held-nothing, here-of, take-wants, taken-after, taken-answer, taken-set}
 use Rattle.mrp_engine.proofs.event_core.Core.take.Goals as goal
 
 pub returns-then-is_some-clause-answer : goal.returns-then-is_some-clause-answer
@@ -19,7 +16,7 @@ invariant_of-self c =
     let here = here-of i.rows.value.tables i.book.entries i.runs.items c.args.self.now c.args.run c.in-Some.place r c.self.view_is c.self.invariant.runs c.in-Some.ensures.started.0 c.in-Some.ensures.started.1 c.index_mut.ensures.value in
     record {
       supply = c.self.invariant.supply;
-      runs = kept-set i.rows.value.tables i.book.entries i.runs.items c.args.self.now c.args.run c.in-Some.place r here c.take.result (r.log ++ taken c.args.worker (board_reply r.inputs r.log c.args.worker call.Take)) c.take.new.self c.take.ensures.entry c.take.ensures.refused;
+      runs = taken-set i.rows.value.tables i.book.entries i.runs.items c.args.self.now c.args.run c.in-Some.place r here c.args.worker c.take.result c.take.new.self (c.is_seat.ensures.0 c.if-not-is_seat.false) c.take.ensures.entry c.take.ensures.refused;
     }
 
 pub returns-clause-answer : goal.returns-clause-answer
@@ -41,4 +38,4 @@ returns-clause-memory c =
     let i = c.self.inside in
     let r = c.index_mut.result.now in
     let here = here-of i.rows.value.tables i.book.entries i.runs.items c.args.self.now c.args.run c.in-Some.place r c.self.view_is c.self.invariant.runs c.in-Some.ensures.started.0 c.in-Some.ensures.started.1 c.index_mut.ensures.value in
-    take-wants i.rows.value.tables i.book.entries i.runs.items c.args.self.now c.args.run c.in-Some.place r here c.args.worker c.held.result c.index.result.now c.take.result (c.is_seat.ensures.0 c.if-not-is_seat.false) (sym c.is_some.ensures ∙ c.if-is_some.false) c.held.ensures c.index.ensures
+    take-wants i.rows.value.tables i.book.entries i.runs.items c.args.self.now c.args.run c.in-Some.place r here c.args.worker c.held.result c.index.result.now c.take.result (c.is_seat.ensures.0 c.if-not-is_seat.false) (sym c.is_some.ensures ∙ c.if-is_some.false) c.held.ensures c.index.ensures c.take.ensures.memory
