@@ -1,4 +1,5 @@
 pub mod Board
+pub mod BoardState
 pub mod Core
 pub mod Headline
 pub mod Kept

@@ -1,5 +1,6 @@
 pub mod BoardLogs
 pub mod BoardLaws
+pub mod BoardStates
 pub mod FirstTakes
 pub mod CoreLaws
 pub mod CoreAnswers
