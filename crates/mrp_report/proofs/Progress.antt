@@ -8,7 +8,7 @@ use Rattle.std.specs.Io.KnownBytes.{Appends}
 use Rattle.mrp_rows.specs.declared.told.Told.{Told}
 use Rattle.mrp_rows.specs.Told.{inner_of, failures_of, interrupted_of, HasRisenBy}
 use Rattle.mrp_rows.specs.Streams.{RisesBy}
-use Rattle.mrp_report.specs.Written.{Ends, HasTaken, HasTakenFront, HasTakenWhole, HasGivenUp, HasGoneOn, Passes, PassesOn, Writes, WritesWhole}
+use Rattle.mrp_report.specs.Written.{Ends, HasTaken, HasTakenFront, HasTakenWhole, HasGivenUp, HasGoneOn, PassesOn, Writes, WritesWhole}
 use Rattle.mrp_report.specs.declared.fault.ReportFault.{ReportFault}
 use Rattle.mrp_report.specs.declared.fault.ReportFault.TheVariants.{NoMemory, Write}
 
@@ -245,15 +245,7 @@ ends-of_call e = record {
   memory = e.memory;
 }
 
--- the call for the last part passed it on
-pub ends-passed : {W T : Type 0} (contents : W → Option (List ℕ)) (start now then : Told W) (first tries left : ℕ) (page kept text whole : List ℕ) (r : Result T ReportFault)
-    → IsWritten contents start now first tries page text → whole ≡ text → Passes contents now then page kept tries left r → Passes contents start then whole kept first left r
-ends-passed {W} contents start now then first tries left page kept text whole r w is part =
-    ends-last contents start now then first tries left page text whole r w is part (λ (passed : PassesOn contents now then page kept (tries - left)).
-    subst (λ (t : List ℕ). PassesOn contents start then t kept (first - left)) (sym is)
-    (passes-on contents start then first left kept text (written-passed contents start now then first tries left page kept text w part.tries passed)))
-
--- and the last page was written
+-- the last page was written, in a call that has all tries
 pub ends-whole : {W T : Type 0} (contents : W → Option (List ℕ)) (start now then : Told W) (tries left : ℕ) (page whole : List ℕ) (r : Result T ReportFault) → IsWritten contents start now 1000000 tries page whole
     → Writes contents now then page tries left r → WritesWhole contents start then whole r
 ends-whole contents start now then tries left page whole r w part =

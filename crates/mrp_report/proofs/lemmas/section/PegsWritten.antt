@@ -1,10 +1,9 @@
 -- A text is written while its rest is still to be made.
-use Rattle.std.proofs.Common.{◌≡◌, ◌∙◌, ℕ, ◌-◌, ◌≤◌, List, [], ◌++◌, Option, ap, sym, subst, refl, append_assoc}
-use Rattle.std.proofs.lemmas.List.{append-nil}
+use Rattle.std.proofs.Common.{◌≡◌, ◌∙◌, ℕ, ◌-◌, ◌≤◌, List, ◌++◌, Option, ap, sym, append_assoc}
 use Rattle.mrp_rows.specs.declared.told.Told.{Told}
 use Rattle.mrp_report.specs.section.PegRows.{IsAdded}
-use Rattle.mrp_report.specs.Written.{HasTakenFront, HasGoneOn, PassesOn}
-use Rattle.mrp_report.proofs.Progress.{IsWritten, front-now, front-then, gone-on, gone-on-then, passes-on, written-more, written-none, written-passed}
+use Rattle.mrp_report.specs.Written.{PassesOn}
+use Rattle.mrp_report.proofs.Progress.{IsWritten, written-more, written-passed}
 
 -- so much of a whole is passed on or on the page, and so much is to come
 pub record IsWrittenTo {W : Type 0} (contents : W → Option (List ℕ)) (start now : Told W) (first tries : ℕ) (page left whole : List ℕ) : Type 0 where
@@ -13,9 +12,6 @@ pub record IsWrittenTo {W : Type 0} (contents : W → Option (List ℕ)) (start 
   pub rest : whole ≡ text ++ left
 
 module _ {W : Type 0} (contents : W → Option (List ℕ)) (start : Told W) (first : ℕ) where
-  pub to-none : (page left whole : List ℕ) → whole ≡ page ++ left → IsWrittenTo contents start start first first page left whole
-  to-none page left whole is = record { text = page; written = written-none contents start first first page page refl refl; rest = is }
-
   pub to-added : (now : Told W) (tries : ℕ) (page next left fewer whole : List ℕ) → IsWrittenTo contents start now first tries page left whole → IsAdded page next left fewer → IsWrittenTo contents start now first tries next fewer whole
   to-added now tries page next left fewer whole w added = record {
     text = w.text ++ added.text;
@@ -30,20 +26,3 @@ module _ {W : Type 0} (contents : W → Option (List ℕ)) (start : Told W) (fir
     written = written-passed contents start now then first tries few page kept w.text w.written less passed;
     rest = w.rest;
   }
-
-  pub to-front : (now : Told W) (tries : ℕ) (page left whole : List ℕ) → IsWrittenTo contents start now first tries page left whole → HasTakenFront contents start now whole
-  to-front now tries page left whole w = front-now contents start now first tries page w.text left whole w.written w.rest
-
-  pub to-front-then : (now then : Told W) (tries : ℕ) (page left whole : List ℕ) → IsWrittenTo contents start now first tries page left whole → HasTakenFront contents now then page → HasTakenFront contents start then whole
-  to-front-then now then tries page left whole w front = front-then contents start now then first tries page w.text left whole w.written w.rest front
-
-  pub to-all : (now : Told W) (tries : ℕ) (page left whole : List ℕ) → IsWrittenTo contents start now first tries page left whole → left ≡ [] → PassesOn contents start now whole page (first - tries)
-  to-all now tries page left whole w none =
-      let all : w.text ≡ whole = sym (w.rest ∙ ap (λ (t : List ℕ). w.text ++ t) none ∙ append-nil w.text) in
-      subst (λ (t : List ℕ). PassesOn contents start now t page (first - tries)) all (passes-on contents start now first tries page w.text w.written)
-
-  pub to-gone-on : (now : Told W) (tries : ℕ) (page left whole : List ℕ) → IsWrittenTo contents start now first tries page left whole → HasGoneOn start now first
-  to-gone-on now tries page left whole w = gone-on contents start now first tries page w.text w.written
-
-  pub to-gone-on-then : (now then : Told W) (tries : ℕ) (page left whole : List ℕ) → IsWrittenTo contents start now first tries page left whole → HasGoneOn now then tries → HasGoneOn start then first
-  to-gone-on-then now then tries page left whole w last = gone-on-then contents start now then first tries page w.text w.written last
