@@ -1,7 +1,6 @@
 -- An item's step looks at its tables, its own bookings and its parents' orders alone.
 use Rattle.std.proofs.Common.{◌≡◌, ◌∙◌, ℕ, ◌<◌, ◌≤◌, Bool, true, false, cond, eqb, List, [], ◌∷◌, refl, sym, ap, subst, arith}
 use Rattle.std.specs.Prelude.{filter, max, sum_by, ◌==◌, ◌&&◌, ◌||◌, IsTrue}
-use Rattle.std.specs.Int.{IsInRange}
 use Rattle.std.specs.List.{list_all, range_with_len}
 use Rattle.std.proofs.lemmas.Bool.{eq-eqb}
 use Rattle.std.proofs.lemmas.List.Sums.{sum_by-cons}
@@ -12,7 +11,7 @@ use Rattle.mrp_book.specs.declared.booking.Booking.{Booking}
 use Rattle.mrp_phase.specs.Weeks.{row}
 use Rattle.mrp_phase.proofs.WeekRows.{row_same}
 use Rattle.mrp_item.specs.Inputs.{Inputs, count, horizon, is_master}
-use Rattle.mrp_item.specs.NetChange.{AskTheSame, IsUntouched}
+use Rattle.mrp_item.specs.NetChange.{IsUntouched}
 use Rattle.mrp_item.specs.Rows.{booked, demand, forecast}
 use Rattle.mrp_item.specs.Plan.{Blocked, IsRanked, Outcome, asked_by, gross_in, is_planned, item_plan, judged, outcome_step, part_gross, plan_in}
 use Rattle.mrp_item.specs.Recursion.{IsLocal}
