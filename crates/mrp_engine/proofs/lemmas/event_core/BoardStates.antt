@@ -107,8 +107,7 @@ new-out : (s : Inputs) (log : BoardLog) (who i : ℕ) (c : BoardCall) (r : Board
 new-out s log who i call.Take (reply.Item j) is hands =
     let found : find (is_ready s log) (places s) ≡ Some j = found-new (is_at_end s log) (find (is_ready s log) (places s)) j is in
     let k = found-in (is_ready s log) 0 (count s) j found in
-    let same : j ≡ i = eqb-true j i hands in
-    (
+    let same : j ≡ i = eqb-true j i hands in (
       subst (λ (n : ℕ). is_out log n ≡ false) same (not-out (is_out log j) (and-first (not (is_out log j)) (list_all (is_stored log) (parents_of s.tables.bills (count s) j)) k.0)),
       omega (arith, k.1, same),
     )
