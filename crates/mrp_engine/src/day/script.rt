@@ -18,8 +18,10 @@ use std::alloc::Global;
 /// The desk whose run is added to a script without one.
 pub const ADDED_DESK: u64 = 1;
 
-/// A script's call, as the order book takes it: a run asks for a snapshot.
-pub fn call_of(call: ScriptCall) -> Call
+/// A call of a shop's script, as the order book takes it: a run asks for a snapshot. The caller owes
+/// that it fits the shop.
+pub fn call_of(shop: &Shop, call: ScriptCall) -> Call
+    requires { Fits (supply_of shop.now.tables) (call_of call) }
     ensures { result ≡ call_of call }
 {
     match call {
@@ -27,14 +29,12 @@ pub fn call_of(call: ScriptCall) -> Call
             item,
             week,
             quantity,
-        } => Call::Book(Line {
-            item,
-            week,
-            quantity,
-        }),
+        } => Call::Book(Line::new(shop, item, week, quantity).unwrap()),
         ScriptCall::Cancel { entry } => Call::Cancel(entry),
-        ScriptCall::Ask { item, week } => Call::Ask(Spot { item, week }),
-        ScriptCall::When { item, quantity } => Call::When(Wish { item, quantity }),
+        ScriptCall::Ask { item, week } => Call::Ask(Spot::new(shop, item, week).unwrap()),
+        ScriptCall::When { item, quantity } => {
+            Call::When(Wish::new(shop, item, quantity).unwrap())
+        }
         ScriptCall::Run => Call::Snapshot,
     }
 }
@@ -88,7 +88,7 @@ pub fn answer_script(alloc: Global, shop: &Shop) -> Result<History, NoMemory>
     let script = shop.tables().script();
     let mut book = Book::open(alloc, shop)?;
     for row in script {
-        answer(alloc, &mut book, row.desk, call_of(row.call))?;
+        answer(alloc, &mut book, row.desk, call_of(shop, row.call))?;
     }
     if let Some((desk, call)) = added_run(script) {
         answer(alloc, &mut book, desk, call)?;

@@ -1,10 +1,13 @@
 //! The calls of a script, in a list for each desk.
 
 ghost use Rattle.std.specs.Prelude.{◌≡◌, ◌-◌, ◌≤◌, ℕ, [], All, IfOk, OnOk, length, map};
+ghost use Rattle.mrp_master.specs.Supply.{supply_of};
+ghost use Rattle.mrp_book.specs.History.{Fits};
 ghost use Rattle.mrp_engine.specs.live.DeskCalls.{Appends, AreCallsOf, calls_at, count_in};
-ghost use Rattle.mrp_engine.specs.day.Script.{record_of};
+ghost use Rattle.mrp_engine.specs.day.Script.{call_of, record_of};
 
 use crate::day::call_of;
+use mrp_bill::Shop;
 use mrp_book::Call;
 use mrp_qty::NoMemory;
 use mrp_tables::ScriptRow;
@@ -32,22 +35,24 @@ fn append(lists: &mut Vec<Vec<Call>>, desk: u64, call: Call) -> Result<(), NoMem
     Ok(())
 }
 
-/// The calls of a script, put in lists of so many desks in one pass: each desk's are those of its
-/// records, in order.
+/// The calls of a shop's script, put in lists of so many desks in one pass: each desk's are those of
+/// its records, in order.
 ///
 /// Errors: `NoMemory` where memory is refused.
 pub fn calls_by_desk(
     alloc: Global,
+    shop: &Shop,
     script: &[ScriptRow],
     desks: usize,
 ) -> Result<Vec<Vec<Call>>, NoMemory>
-    requires { All (λ r. (1 ≤ r.desk) × (r.desk ≤ desks)) script.now }
+    requires desks { All (λ r. (1 ≤ r.desk) × (r.desk ≤ desks)) script.now }
+    requires fits { All (λ r. Fits (supply_of shop.now.tables) (call_of r.call)) script.now }
     ensures size { IfOk result (λ lists. length lists.items ≡ desks) }
     ensures calls { IfOk result (λ lists. AreCallsOf (map record_of script.now) lists.items) }
 {
     let mut lists = empty_lists(alloc, desks)?;
     for row in script {
-        append(&mut lists, row.desk, call_of(row.call))?;
+        append(&mut lists, row.desk, call_of(shop, row.call))?;
     }
     Ok(lists)
 }

@@ -87,7 +87,7 @@ fn serve_script<R: Threads + Wait + Sync, G: Gate + Sync>(
     ensures desks { IfOk result (λ r. AreDesksOf office.now r.0.items) }
     ensures served { IfOk result (λ r. HaveServed (map record_of script.now) r.0.items r.1) }
 {
-    let lists = calls_by_desk(alloc, script, desks.len())?;
+    let lists = calls_by_desk(alloc, office.shop(), script, desks.len())?;
     let all = serve_all(rt, alloc, office, lists.as_slice(), gate, desks)?;
     parted(alloc, all)
 }

@@ -1,6 +1,7 @@
-use Rattle.std.proofs.Common.{◌≡◌, ◌∙◌, [], ◌∷◌, ◌++◌, ap, sym, subst, arith}
+use Rattle.std.proofs.Common.{◌≡◌, ◌∙◌, [], ◌∷◌, ◌++◌, ap, refl, sym, subst, arith}
 use Rattle.std.specs.Prelude.{All}
 use Rattle.mrp_tables.specs.Tables.{Tables}
+use Rattle.mrp_master.specs.Supply.{supply_of}
 use Rattle.mrp_book.specs.History.{Fits, asked}
 use Rattle.mrp_book.specs.Books.{OrderBook}
 use Rattle.mrp_tables.specs.Facts.{IsScriptRow}
@@ -8,6 +9,13 @@ use Rattle.mrp_engine.specs.day.Script.{Script}
 use Rattle.mrp_engine.proofs.lemmas.day.ScriptCalls.{all-answered, answers, entries-few, none-added, row-fits}
 use Rattle.mrp_engine.proofs.day.script.answer_script.Goals as goal
 use Rattle.mrp_engine.proofs.day.script.answer_script.Goals.{in-Some+in_ok-answer-2, in_default}
+
+pub call_of-requires : goal.call_of-requires
+call_of-requires c =
+    let t = c.args.shop.now.tables in
+    let rows : All (IsScriptRow t.calendar.weeks t.items) c.script-script.result.now =
+    subst (λ (x : Tables). All (IsScriptRow x.calendar.weeks x.items) c.script-script.result.now) c.tables.ensures.value c.script-script.ensures.within in
+    (row-fits t (supply_of t) c.script-script.result.now c.loop-row.row-index c.row-item.result refl rows c.loop-row-test.true c.row-item.is).2
 
 pub answer-requires-clause-fits : goal.answer-requires-clause-fits
 answer-requires-clause-fits c =

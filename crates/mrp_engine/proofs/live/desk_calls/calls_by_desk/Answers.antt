@@ -1,8 +1,10 @@
 use Rattle.std.proofs.Common.{◌≤◌, ◌-◌, ◌+◌, ◌∙◌, List, ap, arith, map, subst, sym, take_all}
 use Rattle.mrp_tables.specs.declared.rows.ScriptRow.{ScriptRow}
 use Rattle.mrp_book.specs.declared.call.Call.{Call}
+use Rattle.mrp_book.specs.History.{Fits}
+use Rattle.mrp_master.specs.Supply.{supply_of}
 use Rattle.mrp_engine.specs.live.DeskCalls.{Appends, AreCallsOf, asks}
-use Rattle.mrp_engine.specs.day.Script.{record_of}
+use Rattle.mrp_engine.specs.day.Script.{call_of, record_of}
 use Rattle.mrp_engine.proofs.lemmas.live.DeskCalls.{listed-more}
 use Rattle.mrp_engine.proofs.live.desk_calls.calls_by_desk.Goals as goal
 
@@ -14,14 +16,17 @@ loop-row-init c = record {
 
 pub append-requires : goal.append-requires
 append-requires c =
-    let (some, most) = subst (λ (r : ScriptRow). (1 ≤ r.desk) × (r.desk ≤ c.args.desks)) (sym c.row-item.is) (c.requires c.loop-row.row-index c.row-item.result c.loop-row-test.true) in
+    let (some, most) = subst (λ (r : ScriptRow). (1 ≤ r.desk) × (r.desk ≤ c.args.desks)) (sym c.row-item.is) (c.requires.desks c.loop-row.row-index c.row-item.result c.loop-row-test.true) in
     let size = c.loop-row.invariant.size in
     (some, omega (arith, most, size))
+
+pub call_of-requires : goal.call_of-requires
+call_of-requires c = subst (λ (r : ScriptRow). Fits (supply_of c.args.shop.now.tables) (call_of r.call)) (sym c.row-item.is) (c.requires.fits c.loop-row.row-index c.row-item.result c.loop-row-test.true)
 
 pub loop-row-preserved : goal.loop-row-preserved
 loop-row-preserved c =
     let row = c.row-item.result in
-    let (some, most) = subst (λ (r : ScriptRow). (1 ≤ r.desk) × (r.desk ≤ c.args.desks)) (sym c.row-item.is) (c.requires c.loop-row.row-index row c.loop-row-test.true) in
+    let (some, most) = subst (λ (r : ScriptRow). (1 ≤ r.desk) × (r.desk ≤ c.args.desks)) (sym c.row-item.is) (c.requires.desks c.loop-row.row-index row c.loop-row-test.true) in
     let puts = subst (λ (call : Call). Appends c.loop-row.lists.items c.append.new.lists.items (row.desk - 1) call) c.call_of.ensures c.in_ok-append.ensures in
     record {
       size = puts.size ∙ c.loop-row.invariant.size;

@@ -1,20 +1,27 @@
-use Rattle.std.proofs.Common.{◌≡◌, List, Vec, ap, arith, length, map, subst, sym}
+use Rattle.std.proofs.Common.{◌≡◌, ◌∙◌, List, Vec, ap, arith, length, map, subst, sym}
 use Rattle.std.specs.Prelude.{All}
 use Rattle.std.specs.declared.alloc.Global.{Global}
 use Rattle.mrp_book.specs.declared.call.Call.{Call}
 use Rattle.mrp_book.specs.History.{Fits}
+use Rattle.mrp_bill.specs.Shop.{Shop}
+use Rattle.mrp_master.specs.Supply.{supply_of}
 use Rattle.mrp_desk.specs.Offices.{supply_at}
 use Rattle.mrp_engine.specs.live.DeskCalls.{AreCallsOf, calls_at}
-use Rattle.mrp_engine.specs.day.Script.{record_of}
+use Rattle.mrp_engine.specs.day.Script.{call_of, record_of}
 use Rattle.mrp_engine.proofs.lemmas.live.DeskCalls.{lists-fit}
 use Rattle.mrp_engine.proofs.lemmas.live.DeskLists.{followed-each, if-parted-desks, if-parted-served}
 use Rattle.mrp_engine.proofs.live.desks.serve_script.Goals as goal
 
-pub calls_by_desk-requires : goal.calls_by_desk-requires
-calls_by_desk-requires g c = λ k d within.
+pub calls_by_desk-requires-clause-desks : goal.calls_by_desk-requires-clause-desks
+calls_by_desk-requires-clause-desks g c = λ k d within.
     let count = c.requires.desks.count in
     let most = c.requires.count.all k d within in
     (c.requires.rows k d within, omega (arith, count, most, c.args.desks.ok.0))
+
+pub calls_by_desk-requires-clause-fits : goal.calls_by_desk-requires-clause-fits
+calls_by_desk-requires-clause-fits g c =
+    let is = c.deref.ensures ∙ c.shop.ensures in
+    subst (λ (x : Shop). All (λ r. Fits (supply_of x.tables) (call_of r.call)) c.args.script.now) (sym is) c.requires.fits
 
 pub serve_all-requires-clause-lists : goal.serve_all-requires-clause-lists
 serve_all-requires-clause-lists g c = λ κs alive.
