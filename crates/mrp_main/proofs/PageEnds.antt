@@ -6,7 +6,7 @@ use Rattle.mrp_rows.specs.declared.told.Told.{Told}
 use Rattle.mrp_rows.specs.Streams.{WritesFront}
 use Rattle.mrp_rows.specs.Told.{inner_of}
 use Rattle.mrp_report.specs.Written.{HasGivenUp, HasGoneOn}
-use Rattle.mrp_page.specs.Reading.{IsNoDay, is_write_fault}
+use Rattle.mrp_page.specs.Reading.{HasStopped, IsNoDay, is_write_fault}
 use Rattle.mrp_page.specs.declared.fault.PageFault.{PageFault}
 use Rattle.mrp_page.specs.declared.fault.PageFault.TheVariants as fault
 use Rattle.mrp_main.specs.declared.page_words.PageWords.{PageWords}
@@ -17,30 +17,31 @@ use Rattle.mrp_page.specs.Written.{IsPageOf}
 use Rattle.mrp_main.specs.PageEnds.{AreAsked, IsPageBy, LacksRunBy, PageEnds, end_of, title_of}
 
 -- what writing a page leaves
-pub record IsPageLeft {W X : Type 0} (words : PageWords) (given : Option (List ℕ)) (contents : W → Option (List ℕ)) (output written : Told W) (page : Result X PageFault) : Type 0 where
-  pub whole : OnOk page ((text : List ℕ) → given ≡ Some text → IsPageBy words text (λ whole. Appends (contents (inner_of output)) (contents (inner_of written)) whole))
+pub record IsPageLeft {R W X : Type 0} (words : PageWords) (remaining : R → Option (List ℕ)) (contents : W → Option (List ℕ)) (input read : Told R) (output written : Told W) (page : Result X PageFault) : Type 0 where
+  pub whole : OnOk page ((text : List ℕ) → remaining (inner_of input) ≡ Some text → IsPageBy words text (λ whole. Appends (contents (inner_of output)) (contents (inner_of written)) whole))
   pub gone_on : OnOk page (HasGoneOn output written 1000000)
-  pub wrong : page ≡ Err fault.Shape → (text : List ℕ) → given ≡ Some text → IsNoDay text
-  pub run : page ≡ Err fault.NoRun → (text : List ℕ) → given ≡ Some text → LacksRunBy words text
+  pub wrong : page ≡ Err fault.Shape → (text : List ℕ) → remaining (inner_of input) ≡ Some text → IsNoDay text
+  pub run : page ≡ Err fault.NoRun → (text : List ℕ) → remaining (inner_of input) ≡ Some text → LacksRunBy words text
+  pub stopped : page ≡ Err fault.Read → HasStopped input read
   pub untouched : IfErr page (λ given. is_write_fault given ≡ false → written ≡ output)
   pub gave_up : page ≡ Err fault.Write → HasGivenUp output written 1000000
-  pub front : page ≡ Err fault.Write → (text : List ℕ) → given ≡ Some text → IsPageBy words text (λ whole. WritesFront (contents (inner_of output)) (contents (inner_of written)) whole)
+  pub front : page ≡ Err fault.Write → (text : List ℕ) → remaining (inner_of input) ≡ Some text → IsPageBy words text (λ whole. WritesFront (contents (inner_of output)) (contents (inner_of written)) whole)
 
 -- the end that is told is its end
-pub page-ends : {W X : Type 0} (words : PageWords) (given : Option (List ℕ)) (contents : W → Option (List ℕ)) (output written : Told W) (page : Result X PageFault) (end : Ending)
-    → IsPageLeft words given contents output written page → MatchResult page (λ x. end ≡ Done) (λ given. end ≡ end_of given) → PageEnds words given contents output written end
-page-ends words given contents output written (Ok x) end left is =
-    subst (λ (e : Ending). PageEnds words given contents output written e) (sym is) (left.gone_on, left.whole)
-page-ends words given contents output written (Err fault.Shape) end left is =
-    subst (λ (e : Ending). PageEnds words given contents output written e) (sym is) (left.untouched refl, left.wrong refl)
-page-ends words given contents output written (Err fault.NoRun) end left is =
-    subst (λ (e : Ending). PageEnds words given contents output written e) (sym is) (left.untouched refl, left.run refl)
-page-ends words given contents output written (Err fault.NoMemory) end left is =
-    subst (λ (e : Ending). PageEnds words given contents output written e) (sym is) (left.untouched refl)
-page-ends words given contents output written (Err fault.Read) end left is =
-    subst (λ (e : Ending). PageEnds words given contents output written e) (sym is) (left.untouched refl)
-page-ends words given contents output written (Err fault.Write) end left is =
-    subst (λ (e : Ending). PageEnds words given contents output written e) (sym is) (left.gave_up refl, left.front refl)
+pub page-ends : {R W X : Type 0} (words : PageWords) (remaining : R → Option (List ℕ)) (contents : W → Option (List ℕ)) (input read : Told R) (output written : Told W) (page : Result X PageFault) (end : Ending)
+    → IsPageLeft words remaining contents input read output written page → MatchResult page (λ x. end ≡ Done) (λ given. end ≡ end_of given) → PageEnds words remaining contents input read output written end
+page-ends words remaining contents input read output written (Ok x) end left is =
+    subst (λ (e : Ending). PageEnds words remaining contents input read output written e) (sym is) (left.gone_on, left.whole)
+page-ends words remaining contents input read output written (Err fault.Shape) end left is =
+    subst (λ (e : Ending). PageEnds words remaining contents input read output written e) (sym is) (left.untouched refl, left.wrong refl)
+page-ends words remaining contents input read output written (Err fault.NoRun) end left is =
+    subst (λ (e : Ending). PageEnds words remaining contents input read output written e) (sym is) (left.untouched refl, left.run refl)
+page-ends words remaining contents input read output written (Err fault.NoMemory) end left is =
+    subst (λ (e : Ending). PageEnds words remaining contents input read output written e) (sym is) (left.untouched refl)
+page-ends words remaining contents input read output written (Err fault.Read) end left is =
+    subst (λ (e : Ending). PageEnds words remaining contents input read output written e) (sym is) (left.untouched refl, left.stopped refl)
+page-ends words remaining contents input read output written (Err fault.Write) end left is =
+    subst (λ (e : Ending). PageEnds words remaining contents input read output written e) (sym is) (left.gave_up refl, left.front refl)
 
 -- a page of this title and these names is the one that is asked for
 pub page-by : (words : PageWords) (names : Names) (title text : List ℕ) (P : List ℕ → Type 0) → title ≡ title_of (option_map string_bytes words.title) → AreAsked words names → IsPageOf title names words.run text P → IsPageBy words text P

@@ -100,7 +100,7 @@ pub record FolderEnds {W : Type 0} (command : DayCommand) (known : Known) (folde
 abbrev pub RequestEnds : Known → {R W : Type 0} → (R → Option (List ℕ)) → (W → Option (List ℕ)) → Told R → Told R → Told W → Told W → Request → Ending → Type 0
 RequestEnds known remaining contents input read output written (Day command workers None) end = DayEnds command remaining contents input read output written end
 RequestEnds known remaining contents input read output written (Day command workers (Some folder)) end = (read ≡ input) × FolderEnds command known (string_bytes folder) contents output written end
-RequestEnds known remaining contents input read output written (Page words) end = PageEnds words (remaining (inner_of input)) contents output written end
+RequestEnds known remaining contents input read output written (Page words) end = PageEnds words remaining contents input read output written end
 RequestEnds known remaining contents input read output written (Check (Some folder)) end = CheckEnds known (string_bytes folder) remaining contents input read output written end
 RequestEnds known remaining contents input read output written (Check None) end = (read ≡ input) × (written ≡ output) × (status_of end ≡ status.Usage)
 

@@ -7,7 +7,7 @@ use Rattle.mrp_rows.specs.Streams.{WritesFront}
 use Rattle.mrp_rows.specs.Told.{inner_of}
 use Rattle.mrp_report.specs.Written.{HasGivenUp, HasGoneOn}
 use Rattle.mrp_page.specs.Names.{names_of}
-use Rattle.mrp_page.specs.Reading.{IsNoDay, LacksRun}
+use Rattle.mrp_page.specs.Reading.{HasStopped, IsNoDay, LacksRun}
 use Rattle.mrp_page.specs.Spot.{Names}
 use Rattle.mrp_page.specs.Written.{IsPageOf}
 use Rattle.mrp_page.specs.declared.fault.PageFault.{PageFault}
@@ -38,20 +38,20 @@ IsPageBy words text P = (names : Names) × AreAsked words names × IsPageOf (tit
 abbrev pub LacksRunBy : PageWords → List ℕ → Type 0
 LacksRunBy words text = (names : Names) × AreAsked words names × LacksRun names words.run text
 
--- how a page of what was given ends: it was written, or a front of it, or nothing
-abbrev pub PageEnds : PageWords → Option (List ℕ) → {W : Type 0} → (W → Option (List ℕ)) → Told W → Told W → Ending → Type 0
-PageEnds words given contents output written Done =
-    HasGoneOn output written WRITE_TRIES × ((text : List ℕ) → given ≡ Some text → IsPageBy words text (λ page. Appends (contents (inner_of output)) (contents (inner_of written)) page))
-PageEnds words given contents output written WrongShape = (written ≡ output) × ((text : List ℕ) → given ≡ Some text → IsNoDay text)
-PageEnds words given contents output written NoRun = (written ≡ output) × ((text : List ℕ) → given ≡ Some text → LacksRunBy words text)
-PageEnds words given contents output written NoMemory = written ≡ output
-PageEnds words given contents output written Read = written ≡ output
-PageEnds words given contents output written Write =
-    HasGivenUp output written WRITE_TRIES × ((text : List ℕ) → given ≡ Some text → IsPageBy words text (λ page. WritesFront (contents (inner_of output)) (contents (inner_of written)) page))
-PageEnds words given contents output written (Refused text) = ⊥
-PageEnds words given contents output written (TooLarge name) = ⊥
-PageEnds words given contents output written (Usage text) = ⊥
-PageEnds words given contents output written Wrong = ⊥
+-- how a page of what an input had left ends: it was written, or a front of it, or nothing
+abbrev pub PageEnds : PageWords → {R W : Type 0} → (R → Option (List ℕ)) → (W → Option (List ℕ)) → Told R → Told R → Told W → Told W → Ending → Type 0
+PageEnds words remaining contents input read output written Done =
+    HasGoneOn output written WRITE_TRIES × ((text : List ℕ) → remaining (inner_of input) ≡ Some text → IsPageBy words text (λ page. Appends (contents (inner_of output)) (contents (inner_of written)) page))
+PageEnds words remaining contents input read output written WrongShape = (written ≡ output) × ((text : List ℕ) → remaining (inner_of input) ≡ Some text → IsNoDay text)
+PageEnds words remaining contents input read output written NoRun = (written ≡ output) × ((text : List ℕ) → remaining (inner_of input) ≡ Some text → LacksRunBy words text)
+PageEnds words remaining contents input read output written NoMemory = written ≡ output
+PageEnds words remaining contents input read output written Read = (written ≡ output) × HasStopped input read
+PageEnds words remaining contents input read output written Write =
+    HasGivenUp output written WRITE_TRIES × ((text : List ℕ) → remaining (inner_of input) ≡ Some text → IsPageBy words text (λ page. WritesFront (contents (inner_of output)) (contents (inner_of written)) page))
+PageEnds words remaining contents input read output written (Refused text) = ⊥
+PageEnds words remaining contents input read output written (TooLarge name) = ⊥
+PageEnds words remaining contents input read output written (Usage text) = ⊥
+PageEnds words remaining contents input read output written Wrong = ⊥
 
 -- the end of a page that was not written whole
 abbrev pub end_of : PageFault → Ending

@@ -5,7 +5,7 @@ ghost use Rattle.std.specs.Io.KnownBytes.{Appends};
 ghost use Rattle.mrp_rows.specs.Told.{inner_of};
 ghost use Rattle.mrp_rows.specs.Streams.{WritesFront};
 ghost use Rattle.mrp_report.specs.Written.{HasGivenUp, HasGoneOn};
-ghost use Rattle.mrp_page.specs.Reading.{IsNoDay, is_write_fault};
+ghost use Rattle.mrp_page.specs.Reading.{HasStopped, IsNoDay, is_write_fault};
 ghost use Rattle.mrp_main.specs.PageEnds.{IsPageBy, LacksRunBy, PageEnds, names_in, title_of};
 
 use crate::ending::Ending;
@@ -47,6 +47,7 @@ fn write_asked<R: Read, W: Write>(
     ensures gone_on { OnOk result (HasGoneOn output.old output.new WRITE_TRIES) }
     ensures wrong { result ≡ Err PageFault.Shape → (text : List ℕ) → R.remaining (inner_of input.old) ≡ Some text → IsNoDay text }
     ensures run { result ≡ Err PageFault.NoRun → (text : List ℕ) → R.remaining (inner_of input.old) ≡ Some text → LacksRunBy words.now text }
+    ensures stopped { result ≡ Err PageFault.Read → HasStopped input.old input.new }
     ensures untouched { IfErr result (λ fault. is_write_fault fault ≡ false → output.new ≡ output.old) }
     ensures gave_up { result ≡ Err PageFault.Write → HasGivenUp output.old output.new WRITE_TRIES }
     ensures front { result ≡ Err PageFault.Write → (text : List ℕ) → R.remaining (inner_of input.old) ≡ Some text → IsPageBy words.now text (λ page. WritesFront (W.contents (inner_of output.old)) (W.contents (inner_of output.new)) page) }
@@ -68,7 +69,7 @@ pub(crate) fn make_page<R: Read, W: Write>(
     input: &mut Told<R>,
     output: &mut Told<W>,
 ) -> Ending
-    ensures { PageEnds words.now (R.remaining (inner_of input.old)) W.contents output.old output.new result }
+    ensures { PageEnds words.now R.remaining W.contents input.old input.new output.old output.new result }
 {
     Ending::of_page(write_asked(alloc, words, input, output))
 }
