@@ -1,7 +1,9 @@
 -- A bundle that is kept as the files of a folder (profile).
-use Rattle.std.specs.Prelude.{ℕ, ◌≡◌, ◌≤◌, ◌<◌, ◌++◌, List, [], ◌∷◌, Option, Some, None, IfSome, Result, Ok, Err, ⊤, codes, length, map, option_map}
+use Rattle.std.specs.Prelude.{ℕ, Bool, true, false, ◌≡◌, ◌≤◌, ◌<◌, ◌++◌, List, [], ◌∷◌, Option, Some, None, IfSome, Result, Ok, Err, ⊤, codes, length, map, option_map}
 use Rattle.std.specs.List.{All, filter_map}
 use Rattle.std.specs.Path.{path_join}
+use Rattle.std.specs.declared.io.ErrorKind.{ErrorKind}
+use Rattle.std.specs.declared.io.ErrorKind.TheVariants.{NotADirectory, NotFound}
 use Rattle.mrp_rows.specs.declared.fault.Table.{Table}
 use Rattle.mrp_rows.specs.declared.fault.Table.TheVariants.{Calendar, Items, Centres, Stock, Receipts, Bills, Routings, Master, Script}
 use Rattle.mrp_rows.specs.FaultText.{table_name}
@@ -29,6 +31,12 @@ part_in file = option_map (λ bytes. (file.0, bytes)) file.1
 -- what is known of the file at a path: nothing, that there is none, or its bytes
 abbrev pub Known : Type 0
 Known = List ℕ → Option (Option (List ℕ))
+
+-- a file that can't be opened for this reason is not there: none has its name, or there is no folder above it
+abbrev pub is_absent : ErrorKind → Bool
+is_absent NotFound = true
+is_absent NotADirectory = true
+is_absent _ = false
 
 -- a file is as it is known at a path
 abbrev pub IsAt : Known → List ℕ → Option (List ℕ) → Type 0

@@ -5,3 +5,4 @@ pub mod PageEnds
 pub mod Refusal
 pub mod CheckEnds
 pub mod Ends
+pub mod Help

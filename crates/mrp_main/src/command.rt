@@ -6,6 +6,7 @@ ghost use Rattle.clap.specs.Matches.{first_value, found_of};
 ghost use Rattle.clap.specs.Values.{kind_of};
 ghost use Rattle.clap.specs.Walk.{rule_of};
 ghost use Rattle.clap.specs.Simple.{app_of, subcommand_rows_of};
+ghost use Rattle.mrp_main.specs.Help.{help_line, help_text};
 ghost use Rattle.mrp_main.specs.Words.{Asks, Enters, EntersCheckOrDay, HasFolder, HasNoGlobals, HasWorkers, IsAsAsked, IsBy, IsEntered, IsOfKind, day_app, dir_among, dir_rule, mrp_command, workers_rule};
 
 use crate::check_words::check_command;
@@ -21,6 +22,10 @@ use std::convert::AsStr;
 // How the program is called.
 const ABOUT: &str =
     "Plans a shop's materials: reads the tables of a bundle, answers its desks, and writes what to make and when.";
+
+const LINE_PLAN: &str = "Plans a bundle from standard input, or the files of a folder";
+
+const LINE_LIVE: &str = "Plans the same with its desks at work beside one another";
 
 const ABOUT_PLAN: &str =
     "Reads a bundle from standard input, answers the calls of its script, and writes the history of these
@@ -132,16 +137,13 @@ fn dir<'a>(alloc: Global) -> Arg<'a>
 }
 
 // What the help says of a command, in a line and at length.
-fn help_of<'a>(command: DayCommand) -> (&'a str, &'a str) {
+fn help_of<'a>(command: DayCommand) -> (&'a str, &'a str)
+    ensures line { result.0.now ≡ help_line command }
+    ensures text { result.1.now ≡ help_text command }
+{
     match command {
-        DayCommand::Plan => (
-            "Plans a bundle from standard input, or the files of a folder",
-            ABOUT_PLAN,
-        ),
-        DayCommand::Live => (
-            "Plans the same with its desks at work beside one another",
-            ABOUT_LIVE,
-        ),
+        DayCommand::Plan => (LINE_PLAN, ABOUT_PLAN),
+        DayCommand::Live => (LINE_LIVE, ABOUT_LIVE),
     }
 }
 

@@ -5,7 +5,7 @@ ghost use Rattle.std.specs.Result.{result_map_both};
 ghost use Rattle.std.specs.Path.{path_buf_bytes};
 ghost use Rattle.mrp_rows.specs.Joined.{joined, section_bytes, section_of};
 ghost use Rattle.mrp_rows.specs.declared.streams.ReadFault.TheVariants as read;
-ghost use Rattle.mrp_main.specs.Folder.{AreParts, HasTooMuch, IsAt, IsReadFrom, IsTooLongAt, Known, nothing_known, path_in};
+ghost use Rattle.mrp_main.specs.Folder.{AreParts, HasTooMuch, IsAt, IsReadFrom, IsTooLongAt, Known, is_absent, nothing_known, path_in};
 
 use mrp_qty::NoMemory;
 use mrp_rows::{GREATEST_BUNDLE, READ_CALLS, ReadFault, Table, Told, join_bundle, read_within};
@@ -48,7 +48,9 @@ pub trait FileStore {
 }
 
 // Whether a file can't be opened because there is none: none of its name, or no folder above it.
-fn is_absent(kind: ErrorKind) -> bool {
+fn is_absent(kind: ErrorKind) -> bool
+    ensures { result ≡ is_absent kind }
+{
     matches!(kind, ErrorKind::NotFound | ErrorKind::NotADirectory)
 }
 
