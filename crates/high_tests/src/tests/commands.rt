@@ -9,6 +9,7 @@ use sample_shops::bicycles;
 use std::alloc::Global;
 use std::fs;
 use std::fs::{File, OpenFile};
+use std::os::unix::fs::symlink;
 use std::process::Abort;
 use std::rt::Files;
 use std::sync::Wait;
@@ -295,31 +296,38 @@ fn wrong_words_are_usage(rt: HostRuntime) {
     drop(bundle);
 }
 
-// Fails unless a help was written.
-fn is_help(rt: &impl Abort, left: &Left) {
+// Fails unless a help was written that has this text and lacks that one.
+fn is_help(rt: &impl Abort, left: &Left, has: &str, lacks: &str) {
     let output = left.output.as_str();
     same(rt, output.contains("mrp plan < shop.bundle"), true);
+    same(rt, output.contains(has), true);
+    same(rt, output.contains(lacks), false);
     same(rt, left.status, 0);
     same(rt, left.errors.as_str(), "");
 }
 
 #[test]
 fn help_is_written_to_the_output(rt: HostRuntime) {
-    const ASKED: [&[&str]; 10] = [
-        &["--help"],
-        &["plan", "--help"],
-        &["live", "--help"],
-        &["page", "--help"],
-        &["check", "--help"],
-        &["help"],
-        &["help", "plan"],
-        &["help", "live"],
-        &["help", "page"],
-        &["help", "check"],
+    const OF_ALL: &str = "\n  plan   Plans a bundle from standard input, or the files of a folder\n  live   Plans the same with its desks at work beside one another\n";
+    const OF_PLAN: &str = "  [promises]  each master item and week";
+    const OF_LIVE: &str = "has the desks of its script make their calls beside one another,\n";
+    const OF_PAGE: &str = "Nothing is fetched, and there is no script.";
+    const OF_CHECK: &str = "  wrong: report N   the report of run N";
+    const ASKED: [(&[&str], &str, &str); 10] = [
+        (&["--help"], OF_ALL, OF_PLAN),
+        (&["plan", "--help"], OF_PLAN, OF_LIVE),
+        (&["live", "--help"], OF_LIVE, OF_PLAN),
+        (&["page", "--help"], OF_PAGE, OF_PLAN),
+        (&["check", "--help"], OF_CHECK, OF_PLAN),
+        (&["help"], OF_ALL, OF_LIVE),
+        (&["help", "plan"], OF_PLAN, OF_LIVE),
+        (&["help", "live"], OF_LIVE, OF_PLAN),
+        (&["help", "page"], OF_PAGE, OF_LIVE),
+        (&["help", "check"], OF_CHECK, OF_LIVE),
     ];
-    for words in ASKED {
+    for (words, has, lacks) in ASKED {
         let left = left_by(&rt, rt.alloc(), words, Streams::of(""));
-        is_help(&rt, &left);
+        is_help(&rt, &left, has, lacks);
         drop(left);
     }
 }
@@ -330,14 +338,15 @@ fn make_long(files: &impl Files, path: &str, length: u64) -> Result<(), Fail> {
     Ok(())
 }
 
-// Makes a folder whose calendar is a folder, one that has an item table too long for a bundle, one whose
-// item table and stock are too long together, and one whose calendar is as long as a bundle may be. They may
-// be there from an earlier run.
+// Makes a folder whose calendar is a folder, one whose calendar is a link to itself, one that has an item table
+// too long for a bundle, one whose item table and stock are too long together, and one whose calendar is as long
+// as a bundle may be. They may be there from an earlier run.
 fn make_folders(files: &impl Files) -> Result<(), Fail> {
-    const FOLDERS: [&str; 6] = [
+    const FOLDERS: [&str; 7] = [
         "out",
         "out/shut",
         "out/shut/calendar.csv",
+        "out/loop",
         "out/long",
         "out/both",
         "out/full",
@@ -345,6 +354,7 @@ fn make_folders(files: &impl Files) -> Result<(), Fail> {
     for folder in FOLDERS {
         let _ = fs::create_dir(files, folder);
     }
+    let _ = symlink(files, "calendar.csv", "out/loop/calendar.csv");
     make_long(files, "out/long/items.csv", GREATEST_BUNDLE as u64 + 1)?;
     make_long(files, "out/both/items.csv", GREATEST_BUNDLE as u64)?;
     make_long(files, "out/both/stock.csv", 1)?;
@@ -352,13 +362,21 @@ fn make_folders(files: &impl Files) -> Result<(), Fail> {
     make_long(files, "out/file", 1)
 }
 
+// A name that is longer than the system takes: 300 letters.
+const TOO_LONG: &str = "\
+aaaaaaaaaaaaaaaaaaaaaaaaaaaaaaaaaaaaaaaaaaaaaaaaaaaaaaaaaaaaaaaaaaaaaaaaaaaaaaaaaaaaaaaaaaaaaaaaaaaa\
+aaaaaaaaaaaaaaaaaaaaaaaaaaaaaaaaaaaaaaaaaaaaaaaaaaaaaaaaaaaaaaaaaaaaaaaaaaaaaaaaaaaaaaaaaaaaaaaaaaaa\
+aaaaaaaaaaaaaaaaaaaaaaaaaaaaaaaaaaaaaaaaaaaaaaaaaaaaaaaaaaaaaaaaaaaaaaaaaaaaaaaaaaaaaaaaaaaaaaaaaaaa";
+
 // The input is no bundle, and is not read.
 #[test]
 fn folders_that_can_not_be_read_are_told(rt: HostRuntime) {
-    const ENDS: [(&str, u8, &str); 6] = [
+    const ENDS: [(&str, u8, &str); 8] = [
         ("nowhere", 1, "refused: 4 missing-section calendar 0\n"),
         ("out/file", 1, "refused: 4 missing-section calendar 0\n"),
         ("out/shut", 4, "read failed\n"),
+        ("out/loop", 4, "read failed\n"),
+        (TOO_LONG, 4, "read failed\n"),
         ("out/long", 4, "read failed\n"),
         ("out/both", 4, "read failed\n"),
         ("out/full", 4, "read failed\n"),
@@ -376,7 +394,9 @@ fn folders_that_can_not_be_read_are_told(rt: HostRuntime) {
 #[test]
 fn a_check_reads_no_folder_that_a_plan_does_not(rt: HostRuntime) {
     made(&rt, make_folders(&rt));
-    for folder in ["out/shut", "out/long", "out/both", "out/full"] {
+    for folder in [
+        "out/shut", "out/loop", TOO_LONG, "out/long", "out/both", "out/full",
+    ] {
         let words = ["check", "--dir", folder];
         let left = left_by(&rt, rt.alloc(), &words, Streams::of("no day"));
         has_ended(&rt, &left, 4, "", "read failed\n");
