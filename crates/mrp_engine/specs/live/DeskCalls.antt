@@ -1,7 +1,7 @@
 -- A script's calls, in a list for each desk (profile).
-use Rattle.std.specs.Prelude.{ℕ, ◌≡◌, ◌≢◌, ◌+◌, List, [], ◌∷◌, ◌++◌, length, map, sum_by, Vec}
-use Rattle.std.specs.List.{slice_index_or}
+use Rattle.std.specs.Prelude.{ℕ, ◌≡◌, ◌+◌, List, length, map, sum_by, Vec}
 use Rattle.std.specs.declared.alloc.Global.{Global}
+use Rattle.mrp_bill.specs.Lists.{listed}
 use Rattle.mrp_book.specs.declared.call.Call.{Call}
 use Rattle.mrp_engine.specs.day.Script.{Script}
 use Rattle.mrp_engine.specs.day.RightDay.{asked_by}
@@ -12,18 +12,11 @@ asks desk calls = map (λ c. (desk, c)) calls
 
 -- the calls in the list at a place, and none past the last
 abbrev pub calls_at : List (Vec Call Global) → ℕ → List Call
-calls_at lists place = slice_index_or (map (λ list. list.items) lists) place []
+calls_at lists place = listed lists place
 
 -- how many calls lists have, all together
 abbrev pub count_in : List (Vec Call Global) → ℕ
 count_in lists = sum_by (λ list. length list.items) lists
-
--- one more call in the list at a place, and the other lists as they were
-pub record Appends (old new : List (Vec Call Global)) (place : ℕ) (c : Call) : Type 0 where
-  pub size : length new ≡ length old
-  pub put : calls_at new place ≡ calls_at old place ++ c ∷ []
-  pub others : (other : ℕ) → other ≢ place → calls_at new other ≡ calls_at old other
-  pub count : count_in new ≡ count_in old + 1
 
 -- a list for each desk from 1 on: the calls of its records in order. All together are as many as the records, so a desk without a list has none
 pub record AreCallsOf (records : Script) (lists : List (Vec Call Global)) : Type 0 where

@@ -1,38 +1,25 @@
 //! The calls of a script, in a list for each desk.
 
-ghost use Rattle.std.specs.Prelude.{◌≡◌, ◌-◌, ◌≤◌, ℕ, [], All, IfOk, OnOk, length, map};
+ghost use Rattle.std.specs.Prelude.{◌≡◌, ◌-◌, ◌≤◌, All, IfOk, OnOk, length, map};
 ghost use Rattle.mrp_master.specs.Supply.{supply_of};
 ghost use Rattle.mrp_book.specs.History.{Fits};
-ghost use Rattle.mrp_engine.specs.live.DeskCalls.{Appends, AreCallsOf, calls_at, count_in};
+ghost use Rattle.mrp_bill.specs.Lists.{Appends};
+ghost use Rattle.mrp_engine.specs.live.DeskCalls.{AreCallsOf, calls_at};
 ghost use Rattle.mrp_engine.specs.day.Script.{call_of, record_of};
 
 use crate::day::call_of;
-use mrp_bill::Shop;
+use mrp_bill::{Shop, append, empty_lists};
 use mrp_book::Call;
 use mrp_qty::NoMemory;
 use mrp_tables::ScriptRow;
 use std::alloc::Global;
 
-// As many empty lists.
-fn empty_lists(alloc: Global, desks: usize) -> Result<Vec<Vec<Call>>, NoMemory>
-    ensures size { IfOk result (λ lists. length lists.items ≡ desks) }
-    ensures empty { IfOk result (λ lists. (place : ℕ) → calls_at lists.items place ≡ []) }
-    ensures none { IfOk result (λ lists. count_in lists.items ≡ 0) }
-{
-    let mut lists = Vec::with_capacity(alloc, desks)?;
-    for _ in 0..desks {
-        lists.push(Vec::new(alloc))?;
-    }
-    Ok(lists)
-}
-
 // Puts a call at the end of its desk's list.
-fn append(lists: &mut Vec<Vec<Call>>, desk: u64, call: Call) -> Result<(), NoMemory>
+fn append_call(lists: &mut Vec<Vec<Call>>, desk: u64, call: Call) -> Result<(), NoMemory>
     requires { (1 ≤ desk) × (desk ≤ length lists.old.items) }
     ensures { OnOk result (Appends lists.old.items lists.new.items (desk - 1) call) }
 {
-    lists[desk as usize - 1].push(call)?;
-    Ok(())
+    append(lists, desk as usize - 1, call)
 }
 
 /// The calls of a shop's script, put in lists of so many desks in one pass: each desk's are those of
@@ -52,7 +39,7 @@ pub fn calls_by_desk(
 {
     let mut lists = empty_lists(alloc, desks)?;
     for row in script {
-        append(&mut lists, row.desk, call_of(shop, row.call))?;
+        append_call(&mut lists, row.desk, call_of(shop, row.call))?;
     }
     Ok(lists)
 }

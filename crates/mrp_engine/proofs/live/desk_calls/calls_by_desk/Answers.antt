@@ -1,21 +1,22 @@
 use Rattle.std.proofs.Common.{◌≤◌, ◌-◌, ◌+◌, ◌∙◌, List, ap, arith, map, subst, sym, take_all}
 use Rattle.mrp_tables.specs.declared.rows.ScriptRow.{ScriptRow}
+use Rattle.mrp_bill.specs.Lists.{Appends}
 use Rattle.mrp_book.specs.declared.call.Call.{Call}
 use Rattle.mrp_book.specs.History.{Fits}
 use Rattle.mrp_master.specs.Supply.{supply_of}
-use Rattle.mrp_engine.specs.live.DeskCalls.{Appends, AreCallsOf, asks}
+use Rattle.mrp_engine.specs.live.DeskCalls.{AreCallsOf, asks}
 use Rattle.mrp_engine.specs.day.Script.{call_of, record_of}
-use Rattle.mrp_engine.proofs.lemmas.live.DeskCalls.{listed-more}
+use Rattle.mrp_engine.proofs.lemmas.live.DeskCalls.{count-none, listed-more}
 use Rattle.mrp_engine.proofs.live.desk_calls.calls_by_desk.Goals as goal
 
 pub loop-row-init : goal.loop-row-init
 loop-row-init c = record {
   size = c.in_ok-lists.ensures.size;
-  calls = record { each = λ place. ap (asks (place + 1)) (c.in_ok-lists.ensures.empty place); count = c.in_ok-lists.ensures.none };
+  calls = record { each = λ place. ap (asks (place + 1)) (c.in_ok-lists.ensures.empty place); count = count-none c.in_ok-lists.lists.items c.in_ok-lists.ensures.empty };
 }
 
-pub append-requires : goal.append-requires
-append-requires c =
+pub append_call-requires : goal.append_call-requires
+append_call-requires c =
     let (some, most) = subst (λ (r : ScriptRow). (1 ≤ r.desk) × (r.desk ≤ c.args.desks)) (sym c.row-item.is) (c.requires.desks c.loop-row.row-index c.row-item.result c.loop-row-test.true) in
     let size = c.loop-row.invariant.size in
     (some, omega (arith, most, size))
@@ -27,10 +28,11 @@ pub loop-row-preserved : goal.loop-row-preserved
 loop-row-preserved c =
     let row = c.row-item.result in
     let (some, most) = subst (λ (r : ScriptRow). (1 ≤ r.desk) × (r.desk ≤ c.args.desks)) (sym c.row-item.is) (c.requires.desks c.loop-row.row-index row c.loop-row-test.true) in
-    let puts = subst (λ (call : Call). Appends c.loop-row.lists.items c.append.new.lists.items (row.desk - 1) call) c.call_of.ensures c.in_ok-append.ensures in
+    let puts = subst (λ (call : Call). Appends c.loop-row.lists.items c.append_call.new.lists.items (row.desk - 1) call) c.call_of.ensures c.in_ok-append_call.ensures in
+    let size = c.loop-row.invariant.size in
     record {
       size = puts.size ∙ c.loop-row.invariant.size;
-      calls = listed-more c.args.script.now c.loop-row.row-index row c.loop-row.lists.items c.append.new.lists.items c.loop-row-test.true c.row-item.is some puts c.loop-row.invariant.calls;
+      calls = listed-more c.args.script.now c.loop-row.row-index row c.loop-row.lists.items c.append_call.new.lists.items c.loop-row-test.true c.row-item.is some (omega (arith, most, size)) puts c.loop-row.invariant.calls;
     }
 
 pub returns-clause-calls : goal.returns-clause-calls
