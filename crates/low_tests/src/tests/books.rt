@@ -3,7 +3,7 @@
 ghost use Rattle.std.specs.Prelude.{◌≡◌};
 ghost use Rattle.mrp_master.specs.Supply.{supply_of};
 
-use super::{made, pieces, same};
+use super::{MOST, made, pieces, same};
 use mrp_bill::Shop;
 use mrp_book::{Book, BookState, Booking, History, Line, Reply, Snapshot};
 use mrp_phase::PhaseFault;
@@ -74,13 +74,9 @@ fn taken(rt: &impl Abort, reply: Reply) -> Snapshot {
 // A booking: number, desk, week and pieces.
 type Booked = (u64, u64, u16, u64);
 
-fn booking(rt: &impl Abort, booked: &Booked) -> Booking {
+fn booking(rt: &impl Abort, shop: &Shop, booked: &Booked) -> Booking {
     let (number, desk, week, count) = *booked;
-    let line = Line {
-        item: 0,
-        week,
-        quantity: pieces(rt, count),
-    };
+    let line = Line::new(shop, 0, week, pieces(rt, count)).expect(rt, "a line");
     Booking { number, desk, line }
 }
 
@@ -88,7 +84,9 @@ fn booking(rt: &impl Abort, booked: &Booked) -> Booking {
 fn stand(rt: &impl Abort, snapshot: &Snapshot, want: &[Booked]) {
     same(rt, snapshot.standing().len(), want.len());
     for (got, booked) in snapshot.standing().iter().zip(want) {
-        same(rt, *got, booking(rt, booked));
+        let line = got.line;
+        let said = (got.number, got.desk, line.week(), line.quantity().value());
+        same(rt, (line.item(), said), (0, *booked));
     }
 }
 
@@ -154,10 +152,12 @@ fn snapshot_of(
     weeks: u16,
     booked: &[Booked],
 ) -> Result<Snapshot, PhaseFault> {
+    let shop = made(rt, bicycles().shop(alloc));
     let mut standing = Vec::new(alloc);
     for one in booked {
-        standing.push(booking(rt, one)).expect(rt, "memory");
+        standing.push(booking(rt, &shop, one)).expect(rt, "memory");
     }
+    drop(shop);
     Snapshot::new(alloc, front, weeks, standing)
 }
 
@@ -221,20 +221,32 @@ fn desks_book_until_nothing_is_available_and_what_stands_is_demanded(rt: HostRun
     drop(day);
 }
 
+// What stands at an entry, from a million bookings of as many pieces as one can have, and these.
+fn snapshot_of_a_million(
+    rt: &impl Abort,
+    alloc: Global,
+    more: &[Booked],
+) -> Result<Snapshot, PhaseFault> {
+    let shop = made(rt, bicycles().shop(alloc));
+    let mut standing = Vec::with_capacity(alloc, 1_000_001).expect(rt, "memory");
+    for number in 1..1_000_001 {
+        let one = booking(rt, &shop, &(number, 1, 3, 1_000_000_000));
+        standing.push(one).expect(rt, "memory");
+    }
+    for one in more {
+        standing.push(booking(rt, &shop, one)).expect(rt, "memory");
+    }
+    drop(shop);
+    Snapshot::new(alloc, 1_000_002, 4, standing)
+}
+
 #[test]
 fn a_snapshot_has_at_most_the_greatest_quantity(rt: HostRuntime) {
-    const MOST: &[Booked] = &[(1, 1, 3, 999_999_999_999_999), (2, 1, 5, 1)];
-    const MORE: &[Booked] = &[(1, 1, 3, 999_999_999_999_999), (2, 1, 5, 2)];
-    let snapshot = snapshot_of(&rt, rt.alloc(), 3, 4, MOST).expect(&rt, "a snapshot");
-    is_demanded(
-        &rt,
-        rt.alloc(),
-        &snapshot,
-        0,
-        &[0, 0, 999_999_999_999_999, 0],
-    );
-    let refused = snapshot_of(&rt, rt.alloc(), 3, 4, MORE).err();
-    same(&rt, refused, Some(PhaseFault::TooLarge));
+    let snapshot = snapshot_of_a_million(&rt, rt.alloc(), &[]).expect(&rt, "a snapshot");
+    is_demanded(&rt, rt.alloc(), &snapshot, 0, &[0, 0, MOST, 0]);
+    drop(snapshot);
+    let more = snapshot_of_a_million(&rt, rt.alloc(), &[(1_000_001, 1, 4, 1)]);
+    same(&rt, more.err(), Some(PhaseFault::TooLarge));
 }
 
 // The state of the shop's book, without its entries.

@@ -41,36 +41,40 @@ const LINES: &[(usize, u16, u64, Option<LineFault>)] = &[
     (0, 7, 1_000_000_001, Some(LineFault::BadWeek)),
 ];
 
+// What is wanted of what was made so, or why it is none.
+fn wanted<T>(made_of: T, fault: &Option<LineFault>) -> Result<T, LineFault> {
+    match fault {
+        Some(fault) => Err(*fault),
+        None => Ok(made_of),
+    }
+}
+
 // Fails unless each line is what it was made of, or its first fault.
 fn are_lines(rt: &impl Abort, shop: &Shop) {
     for (item, week, count, fault) in LINES {
         let quantity = pieces(rt, *count);
-        let want = match fault {
-            Some(fault) => Err(*fault),
-            None => Ok(Line {
-                item: *item,
-                week: *week,
-                quantity,
-            }),
-        };
-        same(rt, Line::new(shop, *item, *week, quantity), want);
+        let line = Line::new(shop, *item, *week, quantity);
+        let got = line.map(|line| (line.item(), line.week(), line.quantity()));
+        same(rt, got, wanted((*item, *week, quantity), fault));
     }
 }
 
-// Spots, or their first faults.
-const SPOTS: &[(usize, u16, Result<Spot, LineFault>)] = &[
-    (0, 1, Ok(Spot { item: 0, week: 1 })),
-    (0, 6, Ok(Spot { item: 0, week: 6 })),
-    (3, 7, Err(LineFault::UnknownItem)),
-    (2, 7, Err(LineFault::NotMaster)),
-    (0, 7, Err(LineFault::BadWeek)),
-    (0, 0, Err(LineFault::BadWeek)),
+// An item, a week, and why they are no spot.
+const SPOTS: &[(usize, u16, Option<LineFault>)] = &[
+    (0, 1, None),
+    (0, 6, None),
+    (3, 7, Some(LineFault::UnknownItem)),
+    (2, 7, Some(LineFault::NotMaster)),
+    (0, 7, Some(LineFault::BadWeek)),
+    (0, 0, Some(LineFault::BadWeek)),
 ];
 
 // Fails unless each spot is what it was made of, or its first fault.
 fn are_spots(rt: &impl Abort, shop: &Shop) {
-    for (item, week, want) in SPOTS {
-        same(rt, Spot::new(shop, *item, *week), *want);
+    for (item, week, fault) in SPOTS {
+        let spot = Spot::new(shop, *item, *week);
+        let got = spot.map(|spot| (spot.item(), spot.week()));
+        same(rt, got, wanted((*item, *week), fault));
     }
 }
 
@@ -87,14 +91,9 @@ const WISHES: &[(usize, u64, Option<LineFault>)] = &[
 fn are_wishes(rt: &impl Abort, shop: &Shop) {
     for (item, count, fault) in WISHES {
         let quantity = pieces(rt, *count);
-        let want = match fault {
-            Some(fault) => Err(*fault),
-            None => Ok(Wish {
-                item: *item,
-                quantity,
-            }),
-        };
-        same(rt, Wish::new(shop, *item, quantity), want);
+        let wish = Wish::new(shop, *item, quantity);
+        let got = wish.map(|wish| (wish.item(), wish.quantity()));
+        same(rt, got, wanted((*item, quantity), fault));
     }
 }
 
