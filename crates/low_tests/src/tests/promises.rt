@@ -42,7 +42,7 @@ const LINES: &[(usize, u16, u64, Option<LineFault>)] = &[
 ];
 
 // What is wanted of what was made so, or why it is none.
-fn wanted<T>(made_of: T, fault: &Option<LineFault>) -> Result<T, LineFault> {
+fn wanted<T: Copy>(made_of: T, fault: &Option<LineFault>) -> Result<T, LineFault> {
     match fault {
         Some(fault) => Err(*fault),
         None => Ok(made_of),
