@@ -52,7 +52,7 @@ fn check_history(
 {
     let tables = shop.tables();
     tables.keep_limits();
-    let script = script_calls(alloc, tables)?;
+    let script = script_calls(alloc, &shop)?;
     check_desks(alloc, history.entries(), &script)?;
     check_runs(rt, alloc, shop, history, text)
 }

@@ -100,7 +100,7 @@ pub(crate) fn find_history(
 {
     let tables = shop.tables();
     tables.keep_limits();
-    let script = script_calls(alloc, tables)?;
+    let script = script_calls(alloc, shop)?;
     let history = replayed(alloc, shop, &script, text)?;
     if !are_followed(alloc, history.entries(), &script) {
         return Ok(None);

@@ -3,23 +3,23 @@
 ghost use Rattle.std.specs.Prelude.{◌≡◌, IfOk};
 ghost use Rattle.mrp_engine.specs.day.Script.{script_of, with_run};
 
+use mrp_bill::Shop;
 use mrp_book::Call;
 use mrp_engine::{added_run, call_of};
 use mrp_qty::NoMemory;
-use mrp_tables::Tables;
 use std::alloc::Global;
 
 /// What the records of a shop's script call, each with its desk, in order. A script without a run is
 /// taken with one more record at its end, a run of desk 1.
 ///
 /// Errors: `NoMemory` where memory is refused.
-pub(crate) fn script_calls(alloc: Global, tables: &Tables) -> Result<Vec<(u64, Call)>, NoMemory>
-    ensures { IfOk result (λ calls. calls.items ≡ with_run (script_of tables.now)) }
+pub(crate) fn script_calls(alloc: Global, shop: &Shop) -> Result<Vec<(u64, Call)>, NoMemory>
+    ensures { IfOk result (λ calls. calls.items ≡ with_run (script_of shop.now.tables)) }
 {
-    let script = tables.script();
+    let script = shop.tables().script();
     let mut calls = Vec::with_capacity(alloc, script.len())?;
     for row in script {
-        calls.push((row.desk, call_of(row.call)))?;
+        calls.push((row.desk, call_of(shop, row.call)))?;
     }
     if let Some(last) = added_run(script) {
         calls.push(last)?;

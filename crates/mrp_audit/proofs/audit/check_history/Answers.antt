@@ -19,7 +19,7 @@ returns-in_err-check_desks g c =
     let legal : IsLegal (supply_of t) h = subst (λ (x : Supply). IsLegal x h) c.requires (subst (IsLegal c.args.history.now.supply) c.entries.ensures.entries c.entries.ensures.legal) in
     let fails : c.from_residual-in_err-check_desks.result ≡ Err c.in_err-check_desks.field-0.0 = search rules in
     let rows : All (IsScriptRow t.calendar.weeks t.items) t.script = subst (λ (x : Tables). All (IsScriptRow x.calendar.weeks x.items) x.script) c.tables-tables.ensures.value c.keep_limits.ensures.script in
-    let script : c.deref.result.now ≡ with_run (script_of t) = c.deref.ensures.value ∙ c.in_ok-script.ensures ∙ ap (λ (x : Tables). with_run (script_of x)) c.tables-tables.ensures.value in
+    let script : c.deref.result.now ≡ with_run (script_of t) = c.deref.ensures.value ∙ c.in_ok-script.ensures in
     let compared : ComparesDesks (asked h) (with_run (script_of t)) (Err c.in_err-check_desks.field-0.0) =
     subst (λ (x : Script). ComparesDesks (asked h) x (Err c.in_err-check_desks.field-0.0)) script
     (subst (λ (x : History). ComparesDesks (asked x) c.deref.result.now (Err c.in_err-check_desks.field-0.0)) c.entries.ensures.entries c.in_err-check_desks.ensures) in
@@ -31,7 +31,7 @@ returns g c =
     let h = c.args.history.now.entries in
     let legal : IsLegal (supply_of t) h = subst (λ (x : Supply). IsLegal x h) c.requires (subst (IsLegal c.args.history.now.supply) c.entries.ensures.entries c.entries.ensures.legal) in
     let rows : All (IsScriptRow t.calendar.weeks t.items) t.script = subst (λ (x : Tables). All (IsScriptRow x.calendar.weeks x.items) x.script) c.tables-tables.ensures.value c.keep_limits.ensures.script in
-    let script : c.deref.result.now ≡ with_run (script_of t) = c.deref.ensures.value ∙ c.in_ok-script.ensures ∙ ap (λ (x : Tables). with_run (script_of x)) c.tables-tables.ensures.value in
+    let script : c.deref.result.now ≡ with_run (script_of t) = c.deref.ensures.value ∙ c.in_ok-script.ensures in
     let compared : ComparesDesks (asked h) (with_run (script_of t)) (Ok tt) =
     subst (λ (x : Script). ComparesDesks (asked h) x (Ok tt)) script
     (subst (λ (x : History). ComparesDesks (asked x) c.deref.result.now (Ok tt)) c.entries.ensures.entries c.in_ok-check_desks.ensures) in

@@ -18,14 +18,14 @@ pub replayed-requires-clause-taken : goal.replayed-requires-clause-taken
 replayed-requires-clause-taken c =
     let t = c.args.shop.now.tables in
     let rows : All (IsScriptRow t.calendar.weeks t.items) t.script = subst (λ (x : Tables). All (IsScriptRow x.calendar.weeks x.items) x.script) c.tables-tables.ensures.value c.keep_limits.ensures.script in
-    let script : c.deref.result.now ≡ with_run (script_of t) = c.deref.ensures.value ∙ c.in_ok-script.ensures ∙ ap (λ (x : Tables). with_run (script_of x)) c.tables-tables.ensures.value in
+    let script : c.deref.result.now ≡ with_run (script_of t) = c.deref.ensures.value ∙ c.in_ok-script.ensures in
     subst (λ (x : Script). All (IsTaken (supply_of t)) x) (sym script) (records-taken t rows)
 
 pub replayed-requires-clause-few : goal.replayed-requires-clause-few
 replayed-requires-clause-few c =
     let t = c.args.shop.now.tables in
     let few : length t.script ≤ 100000 = subst (λ (x : Tables). length x.script ≤ 100000) c.tables-tables.ensures.value c.keep_limits.ensures.script_count in
-    let script : c.deref.result.now ≡ with_run (script_of t) = c.deref.ensures.value ∙ c.in_ok-script.ensures ∙ ap (λ (x : Tables). with_run (script_of x)) c.tables-tables.ensures.value in
+    let script : c.deref.result.now ≡ with_run (script_of t) = c.deref.ensures.value ∙ c.in_ok-script.ensures in
     subst (λ (x : Script). length x < 1000000) (sym script) (records-few t few)
 
 pub returns-then-is_end : goal.returns-then-is_end
@@ -35,7 +35,7 @@ returns-then-is_end c =
     let supply = c.in_ok-history.ensures in
     let legal : IsLegal (supply_of t) h = subst (λ (x : Supply). IsLegal x h) supply (subst (IsLegal c.in_ok-history.history.supply) c.entries.ensures.entries c.entries.ensures.legal) in
     let rows : All (IsScriptRow t.calendar.weeks t.items) t.script = subst (λ (x : Tables). All (IsScriptRow x.calendar.weeks x.items) x.script) c.tables-tables.ensures.value c.keep_limits.ensures.script in
-    let script : c.deref-2.result.now ≡ with_run (script_of t) = c.deref-2.ensures.value ∙ c.in_ok-script.ensures ∙ ap (λ (x : Tables). with_run (script_of x)) c.tables-tables.ensures.value in
+    let script : c.deref-2.result.now ≡ with_run (script_of t) = c.deref-2.ensures.value ∙ c.in_ok-script.ensures in
     let at : ComparesFront (history_text t h) c.args.text.now (Ok (Some c.in-Some.len)) = subst (λ (o : Option ℕ). ComparesFront (history_text t h) c.args.text.now (Ok o)) c.in-Some.is c.in_ok-len.ensures in
     let compared : ComparesDesks (asked h) (with_run (script_of t)) (Ok tt) =
     subst (λ (x : Script). ComparesDesks (asked h) x (Ok tt)) script
