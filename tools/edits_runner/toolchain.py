@@ -2,7 +2,7 @@
 
 The script knows where libraries lie and with what words a crate is checked. Nothing promises that another toolchain's script
 has the same names, or that its prover says in the same words why it refuses a function (verdicts.py reads those words). So the
-runner works with one toolchain alone and says so at once where it finds another.
+runner works with the versions that it was tried with and says so at once where it finds another.
 
 For a new toolchain: compare what is used here with its `rt` and `rtlib.py`, run the unit tests, then `tools/edits --unspoiled`
 and `tools/edits`, controls among them, and change KNOWN once all of that is well."""
@@ -14,8 +14,8 @@ import os
 import shutil
 import subprocess
 
-# What `rt version` prints of the toolchain that the runner knows.
-KNOWN = "rattle-kit-13b logic dac8208d650f15bf"
+# The first word of what `rt version` prints, of each toolchain that the runner was tried with.
+KNOWN = ("rattle-kit-13b", "rattle-kit-13f")
 
 
 class OtherToolchain(Exception):
@@ -32,9 +32,9 @@ def identity():
 
 
 def require_known(found):
-    """Raises OtherToolchain unless this is what the known toolchain's `rt version` prints."""
-    if found != KNOWN:
-        what = f"this runner knows the toolchain '{KNOWN}', and `rt version` says '{found}'"
+    """Raises OtherToolchain unless this is what a known toolchain's `rt version` prints."""
+    if found.split(" ")[0] not in KNOWN:
+        what = f"this runner knows the toolchains {' and '.join(KNOWN)}, and `rt version` says '{found}'"
         raise OtherToolchain(f"{what}: tools/edits_runner/toolchain.py says what to do")
 
 

@@ -64,7 +64,13 @@ class Toolchains(unittest.TestCase):
         self.assertEqual(status, 2)
         self.assertEqual(text.count("\n"), 1)
         self.assertIn("rattle-kit-99", text)
-        self.assertIn(toolchain.KNOWN, text)
+        self.assertIn(toolchain.KNOWN[0], text)
+
+    def test_each_known_toolchain_is_taken(self):
+        for name in toolchain.KNOWN:
+            toolchain.require_known(f"{name} logic 0")
+        with self.assertRaises(toolchain.OtherToolchain):
+            toolchain.require_known("rattle-kit-13 logic 0")
 
     def test_no_toolchain(self):
         toolchain.script.cache_clear()
