@@ -8,7 +8,7 @@ use super::{made, same};
 use mrp_bill::Shop;
 use mrp_book::Call;
 use mrp_engine::{Answer, Core, Event};
-use sample_shops::{Asked, bicycles, said};
+use sample_shops::{Asked, bicycles, chain, said};
 use std::alloc::Global;
 use std::process::Abort;
 use std::thread::Threads;
@@ -169,6 +169,43 @@ fn a_run_that_was_given_up_hands_nothing_out(rt: HostRuntime) {
     let shop = made(&rt, bicycles().shop(rt.alloc()));
     let mut core = core_of(&rt, rt.alloc(), shop);
     steps_after_giving_up(&rt, rt.alloc(), &mut core);
+    drop(core);
+}
+
+// One worker takes and finishes so many items of a run, parents before their components.
+fn steps_of_one_worker<R: Alloc + Abort + Threads + Sync>(
+    rt: &R,
+    alloc: Global,
+    core: &mut Core,
+    items: u64,
+) {
+    is_told(rt, alloc, core, Event::Start(1), ("started", 1, 1));
+    for item in 0..items {
+        is_told(rt, alloc, core, Event::Take(1, 1), ("item", item, 0));
+        is_told(rt, alloc, core, Event::Finish(1, 1), ("stored", 0, 0));
+    }
+}
+
+// Fails unless a run has no report, since the item of this name gets too large.
+fn is_too_large<R: Alloc + Abort + Threads + Sync>(
+    rt: &R,
+    alloc: Global,
+    core: &mut Core,
+    run: usize,
+    want: &[u8],
+) {
+    let Answer::TooLarge(name) = answer(rt, alloc, core, Event::Write(run)) else {
+        rt.panic("no item got too large")
+    };
+    same(rt, name.as_bytes(), want);
+}
+
+#[test]
+fn a_run_in_which_an_item_gets_too_large_is_told_by_its_name(rt: HostRuntime) {
+    let shop = made(&rt, chain().shop(rt.alloc()));
+    let mut core = core_of(&rt, rt.alloc(), shop);
+    steps_of_one_worker(&rt, rt.alloc(), &mut core, 4);
+    is_too_large(&rt, rt.alloc(), &mut core, 1, b"C");
     drop(core);
 }
 
