@@ -308,7 +308,8 @@ fn is_help(rt: &impl Abort, left: &Left, has: &str, lacks: &str) {
 
 #[test]
 fn help_is_written_to_the_output(rt: HostRuntime) {
-    const OF_ALL: &str = "\n  plan   Plans a bundle from standard input, or the files of a folder\n  live   Plans the same with its desks at work beside one another\n";
+    const OF_ALL: &str =
+        "\n  plan   Plans a bundle from standard input, or the files of a folder\n  live   Plans the same with its desks at work beside one another\n";
     const OF_PLAN: &str = "  [promises]  each master item and week";
     const OF_LIVE: &str = "has the desks of its script make their calls beside one another,\n";
     const OF_PAGE: &str = "Nothing is fetched, and there is no script.";
