@@ -1,50 +1,49 @@
 //! The shop calendar.
-ghost use Rattle.std.specs.Prelude.{◌≡◌, ◌≤◌, ◌-ℤ◌, take};
-ghost use Rattle.jiff.specs.Words.{epoch_day};
-ghost use Rattle.mrp_cal.specs.Calendar as spec;
+ghost use Rattle.std.specs.Prelude.{◌≡◌, take};
+ghost use Rattle.mrp_cal.specs.Releases.{first_days};
 
 use crate::CalFault;
-use jiff::ToSpan;
-use jiff::civil::{Date, Weekday};
+use crate::horizon::Horizon;
+use jiff::civil::Date;
 use std::marker::Model;
 
 /// The most weeks that a horizon has.
 pub const MOST_WEEKS: u64 = 104;
 
-/// The days of the longest horizon.
-const MOST_DAYS: usize = 7 * MOST_WEEKS as usize;
+/// The longest lead time in shop days: the days of the longest horizon.
+pub const MOST_LEAD_DAYS: u16 = 728;
 
 /// A shop calendar: a horizon of 1 to 104 weeks of seven days each, counted from 1, from a start
 /// that is a Monday, with the weekdays that are worked and the holidays.
 #[derive(Debug, Drop)]
 pub struct Calendar {
-    start: Date,
-    weeks: u16,
-    workdays: [bool; 7],
-    // For each day from the start, whether it is a holiday.
-    holidays: [bool; MOST_DAYS],
+    horizon: Horizon,
+    // The number of each week's first shop day.
+    first_shop_days: [u16; MOST_WEEKS as usize],
 }
 
 impl Model for Calendar {
+    ghost use Rattle.std.specs.Prelude.{◌≡◌, take};
     ghost use Rattle.mrp_cal.specs.Calendar.{ShopCalendar, IsShopCalendar};
+    ghost use Rattle.mrp_cal.specs.Releases.{first_days};
 
     ghost Value = { ShopCalendar };
 
-    ghost use Rattle.mrp_cal.specs.View.{calendar_view};
+    ghost view = { λ c. c.horizon };
 
-    ghost view = { calendar_view };
-
-    ghost invariant = { λ c. IsShopCalendar (calendar_view c) };
+    ghost invariant = { λ c. record {
+      calendar : IsShopCalendar c.horizon;
+      numbered : take c.horizon.weeks c.first_shop_days ≡ first_days c.horizon c.horizon.weeks;
+    } };
 }
 
 impl Calendar {
-    ghost use Rattle.std.specs.Prelude.{◌≡◌, ◌≤◌, ◌<◌, IfSome, Some};
+    ghost use Rattle.std.specs.Prelude.{◌≡◌, ◌≤◌, IfSome, Some};
     ghost use Rattle.std.specs.Int.{IsInRange};
     ghost use Rattle.jiff.specs.Words.{epoch_day};
     ghost use Rattle.mrp_cal.specs.Calendar as spec;
-    ghost use Rattle.mrp_cal.specs.Calendar.{days_in};
     ghost use Rattle.mrp_cal.specs.DateText.{IsPlanningYear};
-    ghost use Rattle.mrp_cal.specs.ShopDays as shop;
+    ghost use Rattle.mrp_cal.specs.Releases.{release_of, week_of_shop_day};
     ghost use Rattle.mrp_cal.specs.ShopDays.{first_day_of, shop_days_in};
 
     /// The calendar of a start in the years `FIRST_YEAR` to `LAST_YEAR`, a horizon in weeks, the weekdays that
@@ -53,7 +52,6 @@ impl Calendar {
     ///
     /// What is wrong is looked for in this order: a start that is not a Monday, weeks that are not
     /// 1 to 104, no weekday that is worked.
-    #[tactic(auto, unfolding(crate::specs::Calendar::calendar_of))]
     pub fn new(
         start: Date,
         weeks: u64,
@@ -63,22 +61,19 @@ impl Calendar {
         requires { IsPlanningYear start.year }
         ensures { result ≡ spec.calendar_of start weeks workdays holidays.now }
     {
-        if !is_monday(start) {
-            return Err(CalFault::StartNotMonday);
+        let horizon = Horizon::new(start, weeks, workdays, holidays)?;
+        Ok(Calendar::of(horizon))
+    }
+
+    // The calendar of a horizon.
+    fn of(horizon: Horizon) -> Calendar
+        ensures { result ≡ horizon }
+    {
+        let first_shop_days = first_shop_days(&horizon);
+        Calendar {
+            horizon,
+            first_shop_days,
         }
-        if weeks < 1 || weeks > MOST_WEEKS {
-            return Err(CalFault::Weeks);
-        }
-        if !has_workday(&workdays) {
-            return Err(CalFault::NoWorkday);
-        }
-        let weeks = weeks as u16;
-        Ok(Calendar {
-            start,
-            weeks,
-            workdays,
-            holidays: holidays_from(start, weeks, holidays),
-        })
     }
 
     /// The weeks of the horizon, 1 to 104.
@@ -86,7 +81,7 @@ impl Calendar {
         ensures value { result ≡ self.now.weeks }
         ensures bound { IsInRange 1 MOST_WEEKS result }
     {
-        self.weeks
+        self.horizon.weeks()
     }
 
     /// The week of the horizon, counted from 1, that a date falls in. `None` outside the horizon.
@@ -94,8 +89,7 @@ impl Calendar {
         ensures week { result ≡ spec.week_of self.now date }
         ensures within { IfSome result (IsInRange 1 self.now.weeks) }
     {
-        let day = horizon_day(self.start, self.weeks, date)?;
-        Some(day / 7 + 1)
+        self.horizon.week_of(date)
     }
 
     /// How many of a week's days are shop days: days of a weekday that is worked, and no holidays.
@@ -104,14 +98,7 @@ impl Calendar {
         ensures value { result ≡ shop_days_in self.now week }
         ensures bound { result ≤ 7 }
     {
-        let first = usize::from(week - 1) * 7;
-        let mut shop_days: u8 = 0;
-        for weekday in 0..7 {
-            if self.is_shop_day(first + weekday) {
-                shop_days += 1;
-            }
-        }
-        shop_days
+        self.horizon.shop_days(week)
     }
 
     /// The day on which a week begins, a Monday.
@@ -120,53 +107,49 @@ impl Calendar {
         ensures day { epoch_day result ≡ first_day_of self.now week }
         ensures within { spec.week_of self.now result ≡ Some week }
     {
-        let days = u32::from(week - 1) * 7;
-        self.start + i64::from(days).days()
+        self.horizon.first_day(week)
     }
 
-    // Whether a day of the horizon, counted from 0, is a shop day.
-    fn is_shop_day(&self, day: usize) -> bool
-        requires { day < days_in self.now.weeks }
-        ensures { result ≡ shop.is_shop_day self.now day }
+    /// The week in which an order is released that is due in a week, where its lead time is so many
+    /// shop days, up to 728; and how many shop days too late that is (profile).
+    ///
+    /// An order without lead time is released in its due week. Another is released in the week of the
+    /// shop day that lies so many before the due week's first. Where the horizon has no such day, the
+    /// release stands in week 1, and is late by the shop days that lack.
+    pub fn release(&self, due: u16, lead: u16) -> (u16, u16)
+        requires due { IsInRange 1 self.now.weeks due }
+        requires lead { lead ≤ MOST_LEAD_DAYS }
+        ensures { result ≡ release_of self.now due lead }
     {
-        self.workdays[day % 7] && !self.holidays[day]
-    }
-}
-
-fn is_monday(date: Date) -> bool
-    ensures { result ≡ spec.is_monday date }
-{
-    date.weekday() == Weekday::Monday
-}
-
-fn has_workday(workdays: &[bool; 7]) -> bool
-    ensures { result ≡ spec.has_workday workdays.now }
-{
-    workdays.iter().any(|worked| *worked)
-}
-
-// For each day from the start, whether it is one of the holidays of the horizon.
-fn holidays_from(start: Date, weeks: u16, holidays: &[Date]) -> [bool; MOST_DAYS]
-    requires { weeks ≤ MOST_WEEKS }
-    ensures { take (spec.days_in weeks) result ≡ spec.holidays_in start weeks holidays.now }
-{
-    let mut days = [false; MOST_DAYS];
-    for holiday in holidays {
-        if let Some(day) = horizon_day(start, weeks, *holiday) {
-            days[usize::from(day)] = true;
+        let first = self.first_shop_days[usize::from(due - 1)];
+        if lead == 0 {
+            (due, 0)
+        } else if lead < first {
+            (self.week_of_shop_day(due, first - lead), 0)
+        } else {
+            (1, lead + 1 - first)
         }
     }
-    days
+
+    // The week of a shop day that comes before a week's end, by its number.
+    fn week_of_shop_day(&self, last: u16, day: u16) -> u16
+        requires { IsInRange 1 self.now.weeks last }
+        ensures { result ≡ week_of_shop_day self.now last day }
+    {
+        let first_shop_days = &self.first_shop_days[..usize::from(last)];
+        first_shop_days.partition_point(|first| *first <= day) as u16
+    }
 }
 
-// The days from the start to a day of the horizon.
-fn horizon_day(start: Date, weeks: u16, date: Date) -> Option<u16>
-    requires { weeks ≤ MOST_WEEKS }
-    ensures { result ≡ spec.horizon_day weeks (epoch_day date -ℤ epoch_day start) }
+// The number of each week's first shop day; behind the horizon's weeks 0.
+fn first_shop_days(horizon: &Horizon) -> [u16; MOST_WEEKS as usize]
+    ensures { take horizon.now.weeks result ≡ first_days horizon.now horizon.now.weeks }
 {
-    let days = start.to_plain().until(date.to_plain());
-    if days < 0 || days >= i32::from(weeks) * 7 {
-        return None;
+    let mut first_shop_days = [0; MOST_WEEKS as usize];
+    let mut next: u16 = 1;
+    for week in 0..horizon.weeks() {
+        first_shop_days[usize::from(week)] = next;
+        next += u16::from(horizon.shop_days(week + 1));
     }
-    Some(days as u16)
+    first_shop_days
 }

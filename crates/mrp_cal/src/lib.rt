@@ -5,8 +5,9 @@
 mod calendar;
 mod date_text;
 mod fault;
+mod horizon;
 pub mod laws;
 
-pub use calendar::{Calendar, MOST_WEEKS};
+pub use calendar::{Calendar, MOST_LEAD_DAYS, MOST_WEEKS};
 pub use date_text::{FIRST_YEAR, LAST_YEAR, read_date};
 pub use fault::CalFault;

@@ -1,7 +1,7 @@
 use Rattle.std.proofs.Common.{◌≡◌, ℕ, ◌<◌, false, length, get_or, take}
 use Rattle.std.specs.List.{list_any}
 use Rattle.mrp_cal.specs.Calendar.{days_in, is_days_after}
-use Rattle.mrp_cal.proofs.calendar.holidays_from.Given as goal
+use Rattle.mrp_cal.proofs.horizon.holidays_from.Given as goal
 
 abbrev pub invariant-loop-holiday : goal.invariant-loop-holiday
 invariant-loop-holiday l = record {

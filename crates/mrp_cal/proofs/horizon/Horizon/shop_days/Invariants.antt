@@ -1,7 +1,7 @@
 use Rattle.std.proofs.Common.{◌≡◌, ◌≤◌, ℕ, ◌+◌, map}
 use Rattle.std.specs.List.{count_by, range_with_len}
 use Rattle.mrp_cal.specs.ShopDays.{is_shop_day}
-use Rattle.mrp_cal.proofs.calendar.Calendar.shop_days.Given as goal
+use Rattle.mrp_cal.proofs.horizon.Horizon.shop_days.Given as goal
 
 abbrev pub invariant-loop-weekday : goal.invariant-loop-weekday
 invariant-loop-weekday l = record {

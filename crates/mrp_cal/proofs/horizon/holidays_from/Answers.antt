@@ -5,8 +5,8 @@ use Rattle.std.proofs.lemmas.List.FromFn.{fill_by_all}
 use Rattle.std.proofs.Math.Seq.{take-length}
 use Rattle.mrp_cal.specs.Calendar.{days_in}
 use Rattle.mrp_cal.proofs.HolidayMarks.{list_any-day_more, get_or-marked, horizon_day-below}
-use Rattle.mrp_cal.proofs.calendar.holidays_from.Goals as goal
-use Rattle.mrp_cal.proofs.calendar.holidays_from.Goals.{in-Some, in_default}
+use Rattle.mrp_cal.proofs.horizon.holidays_from.Goals as goal
+use Rattle.mrp_cal.proofs.horizon.holidays_from.Goals.{in-Some, in_default}
 
 pub loop-holiday-init : goal.loop-holiday-init
 loop-holiday-init c = record {

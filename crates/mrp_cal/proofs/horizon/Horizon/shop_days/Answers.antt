@@ -1,8 +1,8 @@
 use Rattle.std.proofs.Common.{◌≡◌, ℕ, ◌+◌, ◌-◌, ◌*◌, cond, sym, ap, ◌∙◌, arith, add-zero}
 use Rattle.std.proofs.lemmas.List.FromFn.{sum_by-map-range_with_len_more}
 use Rattle.mrp_cal.specs.ShopDays.{is_shop_day}
-use Rattle.mrp_cal.proofs.calendar.Calendar.shop_days.Goals as goal
-use Rattle.mrp_cal.proofs.calendar.Calendar.shop_days.Goals.{then-is_shop_day, else-is_shop_day}
+use Rattle.mrp_cal.proofs.horizon.Horizon.shop_days.Goals as goal
+use Rattle.mrp_cal.proofs.horizon.Horizon.shop_days.Goals.{then-is_shop_day, else-is_shop_day}
 
 pub loop-weekday-preserved : goal.loop-weekday-preserved
 loop-weekday-preserved c =

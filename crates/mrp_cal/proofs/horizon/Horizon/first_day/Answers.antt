@@ -4,7 +4,7 @@ use Rattle.jiff.specs.Words.{epoch_day}
 use Rattle.jiff.proofs.SpanFacts.{can_add-days, date_add-days}
 use Rattle.mrp_cal.specs.ShopDays.{first_day_of}
 use Rattle.mrp_cal.proofs.Weekdays.{has_days, week_of-first_day}
-use Rattle.mrp_cal.proofs.calendar.Calendar.first_day.Goals as goal
+use Rattle.mrp_cal.proofs.horizon.Horizon.first_day.Goals as goal
 
 pub add-requires : goal.add-requires
 add-requires c =

@@ -1,0 +1,165 @@
+//! The days of a planning horizon: its weeks, and which days of them are shop days.
+ghost use Rattle.std.specs.Prelude.{◌≡◌, ◌≤◌, ◌-ℤ◌, take};
+ghost use Rattle.jiff.specs.Words.{epoch_day};
+ghost use Rattle.mrp_cal.specs.Calendar as spec;
+
+use crate::CalFault;
+use crate::calendar::MOST_WEEKS;
+use jiff::ToSpan;
+use jiff::civil::{Date, Weekday};
+use std::marker::Model;
+
+/// The days of the longest horizon.
+const MOST_DAYS: usize = 7 * MOST_WEEKS as usize;
+
+// A horizon of 1 to 104 weeks of seven days each, from a start that is a Monday, with the weekdays
+// that are worked and the holidays.
+#[derive(Debug, Drop)]
+pub(crate) struct Horizon {
+    start: Date,
+    weeks: u16,
+    workdays: [bool; 7],
+    // For each day from the start, whether it is a holiday.
+    holidays: [bool; MOST_DAYS],
+}
+
+impl Model for Horizon {
+    ghost use Rattle.mrp_cal.specs.Calendar.{ShopCalendar, IsShopCalendar};
+
+    ghost Value = { ShopCalendar };
+
+    ghost use Rattle.mrp_cal.specs.View.{horizon_view};
+
+    ghost view = { horizon_view };
+
+    ghost invariant = { λ c. IsShopCalendar (horizon_view c) };
+}
+
+impl Horizon {
+    ghost use Rattle.std.specs.Prelude.{◌≡◌, ◌≤◌, ◌<◌, IfSome, Some};
+    ghost use Rattle.std.specs.Int.{IsInRange};
+    ghost use Rattle.jiff.specs.Words.{epoch_day};
+    ghost use Rattle.mrp_cal.specs.Calendar as spec;
+    ghost use Rattle.mrp_cal.specs.Calendar.{days_in};
+    ghost use Rattle.mrp_cal.specs.DateText.{IsPlanningYear};
+    ghost use Rattle.mrp_cal.specs.ShopDays as shop;
+    ghost use Rattle.mrp_cal.specs.ShopDays.{first_day_of, shop_days_in};
+
+    // The horizon of a start, weeks, workdays and holidays, or the first thing that is wrong.
+    #[tactic(auto, unfolding(crate::specs::Calendar::calendar_of))]
+    pub(crate) fn new(
+        start: Date,
+        weeks: u64,
+        workdays: [bool; 7],
+        holidays: &[Date],
+    ) -> Result<Horizon, CalFault>
+        requires { IsPlanningYear start.year }
+        ensures { result ≡ spec.calendar_of start weeks workdays holidays.now }
+    {
+        if !is_monday(start) {
+            return Err(CalFault::StartNotMonday);
+        }
+        if weeks < 1 || weeks > MOST_WEEKS {
+            return Err(CalFault::Weeks);
+        }
+        if !has_workday(&workdays) {
+            return Err(CalFault::NoWorkday);
+        }
+        let weeks = weeks as u16;
+        Ok(Horizon {
+            start,
+            weeks,
+            workdays,
+            holidays: holidays_from(start, weeks, holidays),
+        })
+    }
+
+    // The weeks of the horizon.
+    pub(crate) fn weeks(&self) -> u16
+        ensures value { result ≡ self.now.weeks }
+        ensures bound { IsInRange 1 MOST_WEEKS result }
+    {
+        self.weeks
+    }
+
+    // The week that a date falls in.
+    pub(crate) fn week_of(&self, date: Date) -> Option<u16>
+        ensures week { result ≡ spec.week_of self.now date }
+        ensures within { IfSome result (IsInRange 1 self.now.weeks) }
+    {
+        let day = horizon_day(self.start, self.weeks, date)?;
+        Some(day / 7 + 1)
+    }
+
+    // How many of a week's days are shop days.
+    pub(crate) fn shop_days(&self, week: u16) -> u8
+        requires { IsInRange 1 self.now.weeks week }
+        ensures value { result ≡ shop_days_in self.now week }
+        ensures bound { result ≤ 7 }
+    {
+        let first = usize::from(week - 1) * 7;
+        let mut shop_days: u8 = 0;
+        for weekday in 0..7 {
+            if self.is_shop_day(first + weekday) {
+                shop_days += 1;
+            }
+        }
+        shop_days
+    }
+
+    // The day on which a week begins.
+    pub(crate) fn first_day(&self, week: u16) -> Date
+        requires { IsInRange 1 self.now.weeks week }
+        ensures day { epoch_day result ≡ first_day_of self.now week }
+        ensures within { spec.week_of self.now result ≡ Some week }
+    {
+        let days = u32::from(week - 1) * 7;
+        self.start + i64::from(days).days()
+    }
+
+    // Whether a day of the horizon, counted from 0, is a shop day.
+    fn is_shop_day(&self, day: usize) -> bool
+        requires { day < days_in self.now.weeks }
+        ensures { result ≡ shop.is_shop_day self.now day }
+    {
+        self.workdays[day % 7] && !self.holidays[day]
+    }
+}
+
+fn is_monday(date: Date) -> bool
+    ensures { result ≡ spec.is_monday date }
+{
+    date.weekday() == Weekday::Monday
+}
+
+fn has_workday(workdays: &[bool; 7]) -> bool
+    ensures { result ≡ spec.has_workday workdays.now }
+{
+    workdays.iter().any(|worked| *worked)
+}
+
+// For each day from the start, whether it is one of the holidays of the horizon.
+fn holidays_from(start: Date, weeks: u16, holidays: &[Date]) -> [bool; MOST_DAYS]
+    requires { weeks ≤ MOST_WEEKS }
+    ensures { take (spec.days_in weeks) result ≡ spec.holidays_in start weeks holidays.now }
+{
+    let mut days = [false; MOST_DAYS];
+    for holiday in holidays {
+        if let Some(day) = horizon_day(start, weeks, *holiday) {
+            days[usize::from(day)] = true;
+        }
+    }
+    days
+}
+
+// The days from the start to a day of the horizon.
+fn horizon_day(start: Date, weeks: u16, date: Date) -> Option<u16>
+    requires { weeks ≤ MOST_WEEKS }
+    ensures { result ≡ spec.horizon_day weeks (epoch_day date -ℤ epoch_day start) }
+{
+    let days = start.to_plain().until(date.to_plain());
+    if days < 0 || days >= i32::from(weeks) * 7 {
+        return None;
+    }
+    Some(days as u16)
+}
