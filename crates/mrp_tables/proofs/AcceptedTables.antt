@@ -13,8 +13,8 @@ same_whole a b r is e = cc
 pub of_their_texts : (texts : List (List ℕ)) (tables : Tables) → tables_in texts ≡ Ok tables → AreOfTheirTexts texts tables
 unfolding tables_in
 of_their_texts texts tables e =
-    let calendar = whole_step (table_in texts t.Calendar) _ tables e in
-    let items = whole_step (table_in texts t.Items) _ tables calendar.2 in
+    let dated = whole_step (table_in texts t.Calendar) _ tables e in
+    let items = whole_step (table_in texts t.Items) _ tables dated.2 in
     let centres = whole_step (table_in texts t.Centres) _ tables items.2 in
     let stock = whole_step (table_in texts t.Stock) _ tables centres.2 in
     let receipts = whole_step (table_in texts t.Receipts) _ tables stock.2 in
@@ -23,7 +23,8 @@ of_their_texts texts tables e =
     let master = whole_step (table_in texts t.Master) _ tables routings.2 in
     let script = whole_step (table_in texts t.Script) _ tables master.2 in
     let made : Tables = record {
-      calendar = calendar.0;
+      version = dated.0.version;
+      calendar = dated.0.calendar;
       items = items.0;
       centres = centres.0;
       stock = stock.0;
@@ -35,7 +36,7 @@ of_their_texts texts tables e =
     } in
     let same = same_whole made tables (Ok made) refl script.2 in
     subst (AreOfTheirTexts texts) same (record {
-      calendar = calendar.1;
+      calendar = dated.1;
       items = items.1;
       centres = centres.1;
       stock = stock.1;

@@ -1,5 +1,5 @@
 -- A record's faults stand at the record.
-use Rattle.std.proofs.Common.{◌≡◌, ℕ, Bool, true, false, List, [], ◌∷◌, Result, Ok, Err, refl}
+use Rattle.std.proofs.Common.{◌≡◌, ℕ, Bool, true, false, List, [], ◌∷◌, Option, Result, Ok, Err, refl}
 use Rattle.std.specs.Prelude.{IfErr, codes, if◌then◌else◌, ◌&&◌, nat_lt, nat_eq, not, length, ◌==◌}
 use Rattle.std.specs.List.{list_any}
 use Rattle.std.specs.Cmp.Lexicographic.{pointwise}
@@ -8,6 +8,7 @@ use Rattle.jiff.specs.Types.{Date}
 use Rattle.mrp_cal.specs.Calendar.{ShopCalendar, is_monday, week_of}
 use Rattle.mrp_cal.specs.declared.calendar.TheConstants.{MOST_WEEKS}
 use Rattle.mrp_rows.specs.declared.fault.Fault.{Fault}
+use Rattle.mrp_rows.specs.declared.fault.Table.TheVariants as t
 use Rattle.mrp_rows.specs.declared.faults.TheConstants as faults
 use Rattle.mrp_rows.specs.Columns.{Layout, width}
 use Rattle.mrp_rows.specs.Left.{Cells}
@@ -18,16 +19,17 @@ use Rattle.mrp_tables.specs.declared.rows.Centre.{Centre}
 use Rattle.mrp_tables.specs.declared.rows.Operation.{Operation}
 use Rattle.mrp_tables.specs.declared.rows.StockRow.{StockRow}
 use Rattle.mrp_tables.specs.declared.calendar.Entry.{Entry}
-use Rattle.mrp_tables.specs.declared.calendar.Entry.TheVariants.{Start, Weeks, Workdays, Holiday}
+use Rattle.mrp_tables.specs.declared.calendar.Entry.TheVariants.{OfVersion, Start, Weeks, Workdays, Holiday}
 use Rattle.mrp_tables.specs.Bills.{bill_row}
-use Rattle.mrp_tables.specs.Calendar.{entry_row, holiday_cells, start_cells, weeks_cells, workdays_cell, workdays_cells}
+use Rattle.mrp_tables.specs.declared.version.TheConstants.{MOST_VERSION}
+use Rattle.mrp_tables.specs.Calendar.{entry_row, holiday_cells, start_cells, weeks_cells, workdays_cell, workdays_cells, calendar_reads, dated_of, dated_row, first_cells, start_cell, version_cell}
 use Rattle.mrp_tables.specs.Centres.{centre_cells, centre_checked, centre_names, centre_row, known_centre}
 use Rattle.mrp_tables.specs.Items.{class_words, greatest_size, is_master, is_master_at, item_at, item_cells, item_checked, item_row, known, least_size, names_of}
 use Rattle.mrp_tables.specs.Laws.{FaultsAtItsRecord, FaultsAtTheirRecords, IsAt}
 use Rattle.mrp_tables.specs.Master.{class_fault, has_kind, kind_at, kind_words, master_row}
 use Rattle.mrp_tables.specs.declared.receipts.OpenOrder.{OpenOrder}
 use Rattle.mrp_tables.specs.declared.rows.Receipt.{Receipt}
-use Rattle.mrp_tables.specs.Reading.{Reads, admitted, by_itself, is_past}
+use Rattle.mrp_tables.specs.Reading.{Reads, admitted, by_itself, is_past, reads_of}
 use Rattle.mrp_tables.specs.Receipts.{order_cells, order_checked, orders_of, receipt_placed, receipt_row, same_order}
 use Rattle.mrp_tables.specs.declared.routings.RoutingLine.{RoutingLine}
 use Rattle.mrp_tables.specs.Routings.{operation_row, operations_of, routing_cells, routing_checked, routing_placed, same_operation}
@@ -63,36 +65,52 @@ last_unless : {Y : Type 0} (r : Cells) (code : ℕ) (b : Bool) (y : Y) → IfErr
 last_unless r code true y = tt
 last_unless r code false y = own r code
 
-admits : (at : Layout) (r : Cells) (past wide : Bool) → is_past (record_limit r.table) r.number ≡ past → (length r.cells == width at) ≡ wide → IfErr (admitted at r) (IsAt r)
-admits at r true wide e w = rw e (own r faults.TOO_MANY)
-admits at r false true e w = rw (e, w) tt
-admits at r false false e w = rw (e, w) (own r faults.COLUMNS)
+admits : (limit : Option ℕ) (at : Layout) (r : Cells) (past wide : Bool) → is_past limit r.number ≡ past → (length r.cells == width at) ≡ wide → IfErr (admitted limit at r) (IsAt r)
+admits limit at r true wide e w = rw e (own r faults.TOO_MANY)
+admits limit at r false true e w = rw (e, w) tt
+admits limit at r false false e w = rw (e, w) (own r faults.COLUMNS)
 
-pub admitted_at : (at : Layout) (r : Cells) → IfErr (admitted at r) (IsAt r)
-admitted_at at r = admits at r (is_past (record_limit r.table) r.number) (length r.cells == width at) refl refl
+pub admitted_at : (limit : Option ℕ) (at : Layout) (r : Cells) → IfErr (admitted limit at r) (IsAt r)
+admitted_at limit at r = admits limit at r (is_past limit r.number) (length r.cells == width at) refl refl
 
-admits_same : (at : Layout) (r : Cells) (past wide : Bool) → is_past (record_limit r.table) r.number ≡ past → (length r.cells == width at) ≡ wide → (c : Cells) → admitted at r ≡ Ok c → r ≡ c
-admits_same at r true wide e w c given = let refused : admitted at r ≡ Err (fault_at r faults.TOO_MANY) = rw e refl in absurd cc
-admits_same at r false true e w c given = let kept : admitted at r ≡ Ok r = rw (e, w) refl in cc
-admits_same at r false false e w c given = let refused : admitted at r ≡ Err (fault_at r faults.COLUMNS) = rw (e, w) refl in absurd cc
+admits_same : (limit : Option ℕ) (at : Layout) (r : Cells) (past wide : Bool) → is_past limit r.number ≡ past → (length r.cells == width at) ≡ wide → (c : Cells) → admitted limit at r ≡ Ok c → r ≡ c
+admits_same limit at r true wide e w c given = let refused : admitted limit at r ≡ Err (fault_at r faults.TOO_MANY) = rw e refl in absurd cc
+admits_same limit at r false true e w c given = let kept : admitted limit at r ≡ Ok r = rw (e, w) refl in cc
+admits_same limit at r false false e w c given = let refused : admitted limit at r ≡ Err (fault_at r faults.COLUMNS) = rw (e, w) refl in absurd cc
 
 -- what is admitted is the record
-pub admitted_same : (at : Layout) (r c : Cells) → admitted at r ≡ Ok c → r ≡ c
-admitted_same at r c given = admits_same at r (is_past (record_limit r.table) r.number) (length r.cells == width at) refl refl c given
+pub admitted_same : (limit : Option ℕ) (at : Layout) (r c : Cells) → admitted limit at r ≡ Ok c → r ≡ c
+admitted_same limit at r c given = admits_same limit at r (is_past limit r.number) (length r.cells == width at) refl refl c given
 
 -- a record that is admitted and then read
-reads : {X : Type 0} (read : Reads X) → ((before : List X) (r : Cells) → IfErr (read before r) (IsAt r)) → FaultsAtItsRecord read
-reads read h layout before r = by (admitted layout r) refl (admitted_at layout r)
+reads : {X : Type 0} (read : Reads X) → ((before : List X) (r : Cells) → IfErr (read.row before r) (IsAt r)) → FaultsAtItsRecord read
+reads read h layout before r = by (admitted (read.limit before) layout r) refl (admitted_at (read.limit before) layout r)
   where
-    by : (a : Result Cells Fault) → admitted layout r ≡ a → IfErr a (IsAt r) → IfErr (a >>= read before) (IsAt r)
-    by (Ok c) e at = rw (← admitted_same layout r c e) (h before r)
+    by : (a : Result Cells Fault) → admitted (read.limit before) layout r ≡ a → IfErr a (IsAt r) → IfErr (a >>= read.row before) (IsAt r)
+    by (Ok c) e at = rw (← admitted_same (read.limit before) layout r c e) (h before r)
     by (Err f) e at = at
 
+date_at : (r : Cells) → IfErr (start_cell r) (IsAt r)
+unfolding start_cell
+date_at r = cell r (date_cell (cell_at r 1)) _ (λ date. last_unless r faults.RANGE (is_monday date) date)
+
 start_at : (r : Cells) → IfErr (start_cells r) (IsAt r)
-unfolding start_cells
-start_at r =
-    cell r (word_of (codes "start" ∷ []) (cell_at r 0)) _ (λ key.
-    cell r (date_cell (cell_at r 1)) _ (λ date. last_unless r faults.RANGE (is_monday date) date))
+start_at r = cell r (word_of (codes "start" ∷ []) (cell_at r 0)) _ (λ key. date_at r)
+
+version_at : (r : Cells) → IfErr (version_cell r) (IsAt r)
+version_at r = cell r (number_cell 1 MOST_VERSION (cell_at r 1)) _ (λ number. tt)
+
+-- one of two readings
+one_of : {X : Type 0} (r : Cells) (b : Bool) (x y : Result X Fault) → IfErr x (IsAt r) → IfErr y (IsAt r) → IfErr (if b then x else y) (IsAt r)
+one_of r true x y h k = h
+one_of r false x y h k = k
+
+first_at : (r : Cells) → IfErr (first_cells r) (IsAt r)
+unfolding first_cells
+first_at r =
+    cell r (word_of (codes "version" ∷ codes "start" ∷ []) (cell_at r 0)) _ (λ key.
+    one_of r (key == 0) _ _ (step r (version_cell r) (λ version. Ok (OfVersion version)) (version_at r) (λ version. tt))
+    (step r (start_cell r) (λ date. Ok (Start date)) (date_at r) (λ date. tt)))
 
 weeks_at : (r : Cells) → IfErr (weeks_cells r) (IsAt r)
 unfolding weeks_cells
@@ -107,11 +125,15 @@ unfolding holiday_cells
 holiday_at r = cell r (word_of (codes "holiday" ∷ []) (cell_at r 0)) _ (λ key.
     blamed r (date_cell (cell_at r 1)))
 
+dated_at : (before : List Entry) (r : Cells) → IfErr (dated_row before r) (IsAt r)
+dated_at [] r = step r (start_cells r) (λ date. Ok (Start date)) (start_at r) (λ date. tt)
+dated_at (start ∷ []) r = step r (weeks_cells r) (λ weeks. Ok (Weeks weeks)) (weeks_at r) (λ weeks. tt)
+dated_at (start ∷ weeks ∷ []) r = step r (workdays_cells r) (λ workdays. Ok (Workdays workdays)) (workdays_at r) (λ workdays. tt)
+dated_at (start ∷ weeks ∷ workdays ∷ holidays) r = step r (holiday_cells r) (λ date. Ok (Holiday date)) (holiday_at r) (λ date. tt)
+
 entry_at : (before : List Entry) (r : Cells) → IfErr (entry_row before r) (IsAt r)
-entry_at [] r = step r (start_cells r) (λ date. Ok (Start date)) (start_at r) (λ date. tt)
-entry_at (start ∷ []) r = step r (weeks_cells r) (λ weeks. Ok (Weeks weeks)) (weeks_at r) (λ weeks. tt)
-entry_at (start ∷ weeks ∷ []) r = step r (workdays_cells r) (λ workdays. Ok (Workdays workdays)) (workdays_at r) (λ workdays. tt)
-entry_at (start ∷ weeks ∷ workdays ∷ holidays) r = step r (holiday_cells r) (λ date. Ok (Holiday date)) (holiday_at r) (λ date. tt)
+entry_at [] r = first_at r
+entry_at (first ∷ entries) r = dated_at (dated_of (first ∷ entries)) r
 
 bill_at : (items : List Item) (r : Cells) → IfErr (bill_row items r) (IsAt r)
 unfolding bill_row
@@ -235,11 +257,6 @@ when_at items r =
     cell r (known items name) _ (λ item.
     cell r (mastered items item) _ (λ master. tt))))
 
--- one of two readings
-one_of : {X : Type 0} (r : Cells) (b : Bool) (x y : Result X Fault) → IfErr x (IsAt r) → IfErr y (IsAt r) → IfErr (if b then x else y) (IsAt r)
-one_of r true x y h k = h
-one_of r false x y h k = k
-
 call_at_record : (calendar : ShopCalendar) (items : List Item) (r : Cells) (place : ℕ) → IfErr (call_at calendar items r place) (IsAt r)
 call_at_record calendar items r place =
     one_of r (place == 0) _ _ (book_at calendar items r)
@@ -256,13 +273,13 @@ script_at calendar items r =
 
 pub at_their_records : FaultsAtTheirRecords
 at_their_records = record {
-  calendar = reads entry_row entry_at;
-  items = λ most_lead. reads (item_row most_lead) (item_at_record most_lead);
-  centres = reads centre_row centre_at;
-  stock = λ items. reads (stock_row items) (stock_at items);
-  receipts = λ calendar items. reads (receipt_row calendar items) (receipt_at calendar items);
-  bills = λ items. reads (by_itself (bill_row items)) (λ before r. bill_at items r);
-  routings = λ items centres. reads (operation_row items centres) (operation_at items centres);
-  master = λ calendar items. reads (by_itself (master_row calendar items)) (λ before r. master_at calendar items r);
-  script = λ calendar items. reads (by_itself (script_row calendar items)) (λ before r. script_at calendar items r);
+  calendar = reads calendar_reads entry_at;
+  items = λ most_lead. reads (reads_of t.Items (item_row most_lead)) (item_at_record most_lead);
+  centres = reads (reads_of t.Centres centre_row) centre_at;
+  stock = λ items. reads (reads_of t.Stock (stock_row items)) (stock_at items);
+  receipts = λ calendar items. reads (reads_of t.Receipts (receipt_row calendar items)) (receipt_at calendar items);
+  bills = λ items. reads (reads_of t.Bills (by_itself (bill_row items))) (λ before r. bill_at items r);
+  routings = λ items centres. reads (reads_of t.Routings (operation_row items centres)) (operation_at items centres);
+  master = λ calendar items. reads (reads_of t.Master (by_itself (master_row calendar items))) (λ before r. master_at calendar items r);
+  script = λ calendar items. reads (reads_of t.Script (by_itself (script_row calendar items))) (λ before r. script_at calendar items r);
 }

@@ -20,20 +20,20 @@ same_cells a b e f g = λ i. record { table = e i; number = f i; cells = g i }
 
 -- the first of the records that are left
 begins : {X : Type 0} (read : Reads X) (t : Layout) (before : List X) (old new : Left) (r : Cells) (total : Result (List X) Fault)
-    → IsLeft read t before old total → NextAdmitted old (Ok (Some r)) new
-    → (read before r >>= λ x. rows_from read t (before ++ (x ∷ [])) new.number new.left) ≡ total
+    → IsLeft read t before old total → NextAdmitted (read.limit before) old (Ok (Some r)) new
+    → (read.row before r >>= λ x. rows_from read t (before ++ (x ∷ [])) new.number new.left) ≡ total
 unfolding rows_from
 begins {X} read t before old new r total h given =
     let made : Cells = record { table = t.table; number = old.number; cells = r.cells } in
     let same : made ≡ r = same_cells made r (sym (given.first.table ∙ ap (λ (own : Layout). own.table) h.layout)) (sym given.first.number) refl in
-    let ok : admitted t made ≡ Ok r = ap (admitted t) same ∙ subst (λ (own : Layout). admitted own r ≡ Ok r) h.layout given.within in
-    let after : Cells → Result (List X) Fault = λ a. read before a >>= λ x. rows_from read t (before ++ (x ∷ [])) (next_number old.number) new.left in
-    let opened : rows_from read t before old.number old.left ≡ (admitted t made >>= after) = rw given.first.taken refl in
+    let ok : admitted (read.limit before) t made ≡ Ok r = ap (admitted (read.limit before) t) same ∙ subst (λ (own : Layout). admitted (read.limit before) own r ≡ Ok r) h.layout given.within in
+    let after : Cells → Result (List X) Fault = λ a. read.row before a >>= λ x. rows_from read t (before ++ (x ∷ [])) (next_number old.number) new.left in
+    let opened : rows_from read t before old.number old.left ≡ (admitted (read.limit before) t made >>= after) = rw given.first.taken refl in
     rw given.first.after (sym (ap (λ a. a >>= after) ok) ∙ sym opened ∙ h.left)
 
 -- a row is added
 pub adds : {X : Type 0} (read : Reads X) (t : Layout) (before after : List X) (old new : Left) (r : Cells) (total : Result (List X) Fault) (u : Unit {0})
-    → IsLeft read t before old total → NextAdmitted old (Ok (Some r)) new → Adds read before r (Ok u) after → IsLeft read t after new total
+    → IsLeft read t before old total → NextAdmitted (read.limit before) old (Ok (Some r)) new → Adds read before r (Ok u) after → IsLeft read t after new total
 adds read t before after old new r total u h given (x, reads, grown) = record {
   left = rw grown (rw reads at (begins read t before old new r total h given));
   layout = given.first.same ∙ h.layout;
@@ -66,22 +66,22 @@ one_more {X} read t [] start first before cells x are reads =
     let next : X → Result (List X) Fault = λ y. rows_from read t (start ++ (y ∷ [])) (next_number first) [] in
     let same : start ≡ before = cc in
     let one : read_one read t start r ≡ Ok x = rw same reads in
-    sym (bind_assoc (admitted t r) (read start) next) ∙ ap (λ (y : Result X Fault). y >>= next) one ∙ ap (λ (rows : List X). Ok (rows ++ x ∷ [])) same
+    sym (bind_assoc (admitted (read.limit start) t r) (read.row start) next) ∙ ap (λ (y : Result X Fault). y >>= next) one ∙ ap (λ (rows : List X). Ok (rows ++ x ∷ [])) same
 one_more {X} read t (d ∷ done) start first before cells x are reads =
     let r : Cells = record { table = t.table; number = first; cells = d } in
     let next : X → Result (List X) Fault = λ y. rows_from read t (start ++ (y ∷ [])) (next_number first) done in
     let longer : X → Result (List X) Fault = λ y. rows_from read t (start ++ (y ∷ [])) (next_number first) (done ++ cells ∷ []) in
-    let step = whole_step (read_one read t start r) next before (bind_assoc (admitted t r) (read start) next ∙ are) in
-    sym (bind_assoc (admitted t r) (read start) longer) ∙ ap (λ (y : Result X Fault). y >>= longer) step.1
+    let step = whole_step (read_one read t start r) next before (bind_assoc (admitted (read.limit start) t r) (read.row start) next ∙ are) in
+    sym (bind_assoc (admitted (read.limit start) t r) (read.row start) longer) ∙ ap (λ (y : Result X Fault). y >>= longer) step.1
     ∙ one_more read t done (start ++ step.0 ∷ []) (next_number first) before cells x step.2 reads
 
 pub adds_done : {X : Type 0} (read : Reads X) (t : Layout) (start : List X) (first : ℕ) (all : Records) (before after : List X) (old new : Left) (r : Cells) (u : Unit {0})
-    → old.layout ≡ t → IsDone read t start first all before old → NextAdmitted old (Ok (Some r)) new → Adds read before r (Ok u) after
+    → old.layout ≡ t → IsDone read t start first all before old → NextAdmitted (read.limit before) old (Ok (Some r)) new → Adds read before r (Ok u) after
     → IsDone read t start first all after new
 adds_done read t start first all before after old new r u own h given (x, reads, grown) =
     let made : Cells = record { table = t.table; number = number_behind first h.done; cells = r.cells } in
     let same : made ≡ r = same_cells made r (sym (given.first.table ∙ ap (λ (l : Layout). l.table) own)) (sym (given.first.number ∙ h.at)) refl in
-    let within : admitted t r ≡ Ok r = subst (λ (l : Layout). admitted l r ≡ Ok r) own given.within in
+    let within : admitted (read.limit before) t r ≡ Ok r = subst (λ (l : Layout). admitted (read.limit before) l r ≡ Ok r) own given.within in
     let one : read_one read t before made ≡ Ok x = ap (read_one read t before) same ∙ rw within reads in
     record {
       done = h.done ++ r.cells ∷ [];
@@ -104,7 +104,7 @@ behind read t start first all before c f h own e = record {
 
 -- a row is refused
 pub refuses : {X : Type 0} (read : Reads X) (t : Layout) (start : List X) (first : ℕ) (all : Records) (before after : List X) (old new : Left) (r : Cells) (total : Result (List X) Fault) (f : Fault)
-    → IsLeft read t before old total → IsDone read t start first all before old → NextAdmitted old (Ok (Some r)) new → Adds read before r (Err f) after
+    → IsLeft read t before old total → IsDone read t start first all before old → NextAdmitted (read.limit before) old (Ok (Some r)) new → Adds read before r (Err f) after
     → IsRefusedBehind read t start first all f ⊎ (total ≡ Err f)
 refuses read t start first all before after old new r total f h d given (same, inl memory) =
     inl (behind read t start first all before old f d h.layout (memory.fault ∙ (λ i. memory_fault (given.first.table i) (given.first.number i))))
@@ -112,7 +112,7 @@ refuses read t start first all before after old new r total f h d given (same, i
 
 -- the next record is refused
 pub stops : {X : Type 0} (read : Reads X) (t : Layout) (start : List X) (first : ℕ) (all : Records) (before : List X) (old new : Left) (total : Result (List X) Fault) (f : Fault)
-    → IsLeft read t before old total → IsDone read t start first all before old → NextAdmitted old (Err f) new
+    → IsLeft read t before old total → IsDone read t start first all before old → NextAdmitted (read.limit before) old (Err f) new
     → IsRefusedBehind read t start first all f ⊎ (total ≡ Err f)
 unfolding rows_from
 stops read t start first all before old new total f h d (inl memory) = inl (behind read t start first all before old f d h.layout memory.fault)
@@ -122,6 +122,6 @@ stops read t start first all before old new total f h d (inr none) =
 
 -- no record is left
 pub ends : {X : Type 0} (read : Reads X) (t : Layout) (before : List X) (old new : Left) (total : Result (List X) Fault)
-    → IsLeft read t before old total → NextAdmitted old (Ok None) new → total ≡ Ok before
+    → IsLeft read t before old total → NextAdmitted (read.limit before) old (Ok None) new → total ≡ Ok before
 unfolding rows_from
 ends read t before old new total h none = sym h.left ∙ rw none refl

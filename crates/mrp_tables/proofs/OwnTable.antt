@@ -1,5 +1,5 @@
 -- A fault stands at its own table.
-use Rattle.std.proofs.Common.{◌≡◌, ℕ, Bool, true, false, List, [], ◌∷◌, ◌++◌, Result, Ok, Err, refl}
+use Rattle.std.proofs.Common.{◌≡◌, ℕ, Bool, true, false, List, [], ◌∷◌, ◌++◌, ◌+◌, length, Result, Ok, Err, refl}
 use Rattle.std.specs.Prelude.{IfErr, if◌then◌else◌, nat_eq}
 use Rattle.std.specs.Cmp.Lexicographic.{pointwise}
 use Rattle.mrp_qty.specs.Reading.{◌>>=◌}
@@ -11,8 +11,9 @@ use Rattle.mrp_rows.specs.Left.{Cells, Left}
 use Rattle.mrp_rows.specs.Next.{after_header, header_fault, next_number, opened}
 use Rattle.mrp_rows.specs.Records.{records_of}
 use Rattle.mrp_tables.specs.declared.calendar.Entry.{Entry}
-use Rattle.mrp_tables.specs.declared.calendar.Entry.TheVariants.{Start, Weeks, Workdays}
-use Rattle.mrp_tables.specs.Calendar.{calendar_from, entry_row}
+use Rattle.mrp_tables.specs.declared.calendar.Entry.TheVariants.{OfVersion, Start, Weeks, Workdays}
+use Rattle.mrp_tables.specs.declared.version.Version.{Version}
+use Rattle.mrp_tables.specs.Calendar.{calendar_from, calendar_reads, dated_from, dated_of, version_among}
 use Rattle.mrp_tables.specs.Laws.{FaultsAtItsRecord, IsAt, read_one}
 use Rattle.mrp_tables.specs.Reading.{Reads, admitted, rows_from, rows_of}
 use Rattle.mrp_tables.proofs.Blaming.{at_their_records}
@@ -36,7 +37,7 @@ rows_from_own read h own before number [] = tt
 rows_from_own {X} read h own before number (cells ∷ rest) =
     let r : Cells = record { table = own.table; number = number; cells = cells } in
     let next : X → Result (List X) Fault = λ x. rows_from read own (before ++ (x ∷ [])) (next_number number) rest in
-    rw (← bind_assoc (admitted own r) (read before) next)
+    rw (← bind_assoc (admitted (read.limit before) own r) (read.row before) next)
     (follows own.table (read_one read own before r) next (at_table r (read_one read own before r) (h own before r))
     (λ x e. rows_from_own read h own (before ++ (x ∷ [])) (next_number number) rest))
 
@@ -53,11 +54,14 @@ rows_own read h own text =
     follows own.table (opened own text) (λ all. rows_from read own [] all.number all.left) (header_own own (records_of text))
     (λ all e. rows_from_own read h own [] all.number all.left)
 
-from_own : (entries : List Entry) → IsOf t.Calendar (calendar_from entries)
-from_own (Start start ∷ Weeks weeks ∷ Workdays workdays ∷ holidays) = tt
-from_own entries = refl
+dated_own : (version : Version) (missing : ℕ) (entries : List Entry) → IsOf t.Calendar (dated_from version missing entries)
+dated_own version missing (Start start ∷ Weeks weeks ∷ Workdays workdays ∷ holidays) = tt
+dated_own version missing entries = refl
 
-pub calendar_own : (text : List ℕ) → IsOf t.Calendar (rows_of entry_row (layout_of t.Calendar) text >>= calendar_from)
+from_own : (entries : List Entry) → IsOf t.Calendar (calendar_from entries)
+from_own entries = dated_own (version_among entries) (length entries + 1) (dated_of entries)
+
+pub calendar_own : (text : List ℕ) → IsOf t.Calendar (rows_of calendar_reads (layout_of t.Calendar) text >>= calendar_from)
 calendar_own text =
-    follows t.Calendar (rows_of entry_row (layout_of t.Calendar) text) calendar_from
-    (rows_own entry_row at_their_records.calendar (layout_of t.Calendar) text) (λ entries e. from_own entries)
+    follows t.Calendar (rows_of calendar_reads (layout_of t.Calendar) text) calendar_from
+    (rows_own calendar_reads at_their_records.calendar (layout_of t.Calendar) text) (λ entries e. from_own entries)

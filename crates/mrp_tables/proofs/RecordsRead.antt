@@ -363,3 +363,17 @@ is_item most_lead r item few e =
       safety = (in_range 0 limits.MOST_PIECES r (cell_at r 6) safety.0 safety.1).1;
       master = unstocked;
     })
+
+-- an item's lead time is no longer than that
+pub item_lead : (most_lead : ℕ) (r : Cells) (item : Item) → item_cells most_lead r ≡ Ok item → item.lead ≤ most_lead
+unfolding item_cells
+item_lead most_lead r item e =
+    let name = whole_step (blame r (name_of (cell_at r 0))) _ item e in
+    let class = whole_step (blame r (word_of class_words (cell_at r 1))) _ item name.2 in
+    let lead = whole_step (blame r (number_cell 0 most_lead (cell_at r 2))) _ item class.2 in
+    let scrap = whole_step (blame r (number_cell 0 limits.MOST_SCRAP (cell_at r 3))) _ item lead.2 in
+    let lot = whole_step (blame r (word_of lot_words (cell_at r 4))) _ item scrap.2 in
+    let size = whole_step (blame r (number_cell (least_size lot.0) (greatest_size lot.0) (cell_at r 5))) _ item lot.2 in
+    let safety = whole_step (blame r (number_cell 0 limits.MOST_PIECES (cell_at r 6))) _ item size.2 in
+    let made : Item = record { name = name.0; class = class_at class.0; lead = lead.0; scrap = scrap.0; lot = lot_at lot.0 size.0; safety = safety.0 } in
+    subst (λ (x : Item). x.lead ≤ most_lead) (same_value made item (Ok made) refl safety.2) (in_range 0 most_lead r (cell_at r 2) lead.0 lead.1).1

@@ -84,8 +84,8 @@ in_turn {X} read own done before number (cells ∷ rest) at h =
     ap next_number at ∙ next_number-at (length done) ∙ ap number_at (sym (length-append done (cells ∷ []))) in
     let all = after read own done before cells rest h next
     (λ x grown. in_turn read own (done ++ cells ∷ []) (before ++ x ∷ []) (next_number number) rest up grown) (read_one read own before at_its_number) refl in
-    let moved : (read_one read own before at_its_number >>= next) ≡ (admitted own r >>= λ c. read before c >>= next) =
-    ap (λ (c : Cells). read_one read own before c >>= next) (sym same) ∙ bind_assoc (admitted own r) (read before) next in
+    let moved : (read_one read own before at_its_number >>= next) ≡ (admitted (read.limit before) own r >>= λ c. read.row before c >>= next) =
+    ap (λ (c : Cells). read_one read own before c >>= next) (sym same) ∙ bind_assoc (admitted (read.limit before) own r) (read.row before) next in
     subst (λ (result : Result (List X) Fault). AreReadInTurn read own (done ++ cells ∷ rest) result) moved all
 
 by_header : (own : Layout) (made all : Left) (same : Bool) → made.number ≡ 1 → (if same then Ok made else Err (header_fault own.table)) ≡ Ok all → all.number ≡ 1

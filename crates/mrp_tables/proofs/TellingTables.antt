@@ -7,24 +7,30 @@ use Rattle.mrp_rows.specs.Columns.{layout_of}
 use Rattle.mrp_rows.specs.declared.fault.Fault.{Fault}
 use Rattle.mrp_rows.specs.declared.fault.Table.{Table}
 use Rattle.mrp_rows.specs.declared.fault.Table.TheVariants as t
+use Rattle.mrp_tables.specs.declared.calendar.CalendarTable.{CalendarTable}
 use Rattle.mrp_tables.specs.declared.item.Item.{Item}
 use Rattle.mrp_tables.specs.declared.rows.Centre.{Centre}
 use Rattle.mrp_tables.specs.Bills.{bill_row}
 use Rattle.mrp_tables.specs.Centres.{centre_row}
-use Rattle.mrp_tables.specs.declared.limits.TheConstants as limits
 use Rattle.mrp_tables.specs.Items.{item_row}
 use Rattle.mrp_tables.specs.Laws.{AreWholeBefore, FaultsAtItsRecord, IsToldAtItsTable, reading_of, whole}
 use Rattle.mrp_tables.specs.Master.{master_row, that_count}
-use Rattle.mrp_tables.specs.Readers.{by_centres, by_dates, by_items, calendar_in, centres_in, items_in, table_in}
-use Rattle.mrp_tables.specs.Reading.{Reads, by_itself, rows_of}
+use Rattle.mrp_tables.specs.Readers.{by_centres, by_dates, by_items, calendar_in, calendar_table_in, centres_in, items_in, table_in}
+use Rattle.mrp_tables.specs.Reading.{Reads, by_itself, reads_of, rows_of}
 use Rattle.mrp_tables.specs.Receipts.{receipt_row, receipts_that_count}
 use Rattle.mrp_tables.specs.Routings.{operation_row}
 use Rattle.mrp_tables.specs.Script.{script_row}
 use Rattle.mrp_tables.specs.Stock.{stock_row}
 use Rattle.mrp_tables.specs.Tables.{tables_in}
+use Rattle.mrp_tables.specs.Versions.{most_lead}
 use Rattle.mrp_tables.proofs.Blaming.{at_their_records}
 use Rattle.mrp_tables.proofs.OwnTable.{IsOf, calendar_own, follows, rows_own}
 use Rattle.mrp_tables.proofs.TableLaws.{refused_by_table}
+
+-- the calendar's table, at whose version the items look, is read whole
+looked_at_first : {X : Type 0} (x : Result X Fault) (rest : Result (Unit {0}) Fault) → (whole x >>= λ v. rest) ≡ Ok tt → (a : X) × (x ≡ Ok a)
+looked_at_first (Ok a) rest given = (a, refl)
+looked_at_first (Err f) rest given = absurd cc
 
 -- the calendar and the items, of which others are read beside, are read whole
 looked_at : {X Y : Type 0} (x : Result X Fault) (y : Result Y Fault) (rest : Result (Unit {0}) Fault)
@@ -40,6 +46,9 @@ looked_at_centres (Ok a) (Ok b) (Ok c) rest given = (b, refl, c, refl)
 looked_at_centres (Ok a) (Ok b) (Err f) rest given = absurd cc
 looked_at_centres (Ok a) (Err f) z rest given = absurd cc
 looked_at_centres (Err f) y z rest given = absurd cc
+
+calendar_of : (texts : List (List ℕ)) (table : CalendarTable) → calendar_table_in texts ≡ Ok table → calendar_in texts ≡ Ok table.calendar
+calendar_of texts table is = rw is refl
 
 -- the faults of a table that is read beside these are its own
 items_own : {X : Type 0} (texts : List (List ℕ)) (own : Table) (reads : List Item → Reads X) (items : List Item) → items_in texts ≡ Ok items
@@ -62,26 +71,34 @@ counted_own own count read at = follows own read (λ rows. Ok (count rows)) at (
 -- behind tables that are read whole, a table's fault is its own
 own_fault : (texts : List (List ℕ)) (own : Table) → AreWholeBefore texts own → IsOf own (table_in texts own)
 own_fault texts t.Calendar earlier = calendar_own (text_in texts t.Calendar)
-own_fault texts t.Items earlier = rows_own (item_row limits.MOST_LEAD) (at_their_records.items limits.MOST_LEAD) (layout_of t.Items) (text_in texts t.Items)
-own_fault texts t.Centres earlier = rows_own centre_row at_their_records.centres (layout_of t.Centres) (text_in texts t.Centres)
+own_fault texts t.Items earlier =
+    let (table, is_table) = looked_at_first (calendar_table_in texts) _ earlier in
+    rw is_table (rows_own (reads_of t.Items (item_row (most_lead table.version))) (at_their_records.items (most_lead table.version)) (layout_of t.Items) (text_in texts t.Items))
+own_fault texts t.Centres earlier = rows_own (reads_of t.Centres centre_row) at_their_records.centres (layout_of t.Centres) (text_in texts t.Centres)
 own_fault texts t.Stock earlier =
-    let (calendar, is_calendar, items, is_items) = looked_at (calendar_in texts) (items_in texts) _ earlier in
-    items_own texts t.Stock stock_row items is_items (at_their_records.stock items)
+    let (table, is_table, items, is_items) = looked_at (calendar_table_in texts) (items_in texts) _ earlier in
+    items_own texts t.Stock (λ items. reads_of t.Stock (stock_row items)) items is_items (at_their_records.stock items)
 own_fault texts t.Receipts earlier =
-    let (calendar, is_calendar, items, is_items) = looked_at (calendar_in texts) (items_in texts) _ earlier in
-    counted_own t.Receipts receipts_that_count _ (dates_own texts t.Receipts receipt_row calendar items is_calendar is_items (at_their_records.receipts calendar items))
+    let (table, is_table, items, is_items) = looked_at (calendar_table_in texts) (items_in texts) _ earlier in
+    let calendar = table.calendar in
+    let is_calendar = calendar_of texts table is_table in
+    counted_own t.Receipts receipts_that_count _ (dates_own texts t.Receipts (λ calendar items. reads_of t.Receipts (receipt_row calendar items)) calendar items is_calendar is_items (at_their_records.receipts calendar items))
 own_fault texts t.Bills earlier =
-    let (calendar, is_calendar, items, is_items) = looked_at (calendar_in texts) (items_in texts) _ earlier in
-    items_own texts t.Bills (λ items. by_itself (bill_row items)) items is_items (at_their_records.bills items)
+    let (table, is_table, items, is_items) = looked_at (calendar_table_in texts) (items_in texts) _ earlier in
+    items_own texts t.Bills (λ items. reads_of t.Bills (by_itself (bill_row items))) items is_items (at_their_records.bills items)
 own_fault texts t.Routings earlier =
-    let (items, is_items, centres, is_centres) = looked_at_centres (calendar_in texts) (items_in texts) (centres_in texts) _ earlier in
-    centres_own texts t.Routings operation_row items centres is_items is_centres (at_their_records.routings items centres)
+    let (items, is_items, centres, is_centres) = looked_at_centres (calendar_table_in texts) (items_in texts) (centres_in texts) _ earlier in
+    centres_own texts t.Routings (λ items centres. reads_of t.Routings (operation_row items centres)) items centres is_items is_centres (at_their_records.routings items centres)
 own_fault texts t.Master earlier =
-    let (calendar, is_calendar, items, is_items) = looked_at (calendar_in texts) (items_in texts) _ earlier in
-    counted_own t.Master that_count _ (dates_own texts t.Master (λ calendar items. by_itself (master_row calendar items)) calendar items is_calendar is_items (at_their_records.master calendar items))
+    let (table, is_table, items, is_items) = looked_at (calendar_table_in texts) (items_in texts) _ earlier in
+    let calendar = table.calendar in
+    let is_calendar = calendar_of texts table is_table in
+    counted_own t.Master that_count _ (dates_own texts t.Master (λ calendar items. reads_of t.Master (by_itself (master_row calendar items))) calendar items is_calendar is_items (at_their_records.master calendar items))
 own_fault texts t.Script earlier =
-    let (calendar, is_calendar, items, is_items) = looked_at (calendar_in texts) (items_in texts) _ earlier in
-    dates_own texts t.Script (λ calendar items. by_itself (script_row calendar items)) calendar items is_calendar is_items (at_their_records.script calendar items)
+    let (table, is_table, items, is_items) = looked_at (calendar_table_in texts) (items_in texts) _ earlier in
+    let calendar = table.calendar in
+    let is_calendar = calendar_of texts table is_table in
+    dates_own texts t.Script (λ calendar items. reads_of t.Script (by_itself (script_row calendar items))) calendar items is_calendar is_items (at_their_records.script calendar items)
 own_fault texts t.Bundle earlier = tt
 
 at_own : {X : Type 0} (own : Table) (r : Result X Fault) (f : Fault) → IsOf own r → whole r ≡ Err f → f.table ≡ own

@@ -1,4 +1,4 @@
--- The calendar's table (profile): the start, the weeks, the workdays, and then holidays.
+-- The calendar's table (profile): the version, which may be left out, the start, the weeks, the workdays, and then holidays.
 use Rattle.std.specs.Prelude.{ℕ, ◌≡◌, ◌+◌, ◌==◌, ◌&&◌, ◌||◌, Bool, true, if◌then◌else◌, List, [], ◌∷◌, length, map, codes, Option, Some, None, Result, Ok, Err}
 use Rattle.std.specs.Int.{IsInRange}
 use Rattle.std.specs.List.{list_all}
@@ -12,19 +12,38 @@ use Rattle.mrp_rows.specs.declared.faults.TheConstants as faults
 use Rattle.mrp_rows.specs.declared.fault.Table.TheVariants as t
 use Rattle.mrp_rows.specs.Left.{Cells}
 use Rattle.mrp_rows.specs.Cell.{cell_at, fault_at, blame, number_cell, word_of, date_cell}
+use Rattle.mrp_tables.specs.declared.calendar.CalendarTable.{CalendarTable}
 use Rattle.mrp_tables.specs.declared.calendar.Entry.{Entry}
-use Rattle.mrp_tables.specs.declared.calendar.Entry.TheVariants.{Start, Weeks, Workdays, Holiday}
+use Rattle.mrp_tables.specs.declared.calendar.Entry.TheVariants.{OfVersion, Start, Weeks, Workdays, Holiday}
+use Rattle.mrp_tables.specs.declared.limits.TheConstants as limits
+use Rattle.mrp_tables.specs.declared.version.TheConstants.{MOST_VERSION}
+use Rattle.mrp_tables.specs.declared.version.Version.{Version}
+use Rattle.mrp_tables.specs.declared.version.Version.TheVariants.{One}
+use Rattle.mrp_tables.specs.Reading.{Reads}
+use Rattle.mrp_tables.specs.Versions.{version_of}
 
 -- the key of a record, or WORD
 abbrev pub keyed : List ℕ → Cells → Result ℕ Fault
 keyed key r = blame r (word_of (key ∷ []) (cell_at r 0))
 
 -- a date that is a Monday, or RANGE
-unfoldable pub start_cells : Cells → Result Date Fault
-start_cells r = do
-  _ ← keyed (codes "start") r
+unfoldable pub start_cell : Cells → Result Date Fault
+start_cell r = do
   date ← blame r (date_cell (cell_at r 1))
   if is_monday date then Ok date else Err (fault_at r faults.RANGE)
+
+abbrev pub start_cells : Cells → Result Date Fault
+start_cells r = keyed (codes "start") r >>= λ key. start_cell r
+
+-- the number of a version
+abbrev pub version_cell : Cells → Result Version Fault
+version_cell r = blame r (number_cell 1 MOST_VERSION (cell_at r 1)) >>= λ number. Ok (version_of number)
+
+-- what the first record says: the version, or the start
+unfoldable pub first_cells : Cells → Result Entry Fault
+first_cells r = do
+  key ← blame r (word_of (codes "version" ∷ codes "start" ∷ []) (cell_at r 0))
+  if key == 0 then (version_cell r >>= λ version. Ok (OfVersion version)) else (start_cell r >>= λ date. Ok (Start date))
 
 unfoldable pub weeks_cells : Cells → Result ℕ Fault
 weeks_cells r = do
@@ -53,16 +72,35 @@ holiday_cells r = do
   _ ← keyed (codes "holiday") r
   blame r (date_cell (cell_at r 1))
 
+-- what a record says behind the entries of those before it, the version aside
+abbrev pub dated_row : List Entry → Cells → Result Entry Fault
+dated_row [] r = start_cells r >>= λ date. Ok (Start date)
+dated_row (start ∷ []) r = weeks_cells r >>= λ weeks. Ok (Weeks weeks)
+dated_row (start ∷ weeks ∷ []) r = workdays_cells r >>= λ workdays. Ok (Workdays workdays)
+dated_row (start ∷ weeks ∷ workdays ∷ holidays) r = holiday_cells r >>= λ date. Ok (Holiday date)
+
+-- the entries behind a version, where one stands in front
+abbrev pub dated_of : List Entry → List Entry
+dated_of (OfVersion version ∷ entries) = entries
+dated_of entries = entries
+
 -- what a record says behind the entries of those before it
 abbrev pub entry_row : List Entry → Cells → Result Entry Fault
-entry_row [] r = start_cells r >>= λ date. Ok (Start date)
-entry_row (start ∷ []) r = weeks_cells r >>= λ weeks. Ok (Weeks weeks)
-entry_row (start ∷ weeks ∷ []) r = workdays_cells r >>= λ workdays. Ok (Workdays workdays)
-entry_row (start ∷ weeks ∷ workdays ∷ holidays) r = holiday_cells r >>= λ date. Ok (Holiday date)
+entry_row [] r = first_cells r
+entry_row (first ∷ entries) r = dated_row (dated_of (first ∷ entries)) r
+
+-- the most records: one more where a version stands in front
+abbrev pub calendar_limit : List Entry → Option ℕ
+calendar_limit (OfVersion version ∷ entries) = Some (limits.MOST_CALENDAR_RECORDS + 1)
+calendar_limit entries = Some limits.MOST_CALENDAR_RECORDS
+
+abbrev pub calendar_reads : Reads Entry
+calendar_reads = record { limit = calendar_limit; row = entry_row }
 
 -- the dates of the holidays among entries
 abbrev pub dates_of : List Entry → List Date
 dates_of [] = []
+dates_of (OfVersion version ∷ entries) = dates_of entries
 dates_of (Start date ∷ entries) = dates_of entries
 dates_of (Weeks weeks ∷ entries) = dates_of entries
 dates_of (Workdays workdays ∷ entries) = dates_of entries
@@ -72,21 +110,36 @@ dates_of (Holiday date ∷ entries) = date ∷ dates_of entries
 abbrev pub missing_record : ℕ → Fault
 missing_record number = record { code = faults.COLUMNS; table = t.Calendar; row = number }
 
--- the calendar that entries make; or the first record that is missing
-abbrev pub calendar_from : List Entry → Result ShopCalendar Fault
-calendar_from (Start start ∷ Weeks weeks ∷ Workdays workdays ∷ holidays) =
-    Ok (record { start = start; weeks = weeks; workdays = workdays; holidays = holidays_in start weeks (dates_of holidays) })
-calendar_from entries = Err (missing_record (length entries + 1))
+-- the version that stands in front, or the first
+abbrev pub version_among : List Entry → Version
+version_among (OfVersion version ∷ entries) = version
+version_among entries = One
+
+-- the calendar that the entries behind a version make, with it; or this record is missing
+abbrev pub dated_from : Version → ℕ → List Entry → Result CalendarTable Fault
+dated_from version missing (Start start ∷ Weeks weeks ∷ Workdays workdays ∷ holidays) =
+    Ok (record { version = version; calendar = record { start = start; weeks = weeks; workdays = workdays; holidays = holidays_in start weeks (dates_of holidays) } })
+dated_from version missing entries = Err (missing_record missing)
+
+-- what entries make, or the first record that is missing
+abbrev pub calendar_from : List Entry → Result CalendarTable Fault
+calendar_from entries = dated_from (version_among entries) (length entries + 1) (dated_of entries)
+
+-- the entries of what is kept of them, the version aside
+abbrev pub dated_entries : Option Date → Option ℕ → Option (List Bool) → List Date → List Entry
+dated_entries None weeks workdays holidays = []
+dated_entries (Some start) None workdays holidays = Start start ∷ []
+dated_entries (Some start) (Some weeks) None holidays = Start start ∷ Weeks weeks ∷ []
+dated_entries (Some start) (Some weeks) (Some workdays) holidays = Start start ∷ Weeks weeks ∷ Workdays workdays ∷ map Holiday holidays
 
 -- the entries of what is kept of them
-abbrev pub entries_of : Option Date → Option ℕ → Option (List Bool) → List Date → List Entry
-entries_of None weeks workdays holidays = []
-entries_of (Some start) None workdays holidays = Start start ∷ []
-entries_of (Some start) (Some weeks) None holidays = Start start ∷ Weeks weeks ∷ []
-entries_of (Some start) (Some weeks) (Some workdays) holidays = Start start ∷ Weeks weeks ∷ Workdays workdays ∷ map Holiday holidays
+abbrev pub entries_of : Option Version → Option Date → Option ℕ → Option (List Bool) → List Date → List Entry
+entries_of None start weeks workdays holidays = dated_entries start weeks workdays holidays
+entries_of (Some version) start weeks workdays holidays = OfVersion version ∷ dated_entries start weeks workdays holidays
 
 -- an entry within its limits
 abbrev pub IsEntry : Entry → Type 0
+IsEntry (OfVersion version) = Unit {0}
 IsEntry (Start date) = (is_monday date ≡ true) × IsPlanningYear date.year
 IsEntry (Weeks weeks) = IsInRange 1 MOST_WEEKS weeks
 IsEntry (Workdays workdays) = has_workday workdays ≡ true

@@ -3,10 +3,16 @@ use Rattle.std.specs.Prelude.{ℕ, List, []}
 use Rattle.mrp_cal.specs.Calendar.{ShopCalendar}
 use Rattle.mrp_tables.specs.declared.item.Item.{Item}
 use Rattle.mrp_tables.specs.declared.rows.Centre.{Centre}
+use Rattle.mrp_tables.specs.declared.version.Version.{Version}
 
 pub record Gathered (X : Type 0) : Type 0 where
   pub items : List Item
   pub rows : List X
+
+-- items so far, of a version
+pub record GatheredItems : Type 0 where
+  pub version : Version
+  pub rows : List Item
 
 -- rows with dates so far, beside the calendar and the items
 pub record GatheredByDate (X : Type 0) : Type 0 where

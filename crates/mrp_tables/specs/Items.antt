@@ -1,5 +1,5 @@
 -- The items (profile).
-use Rattle.std.specs.Prelude.{ℕ, ◌==◌, ◌&&◌, Bool, true, false, nat_lt, nat_eq, if◌then◌else◌, List, [], ◌∷◌, codes, map, position, slice_index_or, Option, Result, Ok, Err}
+use Rattle.std.specs.Prelude.{ℕ, ◌≡◌, ◌⊎◌, ◌==◌, ◌&&◌, Bool, true, false, nat_lt, nat_eq, if◌then◌else◌, List, [], ◌∷◌, ◌++◌, codes, map, position, slice_index_or, Option, Result, Ok, Err}
 use Rattle.std.specs.List.{list_any}
 use Rattle.std.specs.Cmp.Lexicographic.{pointwise}
 use Rattle.mrp_qty.specs.Reading.{◌>>=◌}
@@ -79,3 +79,8 @@ item_checked before r item =
 
 abbrev pub item_row : ℕ → List Item → Cells → Result Item Fault
 item_row most_lead before r = item_cells most_lead r >>= item_checked before r
+
+-- adding an item of a record: it is added where it is checked, or nothing is, for its fault or because memory was refused
+abbrev pub AddsItem : List Item → Item → Cells → Result (Unit {0}) Fault → List Item → Type 0
+AddsItem old item r (Ok u) new = (item_checked old r item ≡ Ok item) × (new ≡ old ++ (item ∷ []))
+AddsItem old item r (Err f) new = (new ≡ old) × (((item_checked old r item ≡ Ok item) × (f ≡ fault_at r faults.NO_MEMORY)) ⊎ (item_checked old r item ≡ Err f))

@@ -14,16 +14,15 @@ use Rattle.mrp_rows.specs.Tables.{table_index}
 use Rattle.mrp_tables.specs.declared.item.Item.{Item}
 use Rattle.mrp_tables.specs.declared.rows.Centre.{Centre}
 use Rattle.mrp_tables.specs.Bills.{bill_row}
-use Rattle.mrp_tables.specs.Calendar.{entry_row}
+use Rattle.mrp_tables.specs.Calendar.{calendar_reads}
 use Rattle.mrp_tables.specs.Centres.{centre_row}
 use Rattle.mrp_tables.specs.Items.{item_row}
 use Rattle.mrp_tables.specs.Master.{master_row}
 use Rattle.mrp_tables.specs.Readers.{IsRefusedAt, table_in}
-use Rattle.mrp_tables.specs.Reading.{Reads, admitted, by_itself, is_past, rows_of}
+use Rattle.mrp_tables.specs.Reading.{Reads, admitted, by_itself, is_past, reads_of, rows_of}
 use Rattle.mrp_tables.specs.Receipts.{receipt_row}
 use Rattle.mrp_tables.specs.Routings.{operation_row}
 use Rattle.mrp_tables.specs.Script.{script_row}
-use Rattle.mrp_tables.specs.Limits.{record_limit}
 use Rattle.mrp_tables.specs.Stock.{stock_row}
 use Rattle.mrp_tables.specs.Tables.{AreTables, Tables, tables_in}
 
@@ -37,7 +36,7 @@ record_at own records place = record { table = own.table; number = number_at pla
 
 -- what a record reads as after these rows: its count of cells comes before what the cells say
 abbrev pub read_one : {X : Type 0} → Reads X → Layout → List X → Cells → Result X Fault
-read_one read own before r = admitted own r >>= read before
+read_one read own before r = admitted (read.limit before) own r >>= read.row before
 
 -- rows are records read one by one: there are as many, and each is what its record reads as after the rows before it
 pub record AreReadFrom {X : Type 0} (read : Reads X) (own : Layout) (records : List (List (List ℕ))) (rows : List X) : Type 0 where
@@ -64,9 +63,9 @@ pub record IsReadInTurn {X : Type 0} (read : Reads X) (own : Layout) (text : Lis
 
 -- a record past its table's limit is refused for that, whatever its cells; one within it that has not a cell for each column, for that; all others are read
 pub record IsAdmittedFirst {X : Type 0} (read : Reads X) (own : Layout) (before : List X) (r : Cells) : Type 0 where
-  pub past : is_past (record_limit r.table) r.number ≡ true → read_one read own before r ≡ Err (fault_at r faults.TOO_MANY)
-  pub wide : is_past (record_limit r.table) r.number ≡ false → length r.cells ≢ width own → read_one read own before r ≡ Err (fault_at r faults.COLUMNS)
-  pub admitted : is_past (record_limit r.table) r.number ≡ false → length r.cells ≡ width own → read_one read own before r ≡ read before r
+  pub past : is_past (read.limit before) r.number ≡ true → read_one read own before r ≡ Err (fault_at r faults.TOO_MANY)
+  pub wide : is_past (read.limit before) r.number ≡ false → length r.cells ≢ width own → read_one read own before r ≡ Err (fault_at r faults.COLUMNS)
+  pub admitted : is_past (read.limit before) r.number ≡ false → length r.cells ≡ width own → read_one read own before r ≡ read.row before r
 
 -- a fault stands at a record
 pub record IsAt (r : Cells) (f : Fault) : Type 0 where
@@ -79,15 +78,15 @@ FaultsAtItsRecord {X} read = (own : Layout) (before : List X) (r : Cells) → If
 
 -- each table's faults stand at their records
 pub record FaultsAtTheirRecords : Type 0 where
-  pub calendar : FaultsAtItsRecord entry_row
-  pub items : (most_lead : ℕ) → FaultsAtItsRecord (item_row most_lead)
-  pub centres : FaultsAtItsRecord centre_row
-  pub stock : (items : List Item) → FaultsAtItsRecord (stock_row items)
-  pub receipts : (calendar : ShopCalendar) (items : List Item) → FaultsAtItsRecord (receipt_row calendar items)
-  pub bills : (items : List Item) → FaultsAtItsRecord (by_itself (bill_row items))
-  pub routings : (items : List Item) (centres : List Centre) → FaultsAtItsRecord (operation_row items centres)
-  pub master : (calendar : ShopCalendar) (items : List Item) → FaultsAtItsRecord (by_itself (master_row calendar items))
-  pub script : (calendar : ShopCalendar) (items : List Item) → FaultsAtItsRecord (by_itself (script_row calendar items))
+  pub calendar : FaultsAtItsRecord calendar_reads
+  pub items : (most_lead : ℕ) → FaultsAtItsRecord (reads_of t.Items (item_row most_lead))
+  pub centres : FaultsAtItsRecord (reads_of t.Centres centre_row)
+  pub stock : (items : List Item) → FaultsAtItsRecord (reads_of t.Stock (stock_row items))
+  pub receipts : (calendar : ShopCalendar) (items : List Item) → FaultsAtItsRecord (reads_of t.Receipts (receipt_row calendar items))
+  pub bills : (items : List Item) → FaultsAtItsRecord (reads_of t.Bills (by_itself (bill_row items)))
+  pub routings : (items : List Item) (centres : List Centre) → FaultsAtItsRecord (reads_of t.Routings (operation_row items centres))
+  pub master : (calendar : ShopCalendar) (items : List Item) → FaultsAtItsRecord (reads_of t.Master (by_itself (master_row calendar items)))
+  pub script : (calendar : ShopCalendar) (items : List Item) → FaultsAtItsRecord (reads_of t.Script (by_itself (script_row calendar items)))
 
 -- that a table is read whole, or its fault
 abbrev pub whole : {X : Type 0} → Result X Fault → Result (Unit {0}) Fault
@@ -100,7 +99,7 @@ reading_of texts own = whole (table_in texts own)
 
 -- each table of a bundle is what its own text reads as, beside the tables that it looks at
 pub record AreOfTheirTexts (texts : List (List ℕ)) (tables : Tables) : Type 0 where
-  pub calendar : table_in texts t.Calendar ≡ Ok tables.calendar
+  pub calendar : table_in texts t.Calendar ≡ Ok (record { version = tables.version; calendar = tables.calendar })
   pub items : table_in texts t.Items ≡ Ok tables.items
   pub centres : table_in texts t.Centres ≡ Ok tables.centres
   pub stock : table_in texts t.Stock ≡ Ok tables.stock

@@ -15,3 +15,4 @@ pub mod Routings
 pub mod Script
 pub mod Stock
 pub mod Tables
+pub mod Versions

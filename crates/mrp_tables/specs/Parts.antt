@@ -15,7 +15,7 @@ IsBundleRefusal texts f = IsMemoryRefusal texts f ⊎ (tables_in texts ≡ Err f
 
 -- these are the bundle's first tables
 pub record AreFirst (texts : List (List ℕ)) (first : FirstTables) : Type 0 where
-  pub calendar : table_in texts t.Calendar ≡ Ok first.calendar
+  pub calendar : table_in texts t.Calendar ≡ Ok (record { version = first.version; calendar = first.calendar })
   pub items : table_in texts t.Items ≡ Ok first.items
   pub centres : table_in texts t.Centres ≡ Ok first.centres
 
@@ -49,6 +49,7 @@ GivesMasterAndScript texts (Err f) = AreWholeBefore texts t.Master → IsBundleR
 -- the tables of three parts
 abbrev pub tables_from : FirstTables → StockToRoutings → MasterAndScript → Tables
 tables_from first rows last = record {
+  version = first.version;
   calendar = first.calendar;
   items = first.items;
   centres = first.centres;

@@ -8,20 +8,22 @@ use Rattle.mrp_rows.specs.declared.fault.Fault.{Fault}
 use Rattle.mrp_rows.specs.declared.fault.Table.{Table}
 use Rattle.mrp_rows.specs.declared.fault.Table.TheVariants as t
 use Rattle.mrp_rows.specs.Next.{header_fault}
+use Rattle.mrp_tables.specs.declared.calendar.CalendarTable.{CalendarTable}
 use Rattle.mrp_tables.specs.declared.calendar.Entry.{Entry}
-use Rattle.mrp_tables.specs.declared.limits.TheConstants as limits
 use Rattle.mrp_tables.specs.declared.item.Item.{Item}
 use Rattle.mrp_tables.specs.declared.rows.Centre.{Centre}
+use Rattle.mrp_tables.specs.declared.version.Version.{Version}
 use Rattle.mrp_tables.specs.Bills.{bill_row}
-use Rattle.mrp_tables.specs.Calendar.{calendar_from, entry_row}
+use Rattle.mrp_tables.specs.Calendar.{calendar_from, calendar_reads}
 use Rattle.mrp_tables.specs.Centres.{centre_row}
 use Rattle.mrp_tables.specs.Items.{item_row}
 use Rattle.mrp_tables.specs.Master.{master_row, that_count}
-use Rattle.mrp_tables.specs.Reading.{Gives, IsRefusedIn, Reads, by_itself, rows_of}
+use Rattle.mrp_tables.specs.Reading.{Gives, IsRefusedIn, Reads, by_itself, reads_of, rows_of}
 use Rattle.mrp_tables.specs.Receipts.{receipt_row, receipts_that_count}
 use Rattle.mrp_tables.specs.Routings.{operation_row}
 use Rattle.mrp_tables.specs.Script.{script_row}
 use Rattle.mrp_tables.specs.Stock.{stock_row}
+use Rattle.mrp_tables.specs.Versions.{most_lead}
 
 -- a table's reader: how its records are read, beside the tables that it looks at, and what is made of their rows
 pub record Reader : Type 1 where
@@ -42,21 +44,27 @@ rows_by {X} reads = record { Row = X; Whole = List X; reads = reads; made = λ r
 abbrev pub rows_that : {X : Type 0} → (List X → List X) → Result (Reads X) Fault → Reader
 rows_that {X} count reads = record { Row = X; Whole = List X; reads = reads; made = λ read. read >>= λ rows. Ok (count rows) }
 
--- the calendar, the items and the centres look at no table
+-- the calendar and the centres look at no table, the items at the version that the calendar's table has
 abbrev pub calendar_reader : Reader
-calendar_reader = record { Row = Entry; Whole = ShopCalendar; reads = Ok entry_row; made = λ read. read >>= calendar_from }
+calendar_reader = record { Row = Entry; Whole = CalendarTable; reads = Ok calendar_reads; made = λ read. read >>= calendar_from }
 
-abbrev pub items_reader : Reader
-items_reader = rows_by (Ok (item_row limits.MOST_LEAD))
+abbrev pub calendar_table_in : List (List ℕ) → Result CalendarTable Fault
+calendar_table_in texts = read_by calendar_reader (layout_of t.Calendar) (text_in texts t.Calendar)
 
-abbrev pub centres_reader : Reader
-centres_reader = rows_by (Ok centre_row)
+abbrev pub version_in : List (List ℕ) → Result Version Fault
+version_in texts = calendar_table_in texts >>= λ table. Ok table.version
 
 abbrev pub calendar_in : List (List ℕ) → Result ShopCalendar Fault
-calendar_in texts = read_by calendar_reader (layout_of t.Calendar) (text_in texts t.Calendar)
+calendar_in texts = calendar_table_in texts >>= λ table. Ok table.calendar
+
+abbrev pub items_reader : List (List ℕ) → Reader
+items_reader texts = rows_by (version_in texts >>= λ version. Ok (reads_of t.Items (item_row (most_lead version))))
 
 abbrev pub items_in : List (List ℕ) → Result (List Item) Fault
-items_in texts = read_by items_reader (layout_of t.Items) (text_in texts t.Items)
+items_in texts = read_by (items_reader texts) (layout_of t.Items) (text_in texts t.Items)
+
+abbrev pub centres_reader : Reader
+centres_reader = rows_by (Ok (reads_of t.Centres centre_row))
 
 abbrev pub centres_in : List (List ℕ) → Result (List Centre) Fault
 centres_in texts = read_by centres_reader (layout_of t.Centres) (text_in texts t.Centres)
@@ -74,14 +82,14 @@ by_centres texts reads = items_in texts >>= λ items. centres_in texts >>= λ ce
 -- each table's reader; the bundle itself has no records, and nothing in it is refused
 abbrev pub reader_of : List (List ℕ) → Table → Reader
 reader_of texts t.Calendar = calendar_reader
-reader_of texts t.Items = items_reader
+reader_of texts t.Items = items_reader texts
 reader_of texts t.Centres = centres_reader
-reader_of texts t.Stock = rows_by (by_items texts stock_row)
-reader_of texts t.Receipts = rows_that receipts_that_count (by_dates texts receipt_row)
-reader_of texts t.Bills = rows_by (by_items texts (λ items. by_itself (bill_row items)))
-reader_of texts t.Routings = rows_by (by_centres texts operation_row)
-reader_of texts t.Master = rows_that that_count (by_dates texts (λ calendar items. by_itself (master_row calendar items)))
-reader_of texts t.Script = rows_by (by_dates texts (λ calendar items. by_itself (script_row calendar items)))
+reader_of texts t.Stock = rows_by (by_items texts (λ items. reads_of t.Stock (stock_row items)))
+reader_of texts t.Receipts = rows_that receipts_that_count (by_dates texts (λ calendar items. reads_of t.Receipts (receipt_row calendar items)))
+reader_of texts t.Bills = rows_by (by_items texts (λ items. reads_of t.Bills (by_itself (bill_row items))))
+reader_of texts t.Routings = rows_by (by_centres texts (λ items centres. reads_of t.Routings (operation_row items centres)))
+reader_of texts t.Master = rows_that that_count (by_dates texts (λ calendar items. reads_of t.Master (by_itself (master_row calendar items))))
+reader_of texts t.Script = rows_by (by_dates texts (λ calendar items. reads_of t.Script (by_itself (script_row calendar items))))
 reader_of texts t.Bundle = record { Row = ⊥; Whole = Unit {0}; reads = Err (header_fault t.Bundle); made = λ read. Ok tt }
 
 -- what a table's own text reads as

@@ -7,6 +7,7 @@ use Rattle.mrp_rows.specs.declared.fault.Fault.{Fault}
 use Rattle.mrp_rows.specs.declared.fault.Table.TheVariants as t
 use Rattle.mrp_tables.specs.declared.limits.TheConstants as limits
 use Rattle.mrp_tables.specs.declared.item.Item.{Item}
+use Rattle.mrp_tables.specs.declared.version.Version.{Version}
 use Rattle.mrp_tables.specs.declared.rows.Centre.{Centre}
 use Rattle.mrp_tables.specs.declared.rows.StockRow.{StockRow}
 use Rattle.mrp_tables.specs.declared.rows.Receipt.{Receipt}
@@ -21,9 +22,11 @@ use Rattle.mrp_tables.specs.Readers.{table_in}
 use Rattle.mrp_tables.specs.Receipts.{orders_of}
 use Rattle.mrp_tables.specs.Routings.{operations_of}
 use Rattle.mrp_tables.specs.Stock.{items_in_stock}
+use Rattle.mrp_tables.specs.Versions.{most_lead}
 
 -- the tables, each as its rows in table order
 pub record Tables : Type 0 where
+  pub version : Version
   pub calendar : ShopCalendar
   pub items : List Item
   pub centres : List Centre
@@ -34,9 +37,10 @@ pub record Tables : Type 0 where
   pub master : List MasterRow
   pub script : List ScriptRow
 
--- what accepted tables keep: rows within their limits, of items and centres that are there and weeks of the horizon; open receipts whose records' numbers rise; names that differ, items that stand in the stock at most once, and orders and operations of an item that stand in the receipts and in the routings at most once; no more rows than the limits
+-- what accepted tables keep: rows within their limits, lead times within those of their version, of items and centres that are there and weeks of the horizon; open receipts whose records' numbers rise; names that differ, items that stand in the stock at most once, and orders and operations of an item that stand in the receipts and in the routings at most once; no more rows than the limits
 pub record AreTables (t : Tables) : Type 0 where
   pub items : All IsItem t.items
+  pub leads : All (λ item. item.lead ≤ most_lead t.version) t.items
   pub names : AllDiffer (names_of t.items)
   pub item_count : length t.items ≤ limits.MOST_ITEMS
   pub centres : All IsCentre t.centres
@@ -61,7 +65,7 @@ pub record AreTables (t : Tables) : Type 0 where
 -- the tables of the sections' texts, in the order of their faults
 unfoldable pub tables_in : List (List ℕ) → Result Tables Fault
 tables_in texts = do
-  calendar ← table_in texts t.Calendar
+  dated ← table_in texts t.Calendar
   items ← table_in texts t.Items
   centres ← table_in texts t.Centres
   stock ← table_in texts t.Stock
@@ -71,7 +75,8 @@ tables_in texts = do
   master ← table_in texts t.Master
   script ← table_in texts t.Script
   Ok (record {
-    calendar = calendar;
+    version = dated.version;
+    calendar = dated.calendar;
     items = items;
     centres = centres;
     stock = stock;

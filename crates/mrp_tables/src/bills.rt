@@ -5,7 +5,7 @@ ghost use Rattle.mrp_tables.specs.Bills.{bill_row};
 ghost use Rattle.mrp_tables.specs.Facts.{IsBillLine};
 
 use crate::items::Items;
-use crate::limits::MOST_PER;
+use crate::limits::{MOST_PER, most_records};
 use crate::reading::{TableRows, read_table};
 use crate::rows::BillLine;
 use mrp_rows::faults::{MASTER_COMPONENT, NO_MEMORY, UNKNOWN_ITEM};
@@ -39,15 +39,20 @@ impl<'a> TableRows for Bills<'a> {
 
     ghost use Rattle.std.specs.Prelude.{◌≡◌, []};
     ghost use Rattle.mrp_tables.specs.Bills.{bill_row};
-    ghost use Rattle.mrp_tables.specs.Reading.{by_itself};
+    ghost use Rattle.mrp_rows.specs.declared.fault.Table.TheVariants as own;
+    ghost use Rattle.mrp_tables.specs.Reading.{by_itself, reads_of};
 
     ghost takes = { λ count. count ≡ 3 };
 
     ghost rows = { λ t. t.rows };
 
-    ghost reads = { λ t. by_itself (bill_row t.items) };
+    ghost reads = { λ t. reads_of own.Bills (by_itself (bill_row t.items)) };
 
     ghost beside = { λ t. record { items = t.items; centres = []; weeks = 0 } };
+
+    fn most_records(&self) -> Option<u32> {
+        most_records(Table::Bills)
+    }
 
     fn add(&mut self, row: &Row) -> Result<(), Fault> {
         let line = bill_line(row, self.items)?;

@@ -6,9 +6,11 @@ ghost use Rattle.std.specs.List.{list_all};
 ghost use Rattle.mrp_cal.specs.Calendar.{has_workday, is_monday};
 ghost use Rattle.mrp_cal.specs.DateText.{IsPlanningYear};
 ghost use Rattle.mrp_rows.specs.Cell.{blame, cell_at};
-ghost use Rattle.mrp_tables.specs.Calendar.{are_flags, flags_of, holiday_cells, missing_record, start_cells, weeks_cells, workdays_cells};
+ghost use Rattle.mrp_tables.specs.Calendar.{IsEntry, are_flags, first_cells, flags_of, holiday_cells, missing_record, start_cell, start_cells, version_cell, weeks_cells, workdays_cells};
 
+use crate::limits::MOST_CALENDAR_RECORDS;
 use crate::reading::{TableRows, read_table};
+use crate::version::{MOST_VERSION, Version};
 use jiff::civil::{Date, Weekday};
 use mrp_cal::{Calendar, MOST_WEEKS};
 use mrp_rows::faults::{COLUMNS, NO_MEMORY, RANGE, WORD};
@@ -19,6 +21,8 @@ use std::marker::Model;
 /// What a record of the calendar's table says.
 #[derive(Clone, Copy)]
 pub(crate) enum Entry {
+    /// Which version the bundle has.
+    OfVersion(Version),
     /// The day on which the horizon begins, a Monday.
     Start(Date),
     /// The weeks of the horizon.
@@ -29,9 +33,18 @@ pub(crate) enum Entry {
     Holiday(Date),
 }
 
-/// The entries so far: the start, the weeks, the workdays, and then holidays.
+/// What the table says.
+#[derive(Drop)]
+pub(crate) struct CalendarTable {
+    pub(crate) version: Version,
+    pub(crate) calendar: Calendar,
+}
+
+/// The entries so far: a version, which may be left out, the start, the weeks, the workdays, and then
+/// holidays.
 #[derive(Drop)]
 pub(crate) struct Entries {
+    version: Option<Version>,
     start: Option<Date>,
     weeks: Option<u64>,
     workdays: Option<[bool; 7]>,
@@ -45,7 +58,7 @@ impl Model for Entries {
 
     ghost Value = { List Entry };
 
-    ghost view = { λ t. entries_of t.start t.weeks t.workdays t.holidays.items };
+    ghost view = { λ t. entries_of t.version t.start t.weeks t.workdays t.holidays.items };
 
     ghost invariant = { λ t. AreKept t.start t.weeks t.workdays t.holidays.items };
 }
@@ -54,19 +67,27 @@ impl TableRows for Entries {
     type Line = Entry;
 
     ghost use Rattle.std.specs.Prelude.{◌≡◌};
-    ghost use Rattle.mrp_tables.specs.Calendar.{entry_row};
+    ghost use Rattle.mrp_tables.specs.Calendar.{calendar_reads};
     ghost use Rattle.mrp_tables.specs.Gathered.{nothing};
 
     ghost takes = { λ count. count ≡ 2 };
 
     ghost rows = { λ t. t };
 
-    ghost reads = { λ t. entry_row };
+    ghost reads = { λ t. calendar_reads };
 
     ghost beside = { λ t. nothing };
 
+    fn most_records(&self) -> Option<u32> {
+        match self.version {
+            Some(_) => Some(MOST_CALENDAR_RECORDS + 1),
+            None => Some(MOST_CALENDAR_RECORDS),
+        }
+    }
+
     fn add(&mut self, row: &Row) -> Result<(), Fault> {
         match self.entry(row)? {
+            Entry::OfVersion(version) => self.version = Some(version),
             Entry::Start(date) => self.start = Some(date),
             Entry::Weeks(weeks) => self.weeks = Some(weeks),
             Entry::Workdays(workdays) => self.workdays = Some(workdays),
@@ -81,20 +102,21 @@ impl TableRows for Entries {
 }
 
 impl Entries {
-    ghost use Rattle.std.specs.Prelude.{◌≡◌, [], length, IfOk};
-    ghost use Rattle.mrp_tables.specs.Calendar.{IsEntry, calendar_from, entry_row};
+    ghost use Rattle.std.specs.Prelude.{◌≡◌, ◌≤◌, ◌+◌, [], length, IfOk};
+    ghost use Rattle.mrp_tables.specs.Calendar.{IsEntry, calendar_from, dated_of, entry_row, version_among};
     ghost use Rattle.mrp_tables.specs.Readers.{GivesTable};
 
-    pub(crate) fn read(alloc: Global, sections: &Sections<'_>) -> Result<Calendar, Fault>
-        ensures { GivesTable sections.now Table.Calendar result (λ calendar. calendar) }
+    pub(crate) fn read(alloc: Global, sections: &Sections<'_>) -> Result<CalendarTable, Fault>
+        ensures { GivesTable sections.now Table.Calendar result (λ table. table) }
     {
-        read_table(alloc, sections, Table::Calendar, Entries::new(alloc))?.into_calendar()
+        read_table(alloc, sections, Table::Calendar, Entries::new(alloc))?.into_table()
     }
 
     fn new(alloc: Global) -> Entries
         ensures { result ≡ [] }
     {
         Entries {
+            version: None,
             start: None,
             weeks: None,
             workdays: None,
@@ -109,7 +131,7 @@ impl Entries {
         ensures within { IfOk result IsEntry }
     {
         if self.start.is_none() {
-            Ok(Entry::Start(start_of(row)?))
+            self.first_entry(row)
         } else if self.weeks.is_none() {
             Ok(Entry::Weeks(weeks_of(row)?))
         } else if self.workdays.is_none() {
@@ -119,22 +141,59 @@ impl Entries {
         }
     }
 
-    // The calendar of the entries.
+    // What the first record says, or the first behind a version.
+    fn first_entry(&self, row: &Row) -> Result<Entry, Fault>
+        requires cells { length row.now.cells ≡ 2 }
+        requires none { dated_of self.now ≡ [] }
+        ensures cells { result ≡ entry_row self.now row.now }
+        ensures within { IfOk result IsEntry }
+    {
+        if self.version.is_some() {
+            Ok(Entry::Start(start_of(row)?))
+        } else {
+            first_of(row)
+        }
+    }
+
+    // The version that stands in front, or the first.
+    fn version_among(&self) -> Version
+        ensures { result ≡ version_among self.now }
+    {
+        match self.version {
+            Some(version) => version,
+            None => Version::One,
+        }
+    }
+
+    // How many records stand in front of the start.
+    fn before(&self) -> u32
+        ensures count { result + length (dated_of self.now) ≡ length self.now }
+        ensures few { result ≤ 1 }
+    {
+        match self.version {
+            Some(_) => 1,
+            None => 0,
+        }
+    }
+
+    // What the entries make.
     #[tactic(auto, unfolding(mrp_cal::specs::Calendar::calendar_of))]
-    fn into_calendar(self) -> Result<Calendar, Fault>
+    fn into_table(self) -> Result<CalendarTable, Fault>
         ensures { result ≡ calendar_from self }
     {
+        let version = self.version_among();
+        let before = self.before();
         let Some(start) = self.start else {
-            return Err(missing_record(1));
+            return Err(missing_record(before + 1));
         };
         let Some(weeks) = self.weeks else {
-            return Err(missing_record(2));
+            return Err(missing_record(before + 2));
         };
         let Some(workdays) = self.workdays else {
-            return Err(missing_record(3));
+            return Err(missing_record(before + 3));
         };
         match Calendar::new(start, weeks, workdays, self.holidays.as_slice()) {
-            Ok(calendar) => Ok(calendar),
+            Ok(calendar) => Ok(CalendarTable { version, calendar }),
             Err(_) => unreachable!(),
         }
     }
@@ -150,7 +209,29 @@ fn missing_record(number: u32) -> Fault
     }
 }
 
-#[tactic(auto, unfolding(crate::specs::Calendar::start_cells))]
+// The version or the start.
+#[tactic(auto, unfolding(crate::specs::Calendar::first_cells))]
+fn first_of(row: &Row) -> Result<Entry, Fault>
+    requires { length row.now.cells ≡ 2 }
+    ensures cells { result ≡ first_cells row.now }
+    ensures within { IfOk result IsEntry }
+{
+    let key = row.word(0, &["version", "start"])?;
+    if key == 0 {
+        Ok(Entry::OfVersion(version_in(row)?))
+    } else {
+        Ok(Entry::Start(start_date(row)?))
+    }
+}
+
+fn version_in(row: &Row) -> Result<Version, Fault>
+    requires { length row.now.cells ≡ 2 }
+    ensures { result ≡ version_cell row.now }
+{
+    let number = row.number(1, 1, MOST_VERSION)?;
+    Ok(Version::of(number))
+}
+
 fn start_of(row: &Row) -> Result<Date, Fault>
     requires { length row.now.cells ≡ 2 }
     ensures start { result ≡ start_cells row.now }
@@ -158,6 +239,16 @@ fn start_of(row: &Row) -> Result<Date, Fault>
     ensures year { IfOk result (λ d. IsPlanningYear d.year) }
 {
     row.word(0, &["start"])?;
+    start_date(row)
+}
+
+#[tactic(auto, unfolding(crate::specs::Calendar::start_cell))]
+fn start_date(row: &Row) -> Result<Date, Fault>
+    requires { length row.now.cells ≡ 2 }
+    ensures start { result ≡ start_cell row.now }
+    ensures monday { IfOk result (λ d. is_monday d ≡ true) }
+    ensures year { IfOk result (λ d. IsPlanningYear d.year) }
+{
     let date = row.date(1)?;
     if date.weekday() == Weekday::Monday {
         Ok(date)

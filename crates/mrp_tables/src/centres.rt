@@ -4,7 +4,7 @@ ghost use Rattle.std.specs.Prelude.{◌≡◌, length, IfOk};
 ghost use Rattle.mrp_tables.specs.Centres.{centre_cells};
 ghost use Rattle.mrp_tables.specs.Facts.{IsCentre};
 
-use crate::limits::MOST_MINUTES;
+use crate::limits::{MOST_MINUTES, most_records};
 use crate::reading::{TableRows, read_table};
 use crate::rows::Centre;
 use indexmap::IndexSet;
@@ -42,15 +42,21 @@ impl TableRows for Centres {
 
     ghost use Rattle.mrp_tables.specs.Gathered.{nothing};
     ghost use Rattle.std.specs.Prelude.{◌≡◌};
+    ghost use Rattle.mrp_rows.specs.declared.fault.Table.TheVariants as own;
+    ghost use Rattle.mrp_tables.specs.Reading.{reads_of};
     ghost use Rattle.mrp_tables.specs.Centres.{centre_row};
 
     ghost takes = { λ count. count ≡ 2 };
 
     ghost rows = { λ t. t };
 
-    ghost reads = { λ t. centre_row };
+    ghost reads = { λ t. reads_of own.Centres (centre_row) };
 
     ghost beside = { λ t. nothing };
+
+    fn most_records(&self) -> Option<u32> {
+        most_records(Table::Centres)
+    }
 
     fn add(&mut self, row: &Row) -> Result<(), Fault> {
         let centre = centre_cells(row)?;

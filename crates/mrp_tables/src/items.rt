@@ -4,8 +4,9 @@ ghost use Rattle.std.specs.Prelude.{◌≡◌, ◌&&◌, nat_lt};
 ghost use Rattle.mrp_tables.specs.Items.{is_master};
 
 use crate::item::{Class, Item};
-use crate::limits::MOST_LEAD;
+use crate::limits::most_records;
 use crate::reading::{TableRows, read_table};
+use crate::version::Version;
 use indexmap::IndexSet;
 use mrp_rows::faults::{MASTER_SAFETY, NO_MEMORY, REPEATED};
 use mrp_rows::{Fault, Name, Row, Sections, Table};
@@ -36,24 +37,109 @@ impl Model for Items {
     } };
 }
 
-impl TableRows for Items {
+/// The items so far, with how long lead times may be.
+#[derive(Drop)]
+struct ItemRows {
+    version: Version,
+    items: Items,
+}
+
+impl Model for ItemRows {
+    ghost use Rattle.std.specs.Prelude.{◌≤◌, All};
+    ghost use Rattle.mrp_tables.specs.Gathered.{GatheredItems};
+    ghost use Rattle.mrp_tables.specs.Versions.{most_lead};
+
+    ghost Value = { GatheredItems };
+
+    ghost view = { λ t. record { version = t.version; rows = t.items } };
+
+    ghost invariant = { λ t. All (λ item. item.lead ≤ most_lead t.version) t.items };
+}
+
+impl TableRows for ItemRows {
     type Line = Item;
 
     ghost use Rattle.mrp_tables.specs.Gathered.{nothing};
     ghost use Rattle.std.specs.Prelude.{◌≡◌};
     ghost use Rattle.mrp_tables.specs.Items.{item_row};
-    ghost use Rattle.mrp_tables.specs.declared.limits.TheConstants.{MOST_LEAD};
+    ghost use Rattle.mrp_rows.specs.declared.fault.Table.TheVariants as own;
+    ghost use Rattle.mrp_tables.specs.Reading.{reads_of};
+    ghost use Rattle.mrp_tables.specs.Versions.{most_lead};
 
     ghost takes = { λ count. count ≡ 7 };
 
-    ghost rows = { λ t. t };
+    ghost rows = { λ t. t.rows };
 
-    ghost reads = { λ t. item_row MOST_LEAD };
+    ghost reads = { λ t. reads_of own.Items (item_row (most_lead t.version)) };
 
     ghost beside = { λ t. nothing };
 
+    fn most_records(&self) -> Option<u32> {
+        most_records(Table::Items)
+    }
+
     fn add(&mut self, row: &Row) -> Result<(), Fault> {
-        let item = Item::of(row, MOST_LEAD)?;
+        let item = Item::of(row, self.version.most_lead())?;
+        self.items.add(row, item)
+    }
+}
+
+// A master item with safety stock.
+fn is_stocked_master(item: &Item) -> bool
+    ensures { result ≡ (is_master item.now.class && nat_lt 0 item.now.safety) }
+{
+    item.class.is_master() && item.safety.value() > 0
+}
+
+impl ItemRows {
+    ghost use Rattle.std.specs.Prelude.{◌≡◌, ◌≤◌, [], All};
+    ghost use Rattle.mrp_tables.specs.Versions.{most_lead};
+
+    fn new(alloc: Global, version: Version) -> ItemRows
+        ensures { result ≡ record { version = version; rows = [] } }
+    {
+        ItemRows {
+            version,
+            items: Items::new(alloc),
+        }
+    }
+
+    fn into_items(self) -> Items
+        ensures rows { result ≡ self.rows }
+        ensures leads { All (λ item. item.lead ≤ most_lead self.version) result }
+    {
+        self.items
+    }
+}
+
+impl Items {
+    ghost use Rattle.std.specs.Prelude.{◌≡◌, ◌<◌, ◌≤◌, [], length, All, IfOk, IfSome, Ok};
+    ghost use Rattle.mrp_tables.specs.declared.limits.TheConstants.{MOST_ITEMS};
+    ghost use Rattle.mrp_tables.specs.Facts.{AllDiffer, IsItem, IsItemUnlessStocked};
+    ghost use Rattle.mrp_tables.specs.Items.{AddsItem, is_master_at, item_at, names_of, place_of};
+    ghost use Rattle.mrp_tables.specs.Readers.{GivesTable, version_in};
+    ghost use Rattle.mrp_tables.specs.Versions.{most_lead};
+
+    // The items of a bundle of a version.
+    pub(crate) fn read(
+        alloc: Global,
+        sections: &Sections<'_>,
+        version: Version,
+    ) -> Result<Items, Fault>
+        requires { version_in sections.now ≡ Ok version }
+        ensures table { GivesTable sections.now Table.Items result (λ items. items) }
+        ensures count { IfOk result (λ items. length items ≤ MOST_ITEMS) }
+        ensures leads { IfOk result (λ items. All (λ item. item.lead ≤ most_lead version) items) }
+    {
+        let rows = read_table(alloc, sections, Table::Items, ItemRows::new(alloc, version))?;
+        Ok(rows.into_items())
+    }
+
+    // Adds an item, which a record has.
+    fn add(&mut self, row: &Row, item: Item) -> Result<(), Fault>
+        requires { IsItemUnlessStocked item }
+        ensures { AddsItem self.old item row.now result self.new }
+    {
         if self.names.contains(&item.name) {
             return Err(row.fault(REPEATED));
         }
@@ -68,28 +154,6 @@ impl TableRows for Items {
             return Err(row.fault(NO_MEMORY));
         }
         Ok(())
-    }
-}
-
-// A master item with safety stock.
-fn is_stocked_master(item: &Item) -> bool
-    ensures { result ≡ (is_master item.now.class && nat_lt 0 item.now.safety) }
-{
-    item.class.is_master() && item.safety.value() > 0
-}
-
-impl Items {
-    ghost use Rattle.std.specs.Prelude.{◌≡◌, ◌<◌, ◌≤◌, [], length, All, IfOk, IfSome};
-    ghost use Rattle.mrp_tables.specs.declared.limits.TheConstants.{MOST_ITEMS};
-    ghost use Rattle.mrp_tables.specs.Facts.{AllDiffer, IsItem};
-    ghost use Rattle.mrp_tables.specs.Items.{is_master_at, item_at, names_of, place_of};
-    ghost use Rattle.mrp_tables.specs.Readers.{GivesTable};
-
-    pub(crate) fn read(alloc: Global, sections: &Sections<'_>) -> Result<Items, Fault>
-        ensures table { GivesTable sections.now Table.Items result (λ items. items) }
-        ensures count { IfOk result (λ items. length items ≤ MOST_ITEMS) }
-    {
-        read_table(alloc, sections, Table::Items, Items::new(alloc))
     }
 
     fn new(alloc: Global) -> Items

@@ -20,9 +20,11 @@ mod script;
 mod stock;
 mod stock_to_routings;
 mod tables;
+mod version;
 
 pub use item::{Class, Item, LotRule};
 pub use rows::{
     BillLine, Centre, MasterKind, MasterRow, Operation, Receipt, ScriptCall, ScriptRow, StockRow,
 };
 pub use tables::Tables;
+pub use version::{LeadUnit, MOST_VERSION, Version};

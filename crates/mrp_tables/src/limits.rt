@@ -11,7 +11,8 @@ pub(crate) const LOT_WORDS: &[&str] = &["lfl", "fixed", "period"];
 /// The words for the calls of a script, in the order of their places.
 pub(crate) const CALL_WORDS: &[&str] = &["book", "cancel", "ask", "when", "run"];
 
-/// The most records of the calendar: its start, its weeks, its workdays and 1,000 holidays.
+/// The most records of the calendar: its start, its weeks, its workdays and 1,000 holidays; where a version
+/// stands in front, one more.
 pub const MOST_CALENDAR_RECORDS: u32 = 1_003;
 
 /// The most items.
@@ -26,8 +27,11 @@ pub const MOST_OPERATIONS: u32 = 50_000;
 /// The most records of the open receipts, of the bills, of the master schedule and of the script.
 pub const MOST_ROWS: u32 = 100_000;
 
-/// The longest lead time, in weeks.
-pub const MOST_LEAD: u64 = 104;
+/// The longest lead time in weeks.
+pub const MOST_LEAD_WEEKS: u64 = 104;
+
+/// The longest lead time that a bundle of any version has, in shop days.
+pub const MOST_LEAD: u64 = 728;
 
 /// The longest period of a lot rule, in weeks.
 pub const MOST_PERIOD: u64 = 104;

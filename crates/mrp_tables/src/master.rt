@@ -6,7 +6,7 @@ ghost use Rattle.mrp_tables.specs.Master.{kind_at, master_row, that_count};
 
 use crate::cells::quantity;
 use crate::items::Items;
-use crate::limits::MOST_PIECES;
+use crate::limits::{MOST_PIECES, most_records};
 use crate::reading::{TableRows, read_table};
 use crate::rows::{MasterKind, MasterRow};
 use mrp_cal::Calendar;
@@ -42,15 +42,20 @@ impl<'a> TableRows for Master<'a> {
 
     ghost use Rattle.std.specs.Prelude.{◌≡◌, []};
     ghost use Rattle.mrp_tables.specs.Master.{master_row};
-    ghost use Rattle.mrp_tables.specs.Reading.{by_itself};
+    ghost use Rattle.mrp_rows.specs.declared.fault.Table.TheVariants as own;
+    ghost use Rattle.mrp_tables.specs.Reading.{by_itself, reads_of};
 
     ghost takes = { λ count. count ≡ 4 };
 
     ghost rows = { λ t. t.rows };
 
-    ghost reads = { λ t. by_itself (master_row t.calendar t.items) };
+    ghost reads = { λ t. reads_of own.Master (by_itself (master_row t.calendar t.items)) };
 
     ghost beside = { λ t. record { items = t.items; centres = []; weeks = t.calendar.weeks } };
+
+    fn most_records(&self) -> Option<u32> {
+        most_records(Table::Master)
+    }
 
     fn add(&mut self, row: &Row) -> Result<(), Fault> {
         let master = master_row(row, self.calendar, self.items)?;

@@ -1,52 +1,50 @@
 //! Reading a table's records, one after the other.
 
-ghost use Rattle.std.specs.Prelude.{◌≡◌, ◌==◌, ◌&&◌, ◌≤◌, if◌then◌else◌, ℕ, [], length, IfOk, IfSome};
+ghost use Rattle.std.specs.Prelude.{◌≡◌, ◌==◌, ◌&&◌, ◌<◌, ◌≤◌, if◌then◌else◌, ℕ, [], length, IfOk, IfSome};
 ghost use Rattle.mrp_rows.specs.Bundle.{text_in};
 ghost use Rattle.mrp_rows.specs.Columns.{layout_of, width};
 ghost use Rattle.mrp_tables.specs.Reading.{Adds, Gives, IsRefusedBehind, IsRefusedIn, NextAdmitted, is_past, rows_from, rows_of};
-ghost use Rattle.mrp_tables.specs.Limits.{record_limit};
 
-use crate::limits::most_records;
 use mrp_rows::faults::{COLUMNS, TOO_MANY};
 use mrp_rows::{Cursor, Fault, Row, Sections, Table};
 use std::alloc::Global;
 
-fn is_past_limit(table: Table, number: u32) -> bool
-    ensures { result ≡ is_past (record_limit table) number }
+fn is_past_limit(limit: Option<u32>, number: u32) -> bool
+    ensures { result ≡ is_past limit number }
 {
-    match most_records(table) {
+    match limit {
         Some(limit) => limit < number,
         None => false,
     }
 }
 
-/// A table's next record, or None at the end.
+/// A table's next record, or None at the end, where the table has so many records at most.
 ///
-/// Errors, at the record's number: `TOO_MANY`, past the table's limit; then `COLUMNS`, another count
+/// Errors, at the record's number: `TOO_MANY`, past the limit; then `COLUMNS`, another count
 /// of cells than the table has columns; `NO_MEMORY`.
-pub(crate) fn next_record(cursor: &mut Cursor<'_>) -> Result<Option<Row>, Fault>
-    ensures next { NextAdmitted cursor.old result cursor.new }
+pub(crate) fn next_record(cursor: &mut Cursor<'_>, limit: Option<u32>) -> Result<Option<Row>, Fault>
+    ensures next { NextAdmitted limit cursor.old result cursor.new }
     ensures wide { IfOk result (λ next. IfSome next (λ r. length r.cells ≡ width cursor.old.layout)) }
     ensures layout { cursor.new.layout ≡ cursor.old.layout }
 {
     match cursor.next() {
         Ok(Some(row)) => {
-            if is_past_limit(row.table(), row.record()) {
+            if is_past_limit(limit, row.record()) {
                 Err(row.fault(TOO_MANY))
             } else {
                 Ok(Some(row))
             }
         }
         Ok(None) => Ok(None),
-        Err(fault) => Err(past_first(fault)),
+        Err(fault) => Err(past_first(limit, fault)),
     }
 }
 
 // A record past its table's limit is refused for that, whatever its cells.
-fn past_first(fault: Fault) -> Fault
-    ensures { result ≡ (if (fault.code == COLUMNS) && is_past (record_limit fault.table) fault.row then record { code = TOO_MANY; table = fault.table; row = fault.row } else fault) }
+fn past_first(limit: Option<u32>, fault: Fault) -> Fault
+    ensures { result ≡ (if (fault.code == COLUMNS) && is_past limit fault.row then record { code = TOO_MANY; table = fault.table; row = fault.row } else fault) }
 {
-    if fault.code == COLUMNS && is_past_limit(fault.table, fault.row) {
+    if fault.code == COLUMNS && is_past_limit(limit, fault.row) {
         Fault {
             code: TOO_MANY,
             table: fault.table,
@@ -69,10 +67,14 @@ pub(crate) trait TableRows: Drop {
     ghost takes: { ℕ → Type 0 };
     // the rows so far
     ghost rows: { Self → List Self.Line };
-    // how a record is read
+    // how its records are read
     ghost reads: { Self → Reads Self.Line };
     // what it is read beside
     ghost beside: { Self → Beside };
+
+    /// The most records that the table has, where it has a limit.
+    fn most_records(&self) -> Option<u32>
+        ensures { result ≡ (reads self.now).limit (rows self.now) };
 
     /// Adds the row of a record.
     fn add(&mut self, row: &Row) -> Result<(), Fault>
@@ -93,7 +95,7 @@ pub(crate) fn gather<G: TableRows>(cursor: &mut Cursor<'_>, mut gathered: G) -> 
         cursor.old.number cursor.old.left) }
     ensures beside { IfOk result (λ g. G.beside g ≡ G.beside gathered) }
 {
-    while let Some(row) = next_record(cursor)? {
+    while let Some(row) = next_record(cursor, gathered.most_records())? {
         gathered.add(&row)?;
         cursor.reuse(row);
     }
@@ -111,7 +113,7 @@ pub(crate) fn read_table<G: TableRows>(
     requires empty { G.rows empty ≡ [] }
     ensures rows { Gives (IsRefusedIn (G.reads empty) (layout_of table) (text_in sections.now table))
         (λ g. G.rows g) result (rows_of (G.reads empty) (layout_of table) (text_in sections.now table)) }
-    ensures count { (limit : ℕ) → record_limit table ≡ Some limit → IfOk result (λ g. length (G.rows g) ≤ limit) }
+    ensures count { (limit : ℕ) → limit < 4294967294 → ((before : _) → (G.reads empty).limit before ≡ Some limit) → IfOk result (λ g. length (G.rows g) ≤ limit) }
     ensures beside { IfOk result (λ g. G.beside g ≡ G.beside empty) }
 {
     let mut cursor = Cursor::new(alloc, sections, table)?;

@@ -7,7 +7,7 @@ ghost use Rattle.mrp_tables.specs.Receipts.{order_cells, receipt_beside, receipt
 
 use crate::cells::quantity;
 use crate::items::Items;
-use crate::limits::MOST_PIECES;
+use crate::limits::{MOST_PIECES, most_records};
 use crate::reading::{TableRows, read_table};
 use crate::rows::Receipt;
 use indexmap::IndexSet;
@@ -60,15 +60,21 @@ impl<'a> TableRows for Receipts<'a> {
     type Line = Receipt;
 
     ghost use Rattle.std.specs.Prelude.{◌≡◌, []};
+    ghost use Rattle.mrp_rows.specs.declared.fault.Table.TheVariants as own;
+    ghost use Rattle.mrp_tables.specs.Reading.{reads_of};
     ghost use Rattle.mrp_tables.specs.Receipts.{receipt_row};
 
     ghost takes = { λ count. count ≡ 4 };
 
     ghost rows = { λ t. t.rows };
 
-    ghost reads = { λ t. receipt_row t.calendar t.items };
+    ghost reads = { λ t. reads_of own.Receipts (receipt_row t.calendar t.items) };
 
     ghost beside = { λ t. record { items = t.items; centres = []; weeks = t.calendar.weeks } };
+
+    fn most_records(&self) -> Option<u32> {
+        most_records(Table::Receipts)
+    }
 
     fn add(&mut self, row: &Row) -> Result<(), Fault> {
         let receipt = receipt_of(row, self.calendar, self.items, &self.seen)?;

@@ -7,7 +7,7 @@ ghost use Rattle.mrp_tables.specs.Routings.{operation_beside, routing_cells, rou
 
 use crate::centres::Centres;
 use crate::items::Items;
-use crate::limits::{GREATEST_OPERATION, MOST_OFFSET, MOST_RUN, MOST_SETUP};
+use crate::limits::{GREATEST_OPERATION, MOST_OFFSET, MOST_RUN, MOST_SETUP, most_records};
 use crate::reading::{TableRows, read_table};
 use crate::rows::Operation;
 use indexmap::IndexSet;
@@ -58,15 +58,21 @@ impl<'a> TableRows for Routings<'a> {
     type Line = Operation;
 
     ghost use Rattle.std.specs.Prelude.{◌≡◌};
+    ghost use Rattle.mrp_rows.specs.declared.fault.Table.TheVariants as own;
+    ghost use Rattle.mrp_tables.specs.Reading.{reads_of};
     ghost use Rattle.mrp_tables.specs.Routings.{operation_row};
 
     ghost takes = { λ count. count ≡ 6 };
 
     ghost rows = { λ t. t.rows };
 
-    ghost reads = { λ t. operation_row t.items t.centres };
+    ghost reads = { λ t. reads_of own.Routings (operation_row t.items t.centres) };
 
     ghost beside = { λ t. record { items = t.items; centres = t.centres; weeks = 0 } };
+
+    fn most_records(&self) -> Option<u32> {
+        most_records(Table::Routings)
+    }
 
     fn add(&mut self, row: &Row) -> Result<(), Fault> {
         let operation = operation_of(row, self.items, self.centres, &self.seen)?;

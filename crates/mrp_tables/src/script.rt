@@ -8,7 +8,7 @@ ghost use Rattle.mrp_tables.specs.Script.{ask_cells, book_cells, call_at, cancel
 
 use crate::cells::quantity;
 use crate::items::Items;
-use crate::limits::{CALL_WORDS, MOST_DESKS, MOST_ENTRIES, MOST_PIECES};
+use crate::limits::{CALL_WORDS, MOST_DESKS, MOST_ENTRIES, MOST_PIECES, most_records};
 use crate::reading::{TableRows, read_table};
 use crate::rows::{ScriptCall, ScriptRow};
 use jiff::civil::Date;
@@ -57,16 +57,21 @@ impl<'a> TableRows for Script<'a> {
     type Line = ScriptRow;
 
     ghost use Rattle.std.specs.Prelude.{◌≡◌, []};
-    ghost use Rattle.mrp_tables.specs.Reading.{by_itself};
+    ghost use Rattle.mrp_rows.specs.declared.fault.Table.TheVariants as own;
+    ghost use Rattle.mrp_tables.specs.Reading.{by_itself, reads_of};
     ghost use Rattle.mrp_tables.specs.Script.{script_row};
 
     ghost takes = { λ count. count ≡ 6 };
 
     ghost rows = { λ t. t.rows };
 
-    ghost reads = { λ t. by_itself (script_row t.calendar t.items) };
+    ghost reads = { λ t. reads_of own.Script (by_itself (script_row t.calendar t.items)) };
 
     ghost beside = { λ t. record { items = t.items; centres = []; weeks = t.calendar.weeks } };
+
+    fn most_records(&self) -> Option<u32> {
+        most_records(Table::Script)
+    }
 
     fn add(&mut self, row: &Row) -> Result<(), Fault> {
         // Taken apart, so that the proof knows the type of the call.

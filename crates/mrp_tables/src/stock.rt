@@ -6,7 +6,7 @@ ghost use Rattle.mrp_tables.specs.Stock.{stock_cells};
 
 use crate::cells::quantity;
 use crate::items::Items;
-use crate::limits::MOST_PIECES;
+use crate::limits::{MOST_PIECES, most_records};
 use crate::reading::{TableRows, read_table};
 use crate::rows::StockRow;
 use indexmap::IndexSet;
@@ -45,15 +45,21 @@ impl<'a> TableRows for Stock<'a> {
     type Line = StockRow;
 
     ghost use Rattle.std.specs.Prelude.{◌≡◌, []};
+    ghost use Rattle.mrp_rows.specs.declared.fault.Table.TheVariants as own;
+    ghost use Rattle.mrp_tables.specs.Reading.{reads_of};
     ghost use Rattle.mrp_tables.specs.Stock.{stock_row};
 
     ghost takes = { λ count. count ≡ 2 };
 
     ghost rows = { λ t. t.rows };
 
-    ghost reads = { λ t. stock_row t.items };
+    ghost reads = { λ t. reads_of own.Stock (stock_row t.items) };
 
     ghost beside = { λ t. record { items = t.items; centres = []; weeks = 0 } };
+
+    fn most_records(&self) -> Option<u32> {
+        most_records(Table::Stock)
+    }
 
     fn add(&mut self, row: &Row) -> Result<(), Fault> {
         let stock = stock_cells(row, self.items)?;

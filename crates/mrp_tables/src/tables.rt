@@ -8,6 +8,7 @@ use crate::items::Items;
 use crate::master_and_script::MasterAndScript;
 use crate::rows::{BillLine, Centre, MasterRow, Operation, Receipt, ScriptRow, StockRow};
 use crate::stock_to_routings::StockToRoutings;
+use crate::version::{LeadUnit, Version};
 use mrp_cal::Calendar;
 use mrp_rows::{Fault, Name, Sections};
 use std::alloc::Global;
@@ -18,6 +19,7 @@ use std::thread::Threads;
 /// The typed tables of an accepted bundle, in which only a loop in the bills can still be wrong.
 #[derive(Drop)]
 pub struct Tables {
+    version: Version,
     calendar: Calendar,
     items: Items,
     centres: Vec<Centre>,
@@ -35,6 +37,7 @@ impl Model for Tables {
     ghost Value = { Tables };
 
     ghost view = { λ t. record {
+      version = t.version;
       calendar = t.calendar;
       items = t.items;
       centres = t.centres.items;
@@ -47,6 +50,7 @@ impl Model for Tables {
     } };
 
     ghost invariant = { λ t. AreTables (record {
+      version = t.version;
       calendar = t.calendar;
       items = t.items;
       centres = t.centres.items;
@@ -71,11 +75,13 @@ impl Tables {
     ghost use Rattle.mrp_tables.specs.Laws.{IsMemoryRefusal};
     ghost use Rattle.mrp_tables.specs.Reading.{Gives};
     ghost use Rattle.mrp_tables.specs.Tables.{AreTables, tables_in};
+    ghost use Rattle.mrp_tables.specs.Versions as spec;
+    ghost use Rattle.mrp_tables.specs.Versions.{version_number};
 
     /// The tables of a bundle's sections, or their first fault: table by table, first the header,
     /// then record by record that there are too many, their count of cells, their cells from left to
-    /// right and what these name. A calendar of fewer than three records has `COLUMNS` at the first
-    /// that is missing.
+    /// right and what these name. A calendar of fewer than three records behind its version has `COLUMNS` at the
+    /// first that is missing.
     ///
     /// Errors: a fault, at its table and record, the header's at row 0; `NO_MEMORY` at the table and
     /// record that are being read.
@@ -122,6 +128,7 @@ impl Tables {
         ensures { result ≡ tables_from first rows last }
     {
         let FirstTables {
+            version,
             calendar,
             items,
             centres,
@@ -134,6 +141,7 @@ impl Tables {
         } = rows;
         let MasterAndScript { master, script } = last;
         Tables {
+            version,
             calendar,
             items,
             centres: centres.into_rows(),
@@ -152,6 +160,20 @@ impl Tables {
         ensures { AreTables self.now }
     {
         let _calendar = &self.calendar;
+    }
+
+    /// The version of the bundle, from 1; 1 where its calendar names none.
+    pub fn version(&self) -> u8
+        ensures { result ≡ version_number self.now.version }
+    {
+        self.version.number()
+    }
+
+    /// What lead times are counted in.
+    pub fn lead_unit(&self) -> LeadUnit
+        ensures { result ≡ spec.lead_unit self.now.version }
+    {
+        self.version.lead_unit()
     }
 
     /// The shop's calendar.

@@ -22,4 +22,4 @@ returns-clause-count g c =
     let text = text_in c.args.sections.now c.args.table in
     let rows = gathered-read g.G.TableRows.rows (g.G.TableRows.reads c.args.empty) (layout_of c.args.table) text c.in_ok-cursor.cursor
     (g.G.TableRows.rows c.args.empty) c.gather.result c.in_ok-cursor.ensures c.requires.empty c.gather.ensures.rows in
-    λ limit e. counted_result _ g.G.TableRows.rows (g.G.TableRows.reads c.args.empty) (layout_of c.args.table) text limit e c.gather.result rows
+    λ limit small e. counted_result _ g.G.TableRows.rows (g.G.TableRows.reads c.args.empty) (layout_of c.args.table) text limit small e c.gather.result rows

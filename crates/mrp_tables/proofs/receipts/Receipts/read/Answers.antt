@@ -11,7 +11,7 @@ use Rattle.mrp_tables.proofs.receipts.Receipts.read.Goals as goal
 
 pub returns-clause-count : goal.returns-clause-count
 returns-clause-count c =
-    let read : length c.in_ok-receipts.receipts.rows ≤ limits.MOST_ROWS = c.in_ok-receipts.ensures.count limits.MOST_ROWS refl in
+    let read : length c.in_ok-receipts.receipts.rows ≤ limits.MOST_ROWS = c.in_ok-receipts.ensures.count limits.MOST_ROWS (omega arith) (λ before. refl) in
     let kept : length c.into_rows.result.items ≤ length c.in_ok-receipts.receipts.rows = c.into_rows.ensures.count in
     omega arith
 
