@@ -106,7 +106,7 @@ fn check_text(
 /// held.
 ///
 /// Errors: the first of `Input` with the bundle's first fault, the loop last; `Shape`; `HistoryNotLegal`;
-/// `DeskRows`; `ReportDiffers`; and `NoMemory` where memory is refused.
+/// `DeskRows`; `ReportDiffers`; and `NoMemory` when out of memory.
 pub fn check(
     rt: &(impl Alloc + Threads + Sync),
     alloc: Global,

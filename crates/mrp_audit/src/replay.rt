@@ -90,7 +90,7 @@ fn history_front(
 /// The history that a text begins with, where each desk's entries are its script records in order, and
 /// how many bytes it has. Nothing is said of a text for which none is found.
 ///
-/// Errors: `NoMemory` where memory is refused.
+/// Errors: `NoMemory` when out of memory.
 pub(crate) fn find_history(
     alloc: Global,
     shop: &Shop,

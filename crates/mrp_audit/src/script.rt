@@ -12,7 +12,7 @@ use std::alloc::Global;
 /// What the records of a shop's script call, each with its desk, in order. A script without a run is
 /// taken with one more record at its end, a run of desk 1.
 ///
-/// Errors: `NoMemory` where memory is refused.
+/// Errors: `NoMemory` when out of memory.
 pub(crate) fn script_calls(alloc: Global, shop: &Shop) -> Result<Vec<(u64, Call)>, NoMemory>
     ensures { IfOk result (λ calls. calls.items ≡ with_run (script_of shop.now.tables)) }
 {

@@ -57,7 +57,7 @@ impl Core {
 
     /// The core of a shop, without an entry and without a run.
     ///
-    /// Errors: `NoMemory` where memory is refused.
+    /// Errors: `NoMemory` when out of memory.
     pub fn new(alloc: Global, shop: Shop) -> Result<Core, NoMemory>
         ensures { IfOk result (λ core. core ≡ opened shop.tables) }
     {
@@ -75,9 +75,8 @@ impl Core {
     /// nothing. Of a desk with a number from 1 to 64 the caller owes a call that was made for an equal
     /// shop.
     ///
-    /// Errors: `NoMemory` where memory is refused. Nothing has changed then. An event that has no
-    /// meaning takes no memory, nor does one that a full order book is asked, or one that is answered
-    /// `NotYet`.
+    /// Errors: `NoMemory` when out of memory. Nothing has changed then. An event that has no meaning takes no
+    /// memory, nor does one that a full order book is asked, or one that is answered `NotYet`.
     pub fn step(
         &mut self,
         rt: &(impl Alloc + Threads + Sync),
@@ -238,7 +237,7 @@ impl Core {
     /// What a new core of a shop answers to events, one answer each. The caller owes of desks with a
     /// number from 1 to 64 calls that were made for an equal shop.
     ///
-    /// Errors: `NoMemory` where memory is refused.
+    /// Errors: `NoMemory` when out of memory.
     pub fn run(
         rt: &(impl Alloc + Threads + Sync),
         alloc: Global,

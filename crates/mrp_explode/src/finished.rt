@@ -15,7 +15,7 @@ use std::alloc::Global;
 use std::marker::Model;
 use std::sync::Arc;
 
-/// The outcomes of the items that are planned so far, by their places; each is its item's.
+/// The outcomes of the items that are planned so far, each at its item's place in the table.
 #[derive(Drop)]
 pub struct Finished {
     inputs: Arc<Inputs>,
@@ -32,14 +32,14 @@ impl Model for Finished {
     ghost invariant = { λ f. AreOwn f.inputs.value f.outcomes.items };
 }
 
-// Why a run has no plan, by the first item that is over.
+// The fault of a run whose first item that is over is this one.
 fn too_large(item: usize) -> RunFault
     ensures { result ≡ RunFault.TooLarge item }
 {
     RunFault::TooLarge { item }
 }
 
-// The plan that all items' outcomes make, or why there is none, for which memory is no reason.
+// The plan that the outcomes of all items make, or why there is none. This takes no memory.
 fn plan_from(inputs: Arc<Inputs>, outcomes: Vec<Outcome>) -> Result<Plan, RunFault>
     requires { outcomes.items ≡ all_from inputs.value }
     ensures plan { Explodes inputs.value result }
@@ -51,7 +51,7 @@ fn plan_from(inputs: Arc<Inputs>, outcomes: Vec<Outcome>) -> Result<Plan, RunFau
     }
 }
 
-// The outcomes in a list of places, none of which is empty.
+// The outcomes in a list of places of which none is empty.
 fn out_of_places(alloc: Global, outcomes: Vec<Option<Outcome>>) -> Result<Vec<Outcome>, NoMemory>
     requires { All IsSome outcomes.items }
     ensures { IfOk result (λ all. outcomes.items ≡ map Some all.items) }
@@ -69,7 +69,7 @@ fn out_of_places(alloc: Global, outcomes: Vec<Option<Outcome>>) -> Result<Vec<Ou
 impl Finished {
     /// No item is planned yet.
     ///
-    /// Errors: `NoMemory` where memory is refused, or a count of sharers can't rise.
+    /// Errors: `NoMemory` when out of memory, or when a reference count would overflow.
     pub fn new(alloc: Global, inputs: &Arc<Inputs>) -> Result<Finished, NoMemory>
         ensures inputs { IfOk result (λ f. f.inputs ≡ inputs.now.value) }
         ensures none { IfOk result (λ f. f.outcomes ≡ replicate (count inputs.now.value) None) }
@@ -141,7 +141,7 @@ impl Finished {
 
     /// What planning makes of an item whose parents are finished.
     ///
-    /// Errors: `NoMemory` where memory is refused, or a count of sharers can't rise.
+    /// Errors: `NoMemory` when out of memory, or when a reference count would overflow.
     pub fn outcome_for(&self, alloc: Global, item: usize) -> Result<Outcome, NoMemory>
         requires item { item < count self.now.inputs }
         requires ready { IsReady self.now item }
@@ -162,9 +162,9 @@ impl Finished {
         self.outcomes[item] = Some(outcome);
     }
 
-    /// Plans an item whose parents are finished.
+    /// Plans an item whose parents are finished, and puts the outcome in its place.
     ///
-    /// Errors: `NoMemory` where memory is refused, or a count of sharers can't rise.
+    /// Errors: `NoMemory` when out of memory, or when a reference count would overflow.
     pub fn plan(&mut self, alloc: Global, item: usize) -> Result<(), NoMemory>
         requires item { item < count self.old.inputs }
         requires ready { IsReady self.old item }
@@ -190,17 +190,17 @@ impl Finished {
         Ok(all)
     }
 
-    // What the items are planned from, shared.
+    // A new reference to what the items are planned from.
     fn share_inputs(&self) -> Result<Arc<Inputs>, NoMemory>
         ensures { IfOk result (λ inputs. inputs.value ≡ self.now.inputs) }
     {
         Ok(self.inputs.clone()?)
     }
 
-    /// The plan of all items, each of which is finished. What was finished is moved into it, and is given
-    /// up where it is refused.
+    /// The plan of all items, each of which is finished. The outcomes are moved into it, and dropped on an
+    /// error.
     ///
-    /// Errors: `NoMemory` where memory is refused, and `TooLarge` with the first item that is over.
+    /// Errors: `NoMemory` when out of memory; `TooLarge` with the first item that is over.
     pub fn into_whole(self, alloc: Global) -> Result<Plan, RunFault>
         requires { (i : ℕ) → i < count self.inputs → IsFinished self i }
         ensures { Explodes self.inputs result }
@@ -210,9 +210,9 @@ impl Finished {
         plan_from(inputs, all)
     }
 
-    /// The plan of all items, each of which is finished, made of copies of their outcomes.
+    /// The plan of all items, each of which is finished, from copies of their outcomes.
     ///
-    /// Errors: `NoMemory` where memory is refused, and `TooLarge` with the first item that is over.
+    /// Errors: `NoMemory` when out of memory; `TooLarge` with the first item that is over.
     pub fn whole(&self, alloc: Global) -> Result<Plan, RunFault>
         requires { (i : ℕ) → i < count self.now.inputs → IsFinished self.now i }
         ensures { Explodes self.now.inputs result }

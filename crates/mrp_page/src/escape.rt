@@ -23,7 +23,7 @@ fn put_escaped_byte(page: &mut Vec<u8>, byte: u8) -> Result<(), AllocError>
 /// Adds a text so that HTML shows it as it is: `<`, `>`, `&`, `"` and `'` are written as character
 /// references, between tags and in quoted attributes.
 ///
-/// Errors: where a growth of memory was refused.
+/// Errors: when out of memory.
 #[tactic(auto, unfolding(crate::specs::Escaped::escaped))]
 pub fn put_escaped(page: &mut Vec<u8>, text: &[u8]) -> Result<(), NoMemory>
     ensures { OnOk result (page.new.items ≡ page.old.items ++ escaped text.now) }

@@ -49,7 +49,7 @@ impl ItemNames {
 
     /// The names of a line, which is a record of csv: `A,B`, or `"A,B",C` where a name has a comma.
     ///
-    /// Errors: where a growth of memory was refused.
+    /// Errors: when out of memory.
     pub fn read(alloc: Global, line: &[u8]) -> Result<ItemNames, NoMemory>
         ensures { IfOk result (λ names. names ≡ names_of line.now) }
     {
@@ -66,7 +66,7 @@ impl ItemNames {
 
     /// The names, one by one.
     ///
-    /// Errors: where a growth of memory was refused.
+    /// Errors: when out of memory.
     pub fn slices(&self, alloc: Global) -> Result<Vec<&[u8]>, NoMemory>
         ensures { IfOk result (λ slices. map (λ s. s.now) slices.items ≡ self.now) }
     {

@@ -10,7 +10,7 @@ use Rattle.mrp_peg.specs.declared.peg.Need.{Need}
 use Rattle.mrp_peg.specs.declared.peg.Peg.{Peg}
 use Rattle.mrp_peg.specs.declared.supplies_left.SuppliesLeft.{SuppliesLeft}
 use Rattle.mrp_peg.specs.declared.peg_walk.PegWalk.{PegWalk}
-use Rattle.mrp_peg.specs.Matching.{amounts_offered, amounts_wanted, peg_of}
+use Rattle.mrp_peg.specs.Matching.{amounts_offered, amounts_required, peg_of}
 use Rattle.mrp_peg.specs.Pegging.{needs_in}
 use Rattle.mrp_peg.specs.Units.{Amount, matches}
 
@@ -33,15 +33,15 @@ to_come (Some part) week = required_after part.plan.now.inputs part.item week
 
 -- the requirements that are left and listed
 abbrev pub listed_left : NeedsLeft → List (Amount Need)
-listed_left n = amounts_wanted (drop n.place n.needs.items)
+listed_left n = amounts_required (drop n.place n.needs.items)
 
 -- the requirements that are left: those that are listed, and those of the weeks to come
-abbrev pub wanted_left : NeedsLeft → List (Amount Need)
-wanted_left n = listed_left n ++ to_come n.part n.week
+abbrev pub required_left : NeedsLeft → List (Amount Need)
+required_left n = listed_left n ++ to_come n.part n.week
 
 -- the first requirement that is left is listed, if there is one
 abbrev pub IsFilled : NeedsLeft → Type 0
-IsFilled n = slice_get (wanted_left n) 0 ≡ slice_get (listed_left n) 0
+IsFilled n = slice_get (required_left n) 0 ≡ slice_get (listed_left n) 0
 
 -- the pegs of these requirements and supplies of an item
 abbrev pub pegs_between : ℕ → List (Amount Need) → List (Amount Supplied) → List Peg
@@ -49,7 +49,7 @@ pegs_between item needs supplies = map (peg_of item) (matches needs supplies)
 
 -- the pegs that are still to come
 abbrev pub pegs_left : PegWalk → List Peg
-pegs_left w = pegs_between w.item (wanted_left w.needs) (offered_left w.supplies)
+pegs_left w = pegs_between w.item (required_left w.needs) (offered_left w.supplies)
 
 -- a peg, where it has pieces
 abbrev pub shown : Peg → List Peg

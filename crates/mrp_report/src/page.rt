@@ -143,7 +143,7 @@ impl Page {
 
     /// Adds a line.
     ///
-    /// Errors: where a growth of memory was refused.
+    /// Errors: when out of memory.
     pub(crate) fn line<L: Line>(&mut self, line: &L) -> Result<(), NoMemory>
         ensures { OnOk result (self.new ≡ self.old ++ L.csv line.now) }
     {
@@ -154,7 +154,7 @@ impl Page {
 
     /// Adds a row of cells, two at least: a row of one empty cell would be written another way.
     ///
-    /// Errors: where a growth of memory was refused.
+    /// Errors: when out of memory.
     pub(crate) fn row(&mut self, cells: &[&[u8]]) -> Result<(), NoMemory>
         requires { 2 ≤ length cells.now }
         ensures { OnOk result (self.new ≡ self.old ++ row (map (λ cell. cell.now) cells.now)) }
@@ -168,7 +168,7 @@ impl Page {
 
     /// Adds what a section of a day begins with: its line and its header.
     ///
-    /// Errors: where a growth of memory was refused.
+    /// Errors: when out of memory.
     pub(crate) fn begin(&mut self, section: Section) -> Result<(), NoMemory>
         ensures { OnOk result (self.new ≡ self.old ++ head_of section) }
     {
@@ -197,8 +197,8 @@ impl Page {
 
     /// Writes the text, and leaves it on the page.
     ///
-    /// Errors: `Write` where a write failed in this call, or was interrupted with no try left. A
-    /// front of the text was written then.
+    /// Errors: `Write` if a write failed in this call, or was interrupted with no try left. A
+    /// prefix of the text has been written then.
     pub(crate) fn write<W: Write>(
         &self,
         writer: &mut Told<W>,
@@ -212,8 +212,8 @@ impl Page {
 
     /// Writes the text, and goes on with an empty page in its memory.
     ///
-    /// Errors: `Write` where a write failed in this call, or was interrupted with no try left. A
-    /// front of the text was written then.
+    /// Errors: `Write` if a write failed in this call, or was interrupted with no try left. A
+    /// prefix of the text has been written then.
     pub(crate) fn hand_over<W: Write>(
         &mut self,
         writer: &mut Told<W>,

@@ -90,9 +90,9 @@ fn write_section<W: Write>(
 /// them makes at a time is made by all of them side by side, and else by one. By one worker no
 /// thread is started for rows.
 ///
-/// An interrupted write is tried again, at most 1,000,000 times. Errors: `Write` where a write failed
-/// in this call or was interrupted more often, and `NoMemory` where a growth of memory was refused
-/// and neither was so. A front of the text was written then.
+/// An interrupted write is tried again, at most 1,000,000 times. Errors: `Write` if a write failed in this
+/// call or was interrupted more often; otherwise `NoMemory` when out of memory. A prefix of the text has been
+/// written then.
 pub fn write_report<W: Write>(
     rt: &(impl Alloc + Threads + Sync),
     alloc: Global,

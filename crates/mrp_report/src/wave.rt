@@ -104,9 +104,8 @@ fn write_wave<W: Write>(
 
 /// Writes the rows of a section, wave by wave. The pages' memory is used again for each wave.
 ///
-/// Errors: `Write` where a write failed in this call, or was interrupted with no try left, and
-/// `NoMemory` where a growth of memory was refused and neither was so. A front of the rows was
-/// written then.
+/// Errors: `Write` if a write failed in this call or was interrupted with no try left; otherwise
+/// `NoMemory` when out of memory. A prefix of the rows has been written then.
 pub(crate) fn write_waves<W: Write>(
     rt: &(impl Threads + Sync),
     alloc: Global,

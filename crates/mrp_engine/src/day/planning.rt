@@ -19,7 +19,7 @@ use std::thread::Threads;
 /// What a run is planned from: a shop, by its rows, and a snapshot of its order book, as the caller
 /// owes.
 ///
-/// Errors: `NoMemory` where memory is refused.
+/// Errors: `NoMemory` when out of memory.
 pub fn inputs_of(
     alloc: Global,
     rows: &Arc<ShopRows>,

@@ -52,9 +52,9 @@ fn write_texts<W: Write>(
 /// Writes a planned day, which is given up: the history, and then the report of each of its runs, whose
 /// rows so many workers make, 1 to 64 as the caller owes.
 ///
-/// Errors: `Write` where a write failed in this call, or more than 1,000,000 were interrupted in the
-/// history or in a report, and `NoMemory` where a growth of memory was refused, and no write failed. A
-/// front of the text was written then.
+/// Errors: `Write` where a write failed in this call, or more than 1,000,000 were interrupted in the history
+/// or in a report, and `NoMemory` where a growth of memory was refused, and no write failed. A prefix of the
+/// text has been written then.
 pub fn write_day<W: Write>(
     rt: &(impl Alloc + Threads + Sync),
     alloc: Global,

@@ -79,7 +79,7 @@ impl Board {
 
     /// The board of a run that plans from these inputs, without an entry.
     ///
-    /// Errors: `NoMemory` where memory is refused.
+    /// Errors: `NoMemory` when out of memory.
     pub fn open(alloc: Global, inputs: &Arc<Inputs>) -> Result<Board, NoMemory>
         ensures { IfOk result (λ b. b ≡ record { inputs = inputs.now.value; log = [] }) }
     {
@@ -200,8 +200,8 @@ impl Board {
     /// Answers a worker that takes, and makes an entry of it; None where it is told to come again,
     /// and nothing changes.
     ///
-    /// Errors: `NoMemory` where memory is refused, and it is not told to come again. Nothing has
-    /// changed then.
+    /// Errors: `NoMemory` when out of memory, and it is not told to come again. Nothing has changed
+    /// then.
     pub fn take(&mut self, worker: u64) -> Result<Option<BoardReply>, NoMemory>
         ensures reply { IfOk result (λ reply. reply ≡ board_reply self.old.inputs self.old.log worker BoardCall.Take) }
         ensures entry { IfOk result (λ reply. self.new ≡ record self.old { log = self.old.log ++ taken worker reply }) }
@@ -221,7 +221,7 @@ impl Board {
 
     /// Plans the item that a worker holds, and stores its outcome.
     ///
-    /// Errors: `NoMemory` where memory is refused. Nothing has changed then.
+    /// Errors: `NoMemory` when out of memory. Nothing has changed then.
     pub fn finish(&mut self, alloc: Global, worker: u64, item: usize) -> Result<(), NoMemory>
         requires { held worker self.old.log ≡ Some item }
         ensures entry { OnOk result (self.new ≡ record self.old { log = self.old.log ++ entry worker (BoardCall.Finish item) BoardReply.Stored ∷ [] }) }
@@ -239,7 +239,7 @@ impl Board {
 
     /// A worker gives up.
     ///
-    /// Errors: `NoMemory` where memory is refused. Nothing has changed then.
+    /// Errors: `NoMemory` when out of memory. Nothing has changed then.
     pub fn give_up(&mut self, worker: u64) -> Result<(), NoMemory>
         ensures entry { OnOk result (self.new ≡ record self.old { log = self.old.log ++ entry worker BoardCall.GiveUp BoardReply.Stopped ∷ [] }) }
         ensures refused { OnErr result (self.new ≡ self.old) }
@@ -256,7 +256,7 @@ impl Board {
 
     /// The plan of all items, each of which is stored.
     ///
-    /// Errors: `NoMemory` where memory is refused, and `TooLarge` with the first item in table order
+    /// Errors: `NoMemory` when out of memory, and `TooLarge` with the first item in table order
     /// that gets too large where none above it does.
     pub fn plan(&self, alloc: Global) -> Result<Plan, RunFault>
         requires { is_finished self.now.inputs self.now.log ≡ true }

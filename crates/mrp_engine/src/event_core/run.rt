@@ -143,8 +143,8 @@ impl Run {
 
     /// Answers a worker that takes.
     ///
-    /// Errors: `NoMemory` where memory is refused, and it is not told to come again. Nothing has
-    /// changed then.
+    /// Errors: `NoMemory` when out of memory, and it is not told to come again. Nothing has changed
+    /// then.
     pub fn take(&mut self, alloc: Global, worker: u64) -> Result<Answer, NoMemory>
         ensures answer { IfOk result (λ a. a ≡ told (board_reply self.old.inputs self.old.log worker call.Take)) }
         ensures entry { OnOk result (self.new ≡ record self.old { log = self.old.log ++ taken worker (board_reply self.old.inputs self.old.log worker call.Take) }) }
@@ -162,7 +162,7 @@ impl Run {
 
     /// Plans and stores the item that a worker holds.
     ///
-    /// Errors: `NoMemory` where memory is refused, and the worker holds an item. Nothing has changed
+    /// Errors: `NoMemory` when out of memory, and the worker holds an item. Nothing has changed
     /// then.
     pub fn finish(&mut self, alloc: Global, worker: u64) -> Result<Answer, NoMemory>
         ensures held { IfOk result (λ a. IsSome (held worker self.old.log) → a ≡ answer.Stored) }
@@ -183,7 +183,7 @@ impl Run {
 
     /// A worker gives up.
     ///
-    /// Errors: `NoMemory` where memory is refused. Nothing has changed then.
+    /// Errors: `NoMemory` when out of memory. Nothing has changed then.
     pub fn give_up(&mut self, alloc: Global, worker: u64) -> Result<(), NoMemory>
         ensures entry { OnOk result (self.new ≡ record self.old { log = self.old.log ++ entry worker call.GiveUp reply.Stopped ∷ [] }) }
         ensures refused { OnErr result (self.new ≡ self.old) }
@@ -207,7 +207,7 @@ impl Run {
 
     /// The report of a run whose items are all stored.
     ///
-    /// Errors: `NoMemory` where memory is refused, and they are. Nothing has changed then.
+    /// Errors: `NoMemory` when out of memory, and they are. Nothing has changed then.
     pub fn write(
         &mut self,
         rt: &(impl Alloc + Threads + Sync),

@@ -25,7 +25,7 @@ fn append_call(lists: &mut Vec<Vec<Call>>, desk: u64, call: Call) -> Result<(), 
 /// The calls of a shop's script, put in lists of so many desks in one pass: each desk's are those of
 /// its records, in order.
 ///
-/// Errors: `NoMemory` where memory is refused.
+/// Errors: `NoMemory` when out of memory.
 pub fn calls_by_desk(
     alloc: Global,
     shop: &Shop,

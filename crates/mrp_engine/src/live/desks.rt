@@ -138,7 +138,7 @@ fn close(office: Office, desks: Vec<Desk>, end: Result<(), Refused>) -> Result<H
 /// ended. A script without a run is taken with one more call, a run of desk 1, after all others,
 /// which passes no gate.
 ///
-/// Errors: `NoMemory` where memory is refused.
+/// Errors: `NoMemory` when out of memory.
 pub fn answer_by_desks<R: Threads + Wait + Sync, G: Gate + Sync>(
     rt: &R,
     alloc: Global,

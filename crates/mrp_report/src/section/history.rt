@@ -144,9 +144,9 @@ fn entry_row(
 
 /// Writes the section `history`: a row for each entry of the order book of an equal shop.
 ///
-/// An interrupted write is tried again, at most 1,000,000 times. Errors: `Write` where a write failed
-/// in this call or was interrupted more often, and `NoMemory` where a growth of memory was refused
-/// and neither was so. A front of the text was written then.
+/// An interrupted write is tried again, at most 1,000,000 times. Errors: `Write` if a write failed in this
+/// call or was interrupted more often; otherwise `NoMemory` when out of memory. A prefix of the text has been
+/// written then.
 pub fn write_history<W: Write>(
     alloc: Global,
     history: &History,

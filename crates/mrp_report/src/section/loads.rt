@@ -44,7 +44,7 @@ impl Line for LoadLine<'_> {
 
 /// Adds a week of a work centre, its times in minutes.
 ///
-/// Errors: where a growth of memory was refused.
+/// Errors: when out of memory.
 pub(crate) fn load_row(page: &mut Page, name: &CsvName, row: &LoadRow) -> Result<(), NoMemory>
     ensures { OnOk result (page.new ≡ page.old ++ load_text name.now row.now) }
 {

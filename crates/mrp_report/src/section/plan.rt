@@ -51,7 +51,7 @@ impl Line for WeekLine<'_> {
 
 /// Adds a week of an item.
 ///
-/// Errors: where a growth of memory was refused.
+/// Errors: when out of memory.
 pub(crate) fn week_row(page: &mut Page, name: &CsvName, row: &PlanRow) -> Result<(), NoMemory>
     ensures { OnOk result (page.new ≡ page.old ++ week_text name.now row.now) }
 {

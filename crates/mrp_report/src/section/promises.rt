@@ -45,7 +45,7 @@ impl Line for PromiseLine<'_> {
 
 /// Adds a week of an item.
 ///
-/// Errors: where a growth of memory was refused.
+/// Errors: when out of memory.
 pub(crate) fn promise_row(page: &mut Page, name: &CsvName, row: &PromiseRow) -> Result<(), NoMemory>
     ensures { OnOk result (page.new ≡ page.old ++ promise_text name.now row.now) }
 {

@@ -4,17 +4,17 @@ use Rattle.std.proofs.lemmas.List.{take_all}
 use Rattle.mrp_bill.specs.Bill.{lines_of}
 use Rattle.mrp_bill.specs.declared.groups.Numbered.{Numbered}
 use Rattle.mrp_item.specs.Inputs.{Inputs}
-use Rattle.mrp_peg.specs.Rows.{line_wanted}
+use Rattle.mrp_peg.specs.Rows.{line_requirements}
 use Rattle.mrp_peg.specs.Weekly.{of_week}
-use Rattle.mrp_peg.specs.declared.matching.Wanted.{Wanted}
+use Rattle.mrp_peg.specs.declared.matching.Requirement.{Requirement}
 use Rattle.mrp_peg.proofs.Lists.{map-flat_map}
 use Rattle.mrp_peg.proofs.Loops.{one_line}
 use Rattle.mrp_peg.proofs.Totals.{used_within}
-use Rattle.mrp_peg.proofs.where_used.WhereUsed.asked.Goals as goal
+use Rattle.mrp_peg.proofs.where_used.WhereUsed.required.Goals as goal
 
 -- what parents ask by a line
-abbrev line_rows : Inputs → ℕ → ℕ → List (Numbered Wanted)
-line_rows s i place = map of_week (line_wanted s i place)
+abbrev line_rows : Inputs → ℕ → ℕ → List (Numbered Requirement)
+line_rows s i place = map of_week (line_requirements s i place)
 
 pub line-by-requires : goal.line-by-requires
 line-by-requires c = omega (arith, c.loop-at-test.true, c.len-at-end.ensures)
@@ -29,7 +29,7 @@ loop-at-preserved c =
     let used = c.args.self.now in
     let s = used.plan.now.inputs in
     one_line (line_rows s used.item) [] (lines_of s.tables.bills used.item) c.loop-at.at c.loop-at.rows.items c.add_all.new.rows.items (omega (arith, c.loop-at-test.true, c.len-at-end.ensures)) c.loop-at.invariant
-    (c.in_ok-add_all.ensures ∙ ap (λ (l : List Wanted). c.loop-at.rows.items ++ map of_week l) (sym c.line-by.ensures.asked))
+    (c.in_ok-add_all.ensures ∙ ap (λ (l : List Requirement). c.loop-at.rows.items ++ map of_week l) (sym c.line-by.ensures.required))
 
 pub returns : goal.returns
 returns c =
@@ -38,4 +38,4 @@ returns c =
     let places = lines_of s.tables.bills used.item in
     c.loop-at.invariant
     ∙ ap (flat_map (line_rows s used.item)) (take_all c.loop-at.at places (omega (arith, c.loop-at-test.false, c.len-at-end.ensures)))
-    ∙ sym (map-flat_map of_week (line_wanted s used.item) places)
+    ∙ sym (map-flat_map of_week (line_requirements s used.item) places)
