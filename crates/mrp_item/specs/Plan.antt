@@ -9,7 +9,7 @@ use Rattle.mrp_net.specs.Need.{need, balance}
 use Rattle.mrp_lots.specs.Lots.{receipts}
 use Rattle.mrp_item.specs.declared.order.Order.{Order}
 use Rattle.mrp_item.specs.Inputs.{Inputs, count, horizon, places, item_at, is_master}
-use Rattle.mrp_item.specs.Rows.{lines_to, demand, stock_of}
+use Rattle.mrp_item.specs.Rows.{lines_to, independent_demand, stock_of}
 use Rattle.mrp_item.specs.Lot.{rule_of}
 use Rattle.mrp_item.specs.Orders.{orders_of, released_in}
 use Rattle.mrp_item.specs.Recursion.{value_to}
@@ -46,16 +46,16 @@ is_over Blocked = false
 
 -- what a line asks of its component in a week: the starts of its parent's orders released there, times the quantity per
 -- (Orlicky: explosion)
-abbrev pub asked_by : (ℕ → Outcome) → ℕ → BillLine → ℕ
-asked_by above week line = sum_by (λ order. order.start * line.per) (released_in week (plan_in (above line.parent)).orders)
+abbrev pub line_demand : (ℕ → Outcome) → ℕ → BillLine → ℕ
+line_demand above week line = sum_by (λ order. order.start * line.per) (released_in week (plan_in (above line.parent)).orders)
 
 -- the gross requirement of a part in a week: what the lines to it ask
 abbrev pub part_gross : Inputs → ℕ → (ℕ → Outcome) → ℕ → ℕ
-part_gross s i above week = sum_by (asked_by above week) (lines_to s i)
+part_gross s i above week = sum_by (line_demand above week) (lines_to s i)
 
 -- the gross requirement of an item in a week (Orlicky: gross requirements): the demand of a master item (profile), or a part's
 abbrev pub gross_in : Inputs → ℕ → (ℕ → Outcome) → ℕ → ℕ
-gross_in s i above week = if is_master s i then demand s i week else part_gross s i above week
+gross_in s i above week = if is_master s i then independent_demand s i week else part_gross s i above week
 
 -- the need up to each week, and the receipts up to each week that the lot rule makes of it
 abbrev pub needs_of : Inputs → ℕ → List ℕ → List ℕ

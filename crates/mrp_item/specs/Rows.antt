@@ -38,8 +38,8 @@ abbrev pub booked : Inputs → ℕ → ℕ → ℕ
 booked s i week = sum_by (λ b. b.line.quantity) (bookings_due s i week)
 
 -- the demand of a master item in a week: the greater of its forecast and its standing bookings (profile)
-abbrev pub demand : Inputs → ℕ → ℕ → ℕ
-demand s i week = max (forecast s i week) (booked s i week)
+abbrev pub independent_demand : Inputs → ℕ → ℕ → ℕ
+independent_demand s i week = max (forecast s i week) (booked s i week)
 
 -- what is scheduled for an item in a week: the firm rows of a master item, the open receipts of another
 -- (Orlicky: scheduled receipts)

@@ -11,7 +11,7 @@ ghost use Rattle.mrp_item.specs.Limits.{IsSized};
 ghost use Rattle.mrp_item.specs.NetChange.{IsUntouched};
 ghost use Rattle.mrp_item.specs.Releases.{release_of};
 ghost use Rattle.mrp_item.specs.Orders.{orders_of, started_in};
-ghost use Rattle.mrp_item.specs.Plan.{asked_by, plan_in, HasParents, IsRanked, IsSolution, Planned, Over, Blocked, first_over, gross_in, is_too_large, item_plan, outcome_of, outcome_step, plan_of, receipts_of};
+ghost use Rattle.mrp_item.specs.Plan.{line_demand, plan_in, HasParents, IsRanked, IsSolution, Planned, Over, Blocked, first_over, gross_in, is_too_large, item_plan, outcome_of, outcome_step, plan_of, receipts_of};
 
 /// An item's orders add up to its firm rows and its receipts.
 pub fn orders()
@@ -26,8 +26,8 @@ pub fn releases()
 {}
 
 /// A line asks what starts of its parent, times the quantity per.
-pub fn asking()
-    ensures { (above : ℕ → _) (week : ℕ) (line : _) → asked_by above week line ≡ started_in (plan_in (above line.parent)).orders week * line.per }
+pub fn explosion()
+    ensures { (above : ℕ → _) (week : ℕ) (line : _) → line_demand above week line ≡ started_in (plan_in (above line.parent)).orders week * line.per }
 {}
 
 /// No requirement is unserved: supplies up to a week are at least requirements and safety stock.

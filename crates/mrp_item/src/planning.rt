@@ -16,15 +16,15 @@ ghost use Rattle.mrp_item.specs.Rows.{stock_of};
 ghost use Rattle.mrp_item.specs.Plan as plan;
 ghost use Rattle.mrp_item.specs.Plan.{is_planned, outcome_of, receipts_of};
 
-use crate::asked::asked_row;
-use crate::due::{add_in, nothing};
+use crate::dependent::dependent_demand;
+use crate::due::{add_in, zero_weeks};
 use crate::inputs::Inputs;
 use crate::order::Order;
 use crate::orders::orders_for;
 use crate::outcome::Outcome;
 use crate::over::or_over;
 use crate::planned::{PlanRows, Planned};
-use crate::supply::{demand_row, stock_for};
+use crate::supply::{independent_demand, stock_for};
 use mrp_lots::{Fixed, LotForLot, Period, receipts};
 use mrp_net::{NeedRow, Stock, need};
 use mrp_phase::{PhaseFault, Weeks};
@@ -47,9 +47,9 @@ fn gross_row(
     ensures over { IfErr result (λ fault. fault ≡ PhaseFault.TooLarge → greatest_quantity < sum (own_gross inputs.now item)) }
 {
     if inputs.entry(item).class.is_master() {
-        demand_row(alloc, inputs, item)
+        independent_demand(alloc, inputs, item)
     } else {
-        asked_row(alloc, inputs, item, parents)
+        dependent_demand(alloc, inputs, item, parents)
     }
 }
 
@@ -78,7 +78,7 @@ fn started_row(alloc: Global, weeks: u16, orders: &[Order]) -> Result<Weeks<Qty>
     ensures value { IfOk result (λ w. w ≡ row weeks (started_in orders.now)) }
     ensures over { IfErr result (λ fault. fault ≡ PhaseFault.TooLarge → greatest_quantity < sum_by (λ order. order.start) orders.now) }
 {
-    let mut started = nothing(alloc, weeks)?;
+    let mut started = zero_weeks(alloc, weeks)?;
     for order in orders {
         or_over(add_in(&mut started, weeks, order.release, order.start))?;
     }

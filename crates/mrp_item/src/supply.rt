@@ -4,7 +4,7 @@ ghost use Rattle.std.specs.Prelude.{◌≡◌, ◌<◌, ◌+◌, ℕ, length, ma
 ghost use Rattle.mrp_qty.specs.Quantity.{greatest_quantity};
 ghost use Rattle.mrp_phase.specs.Weeks.{in_week, row};
 ghost use Rattle.mrp_item.specs.Inputs.{count, horizon};
-ghost use Rattle.mrp_item.specs.Rows.{demand, scheduled_in, stock_of};
+ghost use Rattle.mrp_item.specs.Rows.{independent_demand, scheduled_in, stock_of};
 ghost use Rattle.mrp_item.specs.Dues.{due_sum};
 
 use crate::due::{Due, dated};
@@ -56,10 +56,14 @@ fn higher(alloc: Global, one: &[Qty], other: &[Qty]) -> Result<Weeks<Qty>, NoMem
 }
 
 // What is demanded of a master item in each week.
-pub fn demand_row(alloc: Global, inputs: &Inputs, item: usize) -> Result<Weeks<Qty>, PhaseFault>
+pub fn independent_demand(
+    alloc: Global,
+    inputs: &Inputs,
+    item: usize,
+) -> Result<Weeks<Qty>, PhaseFault>
     requires { item < count inputs.now }
-    ensures value { IfOk result (λ w. w ≡ row (horizon inputs.now) (demand inputs.now item)) }
-    ensures over { IfErr result (λ fault. fault ≡ PhaseFault.TooLarge → greatest_quantity < sum (row (horizon inputs.now) (demand inputs.now item))) }
+    ensures value { IfOk result (λ w. w ≡ row (horizon inputs.now) (independent_demand inputs.now item)) }
+    ensures over { IfErr result (λ fault. fault ≡ PhaseFault.TooLarge → greatest_quantity < sum (row (horizon inputs.now) (independent_demand inputs.now item))) }
 {
     let weeks = inputs.weeks();
     let forecast = dated(alloc, weeks, inputs.forecasts(item))?;

@@ -9,7 +9,7 @@ use Rattle.mrp_item.specs.Places.{ItemOf}
 use Rattle.mrp_item.specs.Plan.{is_planned, outcome_of, plan_in}
 use Rattle.mrp_item.proofs.Outcomes.{parent-planned}
 use Rattle.mrp_item.proofs.Parents.{kept_rise, kept_there, parent-at, length-parents}
-use Rattle.mrp_item.proofs.asked.started_of.Goals as goal
+use Rattle.mrp_item.proofs.dependent.started_of.Goals as goal
 
 pub place_of-requires-clause-rises : goal.place_of-requires-clause-rises
 place_of-requires-clause-rises c =

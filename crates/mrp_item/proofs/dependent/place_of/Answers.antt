@@ -2,7 +2,7 @@ use Rattle.std.proofs.Common.{◌≡◌, ◌<◌, ◌≤◌, ◌⊎◌, ℕ, inl
 use Rattle.std.specs.Prelude.{Err}
 use Rattle.std.proofs.lemmas.Bool.{cases_lt}
 use Rattle.std.proofs.lemmas.List.Sorted.{searched}
-use Rattle.mrp_item.proofs.asked.place_of.Goals as goal
+use Rattle.mrp_item.proofs.dependent.place_of.Goals as goal
 
 -- no number stands both below and above itself
 nowhere : (numbers : _) (number i k : ℕ) → k < length numbers → get_or numbers k 0 ≡ number → ((k : ℕ) → k < i → get_or numbers k 0 < number)

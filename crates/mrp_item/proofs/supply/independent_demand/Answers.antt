@@ -3,10 +3,10 @@ use Rattle.std.proofs.lemmas.Result.{err_from_is_err_and}
 use Rattle.mrp_phase.specs.Weeks.{row, in_week}
 use Rattle.mrp_phase.proofs.WeekRows.{length-row, row_same, in_week_row}
 use Rattle.mrp_item.specs.Inputs.{horizon}
-use Rattle.mrp_item.specs.Rows.{demand, forecast, booked}
+use Rattle.mrp_item.specs.Rows.{independent_demand, forecast, booked}
 use Rattle.mrp_item.specs.Dues.{due_sum}
 use Rattle.mrp_item.proofs.DueRows.{dated-row, dated-past, due_sum-forecast, due_sum-bookings}
-use Rattle.mrp_item.proofs.supply.demand_row.Goals as goal
+use Rattle.mrp_item.proofs.supply.independent_demand.Goals as goal
 
 pub returns-in_err-forecast-clause-over : goal.returns-in_err-forecast-clause-over
 returns-in_err-forecast-clause-over c =
@@ -14,7 +14,7 @@ returns-in_err-forecast-clause-over c =
     let s = c.args.inputs.now in
     let i = c.args.item in
     rw (p.1, p.2) (λ over.
-    dated-past c.forecasts.result.now (demand s i) (horizon s) (λ week. omega (arith, ap (λ dues. due_sum dues week) c.forecasts.ensures, due_sum-forecast s i week))
+    dated-past c.forecasts.result.now (independent_demand s i) (horizon s) (λ week. omega (arith, ap (λ dues. due_sum dues week) c.forecasts.ensures, due_sum-forecast s i week))
     (rw c.weeks-weeks.ensures.value at (c.in_err-forecast.ensures.over over)))
 
 pub returns-in_err-booked-clause-over : goal.returns-in_err-booked-clause-over
@@ -23,7 +23,7 @@ returns-in_err-booked-clause-over c =
     let s = c.args.inputs.now in
     let i = c.args.item in
     rw (p.1, p.2) (λ over.
-    dated-past c.bookings.result.now (demand s i) (horizon s) (λ week. omega (arith, ap (λ dues. due_sum dues week) c.bookings.ensures.dues, due_sum-bookings s i week))
+    dated-past c.bookings.result.now (independent_demand s i) (horizon s) (λ week. omega (arith, ap (λ dues. due_sum dues week) c.bookings.ensures.dues, due_sum-bookings s i week))
     (rw c.weeks-weeks.ensures.value at (c.in_err-booked.ensures.over over)))
 
 pub higher-requires : goal.higher-requires
@@ -45,5 +45,5 @@ returns-clause-value c =
     ∙ ap (λ n. row n (booked s i)) c.weeks-weeks.ensures.value in
     c.in_ok-higher.ensures
     ∙ ap (λ n. row n (λ week. max (in_week forecasts week) (in_week bookings week))) (ap length forecast_row ∙ length-row (forecast s i) (horizon s))
-    ∙ row_same (λ week. max (in_week forecasts week) (in_week bookings week)) (demand s i) (horizon s)
+    ∙ row_same (λ week. max (in_week forecasts week) (in_week bookings week)) (independent_demand s i) (horizon s)
     (λ week a b. omega (arith, ap (λ xs. in_week xs week) forecast_row, ap (λ xs. in_week xs week) booked_row, in_week_row (forecast s i) (horizon s) week a b, in_week_row (booked s i) (horizon s) week a b))

@@ -3,7 +3,7 @@
 ghost use Rattle.std.specs.Prelude.{◌≡◌, ◌≤◌, ◌<◌, ◌+◌, ◌*◌, ℕ, true, length, sum, sum_by, slice_index, IfOk, IfErr, OnSome, IfNone};
 ghost use Rattle.mrp_qty.specs.Quantity.{greatest_quantity};
 ghost use Rattle.mrp_phase.specs.Weeks.{in_week, row};
-ghost use Rattle.mrp_item.specs.Asked.{asked_in, with_asked};
+ghost use Rattle.mrp_item.specs.DependentDemand.{dependent_demand, with_line_demand};
 ghost use Rattle.mrp_item.specs.Inputs.{count, horizon};
 ghost use Rattle.mrp_bill.specs.Bill.{IsParent, line_at};
 ghost use Rattle.mrp_item.specs.Orders.{started_in};
@@ -11,7 +11,7 @@ ghost use Rattle.mrp_item.specs.Plan.{is_planned, outcome_of, plan_in};
 ghost use Rattle.mrp_item.specs.Made.{parents_from};
 ghost use Rattle.mrp_item.specs.Own.{IsReady};
 
-use crate::due::nothing;
+use crate::due::zero_weeks;
 use crate::inputs::Inputs;
 use crate::outcome::Outcome;
 use crate::over::or_over;
@@ -45,25 +45,25 @@ fn started_by(outcome: &Outcome) -> &[Qty]
 }
 
 // Adds what a line asks in each week: what starts of the parent, times the quantity per.
-fn add_asked(asked: &mut [Qty], started: &[Qty], per: u64) -> Option<()>
-    requires { length started.now ≡ length asked.old }
-    ensures added { OnSome result (asked.new ≡ row (length asked.old) (with_asked asked.old started.now per)) }
-    ensures none { IfNone result ((week : ℕ) × (0 < week) × (week ≤ length asked.old) × (greatest_quantity < with_asked asked.old started.now per week)) }
+fn add_demand(demand: &mut [Qty], started: &[Qty], per: u64) -> Option<()>
+    requires { length started.now ≡ length demand.old }
+    ensures added { OnSome result (demand.new ≡ row (length demand.old) (with_line_demand demand.old started.now per)) }
+    ensures none { IfNone result ((week : ℕ) × (0 < week) × (week ≤ length demand.old) × (greatest_quantity < with_line_demand demand.old started.now per week)) }
 {
-    for i in 0..asked.len() {
+    for i in 0..demand.len() {
         let more = started[i].times(per)?;
-        asked[i] = asked[i].add(more)?;
+        demand[i] = demand[i].add(more)?;
     }
     Some(())
 }
 
 // The same, in a list of weeks.
-fn add_line(asked: &mut Vec<Qty>, started: &[Qty], per: u64) -> Option<()>
-    requires { length started.now ≡ length asked.old.items }
-    ensures added { OnSome result (asked.new.items ≡ row (length asked.old.items) (with_asked asked.old.items started.now per)) }
-    ensures none { IfNone result ((week : ℕ) × (0 < week) × (week ≤ length asked.old.items) × (greatest_quantity < with_asked asked.old.items started.now per week)) }
+fn add_line(demand: &mut Vec<Qty>, started: &[Qty], per: u64) -> Option<()>
+    requires { length started.now ≡ length demand.old.items }
+    ensures added { OnSome result (demand.new.items ≡ row (length demand.old.items) (with_line_demand demand.old.items started.now per)) }
+    ensures none { IfNone result ((week : ℕ) × (0 < week) × (week ≤ length demand.old.items) × (greatest_quantity < with_line_demand demand.old.items started.now per week)) }
 {
-    add_asked(asked, started, per)
+    add_demand(demand, started, per)
 }
 
 // What starts in each week of a parent of an item.
@@ -86,7 +86,7 @@ fn line_of(bills: &[BillLine], place: usize) -> BillLine
 }
 
 // What the lines to an item ask in each week, from its parents' outcomes.
-pub fn asked_row(
+pub fn dependent_demand(
     alloc: Global,
     inputs: &Inputs,
     item: usize,
@@ -95,16 +95,16 @@ pub fn asked_row(
     requires item { item < count inputs.now }
     requires parents { parents.now ≡ parents_from inputs.now item }
     requires ready { IsReady inputs.now item }
-    ensures value { IfOk result (λ w. w ≡ row (horizon inputs.now) (asked_in inputs.now item)) }
-    ensures over { IfErr result (λ fault. fault ≡ PhaseFault.TooLarge → greatest_quantity < sum (row (horizon inputs.now) (asked_in inputs.now item))) }
+    ensures value { IfOk result (λ w. w ≡ row (horizon inputs.now) (dependent_demand inputs.now item)) }
+    ensures over { IfErr result (λ fault. fault ≡ PhaseFault.TooLarge → greatest_quantity < sum (row (horizon inputs.now) (dependent_demand inputs.now item))) }
 {
     let bills = inputs.shop().tables().bills();
     let weeks = inputs.weeks();
-    let mut asked = nothing(alloc, weeks)?.into_vec();
+    let mut demand = zero_weeks(alloc, weeks)?.into_vec();
     for place in inputs.shop().lines_to(item) {
         let line = line_of(bills, *place);
         let started = started_of(inputs, item, parents, line.parent);
-        or_over(add_line(&mut asked, started, line.per))?;
+        or_over(add_line(&mut demand, started, line.per))?;
     }
-    Ok(Weeks::from_vec(asked))
+    Ok(Weeks::from_vec(demand))
 }
