@@ -28,6 +28,6 @@ Refuses b Full = IsLimit b.entries
 Refuses b NoMemory = ⊥
 
 -- below its limit, a booking that can be promised and a snapshot take memory
-abbrev pub WantsMemory : BookState → Call → Refused → Type 0
-WantsMemory b c Full = ⊥
-WantsMemory b c NoMemory = TakesMemory b c × (¬ IsLimit b.entries)
+abbrev pub IsOutOfMemory : BookState → Call → Refused → Type 0
+IsOutOfMemory b c Full = ⊥
+IsOutOfMemory b c NoMemory = TakesMemory b c × (¬ IsLimit b.entries)

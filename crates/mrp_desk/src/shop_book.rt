@@ -48,7 +48,7 @@ impl ShopBook {
 impl Object for ShopBook {
     ghost use Rattle.mrp_master.specs.Supply.{supply_of};
     ghost use Rattle.mrp_book.specs.History.{Fits};
-    ghost use Rattle.mrp_desk.specs.ShopBook.{Opens, Answers, Refuses, WantsMemory};
+    ghost use Rattle.mrp_desk.specs.ShopBook.{Opens, Answers, Refuses, IsOutOfMemory};
 
     type State = BookState;
 
@@ -66,7 +66,7 @@ impl Object for ShopBook {
 
     ghost refuses = { λ _ b _ _ e. Refuses b e };
 
-    ghost wants_memory = { λ _ b _ call e. WantsMemory b call e };
+    ghost out_of_memory = { λ _ b _ call e. IsOutOfMemory b call e };
 
     fn apply(
         &self,

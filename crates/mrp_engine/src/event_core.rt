@@ -52,7 +52,7 @@ impl Core {
     ghost use Rattle.mrp_master.specs.Supply.{supply_of};
     ghost use Rattle.mrp_book.specs.History.{Fits};
     ghost use Rattle.mrp_engine.specs.declared.event_core.event.Event.TheVariants as event;
-    ghost use Rattle.mrp_engine.specs.event_core.Core.{FitsShop, IsAnswer, IsStarted, WantsMemory, after, opened};
+    ghost use Rattle.mrp_engine.specs.event_core.Core.{FitsShop, IsAnswer, IsStarted, IsOutOfMemory, after, opened};
     ghost use Rattle.mrp_engine.specs.event_core.Headline.{RunsRight};
 
     /// The core of a shop, without an entry and without a run.
@@ -87,7 +87,7 @@ impl Core {
         ensures answer { IfOk result (IsAnswer self.old event) }
         ensures after { IfOk result (λ a. self.new ≡ after self.old event a) }
         ensures refused { OnErr result (self.new ≡ self.old) }
-        ensures memory { OnErr result (WantsMemory self.old event) }
+        ensures memory { OnErr result (IsOutOfMemory self.old event) }
         ensures tables { self.new.tables ≡ self.old.tables }
     {
         match event {
@@ -106,7 +106,7 @@ impl Core {
         ensures answer { IfOk result (IsAnswer self.old (event.Call desk call)) }
         ensures after { IfOk result (λ a. self.new ≡ after self.old (event.Call desk call) a) }
         ensures refused { OnErr result (self.new ≡ self.old) }
-        ensures memory { OnErr result (WantsMemory self.old (event.Call desk call)) }
+        ensures memory { OnErr result (IsOutOfMemory self.old (event.Call desk call)) }
     {
         if !is_seat(desk) {
             return Ok(Answer::Nothing);
@@ -130,7 +130,7 @@ impl Core {
         ensures answer { IfOk result (IsAnswer self.old (event.Start desk)) }
         ensures after { IfOk result (λ a. self.new ≡ after self.old (event.Start desk) a) }
         ensures refused { OnErr result (self.new ≡ self.old) }
-        ensures memory { OnErr result (WantsMemory self.old (event.Start desk)) }
+        ensures memory { OnErr result (IsOutOfMemory self.old (event.Start desk)) }
     {
         if !is_seat(desk) {
             return Ok(Answer::Nothing);
@@ -169,7 +169,7 @@ impl Core {
         ensures answer { IfOk result (IsAnswer self.old (event.Take run worker)) }
         ensures after { IfOk result (λ a. self.new ≡ after self.old (event.Take run worker) a) }
         ensures refused { OnErr result (self.new ≡ self.old) }
-        ensures memory { OnErr result (WantsMemory self.old (event.Take run worker)) }
+        ensures memory { OnErr result (IsOutOfMemory self.old (event.Take run worker)) }
     {
         let Some(place) = self.place(run) else {
             return Ok(Answer::Nothing);
@@ -188,7 +188,7 @@ impl Core {
         ensures answer { IfOk result (IsAnswer self.old (event.Finish run worker)) }
         ensures after { IfOk result (λ a. self.new ≡ after self.old (event.Finish run worker) a) }
         ensures refused { OnErr result (self.new ≡ self.old) }
-        ensures memory { OnErr result (WantsMemory self.old (event.Finish run worker)) }
+        ensures memory { OnErr result (IsOutOfMemory self.old (event.Finish run worker)) }
     {
         let Some(place) = self.place(run) else {
             return Ok(Answer::Nothing);
@@ -204,7 +204,7 @@ impl Core {
         ensures answer { IfOk result (IsAnswer self.old (event.GiveUp run worker)) }
         ensures after { IfOk result (λ a. self.new ≡ after self.old (event.GiveUp run worker) a) }
         ensures refused { OnErr result (self.new ≡ self.old) }
-        ensures memory { OnErr result (WantsMemory self.old (event.GiveUp run worker)) }
+        ensures memory { OnErr result (IsOutOfMemory self.old (event.GiveUp run worker)) }
     {
         let Some(place) = self.place(run) else {
             return Ok(Answer::Nothing);
@@ -226,7 +226,7 @@ impl Core {
         ensures answer { IfOk result (IsAnswer self.old (event.Write run)) }
         ensures after { IfOk result (λ a. self.new ≡ after self.old (event.Write run) a) }
         ensures refused { OnErr result (self.new ≡ self.old) }
-        ensures memory { OnErr result (WantsMemory self.old (event.Write run)) }
+        ensures memory { OnErr result (IsOutOfMemory self.old (event.Write run)) }
     {
         let Some(place) = self.place(run) else {
             return Ok(Answer::Nothing);

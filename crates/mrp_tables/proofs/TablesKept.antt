@@ -28,7 +28,7 @@ use Rattle.mrp_tables.specs.Bills.{bill_row}
 use Rattle.mrp_tables.specs.Centres.{centre_cells, centre_names, centre_row}
 use Rattle.mrp_tables.specs.Facts.{AllDiffer, IsBillLine, IsCentre, IsItem, IsMasterRow, IsMasterRowIfAny, IsOperation, IsReceipt, IsReceiptIfAny, IsScriptRow, IsStockRow, NumbersRise}
 use Rattle.mrp_tables.specs.Items.{is_master, item_cells, item_row, names_of}
-use Rattle.mrp_tables.specs.Laws.{HasOneReading, IsToldAtItsTable}
+use Rattle.mrp_tables.specs.Laws.{HasOneReading, IsReportedAtItsTable}
 use Rattle.mrp_tables.specs.Master.{master_row, that_count}
 use Rattle.mrp_tables.specs.Readers.{by_centres, by_dates, by_items, calendar_in, centres_in, items_in}
 use Rattle.mrp_tables.specs.Reading.{Reads, admitted, by_itself, rows_from, rows_of}
@@ -45,7 +45,7 @@ use Rattle.mrp_tables.proofs.Kept.{kept, kept-count, kept_orders, kept_receipts,
 use Rattle.mrp_tables.proofs.RecordsRead.{is_bill_line, is_centre, is_item, is_master_row, is_placed, is_routed, is_script_row, is_stock_row}
 use Rattle.mrp_tables.proofs.Rising.{receipts_rise}
 use Rattle.mrp_tables.proofs.Stocked.{more_items}
-use Rattle.mrp_tables.proofs.TellingTables.{told_at_its_table}
+use Rattle.mrp_tables.proofs.TellingTables.{reported_at_its_table}
 
 -- what holds of no row, and of one row more that is read, holds of all
 kept_from : {X : Type 0} (Are : List X → Type 0) (read : Reads X) → ((before : List X) (r : Cells) (x : X) → Are before → read before r ≡ Ok x → Are (before ++ x ∷ []))
@@ -278,6 +278,6 @@ one_reading texts = record {
 }
   where
     by : (r : Result Tables Fault) → tables_in texts ≡ r
-        → ((tables : Tables) × (tables_in texts ≡ Ok tables) × AreTables tables) ⊎ ((f : Fault) × (tables_in texts ≡ Err f) × IsToldAtItsTable texts f)
+        → ((tables : Tables) × (tables_in texts ≡ Ok tables) × AreTables tables) ⊎ ((f : Fault) × (tables_in texts ≡ Err f) × IsReportedAtItsTable texts f)
     by (Ok tables) e = inl (tables, e, are_tables texts tables e)
-    by (Err f) e = inr (f, e, told_at_its_table texts f e)
+    by (Err f) e = inr (f, e, reported_at_its_table texts f e)

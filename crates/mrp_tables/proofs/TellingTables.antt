@@ -13,7 +13,7 @@ use Rattle.mrp_tables.specs.Bills.{bill_row}
 use Rattle.mrp_tables.specs.Centres.{centre_row}
 use Rattle.mrp_tables.specs.declared.limits.TheConstants as limits
 use Rattle.mrp_tables.specs.Items.{item_row}
-use Rattle.mrp_tables.specs.Laws.{AreWholeBefore, FaultsAtItsRecord, IsToldAtItsTable, reading_of, whole}
+use Rattle.mrp_tables.specs.Laws.{AreWholeBefore, FaultsAtItsRecord, IsReportedAtItsTable, reading_of, whole}
 use Rattle.mrp_tables.specs.Master.{master_row, that_count}
 use Rattle.mrp_tables.specs.Readers.{by_centres, by_dates, by_items, calendar_in, centres_in, items_in, table_in}
 use Rattle.mrp_tables.specs.Reading.{Reads, by_itself, rows_of}
@@ -88,8 +88,8 @@ at_own : {X : Type 0} (own : Table) (r : Result X Fault) (f : Fault) → IsOf ow
 at_own own (Ok x) f at given = absurd cc
 at_own own (Err g) f at given = let same : g ≡ f = cc in rw same at at
 
-pub told_at_its_table : (texts : List (List ℕ)) (f : Fault) → tables_in texts ≡ Err f → IsToldAtItsTable texts f
-told_at_its_table texts f given =
+pub reported_at_its_table : (texts : List (List ℕ)) (f : Fault) → tables_in texts ≡ Err f → IsReportedAtItsTable texts f
+reported_at_its_table texts f given =
     let by = refused_by_table texts f given in
     let table : f.table ≡ by.own = at_own by.own (table_in texts by.own) f (own_fault texts by.own by.earlier) by.refused in
     record {

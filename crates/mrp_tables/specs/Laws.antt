@@ -125,7 +125,7 @@ abbrev pub AreWholeBefore : List (List ℕ) → Table → Type 0
 AreWholeBefore texts own = all_whole (map (reading_of texts) (take (table_index own) table_order)) ≡ Ok tt
 
 -- a fault is told at its table, and the tables before it are all read whole
-pub record IsToldAtItsTable (texts : List (List ℕ)) (f : Fault) : Type 0 where
+pub record IsReportedAtItsTable (texts : List (List ℕ)) (f : Fault) : Type 0 where
   pub own : reading_of texts f.table ≡ Err f
   pub earlier : AreWholeBefore texts f.table
 
@@ -141,7 +141,7 @@ IsFirstTablesFault texts = whole (tables_in texts) ≡ all_whole (map (reading_o
 
 -- texts have tables, which keep what is said of accepted tables, or a fault, which is told at its table; no two of either, and not both
 pub record HasOneReading (texts : List (List ℕ)) : Type 0 where
-  pub either : ((tables : Tables) × (tables_in texts ≡ Ok tables) × AreTables tables) ⊎ ((f : Fault) × (tables_in texts ≡ Err f) × IsToldAtItsTable texts f)
+  pub either : ((tables : Tables) × (tables_in texts ≡ Ok tables) × AreTables tables) ⊎ ((f : Fault) × (tables_in texts ≡ Err f) × IsReportedAtItsTable texts f)
   pub tables : (a b : Tables) → tables_in texts ≡ Ok a → tables_in texts ≡ Ok b → a ≡ b
   pub faults : (f g : Fault) → tables_in texts ≡ Err f → tables_in texts ≡ Err g → f ≡ g
   pub apart : (tables : Tables) (f : Fault) → tables_in texts ≡ Ok tables → tables_in texts ≡ Err f → ⊥

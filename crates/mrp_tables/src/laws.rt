@@ -4,7 +4,7 @@ ghost use Rattle.std.specs.Prelude.{◌≡◌, ℕ, List, Ok, Err};
 ghost use Rattle.mrp_rows.specs.declared.fault.Fault.{Fault};
 ghost use Rattle.mrp_rows.specs.Columns.{Layout};
 ghost use Rattle.mrp_rows.specs.Left.{Cells};
-ghost use Rattle.mrp_tables.specs.Laws.{AreOfTheirTexts, FaultsAtTheirRecords, HasOneReading, IsAdmittedFirst, IsFirstTablesFault, IsReadInTurn, IsToldAtItsTable};
+ghost use Rattle.mrp_tables.specs.Laws.{AreOfTheirTexts, FaultsAtTheirRecords, HasOneReading, IsAdmittedFirst, IsFirstTablesFault, IsReadInTurn, IsReportedAtItsTable};
 ghost use Rattle.mrp_tables.specs.Reading.{Reads};
 ghost use Rattle.mrp_tables.specs.Tables.{AreTables, Tables, tables_in};
 
@@ -25,8 +25,8 @@ pub fn faults_stand_at_their_records()
 {}
 
 /// A bundle's fault is told at its table, and every table before that one is read whole.
-pub fn faults_are_told_at_their_tables()
-    ensures { (texts : List (List ℕ)) (f : Fault) → tables_in texts ≡ Err f → IsToldAtItsTable texts f }
+pub fn faults_are_reported_at_their_tables()
+    ensures { (texts : List (List ℕ)) (f : Fault) → tables_in texts ≡ Err f → IsReportedAtItsTable texts f }
 {}
 
 /// The tables are read in their order: the first one that is not read whole gives the fault.

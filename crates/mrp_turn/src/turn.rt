@@ -243,7 +243,7 @@ impl<O: Object> Turn<O> {
         requires call { O.fits self.now.about.object call }
         ensures same { place.new.table_id ≡ place.old.table_id }
         ensures told { RunTells
-            O.opens O.answers O.refuses O.wants_memory call place.old.me result place.new.me }
+            O.opens O.answers O.refuses O.out_of_memory call place.old.me result place.new.me }
     {
         let mut held = self.take(rt, place);
         let result = answer(&self.about.object, &mut held, number, call);
@@ -269,7 +269,7 @@ impl<O: Object> Turn<O> {
         // What the seat has then seen is a legal log that goes on from what it had seen, and its own entries are those of
         // the log. An answered call is the last entry; a refused one made none, and has its cause.
         ensures told { SeatTells
-            O.opens O.answers O.refuses O.wants_memory self.now.about call seat.old result seat.new }
+            O.opens O.answers O.refuses O.out_of_memory self.now.about call seat.old result seat.new }
     {
         self.run(rt, seat.number, &mut seat.place, call)
     }
@@ -291,7 +291,7 @@ impl<O: Object> Turn<O> {
         ensures met { StartsWith seat.new.seen other.old.seen }
         // The rest is as for `call`.
         ensures told { SeatTells
-            O.opens O.answers O.refuses O.wants_memory self.now.about call seat.old result seat.new }
+            O.opens O.answers O.refuses O.out_of_memory self.now.about call seat.old result seat.new }
     {
         let note = self.table.shared.split_seat::<Note>(&mut other.place);
         self.table.shared.join_seat::<Keep>(&mut seat.place, note);
@@ -360,7 +360,7 @@ fn answer<O: Object>(
         × (r.0 ≡ length held.new.log.items)
         × O.answers object.now held.old.state who call r.1 held.new.state)
         (λ f. (held.new.log.items ≡ held.old.log.items) × (held.new.state ≡ held.old.state)
-        × Explains (O.refuses object.now held.old.state who call) (O.wants_memory object.now held.old.state who call)
+        × Explains (O.refuses object.now held.old.state who call) (O.out_of_memory object.now held.old.state who call)
         (vec_capacity held.old.log) (length held.old.log.items) f) }
 {
     if held.log.try_reserve(1).is_err() {

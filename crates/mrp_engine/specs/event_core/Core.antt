@@ -85,7 +85,7 @@ IsToldLater core (event.Take run who) = board_reply (run_inputs core run) (log_a
 IsToldLater core e = ⊥
 
 -- an event that may be refused for want of memory: one that has meaning, asks no full order book, and is not told to come again
-pub record WantsMemory (core : Core) (e : Event) : Type 0 where
+pub record IsOutOfMemory (core : Core) (e : Event) : Type 0 where
   pub meant : HasMeaning core e
   pub not_full : ¬ AsksFullBook core e
   pub not_later : ¬ IsToldLater core e
