@@ -1,4 +1,4 @@
-//! A reader that goes on where a read is interrupted.
+//! A reader that tries interrupted reads again.
 
 use mrp_rows::Told;
 use std::io;

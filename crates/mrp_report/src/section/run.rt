@@ -8,8 +8,8 @@ use itoa::Buffer;
 use mrp_day::Section;
 use mrp_qty::NoMemory;
 
-/// Adds the section `run`: the entry of the book that is planned from, and how many bookings stand
-/// there.
+/// Adds the section `run`: the entry of the order book that the run plans from, and how many
+/// bookings stand there.
 ///
 /// Errors: when out of memory.
 #[tactic(auto, unfolding(csv::specs::Writing::fields_text, csv::specs::Writing::is_blank))]
