@@ -3,7 +3,7 @@ use Rattle.std.specs.Prelude.{take}
 use Rattle.mrp_cal.specs.Calendar.{ShopCalendar, days_in}
 use Rattle.mrp_cal.specs.declared.calendar.Calendar.TheInside.{Inside}
 
--- its fields, with the holidays of the horizon's days alone
+-- its fields, with only the holidays on days of the horizon
 abbrev pub calendar_view : Inside → ShopCalendar
 calendar_view c = record {
   start = c.start;

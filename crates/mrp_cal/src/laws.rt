@@ -5,8 +5,8 @@ ghost use Rattle.jiff.specs.Types.{Date};
 ghost use Rattle.jiff.specs.Words.{epoch_day, weekday_of};
 ghost use Rattle.mrp_cal.specs.Calendar.{IsShopCalendar, ShopCalendar};
 
-/// A date that lies so many days after the start falls on the weekday, counted from Monday, that is
-/// left of their number when whole weeks are taken away.
+/// A date a number of days after the start falls on the weekday, counted from Monday as 0, that is
+/// the remainder of that number by 7.
 pub fn weekdays()
     ensures { (c : ShopCalendar) → IsShopCalendar c → (d : Date) (day : ℕ)
         → epoch_day d ≡ epoch_day c.start +ℤ pos day → weekday_of d ≡ day % 7 }

@@ -10,19 +10,19 @@ use Rattle.mrp_rows.specs.Columns.{Layout, width}
 use Rattle.mrp_tables.specs.Reading.{NextAdmitted, admitted, is_past}
 use Rattle.mrp_tables.specs.Limits.{record_limit}
 
--- a refusal of the cursor, but for a record past the limit
+-- a refusal of the cursor, other than for a record beyond the limit
 abbrev pub past_first : Fault → Fault
 past_first f = if (f.code == faults.COLUMNS) && is_past (record_limit f.table) f.row then record { code = faults.TOO_MANY; table = f.table; row = f.row } else f
 
 same_fault : (a b : Fault) → a.code ≡ b.code → a.table ≡ b.table → a.row ≡ b.row → a ≡ b
 same_fault a b e f g = λ i. record { code = e i; table = f i; row = g i }
 
--- a record past its limit
+-- a record beyond its limit
 past : (own : Layout) (f : Fault) (r : Cells) → f.code ≡ faults.COLUMNS → f.table ≡ r.table → f.row ≡ r.number → is_past (record_limit r.table) r.number ≡ true → admitted own r ≡ Err (past_first f)
 past own f r code table row h =
     rw (code, table, row, h) refl
 
--- a record within its limit, with another count of cells
+-- a record within its limit, with a wrong count of cells
 within : (own : Layout) (f : Fault) (r : Cells) → f.code ≡ faults.COLUMNS → f.table ≡ r.table → f.row ≡ r.number → is_past (record_limit r.table) r.number ≡ false
     → length r.cells ≢ width own → admitted own r ≡ Err (past_first f)
 within own f r code table row h wide =
@@ -36,7 +36,7 @@ either : (own : Layout) (f : Fault) (r : Cells) → f.code ≡ faults.COLUMNS �
 either own f r code table row wide true h = past own f r code table row h
 either own f r code table row wide false h = within own f r code table row h wide
 
--- a refusal of memory stays, at the record
+-- out of memory is reported at the record
 by_why : (old new : Left) (f : Fault) → LacksMemory old f new ⊎ IsMisshapen old f new → NextAdmitted old (Err (past_first f)) new
 by_why old new f (inl memory) = inl (record { fault = ap past_first memory.fault; number = memory.number })
 by_why old new f (inr other) =

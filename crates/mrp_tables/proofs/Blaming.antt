@@ -1,4 +1,4 @@
--- A record's faults stand at the record.
+-- A record's faults name the record.
 use Rattle.std.proofs.Common.{◌≡◌, ℕ, Bool, true, false, List, [], ◌∷◌, Result, Ok, Err, refl}
 use Rattle.std.specs.Prelude.{IfErr, codes, if◌then◌else◌, ◌&&◌, nat_lt, nat_eq, not, length, ◌==◌}
 use Rattle.std.specs.List.{list_any}

@@ -1,4 +1,4 @@
--- The calendar of what is kept of its entries.
+-- The calendar of the fields that hold its entries.
 use Rattle.std.proofs.Common.{◌≡◌, ◌∙◌, ℕ, Bool, List, [], ◌∷◌, Option, Some, Result, Ok, refl, sym, ap}
 use Rattle.std.specs.Prelude.{map}
 use Rattle.std.proofs.lemmas.Bool.{le-leb}
@@ -21,7 +21,7 @@ made : (start : Date) (weeks : ℕ) (workdays : List Bool) (holidays : List Date
 unfolding shop.calendar_of
 made start weeks workdays holidays (starts, counts, worked) = rw (starts.0, le-leb 1 weeks counts.0, le-leb weeks MOST_WEEKS counts.1, worked) refl
 
--- a calendar of what is kept is that of the entries
+-- the calendar of the fields is that of the entries
 pub calendar_made : (start : Option Date) (weeks : Option ℕ) (workdays : Option (List Bool)) (holidays : List Date) (s : Date) (w : ℕ) (d : List Bool)
     → start ≡ Some s → weeks ≡ Some w → workdays ≡ Some d → AreKept start weeks workdays holidays
     → (entries : List Entry) → entries_of start weeks workdays holidays ≡ entries

@@ -73,7 +73,7 @@ rising number_of read at text rows limit e own given =
     rising_from number_of read at limit e own [] all.0.number all.0.left rows
     (record { below = All-nil (λ x. number_of x < all.0.number); rising = λ i j d less within. absurd (omega (arith, within)) }) all.2
 
--- the open receipts that count
+-- the open receipts that have pieces
 pub receipts_rise : (calendar : ShopCalendar) (items : List Item) (text : List ℕ) (rows : List Receipt) → rows_of (receipt_row calendar items) (layout_of t.Receipts) text ≡ Ok rows
     → NumbersRise (receipts_that_count rows)
 receipts_rise calendar items text rows given =

@@ -1,4 +1,4 @@
--- What accepted tables keep, by the definitions alone.
+-- What holds of accepted tables, by the definitions alone.
 use Rattle.std.proofs.Common.{◌≡◌, ◌⊎◌, ◌≤◌, ℕ, List, [], ◌∷◌, ◌++◌, Result, Ok, Err, inl, inr, refl, sym, subst, ◌∙◌, arith, length}
 use Rattle.std.specs.Prelude.{All, nat_eq, nat_lt, ◌&&◌}
 use Rattle.std.specs.Cmp.{nat_eq_equiv}
@@ -47,7 +47,7 @@ use Rattle.mrp_tables.proofs.Rising.{receipts_rise}
 use Rattle.mrp_tables.proofs.Stocked.{more_items}
 use Rattle.mrp_tables.proofs.TellingTables.{reported_at_its_table}
 
--- what holds of no row, and of one row more that is read, holds of all
+-- what holds of no rows, and still holds with one more row that is read, holds of all
 kept_from : {X : Type 0} (Are : List X → Type 0) (read : Reads X) → ((before : List X) (r : Cells) (x : X) → Are before → read before r ≡ Ok x → Are (before ++ x ∷ []))
     → (own : Layout) (before : List X) (number : ℕ) (left : List (List (List ℕ))) (rows : List X) → Are before → rows_from read own before number left ≡ Ok rows → Are rows
 unfolding rows_from
@@ -163,7 +163,7 @@ are_receipts calendar items text rows e =
     kept_of (AreReceipts calendar items) (receipt_row calendar items) (one_receipt calendar items) (layout_of t.Receipts) text rows
     (record { within = All-nil (IsReceiptIfAny calendar.weeks items); ordered = none_differ }) e
 
--- a table that is read beside these
+-- a table that refers to these
 beside_items : {X : Type 0} (texts : List (List ℕ)) (own : Table) (reads : List Item → Reads X) (items : List Item) (rows : List X) → items_in texts ≡ Ok items
     → (by_items texts reads >>= λ read. rows_of read (layout_of own) (text_in texts own)) ≡ Ok rows → rows_of (reads items) (layout_of own) (text_in texts own) ≡ Ok rows
 beside_items texts own reads items rows is e = sym (rw is refl) ∙ e
@@ -182,7 +182,7 @@ beside_centres {X} texts own reads items centres rows is_items is_centres e =
     let same : (by_centres texts reads >>= λ read. rows_of read (layout_of own) (text_in texts own)) ≡ rows_of (reads items centres) (layout_of own) (text_in texts own) = rw (is_items, is_centres) refl in
     sym same ∙ e
 
--- the open receipts that count
+-- the open receipts that have pieces
 record AreReceiptsKept (calendar : ShopCalendar) (items : List Item) (rows : List Receipt) : Type 0 where
   within : All (IsReceipt calendar.weeks items) rows
   numbered : NumbersRise rows
@@ -205,7 +205,7 @@ receipts_kept texts calendar items rows is_calendar is_items e =
       count = omega (arith, few, fewer);
     })
 
--- the rows of the master schedule that count
+-- the rows of the master schedule that have pieces
 record AreMasterKept (calendar : ShopCalendar) (items : List Item) (rows : List MasterRow) : Type 0 where
   within : All (IsMasterRow calendar.weeks items) rows
   count : length rows ≤ limits.MOST_ROWS

@@ -1,4 +1,4 @@
--- A bundle's fault, told at its table.
+-- A bundle's fault, reported at its table.
 use Rattle.std.proofs.Common.{◌≡◌, ℕ, List, Result, Ok, Err, refl, sym, subst}
 use Rattle.mrp_qty.specs.Reading.{◌>>=◌}
 use Rattle.mrp_cal.specs.Calendar.{ShopCalendar}
@@ -26,7 +26,7 @@ use Rattle.mrp_tables.proofs.Blaming.{at_their_records}
 use Rattle.mrp_tables.proofs.OwnTable.{IsOf, calendar_own, follows, rows_own}
 use Rattle.mrp_tables.proofs.TableLaws.{refused_by_table}
 
--- the calendar and the items, of which others are read beside, are read whole
+-- the calendar and the items, to which others refer, are read whole
 looked_at : {X Y : Type 0} (x : Result X Fault) (y : Result Y Fault) (rest : Result (Unit {0}) Fault)
     → (whole x >>= λ v. whole y >>= λ w. rest) ≡ Ok tt → (a : X) × (x ≡ Ok a) × (b : Y) × (y ≡ Ok b)
 looked_at (Ok a) (Ok b) rest given = (a, refl, b, refl)
@@ -41,7 +41,7 @@ looked_at_centres (Ok a) (Ok b) (Err f) rest given = absurd cc
 looked_at_centres (Ok a) (Err f) z rest given = absurd cc
 looked_at_centres (Err f) y z rest given = absurd cc
 
--- the faults of a table that is read beside these are its own
+-- the faults of a table that refers to these are its own
 items_own : {X : Type 0} (texts : List (List ℕ)) (own : Table) (reads : List Item → Reads X) (items : List Item) → items_in texts ≡ Ok items
     → FaultsAtItsRecord (reads items) → IsOf own (by_items texts reads >>= λ read. rows_of read (layout_of own) (text_in texts own))
 items_own texts own reads items is at = rw is (rows_own (reads items) at (layout_of own) (text_in texts own))
@@ -59,7 +59,7 @@ centres_own texts own reads items centres is_items is_centres at = rw (is_items,
 counted_own : {X : Type 0} (own : Table) (count : List X → List X) (read : Result (List X) Fault) → IsOf own read → IsOf own (read >>= λ rows. Ok (count rows))
 counted_own own count read at = follows own read (λ rows. Ok (count rows)) at (λ rows e. tt)
 
--- behind tables that are read whole, a table's fault is its own
+-- after tables that are read whole, a table's fault is its own
 own_fault : (texts : List (List ℕ)) (own : Table) → AreWholeBefore texts own → IsOf own (table_in texts own)
 own_fault texts t.Calendar earlier = calendar_own (text_in texts t.Calendar)
 own_fault texts t.Items earlier = rows_own (item_row limits.MOST_LEAD) (at_their_records.items limits.MOST_LEAD) (layout_of t.Items) (text_in texts t.Items)

@@ -31,14 +31,14 @@ weeks_cells r = do
   _ ← keyed (codes "weeks") r
   blame r (number_cell 1 MOST_WEEKS (cell_at r 1))
 
--- seven of 0 and 1
+-- seven flags, each 0 or 1
 abbrev pub are_flags : List ℕ → Bool
 are_flags cell = (length cell == 7) && list_all (λ byte. (byte == 48) || (byte == 49)) cell
 
 abbrev pub flags_of : List ℕ → List Bool
 flags_of cell = map (λ byte. byte == 49) cell
 
--- seven of 0 and 1 from Monday, or WORD; at least one 1, or RANGE
+-- seven flags, each 0 or 1, from Monday, or WORD; at least one 1, or RANGE
 abbrev pub workdays_cell : List ℕ → Result (List Bool) ℕ
 workdays_cell cell =
     if are_flags cell then (if has_workday (flags_of cell) then Ok (flags_of cell) else Err faults.RANGE) else Err faults.WORD
@@ -53,7 +53,7 @@ holiday_cells r = do
   _ ← keyed (codes "holiday") r
   blame r (date_cell (cell_at r 1))
 
--- what a record says behind the entries of those before it
+-- the entry of a record, given the entries before it
 abbrev pub entry_row : List Entry → Cells → Result Entry Fault
 entry_row [] r = start_cells r >>= λ date. Ok (Start date)
 entry_row (start ∷ []) r = weeks_cells r >>= λ weeks. Ok (Weeks weeks)
@@ -78,7 +78,7 @@ calendar_from (Start start ∷ Weeks weeks ∷ Workdays workdays ∷ holidays) =
     Ok (record { start = start; weeks = weeks; workdays = workdays; holidays = holidays_in start weeks (dates_of holidays) })
 calendar_from entries = Err (missing_record (length entries + 1))
 
--- the entries of what is kept of them
+-- the entries, from the fields that hold them
 abbrev pub entries_of : Option Date → Option ℕ → Option (List Bool) → List Date → List Entry
 entries_of None weeks workdays holidays = []
 entries_of (Some start) None workdays holidays = Start start ∷ []
@@ -92,7 +92,7 @@ IsEntry (Weeks weeks) = IsInRange 1 MOST_WEEKS weeks
 IsEntry (Workdays workdays) = has_workday workdays ≡ true
 IsEntry (Holiday date) = Unit {0}
 
--- what is kept of the entries: each within its limits, and nothing of one without those before it
+-- the fields that hold the entries: each entry is within its limits, and comes with those before it
 abbrev pub AreKept : Option Date → Option ℕ → Option (List Bool) → List Date → Type 0
 AreKept None weeks workdays holidays = (weeks ≡ None) × (workdays ≡ None) × (holidays ≡ [])
 AreKept (Some start) None workdays holidays = IsEntry (Start start) × (workdays ≡ None) × (holidays ≡ [])

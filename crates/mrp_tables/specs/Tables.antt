@@ -34,7 +34,9 @@ pub record Tables : Type 0 where
   pub master : List MasterRow
   pub script : List ScriptRow
 
--- what accepted tables keep: rows within their limits, of items and centres that are there and weeks of the horizon; open receipts whose records' numbers rise; names that differ, items that stand in the stock at most once, and orders and operations of an item that stand in the receipts and in the routings at most once; no more rows than the limits
+-- what holds of accepted tables: rows within their limits, of items and centres that exist and weeks of the horizon; open
+-- receipts whose records' numbers rise; names that differ, items that are in the stock at most once, and orders and
+-- operations of an item that are in the receipts and in the routings at most once; no more rows than the limits
 pub record AreTables (t : Tables) : Type 0 where
   pub items : All IsItem t.items
   pub names : AllDiffer (names_of t.items)

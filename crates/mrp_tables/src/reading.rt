@@ -1,4 +1,4 @@
-//! Reading a table's records, one after the other.
+//! Reading a table's records, in order.
 
 ghost use Rattle.std.specs.Prelude.{◌≡◌, ◌==◌, ◌&&◌, ◌≤◌, if◌then◌else◌, ℕ, [], length, IfOk, IfSome};
 ghost use Rattle.mrp_rows.specs.Bundle.{text_in};
@@ -20,10 +20,10 @@ fn is_past_limit(table: Table, number: u32) -> bool
     }
 }
 
-/// A table's next record, or None at the end.
+/// A table's next record, or `None` at the end.
 ///
-/// Errors, at the record's number: `TOO_MANY`, past the table's limit; then `COLUMNS`, another count
-/// of cells than the table has columns; `NO_MEMORY`.
+/// Errors, at the record's number: `TOO_MANY` beyond the table's limit; then `COLUMNS` if the count
+/// of cells is not that of the table's columns; `NO_MEMORY`.
 pub(crate) fn next_record(cursor: &mut Cursor<'_>) -> Result<Option<Row>, Fault>
     ensures next { NextAdmitted cursor.old result cursor.new }
     ensures wide { IfOk result (λ next. IfSome next (λ r. length r.cells ≡ width cursor.old.layout)) }
@@ -42,7 +42,7 @@ pub(crate) fn next_record(cursor: &mut Cursor<'_>) -> Result<Option<Row>, Fault>
     }
 }
 
-// A record past its table's limit is refused for that, whatever its cells.
+// A record beyond its table's limit is refused for that, whatever its cells.
 fn past_first(fault: Fault) -> Fault
     ensures { result ≡ (if (fault.code == COLUMNS) && is_past (record_limit fault.table) fault.row then record { code = TOO_MANY; table = fault.table; row = fault.row } else fault) }
 {
@@ -65,13 +65,13 @@ pub(crate) trait TableRows: Drop {
     ghost use Rattle.mrp_tables.specs.Gathered.{Beside};
     ghost use Rattle.mrp_tables.specs.Reading.{Adds, Reads};
 
-    // which counts of cells it takes
+    // the counts of cells that it accepts
     ghost takes: { ℕ → Type 0 };
     // the rows so far
     ghost rows: { Self → List Self.Line };
     // how a record is read
     ghost reads: { Self → Reads Self.Line };
-    // what it is read beside
+    // the tables that it refers to
     ghost beside: { Self → Beside };
 
     /// Adds the row of a record.
@@ -82,7 +82,7 @@ pub(crate) trait TableRows: Drop {
         ensures beside { beside self.new ≡ beside self.old };
 }
 
-/// The rows of the records that a cursor has left, behind those that are gathered already.
+/// The rows of a cursor's remaining records, after those that are already gathered.
 pub(crate) fn gather<G: TableRows>(cursor: &mut Cursor<'_>, mut gathered: G) -> Result<G, Fault>
     requires { G.takes (width cursor.old.layout) }
     ensures rows { Gives
@@ -100,7 +100,7 @@ pub(crate) fn gather<G: TableRows>(cursor: &mut Cursor<'_>, mut gathered: G) -> 
     Ok(gathered)
 }
 
-/// A table's rows, or its first fault, memory aside.
+/// A table's rows, or its first fault, unless it runs out of memory.
 pub(crate) fn read_table<G: TableRows>(
     alloc: Global,
     sections: &Sections<'_>,
