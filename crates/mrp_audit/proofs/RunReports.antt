@@ -122,7 +122,7 @@ run-stands t h k e snapshot text left rest run len front within is taken before 
     let report = run_report (inputs_of t snapshot) in
     compared-more t h k e snapshot text left rest run within is taken before ((stands report left run len front compares judged).1 ∙ ap (λ (r : List ℕ). report ++ r) (sym cut))
 
--- it does not stand there, or memory was refused, where it is judged so, of a history that is told by its entries
+-- it does not stand there, or out of memory, where it is judged so, of a history that is told by its entries
 pub run-judged : (t : Tables) (items h : History) (k : ℕ) (e : Entry Call Reply) (snapshot : Snapshot) (text left : List ℕ) (run : ℕ) (front : Result (Option ℕ) NoMemory) (f : AuditFault) → items ≡ h → k < length items
     → e ≡ get_or items k e → e.reply ≡ reply.Taken snapshot → HasCompared t items k text left run → ComparesFront (run_report (inputs_of t snapshot)) left front → IsRunJudged run front (Err f)
     → ComparesReports (runs_of t h) text (Err f)

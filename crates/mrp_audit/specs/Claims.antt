@@ -19,7 +19,7 @@ use Rattle.mrp_audit.specs.declared.claim.Claim.{Claim}
 use Rattle.mrp_audit.specs.declared.claim.ClaimedReply.{ClaimedReply}
 use Rattle.mrp_audit.specs.declared.claim.ClaimedReply.TheVariants as said
 
--- what a history says of a reply: of a snapshot, the number of its entry
+-- what a history says for a reply; for a snapshot, the number of its entry
 abbrev pub claimed : Reply → ClaimedReply
 claimed (reply.Booked n) = said.Booked n
 claimed (reply.Short available) = said.Short available
@@ -32,7 +32,7 @@ claimed reply.NoWeek = said.NoWeek
 claimed (reply.Taken snapshot) = said.Front snapshot.front
 claimed (reply.Front n) = said.Front n
 
--- what a history says of an entry
+-- what a history says for an entry
 abbrev pub claim_of : Entry Call Reply → Claim
 claim_of e = record { desk = e.who; call = e.call; reply = claimed e.reply }
 

@@ -1,4 +1,4 @@
--- What accepted tables keep, of what the texts of their days hang on (profile).
+-- What accepted tables guarantee and the texts of their days depend on (profile).
 use Rattle.std.specs.Prelude.{◌≤◌, All, length}
 use Rattle.mrp_cal.specs.declared.calendar.TheConstants.{MOST_WEEKS}
 use Rattle.mrp_tables.specs.declared.limits.TheConstants.{MOST_ROWS}

@@ -54,7 +54,7 @@ known_told causes c (Some d) inside = by (list_any (same_cause d) causes) refl (
 known_place : (s : Inputs) (causes : List Cause) (c : Cause) → Contains causes c → first_place same_cause (λ g. known causes (ends_in g)) (plan_pegs s) c ≡ place_of s c
 known_place s causes c inside = ap (λ (p : Peg → Bool). position_or_len p (plan_pegs s)) (λ k g. known_told causes c (ends_in g) inside k)
 
--- what a peg ends in, if it is one of the causes
+-- the cause that a peg ends in, if it is among these causes
 abbrev told_of : List Cause → Peg → Option Cause
 told_of causes g = known causes (ends_in g)
 

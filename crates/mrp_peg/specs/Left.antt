@@ -14,7 +14,8 @@ use Rattle.mrp_peg.specs.Matching.{amounts_offered, amounts_required, peg_of}
 use Rattle.mrp_peg.specs.Pegging.{needs_in}
 use Rattle.mrp_peg.specs.Units.{Amount, matches}
 
--- a row of which so many units of the first are taken; it is passed where none are left of it
+-- a row after so many units of its first element are taken; the element is passed once none are
+-- left of it
 abbrev pub served : {A : Type 0} → ℕ → List (Amount A) → List (Amount A)
 served taken [] = []
 served taken (a ∷ row) = if nat_lt taken a.quantity then record { of = a.of; quantity = a.quantity - taken } ∷ row else row
@@ -51,11 +52,11 @@ pegs_between item needs supplies = map (peg_of item) (matches needs supplies)
 abbrev pub pegs_left : PegWalk → List Peg
 pegs_left w = pegs_between w.item (required_left w.needs) (offered_left w.supplies)
 
--- a peg, where it has pieces
+-- a peg, if it has pieces
 abbrev pub shown : Peg → List Peg
 shown peg = if nat_lt 0 peg.quantity then peg ∷ [] else []
 
--- the next of some pegs, and what is left behind it; none where there is none, and none is left then
+-- the next of some pegs and those after it; `None` once there are no more
 abbrev pub IsNext : List Peg → Option Peg → List Peg → Type 0
 IsNext pegs (Some peg) left = pegs ≡ peg ∷ left
 IsNext pegs None left = (pegs ≡ []) × (left ≡ [])

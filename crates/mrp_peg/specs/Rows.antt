@@ -1,4 +1,4 @@
--- Requirements as a program lists them before it puts them in order of weeks.
+-- Requirements as the program lists them before it sorts them by week.
 use Rattle.std.specs.Prelude.{ℕ, ◌+◌, ◌-◌, ◌*◌, ◌++◌, nat_lt, if◌then◌else◌, List, [], ◌∷◌, map, flat_map, slice_index}
 use Rattle.mrp_tables.specs.declared.rows.BillLine.{BillLine}
 use Rattle.mrp_bill.specs.Bill.{line_at, lines_of}
@@ -15,7 +15,7 @@ use Rattle.mrp_peg.specs.Pegging.{orders_in}
 abbrev pub booking_requirement : ℕ → Due → Requirement
 booking_requirement i due = record { need = record { item = i; week = due.week; kind = Booking due.number }; quantity = due.quantity }
 
--- what is left of a week's demand, where something is
+-- what is left of a week's demand, if anything is
 abbrev pub forecast_requirements : ℕ → List ℕ → ℕ → List Requirement
 forecast_requirements i left week =
     if nat_lt 0 (in_week left week) then record { need = record { item = i; week = week; kind = Forecast }; quantity = in_week left week } ∷ [] else []
@@ -45,7 +45,7 @@ independent_requirements s i =
 abbrev pub parent_requirements : Inputs → ℕ → List Requirement
 parent_requirements s i = flat_map (line_requirements s i) (lines_of s.tables.bills i)
 
--- what a part needs: what parents ask
+-- the requirements of a part: those from its parents' orders
 abbrev pub part_requirements : Inputs → ℕ → List Requirement
 part_requirements s i = parent_requirements s i
 

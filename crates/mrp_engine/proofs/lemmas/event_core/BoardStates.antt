@@ -276,7 +276,7 @@ module _ (s : Inputs) (log : BoardLog) where
   stored-more-is who call.Take r = all-stored who call.Take r (λ i. refl)
   stored-more-is who call.GiveUp r = all-stored who call.GiveUp r (λ i. refl)
 
-  -- one more entry changes the state that a log leaves as it changes any
+  -- one more entry changes the state that a log leaves as it changes any state
   pub state-more : (who : ℕ) (c : BoardCall) (r : BoardReply) → board_reply s log who c ≡ Some r → state_of s (log ++ entry who c r ∷ []) ≡ state_after state who c r
   state-more who c r is =
       ap (λ (l : List (Option ℕ)). record { out = l; stored = map (is_stored (log ++ entry who c r ∷ [])) (places s); stopped = has_stopped (log ++ entry who c r ∷ []) }) (out-more-is who c r is)

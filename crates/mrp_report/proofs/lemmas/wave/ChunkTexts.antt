@@ -26,7 +26,7 @@ between-none text a =
     let none : a - a ≡ 0 = omega arith in
     ap (λ (n : ℕ). flat_map text (range_with_len a n)) none
 
--- the texts of two stretches of places, one behind the other
+-- the texts of two stretches of places, one after another
 pub between-both : (text : ℕ → List ℕ) (a b c : ℕ) → a ≤ b → b ≤ c → between text a c ≡ between text a b ++ between text b c
 between-both text a b c first second =
     let start : a + (b - a) ≡ b = omega (arith, first) in
