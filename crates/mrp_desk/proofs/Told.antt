@@ -1,4 +1,4 @@
--- What the lock tells of a call, as a desk is told it.
+-- What the lock's contract says of a call, said of a desk.
 use Rattle.std.proofs.Common.{◌≡◌, ◌≢◌, ℕ, ◌+◌, ◌==◌, ◌≤◌, ◌⊎◌, inl, inr, true, [], ◌∷◌, ◌++◌, length, Result, Ok, Err, IfOk, IfErr, refl, sym, ap, subst, ◌∙◌, arith}
 use Rattle.std.proofs.lemmas.Bool.{eq-eqb}
 use Rattle.std.proofs.lemmas.List.{append_cancel_right, length_push}
@@ -31,7 +31,7 @@ module _ (office : TurnId Shop) (c : Call) (old new : Desk) where
   abbrev shop : Shop
   shop = office.about.object
 
-  -- what the lock tells
+  -- what the lock's contract says
   abbrev pub LockTells : Result (ℕ × Reply) (CallFault Refused) → Type 0
   LockTells given = lock.Tells (Opens shop) (Answers shop) (λ b _ _ e. Refuses b e) (λ b _ c e. IsOutOfMemory b c e) office.about.room old.number c old.seen old.mine given new.seen new.mine
 
@@ -88,7 +88,7 @@ module _ (office : TurnId Shop) (c : Call) (old new : Desk) where
       })
   tells (Err fault.NoMemory) result is office_is desk_is told = absurd is
 
--- a snapshot has what stands in all that was seen before its entry
+-- a snapshot has the bookings that stand in all that was seen before its entry
 pub snapped : (s : Supply) (old new : Desk) (result : Result (ℕ × Reply) Refused) → Tells s call.Snapshot old result new → IfOk result (IsSnapshot s old new)
 snapped s old new (Err e) told = tt
 snapped s old new (Ok answer) told =

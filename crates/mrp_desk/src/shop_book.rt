@@ -1,4 +1,4 @@
-//! The order book as an object that desks take turns with.
+//! The order book as the object that desks take turns on.
 
 use mrp_bill::Shop;
 use mrp_book::{BookState, Call, Refused, Reply};
@@ -12,7 +12,7 @@ use std::sync::Arc;
 #[derive(Drop)]
 pub struct ShopBook {
     shop: Arc<Shop>,
-    // What bookings and snapshots take memory from.
+    // The allocator of bookings and snapshots.
     alloc: Global,
 }
 
@@ -28,7 +28,7 @@ impl ShopBook {
     ghost use Rattle.std.specs.Prelude.{◌≡◌, IfOk};
     ghost use Rattle.mrp_desk.specs.ShopBook.{Opens};
 
-    // The order book of a shop, and its state without an entry.
+    // The order book of a shop, and its state without entries.
     pub(crate) fn open(alloc: Global, shop: Shop) -> Result<(ShopBook, BookState), NoMemory>
         ensures { IfOk result (λ r. (r.0 ≡ shop) × Opens r.0 r.1) }
     {

@@ -30,7 +30,7 @@ module _ {O S C R E : Type 0} (opens : O → S → Type 0) (answers : O → S �
       (λ r. (new.log.items ≡ old.log.items ++ entry who call r.1 ∷ []) × (r.0 ≡ length new.log.items) × answers o old.state who call r.1 new.state)
       (λ f. (new.log.items ≡ old.log.items) × (new.state ≡ old.state) × Explains (refuses o old.state who call) (out_of_memory o old.state who call) (vec_capacity old.log) (length old.log.items) f)
 
-  -- the log is the one that was found, with the entry behind it or not
+  -- the log is the one that was found, with or without the entry after it
   pub ends : (s : LiveSeat O C R) (call : C) (old : Held S C R) (log : List (Entry C R)) (new : Held S C R) (result : Result (ℕ × R) (CallFault E)) → Opens opens answers s old log → vec_capacity old.log ≤ vec_capacity new.log
       → Each (λ p. p.number ≡ 0) s.kept → Answered s.about.object s.own.number call old result new → MayGive opens answers (holding s log) new
   ends s call old log new (Ok r) o cap notes a =
@@ -68,7 +68,7 @@ module _ {O S C R E : Type 0} (opens : O → S → Type 0) (answers : O → S �
   why s call old log new (Refused f) o same h =
       (old.state, subst (λ (l : List (Entry C R)). LeadsTo (answers s.about.object) (opens s.about.object) l old.state) (sym same) o.legal, h)
 
-  -- what the call tells, of the log with or without its entry
+  -- what the call's contract says, of the log with or without its entry
   pub outcome : (s : LiveSeat O C R) (call : C) (old : Held S C R) (log : List (Entry C R)) (new : Held S C R) (result : Result (ℕ × R) (CallFault E)) → Opens opens answers s old log → vec_capacity old.log ≤ vec_capacity new.log
       → Each (λ p. p.number ≡ 0) s.kept → Answered s.about.object s.own.number call old result new
       → Tells (opens s.about.object) (answers s.about.object) (refuses s.about.object) (out_of_memory s.about.object) s.about.room s.own.number call s.own.seen s.own.mine result new.log.items (entries_by s.own.number new.log.items)
@@ -95,7 +95,7 @@ module _ {O S C R E : Type 0} (opens : O → S → Type 0) (answers : O → S �
         cause = why s call old log new f o same a.2;
       }
 
-  -- what the call tells, once the value is given back
+  -- what the call's contract says, once the value is given back
   pub tells : (s : LiveSeat O C R) (call : C) (old : Held S C R) (log : List (Entry C R)) (new : Held S C R) (result : Result (ℕ × R) (CallFault E)) → Opens opens answers s old log → vec_capacity old.log ≤ vec_capacity new.log
       → Each (λ p. p.number ≡ 0) s.kept → Answered s.about.object s.own.number call old result new
       → (n : Me (Option (Held S C R)) (View O C R)) → n ≡ (live (given (holding s log) new.log.items), [])

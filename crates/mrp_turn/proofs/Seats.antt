@@ -28,7 +28,7 @@ module _ {O S C R E : Type 0} (opens : O → S → Type 0) (answers : O → S �
   abbrev seated : TurnId O → ℕ → List (Entry C R) → List (Entry C R) → Seated O C R
   seated turn n seen mine = record { turn = turn; number = n; seen = seen; mine = mine }
 
-  -- what the place tells, of the seat over it
+  -- what the contract of the place says, of the seat over it
   pub seat_told : (call : C) (result : Result (ℕ × R) (CallFault E)) (was now : Seated O C R) → was ≡ now → (turn : TurnId O) → now.turn ≡ turn → (n : ℕ) (m : M O S C R) (seen mine : List (Entry C R))
       → m ≡ (live (alone was.turn.about (account n seen mine)), []) → SeatTells opens answers refuses out_of_memory was.turn.about call was result (seated was.turn was.number seen mine)
       → SeatTells opens answers refuses out_of_memory turn.about call now result (seated now.turn now.number (seen_of m.0) (mine_of m.0))

@@ -1,4 +1,4 @@
--- What a call tells. Profile.
+-- What a call's contract says. Profile.
 use Rattle.std.specs.Prelude.{◌≡◌, ℕ, ◌≤◌, ◌⊎◌, List, [], ◌∷◌, ◌++◌, length, Option, Result, IfOk, IfErr, OnErr, false}
 use Rattle.atomic_table.specs.Table.{Me}
 use Rattle.mrp_turn.specs.declared.views.View.{View}
@@ -14,23 +14,23 @@ use Rattle.mrp_turn.specs.Log.{entry, entries_by, LeadsTo, IsLegal}
 use Rattle.mrp_turn.specs.Seen.{Seated}
 
 module _ {C R : Type 0} where
-  -- the new list ends with the entry, and all that was in the old one stands before it
+  -- the new list ends with the entry, and all that was in the old one comes before it
   abbrev pub GrowsBy : List (Entry C R) → Entry C R → List (Entry C R) → Type 0
   GrowsBy old e new = (before : List (Entry C R)) × (new ≡ before ++ e ∷ []) × StartsWith before old
 
--- why a call made no entry in a log with so many places and entries: it had no place, or the object refused
+-- why a call made no entry in a log with so many places and entries: there was no place, or the object refused
 abbrev pub Explains : {E : Type 0} → (E → Type 0) → (E → Type 0) → ℕ → ℕ → CallFault E → Type 0
 Explains refuses out_of_memory capacity len NoMemory = capacity ≤ len
 Explains refuses out_of_memory capacity len (Refused e) = out_of_memory e ⊎ refuses e
 
 module _ {S C R E : Type 0} (opens : S → Type 0) (answers : S → ℕ → C → R → S → Type 0) (refuses out_of_memory : S → ℕ → C → E → Type 0) where
-  -- The log has an entry in each of the places that it began with; or, in a state that the log leads to, the object wants
-  -- memory for this call, or refuses it
+  -- The log has an entry in each of the places that it began with; or, in a state that the log leads to, the object is out
+  -- of memory for this call, or refuses it
   abbrev pub HasCause : ℕ → ℕ → C → List (Entry C R) → CallFault E → Type 0
   HasCause room who call seen NoMemory = room ≤ length seen
   HasCause room who call seen (Refused e) = (s : S) × LeadsTo answers opens seen s × (out_of_memory s who call e ⊎ refuses s who call e)
 
--- What a call tells of what its seat has seen, and of its own entries, old and new
+-- What a call's contract says of what its seat has seen, and of its own entries, old and new
 pub record Tells {S C R E : Type 0} (opens : S → Type 0) (answers : S → ℕ → C → R → S → Type 0) (refuses out_of_memory : S → ℕ → C → E → Type 0) (room who : ℕ) (call : C)
     (seen mine : List (Entry C R)) (result : Result (ℕ × R) (CallFault E)) (seen' mine' : List (Entry C R)) : Type 0 where
   -- what the seat has seen is a legal log, and begins with what it had seen before
@@ -47,7 +47,7 @@ pub record Tells {S C R E : Type 0} (opens : S → Type 0) (answers : S → ℕ 
   pub unchanged : OnErr result (mine' ≡ mine)
   pub cause : IfErr result (HasCause opens answers refuses out_of_memory room who call seen')
 
--- an idle seat that is no note, and has the accounts of all of these seats
+-- an idle seat that is not a note, and has the accounts of all of these seats
 pub record StandsFor {O S C R : Type 0} (key : About O) (seats : List (Seated O C R)) (m : Me (Option (Held S C R)) (View O C R)) : Type 0 where
   pub seat : LiveSeat O C R
   pub is : m ≡ (live seat, [])
@@ -56,7 +56,7 @@ pub record StandsFor {O S C R : Type 0} (key : About O) (seats : List (Seated O 
   pub numbered : 1 ≤ seat.own.number
   pub all : Each (λ x. Has (seat.own ∷ seat.kept) (account x.number x.seen x.mine)) seats
 
--- an idle seat with this number, which keeps nothing but notes
+-- an idle seat with this number, which keeps only notes
 pub record IsAt {O S C R : Type 0} (key : About O) (n : ℕ) (m : Me (Option (Held S C R)) (View O C R)) : Type 0 where
   pub seat : LiveSeat O C R
   pub is : m ≡ (live seat, [])
@@ -66,7 +66,7 @@ pub record IsAt {O S C R : Type 0} (key : About O) (n : ℕ) (m : Me (Option (He
   pub notes : Each (λ p. p.number ≡ 0) seat.kept
 
 module _ {O S C R E : Type 0} (opens : O → S → Type 0) (answers : O → S → ℕ → C → R → S → Type 0) (refuses out_of_memory : O → S → ℕ → C → E → Type 0) where
-  -- the same, of the seat at the table: it keeps no note then, and has seen what its notes have
+  -- the same, of the seat at the table: it then keeps no note, and has seen what its notes have
   abbrev pub RunTells : C → Me (Option (Held S C R)) (View O C R) → Result (ℕ × R) (CallFault E) → Me (Option (Held S C R)) (View O C R) → Type 0
   RunTells call m result n = (s : LiveSeat O C R) → m ≡ (live s, []) → (seen : List (Entry C R)) × (mine : List (Entry C R))
       × (n ≡ (live (alone s.about (account s.own.number seen mine)), []))
