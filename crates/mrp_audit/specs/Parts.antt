@@ -80,7 +80,8 @@ ComparesFront front text (Ok (Some len)) = (len ≤ length text) × (text ≡ fr
 ComparesFront front text (Ok None) = (rest : List ℕ) → text ≡ front ++ rest → ⊥
 ComparesFront front text (Err refused) = Unit {0}
 
--- how many bytes of a text are a report, by how many were handed over to be compared and by whether all were: a text that differs does so however that ended, and want of memory is told only of one that does not
+-- how many bytes of a text are a report, from how many were written to be compared and from whether all were: a text
+-- that differs does so whether all were written or not, and only one that does not differ can be out of memory
 abbrev pub IsFrontBy : Option ℕ → Result ⊤ ReportFault → Result (Option ℕ) NoMemory → Type 0
 IsFrontBy None written front = front ≡ Ok None
 IsFrontBy (Some len) (Ok done) front = front ≡ Ok (Some len)

@@ -17,7 +17,7 @@ use Rattle.mrp_main.specs.declared.day.DayCommand.TheVariants.{Plan, Live}
 some-kind : (k : ErrorKind) (ks : Kinds) → (k ∷ ks) ≡ [] → ⊥
 some-kind k ks e = cc
 
--- where there is no fault, there is none in either part
+-- if there is no fault, there is none in either part
 or-else-none : (one other : Kinds) → or_else one other ≡ [] → (one ≡ []) × (other ≡ [])
 or-else-none [] other e = (refl, e)
 or-else-none (k ∷ ks) other e = absurd (some-kind k ks e)
@@ -152,7 +152,7 @@ help-apart text true apart same =
 label-apart : (word name : Text) → bytes_eq name word ≡ false → answers_to word (name, []) ≡ false
 label-apart word name apart = subst (λ (b : Bool). (b || false) ≡ false) (sym apart) refl
 
--- of five subcommands, of which the last is `help`, one of the others was entered
+-- of five subcommands, the last of which is `help`, one of the others was entered
 of-five : (a : App) (plan live page check help : Shape) (p : Text × List Text) → a.subs ≡ plan ∷ live ∷ page ∷ check ∷ help ∷ [] → label_of help ≡ (codes "help", []) → bytes_eq p.0 (codes "help") ≡ false
     → is_some (entered a (Some p)) ≡ true → OneOf (entered a (Some p)) (rows_at plan p.1) (rows_at live p.1) (rows_at page p.1) (rows_at check p.1)
 of-five a plan live page check help p subs label apart =

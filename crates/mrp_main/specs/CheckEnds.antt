@@ -56,7 +56,8 @@ abbrev pub TellsFound : {W : Type 0} → (W → Option (List ℕ)) → Told W �
 TellsFound contents output written (Ok done) end = Says contents output written (codes "right" ++ 10 ∷ []) Done end
 TellsFound contents output written (Err fault) end = TellsAudit contents output written fault end
 
--- how a check ends, by what was read: as what is found of the bundle and the text is told; or with what kept them from being read, and nothing was written
+-- how a check ends, by what was read: with the report of the verdict on the bundle and the text; or with what kept them
+-- from being read, and nothing was written
 abbrev pub EndsBy : {W : Type 0} → (W → Option (List ℕ)) → Told W → Told W → Result (List ℕ × List ℕ) ReadFault → Ending → Type 0
 EndsBy contents output written (Ok both) end = (verdict : Result ⊤ AuditFault) × Judges both.0 both.1 verdict × TellsFound contents output written verdict end
 EndsBy contents output written (Err fault) end = (end ≡ end_of_read fault) × (written ≡ output)

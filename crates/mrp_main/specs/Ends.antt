@@ -46,7 +46,8 @@ IsRefusedAs given text = (bundle : List ℕ) × IsRead given bundle × (f : Faul
 abbrev pub IsTooLargeAt : DayCommand → Option (List ℕ) → List ℕ → Type 0
 IsTooLargeAt command given name = (bundle : List ℕ) × IsRead given bundle × IsTooLargeBy (answering command) bundle name
 
--- what a command has written of what was given at its end: a day, or a front of one, or nothing; a front where memory is wanted only after all was read, and nothing where reading failed
+-- what a command has written for what was given when it ends: a day, a prefix of one, or nothing; if memory ran out, a
+-- prefix only after everything was read; if reading failed, nothing
 abbrev pub DayWrites : DayCommand → {W : Type 0} → (W → Option (List ℕ)) → Option (List ℕ) → Type 0 → Type 0 → Told W → Told W → Ending → Type 0
 DayWrites command contents given ended failed output written Done = (text : List ℕ) × TellsDayBy (answering command) given text × HasTakenAll contents output written text
 DayWrites command contents given ended failed output written (Refused text) = IsRefusedAs given (string_bytes text) × (written ≡ output)
@@ -77,7 +78,8 @@ HasReadAll NoMemory = ⊥
 HasReadAll Read = ⊥
 HasReadAll Write = ⊤
 
--- how a day of the input ends: what was written; whether the input was read to its end, within the limits; a front of what the input had left was taken; and want of memory is told where neither failed
+-- how a day of the input ends: what was written; whether the input was read to its end, within the limits; a prefix of
+-- what the input had left was taken; and it ends out of memory only if neither stream failed
 pub record DayEnds {R W : Type 0} (command : DayCommand) (remaining : R → Option (List ℕ)) (contents : W → Option (List ℕ)) (input read : Told R) (output written : Told W) (end : Ending) : Type 0 where
   pub writes : InputWrites command remaining contents input read output written end
   pub at_end : HasReadAll end → IsAtEnd (remaining (inner_of read))
@@ -85,7 +87,8 @@ pub record DayEnds {R W : Type 0} (command : DayCommand) (remaining : R → Opti
   pub unfailed : end ≡ NoMemory → IsReadWithin input read × HasNotFailed output written
   pub taken : TakesFront (remaining (inner_of input)) (remaining (inner_of read)) (moved_of input) (moved_of read)
 
--- how a day of a bundle that was read ends: with this day, where no reading fails any more and memory is wanted only if the output did not fail; or with what kept it from being read, and nothing was written
+-- how a day of a bundle that was read ends: with this day, where reading can no longer fail, and out of memory only if
+-- the output did not fail; or with what kept the bundle from being read, and nothing was written
 abbrev pub BundleEnds : DayCommand → {W : Type 0} → (W → Option (List ℕ)) → Told W → Told W → Result (List ℕ) ReadFault → Ending → Type 0
 BundleEnds command contents output written (Ok bundle) end = DayWrites command contents (Some bundle) ⊤ ⊥ output written end × (end ≡ NoMemory → HasNotFailed output written)
 BundleEnds command contents output written (Err read.Read) end = (end ≡ Read) × (written ≡ output)
@@ -97,7 +100,8 @@ pub record FolderEnds {W : Type 0} (command : DayCommand) (known : Known) (folde
   pub is_read : IsReadFrom known folder read
   pub ends : BundleEnds command contents output written read end
 
--- how what is asked for ends: a day of a folder's files leaves the input as it was, and a page is of the day that the input had left, as a check is; words ask for no check without a folder
+-- how a request ends: a day of a folder's files leaves the input as it was; a page and a check are of the day that the
+-- input had left; words ask for no check without a folder
 abbrev pub RequestEnds : Known → {R W : Type 0} → (R → Option (List ℕ)) → (W → Option (List ℕ)) → Told R → Told R → Told W → Told W → Request → Ending → Type 0
 RequestEnds known remaining contents input read output written (Day command workers None) end = DayEnds command remaining contents input read output written end
 RequestEnds known remaining contents input read output written (Day command workers (Some folder)) end = (read ≡ input) × FolderEnds command known (string_bytes folder) contents output written end

@@ -35,7 +35,7 @@ module _ (items : Names) (asked : Option ℕ) (S : Section) (done : List Cells) 
   abbrev pub next : Noted
   next = noted items asked n c
 
-  -- whether the record is taken, where it stands at a place
+  -- whether the record is taken, by its place
   abbrev pub takes_at : Place → Bool
   takes_at q = is_wanted items q c && room_at q n.spot (is_wanted items q c && leads n.spot n.last c) ((is_wanted items q c && leads n.spot n.last c) && starts_at q c)
 

@@ -23,7 +23,7 @@ use Rattle.mrp_peg.proofs.Lists.{All-weeks}
 use Rattle.mrp_peg.proofs.Loops.{numbered_more}
 use Rattle.mrp_peg.proofs.Own.{orders-own, own}
 
--- rows in order, and behind them rows in order that are no lower
+-- rows in order, and after them rows in order that are no lower
 rising_append : {X : Type 0} (key : X → ℕ) (xs ys : List X) → IsNonDecreasingBy key xs → IsNonDecreasingBy key ys → (m : ℕ) → All (λ x. key x ≤ m) xs → All (λ y. m ≤ key y) ys → IsNonDecreasingBy key (xs ++ ys)
 rising_append key [] ys up more m low high i j d le h = more i j d le h
 rising_append key (x ∷ xs) ys up more m low high zero zero d le h = omega arith
@@ -62,7 +62,7 @@ release_in s i receipts w =
 abbrev release : Order → ℕ
 release o = o.release
 
--- the orders of any item of the plan are released one after the other
+-- the orders of any item of the plan are in order of release
 pub all_rising : (s : Inputs) (code : ℕ → ℕ) → IsRanked s code → (i : ℕ) → IsNonDecreasingBy (λ (o : Order). o.release) (plan_in (outcome_of s i)).orders
 all_rising s code ranked i = by (outcome_of s i) refl
   where
@@ -90,7 +90,7 @@ none_required i line per week n (suc k) (o ∷ orders) other =
     ap (λ b. cond b (order_requirement i line per (n, o) ∷ required i line per week (n + 1) (take k orders)) (required i line per week (n + 1) (take k orders))) (ne_eqb o.release week (other 0 o (omega arith) (omega arith)))
     ∙ none_required i line per week (n + 1) k orders (λ j d below h. other (suc j) d (omega (arith, below)) (omega (arith, h)))
 
--- no order of the week is behind a place
+-- no order of the week is after a place
 pub required_before : (i line per week n k : ℕ) (orders : List Order) → ((j : ℕ) (d : Order) → k ≤ j → j < length orders → release (get_or orders j d) ≢ week) → required i line per week n orders ≡ required i line per week n (take k orders)
 required_before i line per week n k [] other = ap (required i line per week n) (none k)
   where
@@ -120,7 +120,7 @@ required_more i line per week k orders o old before now h at same is told =
     ∙ ap (λ (x : Order). old ++ filter (in_the week) (map f (enumerate_from 1 (take k orders) ++ (k + 1, x) ∷ []))) at
     ∙ ap (λ l. old ++ filter (in_the week) (map f l)) (sym (numbered_more 1 k orders o h))
 
--- behind an order of a later week there is none of the week
+-- after an order of a later week there is none of the week
 pub none_behind : (week k : ℕ) (orders : List Order) (o : Order) → IsNonDecreasingBy (λ (x : Order). x.release) orders → k < length orders → o ≡ get_or orders k o → week ≤ o.release → o.release ≢ week
     → (j : ℕ) (d : Order) → k ≤ j → j < length orders → release (get_or orders j d) ≢ week
 none_behind week k orders o up h is low other j d above g same =

@@ -163,7 +163,7 @@ supplied_units {A} test most n (a ∷ row) within =
     ∙ ap (λ k. cond (test a.of) a.quantity 0 + k) (supplied_units test most (n + a.quantity) row (omega arith))
     ∙ sym (sum_by-cons (λ (x : Amount A). cond (test x.of) x.quantity 0) a row)
 
--- where as much is supplied as is required, they have exactly their units
+-- if as much is supplied as is required, they have exactly their units
 pub covered : {A B : Type 0} (test : A → Bool) (needs : List (Amount A)) (supplies : List (Amount B)) → total needs ≤ total supplies
     → sum_by (λ m. m.quantity) (filter (λ m. is_for test m.need) (matches needs supplies)) ≡ sum_by (λ a. a.quantity) (filter (λ a. test a.of) needs)
 covered {A} {B} test needs supplies enough =

@@ -95,7 +95,7 @@ required_total s i is within =
     ∙ sym (sum_by-map units amount_required (by_weeks (λ (w : Requirement). w.need.week) (weeks (horizon s)) (all_requirements s i)))
     ∙ ap total (requirements_are s i is) ∙ requirements_total s i
 
--- what an order of a parent asks is a quantity
+-- what an order of a parent requires is a quantity
 pub required_within : (s : Inputs) (i : ℕ) → IsOwn s i → is_master s i ≡ false → AreWithin (λ (w : Requirement). w.need.week) 1 (horizon s) (all_requirements s i)
     → (k : ℕ) → k < length (lines_of s.tables.bills i) → (j : ℕ) (d : Order) → j < length (plan_in (outcome_of s (line_to s i k).parent)).orders
     → (get_or (plan_in (outcome_of s (line_to s i k).parent)).orders j d).start * (line_to s i k).per ≤ greatest_quantity

@@ -1,4 +1,4 @@
--- What a told writer has taken of a text (profile).
+-- What a `Told` writer has taken of a text (profile).
 use Rattle.std.specs.Prelude.{ℕ, ◌≡◌, ◌≤◌, ◌+◌, ◌-◌, ◌++◌, ◌⊎◌, List, Option, Result, Err, OnOk, OnErr}
 use Rattle.std.specs.Io.KnownBytes.{Appends}
 use Rattle.mrp_rows.specs.declared.told.Told.{Told}

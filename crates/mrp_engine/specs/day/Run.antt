@@ -75,7 +75,9 @@ pub record WritesText {W : Type 0} (contents : W → Option (List ℕ)) (old new
   pub unfailed : result ≡ Err NoMemory → HasNotFailed old new
   pub writing : IfErr result IsWhileWriting
 
--- what is written of the bundle that was given: the text of a day of it, in which its script is answered like this, or a prefix of such a text, or nothing. Where memory was refused a prefix is left only after this end, and a read that failed is one that failed so
+-- what is written of the bundle that was given: the text of a day of it, in which its script is answered like this, or
+-- a prefix of such a text, or nothing. If memory ran out, a prefix is left only if `ended` holds; a failed read means
+-- that `failed` holds
 pub record WritesDay (Answers : Answering) {W : Type 0} (contents : W → Option (List ℕ)) (given : Option (List ℕ)) (ended failed : Type 0) (old new : Told W) (result : Result (Unit {0}) DayFault) : Type 0 where
   -- the text of a day of the bundle was written
   pub day : OnOk result ((text : List ℕ) × TellsDayBy Answers given text × HasTakenAll contents old new text)

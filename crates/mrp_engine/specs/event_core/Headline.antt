@@ -69,7 +69,8 @@ abbrev pub operations_in : Inputs → ℕ → ℕ → ℕ → Order → List Ope
 operations_in s centre week item order =
     filter (λ operation. (operation.item == item) && (operation.centre == centre) && (operation_week operation order == week)) s.tables.routings
 
--- what the orders of all items, firm and planned, take of a work centre in a week, each in its operations that stand there (APICS Dictionary: standard time)
+-- the time that the orders of all items, firm and planned, take of a work centre in a week, each for its operations
+-- that load it there (APICS Dictionary: standard time)
 abbrev pub time_of_orders : Inputs → ℕ → ℕ → ℕ
 time_of_orders s centre week =
     sum_by (λ item. sum_by (λ order. sum_by (λ operation. standard_time operation order) (operations_in s centre week item order)) (orders_in s item)) (places s)

@@ -3,7 +3,7 @@
 use mrp_book::{Call, Reply};
 use mrp_rows::Name;
 
-/// What a desk or a worker asks of a core. Runs are named by their numbers, from 1, and desks and
+/// What a desk or a worker asks of the core. Runs are named by their numbers, from 1; desks and
 /// workers have numbers from 1 to 64.
 #[derive(Clone, Copy, Debug, PartialEq, Eq)]
 pub enum Event {

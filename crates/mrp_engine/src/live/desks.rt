@@ -53,7 +53,8 @@ fn open(alloc: Global, shop: Shop) -> Result<(Office, Vec<Desk>), NoMemory>
     }
 }
 
-// The desks, and how their calls ended: with the first desk that had a call refused, or well.
+// The desks, and how their calls ended: with the refusal of the first desk that had one, or without
+// any.
 fn parted(alloc: Global, all: Vec<Served>) -> Result<(Vec<Desk>, Result<(), Refused>), NoMemory>
     ensures desks { IfOk result (λ r. r.0.items ≡ map (λ s. s.desk) all.items) }
     ensures end { IfOk result (λ r. EndAs all.items r.1) }

@@ -81,7 +81,7 @@ impl<'a> ShopNames<'a> {
         })
     }
 
-    // The name of the item at a place; no name where there is none.
+    // The name of the item at a place; an empty name if there is none.
     pub(crate) fn item(&self, item: usize) -> &CsvName
         ensures { result.now ≡ name_at self.now.tables.now item }
     {
@@ -91,7 +91,7 @@ impl<'a> ShopNames<'a> {
         }
     }
 
-    // The name of the parent of a bill line, by the line's number from 1; no name where there is
+    // The name of the parent of a bill line, by the line's number from 1; an empty name if there is
     // none.
     pub(crate) fn parent(&self, line: usize) -> &CsvName
         ensures { result.now ≡ parent_name self.now.tables.now line }
@@ -102,8 +102,8 @@ impl<'a> ShopNames<'a> {
         }
     }
 
-    // The name of the order of an open receipt, by the number of its record; no name where there is
-    // none.
+    // The name of the order of an open receipt, by the number of its record; an empty name if there
+    // is none.
     pub(crate) fn receipt(&self, number: u64) -> &CsvName
         ensures { result.now ≡ receipt_name self.now.tables.now number }
     {

@@ -180,7 +180,7 @@ module _ (tables : Tables) where
       subst (λ (l : List Step). WasStarted l run) (sym is)
       (started-then before later run (started-from [] before (InTurn-from_Each (MayFollowSteps tables) [] before front) none-started run started))
 
-  -- and keeps the front that it was told
+  -- and keeps the front that it was answered
   front-stays : (core : Core) (desk run front : ℕ) (later : List Step) → run ≡ length core.runs + 1 → (run_at (core_after (after core (event.Start desk) (answer.Started run front)) later) run).front ≡ front
   front-stays core desk run front later number =
       let now : Core = after core (event.Start desk) (answer.Started run front) in

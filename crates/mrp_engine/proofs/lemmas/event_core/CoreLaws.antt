@@ -175,7 +175,7 @@ unfolding core_after
 steps-grow core [] = grows-same core core (same-core core)
 steps-grow core (x ∷ later) = grows-more core (after core x.0 x.1) (core_after (after core x.0 x.1) later) (step-grows core x.0 x.1) (steps-grow (after core x.0 x.1) later)
 
--- later steps go on from where earlier ones stopped
+-- later steps go on where earlier ones stopped
 pub core-append : (core : Core) (xs ys : List Step) → core_after core (xs ++ ys) ≡ core_after (core_after core xs) ys
 unfolding core_after
 core-append core [] ys = refl
@@ -314,7 +314,7 @@ module _ (tables : Tables) where
 abbrev pub KeepsBoards : Core → Type 0
 KeepsBoards core = (run : ℕ) → IsStarted core run → KeepsBoard (run_inputs core run) (log_at core run)
 
--- a worker that finishes what it holds is told that it is stored
+-- a worker that finishes what it holds is answered that it is stored
 finished-stored : (core : Core) → KeepsBoards core → (run who : ℕ) (a : Answer) → IsStarted core run → IsAnswered core (event.Finish run who) a → a ≡ answer.Stored
 finished-stored core boards run who a started (item, has, is) = is ∙ ap told (stored-reply (run_inputs core run) (log_at core run) (boards run started) who item has)
 

@@ -124,7 +124,7 @@ module _ (tables : Tables) (h : History) where
 
     -- A worker finishes.
 
-    -- it is told that what it holds is stored
+    -- it is answered that what it holds is stored
     told-stored : FollowsHistory tables h r → (who item : ℕ) → held who r.log ≡ Some item
         → told (board_reply (run_inputs (seen runs) run) (log_at (seen runs) run) who (board_call.Finish item)) ≡ answer.Stored
     told-stored f who item has =
@@ -358,7 +358,7 @@ module _ (tables : Tables) (h : History) (runs : List RunLog) (now : Core) (run 
       if-two (λ a. is_finished r.inputs r.log ≡ true → IsReport r.inputs a) (λ a. is_finished r.inputs r.log ≡ false → a ≡ answer.Nothing) (IsAnswer now (event.Write run)) res report nothing (λ a s n.
       subst (λ (c : Core). IsAnswer c (event.Write run) a) x.view (write-answer tables h runs run place r x.at a x.follows s n))
 
-  -- What may be refused for want of memory.
+  -- What may run out of memory.
 
   pub take-out_of_memory : {E : Type 0} (who : ℕ) (o : Option ℕ) (q : RunLog) (res : Result Answer E) → IsSeatNumber who → is_some o ≡ false → o ≡ held who q.log → q ≡ slice_index_or runs place q
       → OnErr res (board_reply r.inputs r.log who board_call.Take ≢ None) → OnErr res (IsOutOfMemory now (event.Take run who))

@@ -29,7 +29,7 @@ module _ (office : TurnId Shop) (lists : List (Vec Call)) where
     IsBegun d (Ok handle) = (s : Served) → IsDone handle.promise s → Serves office lists d s
     IsBegun d (Err left) = IsOf d left.value
 
-    -- it is begun as what was asked for tells
+    -- it is begun as the request says
     pub begun-as : (d : Desk) (b : Result (PromisedHandle Served Duty) (SpawnError F)) (duty : Duty) (work : F) → IfOk b (λ handle. handle.promise ≡ duty) → IfErr b (λ left. left.value ≡ work)
         → ((s : Served) → IsDone duty s → Serves office lists d s) → IsOf d work → IsBegun d b
     begun-as d (Ok handle) duty work promised back does is = λ s done. does s (subst (λ (p : Duty). IsDone p s) promised done)

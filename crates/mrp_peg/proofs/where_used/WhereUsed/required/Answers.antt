@@ -12,7 +12,7 @@ use Rattle.mrp_peg.proofs.Loops.{one_line}
 use Rattle.mrp_peg.proofs.Totals.{used_within}
 use Rattle.mrp_peg.proofs.where_used.WhereUsed.required.Goals as goal
 
--- what parents ask by a line
+-- the requirements that parents make by a line
 abbrev line_rows : Inputs → ℕ → ℕ → List (Numbered Requirement)
 line_rows s i place = map of_week (line_requirements s i place)
 

@@ -11,7 +11,7 @@ use Rattle.mrp_peg.proofs.Released.{in_the}
 use Rattle.mrp_peg.proofs.Totals.{used_within}
 use Rattle.mrp_peg.proofs.where_used.WhereUsed.required_in.Goals as goal
 
--- what parents ask by a line in a week
+-- the requirements that parents make by a line in a week
 abbrev line_required : Inputs → ℕ → ℕ → ℕ → List Requirement
 line_required s i week place = filter (in_the week) (line_requirements s i place)
 
