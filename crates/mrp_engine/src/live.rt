@@ -43,8 +43,7 @@ fn plan_live(
 /// There are as many desks as the script's greatest desk number. Each has a thread, if one can be started,
 /// and makes the calls of its records in order; the order between desks is not specified. A script without a
 /// run is taken with one more record, a run of desk 1 after all others. What is written is a right day
-/// (`laws::right_days`). `workers` threads, which the caller guarantees to be 1 to 64, make the rows of a
-/// report.
+/// (`laws::right_days`). `workers` threads (1 to 64, as the caller guarantees) make the rows of a report.
 ///
 /// Errors: those of [`run_bundle`](crate::run_bundle), for a history that answers the script desk by desk.
 pub fn live_bundle<W: Write>(

@@ -67,7 +67,7 @@ fn out_of_places(alloc: Global, outcomes: Vec<Option<Outcome>>) -> Result<Vec<Ou
 }
 
 impl Finished {
-    /// No item is planned yet.
+    /// The state in which no item is planned yet.
     ///
     /// Errors: `NoMemory` when out of memory, or when a reference count would overflow.
     pub fn new(alloc: Global, inputs: &Arc<Inputs>) -> Result<Finished, NoMemory>
@@ -139,7 +139,7 @@ impl Finished {
         Ok(copies)
     }
 
-    /// What planning makes of an item whose parents are finished.
+    /// The outcome of planning an item whose parents are finished.
     ///
     /// Errors: `NoMemory` when out of memory, or when a reference count would overflow.
     pub fn outcome_for(&self, alloc: Global, item: usize) -> Result<Outcome, NoMemory>
@@ -151,7 +151,8 @@ impl Finished {
         plan_item(alloc, &self.inputs, item, &parents)
     }
 
-    /// Puts an outcome in its item's place.
+    /// Puts an outcome in its item's place. The caller guarantees that it was planned from the same
+    /// inputs.
     pub fn put(&mut self, outcome: Outcome)
         requires inputs { outcome.inputs ≡ self.old.inputs }
         requires item { outcome.item < count self.old.inputs }
@@ -197,8 +198,8 @@ impl Finished {
         Ok(self.inputs.clone()?)
     }
 
-    /// The plan of all items, each of which is finished. The outcomes are moved into it, and dropped on an
-    /// error.
+    /// The plan of all items. The caller guarantees that each is finished. The outcomes are moved into the
+    /// plan, and dropped on an error.
     ///
     /// Errors: `NoMemory` when out of memory; `TooLarge` with the first item that is over.
     pub fn into_whole(self, alloc: Global) -> Result<Plan, RunFault>
@@ -210,7 +211,8 @@ impl Finished {
         plan_from(inputs, all)
     }
 
-    /// The plan of all items, each of which is finished, from copies of their outcomes.
+    /// The plan of all items, from copies of their outcomes. The caller guarantees that each is
+    /// finished.
     ///
     /// Errors: `NoMemory` when out of memory; `TooLarge` with the first item that is over.
     pub fn whole(&self, alloc: Global) -> Result<Plan, RunFault>

@@ -12,7 +12,8 @@ ghost use Rattle.mrp_notes.specs.Told.{advice_on};
 ghost use Rattle.mrp_item.specs.declared.supplies.Supply.{Supply};
 ghost use Rattle.mrp_item.specs.Supplies.{supplies_to_come};
 
-/// A supply is needed in the first week that what is supplied before it does not cover.
+/// A supply is needed in the first week whose requirements, summed up to it, and safety stock
+/// exceed what is supplied before it.
 pub fn need_weeks()
     ensures within { (gross : List ℕ) (safety supplied week : ℕ) → need_week gross safety supplied ≡ Some week → (0 < week) × (week ≤ length gross) }
     ensures short { (gross : List ℕ) (safety supplied week : ℕ) → need_week gross safety supplied ≡ Some week → supplied < sum_to gross week + safety }
@@ -35,7 +36,7 @@ pub fn supplies()
     ensures supply { (s : Inputs) (i : ℕ) (plan : ItemPlan) → All (λ m. Contains (map (λ x. x.source) (supplies_to_come s i plan.orders)) m.supply) (messages_of s i plan) }
 {}
 
-/// A supply is rescheduled once at most, or cancelled.
+/// At most one message reschedules or cancels a supply.
 pub fn once()
     ensures { (supplies : List Supply) (gross : List ℕ) (stock : Stock) (place : ℕ) (x : Supply) → count_by is_rescheduling (advice_on gross stock supplies place x) ≤ 1 }
 {}

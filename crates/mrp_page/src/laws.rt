@@ -61,8 +61,8 @@ pub fn pages_show_what_is_known()
 {}
 
 /// An item's time-phased record shows its rows of the sections `plan` and `promises`. The numbers next to
-/// each label, there and in a work centre's table, are those of the column with that meaning, found by its
-/// name in the day.
+/// each label, there and in a work centre's table, are those of the column that the label stands for, found
+/// by the column's name in the day.
 pub fn labels_stand_beside_their_columns()
     ensures record { (report : List RowView) (name : List ℕ) → named_record (item_lists report) name ≡ record_or_none name (rows_named name (rows_in section.Plan report)) (rows_named name (rows_in section.Promises report)) }
     ensures needs { (plan promises : List RowView) → record_rows plan promises ≡ measure_html gross_label (column section.Plan (codes "gross")) plan ++ (supplies_html plan promises ++ (planned_html plan ++ promised_html promises)) }

@@ -171,7 +171,7 @@ fn put_page_of(
 
 // Adds a page.
 //
-// Errors: when out of memory.
+// Errors: `NoMemory` when out of memory.
 #[tactic(auto, unfolding(crate::specs::Page::page_html, crate::specs::Page::shown_items))]
 pub(crate) fn put_page(
     alloc: Global,

@@ -2,10 +2,10 @@
 
 ghost use Rattle.mrp_peg.specs.Laws.{EachOnce, MatchesAreUnits, NeedIsPegged, NeedsDiffer, OneTrace, RequirementsAddUp, RequirementsAreCovered, RequirementsArePegged, SuppliesArePegged, SuppliesDiffer, SupplyIsPegged};
 
-/// Pegging matches piece by piece. Between some requirements and some supplies are matched as many
-/// pieces as there are numbers k for which the k-th piece required belongs to these requirements
-/// and the k-th piece supplied to these supplies. Of a requirement as many pieces are matched as
-/// are supplied.
+/// Pegging matches piece by piece. Between some requirements and some supplies, as many pieces are
+/// matched as there are numbers k for which the k-th piece required belongs to those requirements
+/// and the k-th piece supplied to those supplies. Of any requirements, exactly the pieces that are
+/// supplied are matched.
 pub fn pieces()
     ensures matches { MatchesAreUnits }
     ensures requirements { RequirementsAddUp }

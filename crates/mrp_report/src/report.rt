@@ -86,9 +86,9 @@ fn write_section<W: Write>(
 /// Writes the report of a run: the sections `run`, `promises`, `plan`, `orders`, `pegs`, `messages`
 /// and `loads`. The loads of the work centres are computed in parallel before anything is written.
 ///
-/// `workers`, which the caller guarantees to be 1 to 64, is how many threads make the rows. A
-/// section with more rows than one of them makes at a time is made by all of them in parallel, any
-/// other section by one. With one worker no thread is started for rows.
+/// `workers` (1 to 64, as the caller guarantees) is how many threads make the rows. A section with
+/// more rows than one of them makes at a time is made by all of them in parallel, any other section
+/// by one. With one worker no thread is started for rows.
 ///
 /// An interrupted write is tried again, at most 1,000,000 times. Errors: `Write` if a write failed in this
 /// call or was interrupted more often; otherwise `NoMemory` when out of memory. A prefix of the text has been

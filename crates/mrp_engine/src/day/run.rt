@@ -64,10 +64,10 @@ fn plan_day(rt: &(impl Alloc + Threads + Sync), alloc: Global, shop: Shop) -> Re
 /// is written before every run is planned. The caller guarantees that the bundle has at most 67,108,864
 /// bytes; they are dropped once its shop is open.
 ///
-/// If threads can be started, the tables are read in two of them, and the rows of the shop are grouped in one
-/// while another answers the script. The items of a low-level code are planned in parallel, and so are the
-/// loads of work centres summed, if there are enough of them. `workers` threads, which the caller guarantees
-/// to be 1 to 64, make the rows of a report. An interrupted write is tried again.
+/// The tables are read in two threads, and one thread groups the rows of the shop while another answers the
+/// script, if a second one can be started. The items of a low-level code are planned in parallel, and the
+/// loads of work centres are summed in parallel, if there are enough of them. `workers` threads (1 to 64, as
+/// the caller guarantees) make the rows of a report. An interrupted write is tried again.
 ///
 /// Errors: `Refused` with the bundle's first fault, a loop in the bill last; `TooLarge` with the first item
 /// in table order whose quantities get too large in the first run with such an item; `Write` if the writer

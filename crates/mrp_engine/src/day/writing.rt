@@ -49,8 +49,8 @@ fn write_texts<W: Write>(
     write_reports(rt, alloc, &day.plans, writer, workers)
 }
 
-/// Writes a planned day, and consumes it: the history, and then the report of each run. `workers` threads,
-/// which the caller guarantees to be 1 to 64, make the rows of a report.
+/// Writes a planned day, and consumes it: the history, and then the report of each run. `workers` threads (1
+/// to 64, as the caller guarantees) make the rows of a report.
 ///
 /// Errors: `Write` if a write failed in this call, or more than 1,000,000 were interrupted in the history or
 /// in one report; otherwise `NoMemory` when out of memory. A prefix of the text has been written then.

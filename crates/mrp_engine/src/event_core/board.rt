@@ -237,7 +237,7 @@ impl Board {
         Ok(())
     }
 
-    /// A worker gives up.
+    /// A worker gives up the run.
     ///
     /// Errors: `NoMemory` when out of memory. Nothing has changed then.
     pub fn give_up(&mut self, worker: u64) -> Result<(), NoMemory>

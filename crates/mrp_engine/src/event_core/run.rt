@@ -182,7 +182,7 @@ impl Run {
         Ok(Answer::Stored)
     }
 
-    /// A worker gives up.
+    /// A worker gives up the run.
     ///
     /// Errors: `NoMemory` when out of memory. Nothing has changed then.
     pub fn give_up(&mut self, alloc: Global, worker: u64) -> Result<(), NoMemory>
