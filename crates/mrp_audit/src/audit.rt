@@ -106,7 +106,7 @@ fn check_text(
 /// in memory.
 ///
 /// Errors: the first that applies of `Input` with the bundle's first fault, a loop in the bill last; `Shape`;
-/// `HistoryNotLegal`; `DeskRows`; `ReportDiffers`. `NoMemory` when out of memory.
+/// `HistoryNotLegal`; `DeskRows`; `ReportDiffers`. `NoMemory` if an allocation fails.
 pub fn check(
     rt: &(impl Alloc + Threads + Sync),
     alloc: Global,

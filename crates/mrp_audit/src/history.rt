@@ -52,7 +52,7 @@ fn retrace(alloc: Global, book: &mut Book, claim: &Claim) -> Result<(), AuditFau
 /// The legal history of a shop that makes these claims.
 ///
 /// Errors: `HistoryNotLegal` with the first entry whose reply is not the one that the entries
-/// before it decide; `NoMemory` when out of memory.
+/// before it decide; `NoMemory` if an allocation fails.
 pub(crate) fn history_of(
     alloc: Global,
     shop: &Shop,

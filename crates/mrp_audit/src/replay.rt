@@ -91,7 +91,7 @@ fn history_front(
 /// The history that a text begins with, and how many bytes it has. Each desk's entries in it are its script
 /// records in order. `None` says nothing about the text.
 ///
-/// Errors: `NoMemory` when out of memory.
+/// Errors: `NoMemory` if an allocation fails.
 pub(crate) fn find_history(
     alloc: Global,
     shop: &Shop,

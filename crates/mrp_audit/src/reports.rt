@@ -98,7 +98,7 @@ fn judge_end(run: u64, left: &[u8]) -> Result<(), AuditFault>
 /// history has the supply of the shop.
 ///
 /// Errors: `ReportDiffers` with the first run whose report does not come next, or with one more than there
-/// are runs if bytes are left over; `NoMemory` when out of memory.
+/// are runs if bytes are left over; `NoMemory` if an allocation fails.
 pub(crate) fn check_reports(
     rt: &(impl Alloc + Threads + Sync),
     alloc: Global,

@@ -12,7 +12,7 @@ use std::alloc::Global;
 /// The calls of a shop's script, each with its desk, in order. A script without a run is taken with
 /// one more record at its end, a run of desk 1.
 ///
-/// Errors: `NoMemory` when out of memory.
+/// Errors: `NoMemory` if an allocation fails.
 pub(crate) fn script_calls(alloc: Global, shop: &Shop) -> Result<Vec<(u64, Call)>, NoMemory>
     ensures { IfOk result (λ calls. calls.items ≡ with_run (script_of shop.now.tables)) }
 {

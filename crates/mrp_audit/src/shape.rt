@@ -56,7 +56,7 @@ fn next_claim(
 
 /// Reads the history that a text begins with.
 ///
-/// Errors: `Shape` if the text does not begin with one; `NoMemory` when out of memory.
+/// Errors: `Shape` if the text does not begin with one; `NoMemory` if an allocation fails.
 pub(crate) fn read_history(alloc: Global, shop: &Shop, text: &[u8]) -> Result<Given, AuditFault>
     ensures { ReadsHistory shop.now.tables text.now result }
 {

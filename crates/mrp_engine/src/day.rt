@@ -41,7 +41,7 @@ pub struct Day {
 /// supply of the shop.
 ///
 /// Errors: `TooLarge` with the first item in table order whose quantities get too large in the
-/// first run with such an item; `NoMemory` when out of memory.
+/// first run with such an item; `NoMemory` if an allocation fails.
 pub fn plan_history(
     rt: &(impl Threads + Sync),
     alloc: Global,

@@ -57,7 +57,7 @@ impl Core {
 
     /// The core of a shop, without entries and without runs.
     ///
-    /// Errors: `NoMemory` when out of memory.
+    /// Errors: `NoMemory` if an allocation fails.
     pub fn new(alloc: Global, shop: Shop) -> Result<Core, NoMemory>
         ensures { IfOk result (λ core. core ≡ opened shop.tables) }
     {
@@ -74,8 +74,8 @@ impl Core {
     /// report of a run. An event that has no meaning is answered `Nothing` and changes nothing. The caller
     /// guarantees that a call by a desk with a number from 1 to 64 was made for an equal shop.
     ///
-    /// Errors: `NoMemory` when out of memory; nothing has changed then. An event that is answered `Nothing`,
-    /// `Full` or `NotYet` takes no memory.
+    /// Errors: `NoMemory` if an allocation fails; nothing has changed then. An event that is answered
+    /// `Nothing`, `Full` or `NotYet` takes no memory.
     pub fn step(
         &mut self,
         rt: &(impl Alloc + Threads + Sync),
@@ -237,7 +237,7 @@ impl Core {
     /// The answers of a new core of a shop to events, one for each. The caller guarantees that the
     /// calls by desks with numbers from 1 to 64 were made for an equal shop.
     ///
-    /// Errors: `NoMemory` when out of memory.
+    /// Errors: `NoMemory` if an allocation fails.
     pub fn run(
         rt: &(impl Alloc + Threads + Sync),
         alloc: Global,

@@ -69,7 +69,7 @@ fn out_of_places(alloc: Global, outcomes: Vec<Option<Outcome>>) -> Result<Vec<Ou
 impl Finished {
     /// The state in which no item is planned yet.
     ///
-    /// Errors: `NoMemory` when out of memory, or when a reference count would overflow.
+    /// Errors: `NoMemory` if an allocation fails, or a reference count cannot rise.
     pub fn new(alloc: Global, inputs: &Arc<Inputs>) -> Result<Finished, NoMemory>
         ensures inputs { IfOk result (λ f. f.inputs ≡ inputs.now.value) }
         ensures none { IfOk result (λ f. f.outcomes ≡ replicate (count inputs.now.value) None) }
@@ -141,7 +141,7 @@ impl Finished {
 
     /// The outcome of planning an item whose parents are finished.
     ///
-    /// Errors: `NoMemory` when out of memory, or when a reference count would overflow.
+    /// Errors: `NoMemory` if an allocation fails, or a reference count cannot rise.
     pub fn outcome_for(&self, alloc: Global, item: usize) -> Result<Outcome, NoMemory>
         requires item { item < count self.now.inputs }
         requires ready { IsReady self.now item }
@@ -165,7 +165,7 @@ impl Finished {
 
     /// Plans an item whose parents are finished, and puts the outcome in its place.
     ///
-    /// Errors: `NoMemory` when out of memory, or when a reference count would overflow.
+    /// Errors: `NoMemory` if an allocation fails, or a reference count cannot rise.
     pub fn plan(&mut self, alloc: Global, item: usize) -> Result<(), NoMemory>
         requires item { item < count self.old.inputs }
         requires ready { IsReady self.old item }
@@ -201,7 +201,7 @@ impl Finished {
     /// The plan of all items. The caller guarantees that each is finished. The outcomes are moved into the
     /// plan, and dropped on an error.
     ///
-    /// Errors: `NoMemory` when out of memory; `TooLarge` with the first item that is over.
+    /// Errors: `NoMemory` if an allocation fails; `TooLarge` with the first item that is over.
     pub fn into_whole(self, alloc: Global) -> Result<Plan, RunFault>
         requires { (i : ℕ) → i < count self.inputs → IsFinished self i }
         ensures { Explodes self.inputs result }
@@ -214,7 +214,7 @@ impl Finished {
     /// The plan of all items, from copies of their outcomes. The caller guarantees that each is
     /// finished.
     ///
-    /// Errors: `NoMemory` when out of memory; `TooLarge` with the first item that is over.
+    /// Errors: `NoMemory` if an allocation fails; `TooLarge` with the first item that is over.
     pub fn whole(&self, alloc: Global) -> Result<Plan, RunFault>
         requires { (i : ℕ) → i < count self.now.inputs → IsFinished self.now i }
         ensures { Explodes self.now.inputs result }

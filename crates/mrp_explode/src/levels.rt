@@ -84,8 +84,8 @@ fn plan_level(
 /// (Orlicky: level-by-level explosion), the items of one code in parallel if there are enough of
 /// them. It is the plan that `explode_serial` gives.
 ///
-/// Errors: `NoMemory` when out of memory; otherwise `TooLarge` with the first item in table order
-/// whose quantities get too large while those of no item above it do (profile).
+/// Errors: `NoMemory` if an allocation fails; otherwise `TooLarge` with the first item in table
+/// order whose quantities get too large while those of no item above it do (profile).
 pub fn explode_levels(
     rt: &(impl Threads + Sync),
     alloc: Global,

@@ -11,8 +11,8 @@ use std::sync::Arc;
 /// The plan of these inputs: every item is planned, one at a time, parents before their components
 /// (Orlicky: explosion).
 ///
-/// Errors: `NoMemory` when out of memory; otherwise `TooLarge` with the first item in table order
-/// whose quantities get too large while those of no item above it do (profile).
+/// Errors: `NoMemory` if an allocation fails; otherwise `TooLarge` with the first item in table
+/// order whose quantities get too large while those of no item above it do (profile).
 pub fn explode_serial(alloc: Global, inputs: &Arc<Inputs>) -> Result<Plan, RunFault>
     ensures { Explodes inputs.now.value result }
 {

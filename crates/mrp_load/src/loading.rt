@@ -48,7 +48,7 @@ fn load_rows(
 /// order's release week plus the operation's offset, or in its due week if that is earlier
 /// (profile). The centres are summed in parallel, at least eight by one thread.
 ///
-/// Errors: `NoMemory` when out of memory, or when a reference count would overflow.
+/// Errors: `NoMemory` if an allocation fails, or a reference count cannot rise.
 pub fn loads(rt: &(impl Threads + Sync), alloc: Global, plan: &Plan) -> Result<LoadTable, NoMemory>
     ensures { IfOk result (λ table. table ≡ plan.now.inputs) }
 {

@@ -102,7 +102,7 @@ impl LoadTable {
     /// overload): centre by its place, week, and by how many thousandths of a minute. Centres are
     /// in table order, the weeks of each in order.
     ///
-    /// Errors: `NoMemory` when out of memory.
+    /// Errors: `NoMemory` if an allocation fails.
     pub fn overloads(&self, alloc: Global) -> Result<Vec<(usize, u16, Milli)>, NoMemory>
         ensures { IfOk result (λ all. all.items ≡ overloads self.now) }
     {

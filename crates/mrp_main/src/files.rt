@@ -34,8 +34,8 @@ pub trait FileStore {
 
     /// The bytes of the file at a path, at most so many; `None` if there is no such file.
     ///
-    /// Errors: `Read` if the file exists and cannot be read, or has more bytes; `NoMemory` when out
-    /// of memory.
+    /// Errors: `Read` if the file exists and cannot be read, or has more bytes; `NoMemory` if an
+    /// allocation fails.
     fn read_file(
         &self,
         alloc: Global,
@@ -168,7 +168,7 @@ fn join_tables(alloc: Global, tables: &[(Table, Vec<u8>)]) -> Result<Vec<u8>, No
 /// that exists, in the order of the tables.
 ///
 /// Errors, at the first file that has one: `Read` if a file exists and cannot be read, or makes the bundle of
-/// the files so far longer than 67,108,864 bytes; `NoMemory` when out of memory.
+/// the files so far longer than 67,108,864 bytes; `NoMemory` if an allocation fails.
 pub fn read_folder<F: FileStore>(
     files: &F,
     alloc: Global,

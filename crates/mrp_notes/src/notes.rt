@@ -13,7 +13,7 @@ use std::alloc::Global;
 /// order, then the planned order. For one order, a message about its release comes before one that
 /// reschedules or cancels it (APICS Dictionary: action message; profile).
 ///
-/// Errors: `NoMemory` when out of memory.
+/// Errors: `NoMemory` if an allocation fails.
 pub fn item_messages(alloc: Global, planned: &Planned) -> Result<Vec<Message>, NoMemory>
     ensures { IfOk result (λ messages. messages.items ≡ messages_of planned.now.inputs planned.now.item planned.now.plan) }
 {
@@ -27,7 +27,7 @@ pub fn item_messages(alloc: Global, planned: &Planned) -> Result<Vec<Message>, N
 
 /// The messages of a plan: those of each item, in table order.
 ///
-/// Errors: `NoMemory` when out of memory.
+/// Errors: `NoMemory` if an allocation fails.
 pub fn messages(alloc: Global, plan: &Plan) -> Result<Vec<Message>, NoMemory>
     ensures { IfOk result (λ messages. messages.items ≡ plan_messages plan.now.inputs) }
 {

@@ -49,7 +49,7 @@ impl ItemNames {
 
     /// The names in a line, which is a csv record: `A,B`, or `"A,B",C` if a name has a comma.
     ///
-    /// Errors: `NoMemory` when out of memory.
+    /// Errors: `NoMemory` if an allocation fails.
     pub fn read(alloc: Global, line: &[u8]) -> Result<ItemNames, NoMemory>
         ensures { IfOk result (λ names. names ≡ names_of line.now) }
     {
@@ -66,7 +66,7 @@ impl ItemNames {
 
     /// The names as a list of slices.
     ///
-    /// Errors: `NoMemory` when out of memory.
+    /// Errors: `NoMemory` if an allocation fails.
     pub fn slices(&self, alloc: Global) -> Result<Vec<&[u8]>, NoMemory>
         ensures { IfOk result (λ slices. map (λ s. s.now) slices.items ≡ self.now) }
     {

@@ -171,7 +171,7 @@ fn put_page_of(
 
 // Adds a page.
 //
-// Errors: `NoMemory` when out of memory.
+// Errors: `NoMemory` if an allocation fails.
 #[tactic(auto, unfolding(crate::specs::Page::page_html, crate::specs::Page::shown_items))]
 pub(crate) fn put_page(
     alloc: Global,

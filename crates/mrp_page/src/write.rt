@@ -51,9 +51,9 @@ fn page_of<R: Read>(
 /// tried again and counts as a call. Nothing is written before the whole day has been read.
 ///
 /// Errors, with nothing written: `Shape` if the text is no day; `NoRun` if it has fewer runs than the number
-/// asked for; `Read` if the reader failed in this call or needed more calls; `NoMemory` when out of memory.
-/// `Write` if a write failed in this call, or was interrupted more than 1,000,000 times; a prefix of the page
-/// has been written then.
+/// asked for; `Read` if the reader failed in this call or needed more calls; `NoMemory` if an allocation
+/// fails. `Write` if a write failed in this call, or was interrupted more than 1,000,000 times; a prefix of
+/// the page has been written then.
 pub fn write_page<R: Read, W: Write>(
     alloc: Global,
     input: &mut Told<R>,

@@ -108,7 +108,7 @@ impl<'a> NeedsLeft<'a> {
 
     // The first requirement, with what is left of it.
     //
-    // Errors: `NoMemory` when out of memory.
+    // Errors: `NoMemory` if an allocation fails.
     #[inline(always)]
     pub fn first(&mut self) -> Result<Option<Requirement>, NoMemory>
         ensures left { OnOk result (required_left self.new ≡ required_left self.old) }

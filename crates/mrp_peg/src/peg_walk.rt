@@ -91,7 +91,7 @@ impl<'a> PegWalk<'a> {
     /// A walk over all pegs of an item, by its place in the table. The caller guarantees that the
     /// shop has the item. Its supplies cover its requirements.
     ///
-    /// Errors: `NoMemory` when out of memory.
+    /// Errors: `NoMemory` if an allocation fails.
     pub fn of(alloc: Global, plan: &'a Plan, item: usize) -> Result<PegWalk<'a>, NoMemory>
         requires { item < count plan.now.inputs }
         ensures pegs { IfOk result (λ walk. pegs_left walk ≡ pegs_of plan.now.inputs item) }
@@ -108,7 +108,7 @@ impl<'a> PegWalk<'a> {
 
     /// The next peg; `None` once all were given, and from then on.
     ///
-    /// Errors: `NoMemory` when out of memory. What is left is then unspecified.
+    /// Errors: `NoMemory` if an allocation fails. What is left is then unspecified.
     pub fn next(&mut self) -> Result<Option<Peg>, NoMemory>
         ensures { IfOk result (λ peg. IsNext (pegs_left self.old) peg (pegs_left self.new)) }
     {

@@ -73,7 +73,7 @@ pub fn needs_of(alloc: Global, plan: &Plan, item: usize) -> Result<Vec<Requireme
 /// so on). The pegs of each requirement add up to it, and those of each supply, with its surplus,
 /// to the supply. The caller guarantees that the shop has the item.
 ///
-/// Errors: `NoMemory` when out of memory.
+/// Errors: `NoMemory` if an allocation fails.
 pub fn item_pegs(alloc: Global, plan: &Plan, item: usize) -> Result<Vec<Peg>, NoMemory>
     requires { item < count plan.now.inputs }
     ensures pegs { IfOk result (λ pegs. pegs.items ≡ pegs_of plan.now.inputs item) }
@@ -91,7 +91,7 @@ pub fn item_pegs(alloc: Global, plan: &Plan, item: usize) -> Result<Vec<Peg>, No
 /// The pegs of all items, in table order. The pegs of each requirement add up to it, and those of
 /// each supply, with its surplus, to the supply.
 ///
-/// Errors: `NoMemory` when out of memory.
+/// Errors: `NoMemory` if an allocation fails.
 pub fn pegs(alloc: Global, plan: &Plan) -> Result<Vec<Peg>, NoMemory>
     ensures pegs { IfOk result (λ pegs. pegs.items ≡ plan_pegs plan.now.inputs) }
     ensures requirements { IfOk result (λ pegs. (i : ℕ) → i < count plan.now.inputs → AddUpToRequirements plan.now.inputs i (pegs_for i pegs.items)) }

@@ -102,7 +102,7 @@ fn pegs_for(alloc: Global, plan: &Plan, order: Option<(usize, usize)>) -> Result
 /// in their order (Orlicky: pegging). A booking or a forecast has none, and neither has a
 /// requirement that is not one of the plan's.
 ///
-/// Errors: `NoMemory` when out of memory.
+/// Errors: `NoMemory` if an allocation fails.
 pub fn sources(alloc: Global, plan: &Plan, need: &Need) -> Result<Vec<Peg>, NoMemory>
     ensures { IfOk result (λ pegs. pegs.items ≡ sources_of plan.now.inputs need.now) }
 {

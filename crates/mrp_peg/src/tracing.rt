@@ -98,7 +98,7 @@ fn alone(alloc: Global, cause: Cause) -> Result<Vec<Cause>, NoMemory>
 /// profile: surplus). A booking or a forecast of the plan is its own cause. Each requirement of the
 /// plan has at least one cause; a requirement that is not one of the plan's has none.
 ///
-/// Errors: `NoMemory` when out of memory.
+/// Errors: `NoMemory` if an allocation fails.
 pub fn trace(alloc: Global, plan: &Plan, need: &Need) -> Result<Vec<Cause>, NoMemory>
     ensures causes { IfOk result (λ causes. IsTrace plan.now.inputs need.now causes.items) }
     ensures some { IfOk result (λ causes. is_need_of plan.now.inputs need.now ≡ true → 0 < length causes.items) }

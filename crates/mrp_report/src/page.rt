@@ -143,7 +143,7 @@ impl Page {
 
     /// Adds a line.
     ///
-    /// Errors: `NoMemory` when out of memory.
+    /// Errors: `NoMemory` if an allocation fails.
     pub(crate) fn line<L: Line>(&mut self, line: &L) -> Result<(), NoMemory>
         ensures { OnOk result (self.new ≡ self.old ++ L.csv line.now) }
     {
@@ -154,7 +154,7 @@ impl Page {
 
     /// Adds a row of at least two cells: csv writes a row of one empty cell differently.
     ///
-    /// Errors: `NoMemory` when out of memory.
+    /// Errors: `NoMemory` if an allocation fails.
     pub(crate) fn row(&mut self, cells: &[&[u8]]) -> Result<(), NoMemory>
         requires { 2 ≤ length cells.now }
         ensures { OnOk result (self.new ≡ self.old ++ row (map (λ cell. cell.now) cells.now)) }
@@ -168,7 +168,7 @@ impl Page {
 
     /// Adds what a section of a day begins with: its line and its header.
     ///
-    /// Errors: `NoMemory` when out of memory.
+    /// Errors: `NoMemory` if an allocation fails.
     pub(crate) fn begin(&mut self, section: Section) -> Result<(), NoMemory>
         ensures { OnOk result (self.new ≡ self.old ++ head_of section) }
     {

@@ -91,8 +91,8 @@ fn write_section<W: Write>(
 /// by one. With one worker no thread is started for rows.
 ///
 /// An interrupted write is tried again, at most 1,000,000 times. Errors: `Write` if a write failed in this
-/// call or was interrupted more often; otherwise `NoMemory` when out of memory. A prefix of the text has been
-/// written then.
+/// call or was interrupted more often; otherwise `NoMemory` if an allocation fails. A prefix of the text has
+/// been written then.
 pub fn write_report<W: Write>(
     rt: &(impl Alloc + Threads + Sync),
     alloc: Global,

@@ -105,7 +105,7 @@ fn write_wave<W: Write>(
 /// Writes the rows of a section, wave by wave. Each wave reuses the memory of the pages.
 ///
 /// Errors: `Write` if a write failed in this call or was interrupted with no try left; otherwise
-/// `NoMemory` when out of memory. A prefix of the rows has been written then.
+/// `NoMemory` if an allocation fails. A prefix of the rows has been written then.
 pub(crate) fn write_waves<W: Write>(
     rt: &(impl Threads + Sync),
     alloc: Global,

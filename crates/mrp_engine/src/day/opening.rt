@@ -62,8 +62,8 @@ fn shop_of(alloc: Global, tables: Tables) -> Result<Shop, OpenFault>
 
 /// Opens the shop of a bundle. Its tables are read in two threads if a second one can be started.
 ///
-/// Errors: `Refused` with the bundle's first fault, a loop in the bill last; `NoMemory` when out of
-/// memory.
+/// Errors: `Refused` with the bundle's first fault, a loop in the bill last; `NoMemory` if an
+/// allocation fails.
 pub fn open_shop(rt: &impl Threads, alloc: Global, bundle: &[u8]) -> Result<Shop, OpenFault>
     ensures { Opens bundle.now result }
 {

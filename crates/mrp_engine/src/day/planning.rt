@@ -19,7 +19,7 @@ use std::thread::Threads;
 /// The inputs of a run: the rows of a shop, and a snapshot of its order book. The caller guarantees
 /// that the snapshot is of that shop.
 ///
-/// Errors: `NoMemory` when out of memory.
+/// Errors: `NoMemory` if an allocation fails.
 pub fn inputs_of(
     alloc: Global,
     rows: &Arc<ShopRows>,
@@ -35,8 +35,8 @@ pub fn inputs_of(
 /// the snapshot is of that shop. The items of a low-level code are planned in parallel if there are enough of
 /// them.
 ///
-/// Errors: `NoMemory` when out of memory; otherwise `TooLarge` with the first item in table order
-/// whose quantities get too large while those of no item above it do.
+/// Errors: `NoMemory` if an allocation fails; otherwise `TooLarge` with the first item in table
+/// order whose quantities get too large while those of no item above it do.
 pub fn plan_run(
     rt: &(impl Threads + Sync),
     alloc: Global,

@@ -71,7 +71,7 @@ fn plan_day(rt: &(impl Alloc + Threads + Sync), alloc: Global, shop: Shop) -> Re
 ///
 /// Errors: `Refused` with the bundle's first fault, a loop in the bill last; `TooLarge` with the first item
 /// in table order whose quantities get too large in the first run with such an item; `Write` if the writer
-/// failed in this call or was interrupted more than 1,000,000 times; `NoMemory` when out of memory, if no
+/// failed in this call or was interrupted more than 1,000,000 times; `NoMemory` if an allocation fails and no
 /// write failed; never `Read`.
 pub fn run_bundle<W: Write>(
     rt: &(impl Alloc + Threads + Sync),
@@ -94,8 +94,8 @@ pub fn run_bundle<W: Write>(
 /// again.
 ///
 /// Errors: those of `run_bundle`; also `Read` if the reader failed in this call, needed more than
-/// 100,000,000 calls or gave more than 67,108,864 bytes; `NoMemory` when out of memory, if no read
-/// or write failed.
+/// 100,000,000 calls or gave more than 67,108,864 bytes; `NoMemory` if an allocation fails and no
+/// read or write failed.
 pub fn run_day<R: Read, W: Write>(
     rt: &(impl Alloc + Threads + Sync),
     alloc: Global,

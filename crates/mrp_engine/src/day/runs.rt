@@ -50,7 +50,7 @@ fn plan_or_refuse(
 /// shop.
 ///
 /// Errors: `TooLarge` with the first item in table order whose quantities get too large in the
-/// first run with such an item; `NoMemory` when out of memory.
+/// first run with such an item; `NoMemory` if an allocation fails.
 pub fn plan_runs(
     rt: &(impl Threads + Sync),
     alloc: Global,

@@ -62,7 +62,7 @@ pub fn added_run(script: &[ScriptRow]) -> Option<(u64, Call)>
 
 /// Answers a call of a desk in a book that is not full, which makes one more entry.
 ///
-/// Errors: `NoMemory` when out of memory.
+/// Errors: `NoMemory` if an allocation fails.
 pub fn answer(alloc: Global, book: &mut Book, desk: u64, call: Call) -> Result<(), NoMemory>
     requires desk { IsInRange 1 MOST_DESKS desk }
     requires fits { Fits book.old.supply call }
@@ -80,7 +80,7 @@ pub fn answer(alloc: Global, book: &mut Book, desk: u64, call: Call) -> Result<(
 /// The history that answers a shop's script, record by record. A script without a run is taken with
 /// one more record at its end, a run of desk 1.
 ///
-/// Errors: `NoMemory` when out of memory.
+/// Errors: `NoMemory` if an allocation fails.
 pub fn answer_script(alloc: Global, shop: &Shop) -> Result<History, NoMemory>
     ensures supply { IfOk result (λ h. h.supply ≡ supply_of shop.now.tables) }
     ensures answers { IfOk result (λ h. AnswersScript shop.now.tables h.entries) }

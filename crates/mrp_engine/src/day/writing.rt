@@ -53,7 +53,7 @@ fn write_texts<W: Write>(
 /// to 64, as the caller guarantees) make the rows of a report.
 ///
 /// Errors: `Write` if a write failed in this call, or more than 1,000,000 were interrupted in the history or
-/// in one report; otherwise `NoMemory` when out of memory. A prefix of the text has been written then.
+/// in one report; otherwise `NoMemory` if an allocation fails. A prefix of the text has been written then.
 pub fn write_day<W: Write>(
     rt: &(impl Alloc + Threads + Sync),
     alloc: Global,

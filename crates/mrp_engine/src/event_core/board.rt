@@ -79,7 +79,7 @@ impl Board {
 
     /// The board of a run that plans from these inputs, with an empty log.
     ///
-    /// Errors: `NoMemory` when out of memory.
+    /// Errors: `NoMemory` if an allocation fails.
     pub fn open(alloc: Global, inputs: &Arc<Inputs>) -> Result<Board, NoMemory>
         ensures { IfOk result (λ b. b ≡ record { inputs = inputs.now.value; log = [] }) }
     {
@@ -200,8 +200,8 @@ impl Board {
     /// Answers a worker that asks for an item, and makes an entry of it. `None` if no item is ready
     /// yet; nothing changes then.
     ///
-    /// Errors: `NoMemory` when out of memory, never where the result would be `None`. Nothing has
-    /// changed then.
+    /// Errors: `NoMemory` if an allocation fails, never where the result would be `None`. Nothing
+    /// has changed then.
     pub fn take(&mut self, worker: u64) -> Result<Option<BoardReply>, NoMemory>
         ensures reply { IfOk result (λ reply. reply ≡ board_reply self.old.inputs self.old.log worker BoardCall.Take) }
         ensures entry { IfOk result (λ reply. self.new ≡ record self.old { log = self.old.log ++ taken worker reply }) }
@@ -221,7 +221,7 @@ impl Board {
 
     /// Plans the item that a worker holds, and stores its outcome.
     ///
-    /// Errors: `NoMemory` when out of memory. Nothing has changed then.
+    /// Errors: `NoMemory` if an allocation fails. Nothing has changed then.
     pub fn finish(&mut self, alloc: Global, worker: u64, item: usize) -> Result<(), NoMemory>
         requires { held worker self.old.log ≡ Some item }
         ensures entry { OnOk result (self.new ≡ record self.old { log = self.old.log ++ entry worker (BoardCall.Finish item) BoardReply.Stored ∷ [] }) }
@@ -239,7 +239,7 @@ impl Board {
 
     /// A worker gives up the run.
     ///
-    /// Errors: `NoMemory` when out of memory. Nothing has changed then.
+    /// Errors: `NoMemory` if an allocation fails. Nothing has changed then.
     pub fn give_up(&mut self, worker: u64) -> Result<(), NoMemory>
         ensures entry { OnOk result (self.new ≡ record self.old { log = self.old.log ++ entry worker BoardCall.GiveUp BoardReply.Stopped ∷ [] }) }
         ensures refused { OnErr result (self.new ≡ self.old) }
@@ -256,8 +256,8 @@ impl Board {
 
     /// The plan of all items, each of which is stored.
     ///
-    /// Errors: `NoMemory` when out of memory; `TooLarge` with the first item in table order whose
-    /// quantities get too large while those of no item above it do.
+    /// Errors: `NoMemory` if an allocation fails; `TooLarge` with the first item in table order
+    /// whose quantities get too large while those of no item above it do.
     pub fn plan(&self, alloc: Global) -> Result<Plan, RunFault>
         requires { is_finished self.now.inputs self.now.log ≡ true }
         ensures { Explodes self.now.inputs result }

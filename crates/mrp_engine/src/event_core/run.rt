@@ -144,8 +144,8 @@ impl Run {
 
     /// Answers a worker that asks for an item.
     ///
-    /// Errors: `NoMemory` when out of memory, never where the answer would be `NotYet`. Nothing has
-    /// changed then.
+    /// Errors: `NoMemory` if an allocation fails, never where the answer would be `NotYet`. Nothing
+    /// has changed then.
     pub fn take(&mut self, alloc: Global, worker: u64) -> Result<Answer, NoMemory>
         ensures answer { IfOk result (λ a. a ≡ told (board_reply self.old.inputs self.old.log worker call.Take)) }
         ensures entry { OnOk result (self.new ≡ record self.old { log = self.old.log ++ taken worker (board_reply self.old.inputs self.old.log worker call.Take) }) }
@@ -163,7 +163,7 @@ impl Run {
 
     /// Plans and stores the item that a worker holds.
     ///
-    /// Errors: `NoMemory` when out of memory, only if the worker holds an item. Nothing has changed
+    /// Errors: `NoMemory` if the worker holds an item and an allocation fails. Nothing has changed
     /// then.
     pub fn finish(&mut self, alloc: Global, worker: u64) -> Result<Answer, NoMemory>
         ensures held { IfOk result (λ a. IsSome (held worker self.old.log) → a ≡ answer.Stored) }
@@ -184,7 +184,7 @@ impl Run {
 
     /// A worker gives up the run.
     ///
-    /// Errors: `NoMemory` when out of memory. Nothing has changed then.
+    /// Errors: `NoMemory` if an allocation fails. Nothing has changed then.
     pub fn give_up(&mut self, alloc: Global, worker: u64) -> Result<(), NoMemory>
         ensures entry { OnOk result (self.new ≡ record self.old { log = self.old.log ++ entry worker call.GiveUp reply.Stopped ∷ [] }) }
         ensures refused { OnErr result (self.new ≡ self.old) }
@@ -208,7 +208,7 @@ impl Run {
 
     /// The report of a run, if all its items are stored.
     ///
-    /// Errors: `NoMemory` when out of memory, only if all items are stored. Nothing has changed
+    /// Errors: `NoMemory` if all items are stored and an allocation fails. Nothing has changed
     /// then.
     pub fn write(
         &mut self,

@@ -25,7 +25,7 @@ fn append_call(lists: &mut Vec<Vec<Call>>, desk: u64, call: Call) -> Result<(), 
 /// The calls of a shop's script in a list for each of so many desks, made in one pass: a desk's
 /// list has the calls of its records, in order.
 ///
-/// Errors: `NoMemory` when out of memory.
+/// Errors: `NoMemory` if an allocation fails.
 pub fn calls_by_desk(
     alloc: Global,
     shop: &Shop,

@@ -139,7 +139,7 @@ fn close(office: Office, desks: Vec<Desk>, end: Result<(), Refused>) -> Result<H
 /// A script without a run is taken with one more call after all others, a run of desk 1, which
 /// passes no gate.
 ///
-/// Errors: `NoMemory` when out of memory.
+/// Errors: `NoMemory` if an allocation fails.
 pub fn answer_by_desks<R: Threads + Wait + Sync, G: Gate + Sync>(
     rt: &R,
     alloc: Global,

@@ -112,7 +112,7 @@ fn serve_in<'a, E, R: Threads + Wait + Sync, G: Gate + Sync>(
 /// Has each desk make the calls of its list in a thread of its own. Desks for which none can be
 /// started run in this thread, after all threaded desks have finished.
 ///
-/// Errors: `AllocError` when out of memory; no desk has begun then.
+/// Errors: `AllocError` if an allocation fails; no desk has begun then.
 pub fn serve_all<'a, R: Threads + Wait + Sync, G: Gate + Sync>(
     rt: &'a R,
     alloc: Global,

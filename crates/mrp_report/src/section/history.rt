@@ -146,8 +146,8 @@ fn entry_row(
 /// the book's supply is that of the shop.
 ///
 /// An interrupted write is tried again, at most 1,000,000 times. Errors: `Write` if a write failed in this
-/// call or was interrupted more often; otherwise `NoMemory` when out of memory. A prefix of the text has been
-/// written then.
+/// call or was interrupted more often; otherwise `NoMemory` if an allocation fails. A prefix of the text has
+/// been written then.
 pub fn write_history<W: Write>(
     alloc: Global,
     history: &History,

@@ -44,7 +44,7 @@ impl Line for LoadLine<'_> {
 
 /// Adds the row of a week of a work centre, with its times in minutes.
 ///
-/// Errors: `NoMemory` when out of memory.
+/// Errors: `NoMemory` if an allocation fails.
 pub(crate) fn load_row(page: &mut Page, name: &CsvName, row: &LoadRow) -> Result<(), NoMemory>
     ensures { OnOk result (page.new ≡ page.old ++ load_text name.now row.now) }
 {

@@ -51,7 +51,7 @@ impl Line for WeekLine<'_> {
 
 /// Adds the row of a week of an item.
 ///
-/// Errors: `NoMemory` when out of memory.
+/// Errors: `NoMemory` if an allocation fails.
 pub(crate) fn week_row(page: &mut Page, name: &CsvName, row: &PlanRow) -> Result<(), NoMemory>
     ensures { OnOk result (page.new ≡ page.old ++ week_text name.now row.now) }
 {

@@ -46,7 +46,7 @@ impl Line for PromiseLine<'_> {
 
 /// Adds the row of a week of an item.
 ///
-/// Errors: `NoMemory` when out of memory.
+/// Errors: `NoMemory` if an allocation fails.
 pub(crate) fn promise_row(page: &mut Page, name: &CsvName, row: &PromiseRow) -> Result<(), NoMemory>
     ensures { OnOk result (page.new ≡ page.old ++ promise_text name.now row.now) }
 {

@@ -11,7 +11,7 @@ use mrp_qty::NoMemory;
 /// Adds the section `run`: the entry of the order book that the run plans from, and how many
 /// bookings stand there.
 ///
-/// Errors: `NoMemory` when out of memory.
+/// Errors: `NoMemory` if an allocation fails.
 #[tactic(auto, unfolding(csv::specs::Writing::fields_text, csv::specs::Writing::is_blank))]
 pub(crate) fn run_section(page: &mut Page, front: u64, standing: u64) -> Result<(), NoMemory>
     ensures { OnOk result (page.new ≡ page.old ++ run_text front standing) }
