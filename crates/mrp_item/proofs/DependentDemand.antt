@@ -1,4 +1,4 @@
--- What lines ask, one week and one line at a time.
+-- Dependent demand, one week and one line at a time.
 use Rattle.std.proofs.Common.{◌≡◌, ◌∙◌, ℕ, ◌+◌, ◌-◌, ◌*◌, ◌<◌, ◌≤◌, List, [], ◌∷◌, length, take, map, get_or, sym, ap, arith}
 use Rattle.std.specs.Prelude.{sum, sum_by, replicate}
 use Rattle.mrp_qty.specs.Quantity.{greatest_quantity}
@@ -38,11 +38,11 @@ each_times per (o ∷ orders) =
     sum_by-cons (λ o. o.start * per) o orders ∙ ap (λ n. o.start * per + n) (each_times per orders)
     ∙ sym (add-mul o.start (sum_by (λ o. o.start) orders) per) ∙ ap (λ n. n * per) (sym (sum_by-cons (λ o. o.start) o orders))
 
--- a line asks what starts, times the quantity per
+-- a line requires the starts of its parent, times the quantity per
 pub line_demand-started : (above : ℕ → Outcome) (week : ℕ) (line : BillLine) → line_demand above week line ≡ started_in (plan_in (above line.parent)).orders week * line.per
 line_demand-started above week line = each_times line.per (released_in week (plan_in (above line.parent)).orders)
 
--- what the lines at places ask in a week
+-- the requirements of the lines at places in a week
 abbrev pub demand_at : (ℕ → Outcome) → List BillLine → List ℕ → ℕ → ℕ
 demand_at above bills places week = sum_by (line_demand above week) (map (line_at bills) places)
 
@@ -69,11 +69,11 @@ demand_row_more above bills places k n line xs started h is so_far starts =
     ∙ row_same (with_line_demand xs started line.per) (demand_at above bills (take (k + 1) places)) n
     (λ week a b. demand_more above bills places k n week line xs started h is so_far starts a b)
 
--- no lines ask nothing
+-- no lines require nothing
 pub demand_row_none : (above : ℕ → Outcome) (bills : List BillLine) (n : ℕ) → replicate n 0 ≡ row n (demand_at above bills [])
 demand_row_none above bills n = row_is (replicate n 0) (demand_at above bills []) n (length-replicate n 0) (λ t a b. in_week_replicate n t)
 
--- all lines ask what the item is asked for
+-- all lines require the item's dependent demand
 pub demand_row_all : (s : Inputs) (i : ℕ) (week : ℕ) → demand_at (outcome_of s) s.tables.bills (lines_of s.tables.bills i) week ≡ dependent_demand s i week
 demand_row_all s i week = ap (sum_by (line_demand (outcome_of s) week)) (lines-at s.tables.bills i)
 

@@ -1,4 +1,4 @@
--- An item's step looks at its tables, its own bookings and its parents' orders alone.
+-- An item's step depends on the tables, its own bookings and its parents' orders alone.
 use Rattle.std.proofs.Common.{◌≡◌, ◌∙◌, ℕ, ◌<◌, ◌≤◌, Bool, true, false, cond, eqb, List, [], ◌∷◌, refl, sym, ap, subst, arith}
 use Rattle.std.specs.Prelude.{filter, max, sum_by, ◌==◌, ◌&&◌, ◌||◌, IsTrue}
 use Rattle.std.specs.List.{list_all, range_with_len}
@@ -26,7 +26,7 @@ there line lines p i k = by (eqb line.parent p && eqb line.component i)
     by true = refl
     by false = k
 
--- what the lines to an item ask depends on its parents' orders alone
+-- the dependent demand of an item depends on its parents' orders alone
 demand-same : (f g : ℕ → Outcome) (i week : ℕ) (lines : List BillLine) → ((p : ℕ) → IsParent lines p i → (plan_in (f p)).orders ≡ (plan_in (g p)).orders)
     → sum_by (line_demand f week) (filter (λ line. line.component == i) lines) ≡ sum_by (line_demand g week) (filter (λ line. line.component == i) lines)
 demand-same f g i week [] h = refl
@@ -85,7 +85,7 @@ step-same t a b xs ys i f g same =
     ap (λ c. cond c (judged old i (item_plan old i (row (horizon old) (gross_in old i f)))) Blocked) ready
     ∙ ap (λ gross. cond (list_all (λ p. is_planned (g p)) (parents_of t.bills (count old) i)) (judged old i (item_plan old i gross)) Blocked) (gross-same t a b xs ys i f g same)
 
--- where nothing is touched that an item's plan is made from, the outcome stays
+-- if nothing changes that an item's plan depends on, the outcome is unchanged
 pub untouched : (old new : Inputs) (i : ℕ) (f g : ℕ → Outcome) → IsUntouched old new i f g → outcome_step old i f ≡ outcome_step new i g
 untouched old new i f g same =
     let Alike : Tables → Type 0 = λ t. IsUntouched old (from t new.front new.standing) i f g in
@@ -97,7 +97,7 @@ still-ranked old new code same ranked =
     let Ranked : Tables → Type 0 = λ t. IsRanked (from t new.front new.standing) code in
     subst Ranked same (record { rises = ranked.rises; within = ranked.within })
 
--- so an item's step looks at its parents' outcomes alone
+-- so an item's step depends on its parents' outcomes alone
 pub outcome_step-local : (s : Inputs) → IsLocal (IsParent s.tables.bills) (outcome_step s)
 outcome_step-local s i f g h =
     untouched s s i f g (record { tables = refl; booked = λ _ week _. refl; parents = λ p k. record { planned = ap is_planned (h p k); orders = ap (λ (o : Outcome). (plan_in o).orders) (h p k) } })

@@ -1,4 +1,4 @@
-//! What the parents' orders ask of an item.
+//! Dependent demand: what the parents' orders require of an item.
 
 ghost use Rattle.std.specs.Prelude.{◌≡◌, ◌≤◌, ◌<◌, ◌+◌, ◌*◌, ℕ, true, length, sum, sum_by, slice_index, IfOk, IfErr, OnSome, IfNone};
 ghost use Rattle.mrp_qty.specs.Quantity.{greatest_quantity};
@@ -20,7 +20,7 @@ use mrp_qty::Qty;
 use mrp_tables::BillLine;
 use std::alloc::Global;
 
-// The place of a number in numbers that rise, among which it is.
+// The place of a number in rising numbers that contain it.
 fn place_of(numbers: &[usize], number: usize) -> usize
     requires rises { (i j : ℕ) → i ≤ j → j < length numbers.now → slice_index numbers.now i ≤ slice_index numbers.now j }
     requires there { (k : ℕ) × (k < length numbers.now) × (slice_index numbers.now k ≡ number) }
@@ -33,7 +33,7 @@ fn place_of(numbers: &[usize], number: usize) -> usize
     }
 }
 
-// What starts of a planned item in each week.
+// The starts of a planned item in each week.
 fn started_by(outcome: &Outcome) -> &[Qty]
     requires { is_planned (outcome_of outcome.now.inputs outcome.now.item) ≡ true }
     ensures { result.now ≡ row (horizon outcome.now.inputs) (started_in (plan_in (outcome_of outcome.now.inputs outcome.now.item)).orders) }
@@ -44,7 +44,7 @@ fn started_by(outcome: &Outcome) -> &[Qty]
     }
 }
 
-// Adds what a line asks in each week: what starts of the parent, times the quantity per.
+// Adds the requirements of a bill line in each week: the starts of its parent, times the quantity per.
 fn add_demand(demand: &mut [Qty], started: &[Qty], per: u64) -> Option<()>
     requires { length started.now ≡ length demand.old }
     ensures added { OnSome result (demand.new ≡ row (length demand.old) (with_line_demand demand.old started.now per)) }
@@ -57,7 +57,7 @@ fn add_demand(demand: &mut [Qty], started: &[Qty], per: u64) -> Option<()>
     Some(())
 }
 
-// The same, in a list of weeks.
+// The same, for a vector.
 fn add_line(demand: &mut Vec<Qty>, started: &[Qty], per: u64) -> Option<()>
     requires { length started.now ≡ length demand.old.items }
     ensures added { OnSome result (demand.new.items ≡ row (length demand.old.items) (with_line_demand demand.old.items started.now per)) }
@@ -66,7 +66,7 @@ fn add_line(demand: &mut Vec<Qty>, started: &[Qty], per: u64) -> Option<()>
     add_demand(demand, started, per)
 }
 
-// What starts in each week of a parent of an item.
+// The starts, in each week, of a parent of an item.
 fn started_of<'a>(inputs: &Inputs, item: usize, parents: &'a [Outcome], parent: usize) -> &'a [Qty]
     requires item { item < count inputs.now }
     requires parents { parents.now ≡ parents_from inputs.now item }
@@ -85,7 +85,7 @@ fn line_of(bills: &[BillLine], place: usize) -> BillLine
     bills[place]
 }
 
-// What the lines to an item ask in each week, from its parents' outcomes.
+// The dependent demand of an item in each week, from its parents' outcomes.
 pub fn dependent_demand(
     alloc: Global,
     inputs: &Inputs,

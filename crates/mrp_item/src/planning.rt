@@ -53,7 +53,7 @@ fn gross_row(
     }
 }
 
-// The planned receipts that an item's lot rule makes of needs.
+// The planned receipts, by an item's lot rule, from net requirements.
 fn lot_receipts(alloc: Global, needs: &NeedRow, item: &Item) -> Result<Weeks<Qty>, PhaseFault>
     requires { IsSized item.now }
     ensures value { IfOk result (λ w. w ≡ row (length needs.now) (receipts (rule_of item.now) (length needs.now) (in_week needs.now))) }
@@ -66,14 +66,14 @@ fn lot_receipts(alloc: Global, needs: &NeedRow, item: &Item) -> Result<Weeks<Qty
     }
 }
 
-// What is there, what is scheduled and what is planned to come; None past the greatest quantity.
+// What is there, what is scheduled and what is planned to come; overflow yields `None`.
 fn supplies(stock: &Stock, received: Qty) -> Option<Qty>
     ensures { result ≡ quantity_of (stock.now.on_hand + sum stock.now.scheduled + received) }
 {
     stock.scheduled.sum_from(stock.on_hand)?.add(received)
 }
 
-// What starts in each week of orders.
+// The starts of orders in each week.
 fn started_row(alloc: Global, weeks: u16, orders: &[Order]) -> Result<Weeks<Qty>, PhaseFault>
     ensures value { IfOk result (λ w. w ≡ row weeks (started_in orders.now)) }
     ensures over { IfErr result (λ fault. fault ≡ PhaseFault.TooLarge → greatest_quantity < sum_by (λ order. order.start) orders.now) }
@@ -85,7 +85,7 @@ fn started_row(alloc: Global, weeks: u16, orders: &[Order]) -> Result<Weeks<Qty>
     Ok(started)
 }
 
-// The planned receipts of an item, from its gross requirements and what it has without planning.
+// The planned receipts of an item, from its gross requirements, stock and scheduled receipts.
 fn receipts_row(
     alloc: Global,
     inputs: &Inputs,
@@ -144,7 +144,7 @@ fn own_rows(
     Ok(Arc::new(alloc, rows)?)
 }
 
-// What planning makes of an item, by its rows, or by why they can't be finished.
+// The outcome of planning an item, from its rows, or from why they cannot be finished.
 fn outcome_from(
     source: Arc<Inputs>,
     item: usize,
@@ -162,12 +162,12 @@ fn outcome_from(
     }
 }
 
-/// What planning makes of an item: its plan, or that it is over, or that one above it is (profile).
-/// It plans by netting, the item's lot rule, scrap and lead (Orlicky).
+/// The outcome of planning an item: its plan, or that it is over, or blocked by one above it (profile).
+/// It plans by netting, the item's lot rule, scrap and lead time (Orlicky).
 ///
 /// It needs the outcomes of the item's distinct parents, in table order, of equal inputs.
 ///
-/// Errors: `NoMemory` where memory is refused, or a count of sharers can't rise.
+/// Errors: `NoMemory` if an allocation fails, or a reference count cannot rise.
 pub fn plan_item(
     alloc: Global,
     inputs: &Arc<Inputs>,

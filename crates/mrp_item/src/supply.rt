@@ -1,4 +1,4 @@
-//! What an item has without planning, and what is demanded of a master item.
+//! An item's stock and scheduled receipts, and the independent demand of a master item.
 
 ghost use Rattle.std.specs.Prelude.{◌≡◌, ◌<◌, ◌+◌, ℕ, length, max, sum, IfOk, IfErr};
 ghost use Rattle.mrp_qty.specs.Quantity.{greatest_quantity};
@@ -14,7 +14,7 @@ use mrp_phase::{PhaseFault, Weeks};
 use mrp_qty::{NoMemory, Qty};
 use std::alloc::Global;
 
-// The firm rows of a master item, and the open receipts of another.
+// The scheduled receipts of an item: the firm rows of a master item, the open receipts of a part.
 fn scheduled_dues(inputs: &Inputs, item: usize) -> &[Due]
     requires { item < count inputs.now }
     ensures { (week : ℕ) → due_sum result.now week ≡ scheduled_in inputs.now item week }
@@ -26,7 +26,7 @@ fn scheduled_dues(inputs: &Inputs, item: usize) -> &[Due]
     }
 }
 
-// What an item has without planning.
+// An item's stock on hand, safety stock and scheduled receipts.
 pub fn stock_for(alloc: Global, inputs: &Inputs, item: usize) -> Result<Stock, PhaseFault>
     requires { item < count inputs.now }
     ensures value { IfOk result (λ stock. stock ≡ stock_of inputs.now item) }
@@ -55,7 +55,7 @@ fn higher(alloc: Global, one: &[Qty], other: &[Qty]) -> Result<Weeks<Qty>, NoMem
     Ok(Weeks::from_vec(greater))
 }
 
-// What is demanded of a master item in each week.
+// The independent demand of a master item in each week: the greater of forecast and bookings.
 pub fn independent_demand(
     alloc: Global,
     inputs: &Inputs,

@@ -4,7 +4,7 @@ use Rattle.std.proofs.lemmas.Bool.{cases_lt}
 use Rattle.std.proofs.lemmas.List.Sorted.{searched}
 use Rattle.mrp_item.proofs.dependent.place_of.Goals as goal
 
--- no number stands both below and above itself
+-- no number is both below and above itself
 nowhere : (numbers : _) (number i k : ℕ) → k < length numbers → get_or numbers k 0 ≡ number → ((k : ℕ) → k < i → get_or numbers k 0 < number)
     → ((k : ℕ) → i ≤ k → k < length numbers → number < get_or numbers k 0) → (k < i) ⊎ (i ≤ k) → get_or numbers 0 0 ≡ number
 nowhere numbers number i k h e below above (inl a) = absurd (let less = below k a in omega arith)
