@@ -1,4 +1,4 @@
--- A text that is handed to a comparing writer.
+-- A text that is written to a comparing writer.
 use Rattle.std.proofs.Common.{◌≡◌, ◌∙◌, ℕ, ◌+◌, ◌<◌, ◌≤◌, List, [], ◌∷◌, ◌++◌, length, take, drop, slice_index_or, Option, Some, None, sym, ap, subst, refl, arith, append_assoc}
 use Rattle.std.specs.Prelude.{Result, Ok, Err, OnOk, OnErr, ⊤}
 use Rattle.std.proofs.lemmas.List.{append-nil, take_more, take-append-drop, take-append-le}

@@ -57,7 +57,7 @@ pub history-claims : (t : Tables) (h : History) → history_text t h ≡ claims_
 unfolding history_text
 history-claims t h = ap (λ (x : List ℕ). history_head ++ x) (entries-same t 1 h)
 
--- what comes of comparing a legal history that a text begins with
+-- the result of comparing a legal history that a text begins with
 pub judged : (text : List ℕ) (t : Tables) (claims : List Claim) (h : History) (rest : List ℕ) (r : Result ⊤ AuditFault) → BeginsWith t text claims rest → IsToldBy t h claims → ComparesHistory t h rest r → JudgesText t text r
 judged text t claims h rest (Ok done) begins told (desks, reports) = (
   h,

@@ -23,7 +23,7 @@ is-plain = refl
 pub is-simple-command : is_simple mrp_command ≡ true
 is-simple-command = refl
 
--- what `--dir` is given, by the rows of the subcommand alone
+-- the value of `--dir`, from the rows of the subcommand alone
 among-rows : (found : Option (Text × List Row)) → option_and_then (first_of (codes "dir")) (option_map (λ p. p.1) found) ≡ dir_among found
 among-rows None = refl
 among-rows (Some p) = refl

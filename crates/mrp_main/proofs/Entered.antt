@@ -1,4 +1,4 @@
--- Words that clap takes enter one of the commands.
+-- Words that clap accepts enter one of the commands.
 use Rattle.std.proofs.Common.{◌≡◌, ◌∙◌, ◌&&◌, ◌||◌, ◌⊎◌, inl, inr, Bool, true, false, not, cond, List, [], ◌∷◌, Option, Some, None, is_some, option_map, ap, codes, fold, refl, subst, sym, true≢false}
 use Rattle.std.specs.Prelude.{⊤}
 use Rattle.std.specs.Str.{bytes_eq}
@@ -173,7 +173,7 @@ entered-one : (stop : Option (Text × List Text)) → NotAtHelp stop → is_some
 entered-one None apart some = absurd (true≢false (sym some))
 entered-one (Some p) apart some = as-command (entered (built mrp_command) (Some p)) _ _ _ _ (of-five (built mrp_command) _ _ _ _ _ p refl refl apart some)
 
--- words that are taken enter one of the commands
+-- words that are accepted enter one of the commands
 pub enters-one : (words : List Text) → refusals words ≡ [] → IsEntered (subcommand_of mrp_command words)
 enters-one words none =
     let top : Shape = (built mrp_command).top in

@@ -134,7 +134,7 @@ place-most s.Pegs = omega arith
 place-most s.Messages = omega arith
 place-most s.Loads = omega arith
 
--- two sections of one place are one
+-- two sections at the same place are the same
 pub same-place : (x y : Section) → place_of x ≡ place_of y → x ≡ y
 same-place x y e = sym (at-place x) ∙ ap section_at e ∙ at-place y
 

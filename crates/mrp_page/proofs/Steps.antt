@@ -53,7 +53,7 @@ module _ (items : Names) (asked : Option ℕ) (S : Section) (done : List Cells) 
     pub run : runs_of more ≡ shown_in more
     pub left : rows_left asked next_spot n.report ≡ []
 
-  -- what is so of this record
+  -- what holds of this record
   pub record Step : Type 0 where
     pub here-is : here ≡ place_in more
     pub run-is : next_spot.run ≡ runs_of more

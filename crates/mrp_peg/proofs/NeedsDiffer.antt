@@ -17,7 +17,7 @@ use Rattle.mrp_peg.specs.Pegging.{booking_needs, forecast_needs, line_needs, nee
 use Rattle.mrp_peg.specs.Units.{Amount}
 use Rattle.mrp_peg.proofs.Pairs.{append-pairs, flat-pairs, map-pairs, none-pairs, number-pairs, range-pairs}
 
--- two requirements are of different needs
+-- two requirements have different needs
 abbrev Differ : Amount Need → Amount Need → Type 0
 Differ a b = a.of ≢ b.of
 

@@ -37,7 +37,7 @@ if_some n (Some e) small = small e refl
 pub order_small : (lines : List BillLine) (n : ℕ) → All (λ (l : BillLine). l.parent < n) lines → (k : NeedKind) → IfSome (order_for lines k) (λ e. e.0 < n)
 order_small lines n within k = if_some n (order_for lines k) (λ e is. order_within lines n within k e is)
 
--- the sources of a requirement that the plan has, and of one that it does not have
+-- the sources of a requirement of the plan, and of one that is not the plan's
 pub sources-there : (s : Inputs) (m : Need) → is_need_of s m ≡ true → sources_of s m ≡ order_pegs s (order_for s.tables.bills m.kind)
 unfolding sources_of
 sources-there s m has = ap (λ b. if b then order_pegs s (order_for s.tables.bills m.kind) else []) has

@@ -93,7 +93,7 @@ traced s n causes has alone ends = record {
     found c (inl own) = let none : Option Cause = None in let e : none ≡ Some c = sym alone ∙ own in absurd (cc)
     found c (inr end) = is_told_by s n causes ends c end
 
--- a requirement that the plan does not have has no trace
+-- a requirement that is not one of the plan's has no trace
 pub untraced : (s : Inputs) (n : Need) → is_need_of s n ≡ false → IsTrace s n []
 untraced s n none = record {
   each = λ c. (λ inside. absurd (nothing c inside), λ (has, why). let e : true ≡ false = sym has ∙ none in absurd (cc));

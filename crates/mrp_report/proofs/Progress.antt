@@ -102,7 +102,7 @@ pub written-next : {W : Type 0} (contents : W → Option (List ℕ)) (start now 
     → IsWritten contents start now first tries more (text ++ more)
 written-next contents start now first tries text more w = written-more contents start now first tries [] more text more w refl
 
--- all that was to be written was taken
+-- all that had to be written was taken
 pub taken-whole : {W : Type 0} (contents : W → Option (List ℕ)) (start now : Told W) (first tries : ℕ) (text : List ℕ) → IsWritten contents start now first tries [] text → HasTaken contents start now text (first - tries)
 taken-whole {W} contents start now first tries text w =
     subst (λ (t : List ℕ). HasTaken contents start now t (first - tries)) (sym (w.split ∙ append-nil w.passed)) w.taken
@@ -180,7 +180,7 @@ same-fault {S} f g e =
     let same : f ≡ g = cc in
     ap (λ (h : ReportFault). Err h) same
 
--- a call has done what it was to do
+-- a call has done what it should
 pub ends-done : {W D : Type 0} (contents : W → Option (List ℕ)) (old new : Told W) (text : List ℕ) (allowed left : ℕ) → left ≤ allowed → D → Ends {T = Unit {0}} contents old new text allowed left (Ok tt) D
 ends-done contents old new text allowed left less done = record {
   whole = done;

@@ -60,7 +60,7 @@ closed bundle f NoMemory why is = tt
 loop-code : (item : ℕ) → (loop_fault item).code ≢ faults.NO_MEMORY
 loop-code item h = let bad : faults.LOOP ≡ faults.NO_MEMORY = h in absurd (omega arith)
 
--- the tables of a bundle, and what comes of their bill
+-- the tables of a bundle, and the result for their bill
 pub opened : (bundle : List ℕ) (tables : Tables) (r : Result Shop OpenFault) → tables_of bundle ≡ Ok tables → OpensTables tables r → Opens bundle r
 opened bundle tables (Ok shop) e (same, none) =
     record {

@@ -1,4 +1,4 @@
--- Entries and runs of a core are what events were answered.
+-- Entries and runs of a core are the answers to events.
 use Rattle.std.proofs.Common.{◌≡◌, ◌⊎◌, ◌∙◌, ◌+◌, ◌-◌, ℕ, List, [], ◌∷◌, ◌++◌, length, inl, inr, refl, sym, ap, subst, arith, append_assoc}
 use Rattle.std.proofs.Math.Seq.{get_or-append_seam}
 use Rattle.std.proofs.lemmas.Bool.{cases_lt}
@@ -48,7 +48,7 @@ last-or-before {X} (z ∷ xs) x (w ∷ before) y after e =
       | inr k ↦ inr (k.0, ap (λ l. z ∷ l) k.1 ∙ ap (λ v. v ∷ (before ++ y ∷ k.0)) same)
     ]
 
--- an entry is what an event was answered in a core
+-- an entry is the answer to an event in a core
 abbrev Makes : Core → Event → Answer → Entry Call Reply → Type 0
 Makes core e a x =
     ((e ≡ event.Call x.who x.call) × (a ≡ answer.Replied (next_number core.history) x.reply))

@@ -1,4 +1,4 @@
--- What right lists of events and answers come to.
+-- What follows from right lists of events and answers.
 use Rattle.std.proofs.Common.{◌≡◌, ◌≢◌, ◌⊎◌, ◌∙◌, ◌<◌, ◌≤◌, ◌+◌, ◌-◌, ◌↔◌, ℕ, zero, suc, Bool, true, false, List, [], ◌∷◌, ◌++◌, Option, Some, None, Result, Ok, Err, length, map, set, inl, inr, refl, sym, ap, subst, arith, append_assoc, ◌&&◌, not, if◌then◌else◌}
 use Rattle.std.proofs.Math.Seq.{get_or-append_seam}
 use Rattle.std.proofs.lemmas.Bool.{cases_lt, cases_order}
@@ -305,7 +305,7 @@ module _ (tables : Tables) where
       ap (λ (c : Core). run_inputs c run) whole
       ∙ inputs-stay (core_of tables before) (core_after (core_of tables before) rest) run (right-sound before front) (steps-grow (core_of tables before) rest) started
 
-  -- what an event was answered
+  -- the answer to an event
   pub answered : (steps before : List Step) (e : Event) (a : Answer) → IsRight tables steps → WasAnswered steps before e a → IsAnswer (core_of tables before) e a
   answered steps before e a right was = (right before (e, a) was.after was.place).1
 
@@ -509,7 +509,7 @@ name-is core run name (inl (has, inl (given, is, plannable, text))) = absurd (cc
 name-is core run name (inl (has, inr (other, is, refused))) = let same : name ≡ other = cc in (has.0, subst (λ (x : List ℕ). IsRefusedBy (run_inputs core run) x) (sym same) refused)
 name-is core run name (inr (none, is)) = absurd (cc)
 
--- an entry that a step made stands in the history to the end
+-- an entry that a step made stays in the history to the end
 pub core-next : (core : Core) (x : Step) (later : List Step) → core_after core (x ∷ later) ≡ core_after (after core x.0 x.1) later
 unfolding core_after
 core-next core x later = refl

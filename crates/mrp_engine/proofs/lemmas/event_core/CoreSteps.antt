@@ -252,7 +252,7 @@ at-err : {X E : Type 0} (P Q : Type 0) (r : Result X E) → OnErr r P → (P →
 at-err P Q (Ok x) p f = p
 at-err P Q (Err e) p f = f p
 
--- a book that is not full may want memory
+-- a book that is not full may run out of memory
 pub desk-out_of_memory : (core : Core) (e : Event) → IsOfDesk e → HasMeaning core e → (IsFull core.history → ⊥) → IsOutOfMemory core e
 desk-out_of_memory core e of has open_ = record { meant = has; not_full = λ asks. open_ asks.2; not_later = never core e of }
   where

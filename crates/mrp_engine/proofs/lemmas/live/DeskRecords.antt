@@ -69,7 +69,8 @@ pub ok-then : {U E : Type 0} (r : Result U E) (P : Type 0) → OnOk r P → ((e 
 ok-then (Ok u) P p not-refused = p
 ok-then (Err e) P p not-refused = absurd (not-refused e refl)
 
--- a desk has made one call, or was refused: then it made no entry, and the refusal has its cause
+-- a desk has made one call, or the call was refused: then there is no entry, and the refusal has
+-- its cause
 pub record MakesCall (s : Supply) (c : Call) (old : Desk) (end : Result (Unit {0}) Refused) (new : Desk) : Type 0 where
   pub office : new.turn ≡ old.turn
   pub desk : new.number ≡ old.number
@@ -83,7 +84,7 @@ tells-asked s c old new (Ok answer) tells =
     ap asked tells.added ∙ map-append (λ (e : Entry Call Reply). (e.who, e.call)) old.mine (entry old.number c answer.1 ∷ [])
 tells-asked s c old new (Err refused) tells = tt
 
--- how a call ended, whatever it was answered
+-- how a call ended, whatever the answer
 abbrev pub ended : Result (ℕ × Reply) Refused → Result (Unit {0}) Refused
 ended (Ok answer) = Ok (tt {0})
 ended (Err refused) = Err refused
