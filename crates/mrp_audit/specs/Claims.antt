@@ -63,7 +63,8 @@ claims_from t number claims = flat_map (claim_text t) (enumerate_from number cla
 abbrev pub claims_text : Tables → List Claim → List ℕ
 claims_text t claims = history_head ++ claims_from t 1 claims
 
--- a call by one of the script's five words, with cells within the limits of the script: master items of the shop, weeks of the horizon, pieces that can be booked, the number of an entry
+-- a call by one of the script's five words, with cells within the limits of the script: master items of the shop,
+-- weeks of the horizon, pieces that can be booked, the number of an entry
 abbrev pub IsScripted : Tables → Call → Type 0
 IsScripted t (call.Book l) = Fits (supply_of t) (call.Book l)
 IsScripted t (call.Cancel n) = IsInRange 1 MOST_ENTRIES n

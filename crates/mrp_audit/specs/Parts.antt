@@ -116,7 +116,8 @@ ComparesReports runs text (Err (fault.Input f)) = ⊥
 ComparesReports runs text (Err (fault.HistoryNotLegal entry)) = ⊥
 ComparesReports runs text (Err (fault.DeskRows desk)) = ⊥
 
--- a legal history has each desk's script records in order, and a text is the reports of its runs; or the first of these that is wrong
+-- a legal history has each desk's script records in order, and a text is the reports of its runs; or the first of
+-- these that is wrong
 abbrev pub ComparesHistory : Tables → History → List ℕ → Result ⊤ AuditFault → Type 0
 ComparesHistory t h text (Ok done) = FollowsDesks t h × (text ≡ reports_text (runs_of t h))
 ComparesHistory t h text (Err (fault.DeskRows desk)) = IsFirstDesk t h desk

@@ -80,8 +80,8 @@ fn check_claims(
     check_history(rt, alloc, shop, &history, reports)
 }
 
-// Checks a text against the right days of a shop. Usually the history is found by replaying the script, which is
-// faster; its records are read only if that finds none.
+// Checks a text against the right days of a shop. Usually the history is found by replaying the script,
+// which is faster; its records are read only if that finds none.
 fn check_text(
     rt: &(impl Alloc + Threads + Sync),
     alloc: Global,

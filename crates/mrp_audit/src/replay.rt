@@ -1,7 +1,7 @@
 //! The history that a text begins with, found by replaying the script.
 //!
-//! Of each record only the desk is read. With the script it gives the call, and the book gives the reply. The history
-//! made like this is written and compared with the text, so nothing depends on what was read.
+//! Of each record only the desk is read. With the script it gives the call, and the book gives the reply.
+//! The history made like this is written and compared with the text, so nothing depends on what was read.
 
 ghost use Rattle.std.specs.Prelude.{◌≡◌, ◌<◌, All, IfOk, IfSome, length};
 ghost use Rattle.mrp_tables.specs.declared.limits.TheConstants.{MOST_ENTRIES};

@@ -40,8 +40,8 @@ fn report_front(
     front_by(writer.into_inner().agreement(), written)
 }
 
-// How many bytes the report of a run has, from its plan, if the text begins with it. A run in which an item gets too
-// large has no report.
+// How many bytes the report of a run has, from its plan, if the text begins with it. A run in which an item
+// gets too large has no report.
 fn planned_front(
     rt: &(impl Alloc + Threads + Sync),
     alloc: Global,

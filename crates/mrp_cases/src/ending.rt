@@ -88,8 +88,8 @@ impl Ending {
         }
     }
 
-    /// Reports the differences from the expected ending: the status, and the first line that differs in the output
-    /// and in the words.
+    /// Reports the differences from the expected ending: the status, and the first line that differs in the
+    /// output and in the words.
     pub fn told_beside(&self, alloc: Global, wanted: &Ending) -> Result<String, AllocError> {
         let mut told = String::new(alloc);
         if self.status != wanted.status {

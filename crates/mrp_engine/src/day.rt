@@ -1,5 +1,5 @@
-//! Days: the shop of a bundle is opened, its script is answered, its runs are planned, its texts are written. This file
-//! has a day before it is written.
+//! Days: the shop of a bundle is opened, its script is answered, its runs are planned, its texts are
+//! written. This file has a day before it is written.
 
 ghost use Rattle.std.specs.Prelude.{◌≡◌};
 ghost use Rattle.mrp_master.specs.Supply.{supply_of};

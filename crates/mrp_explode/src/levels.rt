@@ -22,12 +22,13 @@ const LEAST_ITEMS: usize = 64;
 // An item whose place is a multiple of this reserves the room of so many items.
 const ITEMS_OF_ROOM: usize = 8;
 
-// The bytes of that room: an item with an order in each of 104 weeks keeps about 6,700, and its planning uses more.
+// The bytes of that room: an item with an order in each of 104 weeks keeps about 6,700, and its planning
+// uses more.
 const ROOM: usize = 60_000;
 
-// The room that is reserved at an item: that of some items at once, or none. Once freed it stays in the thread's own
-// heap. A heap grows by what is asked for, otherwise by a page or two at a time, and while the heap of one thread grows
-// no other can.
+// The room that is reserved at an item: that of some items at once, or none. Once freed it stays in the
+// thread's own heap. A heap grows by what is asked for, otherwise by a page or two at a time, and while the
+// heap of one thread grows no other can.
 fn make_room(alloc: Global, item: usize) -> Result<Vec<u8>, NoMemory>
     ensures room { IfOk result (λ room. vec_capacity room ≡ (if item % ITEMS_OF_ROOM == 0 then ROOM else 0)) }
     ensures refused { OnErr result (item % ITEMS_OF_ROOM ≡ 0) }

@@ -51,7 +51,8 @@ load s centre week = load_by s (operations_at s centre) week
 abbrev pub centre_at : Inputs → ℕ → Centre
 centre_at s centre = slice_index_or s.tables.centres centre (record { name = []; minutes = 0 })
 
--- the capacity of a work centre in a week, in thousandths of a minute: its minutes of each shop day (APICS Dictionary: capacity available)
+-- the capacity of a work centre in a week, in thousandths of a minute: its minutes of each shop day (APICS
+-- Dictionary: capacity available)
 abbrev pub capacity : Inputs → ℕ → ℕ → ℕ
 capacity s centre week = 1000 * ((centre_at s centre).minutes * shop_days_in s.tables.calendar week)
 

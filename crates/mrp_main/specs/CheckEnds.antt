@@ -29,7 +29,8 @@ IsDayRead remaining old new (Err read.NoMemory) = failures_of new ≡ failures_o
 abbrev pub ReadsDay : {R : Type 0} → (R → Option (List ℕ)) → Told R → Told R → Result (List ℕ) ReadFault → Type 0
 ReadsDay remaining old new day = IsDayRead remaining old new day × TakesFront (remaining (inner_of old)) (remaining (inner_of new)) (moved_of old) (moved_of new)
 
--- the bundle of a folder's files and the text that a reader had left were read, in this order; or the first of them that was not
+-- the bundle of a folder's files and the text that a reader had left were read, in this order; or the first of them
+-- that was not
 abbrev pub AreRead : Known → List ℕ → {R : Type 0} → (R → Option (List ℕ)) → Told R → Told R → Result (List ℕ × List ℕ) ReadFault → Type 0
 AreRead known folder remaining old new (Ok both) = IsReadFrom known folder (Ok both.0) × ReadsDay remaining old new (Ok both.1)
 AreRead known folder remaining old new (Err fault) =

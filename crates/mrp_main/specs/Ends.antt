@@ -42,7 +42,8 @@ answering Live = AnswersDesks
 abbrev pub IsRefusedAs : Option (List ℕ) → List ℕ → Type 0
 IsRefusedAs given text = (bundle : List ℕ) × IsRead given bundle × (f : Fault) × IsRefused bundle f × (f.code ≢ faults.NO_MEMORY) × (text ≡ text_of_fault f)
 
--- what a reader had left is a bundle, a day of which by this command has a plan that gets too large, at the item of this name
+-- what a reader had left is a bundle, a day of which by this command has a plan that gets too large, at the item of
+-- this name
 abbrev pub IsTooLargeAt : DayCommand → Option (List ℕ) → List ℕ → Type 0
 IsTooLargeAt command given name = (bundle : List ℕ) × IsRead given bundle × IsTooLargeBy (answering command) bundle name
 

@@ -57,7 +57,8 @@ pub record AreFilesOf (known : Known) (folder : List ℕ) (tables : List Table) 
   pub tables_are : map (λ (file : Kept). file.0) files ≡ tables
   pub files_are : All (λ (file : Kept). IsAt known (path_in folder file.0) file.1) files
 
--- a folder has more bytes than a bundle may have: the bundle of the files of some tables and of this one is longer, or nothing is known of this one
+-- a folder has more bytes than a bundle may have: the bundle of the files of some tables and of this one is longer,
+-- or nothing is known of this one
 pub record HasTooMuch (known : Known) (folder : List ℕ) : Type 0 where
   pub before : List Table
   pub table : Table

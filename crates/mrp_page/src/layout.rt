@@ -29,8 +29,8 @@ pub(crate) fn page_top() -> &'static [Part]
     ]
 }
 
-// The head of a page: the title, the entry that the run plans from, the bookings that stand there, the weeks, the
-// items.
+// The head of a page: the title, the entry that the run plans from, the bookings that stand there, the
+// weeks, the items.
 #[tactic(auto, unfolding(crate::specs::Layout::page_head))]
 pub(crate) fn page_head() -> &'static [Part]
     ensures { map drawn_of result.now ≡ page_head }

@@ -22,8 +22,8 @@ pub struct PageOptions<'a> {
     pub title: &'a [u8],
     /// The run whose report is shown, counted from 1; the last if none is named.
     pub run: Option<u64>,
-    /// The names of the items to show; all items if none is named. The page shows at most 200, those with messages
-    /// first.
+    /// The names of the items to show; all items if none is named. The page shows at most 200, those with
+    /// messages first.
     pub items: &'a [&'a [u8]],
 }
 

@@ -1,4 +1,5 @@
-//! What is left of the requirements of an item. They are listed at once, or a week at a time if they may be many.
+//! What is left of the requirements of an item. They are listed at once, or a week at a time if they may be
+//! many.
 
 ghost use Rattle.std.specs.Prelude.{◌≡◌, ◌<◌, ◌≤◌, slice_get, IfOk, OnOk};
 ghost use Rattle.std.specs.Option.{option_map};

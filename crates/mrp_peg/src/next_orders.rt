@@ -3,8 +3,8 @@
 use mrp_qty::NoMemory;
 use std::alloc::Global;
 
-// For each bill line to an item, the place among its parent's orders where those of the next week are looked for
-// first. It affects speed alone.
+// For each bill line to an item, the place among its parent's orders where those of the next week are
+// looked for first. It affects speed alone.
 #[derive(Drop)]
 pub struct NextOrders {
     places: Vec<usize>,

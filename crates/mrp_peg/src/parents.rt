@@ -49,7 +49,8 @@ fn begins_at(orders: &[Order], week: u16, place: usize) -> bool
     place <= orders.len() && are_before(orders, week, place) && are_behind(orders, week, place)
 }
 
-// Where the orders that are released in a week or later begin: most likely at a place, which is looked at first.
+// Where the orders that are released in a week or later begin: most likely at a place, which is looked at
+// first.
 fn first_released(orders: &[Order], week: u16, likely: usize) -> usize
     requires { IsNonDecreasingBy (λ order. order.release) orders.now }
     ensures within { result ≤ length orders.now }
@@ -79,8 +80,8 @@ fn requirement_of(item: usize, by: &UsedBy<'_>, number: usize, order: &Order) ->
     Requirement { need, quantity }
 }
 
-// Adds the requirements that the parent's orders released in a week make by a bill line, and returns the place after
-// them. They are looked for first at the place that is given.
+// Adds the requirements that the parent's orders released in a week make by a bill line, and returns the
+// place after them. They are looked for first at the place that is given.
 pub fn add_released(
     needs: &mut Vec<Requirement>,
     item: usize,

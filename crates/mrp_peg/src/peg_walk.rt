@@ -16,7 +16,8 @@ use mrp_item::Plan;
 use mrp_qty::NoMemory;
 use std::alloc::Global;
 
-// The peg of the first supply and the first requirement. The one that ends is passed, or both if they end together.
+// The peg of the first supply and the first requirement. The one that ends is passed, or both if they end
+// together.
 #[inline(always)]
 fn serve(
     item: usize,

@@ -29,9 +29,9 @@ fn fill_one(alloc: Global, chunks: &Chunks<'_>, from: usize, slots: &mut [Slot])
     slots[0].fill(alloc, chunks, from);
 }
 
-// Fills pages with the chunks from a place: the last page on this thread, each of the others in a thread of its own if
-// one can be started. This thread starts them all. When started threads started others, two of them shared a processor
-// in each wave while another processor was idle.
+// Fills pages with the chunks from a place: the last page on this thread, each of the others in a thread of
+// its own if one can be started. This thread starts them all. When started threads started others, two of
+// them shared a processor in each wave while another processor was idle.
 #[cycle(wave)]
 fn fill_wave<R: Threads + Sync>(
     rt: &R,

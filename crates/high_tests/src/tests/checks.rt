@@ -25,8 +25,8 @@ fn make_file(files: &impl Files, path: &str, head: &str, rows: &str) -> Result<(
     Ok(())
 }
 
-// The files of a folder of the bicycle shop in which frames are welded, and whose script has the calls of two desks:
-// each with its header and its records.
+// The files of a folder of the bicycle shop in which frames are welded, and whose script has the calls of
+// two desks: each with its header and its records.
 fn files_of_lots<'a>() -> [(&'a str, &'a str, &'a str); 9] {
     let shop = bicycles_welded();
     [

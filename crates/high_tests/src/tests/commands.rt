@@ -339,9 +339,9 @@ fn make_long(files: &impl Files, path: &str, length: u64) -> Result<(), Fail> {
     Ok(())
 }
 
-// Makes a folder whose calendar is a folder, one whose calendar is a link to itself, one that has an item table
-// too long for a bundle, one whose item table and stock are too long together, and one whose calendar is as long
-// as a bundle may be. They may exist from an earlier run.
+// Makes a folder whose calendar is a folder, one whose calendar is a link to itself, one that has an item
+// table too long for a bundle, one whose item table and stock are too long together, and one whose calendar
+// is as long as a bundle may be. They may exist from an earlier run.
 fn make_folders(files: &impl Files) -> Result<(), Fail> {
     const FOLDERS: [&str; 7] = [
         "out",

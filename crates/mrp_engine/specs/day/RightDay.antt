@@ -16,7 +16,8 @@ use Rattle.mrp_engine.specs.day.Day.{IsAccepted, runs_of}
 abbrev pub asked_by : ℕ → Script → Script
 asked_by desk script = filter (λ r. r.0 == desk) script
 
--- a history in which each desk's entries are its script records in order; the run that is added to a script without one is the last record of desk 1
+-- a history in which each desk's entries are its script records in order; the run that is added to a script without
+-- one is the last record of desk 1
 abbrev pub FollowsDesks : Tables → History → Type 0
 FollowsDesks tables h = (desk : ℕ) → asked_by desk (asked h) ≡ asked_by desk (with_run (script_of tables))
 

@@ -91,7 +91,8 @@ pub record WritesDay (Answers : Answering) {W : Type 0} (contents : W → Option
   -- nothing is written before every run is planned
   pub unwritten : IfErr result (λ fault. IsBeforeWriting fault → new ≡ old)
 
--- what is written of what a reader had left, and what becomes of the reader: it was read to its end, within the limits, and a prefix of it was taken
+-- what is written of what a reader had left, and what becomes of the reader: it was read to its end, within the
+-- limits, and a prefix of it was taken
 pub record MakesDay (Answers : Answering) {R W : Type 0} (remaining : R → Option (List ℕ)) (contents : W → Option (List ℕ)) (reader read : Told R) (writer written : Told W) (result : Result (Unit {0}) DayFault) : Type 0 where
   pub writes : WritesDay Answers contents (remaining (inner_of reader)) (IsAtEnd (remaining (inner_of read))) (HasPassedLimits reader read) writer written result
   pub unfailed : result ≡ Err NoMemory → IsReadWithin reader read

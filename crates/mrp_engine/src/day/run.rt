@@ -27,8 +27,8 @@ use std::thread::Threads;
 /// The most workers that make the rows of a report.
 pub const MOST_WORKERS: u64 = mrp_report::MOST_WORKERS;
 
-// Answers a shop's script record by record, and meanwhile groups its rows, in a thread of their own if one can be
-// started.
+// Answers a shop's script record by record, and meanwhile groups its rows, in a thread of their own if one
+// can be started.
 fn answer_beside_rows(
     rt: &impl Threads,
     alloc: Global,
