@@ -90,7 +90,7 @@ impl Ending {
 
     /// Reports the differences from the expected ending: the status, and the first line that differs in the
     /// output and in the words.
-    pub fn told_beside(&self, alloc: Global, wanted: &Ending) -> Result<String, AllocError> {
+    pub fn differences(&self, alloc: Global, wanted: &Ending) -> Result<String, AllocError> {
         let mut told = String::new(alloc);
         if self.status != wanted.status {
             write!(told, "; status {}, and not {}", self.status, wanted.status)?;

@@ -73,7 +73,7 @@ fn is_as_wanted<R: AllocGlobal + Print>(
     if ended.is(wanted) {
         return Ok(true);
     }
-    let told = ended.told_beside(rt.alloc(), wanted)?;
+    let told = ended.differences(rt.alloc(), wanted)?;
     println!(rt; "{command} {name} is not as it must be{told}")?;
     Ok(false)
 }

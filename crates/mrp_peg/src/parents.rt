@@ -33,7 +33,7 @@ fn are_before(orders: &[Order], week: u16, place: usize) -> bool
 }
 
 // Whether the orders from a place on are released in a week or later.
-fn are_behind(orders: &[Order], week: u16, place: usize) -> bool
+fn are_not_before(orders: &[Order], week: u16, place: usize) -> bool
     requires { IsNonDecreasingBy (λ order. order.release) orders.now }
     ensures { IsTrue result → (k : ℕ) (d : _) → place ≤ k → k < length orders.now → nat_lt (slice_index_or orders.now k d).release week ≡ false }
 {
@@ -46,7 +46,7 @@ fn begins_at(orders: &[Order], week: u16, place: usize) -> bool
     ensures within { IsTrue result → place ≤ length orders.now }
     ensures begins { IsTrue result → IsPartitionPoint (λ order. nat_lt order.release week ≡ true) (λ order. nat_lt order.release week ≡ false) orders.now place }
 {
-    place <= orders.len() && are_before(orders, week, place) && are_behind(orders, week, place)
+    place <= orders.len() && are_before(orders, week, place) && are_not_before(orders, week, place)
 }
 
 // Where the orders that are released in a week or later begin: most likely at a place, which is looked at

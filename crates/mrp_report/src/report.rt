@@ -31,7 +31,7 @@ fn write_run(page: &mut Page, plan: &Plan) -> Result<(), NoMemory>
 }
 
 // Writes what is on the page and then the rows of a section, in chunks that are made in parallel.
-fn write_beside<W: Write>(
+fn write_parallel<W: Write>(
     rt: &(impl Threads + Sync),
     alloc: Global,
     chunks: &Chunks<'_>,
@@ -61,7 +61,7 @@ fn write_rows<W: Write>(
     ensures { Passes W.contents writer.old writer.new (page.old ++ rows_in chunks.now) page.new tries.old tries.new result }
 {
     if slots.len() > 1 && chunks.are_many() {
-        write_beside(rt, alloc, chunks, slots, page, writer, tries)
+        write_parallel(rt, alloc, chunks, slots, page, writer, tries)
     } else {
         write_in_turn(alloc, chunks, page, writer, tries)
     }

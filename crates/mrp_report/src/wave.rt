@@ -49,12 +49,12 @@ fn fill_wave<R: Threads + Sync>(
         return;
     }
     let (first, rest) = slots.split_at_mut(1);
-    fill_beside(rt, alloc, chunks, from, first, rest);
+    fill_parallel(rt, alloc, chunks, from, first, rest);
 }
 
 // Fills a page in a thread of its own, and meanwhile the others with the next chunks.
 #[cycle(wave)]
-fn fill_beside<R: Threads + Sync>(
+fn fill_parallel<R: Threads + Sync>(
     rt: &R,
     alloc: Global,
     chunks: &Chunks<'_>,

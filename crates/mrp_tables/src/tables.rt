@@ -92,7 +92,7 @@ impl Tables {
     /// that of the earlier table is still the one returned.
     ///
     /// Errors: as `read`.
-    pub fn read_beside(
+    pub fn read_parallel(
         rt: &impl Threads,
         alloc: Global,
         sections: &Sections<'_>,

@@ -71,7 +71,7 @@ pub fn open_shop(rt: &impl Threads, alloc: Global, bundle: &[u8]) -> Result<Shop
         Ok(sections) => sections,
         Err(fault) => return Err(refusal(fault)),
     };
-    match Tables::read_beside(rt, alloc, &sections) {
+    match Tables::read_parallel(rt, alloc, &sections) {
         Ok(tables) => shop_of(alloc, tables),
         Err(fault) => Err(refusal(fault)),
     }

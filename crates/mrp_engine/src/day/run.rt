@@ -29,7 +29,7 @@ pub const MOST_WORKERS: u64 = mrp_report::MOST_WORKERS;
 
 // Answers a shop's script record by record, and meanwhile groups its rows, in a thread of their own if one
 // can be started.
-fn answer_beside_rows(
+fn answer_with_rows(
     rt: &impl Threads,
     alloc: Global,
     shop: &Arc<Shop>,
@@ -56,7 +56,7 @@ fn plan_day(rt: &(impl Alloc + Threads + Sync), alloc: Global, shop: Shop) -> Re
     ensures { PlansDay AnswersScript shop.tables result }
 {
     let shop = Arc::new(alloc, shop)?;
-    let (history, rows) = answer_beside_rows(rt, alloc, &shop)?;
+    let (history, rows) = answer_with_rows(rt, alloc, &shop)?;
     plan_history(rt, alloc, rows, history)
 }
 

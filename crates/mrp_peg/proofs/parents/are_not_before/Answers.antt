@@ -3,7 +3,7 @@ use Rattle.std.specs.List.{slice_index_or}
 use Rattle.std.proofs.lemmas.Bool.{le-ltb, leb-true}
 use Rattle.std.proofs.lemmas.List.{get_or_default}
 use Rattle.mrp_item.specs.declared.order.Order.{Order}
-use Rattle.mrp_peg.proofs.parents.are_behind.Goals as goal
+use Rattle.mrp_peg.proofs.parents.are_not_before.Goals as goal
 
 pub returns-else-place-orders : goal.returns-else-place-orders
 returns-else-place-orders c told k d from h =

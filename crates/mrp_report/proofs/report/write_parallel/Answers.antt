@@ -3,7 +3,7 @@ use Rattle.mrp_report.specs.wave.Chunks.{rows_in}
 use Rattle.mrp_report.specs.Written.{HasTaken, PassesOn}
 use Rattle.mrp_report.proofs.lemmas.wave.PlacesWritten.{written-page}
 use Rattle.mrp_report.proofs.Progress.{ends-failed, ends-last, passes-on, written-next, written-none, written-taken}
-use Rattle.mrp_report.proofs.report.write_beside.Goals as goal
+use Rattle.mrp_report.proofs.report.write_parallel.Goals as goal
 
 pub returns-in_err-hand_over : goal.returns-in_err-hand_over
 returns-in_err-hand_over g c =

@@ -2,7 +2,7 @@ use Rattle.std.proofs.Common.{subst}
 use Rattle.std.proofs.lemmas.Result.{err_from_is_err_and}
 use Rattle.mrp_tables.specs.Parts.{GivesMasterAndScript, GivesStockToRoutings}
 use Rattle.mrp_tables.proofs.PartsRead.{all_tables, before_master}
-use Rattle.mrp_tables.proofs.tables.Tables.read_beside.Goals as goal
+use Rattle.mrp_tables.proofs.tables.Tables.read_parallel.Goals as goal
 
 pub returns-in_err-first : goal.returns-in_err-first
 returns-in_err-first g c =
