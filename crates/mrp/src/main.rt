@@ -8,7 +8,7 @@ use std::process::ExitCode;
 use std::rt::Env;
 use std::{env, io};
 
-// The exit statuses if the words of the command line cannot be had.
+// The exit statuses if the words of the command line cannot be read.
 const USAGE: u8 = 2;
 
 const NO_MEMORY: u8 = 3;

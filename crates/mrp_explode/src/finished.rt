@@ -32,7 +32,7 @@ impl Model for Finished {
     ghost invariant = { λ f. AreOwn f.inputs.value f.outcomes.items };
 }
 
-// The fault of a run whose first item that is over is this one.
+// The fault `TooLarge` with the first item that is over.
 fn too_large(item: usize) -> RunFault
     ensures { result ≡ RunFault.TooLarge item }
 {

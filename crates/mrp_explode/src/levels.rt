@@ -16,10 +16,10 @@ use std::alloc::Global;
 use std::sync::Arc;
 use std::thread::Threads;
 
-// A thread is started for no fewer items than this.
+// The fewest items for which a thread is started.
 const LEAST_ITEMS: usize = 64;
 
-// An item whose place is a multiple of this reserves the room of so many items.
+// An item whose place is a multiple of this number reserves the room of that many items.
 const ITEMS_OF_ROOM: usize = 8;
 
 // The bytes of that room: an item with an order in each of 104 weeks keeps about 6,700, and its planning

@@ -76,8 +76,8 @@ Exit status: 0 done, 1 refused or wrong, 2 usage, 3 no memory, 4 read or write f
 /// What the words ask for.
 #[derive(Drop)]
 pub enum Request {
-    /// Make the day of the bundle on the input, or of a folder's files if one is named, with so
-    /// many workers, 1 to 64.
+    /// Make the day of the bundle on the input, or of a folder's files if one is named, with 1 to
+    /// 64 workers.
     Day {
         command: DayCommand,
         workers: usize,

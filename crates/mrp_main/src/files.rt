@@ -32,7 +32,7 @@ const TABLES: [Table; 9] = [
 pub trait FileStore {
     ghost known: { Self → Known };
 
-    /// The bytes of the file at a path, at most so many; `None` if there is no such file.
+    /// The bytes of the file at a path, at most `most`; `None` if there is no such file.
     ///
     /// Errors: `Read` if the file exists and cannot be read, or has more bytes; `NoMemory` if an
     /// allocation fails.
@@ -84,7 +84,7 @@ fn path_of(alloc: Global, folder: &str, table: Table) -> Result<PathBuf, AllocEr
     Path::new(folder).join(alloc, file)
 }
 
-// The bytes of a table's file, at most so many; `None` if there is no such file.
+// The bytes of a table's file, at most `most`; `None` if there is no such file.
 fn read_table<F: FileStore>(
     files: &F,
     alloc: Global,

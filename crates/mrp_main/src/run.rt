@@ -140,7 +140,7 @@ fn carry_out<F: FileStore, R: Read, W: Write>(
 }
 
 /// Does what the words after the program's name ask for, such as `plan --workers 2`, `live`, `page` or
-/// `check --dir D`, and with an input, an output and an error stream, and returns the exit status. `plan` and
+/// `check --dir D`, with an input, an output and an error stream, and returns the exit status. `plan` and
 /// `live` with `--dir D` take the files of the folder D instead of the input.
 ///
 /// The status is 0 on success; 1 if the bundle was refused or its plan gets too large, if the text for a page

@@ -7,7 +7,7 @@ use mrp_item::Supplied;
 pub enum Advice {
     /// Release the order: its release is due in week 1.
     Release,
-    /// The order should have been released so many weeks before week 1.
+    /// The order should have been released this many weeks before week 1.
     PastDue(u16),
     /// Reschedule in: the supply is needed earlier, in this week (APICS Dictionary: expedite).
     Earlier(u16),
@@ -20,7 +20,7 @@ pub enum Advice {
 /// A message to the planner.
 #[derive(Clone, Copy, Debug, PartialEq, Eq)]
 pub struct Message {
-    /// The item, by its place.
+    /// The item, by its place in the table.
     pub item: usize,
     /// The supply.
     pub supply: Supplied,

@@ -1,6 +1,6 @@
 //! How much of a day a page has room for. Each limit is defined once.
 
-/// The most items that a page shows. A page also keeps the rows of so many items, or work centres, in a
+/// The most items that a page shows. A page also keeps the rows of this many items, or work centres, in a
 /// section that is full.
 pub const MOST_ITEMS: u64 = 200;
 
@@ -11,5 +11,5 @@ pub const MOST_ENTRIES: u64 = 1_000;
 /// of [`MOST_ITEMS`] items in each of 104 weeks.
 pub const MOST_ROWS: u64 = MOST_ITEMS * 104;
 
-/// The most pegs that a page keeps: 300 of each of the items.
+/// The most pegs that a page keeps: 300 for each of [`MOST_ITEMS`] items.
 pub const MOST_PEGS: u64 = MOST_ITEMS * 300;

@@ -93,15 +93,15 @@ fn read_records<R: Read + Drop>(
     Err(Unread::NoMemory)
 }
 
-// Whether a count has risen by so many.
+// Whether a count has risen by this number.
 fn has_risen_by(count: u32, before: u64, after: u64) -> bool
     ensures { result ≡ has_risen_by count before after }
 {
     before.saturating_add(u64::from(count)) <= after
 }
 
-// Whether an input has failed, or has taken all the calls that a day may take, since there were so
-// many of either.
+// Whether an input has failed, or has taken all the calls that a day may take, since its counts
+// were these.
 fn has_stopped<R: Read>(input: &Told<R>, calls: u64, failures: u64) -> bool
     ensures { result ≡ (has_risen_by 1 failures (failures_of input.now) || has_risen_by READ_CALLS calls (calls_of input.now)) }
 {
@@ -139,7 +139,7 @@ fn read_notes<R: Read>(
     }
 }
 
-// Whether the run asked for has begun. The last run is in each day.
+// Whether the run asked for has begun. Each day has a last run.
 fn has_run(asked: Option<u64>, runs: u64) -> bool
     ensures { result ≡ has_run asked runs }
 {

@@ -32,7 +32,7 @@ pub struct NeedsLeft<'a> {
 // The most requirements of a part that are listed at once: about three megabytes.
 const AT_ONCE: usize = 32_768;
 
-// Whether a part has at most so many requirements even if each parent has an order every week.
+// Whether a part has at most that many requirements even if each parent has an order every week.
 fn are_few(used: &WhereUsed<'_>, weeks: u16) -> bool {
     if used.len().saturating_mul(usize::from(weeks)) > AT_ONCE {
         return false;

@@ -22,7 +22,7 @@ pub enum NeedKind {
 /// A requirement of an item (Orlicky: gross requirement).
 #[derive(Clone, Copy, Debug, PartialEq, Eq)]
 pub struct Need {
-    /// The item, by its place.
+    /// The item, by its place in the table.
     pub item: usize,
     /// The week in which it is needed, from 1: for a parent's order the week of its release.
     pub week: u16,
@@ -34,7 +34,7 @@ pub struct Need {
 /// pegging).
 #[derive(Clone, Copy, Debug, PartialEq, Eq)]
 pub struct Peg {
-    /// The item, by its place.
+    /// The item, by its place in the table.
     pub item: usize,
     /// The requirement; `None` for surplus.
     pub need: Option<Need>,
@@ -49,21 +49,21 @@ pub struct Peg {
 pub enum Cause {
     /// A booking.
     Booking {
-        /// The item, by its place.
+        /// The item, by its place in the table.
         item: usize,
         /// The booking's number.
         number: u64,
     },
     /// The forecast of a week, as far as it exceeds the bookings.
     Forecast {
-        /// The item, by its place.
+        /// The item, by its place in the table.
         item: usize,
         /// The week, from 1.
         week: u16,
     },
     /// Pieces of an order that no requirement takes.
     Surplus {
-        /// The item, by its place.
+        /// The item, by its place in the table.
         item: usize,
         /// The order, by its number from 1.
         order: usize,

@@ -33,7 +33,7 @@ use std::io::Write;
 use std::marker::Model;
 pub(crate) use word::{Word, put_word};
 
-// A page with at least so many bytes is handed to the writer.
+// A page with at least this many bytes is handed to the writer.
 const FULL: usize = 65_536;
 
 /// Rows of csv text; contracts see it as the text.

@@ -289,7 +289,7 @@ fn each_digit_that_is_another_is_told(rt: HostRuntime) {
     drop(day);
 }
 
-// Adds a line so many times.
+// Adds a line `times` times.
 fn put_line(text: &mut String, line: &str, times: usize) -> Result<(), Fail> {
     for _ in 0..times {
         text.push_str(line)?;
@@ -298,7 +298,7 @@ fn put_line(text: &mut String, line: &str, times: usize) -> Result<(), Fail> {
     Ok(())
 }
 
-// A day in which the line at a place is repeated so many times.
+// A day with the line at a place `times` times.
 fn with_line(alloc: Global, day: &str, place: usize, times: usize) -> Result<String, Fail> {
     let mut text = String::new(alloc);
     for (at, line) in day.lines().enumerate() {
@@ -318,8 +318,7 @@ fn told_without(place: usize) -> &'static str {
     }
 }
 
-// What the check finds for a day of so many lines with the line at a place twice: nothing may come after the
-// last one.
+// What the check finds for a day with the line at a place twice: nothing may come after the last line.
 fn told_twice(place: usize, lines: usize) -> &'static str {
     if place < 9 {
         "shape"

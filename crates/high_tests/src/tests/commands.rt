@@ -333,7 +333,7 @@ fn help_is_written_to_the_output(rt: HostRuntime) {
     }
 }
 
-// Makes a file of so many bytes.
+// Makes a file with `length` bytes.
 fn make_long(files: &impl Files, path: &str, length: u64) -> Result<(), Fail> {
     File::create(files, path)?.set_len(length)?;
     Ok(())

@@ -172,7 +172,7 @@ fn a_run_that_was_given_up_hands_nothing_out(rt: HostRuntime) {
     drop(core);
 }
 
-// One worker takes and finishes so many items of a run, parents before their components.
+// One worker takes and finishes items of a run, parents before their components.
 fn steps_of_one_worker<R: Alloc + Abort + Threads + Sync>(
     rt: &R,
     alloc: Global,

@@ -77,7 +77,7 @@ fn sections_of(alloc: Global, day: &str) -> Result<String, Fail> {
     Ok(sections)
 }
 
-// Fails unless a day's history has so many entries, numbered from 1.
+// Fails unless a day's history has this number of entries, numbered from 1.
 fn is_numbered(rt: &impl Abort, day: &str, entries: u64) {
     let mut count = 0u64;
     for row in day.lines().skip(2) {
@@ -168,7 +168,7 @@ fn nothing_is_written_where_a_run_of_a_live_day_gets_too_large(rt: HostRuntime) 
 // The calls of two desks taking turns.
 const IN_TURN: &str = "1,ask,BIKE,2025-01-06,,\n2,ask,BIKE,2025-01-06,,\n";
 
-// A script in which two desks take so many turns.
+// A script in which two desks take turns.
 fn turns(alloc: Global, count: usize) -> Result<String, Fail> {
     let mut script = String::new(alloc);
     for _ in 0..count {
@@ -229,7 +229,7 @@ fn comes_twice(came: &AtomicU64) -> bool {
 }
 
 impl EachWaits {
-    // Counts a desk that comes. Its call after so many of its own waits for the other desk.
+    // Counts a desk that comes. Its call after `behind` of its own waits for the other desk.
     fn come(&self, own: &AtomicU64, behind: u64, other: &AtomicU64) {
         let before = own.fetch_add(1, Ordering::SeqCst);
         if before == behind && !comes_twice(other) {

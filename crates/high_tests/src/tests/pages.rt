@@ -139,7 +139,7 @@ fn streams_that_fail_end_a_page(rt: HostRuntime) {
     drop(text);
 }
 
-// A day of so many items over one week. Its last two items have messages: the last but one has an
+// A day of some items over one week. Its last two items have messages: the last but one has an
 // order to release, the last one a receipt to cancel.
 fn long_day(rt: &impl Abort, alloc: Global, items: u32) -> String {
     let mut text = String::new(alloc);

@@ -39,7 +39,7 @@ const FAILING: [(&[Turn], usize); 4] = [
     (&[Turn::Moves(100), Turn::Moves(0)], 100),
 ];
 
-// Fails unless the write failed once, and the writer has taken so many bytes of the text.
+// Fails unless the write failed once, and the writer has taken this number of bytes of the text.
 fn has_front(
     rt: &impl Abort,
     written: Result<(), ReportFault>,
@@ -123,7 +123,7 @@ fn a_failing_writer_has_a_front_of_the_history(rt: HostRuntime) {
     }
 }
 
-// So many calls in which desk 64 asks for the front.
+// Calls in which desk 64 asks for the front.
 fn fronts(rt: &impl Abort, alloc: Global, count: u64) -> Vec<(u64, Asked)> {
     let mut calls = Vec::new(alloc);
     for _ in 0..count {

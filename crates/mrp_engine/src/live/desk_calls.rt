@@ -22,8 +22,9 @@ fn append_call(lists: &mut Vec<Vec<Call>>, desk: u64, call: Call) -> Result<(), 
     append(lists, desk as usize - 1, call)
 }
 
-/// The calls of a shop's script in a list for each of so many desks, made in one pass: a desk's
-/// list has the calls of its records, in order.
+/// The calls of a shop's script in a list for each desk, made in one pass: a desk's list has the
+/// calls of its records, in order. The caller guarantees that the desks of the script are numbered
+/// from 1 to `desks`.
 ///
 /// Errors: `NoMemory` if an allocation fails.
 pub fn calls_by_desk(

@@ -33,7 +33,7 @@ fn past_all(receipts: &[Receipt]) -> usize
     past
 }
 
-// So many numbers without a name.
+// Numbers without a name.
 fn no_names(alloc: Global, count: usize) -> Result<Vec<Option<CsvName>>, NoMemory>
     ensures { IfOk result (λ names. names.items ≡ replicate count None) }
 {

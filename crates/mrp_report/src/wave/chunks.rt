@@ -16,7 +16,7 @@ impl Chunks<'_> {
         self.section.count(self.readings.plan)
     }
 
-    // Where so many chunks from a place end.
+    // Where a number of chunks from a place end.
     pub(crate) fn reach(&self, from: usize, chunks: usize) -> usize
         ensures { result ≡ end_of self.now from chunks }
     {

@@ -27,8 +27,8 @@ fn pegs_of_a_week(shop: &Shop) -> usize {
     tables.bills().len() / tables.items().len().max(1) + 1
 }
 
-// A section's rows, cut into chunks of so many places each. They do not fit if even a chunk of one place
-// may have more rows than a page should hold.
+// A section's rows, cut into chunks of `size` places each. They do not fit if even a chunk of one place may
+// have more rows than a page should hold.
 #[derive(Drop)]
 pub(crate) struct Chunks<'a> {
     pub readings: &'a Readings<'a>,

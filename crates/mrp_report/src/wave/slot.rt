@@ -66,7 +66,7 @@ impl Slot {
     }
 }
 
-// So many empty pages.
+// Empty pages.
 pub(crate) fn slots(alloc: Global, count: usize) -> Result<Vec<Slot>, NoMemory>
     ensures { IfOk result (λ slots. length slots.items ≡ count) }
 {
