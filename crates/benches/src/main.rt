@@ -1,8 +1,8 @@
-//! Parts of the program that are timed: how records are read, calls of promising, calls on a turn.
+//! Benchmarks of parts of the program: reading records, available-to-promise calls, calls on a turn.
 //!
-//! It reads a bundle on standard input, and the part's name as its word. With a number of calls after
-//! it, it says how long they took; without, it makes a few and says what they answered. With no word
-//! it does that for each part.
+//! It reads a bundle on standard input, and the part's name as its argument. With a number of calls as
+//! the second argument it prints how long they took; without, it makes a few and prints their answers.
+//! Without arguments it does that for each part.
 #![tactic(auto)]
 
 mod plain;
@@ -20,15 +20,15 @@ use std::thread::Threads;
 use std::time::{Duration, Instant};
 use std::{env, io};
 
-// So many calls are made where no number is given.
+// The number of calls if none is given.
 const FEW_CALLS: u64 = 1_000;
 
 const FEW_TURNS: u64 = 100;
 
-// At most so many calls are made.
+// The greatest number of calls.
 const MANY: u64 = 100_000_000;
 
-// The numbers of threads that are tried on a turn.
+// The numbers of threads that a turn is tried with.
 const THREADS: [u64; 3] = [1, 2, 4];
 
 fn tell_rows<R: Runtime + AllocGlobal>(rt: &R, bundle: &[u8]) -> io::Result<()> {

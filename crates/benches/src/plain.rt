@@ -1,4 +1,4 @@
-//! The same calls under a plain lock, round a number and a list of entries.
+//! The same calls under a plain lock, around a number and a list of entries.
 use mrp_turn::Entry;
 use mrp_turn::tally::{Call, Reply};
 use std::alloc::{AllocError, Global};
@@ -17,7 +17,7 @@ impl Drop for Count {
     }
 }
 
-// Adds 1 so often. Where the list can't grow, it leaves the entry out.
+// Adds 1 once for each call. If the list cannot grow, the entry is left out.
 fn add_often<R: Wait>(rt: &R, count: &Mutex<Count>, who: u64, calls: u64) {
     for _ in 0..calls {
         let mut held = count.lock(rt);
@@ -31,7 +31,7 @@ fn add_often<R: Wait>(rt: &R, count: &Mutex<Count>, who: u64, calls: u64) {
     }
 }
 
-/// How many entries there are once so many threads have made so many calls each.
+/// The number of entries once each thread has made its calls.
 pub(crate) fn entries<R: Threads + Wait + Sync>(
     rt: &R,
     alloc: Global,

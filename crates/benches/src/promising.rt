@@ -1,4 +1,4 @@
-//! Calls on a row, in turn: what is available, the first week, a booking, one given back.
+//! Calls on an available-to-promise row, in turn: available, earliest week, a booking, a release.
 
 ghost use Rattle.mrp_master.specs.AtpRow.{IsWeekOf};
 
@@ -9,7 +9,7 @@ use mrp_rows::split_bundle;
 use mrp_tables::Tables;
 use std::alloc::Global;
 
-// Books so many pieces in a week, if they are available; how many are booked.
+// Books pieces in a week, if they are available; returns how many are booked.
 fn take_pieces(row: &mut AtpRow, week: u16, quantity: Qty) -> u64
     requires { IsWeekOf row.old week }
 {
@@ -20,7 +20,7 @@ fn take_pieces(row: &mut AtpRow, week: u16, quantity: Qty) -> u64
     quantity.value()
 }
 
-// Gives back so many pieces of a week, if they are booked there; how many are given back.
+// Releases pieces booked in a week, if they are booked there; returns how many are released.
 fn give_pieces(row: &mut AtpRow, week: u16, quantity: Qty) -> u64
     requires { IsWeekOf row.old week }
 {
@@ -49,7 +49,7 @@ fn call(row: &mut AtpRow, number: u64) -> u64 {
     }
 }
 
-/// What the answers of so many calls add up to.
+/// The sum of the answers of a number of calls.
 pub(crate) fn call_often(row: &mut AtpRow, calls: u64) -> u64 {
     let mut answers: u64 = 0;
     for number in 0..calls {

@@ -15,7 +15,7 @@ const TABLES: [Table; 9] = [
     Table::Script,
 ];
 
-/// How many records and cells there were, and how many bytes the cells had.
+/// The number of records and cells, and of the cells' bytes.
 #[derive(Clone, Copy)]
 pub(crate) struct Counts {
     pub(crate) records: u64,

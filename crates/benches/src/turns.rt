@@ -8,7 +8,7 @@ use std::sync::Wait;
 use std::thread;
 use std::thread::Threads;
 
-// The seat makes so many calls.
+// The seat makes a number of calls.
 fn call_often<R: Wait>(rt: &R, turn: &Turn<Tally>, mut seat: Seat<Tally>, calls: u64) -> Seat<Tally>
     requires { seat.turn ≡ turn.now }
     ensures { (result.turn ≡ seat.turn) × (result.number ≡ seat.number) }
@@ -19,7 +19,7 @@ fn call_often<R: Wait>(rt: &R, turn: &Turn<Tally>, mut seat: Seat<Tally>, calls:
     seat
 }
 
-// Each seat makes so many calls, in a thread of its own.
+// Each seat makes its calls, in a thread of its own.
 fn call_all<R: Threads + Wait + Sync>(
     rt: &R,
     turn: &Turn<Tally>,
@@ -39,7 +39,7 @@ fn call_all<R: Threads + Wait + Sync>(
     )
 }
 
-/// How many entries there are once so many threads have made so many calls each.
+/// The number of entries once each thread has made its calls.
 pub(crate) fn entries<R: Threads + Wait + Sync>(
     rt: &R,
     alloc: Global,

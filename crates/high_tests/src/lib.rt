@@ -1,5 +1,5 @@
-//! Tests of the crates from `mrp_explode` to `mrp_main`, in a crate of their own: within those they
-//! would have each function proved once more.
+//! Tests of the crates from `mrp_explode` to `mrp_main`. They are in a crate of their own because
+//! inside those crates each function would be proved once more for the tests.
 #![tactic(auto)]
 
 #[cfg(test)]

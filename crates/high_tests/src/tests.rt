@@ -1,5 +1,6 @@
-//! What no worked day shows: calls of the libraries, readers and writers that fail, and words. Tests
-//! give what is large to `drop`, which is proved once and not at the end of each scope.
+//! What no worked day shows: calls of the libraries, readers and writers that fail, and words of
+//! the command line. Tests pass large values to `drop`, which is proved once rather than at the end
+//! of each scope.
 
 ghost use Rattle.std.specs.Prelude.{◌≡◌, Ok};
 
@@ -29,8 +30,8 @@ fn same<T: PartialEq + Debug + Drop>(rt: &impl Abort, got: T, want: T) {
     assert_eq!(rt; got, want);
 }
 
-// What was made. Fails where nothing was, and says why: a `?` in a test has all that it owns proved
-// to be let go.
+// What was made. Fails with the reason if nothing was: with `?` the test would have to prove that
+// everything it owns is dropped.
 fn made<R: Abort + Eprint, T>(rt: &R, made: Result<T, Fail>) -> T
     ensures { made ≡ Ok result }
 {

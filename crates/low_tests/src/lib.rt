@@ -1,5 +1,5 @@
-//! Tests of the crates up to `mrp_item`, of the lock and of the office, in a crate of their own: within
-//! those they would have each function proved once more.
+//! Tests of the crates up to `mrp_item`, of the lock and of the office. They are a crate of their own
+//! because a crate with tests is proved twice.
 #![tactic(auto)]
 
 #[cfg(test)]

@@ -1,6 +1,6 @@
-//! Worked values, calls with ample memory, readers and writers that fail, and threads. Tests stop
-//! where a call fails, so that no proof has to follow what is let go on the way out, and give what is
-//! large to `drop`, which is proved once and not at the end of each scope.
+//! Worked values, calls with ample memory, readers and writers that fail, and threads. Tests abort
+//! when a call fails, so that no proof has to follow the drops of an early return, and pass large
+//! values to `drop`, which is proved once and not at the end of each scope.
 
 ghost use Rattle.std.specs.Prelude.{◌≡◌, ◌≢◌, Ok};
 
@@ -42,12 +42,12 @@ fn same<T: PartialEq + Debug + Drop>(rt: &impl Abort, got: T, want: T) {
     assert_eq!(rt; got, want);
 }
 
-// So many pieces.
+// A number of pieces as a quantity.
 fn pieces(rt: &impl Abort, count: u64) -> Qty {
     Qty::new(count).expect(rt, "a quantity")
 }
 
-// The table, which has to be one of the nine.
+// The table, which must be one of the nine.
 fn one_of_nine(rt: &impl Abort, table: Table) -> Table
     ensures { result ≢ Table.Bundle }
 {
@@ -57,7 +57,7 @@ fn one_of_nine(rt: &impl Abort, table: Table) -> Table
     table
 }
 
-// What is made of a sample shop, which has to be there.
+// The value made from a sample shop, which must not be an error.
 fn made<T>(rt: &impl Abort, outcome: Result<T, Fail>) -> T
     ensures { outcome ≡ Ok result }
 {

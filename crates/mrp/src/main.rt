@@ -8,12 +8,12 @@ use std::process::ExitCode;
 use std::rt::Env;
 use std::{env, io};
 
-// The exit statuses for words that can't be had.
+// The exit statuses if the words of the command line cannot be read.
 const USAGE: u8 = 2;
 
 const NO_MEMORY: u8 = 3;
 
-// The words behind the program's name.
+// The words after the program's name.
 fn words_of(rt: &(impl Env + AllocGlobal)) -> Result<Vec<String>, u8> {
     let words = match env::args(rt) {
         Ok(words) => words,

@@ -1,4 +1,4 @@
--- What a cell is read as, where it is spelled as a day's.
+-- What a cell is read as, if it is spelled as a day spells it.
 use Rattle.std.proofs.Common.{◌≡◌, ◌∙◌, ℕ, ◌<◌, ◌^◌, List, Result, Ok, sym, ap, arith}
 use Rattle.std.specs.Prelude.{decimal}
 use Rattle.std.specs.Int.{IsInRange}

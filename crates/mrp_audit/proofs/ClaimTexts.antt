@@ -61,7 +61,7 @@ low-goes-on : (text : List ℕ) → BeginsLow text → EndsHistory text → ⊥
 low-goes-on [] is ends = is
 low-goes-on (byte ∷ text) is ends = absurd (omega (arith, is.1, ends))
 
--- a history does not end in front of a claim
+-- a history does not end before a claim
 pub claim-goes-on : (t : Tables) (number : ℕ) (c : Claim) (rest : List ℕ) → number < 2 ^ 64 → EndsHistory (claim_text t (number, c) ++ rest) → ⊥
 claim-goes-on t number c rest fits = low-goes-on (claim_text t (number, c) ++ rest) (low-front (claim_text t (number, c)) rest (claim-low t number c fits))
 
@@ -109,7 +109,8 @@ claim-short t number c all few fits is =
     let second = short c.desk (omega (arith, is.desk.1)) in
     omega (arith, whole, parts, calls, replies, first, second)
 
--- the cells of a record at the front of a text are told by the text, and so is what follows it
+-- the cells of the record that a text begins with are determined by the text, and so is what
+-- follows it
 pub cells-told : (xs : List (List ℕ)) (one two : List ℕ) (more : List (List ℕ)) (text before after : List ℕ) → text ≡ row xs ++ before → text ≡ row (one ∷ two ∷ more) ++ after → (xs ≡ one ∷ two ∷ more) × (before ≡ after)
 cells-told xs one two more text before after is other =
     let read = sym (read-write xs before) ∙ ap (next_record default_config st.StartRecord [] []) (sym is ∙ other) ∙ read-write-many one two more after in
@@ -129,7 +130,7 @@ claims-push t number (d ∷ claims) c =
     ap (λ (x : List ℕ). claim_text t (number, d) ++ x) (claims-push t (number + 1) claims c ∙ ap (λ (n : ℕ). claims_from t (number + 1) claims ++ claim_text t (n, c)) same)
     ∙ sym (append_assoc (claim_text t (number, d)) (claims_from t (number + 1) claims) (claim_text t (number + length (d ∷ claims), c)))
 
--- what is left of a history behind claims that its text begins with
+-- what is left of a history after claims that its text begins with
 pub record IsLeft (t : Tables) (number : ℕ) (ours theirs : List Claim) (left rest : List ℕ) : Type 0 where
   pub more : List Claim
   pub spelled : left ≡ claims_from t (number + length ours) more ++ rest
@@ -165,7 +166,7 @@ follows t number (c ∷ ours) (d ∷ theirs) left rest fits each ends same =
       each = next.each;
     }
 
--- where no record is there, there is none
+-- if no record is there, there is none
 pub no-split : (text : List ℕ) (o : Option (Row × ℕ)) → SplitsRow text (Ok o) → ((x : Row × ℕ) → o ≡ Some x → ⊥) → SplitsRow text (Ok None)
 no-split text None split none = split
 no-split text (Some x) split none = absurd (none x refl)

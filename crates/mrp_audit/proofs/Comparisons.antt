@@ -1,4 +1,4 @@
--- A text that is handed to a comparing writer.
+-- A text that is written to a comparing writer.
 use Rattle.std.proofs.Common.{◌≡◌, ◌∙◌, ℕ, ◌+◌, ◌<◌, ◌≤◌, List, [], ◌∷◌, ◌++◌, length, take, drop, slice_index_or, Option, Some, None, sym, ap, subst, refl, arith, append_assoc}
 use Rattle.std.specs.Prelude.{Result, Ok, Err, OnOk, OnErr, ⊤}
 use Rattle.std.proofs.lemmas.List.{append-nil, take_more, take-append-drop, take-append-le}
@@ -9,14 +9,14 @@ use Rattle.mrp_qty.specs.declared.memory.NoMemory.{NoMemory}
 use Rattle.mrp_audit.specs.Comparing.{Compared, IsAgreement, TellsAgreement, held, listed, taken}
 use Rattle.mrp_audit.specs.Parts.{ComparesFront, IsFrontBy}
 
--- what is held grows as what was handed over does
+-- what is held grows as what was written does
 pub held-more : (old new : Compared) (bytes : List ℕ) → new.text ≡ old.text → taken new ≡ taken old ++ bytes → held new ≡ held old ++ bytes
 held-more old new bytes same more =
     ap (λ (x : List ℕ). length x ∷ (x ++ taken new)) same
     ∙ ap (λ (x : List ℕ). length old.text ∷ (old.text ++ x)) more
     ∙ ap (λ (x : List ℕ). length old.text ∷ x) (sym (append_assoc old.text (taken old) bytes))
 
--- and what was handed over as what is held
+-- and what was written grows as what is held
 pub taken-more : (old new : Compared) (bytes : List ℕ) → held new ≡ held old ++ bytes → (new.text ≡ old.text) × (taken new ≡ taken old ++ bytes)
 taken-more old new bytes e =
     let size : length new.text ≡ length old.text = cc in
@@ -69,7 +69,7 @@ whole-agrees text other len size within stands = record {
   differs = λ byte has. absurd (omega (arith, size, slice_get_within other len byte has));
 }
 
--- where a front of a text was handed over and differs, the text differs
+-- if a prefix of a text was written and differs, the text differs
 pub front-differs : (old new : Compared) (text front : List ℕ) (n : ℕ) → old ≡ record { text = text; equal = 0; other = None } → held new ≡ held old ++ take n front → TellsAgreement new None → (rest : List ℕ) → text ≡ front ++ rest → ⊥
 front-differs old new text front n is grows differs rest begins =
     let parts = taken-more old new (take n front) grows in
@@ -78,7 +78,7 @@ front-differs old new text front n is grows differs rest begins =
     differs (drop n front ++ rest) (of ∙ begins ∙ ap (λ (x : List ℕ). x ++ rest) (sym (take-append-drop n front)) ∙ append_assoc (take n front) (drop n front) rest
     ∙ ap (λ (x : List ℕ). x ++ (drop n front ++ rest)) (sym handed))
 
--- where it was handed over whole and differs, the text differs
+-- if it was written whole and differs, the text differs
 pub whole-differs : (old new : Compared) (text front : List ℕ) → old ≡ record { text = text; equal = 0; other = None } → held new ≡ held old ++ front → TellsAgreement new None → (rest : List ℕ) → text ≡ front ++ rest → ⊥
 whole-differs old new text front is grows differs rest begins =
     let parts = taken-more old new front grows in
@@ -86,7 +86,7 @@ whole-differs old new text front is grows differs rest begins =
     let handed : taken new ≡ front = parts.1 ∙ ap (λ (c : Compared). taken c ++ front) is in
     differs rest (of ∙ begins ∙ ap (λ (x : List ℕ). x ++ rest) (sym handed))
 
--- where it was handed over whole and does not differ, the text begins with it
+-- if it was written whole and does not differ, the text begins with it
 pub whole-stands : (old new : Compared) (text front : List ℕ) (len : ℕ) → old ≡ record { text = text; equal = 0; other = None } → held new ≡ held old ++ front → TellsAgreement new (Some len) → (len ≤ length text) × (text ≡ front ++ drop len text)
 whole-stands old new text front len is grows tells =
     let parts = taken-more old new front grows in
@@ -94,7 +94,7 @@ whole-stands old new text front len is grows tells =
     let handed : taken new ≡ front = parts.1 ∙ ap (λ (c : Compared). taken c ++ front) is in
     (subst (λ (x : List ℕ). len ≤ length x) of tells.0, subst (λ (x : List ℕ). x ≡ front ++ drop len x) of (tells.1 ∙ ap (λ (x : List ℕ). x ++ drop len new.text) handed))
 
--- whether all of a report was handed over or a front of it: where that differs, the text does not begin with the report
+-- all of a report was written or a prefix of it: if that differs, the text does not begin with the report
 pub report-differs : {P Q : Type 0} (old new : Compared) (text report : List ℕ) (r : Result ⊤ ReportFault) → old ≡ record { text = text; equal = 0; other = None } → OnOk r P → OnErr r Q → (P → held new ≡ held old ++ report)
     → (Q → (n : ℕ) × (held new ≡ held old ++ take n report)) → TellsAgreement new None → (rest : List ℕ) → text ≡ report ++ rest → ⊥
 report-differs old new text report (Ok done) is whole front p q differs rest begins = whole-differs old new text report is (p whole) differs rest begins
@@ -102,7 +102,7 @@ report-differs old new text report (Err fault) is whole front p q differs rest b
     let some = q front in
     front-differs old new text report some.0 is some.1 differs rest begins
 
--- what is told of a comparison is so
+-- what a comparison returns is right
 pub report-compared : {P Q : Type 0} (old new : Compared) (text report : List ℕ) (written : Result ⊤ ReportFault) (agreement : Option ℕ) (front : Result (Option ℕ) NoMemory) → old ≡ record { text = text; equal = 0; other = None } → OnOk written P → OnErr written Q
     → (P → held new ≡ held old ++ report) → (Q → (n : ℕ) × (held new ≡ held old ++ take n report)) → TellsAgreement new agreement → IsFrontBy agreement written front → ComparesFront report text front
 report-compared old new text report written None front is whole part p q tells by =

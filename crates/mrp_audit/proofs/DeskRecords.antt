@@ -1,4 +1,4 @@
--- A desk's entries beside its records, entry by entry.
+-- A desk's entries compared with its records, entry by entry.
 use Rattle.std.proofs.Common.{◌≡◌, ◌∙◌, ℕ, zero, suc, ◌+◌, ◌<◌, ◌≤◌, true, false, List, [], ◌∷◌, ◌++◌, length, take, drop, get_or, length-append, Some, sym, ap, refl, arith, inl, inr}
 use Rattle.std.proofs.lemmas.List.{take_more, take_all, drop_more, take-append-drop, append_cancel_left, append-nil, map-append}
 use Rattle.std.proofs.lemmas.Bool.{cases_lt, eq-eqb, eqb-true}
@@ -42,7 +42,7 @@ all-taken calls script k same all = same ∙ ap (map record_of) (take_all k scri
 own-next : (desk : ℕ) (front rest : Script) (r : ℕ × Call) → (r.0 == desk) ≡ true → asked_by desk (front ++ r ∷ rest) ≡ asked_by desk front ++ r ∷ asked_by desk rest
 own-next desk front rest r own = filter-append (λ (x : ℕ × Call). x.0 == desk) front (r ∷ rest) ∙ rw own refl
 
--- a desk's records up to one of them, that one, and those behind it
+-- a desk's records up to one of them, that one, and those after it
 script-cut : (desk : ℕ) (script : Script) (p : ℕ) (r : ℕ × Call) → p < length script → r ≡ get_or script p r → (r.0 == desk) ≡ true → asked_by desk script ≡ asked_by desk (take p script) ++ r ∷ asked_by desk (drop (p + 1) script)
 script-cut desk script p r within at own =
     let split : script ≡ take p script ++ r ∷ drop (p + 1) script =

@@ -57,7 +57,7 @@ pub history-claims : (t : Tables) (h : History) → history_text t h ≡ claims_
 unfolding history_text
 history-claims t h = ap (λ (x : List ℕ). history_head ++ x) (entries-same t 1 h)
 
--- what comes of comparing a legal history that a text begins with
+-- the result of comparing a legal history that a text begins with
 pub judged : (text : List ℕ) (t : Tables) (claims : List Claim) (h : History) (rest : List ℕ) (r : Result ⊤ AuditFault) → BeginsWith t text claims rest → IsToldBy t h claims → ComparesHistory t h rest r → JudgesText t text r
 judged text t claims h rest (Ok done) begins told (desks, reports) = (
   h,
@@ -93,7 +93,7 @@ untold text t claims rest (fault.Input f) begins is = is
 untold text t claims rest (fault.DeskRows desk) begins is = absurd is
 untold text t claims rest (fault.ReportDiffers run) begins is = absurd is
 
--- what is judged beside accepted tables is judged beside their bundle
+-- a verdict for accepted tables is one for their bundle
 pub judged-of : (bundle text : List ℕ) (t : Tables) (r : Result ⊤ AuditFault) → IsAccepted bundle t → JudgesText t text r → Judges bundle text r
 judged-of bundle text t (Ok done) accepted (h, answers, is) = (t, accepted, h, answers, is)
 judged-of bundle text t (Err (fault.Input f)) accepted is = absurd is
@@ -125,7 +125,7 @@ history-none desk [] other = refl
 history-none desk (e ∷ h) other =
     rw (ne_eqb e.who desk (other [] e h refl)) (history-none desk h (λ (before : History) (x : Entry Call Reply) (after : History) (is : h ≡ before ++ x ∷ after). other (e ∷ before) x after (ap (λ (y : History). e ∷ y) is)))
 
--- what no desk is told or asked is the same
+-- the calls of a number that no desk has are the same
 nobody : (t : Tables) (h : History) (desk : ℕ) → NoDesk desk → IsLegal (supply_of t) h → All (IsScriptRow t.calendar.weeks t.items) t.script → IsDeskRight t h desk
 nobody t h desk none legal rows =
     history-none desk h (λ (before : History) (e : Entry Call Reply) (after : History) (is : h ≡ before ++ e ∷ after). none e.who (legal before e after is).0)
@@ -137,7 +137,7 @@ low-desk desk low who within same = omega (arith, low, within.0, same)
 high-desk : (desk : ℕ) → 64 < desk → NoDesk desk
 high-desk desk high who within same = omega (arith, high, within.1, same)
 
--- where each desk's calls are the same, they are so of every number
+-- if each desk's calls are the same, they are so for every number
 pub all-desks : (t : Tables) (h : History) → IsLegal (supply_of t) h → All (IsScriptRow t.calendar.weeks t.items) t.script → ComparesDesks (asked h) (with_run (script_of t)) (Ok tt) → FollowsDesks t h
 all-desks t h legal rows compares desk = elim (cases_lt desk 1) [
   | inl low ↦ nobody t h desk (low-desk desk low) legal rows
@@ -147,7 +147,7 @@ all-desks t h legal rows compares desk = elim (cases_lt desk 1) [
   ]
 ]
 
--- where those of a desk are not, it is the first
+-- if those of a desk are not, it is the first
 pub desk-refused : (t : Tables) (h : History) (text : List ℕ) (f : AuditFault) → IsLegal (supply_of t) h → All (IsScriptRow t.calendar.weeks t.items) t.script → ComparesDesks (asked h) (with_run (script_of t)) (Err f) → ComparesHistory t h text (Err f)
 desk-refused t h text (fault.DeskRows desk) legal rows (differs, least) = record {
   differs = differs;

@@ -17,7 +17,7 @@ use Rattle.mrp_master.specs.Supply.{IsMaster, supply_of}
 use Rattle.mrp_report.specs.section.Cells.{name_at}
 use Rattle.mrp_audit.specs.Reading.{FindsItem}
 
--- where something passes, a first place is found
+-- if something passes, a first place is found
 passed : {X : Type 0} (p : X → Bool) (xs : List X) (k : ℕ) (d : X) → k < length xs → p (get_or xs k d) ≡ true → position p xs ≡ None → ⊥
 passed p xs k d within is none = elim (cases_lt k (position_or_len p xs)) [
   | inl before ↦ let fails = fails_before_first p xs k d before in absurd cc

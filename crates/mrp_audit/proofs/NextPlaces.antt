@@ -1,4 +1,4 @@
--- Each desk's next record, and what stands behind it.
+-- Each desk's next record, and what follows it.
 use Rattle.std.proofs.Common.{◌≡◌, ◌≢◌, ◌∙◌, ℕ, zero, suc, ◌+◌, ◌<◌, ◌≤◌, ◌⊎◌, List, [], ◌∷◌, ◌++◌, length, take, get_or, set, replicate, Option, Some, sym, ap, subst, refl, arith, inl, inr, get_or-set_same, get_or-set_other, length-set}
 use Rattle.std.proofs.lemmas.Bool.{cases_eq, eq-eqb, ne_eqb}
 use Rattle.std.proofs.lemmas.List.{get_or-replicate}
@@ -12,7 +12,7 @@ use Rattle.mrp_audit.specs.NextPlaces.{AreBehind, AreNext, HaveCome}
 use Rattle.mrp_audit.specs.Parts.{IsNextPlace, IsSame}
 use Rattle.mrp_audit.proofs.DeskRecords.{asked_by-next, asked_by-one, asked_by-other, none-left}
 
--- behind the end nothing stands
+-- nothing is after the end
 past : {X : Type 0} (xs : List X) (i : ℕ) (x : X) → length xs ≤ i → slice_get xs i ≡ Some x → ⊥
 past [] i x all is = cc
 past (y ∷ xs) zero x all is = absurd (omega (arith, all))
@@ -40,7 +40,7 @@ none-next script heads behind is desks size = record {
   next = λ place r from there low. absurd (past script place r from there);
 }
 
--- a place in front, whose record is another desk's
+-- a place before, whose record is another desk's
 in-front : (script : Script) (desk p next : ℕ) (r : ℕ × Call) → p < length script → r ≡ get_or script p r → r.0 ≢ desk → IsNextPlace script desk (p + 1) next → IsNextPlace script desk p next
 in-front script desk p next r within at other k = let behind = k.behind in record {
   behind = omega (arith, behind);
@@ -49,7 +49,7 @@ in-front script desk p next r within at other k = let behind = k.behind in recor
   here = k.here;
 }
 
--- one record more in front
+-- one record more before
 pub one-more : (script : Script) (p : ℕ) (heads behind : List ℕ) (r : ℕ × Call) → AreNext script (p + 1) heads behind → p < length script → r ≡ get_or script p r → r.0 ≤ MOST_DESKS
     → AreNext script p (set heads r.0 p) (set behind p (slice_index heads r.0))
 one-more script p heads behind r k within at low = record {
@@ -84,7 +84,7 @@ one-more script p heads behind r k within at low = record {
     next-of place q from there q_low (inr other) =
         subst (IsNextPlace script q.0 (place + 1)) (sym (get_or-set_other behind p place (slice_index heads r.0) 0 (λ e. other (sym e)))) (k.next place q (omega (arith, from, other)) there q_low)
 
--- a record in front of a desk that no desk has
+-- a record before, with a desk number that no desk has
 pub none-more : (script : Script) (p : ℕ) (heads behind : List ℕ) (r : ℕ × Call) → AreNext script (p + 1) heads behind → p < length script → r ≡ get_or script p r → MOST_DESKS < r.0 → AreNext script p heads behind
 none-more script p heads behind r k within at high = record {
   desks = k.desks;
@@ -100,7 +100,7 @@ none-more script p heads behind r k within at high = record {
         absurd (omega (arith, who, low, high))
     next-of place q from there low (inr other) = k.next place q (omega (arith, from, other)) there low
 
--- what stands behind each record of a script
+-- what follows each record of a script
 pub behind-all : (script : Script) (heads behind : List ℕ) → AreNext script 0 heads behind → AreBehind script behind
 behind-all script heads behind k = record { size = k.size; next = λ place r there low. k.next place r (omega arith) there low }
 

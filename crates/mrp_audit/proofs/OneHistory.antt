@@ -19,7 +19,7 @@ use Rattle.mrp_audit.specs.Shape.{BeginsWith, EndsHistory}
 use Rattle.mrp_audit.proofs.ClaimTexts.{cells-told, claim-goes-on}
 use Rattle.mrp_audit.proofs.Names.{apart, master-there}
 
--- a record's cells behind the first
+-- a record's cells after the first
 abbrev second : List (List ℕ) → List ℕ
 second (a ∷ b ∷ cells) = b
 second _ = []
@@ -36,7 +36,7 @@ abbrev fifth : List (List ℕ) → List ℕ
 fifth (a ∷ b ∷ c ∷ d ∷ e ∷ cells) = e
 fifth _ = []
 
--- its first five, and what is behind them
+-- its first five, and those after them
 abbrev first_five : List (List ℕ) → List (List ℕ)
 first_five (a ∷ b ∷ c ∷ d ∷ e ∷ cells) = a ∷ b ∷ c ∷ d ∷ e ∷ []
 first_five _ = []
@@ -49,7 +49,7 @@ abbrev behind_two : List (List ℕ) → List (List ℕ)
 behind_two (a ∷ b ∷ cells) = cells
 behind_two _ = []
 
--- the first byte of a record's first word, by which calls are told apart
+-- the first byte of a record's first word, which distinguishes calls
 abbrev letter : List (List ℕ) → ℕ
 letter ((a ∷ word) ∷ cells) = a
 letter _ = 0
@@ -70,7 +70,7 @@ module _ (t : Tables) (keeps : KeepsLimits t) where
     ]
   ]
 
-  -- a call is told by its cells
+  -- a call is determined by its cells
   same-call : (c d : Call) → IsScripted t c → IsScripted t d → call_cells t c ≡ call_cells t d → c ≡ d
   same-call (call.Book l) (call.Book k) is other e =
       let few = keeps.weeks in
@@ -204,7 +204,7 @@ same-reply q r is other e =
     let value : value_of q ≡ value_of r = same-value (value_of q) (value_of r) (value-small q is) (value-small r other) (sym (value-second q) ∙ ap second e ∙ value-second r) in
     by-letters q ∙ ap₂ (λ (n : ℕ) (v : Option ℕ). of_letters n (unwrap_or v 0)) (ap letters e) value ∙ sym (by-letters r)
 
--- the cells of a call stand in front of those of its reply
+-- the cells of a call come before those of its reply
 calls-first : (t : Tables) (c : Call) (xs : List (List ℕ)) → first_five (call_cells t c ++ xs) ≡ call_cells t c
 calls-first t (call.Book l) xs = refl
 calls-first t (call.Cancel n) xs = refl
@@ -222,7 +222,7 @@ calls-behind t call.Snapshot xs = refl
 calls-behind t call.Front xs = refl
 
 module _ (t : Tables) (keeps : KeepsLimits t) where
-  -- a claim is told by its cells
+  -- a claim is determined by its cells
   pub same-claim : (number : ℕ) (c d : Claim) → IsClaim t c → IsClaim t d → claim_cells t (number, c) ≡ claim_cells t (number, d) → c ≡ d
   same-claim number c d is other e =
       let desk : c.desk ≡ d.desk = decimal_injective c.desk d.desk (omega (arith, is.desk.1)) (omega (arith, other.desk.1)) (ap second e) in
@@ -233,7 +233,7 @@ module _ (t : Tables) (keeps : KeepsLimits t) where
       let had : c.reply ≡ d.reply = same-reply c.reply d.reply is.reply other.reply replies in
       λ i. record { desk = desk i; call = made i; reply = had i }
 
-  -- claims that end are told by the text that begins with them, and so is what follows them
+  -- claims that end are determined by the text that begins with them, and so is what follows them
   pub one-history : (number : ℕ) (ours theirs : List Claim) (left rest : List ℕ) → number + length ours < 2 ^ 64 → All (IsClaim t) ours → All (IsClaim t) theirs → EndsHistory left → EndsHistory rest
       → claims_from t number ours ++ left ≡ claims_from t number theirs ++ rest → (ours ≡ theirs) × (left ≡ rest)
   one-history number [] [] left rest fits own each ends stops same = (refl, same)

@@ -25,7 +25,7 @@ use Rattle.mrp_audit.specs.Verdict.{HasHistory, HasMore, IsFirstDesk, IsFirstFal
 use Rattle.mrp_audit.proofs.OneHistory.{begins-once}
 use Rattle.mrp_audit.proofs.RightTexts.{none-false, right-passes, text-passes, told-once}
 
--- of two cuts of a list the shorter stands in front of the longer
+-- of two prefixes of a list the shorter is a prefix of the longer
 cut-before : {A : Type 0} (xs : List A) (c : A) (ys zs rest : List A) → xs ++ c ∷ ys ≡ zs ++ rest → length xs < length zs → (more : List A) × (zs ≡ xs ++ c ∷ more)
 cut-before xs c ys [] rest same short = absurd (omega (arith, short))
 cut-before [] c ys (z ∷ zs) rest same short =
@@ -59,7 +59,7 @@ same-false t claims n m a b =
 same-desk : (t : Tables) (h : History) (d e : ℕ) → IsFirstDesk t h d → IsFirstDesk t h e → d ≡ e
 same-desk t h d e a b = elim (cases_order d e) [ inl same ↦ same | inr (inl before) ↦ absurd (a.differs (b.least d before)) | inr (inr after) ↦ absurd (b.differs (a.least e after)) ]
 
--- a report that is missing does not stand there
+-- a report that is missing is not there
 missing-not : (runs : List Inputs) (text : List ℕ) (n : ℕ) (a : IsFirstMissing runs text n) (more : List Inputs) (left : List ℕ) → text ≡ reports_text (a.before ++ a.run ∷ more) ++ left → ⊥
 missing-not runs text n a more left is =
     let whole : reports_text (a.before ++ a.run ∷ more) ≡ reports_text a.before ++ (run_report a.run ++ reports_text more) = flat_map-append run_report a.before (a.run ∷ more) in
@@ -144,7 +144,7 @@ same-wrong t text (fault.ReportDiffers n) (fault.ReportDiffers m) keeps (g, left
     let there : IsFirstMissing (runs_of t h) rest n ⊎ HasMore (runs_of t h) rest n = subst (λ (x : List ℕ). IsFirstMissing (runs_of t h) x n ⊎ HasMore (runs_of t h) x n) same.1 here in
     ap (λ k. fault.ReportDiffers k) (same-run (runs_of t h) rest n m there other)
 
--- what is wrong by another verdict is wrong beside the same tables
+-- what is wrong by another verdict is wrong for the same tables
 other-wrong : (bundle text : List ℕ) (t : Tables) (f : AuditFault) → IsAccepted bundle t → Judges bundle text (Err f) → IsVerdict (Err f) → IsWrong t text f
 other-wrong bundle text t (fault.Input f) accepted judged told = absurd (accepted-not-refused bundle t f accepted judged.0)
 other-wrong bundle text t fault.NoMemory accepted judged told = absurd told
@@ -164,7 +164,7 @@ own-wrong t text (fault.HistoryNotLegal n) judged told = judged
 own-wrong t text (fault.DeskRows d) judged told = judged
 own-wrong t text (fault.ReportDiffers n) judged told = judged
 
--- a text has one verdict beside accepted tables
+-- a text has one verdict for accepted tables
 pub one-verdict : (bundle text : List ℕ) (t : Tables) (r other : Result ⊤ AuditFault) → IsAccepted bundle t → KeepsLimits t → JudgesText t text r → Judges bundle text other → IsVerdict r → IsVerdict other → r ≡ other
 one-verdict bundle text t (Ok done) (Ok also) accepted keeps judged judges own told = refl
 one-verdict bundle text t (Ok done) (Err g) accepted keeps (h, answers, is) judges own told = absurd (text-passes t h text g keeps answers is (other-wrong bundle text t g accepted judges told))

@@ -15,7 +15,7 @@ plain-cell cell none = rw none refl
 pub first-cell : (cells : List (List ℕ)) → ArePlain cells → body (take 1 cells) ≡ get_or cells 0 []
 first-cell cells plain = body_one cells (omega (arith, plain.0)) ∙ plain-cell (get_or cells 0 []) (plain.1 0 (omega (arith, plain.0)))
 
--- one more, behind a comma
+-- one more, after a comma
 pub next-cell : (cells : List (List ℕ)) (k : ℕ) → ArePlain cells → 0 < k → k < length cells → body (take (k + 1) cells) ≡ (body (take k cells) ++ 44 ∷ []) ++ get_or cells k []
 next-cell cells k plain some within =
     body_more cells k some within

@@ -1,4 +1,4 @@
--- A history that was found at a text's front.
+-- A history that was found at the beginning of a text.
 use Rattle.std.proofs.Common.{◌≡◌, ◌∙◌, ℕ, ◌<◌, ◌≤◌, ◌++◌, Bool, true, false, if◌then◌else◌, Result, List, [], ◌∷◌, drop, length, get_or, ap, refl, arith, subst, sym}
 use Rattle.std.specs.Prelude.{All, map, ⊤}
 use Rattle.std.specs.List.{list_any}
@@ -24,7 +24,7 @@ use Rattle.mrp_audit.specs.Verdict.{JudgesText}
 use Rattle.mrp_audit.proofs.Judged.{history-claims, judged, reports-compared}
 use Rattle.mrp_audit.proofs.RightTexts.{all-scripted, claims-made, few-entries}
 
--- a book of a shop takes each record of its script, with a run at its end where it has none
+-- a book of a shop takes each record of its script, with a run at its end if it has none
 pub records-taken : (t : Tables) → All (IsScriptRow t.calendar.weeks t.items) t.script → All (IsTaken (supply_of t)) (with_run (script_of t))
 records-taken t rows = added (list_any (λ r. is_run r.1) (script_of t))
   where
@@ -44,7 +44,8 @@ records-few t few =
     let adds = run-adds (script_of t) in
     omega (arith, few, rows, adds)
 
--- beside such a history a text is what the reports of its runs are beside what follows it
+-- with such a history the verdict on a text is that of comparing what follows it with the reports
+-- of its runs
 pub followed-judged : (t : Tables) (h : History) (text : List ℕ) (len : ℕ) (r : Result ⊤ AuditFault) → KeepsLimits t → IsFollowedFront t h text len → ComparesReports (runs_of t h) (drop len text) r → JudgesText t text r
 followed-judged t h text len r keeps front compared =
     let few = few-entries t h keeps front.legal front.by_desk in

@@ -1,4 +1,4 @@
--- A right day is told no fault.
+-- A right day has no fault.
 use Rattle.std.proofs.Common.{◌≡◌, ◌∙◌, ℕ, ◌<◌, ◌≤◌, ◌==◌, Bool, true, false, if◌then◌else◌, nat_le, Option, Some, None, Result, Ok, Err, List, [], ◌∷◌, ◌++◌, length, get_or, sym, ap, ap₂, subst, refl, arith, inl, inr}
 use Rattle.std.specs.Prelude.{All, find, map, ⊤}
 use Rattle.std.specs.List.{list_any}
@@ -252,7 +252,7 @@ text-passes t h text (fault.ReportDiffers run) keeps answers is (g, rest, has, d
       | inr more ↦ none-more (runs_of t g) rest run reports more
     ]
 
--- a right day of a bundle has no fault beside its tables
+-- a right day of a bundle has no fault for its tables
 pub right-passes : (bundle text : List ℕ) (t : Tables) (f : AuditFault) → IsAccepted bundle t → KeepsLimits t → IsRightDay bundle text → IsWrong t text f → ⊥
 right-passes bundle text t f accepted keeps (u, other, h, answers, is) =
     let same : u ≡ t = same-tables bundle u t other.tables_are accepted.tables_are in

@@ -1,4 +1,4 @@
--- A record at the front of a text.
+-- A record that a text begins with.
 use Rattle.std.proofs.Common.{◌≡◌, ◌∙◌, ℕ, ◌+◌, ◌-◌, ◌≤◌, Bool, true, false, List, [], ◌∷◌, ◌++◌, length, length-append, min, take, drop, Option, Some, None, sym, ap, refl, arith}
 use Rattle.std.specs.Prelude.{IfOk, Result, Ok, Err, option_map, ◌==◌}
 use Rattle.std.specs.List.{starts_with}
@@ -30,7 +30,7 @@ plain-front : (front rest : List ℕ) → BeginsPlain front → BeginsPlain (fro
 plain-front [] rest is = absurd is
 plain-front (byte ∷ front) rest is = is
 
--- the cells of a record that stands at the front of a text are read from its first bytes
+-- the cells of the record that a text begins with are read from its first bytes
 pub front-read : (text : List ℕ) (n : ℕ) (one two : List ℕ) (more : List (List ℕ)) (rest : List ℕ) → length (row (one ∷ two ∷ more)) ≤ n → BeginsPlain (row (one ∷ two ∷ more)) → text ≡ row (one ∷ two ∷ more) ++ rest
     → option_map (λ (p : Read). p.0) (next_record default_config st.StartRecord [] [] (strip_bom (take n text))) ≡ Some (one ∷ two ∷ more)
 front-read text n one two more rest few plain is =
@@ -51,7 +51,7 @@ mapped-some f (Some x) y e = (x, refl, cc)
 pub begins : (text front : List ℕ) (r : Bool) → r ≡ starts_with (λ (a b : ℕ). a == b) text front → (r ≡ true → text ≡ front ++ drop (length front) text) × ((rest : List ℕ) → text ≡ front ++ rest → r ≡ true)
 begins text front r is = starts_is Decides-eqb text front r is
 
--- the first cells of a text are those of the record that stands at its front
+-- the first cells of a text are those of the record that it begins with
 pub first-cells : (text front : List ℕ) (n : ℕ) (found : Option Row) → front ≡ take n text
     → option_map fields_of found ≡ option_map (λ (p : Read). p.0) (next_record default_config st.StartRecord [] [] (strip_bom front))
     → (one two : List ℕ) (more : List (List ℕ)) (rest : List ℕ) → length (row (one ∷ two ∷ more)) ≤ n → BeginsPlain (row (one ∷ two ∷ more)) → text ≡ row (one ∷ two ∷ more) ++ rest
@@ -69,7 +69,7 @@ row-within text own rest n most cut few is =
 pub same-there : {X : Type 0} (a b : X) (o : Option X) → o ≡ Some a → o ≡ Some b → a ≡ b
 same-there a b o e f = cc
 
--- whether a text begins with a record's row is told by whether it begins with a row of the cells that the record would have
+-- a text begins with a record's row exactly if it begins with a row of the cells that the record would have
 pub row-taken : (text : List ℕ) (cells : List (List ℕ)) (result : Result (Option (Row × ℕ)) NoMemory) → IfOk result (TakesRow text cells)
     → ((one two : List ℕ) (more : List (List ℕ)) (rest : List ℕ) → length (row (one ∷ two ∷ more)) ≤ LONGEST → BeginsPlain (row (one ∷ two ∷ more)) → text ≡ row (one ∷ two ∷ more) ++ rest → cells ≡ one ∷ two ∷ more)
     → SplitsRow text result

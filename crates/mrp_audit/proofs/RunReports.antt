@@ -1,4 +1,4 @@
--- A text beside the reports of a history's runs, entry by entry.
+-- A text compared with the reports of a history's runs, entry by entry.
 use Rattle.std.proofs.Common.{◌≡◌, ◌≢◌, ◌∙◌, ℕ, ◌+◌, ◌<◌, ◌≤◌, List, [], ◌∷◌, ◌++◌, length, take, drop, get_or, Option, Some, None, Result, Ok, Err, sym, ap, subst, refl, inl, inr, arith, append_assoc}
 use Rattle.std.specs.Prelude.{⊤}
 use Rattle.std.proofs.lemmas.List.{take_all, length-append, append-nil}
@@ -25,7 +25,7 @@ use Rattle.mrp_audit.specs.declared.fault.AuditFault.TheVariants as fault
 use Rattle.mrp_audit.specs.Parts.{ComparesFront, ComparesReports, IsEndJudged, IsPlannedFront, IsRunJudged}
 use Rattle.mrp_audit.specs.Verdict.{HasMore, IsFirstMissing, reports_text}
 
--- the reports of the runs of so many entries stand at the front of a text, and this is left behind them
+-- a text begins with the reports of the runs of so many entries, and this is left after them
 pub record HasCompared (t : Tables) (h : History) (k : ℕ) (text left : List ℕ) (run : ℕ) : Type 0 where
   pub stand : text ≡ reports_text (runs_of t (take k h)) ++ left
   pub count : run ≡ length (runs_of t (take k h)) + 1
@@ -41,7 +41,7 @@ one-report s = append-nil (run_report s)
 reports-more : (runs : List Inputs) (s : Inputs) → reports_text (runs ++ s ∷ []) ≡ reports_text runs ++ run_report s
 reports-more runs s = flat_map-append run_report runs (s ∷ []) ∙ ap (λ (r : List ℕ). reports_text runs ++ r) (one-report s)
 
--- the next report stands there
+-- the next report is there
 compared-more : (t : Tables) (h : History) (k : ℕ) (e : Entry Call Reply) (snapshot : Snapshot) (text left rest : List ℕ) (run : ℕ) → k < length h → e ≡ get_or h k e → e.reply ≡ reply.Taken snapshot
     → HasCompared t h k text left run → left ≡ run_report (inputs_of t snapshot) ++ rest → HasCompared t h (k + 1) text rest (run + 1)
 compared-more t h k e snapshot text left rest run within is taken before next =
@@ -68,7 +68,7 @@ compared-same t h k e text left run within is none before =
       few = let upto = before.few in omega (arith, upto);
     }
 
--- the next report does not stand there
+-- the next report is not there
 compared-missing : (t : Tables) (h : History) (k : ℕ) (e : Entry Call Reply) (snapshot : Snapshot) (text left : List ℕ) (run : ℕ) → k < length h → e ≡ get_or h k e → e.reply ≡ reply.Taken snapshot
     → HasCompared t h k text left run → ((rest : List ℕ) → left ≡ run_report (inputs_of t snapshot) ++ rest → ⊥) → IsFirstMissing (runs_of t h) text run
 compared-missing t h k e snapshot text left run within is taken before differs = record {
@@ -82,7 +82,7 @@ compared-missing t h k e snapshot text left run within is taken before differs =
   missing = differs;
 }
 
--- all reports stand there, and more
+-- all reports are there, and more
 compared-over : (t : Tables) (h : History) (k : ℕ) (text left : List ℕ) (run : ℕ) → length h ≤ k → HasCompared t h k text left run → left ≢ [] → HasMore (runs_of t h) text run
 compared-over t h k text left run all before more =
     let whole = ap (runs_of t) (take_all k h all) in
@@ -93,7 +93,7 @@ compared-over t h k text left run all before more =
       number_is = before.count ∙ ap (λ (r : List Inputs). length r + 1) whole;
     }
 
--- what is judged of the end is so, of a history that is told by its entries
+-- what is judged of the end is right, for a history given by its entries
 pub end-judged : (t : Tables) (items h : History) (k : ℕ) (text left : List ℕ) (run : ℕ) (r : Result ⊤ AuditFault) → items ≡ h → length items ≤ k → HasCompared t items k text left run → IsEndJudged run left r
     → ComparesReports (runs_of t h) text r
 end-judged t items h k text left run (Ok done) same all before none =
@@ -103,7 +103,7 @@ end-judged t items h k text left run (Err f) same all before (is, some) =
     subst (λ (x : AuditFault). ComparesReports (runs_of t h) text (Err x)) (sym is)
     (inr (subst (λ (x : History). HasMore (runs_of t x) text run) same (compared-over t items k text left run all before some)))
 
--- so many bytes are the report that was looked for, where it is judged so
+-- so many bytes are the report that was looked for, if it is judged so
 stands : (report left : List ℕ) (run len : ℕ) (front : Result (Option ℕ) NoMemory) → ComparesFront report left front → IsRunJudged run front (Ok len) → (len ≤ length left) × (left ≡ report ++ drop len left)
 stands report left run len (Ok (Some own)) compares judged =
     let same : own ≡ len = cc in
@@ -114,7 +114,7 @@ stands report left run len (Err refused) compares judged = (cc)
 pub stands-within : (report left : List ℕ) (run len : ℕ) (front : Result (Option ℕ) NoMemory) → ComparesFront report left front → IsRunJudged run front (Ok len) → len ≤ length left
 stands-within report left run len front compares judged = (stands report left run len front compares judged).0
 
--- then the next run's report stands there
+-- then the next run's report is there
 pub run-stands : (t : Tables) (h : History) (k : ℕ) (e : Entry Call Reply) (snapshot : Snapshot) (text left rest : List ℕ) (run len : ℕ) (front : Result (Option ℕ) NoMemory) → k < length h → e ≡ get_or h k e
     → e.reply ≡ reply.Taken snapshot → HasCompared t h k text left run → ComparesFront (run_report (inputs_of t snapshot)) left front → IsRunJudged run front (Ok len) → rest ≡ drop len left
     → HasCompared t h (k + 1) text rest (run + 1)
@@ -122,7 +122,7 @@ run-stands t h k e snapshot text left rest run len front within is taken before 
     let report = run_report (inputs_of t snapshot) in
     compared-more t h k e snapshot text left rest run within is taken before ((stands report left run len front compares judged).1 ∙ ap (λ (r : List ℕ). report ++ r) (sym cut))
 
--- it does not stand there, or memory was refused, where it is judged so, of a history that is told by its entries
+-- it is not there, or memory ran out, if it is judged so, for a history given by its entries
 pub run-judged : (t : Tables) (items h : History) (k : ℕ) (e : Entry Call Reply) (snapshot : Snapshot) (text left : List ℕ) (run : ℕ) (front : Result (Option ℕ) NoMemory) (f : AuditFault) → items ≡ h → k < length items
     → e ≡ get_or items k e → e.reply ≡ reply.Taken snapshot → HasCompared t items k text left run → ComparesFront (run_report (inputs_of t snapshot)) left front → IsRunJudged run front (Err f)
     → ComparesReports (runs_of t h) text (Err f)

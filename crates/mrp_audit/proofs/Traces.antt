@@ -34,7 +34,7 @@ scripted-fits t call.Front is = tt
 pub other-false : (s : Supply) (h : History) (claim : Claim) (r : Reply) → IsReply s h claim.desk claim.call r → (claimed r ≡ claim.reply → ⊥) → (q : Reply) → IsReply s h claim.desk claim.call q → claimed q ≡ claim.reply → ⊥
 other-false s h claim r made differs q other same = differs (ap claimed (reply-unique s h claim.desk claim.call r q made other) ∙ same)
 
--- what is told of a claim whose call the book answered is so
+-- the judgement of a claim whose call the book answered is right
 pub claim-judged : (old : OrderBook) (claim : Claim) (number : ℕ) (r : Reply) (new : OrderBook) (judged : Result ⊤ AuditFault) → IsLegal old.supply old.entries → number ≡ next_number old.entries → IsReply old.supply old.entries claim.desk claim.call r
     → new ≡ record { supply = old.supply; entries = old.entries ++ entry claim.desk claim.call r ∷ [] } → IsClaimJudged number r claim.reply judged → Retraces old claim judged new
 claim-judged old claim number r new (Ok done) legal is made adds same = (entry claim.desk claim.call r, ap (λ (x : ClaimedReply). record { desk = claim.desk; call = claim.call; reply = x }) same, adds)

@@ -19,7 +19,7 @@ use Rattle.mrp_audit.specs.declared.claim.Claim.{Claim}
 use Rattle.mrp_audit.specs.declared.claim.ClaimedReply.{ClaimedReply}
 use Rattle.mrp_audit.specs.declared.claim.ClaimedReply.TheVariants as said
 
--- what a history says of a reply: of a snapshot, the number of its entry
+-- what a history says for a reply; for a snapshot, the number of its entry
 abbrev pub claimed : Reply → ClaimedReply
 claimed (reply.Booked n) = said.Booked n
 claimed (reply.Short available) = said.Short available
@@ -32,7 +32,7 @@ claimed reply.NoWeek = said.NoWeek
 claimed (reply.Taken snapshot) = said.Front snapshot.front
 claimed (reply.Front n) = said.Front n
 
--- what a history says of an entry
+-- what a history says for an entry
 abbrev pub claim_of : Entry Call Reply → Claim
 claim_of e = record { desk = e.who; call = e.call; reply = claimed e.reply }
 
@@ -63,7 +63,8 @@ claims_from t number claims = flat_map (claim_text t) (enumerate_from number cla
 abbrev pub claims_text : Tables → List Claim → List ℕ
 claims_text t claims = history_head ++ claims_from t 1 claims
 
--- a call by one of the script's five words, with cells within the limits of the script: master items of the shop, weeks of the horizon, pieces that can be booked, the number of an entry
+-- a call by one of the script's five words, with cells within the limits of the script: master items of the shop,
+-- weeks of the horizon, pieces that can be booked, the number of an entry
 abbrev pub IsScripted : Tables → Call → Type 0
 IsScripted t (call.Book l) = Fits (supply_of t) (call.Book l)
 IsScripted t (call.Cancel n) = IsInRange 1 MOST_ENTRIES n

@@ -1,4 +1,4 @@
--- What is told of a bundle whose shop is not opened.
+-- The fault for a bundle whose shop is not opened.
 use Rattle.mrp_engine.specs.declared.day.fault.OpenFault.{OpenFault}
 use Rattle.mrp_engine.specs.declared.day.fault.OpenFault.TheVariants as opening
 use Rattle.mrp_audit.specs.declared.fault.AuditFault.{AuditFault}

@@ -1,4 +1,4 @@
--- What accepted tables keep, of what the texts of their days hang on (profile).
+-- What accepted tables guarantee and the texts of their days depend on (profile).
 use Rattle.std.specs.Prelude.{◌≤◌, All, length}
 use Rattle.mrp_cal.specs.declared.calendar.TheConstants.{MOST_WEEKS}
 use Rattle.mrp_tables.specs.declared.limits.TheConstants.{MOST_ROWS}
@@ -7,7 +7,8 @@ use Rattle.mrp_tables.specs.Items.{names_of}
 use Rattle.mrp_tables.specs.Tables.{Tables}
 use Rattle.mrp_master.specs.Supply.{IsSupply, supply_of}
 
--- items and weeks by which the records of a history are told apart, a script whose calls are of the tables, and a supply within limits
+-- items and weeks that distinguish the records of a history, a script whose calls fit the tables, and a supply within
+-- limits
 pub record KeepsLimits (t : Tables) : Type 0 where
   pub names : AllDiffer (names_of t.items)
   pub weeks : t.calendar.weeks ≤ MOST_WEEKS

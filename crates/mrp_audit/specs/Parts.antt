@@ -1,4 +1,4 @@
--- What the steps of the checker answer, once a history is read.
+-- The results of the steps of the checker once a history is read.
 use Rattle.std.specs.Prelude.{ℕ, ◌≡◌, ◌≢◌, ◌<◌, ◌≤◌, ◌⊎◌, ◌∷◌, ◌++◌, List, [], Option, None, Some, Result, Ok, Err, ⊤, drop, length, slice_get, take}
 use Rattle.std.specs.Int.{IsInRange}
 use Rattle.mrp_qty.specs.declared.memory.NoMemory.{NoMemory}
@@ -38,7 +38,7 @@ Retraces old claim (Err (fault.Input f)) new = ⊥
 Retraces old claim (Err (fault.DeskRows desk)) new = ⊥
 Retraces old claim (Err (fault.ReportDiffers run)) new = ⊥
 
--- a claim whose call the book answered so is as it is claimed, or the entry of this number is false
+-- the book's reply to a claim's call is the claimed one, or the entry with this number is false
 abbrev pub IsClaimJudged : ℕ → Reply → ClaimedReply → Result ⊤ AuditFault → Type 0
 IsClaimJudged entry reply claim (Ok done) = claimed reply ≡ claim
 IsClaimJudged entry reply claim (Err f) = (f ≡ fault.HistoryNotLegal entry) × (claimed reply ≢ claim)
@@ -57,14 +57,14 @@ FollowsClaims t claims (Err (fault.ReportDiffers run)) = ⊥
 abbrev pub IsSame : Script → Script → ℕ → Type 0
 IsSame made script desk = asked_by desk made ≡ asked_by desk script
 
--- the place of a desk's next record from a place on; the script's end where it has none
+-- the place of a desk's next record from a place on; the script's end if it has none
 pub record IsNextPlace (script : Script) (desk from place : ℕ) : Type 0 where
   pub behind : from ≤ place
   pub within : place ≤ length script
   pub none : asked_by desk (take place script) ≡ asked_by desk (take from script)
   pub here : (r : ℕ × Call) → slice_get script place ≡ Some r → r.0 ≡ desk
 
--- each desk's calls are the same, or this is the least desk whose are not
+-- each desk's calls are the same, or this is the least desk whose calls are not
 abbrev pub ComparesDesks : Script → Script → Result ⊤ AuditFault → Type 0
 ComparesDesks made script (Ok done) = (desk : ℕ) → IsInRange 1 MOST_DESKS desk → IsSame made script desk
 ComparesDesks made script (Err (fault.DeskRows desk)) = (IsSame made script desk → ⊥) × ((other : ℕ) → 1 ≤ other → other < desk → IsSame made script other)
@@ -80,30 +80,33 @@ ComparesFront front text (Ok (Some len)) = (len ≤ length text) × (text ≡ fr
 ComparesFront front text (Ok None) = (rest : List ℕ) → text ≡ front ++ rest → ⊥
 ComparesFront front text (Err refused) = Unit {0}
 
--- how many bytes of a text are a report, by how many were handed over to be compared and by whether all were: a text that differs does so however that ended, and want of memory is told only of one that does not
+-- how many bytes of a text are a report, from how many were written to be compared and from whether all were: a text
+-- that differs does so whether all were written or not, and only one that does not differ can be out of memory
 abbrev pub IsFrontBy : Option ℕ → Result ⊤ ReportFault → Result (Option ℕ) NoMemory → Type 0
 IsFrontBy None written front = front ≡ Ok None
 IsFrontBy (Some len) (Ok done) front = front ≡ Ok (Some len)
 IsFrontBy (Some len) (Err refused) front = (none : NoMemory) × (front ≡ Err none)
 
--- how many bytes of a text are the report of a run, by its plan, or by why it has none: where an item gets too large, it has no report
+-- how many bytes of a text are the report of a run, from its plan, or from why it has none: if an item gets too large,
+-- there is no report
 abbrev pub IsPlannedFront : Result WholePlan RunFault → List ℕ → Result (Option ℕ) NoMemory → Type 0
 IsPlannedFront (Ok plan) text front = ComparesFront (report_text plan.inputs) text front
 IsPlannedFront (Err (run.TooLarge item)) text front = front ≡ Ok (Some 0)
 IsPlannedFront (Err run.NoMemory) text front = (none : NoMemory) × (front ≡ Err none)
 
--- a run's report stands next in so many bytes, or does not, or was not made for want of memory
+-- a run's report comes next in so many bytes, or does not, or was not made because memory ran out
 abbrev pub IsRunJudged : ℕ → Result (Option ℕ) NoMemory → Result ℕ AuditFault → Type 0
 IsRunJudged run (Ok (Some len)) told = told ≡ Ok len
 IsRunJudged run (Ok None) told = told ≡ Err (fault.ReportDiffers run)
 IsRunJudged run (Err refused) told = told ≡ Err fault.NoMemory
 
--- nothing is left over behind the last run's report, or it differs that there is none of this number
+-- nothing is left over after the last run's report, or there is a fault with the number of one run more
 abbrev pub IsEndJudged : ℕ → List ℕ → Result ⊤ AuditFault → Type 0
 IsEndJudged run left (Ok done) = left ≡ []
 IsEndJudged run left (Err f) = (f ≡ fault.ReportDiffers run) × (left ≢ [])
 
--- a text is the reports of runs, or the first that does not stand next, or one more where bytes are left over
+-- a text is the reports of runs; or this is the first that does not come next, or one more if bytes are left
+-- over
 abbrev pub ComparesReports : List Inputs → List ℕ → Result ⊤ AuditFault → Type 0
 ComparesReports runs text (Ok done) = text ≡ reports_text runs
 ComparesReports runs text (Err (fault.ReportDiffers run)) = IsFirstMissing runs text run ⊎ HasMore runs text run
@@ -113,7 +116,8 @@ ComparesReports runs text (Err (fault.Input f)) = ⊥
 ComparesReports runs text (Err (fault.HistoryNotLegal entry)) = ⊥
 ComparesReports runs text (Err (fault.DeskRows desk)) = ⊥
 
--- a legal history has each desk's script records in order, and a text is the reports of its runs; or the first of these that is wrong
+-- a legal history has each desk's script records in order, and a text is the reports of its runs; or the first of
+-- these that is wrong
 abbrev pub ComparesHistory : Tables → History → List ℕ → Result ⊤ AuditFault → Type 0
 ComparesHistory t h text (Ok done) = FollowsDesks t h × (text ≡ reports_text (runs_of t h))
 ComparesHistory t h text (Err (fault.DeskRows desk)) = IsFirstDesk t h desk

@@ -1,4 +1,4 @@
--- What the steps of reading a given history answer.
+-- The results of the steps of reading a given history.
 use Rattle.std.specs.Prelude.{ℕ, ◌≡◌, ◌≢◌, ◌<◌, ◌≤◌, ◌∷◌, ◌++◌, List, [], Option, None, Some, Result, Ok, Err, codes, decimal, drop, false, length}
 use Rattle.std.specs.Int.{IsInRange}
 use Rattle.std.specs.List.{slice_index_or}
@@ -21,40 +21,41 @@ use Rattle.mrp_audit.specs.declared.shape.Given.{Given}
 use Rattle.mrp_audit.specs.Claims.{IsClaim, IsClaimable, IsScripted, claim_cells, claim_text, claimed_cells}
 use Rattle.mrp_audit.specs.Shape.{BeginsWith, HasShape}
 
--- more than one cell, of which none is written between quotes
+-- more than one cell, none of them written between quotes
 abbrev pub ArePlain : List (List ℕ) → Type 0
 ArePlain cells = (2 ≤ length cells) × ((i : ℕ) → i < length cells → needs_quotes default_writer (slice_index_or cells i []) ≡ false)
 
--- the number within limits whose decimal text a cell is, or none where there is no such number
+-- the number within limits whose decimal text a cell is, or none if there is no such number
 abbrev pub ReadsNumber : ℕ → ℕ → List ℕ → Option ℕ → Type 0
 ReadsNumber least most cell (Some n) = IsInRange least most n × (cell ≡ decimal n)
 ReadsNumber least most cell None = (n : ℕ) → IsInRange least most n → cell ≡ decimal n → ⊥
 
--- the place of the one item of this name, or none where no item has it
+-- the place of the one item of this name, or none if no item has it
 abbrev pub FindsItem : Tables → List ℕ → Option ℕ → Type 0
 FindsItem t cell (Some place) = (place < length t.items) × (cell ≡ name_at t place) × ((other : ℕ) → other < length t.items → cell ≡ name_at t other → other ≡ place)
 FindsItem t cell None = (place : ℕ) → place < length t.items → cell ≡ name_at t place → ⊥
 
--- a call's cells behind its word, in order
+-- a call's cells after its word, in order
 abbrev pub own_cells : CallCells → List (List ℕ)
 own_cells c = c.item.now ∷ c.week.now ∷ c.quantity.now ∷ c.number.now ∷ []
 
--- the call of a script that these cells are behind a word, or none where they are none
+-- the call of a script that has this word and these cells after it, or none if there is no such
+-- call
 abbrev pub ReadsCall : List ℕ → Tables → CallCells → Option Call → Type 0
 ReadsCall word t cells (Some c) = IsScripted t c × (word ∷ own_cells cells ≡ call_cells t c)
 ReadsCall word t cells None = (c : Call) → IsScripted t c → word ∷ own_cells cells ≡ call_cells t c → ⊥
 
--- the reply of this word and value, or none where there is none
+-- the reply with this word and value, or none if there is none
 abbrev pub ReadsReply : List ℕ → List ℕ → Option ClaimedReply → Type 0
 ReadsReply word value (Some r) = IsClaimable r × (word ∷ value ∷ [] ≡ claimed_cells r)
 ReadsReply word value None = (r : ClaimedReply) → IsClaimable r → word ∷ value ∷ [] ≡ claimed_cells r → ⊥
 
--- the reply of this word with this value, other than a week; none where there is none
+-- the reply with this word, other than a week, and this value; none if there is none
 abbrev pub NamesReply : List ℕ → ℕ → Option ClaimedReply → Type 0
 NamesReply word value (Some r) = (value ≤ greatest_quantity → IsClaimable r) × (word ∷ decimal value ∷ [] ≡ claimed_cells r)
 NamesReply word value None = (r : ClaimedReply) → IsClaimable r → word ≢ codes "week" → word ∷ decimal value ∷ [] ≡ claimed_cells r → ⊥
 
--- the claim that a record of these cells makes, or none where there is none
+-- the claim that a record with these cells makes, or none if there is none
 abbrev pub ReadsClaim : Tables → ℕ → List (List ℕ) → Option Claim → Type 0
 ReadsClaim t number cells (Some c) = IsClaim t c × (cells ≡ claim_cells t (number, c))
 ReadsClaim t number cells None = (c : Claim) → IsClaim t c → cells ≡ claim_cells t (number, c) → ⊥
@@ -64,7 +65,8 @@ abbrev pub BeginsPlain : List ℕ → Type 0
 BeginsPlain [] = ⊥
 BeginsPlain (byte ∷ rest) = byte < 128
 
--- these are the cells, and so many bytes a row of them has, with which a text begins; or it begins with no row of them
+-- the cells of the row that a text begins with, and how many bytes it has; or the text does not begin with a row of
+-- these cells
 abbrev pub TakesRow : List ℕ → List (List ℕ) → Option (Row × ℕ) → Type 0
 TakesRow text cells (Some found) = (fields_of found.0 ≡ cells) × (found.1 ≤ length text) × (text ≡ row cells ++ drop found.1 text)
 TakesRow text cells None = (rest : List ℕ) → text ≡ row cells ++ rest → ⊥
@@ -77,7 +79,8 @@ SplitsRow text (Ok None) =
     → text ≡ row (one ∷ two ∷ more) ++ rest → ⊥
 SplitsRow text (Err refused) = Unit {0}
 
--- the claim of an entry's number at the front of a text, and how many bytes its record has; or the text begins with none
+-- the claim of the entry with this number, which a text begins with, and how many bytes its record has; or the text
+-- begins with none
 abbrev pub TakesClaim : Tables → ℕ → List ℕ → Result (Claim × ℕ) AuditFault → Type 0
 TakesClaim t number text (Ok taken) = IsClaim t taken.0 × (taken.1 ≤ length text) × (text ≡ claim_text t (number, taken.0) ++ drop taken.1 text)
 TakesClaim t number text (Err fault.Shape) = (c : Claim) (rest : List ℕ) → IsClaim t c → text ≡ claim_text t (number, c) ++ rest → ⊥
@@ -87,7 +90,7 @@ TakesClaim t number text (Err (fault.HistoryNotLegal entry)) = ⊥
 TakesClaim t number text (Err (fault.DeskRows desk)) = ⊥
 TakesClaim t number text (Err (fault.ReportDiffers run)) = ⊥
 
--- the claims of the history at the front of a text, and how many bytes it has; or the text has no such shape
+-- the claims of the history that a text begins with, and how many bytes it has; or the text has no such shape
 abbrev pub ReadsHistory : Tables → List ℕ → Result Given AuditFault → Type 0
 ReadsHistory t text (Ok given) = (given.len ≤ length text) × BeginsWith t text given.claims.items (drop given.len text)
 ReadsHistory t text (Err fault.Shape) = HasShape t text → ⊥

@@ -1,4 +1,4 @@
--- A history that stands at the front of a text, and in which each desk's entries are its script records.
+-- A history that a text begins with, and in which each desk's entries are its script records.
 use Rattle.std.specs.Prelude.{ℕ, ◌≡◌, ◌≤◌, ◌++◌, List, Option, Some, None, Result, Ok, Err, drop, length}
 use Rattle.std.specs.Int.{IsInRange}
 use Rattle.mrp_qty.specs.declared.memory.NoMemory.{NoMemory}
@@ -18,7 +18,8 @@ pub record IsTaken (b : Supply) (r : ℕ × Call) : Type 0 where
   pub desk : IsInRange 1 MOST_DESKS r.0
   pub fits : Fits b r.1
 
--- so many bytes at a text's front are a legal history that answers the script desk by desk, and it ends there
+-- the first so many bytes of a text are a legal history that answers the script desk by desk, and it ends
+-- there
 pub record IsFollowedFront (t : Tables) (h : History) (text : List ℕ) (len : ℕ) : Type 0 where
   pub legal : IsLegal (supply_of t) h
   pub by_desk : FollowsDesks t h
@@ -26,7 +27,7 @@ pub record IsFollowedFront (t : Tables) (h : History) (text : List ℕ) (len : �
   pub spelled : text ≡ history_text t h ++ drop len text
   pub ends : EndsHistory (drop len text)
 
--- such a history was found; nothing is said where none was
+-- such a history was found; if none was, nothing is said
 abbrev pub FindsHistory : Tables → List ℕ → Result (Option (OrderBook × ℕ)) NoMemory → Type 0
 FindsHistory t text (Ok (Some found)) = (found.0.supply ≡ supply_of t) × IsFollowedFront t found.0.entries text found.1
 FindsHistory t text (Ok None) = Unit {0}

@@ -1,4 +1,4 @@
--- The shape of a given day: a history of claims at its front (profile).
+-- The shape of a given day: it begins with a history of claims (profile).
 use Rattle.std.specs.Prelude.{ℕ, ◌≡◌, ◌≤◌, ◌∷◌, ◌++◌, List, [], All, length}
 use Rattle.mrp_tables.specs.declared.limits.TheConstants.{MOST_ENTRIES}
 use Rattle.mrp_tables.specs.Tables.{Tables}

@@ -1,4 +1,4 @@
--- What is found of a bundle and the text of a day: that it is right, or the first of its faults (profile).
+-- The verdict on a bundle and the text of a day: that it is right, or the first of its faults (profile).
 use Rattle.std.specs.Prelude.{ℕ, ◌≡◌, ◌≢◌, ◌<◌, ◌+◌, ◌⊎◌, ◌∷◌, ◌++◌, List, [], Result, Ok, Err, ⊤, flat_map, length, map}
 use Rattle.mrp_rows.specs.declared.faults.TheConstants as faults
 use Rattle.mrp_tables.specs.Tables.{Tables}
@@ -21,7 +21,7 @@ pub record IsToldBy (t : Tables) (h : History) (claims : List Claim) : Type 0 wh
   pub legal : IsLegal (supply_of t) h
   pub told : map claim_of h ≡ claims
 
--- the claim of this number is the first whose reply is not the one that the entries before it decide
+-- the claim with this number is the first whose reply is not the one that the entries before it decide
 pub record IsFirstFalse (t : Tables) (claims : List Claim) (number : ℕ) : Type 0 where
   pub before : History
   pub claim : Claim
@@ -35,7 +35,7 @@ pub record IsFirstFalse (t : Tables) (claims : List Claim) (number : ℕ) : Type
 abbrev pub IsDeskRight : Tables → History → ℕ → Type 0
 IsDeskRight t h desk = asked_by desk (asked h) ≡ asked_by desk (with_run (script_of t))
 
--- the least desk whose entries are not
+-- the least desk whose entries are not its script records in order
 pub record IsFirstDesk (t : Tables) (h : History) (desk : ℕ) : Type 0 where
   pub differs : IsDeskRight t h desk → ⊥
   pub least : (other : ℕ) → other < desk → IsDeskRight t h other
@@ -44,11 +44,11 @@ pub record IsFirstDesk (t : Tables) (h : History) (desk : ℕ) : Type 0 where
 abbrev pub Leaves : List ℕ → List ℕ → List ℕ → Type 0
 Leaves front text left = text ≡ front ++ left
 
--- the reports of runs, one after the other; a run in whose plan an item gets too large has none
+-- the reports of runs, in order; a run in whose plan an item gets too large has none
 abbrev pub reports_text : List Inputs → List ℕ
 reports_text runs = flat_map run_report runs
 
--- the report of the run of this number is the first that does not stand next
+-- the run with this number is the first whose report does not come next
 pub record IsFirstMissing (runs : List Inputs) (text : List ℕ) (number : ℕ) : Type 0 where
   pub before : List Inputs
   pub run : Inputs
@@ -59,7 +59,7 @@ pub record IsFirstMissing (runs : List Inputs) (text : List ℕ) (number : ℕ) 
   pub stand : Leaves (reports_text before) text left
   pub missing : (rest : List ℕ) → Leaves (run_report run) left rest → ⊥
 
--- all reports stand there, and bytes are left over; this is one more than there are runs
+-- all reports are there, and bytes are left over; this number is one more than there are runs
 pub record HasMore (runs : List Inputs) (text : List ℕ) (number : ℕ) : Type 0 where
   pub left : List ℕ
   pub stand : Leaves (reports_text runs) text left
@@ -81,26 +81,26 @@ IsWrong t text (ReportDiffers run) =
     × (IsFirstMissing (runs_of t h) rest run ⊎ HasMore (runs_of t h) rest run)
 IsWrong t text NoMemory = ⊥
 
--- the text of a day is found right beside accepted tables, or this is its first fault; or memory was refused
+-- the text of a day is found right for accepted tables, or this is its first fault; or out of memory
 abbrev pub JudgesText : Tables → List ℕ → Result ⊤ AuditFault → Type 0
 JudgesText t text (Ok tt) = (h : History) × AnswersDesks t h × (text ≡ right_text t h)
 JudgesText t text (Err NoMemory) = Unit {0}
 JudgesText t text (Err fault) = IsWrong t text fault
 
--- a day is found right, or memory was refused
+-- a day is found right, or out of memory
 abbrev pub Passes : Result ⊤ AuditFault → Type 0
 Passes (Ok tt) = Unit {0}
 Passes (Err NoMemory) = Unit {0}
 Passes (Err fault) = ⊥
 
--- a bundle and the text of a day are found right, or this is the first of their faults; or memory was refused
+-- a bundle and the text of a day are found right, or this is the first of their faults; or out of memory
 abbrev pub Judges : List ℕ → List ℕ → Result ⊤ AuditFault → Type 0
 Judges bundle text (Ok tt) = IsRightDay bundle text
 Judges bundle text (Err (Input f)) = IsRefused bundle f × (f.code ≢ faults.NO_MEMORY)
 Judges bundle text (Err NoMemory) = Unit {0}
 Judges bundle text (Err fault) = (t : Tables) × IsAccepted bundle t × IsWrong t text fault
 
--- something was found out: memory was not refused
+-- there is a verdict: memory did not run out
 abbrev pub IsVerdict : Result ⊤ AuditFault → Type 0
 IsVerdict (Ok done) = Unit {0}
 IsVerdict (Err NoMemory) = ⊥

@@ -1,4 +1,4 @@
-//! A day beside its bundle.
+//! Checking a day against its bundle.
 
 ghost use Rattle.std.specs.Prelude.{◌≡◌, Result, ⊤};
 ghost use Rattle.mrp_engine.specs.day.RightDay.{IsRightDay};
@@ -57,7 +57,7 @@ fn check_history(
     check_runs(rt, alloc, shop, history, text)
 }
 
-// What accepted tables keep is told by their readers.
+// The limits of accepted tables, which the calls that read them guarantee.
 fn keep_limits(tables: &Tables)
     ensures { KeepsLimits tables.now }
 {
@@ -65,7 +65,7 @@ fn keep_limits(tables: &Tables)
     let _weeks = tables.calendar().weeks();
 }
 
-// Reads what a text claims, and compares it with what a shop's days are.
+// Checks a text against the right days of a shop by the claims that its history makes.
 fn check_claims(
     rt: &(impl Alloc + Threads + Sync),
     alloc: Global,
@@ -80,8 +80,8 @@ fn check_claims(
     check_history(rt, alloc, shop, &history, reports)
 }
 
-// Compares a text with what a shop's days are. The records of a day that answers the script are not read: their history is
-// found faster another way.
+// Checks a text against the right days of a shop. Usually the history is found by replaying the script,
+// which is faster; its records are read only if that finds none.
 fn check_text(
     rt: &(impl Alloc + Threads + Sync),
     alloc: Global,
@@ -102,11 +102,11 @@ fn check_text(
 /// entries are its script records in order, and then of the report of each run in whose plan no item
 /// gets too large.
 ///
-/// A right day is answered Ok, unless memory is refused. Reports are compared as they are made, and none is
-/// held.
+/// A right day gives `Ok`, unless memory runs out. Reports are compared while they are made, and none is held
+/// in memory.
 ///
-/// Errors: the first of `Input` with the bundle's first fault, the loop last; `Shape`; `HistoryNotLegal`;
-/// `DeskRows`; `ReportDiffers`; and `NoMemory` where memory is refused.
+/// Errors: the first that applies of `Input` with the bundle's first fault, a loop in the bill last; `Shape`;
+/// `HistoryNotLegal`; `DeskRows`; `ReportDiffers`. `NoMemory` if an allocation fails.
 pub fn check(
     rt: &(impl Alloc + Threads + Sync),
     alloc: Global,
@@ -115,7 +115,7 @@ pub fn check(
 ) -> Result<(), AuditFault>
     ensures verdict { Judges input.now output.now result }
     ensures right { IsRightDay input.now output.now → Passes result }
-    // Nothing else could be found of them.
+    // No other verdict is possible.
     ensures one { (other : Result ⊤ AuditFault) → Judges input.now output.now other → IsVerdict result → IsVerdict other → result ≡ other }
 {
     let shop = open_shop(rt, alloc, input)?;

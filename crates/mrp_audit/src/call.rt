@@ -20,14 +20,14 @@ pub(crate) struct CallCells<'a> {
     pub(crate) number: &'a [u8],
 }
 
-// A quantity that can be booked.
+// A quantity that can be booked, from its cell.
 fn pieces_in(cell: &[u8]) -> Option<Qty>
     ensures { ReadsNumber 1 MOST_PIECES cell.now result }
 {
     Qty::new(number_in(cell, 1, MOST_PIECES)?)
 }
 
-// A week of a shop's horizon.
+// A week of a shop's horizon, from its cell.
 fn week_in(shop: &Shop, cell: &[u8]) -> Option<u16>
     ensures { ReadsNumber 1 shop.now.tables.calendar.weeks cell.now result }
 {
@@ -93,7 +93,7 @@ impl CallCells<'_> {
         if bare { Some(Call::Snapshot) } else { None }
     }
 
-    /// The call that a script may have and that is spelled so.
+    /// The call with these cells, if a script may have one.
     pub(crate) fn call(&self, shop: &Shop) -> Option<Call>
         ensures { ReadsCall self.now.word.now shop.now.tables self.now result }
     {

@@ -1,4 +1,4 @@
-//! Cells of a given history, read only where they are spelled as a day's.
+//! Cells of a given history, read only if they are spelled as a day spells them.
 
 ghost use Rattle.std.specs.Prelude.{◌≡◌, ◌↔◌, IsTrue};
 ghost use Rattle.mrp_audit.specs.Reading.{FindsItem, ReadsNumber};
@@ -26,7 +26,7 @@ pub(crate) fn number_in(cell: &[u8], least: u64, most: u64) -> Option<u64>
 pub(crate) fn item_in(tables: &Tables, cell: &[u8]) -> Option<usize>
     ensures { FindsItem tables.now cell.now result }
 {
-    // Items have names, and no two the same.
+    // Items have names, no two of them the same.
     let _named = tables.items();
     let name = Name::new(cell)?;
     tables.find(&name)

@@ -5,7 +5,7 @@ ghost use Rattle.mrp_audit.specs.Claims.{claimed};
 
 use mrp_book::{Call, Reply};
 
-/// A record of a given history: what a desk called, and the reply that it is said to have had.
+/// A record of a given history: a desk's call, and the reply that the history claims.
 #[derive(Clone, Copy, Debug, PartialEq, Eq)]
 pub(crate) struct Claim {
     pub(crate) desk: u64,
@@ -13,7 +13,7 @@ pub(crate) struct Claim {
     pub(crate) reply: ClaimedReply,
 }
 
-/// A reply as a history says it, with its value.
+/// A reply as a history claims it, with its value.
 #[derive(Clone, Copy, Debug, PartialEq, Eq)]
 pub(crate) enum ClaimedReply {
     Booked(u64),
@@ -28,7 +28,7 @@ pub(crate) enum ClaimedReply {
 }
 
 impl ClaimedReply {
-    /// What a history says of a reply.
+    /// What a history says for a reply.
     pub(crate) fn of(reply: &Reply) -> ClaimedReply
         ensures { result ≡ claimed reply.now }
     {

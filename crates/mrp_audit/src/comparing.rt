@@ -1,4 +1,4 @@
-//! A writer that compares what it is handed with a text.
+//! A writer that compares what is written with a text.
 
 ghost use Rattle.std.specs.Prelude.{◌≡◌};
 ghost use Rattle.mrp_audit.specs.Comparing.{IsAgreement};
@@ -10,14 +10,14 @@ use std::io;
 use std::io::Write;
 use std::marker::Model;
 
-/// A writer that compares what it is handed with the front of a text, byte by byte, and holds none
-/// of it. It takes bytes up to the first that differs, that one included, and none from then on.
+/// A writer that compares what is written with the beginning of a text, byte by byte, and holds
+/// none of it. It takes bytes up to and including the first that differs, and none from then on.
 #[derive(Drop)]
 pub(crate) struct Comparing<'a> {
     text: &'a [u8],
-    // How many bytes of the text were handed over.
+    // How many bytes of the text were written so far.
     equal: usize,
-    // The byte that was handed over in the place of the text's next one.
+    // The byte that was written in place of the text's next one.
     other: Option<u8>,
 }
 
@@ -31,7 +31,7 @@ impl<'a> Model for Comparing<'a> {
     ghost invariant = { IsComparing };
 }
 
-// How many bytes two texts have in common at their fronts, compared one by one.
+// The length of the common prefix of two texts, compared byte by byte.
 fn count_common(text: &[u8], other: &[u8]) -> usize
     ensures { IsAgreement text.now other.now result }
 {
@@ -42,7 +42,7 @@ fn count_common(text: &[u8], other: &[u8]) -> usize
     equal
 }
 
-// The same. Whole texts are compared at once, and only one that differs byte by byte.
+// The same. The whole of `other` is compared at once, and byte by byte only if it differs.
 fn common_front(text: &[u8], other: &[u8]) -> usize
     ensures { IsAgreement text.now other.now result }
 {
@@ -57,7 +57,7 @@ impl<'a> Comparing<'a> {
     ghost use Rattle.std.specs.Prelude.{◌≡◌, None};
     ghost use Rattle.mrp_audit.specs.Comparing.{TellsAgreement};
 
-    /// At the front of a text.
+    /// A writer that is at the beginning of a text.
     pub(crate) fn new(text: &'a [u8]) -> Comparing<'a>
         ensures { result ≡ record { text = text.now; equal = 0; other = None } }
     {
@@ -68,7 +68,7 @@ impl<'a> Comparing<'a> {
         }
     }
 
-    /// How many bytes of the text were handed over; None where a byte differs.
+    /// How many bytes of the text were written; `None` if a byte differs.
     pub(crate) fn agreement(self) -> Option<usize>
         ensures { TellsAgreement self.entry result }
     {
@@ -105,8 +105,8 @@ impl<'a> Write for Comparing<'a> {
     }
 }
 
-/// How many bytes of a text are another's front, by how many of those that were compared are the text's own, and by
-/// whether all were.
+/// How many bytes a text has that another one begins with, from how many bytes were equal and whether all were
+/// written; `None` if a byte differs.
 pub(crate) fn front_by(
     agreement: Option<usize>,
     written: Result<(), ReportFault>,

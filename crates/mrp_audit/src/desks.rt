@@ -1,4 +1,4 @@
-//! The desks of a given history beside their script records.
+//! Checking the desks of a given history against their script records.
 
 ghost use Rattle.std.specs.Prelude.{◌≤◌, ◌↔◌, IsTrue, length};
 ghost use Rattle.mrp_book.specs.History.{asked};
@@ -11,7 +11,7 @@ use mrp_book::{Call, Entry, Reply};
 use mrp_tables::limits::MOST_DESKS;
 use std::alloc::Global;
 
-// The place of a desk's next record from a place on; the script's end where it has none.
+// The place of a desk's next record from a place on; the script's end if it has none.
 fn next_place(script: &[(u64, Call)], desk: u64, from: usize) -> usize
     requires { from ≤ length script.now }
     ensures { IsNextPlace script.now desk from result }
@@ -40,10 +40,10 @@ fn is_right(entries: &[Entry<Call, Reply>], script: &[(u64, Call)], desk: u64) -
     next_place(script, desk, at) == script.len()
 }
 
-/// Compares each desk's entries with its script records in order: in one pass, and where that finds a
-/// fault, or has no memory, desk by desk.
+/// Compares each desk's entries with its script records in order: in one pass, and desk by desk if that finds
+/// a fault or runs out of memory.
 ///
-/// Errors: `DeskRows` with the least desk whose entries are not.
+/// Errors: `DeskRows` with the least desk whose entries are not its records in order.
 pub(crate) fn check_desks(
     alloc: Global,
     entries: &[Entry<Call, Reply>],

@@ -6,27 +6,27 @@ use mrp_rows::Fault;
 use std::alloc::AllocFailed;
 use thiserror::Error;
 
-/// Why a text is not a right day of a bundle, in the order in which it is looked for.
+/// Why a text is not a right day of a bundle, in the order in which faults are looked for.
 #[derive(Clone, Copy, Debug, PartialEq, Eq, Error)]
 pub enum AuditFault {
-    /// The bundle has this fault; never want of memory.
+    /// The bundle has this fault, which is never out of memory.
     #[error("refused")]
     Input(Fault),
     /// The text does not begin with a history that is spelled as a day's.
     #[error("shape")]
     Shape,
-    /// The entry of this number is the first whose reply is not the one that the entries before it
-    /// decide.
+    /// The entry with this number is the first whose reply is not the one that the entries before
+    /// it decide.
     #[error("history {entry}")]
     HistoryNotLegal { entry: u64 },
     /// This desk is the least whose entries are not its script records in order.
     #[error("desk {desk}")]
     DeskRows { desk: u64 },
-    /// The report of the run of this number, counted from 1, is the first that does not stand next;
-    /// or, one past the last run, bytes are left over.
+    /// The run with this number, counted from 1, is the first whose report is not what comes next
+    /// in the text. One past the last run: bytes are left over after the last report.
     #[error("report {run}")]
     ReportDiffers { run: u64 },
-    /// A growth of memory was refused, and nothing was found out.
+    /// Out of memory; nothing was found out.
     #[error("no memory")]
     NoMemory,
 }

@@ -1,4 +1,4 @@
-//! A script's records, one behind another desk by desk, and a given history that follows them.
+//! The records of a script linked desk by desk, and whether a given history follows them.
 
 ghost use Rattle.std.specs.Prelude.{◌≡◌, ◌<◌, ◌+◌, ◌++◌, ◌∷◌, [], ℕ, IfOk, IsTrue, length, slice_index};
 ghost use Rattle.std.specs.Int.{IsInRange};
@@ -14,8 +14,8 @@ use mrp_qty::NoMemory;
 use mrp_tables::limits::MOST_DESKS;
 use std::alloc::Global;
 
-// The place of each desk's next record, by the desk's number, and behind each record the place of the next of
-// its desk; the script's end where there is none.
+// For each desk, by its number, the place of its next record; and for each record, the place of the next one
+// of its desk. The script's end stands for none.
 #[derive(Drop)]
 pub(crate) struct NextPlaces {
     of_desk: Vec<usize>,
@@ -23,7 +23,7 @@ pub(crate) struct NextPlaces {
 }
 
 impl NextPlaces {
-    // The place of a desk's next record, which is taken; the script's end where it has none.
+    // Takes a desk's next record, and returns its place; the script's end if it has none.
     pub(crate) fn take(&mut self, desk: usize) -> Option<usize> {
         let place = *self.of_desk.get(desk)?;
         if let Some(behind) = self.behind.get(place) {
@@ -33,7 +33,7 @@ impl NextPlaces {
     }
 }
 
-// Where each desk's first record stands, and behind each record the next of its desk.
+// The place of each desk's first record, and for each record the next one of its desk.
 pub(crate) fn next_places(alloc: Global, script: &[(u64, Call)]) -> Result<NextPlaces, NoMemory>
     ensures { IfOk result (λ next. AreNext script.now 0 next.of_desk.items next.behind.items) }
 {
@@ -52,7 +52,7 @@ pub(crate) fn next_places(alloc: Global, script: &[(u64, Call)]) -> Result<NextP
     Ok(NextPlaces { of_desk, behind })
 }
 
-// Takes the next record of an entry's desk, where the entry makes its call; whether it does.
+// Takes the next record of an entry's desk, if the entry makes its call; returns whether it does.
 fn take_next(
     of_desk: &mut Vec<usize>,
     behind: &[usize],
@@ -105,8 +105,8 @@ fn take_all(entries: &[Entry<Call, Reply>], script: &[(u64, Call)], next: NextPl
     have_all(of_desk.as_slice(), script.len())
 }
 
-/// Whether each desk's entries are its script records in order, found out in one pass. Where the answer
-/// is no they may be so all the same: memory for the pass may have been refused.
+/// Whether each desk's entries are its script records in order, found out in one pass. `false` leaves it
+/// open: the pass may have run out of memory.
 pub(crate) fn are_followed(
     alloc: Global,
     entries: &[Entry<Call, Reply>],

@@ -13,7 +13,7 @@ use mrp_bill::Shop;
 use mrp_book::{Book, History, Refused, Reply};
 use std::alloc::Global;
 
-// Whether a claim is as the book answered it, in the entry of this number.
+// Whether a claim is what the book answered in the entry with this number.
 fn judge(entry: u64, reply: &Reply, claim: ClaimedReply) -> Result<(), AuditFault>
     ensures { IsClaimJudged entry reply.now claim result }
 {
@@ -24,7 +24,7 @@ fn judge(entry: u64, reply: &Reply, claim: ClaimedReply) -> Result<(), AuditFaul
     }
 }
 
-// What is told of a call that a book refused which was not full.
+// The fault for a call that a book refused although it was not full.
 fn refusal(refused: Refused) -> AuditFault
     requires { refused ≡ Refused.NoMemory }
     ensures { result ≡ AuditFault.NoMemory }
@@ -35,7 +35,7 @@ fn refusal(refused: Refused) -> AuditFault
     }
 }
 
-// Takes the call of one more claim, which the book answers as it is claimed.
+// Makes the call of one more claim, and compares the book's reply with the claimed one.
 fn retrace(alloc: Global, book: &mut Book, claim: &Claim) -> Result<(), AuditFault>
     requires desk { IsInRange 1 MOST_DESKS claim.now.desk }
     requires fits { Fits book.old.supply claim.now.call }
@@ -51,8 +51,8 @@ fn retrace(alloc: Global, book: &mut Book, claim: &Claim) -> Result<(), AuditFau
 
 /// The legal history of a shop that makes these claims.
 ///
-/// Errors: `HistoryNotLegal` with the first entry whose reply is not the one that the entries before
-/// it decide, and `NoMemory`.
+/// Errors: `HistoryNotLegal` with the first entry whose reply is not the one that the entries
+/// before it decide; `NoMemory` if an allocation fails.
 pub(crate) fn history_of(
     alloc: Global,
     shop: &Shop,

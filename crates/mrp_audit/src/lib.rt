@@ -1,4 +1,4 @@
-//! The checker of a day: whether a text is a right day of a bundle, and where it is not.
+//! The checker of days: whether a text is a right day of a bundle, and if not, why.
 #![tactic(auto)]
 
 mod audit;

@@ -20,13 +20,13 @@ use mrp_qty::{GREATEST_QUANTITY, NoMemory};
 use mrp_tables::limits::MOST_DESKS;
 use std::alloc::Global;
 
-// The most bytes that a record of a day's history has, and more.
+// More bytes than any record of a day's history has.
 pub(crate) const LONGEST: usize = 512;
 
-// The cells of such a record.
+// How many cells such a record has.
 const COLUMNS: usize = 9;
 
-// The cells of the record at the front of a text, however they are spelled; None where there is none.
+// The cells of the record that a text begins with, however it is spelled; `None` if there is none.
 fn first_cells(alloc: Global, text: &[u8]) -> Result<Option<ByteRecord>, NoMemory>
     ensures { IfOk result (λ found. option_map fields_of found ≡ option_map (λ p. p.0) (next_record default_config st.StartRecord [] [] (strip_bom text.now))) }
 {
@@ -41,7 +41,7 @@ fn first_cells(alloc: Global, text: &[u8]) -> Result<Option<ByteRecord>, NoMemor
     }
 }
 
-// The cells of a text's first line, cut at its commas: those of its record, where none stands between quotes.
+// The cells of a text's first line, cut at its commas: those of its record, if none is between quotes.
 fn cut_cells(alloc: Global, text: &[u8]) -> Result<ByteRecord, NoMemory> {
     let line = text.split(|byte| *byte == b'\n').next().unwrap_or(b"");
     let mut cells = ByteRecord::with_capacity(alloc, line.len(), COLUMNS)?;
@@ -51,7 +51,7 @@ fn cut_cells(alloc: Global, text: &[u8]) -> Result<ByteRecord, NoMemory> {
     Ok(cells)
 }
 
-// These cells, and how many bytes a record of them has, where a text begins with it.
+// These cells, and how many bytes a record of them has, if a text begins with it.
 fn spelled(
     alloc: Global,
     text: &[u8],
@@ -67,8 +67,8 @@ fn spelled(
     }
 }
 
-/// The cells of the record at the front of a text, and how many bytes it has; None where the text
-/// does not begin with a record that is spelled as a day's.
+/// The cells of the record that a text begins with, and how many bytes it has; `None` if the text
+/// does not begin with a record as a day spells it.
 pub(crate) fn split_record(
     alloc: Global,
     text: &[u8],
@@ -76,7 +76,7 @@ pub(crate) fn split_record(
     ensures { SplitsRow text.now result }
 {
     let (front, _) = text.split_at(text.len().min(LONGEST));
-    // Most records have no quotes. A reader of csv, which is dear to make, is left for the others.
+    // Most records have no quotes. A csv reader, which is expensive to make, is for the others.
     let cut = cut_cells(alloc, front)?;
     if let Some(found) = spelled(alloc, text, cut)? {
         return Ok(Some(found));
@@ -87,7 +87,7 @@ pub(crate) fn split_record(
     }
 }
 
-// A number or a quantity.
+// A number or a quantity, from its cell.
 fn value_in(cell: &[u8]) -> Option<u64>
     ensures { ReadsNumber 0 greatest_quantity cell.now result }
 {
@@ -132,7 +132,7 @@ fn valued_reply(word: &[u8], value: u64) -> Option<ClaimedReply>
     None
 }
 
-// A reply, by the cells of its word and value.
+// A reply, from the cells of its word and its value.
 fn reply_in(word: &[u8], value: &[u8]) -> Option<ClaimedReply>
     ensures { ReadsReply word.now value.now result }
 {
@@ -152,8 +152,8 @@ pub(crate) fn cell_of(cells: &ByteRecord, column: usize) -> &[u8]
     cells.get(column).unwrap_or(b"")
 }
 
-/// What the record of an entry's number claims; None where no record of a day's history has such
-/// cells.
+/// What the record of the entry with this number claims; `None` if no record of a day's history has
+/// such cells.
 pub(crate) fn claim_in(shop: &Shop, number: u64, cells: &ByteRecord) -> Option<Claim>
     ensures { ReadsClaim shop.now.tables number (fields_of cells.now) result }
 {

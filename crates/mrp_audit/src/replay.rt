@@ -1,7 +1,7 @@
-//! The history that a text begins with, where it is one in which each desk's entries are its script records.
+//! The history that a text begins with, found by replaying the script.
 //!
-//! No record is read but for its desk, which tells with the script what was called; the book tells what is replied. The
-//! history that this makes is written, and compared with the text. So nothing rests on what was read.
+//! Of each record only the desk is read. With the script it gives the call, and the book gives the reply.
+//! The history made like this is written and compared with the text, so nothing depends on what was read.
 
 ghost use Rattle.std.specs.Prelude.{◌≡◌, ◌<◌, All, IfOk, IfSome, length};
 ghost use Rattle.mrp_tables.specs.declared.limits.TheConstants.{MOST_ENTRIES};
@@ -24,7 +24,7 @@ use mrp_rows::Told;
 use mrp_tables::limits::MOST_DESKS;
 use std::alloc::Global;
 
-// What stands behind the first line end of a text.
+// What follows the first line end of a text.
 fn behind_line(text: &[u8]) -> &[u8] {
     match memchr(b'\n', text) {
         Some(end) => text.get(end + 1..).unwrap_or(b""),
@@ -32,14 +32,14 @@ fn behind_line(text: &[u8]) -> &[u8] {
     }
 }
 
-// The desk of the record at the front of a text, or 0.
+// The desk of the record that a text begins with, or 0.
 fn desk_of(text: &[u8]) -> u64 {
     let mut cells = text.split(|byte| *byte == b',').skip(1);
     let cell = cells.next().unwrap_or(b"");
     read_number(cell, MOST_DESKS).unwrap_or(0)
 }
 
-// The place of the next record of a desk, which is taken; None where it has none.
+// Takes the next record of a desk, and returns its place; `None` if it has none.
 fn take_place(next: &mut NextPlaces, desk: u64, end: usize) -> Option<usize>
     ensures { IfSome result (λ place. place < end) }
 {
@@ -47,7 +47,8 @@ fn take_place(next: &mut NextPlaces, desk: u64, end: usize) -> Option<usize>
     if place < end { Some(place) } else { None }
 }
 
-// The history that a shop's desks make of their records, in the order in which a text has the desks.
+// The history of a shop whose desks make the calls of their records, in the order in which the text has the
+// desks.
 fn replayed(
     alloc: Global,
     shop: &Shop,
@@ -72,7 +73,7 @@ fn replayed(
     Ok(book.into_history())
 }
 
-// How many bytes of a text are a history of a shop, at its front; None where the text does not begin with it.
+// How many bytes the text of a history of a shop has, if the given text begins with it; otherwise `None`.
 fn history_front(
     alloc: Global,
     shop: &Shop,
@@ -87,10 +88,10 @@ fn history_front(
     front_by(writer.into_inner().agreement(), written)
 }
 
-/// The history that a text begins with, where each desk's entries are its script records in order, and
-/// how many bytes it has. Nothing is said of a text for which none is found.
+/// The history that a text begins with, and how many bytes it has. Each desk's entries in it are its script
+/// records in order. `None` says nothing about the text.
 ///
-/// Errors: `NoMemory` where memory is refused.
+/// Errors: `NoMemory` if an allocation fails.
 pub(crate) fn find_history(
     alloc: Global,
     shop: &Shop,

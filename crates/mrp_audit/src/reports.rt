@@ -1,4 +1,4 @@
-//! The reports of a given day beside those of its runs.
+//! Checking the reports of a given day against those of its runs.
 
 ghost use Rattle.std.specs.Prelude.{◌≡◌};
 ghost use Rattle.mrp_master.specs.Supply.{supply_of};
@@ -25,8 +25,8 @@ use std::thread::Threads;
 // How many threads make the rows of a report that is compared.
 const WORKERS: usize = 4;
 
-// How many bytes of a text are the report of a plan, at its front; None where the text does not
-// begin with it. The report is compared as it is made, and none of it is held.
+// How many bytes the report of a plan has, if the text begins with it; otherwise `None`. The report
+// is compared while it is made, and none of it is held in memory.
 fn report_front(
     rt: &(impl Alloc + Threads + Sync),
     alloc: Global,
@@ -40,7 +40,8 @@ fn report_front(
     front_by(writer.into_inner().agreement(), written)
 }
 
-// How many bytes of a text are the report of a run, by its plan. A run has no report where an item of it gets too large.
+// How many bytes the report of a run has, from its plan, if the text begins with it. A run in which an item
+// gets too large has no report.
 fn planned_front(
     rt: &(impl Alloc + Threads + Sync),
     alloc: Global,
@@ -56,7 +57,7 @@ fn planned_front(
     }
 }
 
-// How many bytes of a text are the report of a run of a shop, at its front.
+// How many bytes the report of a run of a shop has, if the text begins with it.
 fn run_front(
     rt: &(impl Alloc + Threads + Sync),
     alloc: Global,
@@ -71,7 +72,7 @@ fn run_front(
     planned_front(rt, alloc, planned, text)
 }
 
-// How many bytes the report of the run of a number has, where it stands next.
+// How many bytes the report of the run with this number has, if it comes next.
 fn judge_run(run: u64, front: Result<Option<usize>, NoMemory>) -> Result<usize, AuditFault>
     ensures { IsRunJudged run front result }
 {
@@ -82,7 +83,7 @@ fn judge_run(run: u64, front: Result<Option<usize>, NoMemory>) -> Result<usize, 
     }
 }
 
-// Whether nothing is left of a text behind the last report; what is left is told by the number of one run more.
+// Checks that nothing is left of a text after the last report. The fault has the number of one run more.
 fn judge_end(run: u64, left: &[u8]) -> Result<(), AuditFault>
     ensures { IsEndJudged run left.now result }
 {
@@ -93,11 +94,11 @@ fn judge_end(run: u64, left: &[u8]) -> Result<(), AuditFault>
     }
 }
 
-/// Compares a text with the reports of a history's runs, one after the other. The caller owes a
-/// history of an equal shop.
+/// Compares a text with the reports of a history's runs, in order. The caller guarantees that the
+/// history has the supply of the shop.
 ///
-/// Errors: `ReportDiffers` with the first run whose report does not stand next, or with one more than
-/// there are where bytes are left over; `NoMemory`.
+/// Errors: `ReportDiffers` with the first run whose report does not come next, or with one more than there
+/// are runs if bytes are left over; `NoMemory` if an allocation fails.
 pub(crate) fn check_reports(
     rt: &(impl Alloc + Threads + Sync),
     alloc: Global,

@@ -1,4 +1,4 @@
-//! What the desks of a shop are to call.
+//! The calls that the desks of a shop should make.
 
 ghost use Rattle.std.specs.Prelude.{◌≡◌, IfOk};
 ghost use Rattle.mrp_engine.specs.day.Script.{script_of, with_run};
@@ -9,10 +9,10 @@ use mrp_engine::{added_run, call_of};
 use mrp_qty::NoMemory;
 use std::alloc::Global;
 
-/// What the records of a shop's script call, each with its desk, in order. A script without a run is
-/// taken with one more record at its end, a run of desk 1.
+/// The calls of a shop's script, each with its desk, in order. A script without a run is taken with
+/// one more record at its end, a run of desk 1.
 ///
-/// Errors: `NoMemory` where memory is refused.
+/// Errors: `NoMemory` if an allocation fails.
 pub(crate) fn script_calls(alloc: Global, shop: &Shop) -> Result<Vec<(u64, Call)>, NoMemory>
     ensures { IfOk result (λ calls. calls.items ≡ with_run (script_of shop.now.tables)) }
 {

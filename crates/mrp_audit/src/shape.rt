@@ -1,4 +1,4 @@
-//! The shape of a given day: the claims of the history at its front.
+//! The shape of a given day: the claims of the history that it begins with.
 
 ghost use Rattle.std.specs.Prelude.{◌↔◌, IsTrue};
 ghost use Rattle.mrp_audit.specs.Reading.{ReadsHistory, TakesClaim};
@@ -11,17 +11,17 @@ use mrp_bill::Shop;
 use mrp_tables::limits::MOST_ENTRIES;
 use std::alloc::Global;
 
-// What a history begins with.
+// The line and the header that a history begins with.
 const HEAD: &[u8] = b"[history]\nentry,desk,call,item,week,quantity,number,reply,value\n";
 
-/// The claims of the history at the front of a text, and how many bytes it has.
+/// The claims of the history that a text begins with, and how many bytes it has.
 #[derive(Drop)]
 pub(crate) struct Given {
     pub(crate) claims: Vec<Claim>,
     pub(crate) len: usize,
 }
 
-/// Whether a history ends in front of a text.
+/// Whether a history ends before this text.
 pub(crate) fn is_end(text: &[u8]) -> bool
     ensures { IsTrue result ↔ EndsHistory text.now }
 {
@@ -31,7 +31,8 @@ pub(crate) fn is_end(text: &[u8]) -> bool
     }
 }
 
-// The claim of an entry's number at the front of a text, and how many bytes its record has.
+// The claim of the entry with this number, which a text begins with, and how many bytes its record
+// has.
 fn next_claim(
     alloc: Global,
     shop: &Shop,
@@ -53,9 +54,9 @@ fn next_claim(
     }
 }
 
-/// Reads the history at the front of a text.
+/// Reads the history that a text begins with.
 ///
-/// Errors: `Shape` where the text does not begin with one, and `NoMemory`.
+/// Errors: `Shape` if the text does not begin with one; `NoMemory` if an allocation fails.
 pub(crate) fn read_history(alloc: Global, shop: &Shop, text: &[u8]) -> Result<Given, AuditFault>
     ensures { ReadsHistory shop.now.tables text.now result }
 {
@@ -69,7 +70,7 @@ pub(crate) fn read_history(alloc: Global, shop: &Shop, text: &[u8]) -> Result<Gi
         if is_end(rest) {
             return Ok(Given { claims, len });
         }
-        // Taken apart, so that the proof knows the type of the call.
+        // Taken apart so that the proof knows the type of the call.
         let (Claim { desk, call, reply }, taken) = next_claim(alloc, shop, number, rest)?;
         claims.push(Claim { desk, call, reply })?;
         len += taken;

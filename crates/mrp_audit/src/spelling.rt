@@ -11,7 +11,7 @@ use mrp_qty::NoMemory;
 use mrp_report::is_quoted_text;
 use std::alloc::Global;
 
-// Whether a record has more than one cell, and none of them is written between quotes.
+// Whether a record has more than one cell, none of them written between quotes.
 fn is_plain(cells: &ByteRecord) -> bool
     ensures { IsTrue result → ArePlain (fields_of cells.now) }
 {
@@ -23,7 +23,7 @@ fn is_plain(cells: &ByteRecord) -> bool
     cells.len() > 1
 }
 
-// The text of such a record: its cells as they are, with a comma between two.
+// The text of such a record: its cells as they are, with commas between them.
 fn plain_row(alloc: Global, cells: &ByteRecord) -> Result<Vec<u8>, NoMemory>
     requires { ArePlain (fields_of cells.now) }
     ensures { IfOk result (λ text. text.items ≡ row (fields_of cells.now)) }
@@ -38,7 +38,7 @@ fn plain_row(alloc: Global, cells: &ByteRecord) -> Result<Vec<u8>, NoMemory>
     Ok(text)
 }
 
-// The text of any record, by a writer of csv.
+// The text of any record, made by a csv writer.
 fn written_row(alloc: Global, cells: &ByteRecord) -> Result<Vec<u8>, NoMemory>
     ensures { IfOk result (λ text. text.items ≡ row (fields_of cells.now)) }
 {
@@ -52,7 +52,7 @@ fn written_row(alloc: Global, cells: &ByteRecord) -> Result<Vec<u8>, NoMemory>
     }
 }
 
-/// The text of a record, as a day spells it. A writer of csv is dear to make, and most records have no
+/// The text of a record as a day spells it. A csv writer is expensive to make, and most records have no
 /// quotes.
 pub(crate) fn text_of(alloc: Global, cells: &ByteRecord) -> Result<Vec<u8>, NoMemory>
     ensures { IfOk result (λ text. text.items ≡ row (fields_of cells.now)) }

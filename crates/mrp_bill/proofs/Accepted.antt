@@ -24,7 +24,7 @@ use Rattle.mrp_bill.proofs.BillListed.{listed-parent, parent-listed, listed-chil
 use Rattle.mrp_bill.proofs.Decided.{AreCodesBelow, code_in, decided}
 use Rattle.mrp_bill.proofs.Linked.{leads-round, links-along, links-rise, links-trail, round-along, trail-links}
 
--- the lines of accepted tables name items that are there
+-- the lines of accepted tables name items that exist
 pub are-within : (items : List Item) (lines : List BillLine) → All (IsBillLine items) lines → AreWithin (length items) lines
 are-within items lines all = λ k d h. ((all k d h).parent, (all k d h).component)
 
@@ -117,7 +117,7 @@ path-needs bill [] (i, first, round) = absurd round
 path-needs bill (a ∷ []) (i, first, round) = absurd round
 path-needs bill (a ∷ b ∷ more) (i, first, round) = subst (λ (x : ℕ). NeedsItself bill x) (sym round.0) first.loop
 
--- mapping after keeping is keeping after mapping
+-- mapping after filtering is filtering after mapping
 pub map-filter : {X Y : Type 0} (f : X → Y) (p : Y → Bool) (xs : List X) → map f (filter (λ x. p (f x)) xs) ≡ filter p (map f xs)
 map-filter f p [] = refl
 map-filter {X} {Y} f p (x ∷ xs) = by (p (f x)) (map-filter f p xs)
@@ -170,7 +170,7 @@ loop-or-codes count lines within = by (decided-bill count lines within)
     by (inl first) = inl first
     by (inr c) = inr (no-loop lines (code_in count (is_parent lines)) c.rising, λ i. (code_in count (is_parent lines) i, codes-are lines (code_in count (is_parent lines)) c.rising i))
 
--- tables with codes of their items make a shop
+-- tables with codes of their items are a shop
 with-codes : (tables : Tables) (code : ℕ → ℕ) → AreCodesBelow (length tables.items) (is_parent tables.bills) code
     → IsShop (record { tables = tables; codes = map code (range_with_len 0 (length tables.items)) })
 with-codes tables code c = record {
@@ -194,7 +194,7 @@ with-codes tables code c = record {
     same : (i : ℕ) → get_or (map code (range_with_len 0 (length tables.items))) i 0 ≡ code i
     same i = by i (cases_lt i (length tables.items))
 
--- tables have the path of a loop, or make a shop
+-- tables have the path of a loop, or are a shop
 pub loop-or-shop : (tables : Tables) → AreWithin (length tables.items) tables.bills → ((path : List ℕ) × IsLoopPath tables.bills path) ⊎ ((shop : Shop) × IsShop shop × (shop.tables ≡ tables))
 loop-or-shop tables within = by (decided-bill (length tables.items) tables.bills within)
   where

@@ -1,4 +1,4 @@
--- The lists of a bill: parents and components, as its lines have them.
+-- The lists of a bill: parents and components, as in its lines.
 use Rattle.std.proofs.Common.{◌≡◌, ◌⊎◌, inl, inr, ℕ, zero, suc, ◌+◌, ◌<◌, ◌≤◌, Bool, true, false, cond, eqb, List, [], ◌∷◌, length, filter, refl, sym, ap, subst, ◌∙◌, arith}
 use Rattle.std.specs.Prelude.{◌||◌, ◌&&◌, ◌==◌}
 use Rattle.std.specs.List.{range_with_len, list_any, Contains}
@@ -10,7 +10,7 @@ use Rattle.std.proofs.lemmas.List.Elements.{All-contains, filter_passes}
 use Rattle.mrp_bill.proofs.Coded.{listed-inside}
 use Rattle.mrp_bill.proofs.Listed.{filter-range-below}
 
--- a number before a range is not kept of it
+-- a number before a range is not in what a test keeps of the range
 none-before : (t : ℕ → Bool) (i a n : ℕ) → i < a → list_any (λ x. x == i) (filter t (range_with_len a n)) ≡ false
 none-before t i a zero h = refl
 none-before t i a (suc n) h = by (t a) (none-before t i (a + 1) n (omega arith))
@@ -19,7 +19,7 @@ none-before t i a (suc n) h = by (t a) (none-before t i (a + 1) n (omega arith))
     by true rest = rw (ne_eqb a i (λ e. absurd (omega arith))) rest
     by false rest = rest
 
--- a number of a range is kept of it where the test passes
+-- a number of a range is kept if it passes the test
 pub kept-range : (t : ℕ → Bool) (i a n : ℕ) → a ≤ i → i < a + n → list_any (λ x. x == i) (filter t (range_with_len a n)) ≡ t i
 kept-range t i a zero low high = absurd (omega arith)
 kept-range t i a (suc n) low high = by (cases_eq a i) (λ h. kept-range t i (a + 1) n h (omega arith))
@@ -37,7 +37,7 @@ kept-range t i a (suc n) low high = by (cases_eq a i) (λ h. kept-range t i (a +
     by (inl same) rest = here (t a) refl same ∙ ap t same
     by (inr ne) rest = later (t a) ne (rest (omega arith))
 
--- a number that a search finds stands in the list
+-- a number that a search finds is in the list
 pub contains-from_any : (i : ℕ) (xs : List ℕ) → list_any (λ x. x == i) xs ≡ true → Contains xs i
 contains-from_any i [] e = absurd (cc)
 contains-from_any i (x ∷ xs) e = by (eqb x i) refl (contains-from_any i xs) e
@@ -68,7 +68,7 @@ kept-inside : (t : ℕ → Bool) (i n : ℕ) → Contains (filter t (range_with_
 kept-inside t i n c =
     (All-contains (λ x. x < n) (filter t (range_with_len 0 n)) i (filter-range-below t n) c, All-contains (λ x. t x ≡ true) (filter t (range_with_len 0 n)) i (filter_passes t (range_with_len 0 n)) c)
 
--- what stands in the lists of parents
+-- what is in the lists of parents
 pub listed-parent : (lines : List BillLine) (count : ℕ) (parents : List (List ℕ)) → length parents ≡ count → ((i : ℕ) → i < count → listed parents i ≡ parents_of lines count i)
     → (p i : ℕ) → IsListed parents p i → (p < count) × IsParent lines p i
 listed-parent lines count parents size is p i link =

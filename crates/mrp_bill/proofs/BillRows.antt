@@ -58,7 +58,7 @@ any-map lines p (place ∷ places) = ap (λ b. has_parent lines p place || b) (a
 pub parents-at_places : (lines : List BillLine) (p i : ℕ) → list_any (has_parent lines p) (lines_of lines i) ≡ is_parent lines p i
 parents-at_places lines p i = any-map lines p (lines_of lines i) ∙ ap (list_any (λ line. line.parent == p)) (lines-are lines i) ∙ parents-in_lines lines p i
 
--- the one element of a range that is the same as a number, where a test keeps it
+-- the one element of a range that is the same as a number, if a test keeps it
 same-before : (t : ℕ → Bool) (i a n : ℕ) → i < a → filter (λ x. x == i) (filter t (range_with_len a n)) ≡ []
 same-before t i a zero h = refl
 same-before t i a (suc n) h = by (t a) (same-before t i (a + 1) n (omega arith))
@@ -86,7 +86,7 @@ same-kept t i a (suc n) low high = by (cases_eq a i) (λ h. same-kept t i (a + 1
     by (inl same) rest = here (t a) refl same ∙ ap (λ (j : ℕ). cond (t j) (j ∷ []) []) same
     by (inr ne) rest = later (t a) ne (rest (omega arith))
 
--- one row more
+-- one more row
 values_of-push : (rows : List (Numbered ℕ)) (r : Numbered ℕ) (p : ℕ) → values_of (rows ++ r ∷ []) p ≡ values_of rows p ++ cond (eqb r.number p) (r.value ∷ []) []
 values_of-push rows r p =
     ap (map (λ (x : Numbered ℕ). x.value)) (filter-append (λ (x : Numbered ℕ). eqb x.number p) rows (r ∷ []))
@@ -105,7 +105,7 @@ pub record AreNumbered (lines : List BillLine) (places : List ℕ) (k item count
   pub within : All (λ r. r.number < count) rows
   pub once : (p : ℕ) → values_of rows p ≡ values_of old p ++ cond (list_any (has_parent lines p) (take k places)) (item ∷ []) []
 
--- an element that is put behind a list at most once
+-- an element that is appended to a list at most once
 at_most_once : (b e : Bool) (old : List ℕ) (x : ℕ) → (e ≡ true → b ≡ false) → (old ++ cond b (x ∷ []) []) ++ cond e (x ∷ []) [] ≡ old ++ cond (b || e) (x ∷ []) []
 at_most_once true true old x apart = let no : true ≡ false = apart refl in absurd cc
 at_most_once true false old x apart = append-nil (old ++ x ∷ [])
@@ -181,7 +181,7 @@ module _ (lines : List BillLine) (places : List ℕ) (k item count : ℕ) (old :
       same : (p : ℕ) → so_far p ≡ list_any (has_parent lines p) (take (k + 1) places)
       same p = or-kept (so_far p) (eqb parent p) (λ e. subst (λ (q : ℕ). so_far q ≡ true) (eqb-true parent p e) some) ∙ sym (more p)
 
--- an item more is numbered by its parents
+-- one more item is numbered by its parents
 pub children-more : (lines : List BillLine) (item p : ℕ) (places old new : List ℕ) → places ≡ lines_of lines item → old ≡ filter (λ i. is_parent lines p i) (range_with_len 0 item)
     → new ≡ old ++ cond (list_any (has_parent lines p) places) (item ∷ []) [] → new ≡ filter (λ i. is_parent lines p i) (range_with_len 0 (item + 1))
 children-more lines item p places old new at before after =

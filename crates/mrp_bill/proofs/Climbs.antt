@@ -1,4 +1,4 @@
--- How a walk goes on.
+-- The steps of a walk.
 use Rattle.std.proofs.Common.{◌≡◌, ◌≢◌, ◌⊎◌, inl, inr, ℕ, suc, ◌-◌, ◌<◌, ◌≤◌, true, false, List, [], ◌∷◌, ◌++◌, length, get_or, take, sym, ap, subst, ◌∙◌, arith, sum, sum_by}
 use Rattle.std.proofs.Math.Bool.{or-false, or-true}
 use Rattle.std.proofs.Math.ListN.{set}
@@ -55,7 +55,7 @@ climb-visit parents c d item k o within new top =
       loops = λ e. k.loops (sym o.closed ∙ e);
     }
 
--- an item whose parents are all placed goes to the end of the order
+-- an item whose parents are all placed moves to the end of the order
 settled-push : (parents : List (List ℕ)) (c : Climb) (item : ℕ) → IsClimb parents c → item < length c.stages.items → get_or c.left.items item 0 ≡ 0 → c.closed ≡ false
     → ((p i : ℕ) → IsListed parents p i → p < length parents) → IsSettled (IsListed parents) (c.order.items ++ item ∷ [])
 settled-push parents c item k inside none unclosed within n p h link = by (cases_lt n (length c.order.items))
@@ -145,7 +145,7 @@ climb-pass parents c d item less k inside was stages stack order left passes clo
             let high' : n < length (listed parents item) = subst (λ (x : ℕ). n < length (listed parents x)) same high in
             old item n (omega (arith, k.size)) (omega (arith, was)) high'
 
--- a parent of the top of the stack that is on the stack closes a loop
+-- a parent of the item on top of the stack that is on the stack closes a loop
 pub climb-close : (parents : List (List ℕ)) (c : Climb) (item parent depth : ℕ) → IsClimb parents c → 0 < length c.stack.items → item ≡ get_or c.stack.items (length c.stack.items - 1) 0
     → parent < length c.stages.items → stage_at c.stages.items parent ≡ Open depth → IsListed parents parent item → (i : ℕ) × Leads (IsListed parents) i i
 climb-close parents c item parent depth k some top within stage link =
@@ -155,7 +155,7 @@ climb-close parents c item parent depth k some top within stage link =
     links-down (IsListed parents) c.stack.items k.linked (last - depth) depth last (omega arith) (omega arith) in
     (parent, (last - depth, links-before (IsListed parents) (last - depth) parent item parent link (rw (← top, is) at down)))
 
--- the item on the top of the stack is one of the items
+-- the item on top of the stack is one of the items
 pub top-inside : (parents : List (List ℕ)) (c : Climb) (item : ℕ) → IsClimb parents c → 0 < length c.stack.items → item ≡ get_or c.stack.items (length c.stack.items - 1) 0 → item < length parents
 top-inside parents c item k some top = omega (arith, top, (k.stages.stacked (length c.stack.items - 1) (omega arith)).0, k.size)
 
@@ -170,7 +170,7 @@ pub parent-is : (parents : List (List ℕ)) (item n : ℕ) (group : List ℕ) �
     → (get_or group n 0 ≡ get_or (listed parents item) n 0) × IsListed parents (get_or group n 0) item
 parent-is parents item n group same low = (ap (λ xs. get_or xs n 0) same, listed-contains parents item group n 0 same low)
 
--- one move less is left of a walk that puts a new item on the stack
+-- a walk that pushes a new item onto the stack has one move less left
 pub work-visit : (c d : Climb) (item : ℕ) → Opens c d item → item < length c.stages.items → stage_at c.stages.items item ≡ New → work d < work c
 work-visit c d item o within new =
     omega (arith, ap (sum_by moves) o.stages, sum_by-set moves c.stages.items item (Open (length c.stack.items)) New within, ap moves new, ap sum o.left)
@@ -185,7 +185,7 @@ climb-passes parents c d item less place k inside was p placed =
     let same : d.closed ≡ c.closed = p.closed ∙ or-false c.closed in
     climb-pass parents c d item less k inside was p.stages p.stack p.order p.left (λ e. (sym same ∙ e, (place, placed))) (λ e. k.loops (sym same ∙ e))
 
--- an item has passed a parent with which a loop closes
+-- an item has passed a parent that closes a loop
 pub climb-closes : (parents : List (List ℕ)) (c d : Climb) (item less : ℕ) → IsClimb parents c → item < length parents → get_or c.left.items item 0 ≡ suc less
     → Passes c d item less true → ((i : ℕ) × Leads (IsListed parents) i i) → IsClimb parents d
 climb-closes parents c d item less k inside was p loop =

@@ -1,4 +1,4 @@
--- Codes from an order in which parents stand before their components.
+-- Codes from an order in which parents come before their components.
 use Rattle.std.proofs.Common.{◌≡◌, ◌≢◌, ◌⊎◌, inl, inr, ℕ, zero, suc, ◌+◌, ◌<◌, ◌≤◌, List, [], length, get_or, refl, sym, ap, subst, ◌∙◌, arith}
 use Rattle.std.specs.Prelude.{All}
 use Rattle.std.proofs.Math.ListN.{set, get_or-eq_default}
@@ -9,7 +9,7 @@ use Rattle.mrp_bill.specs.Climb.{IsSettled}
 use Rattle.mrp_bill.specs.Links.{IsCoded, AreRising}
 use Rattle.mrp_bill.specs.Grouped.{listed, IsListed}
 
--- an item with something in its list is one of the items
+-- an item with a non-empty list is one of the items
 pub listed-inside : (lists : List (List ℕ)) (p i : ℕ) → IsListed lists p i → i < length lists
 listed-inside lists p i (k, low, is) = by (cases_lt i (length lists))
   where

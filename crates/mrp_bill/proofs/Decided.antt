@@ -1,11 +1,11 @@
--- Whether anything leads to itself, decided; and codes where nothing does.
+-- Whether anything leads to itself, decided; and codes if nothing does.
 use Rattle.std.proofs.Common.{◌≡◌, ◌⊎◌, inl, inr, ℕ, zero, suc, ◌+◌, ◌<◌, ◌≤◌, Bool, true, false, cond, refl, sym, ap, subst, ◌∙◌, arith}
 use Rattle.std.specs.Prelude.{◌||◌, ◌&&◌, max}
 use Rattle.std.proofs.lemmas.Bool.{and_from, and_parts, cases_lt, or_cases, or_left, or_right}
 use Rattle.mrp_bill.specs.Links.{Links, Leads, IsFirstRound, AreRising}
 use Rattle.mrp_bill.proofs.Linked.{below_one_more}
 
--- what a test says of each two
+-- the result of a test on each pair
 abbrev Holds : (ℕ → ℕ → Bool) → ℕ → ℕ → Type 0
 Holds t p i = t p i ≡ true
 
@@ -13,7 +13,7 @@ Holds t p i = t p i ≡ true
 abbrev pub AreBelow : ℕ → (ℕ → ℕ → Bool) → Type 0
 AreBelow count t = (p i : ℕ) → t p i ≡ true → (p < count) × (i < count)
 
--- chains one behind the other
+-- chains joined end to end
 leads-on : (R : ℕ → ℕ → Type 0) (m a b c : ℕ) → Leads R a b → Links R m b c → Leads R a c
 leads-on R zero a b c first e = subst (λ (x : ℕ). Leads R a x) e first
 leads-on R (suc m) a b c first (p, chain, link) =
@@ -41,7 +41,7 @@ reaches-linked : (t : ℕ → ℕ → Bool) (k a b : ℕ) → t a b ≡ true →
 reaches-linked t zero a b h = h
 reaches-linked t (suc k) a b h = or_left (reaches t k a b) (reaches t k a k && reaches t k k b) (reaches-linked t k a b h)
 
--- the way to the bound, and the way from it, do not pass it
+-- neither the chain to the bound nor the chain from it passes it
 to-bound : (t : ℕ → ℕ → Bool) (k a : ℕ) → reaches t (suc k) a k ≡ true → reaches t k a k ≡ true
 to-bound t k a h = by (or_cases (reaches t k a k) (reaches t k a k && reaches t k k k) h)
   where
@@ -193,7 +193,7 @@ best-within value test (suc n) bound f = by (test n) (f n) (best-within value te
 abbrev rank : ℕ → (ℕ → ℕ → Bool) → ℕ → ℕ
 rank count t i = tally (λ a. reaches t count a i) count
 
--- codes, as far as chains of so many links tell them
+-- codes, as far as chains of so many links determine them
 abbrev code : ℕ → (ℕ → ℕ → Bool) → ℕ → ℕ → ℕ
 code count t zero i = 0
 code count t (suc k) i = best (code count t k) (λ p. t p i) count
@@ -213,7 +213,7 @@ code-within count t below none zero i = omega arith
 code-within count t below none (suc k) i =
     best-within (code count t k) (λ p. t p i) count (rank count t i) (λ p link. omega (arith, code-within count t below none k p, rank-rises count t below none p i link))
 
--- codes that longer chains tell no more of
+-- codes that longer chains no longer change
 code-settles : (count : ℕ) (t : ℕ → ℕ → Bool) → AreBelow count t → NoneReaches count t → (k i : ℕ) → rank count t i < k → code count t k i ≡ code count t (suc k) i
 code-settles count t below none zero i h = absurd (omega arith)
 code-settles count t below none (suc k) i h =

@@ -69,12 +69,12 @@ round-along R S f i [] round = round
 round-along R S f i (a ∷ []) round = round
 round-along R S f i (a ∷ b ∷ more) (same, link, rest) = (same, f a b link, trail-along R S f b more i rest)
 
--- ranks that don't rise along links fall along chains
+-- ranks that do not rise along links do not rise along chains
 links-fall : (R : ℕ → ℕ → Type 0) (rank : ℕ → ℕ) → ((p i : ℕ) → R p i → rank i ≤ rank p) → (n a b : ℕ) → Links R n a b → rank b ≤ rank a
 links-fall R rank falls zero a b e = omega (arith, ap rank e)
 links-fall R rank falls (suc n) a b (p, chain, link) = omega (arith, links-fall R rank falls n a p chain, falls p b link)
 
--- so an item to which no link keeps the rank isn't on a round
+-- so an item that no link reaches from its own rank is not on a round
 pub no-round : (R : ℕ → ℕ → Type 0) (rank : ℕ → ℕ) → ((p i : ℕ) → R p i → rank i ≤ rank p) → (i : ℕ) → ((p : ℕ) → R p i → rank p ≢ rank i) → Leads R i i → ⊥
 no-round R rank falls i apart (n, (p, chain, link)) = apart p link (omega (arith, links-fall R rank falls n i p chain, falls p i link))
 

@@ -25,7 +25,7 @@ pub listed-set_other : {X : Type 0} (lists : List (Vec X Global)) (i j : ℕ) (v
 listed-set_other {X} lists i j v ne =
     rw (map-set (λ (w : Vec X Global). w.items) lists i v) (get_or-set_other (map (λ (w : Vec X Global). w.items) lists) i j v.items [] ne)
 
--- a list that one was put at the end of
+-- a list with one element appended
 pub appends-set : {X : Type 0} (lists : List (Vec X Global)) (at : ℕ) (x : X) (old new : Vec X Global) → at < length lists → old ≡ get_or lists at old → new.items ≡ old.items ++ x ∷ [] → Appends lists (set lists at new) at x
 appends-set {X} lists at x old new h read pushed = record {
   size = length-set lists at new;
@@ -39,7 +39,7 @@ filter-range_more p n =
     ap (filter p) (sym (map-id (range_with_len 0 (n + 1)))) ∙ filter_of_map_range_with_len_more p (λ x. x) 0 n n (omega arith)
     ∙ ap (λ xs. filter p xs ++ cond (p n) (n ∷ []) []) (map-id (range_with_len 0 n))
 
--- one more at the end of one list, told of each list
+-- one more element at the end of one list, said of each list
 pub listed-appends : {X : Type 0} (old new : List (Vec X Global)) (at : ℕ) (x : X) → Appends old new at x → (i : ℕ) → listed new i ≡ listed old i ++ cond (eqb at i) (x ∷ []) []
 listed-appends {X} old new at x a i = by (eqb at i) refl
   where
@@ -52,7 +52,7 @@ pub filter-range-below : (p : ℕ → Bool) (n : ℕ) → All (λ x. x < n) (fil
 filter-range-below p n = All-filter p (λ x. x < n) (range_with_len 0 n) (λ k d h.
     let e = get_or-range_with_len 0 n k d (omega (arith, length-range_with_len 0 n)) in omega (arith, e, length-range_with_len 0 n))
 
--- a value that is read in a group stands in it
+-- a value that is read in a group is in it
 pub listed-contains : (parts : List (List ℕ)) (i : ℕ) (xs : List ℕ) (k d : ℕ) → xs ≡ groups.listed parts i → k < length xs → groups.IsListed parts (get_or xs k d) i
 listed-contains parts i xs k d same h = subst (λ (ys : List ℕ). Contains ys (get_or xs k d)) same (Contains-get_or xs k d h)
 

@@ -1,4 +1,4 @@
--- What a walk leaves when it ends.
+-- The result of a walk.
 use Rattle.std.proofs.Common.{◌≡◌, ◌≢◌, ℕ, ◌*◌, ◌<◌, ◌≤◌, List, length, refl, ap, ◌∙◌, arith, sum_by}
 use Rattle.std.proofs.lemmas.List.{get_or_default}
 use Rattle.std.proofs.lemmas.List.Sums.{sum_by-le}
@@ -14,7 +14,7 @@ is_placed New new shut = absurd (new refl)
 is_placed (Open depth) new shut = absurd (shut depth refl)
 is_placed (Placed place) new shut = (place, refl)
 
--- with an empty stack, items that were all met are all placed
+-- with an empty stack, items that were all found are all placed
 all-placed : (parents : List (List ℕ)) (c : Climb) → IsClimb parents c → length c.stack.items ≡ 0 → ((i : ℕ) → i < length parents → stage_at c.stages.items i ≢ New)
     → (i : ℕ) → i < length parents → (place : ℕ) × (stage_at c.stages.items i ≡ Placed place)
 all-placed parents c k empty met i h =

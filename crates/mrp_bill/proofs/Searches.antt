@@ -1,4 +1,4 @@
--- How a search up through parents goes on, and what it finds.
+-- The steps of a search up through parents, and what it finds.
 use Rattle.std.proofs.Common.{◌≡◌, ◌≢◌, ◌⊎◌, inl, inr, ℕ, zero, suc, ◌+◌, ◌<◌, ◌≤◌, Bool, true, false, eqb, List, [], ◌∷◌, ◌++◌, length, map, get_or, refl, sym, ap, subst, ◌∙◌, arith}
 use Rattle.std.specs.List.{Contains}
 use Rattle.std.proofs.Math.ListN.{set, get_or-eq_default}
@@ -40,7 +40,7 @@ met-last met m k h = get_or_push met m (record { item = 0; below = 0 }) k h
 item-push : (met : List Met) (m : Met) (k : ℕ) → k < length met → item_at (met ++ m ∷ []) k ≡ item_at met k
 item-push met m k h = ap (λ (x : Met). x.item) (met-push met m k h)
 
--- a new parent of one that was met is met
+-- a new parent of one that was found is found
 pub search-meets : (parents : List (List ℕ)) (s t : Search) (item below : ℕ) → IsSearch parents s → Meets s t item below → item < length parents → get_or s.seen.items item false ≡ false
     → below < length s.met.items → IsListed parents item (item_at s.met.items below) → IsSearch parents t
 search-meets parents s t item below k m inside new low link = record {
@@ -129,7 +129,7 @@ places-trail parents s k from (x ∷ more) h ((pos, is), rest) =
     let (less, up) = k.below from pos h in
     (subst (λ (y : ℕ). IsListed parents (item_at s.met.items from) (item_at s.met.items y)) (sym is) up, places-trail parents s k x more (omega arith) rest)
 
--- from an item that is a parent of one that was met, down to itself
+-- from an item that is a parent of one that was found, down to itself
 pub search-round : (parents : List (List ℕ)) (s : Search) (item from : ℕ) (places path : List ℕ) → IsSearch parents s → item_at s.met.items 0 ≡ item → from < length s.met.items
     → IsListed parents item (item_at s.met.items from) → IsTrail (IsBelow s.met.items) from places 0
     → path ≡ item_at s.met.items 0 ∷ item_at s.met.items from ∷ map (item_at s.met.items) places → IsRound (IsListed parents) item path
@@ -140,7 +140,7 @@ search-round parents s item from places path k first h link trail is =
       subst (λ (x : ℕ). IsTrail (IsListed parents) (item_at s.met.items from) (map (item_at s.met.items) places) x) first (places-trail parents s k from places h trail),
     )
 
--- a search that met all that stands above its first item, and never that item again
+-- a search that found all that is above its first item, and never that item again
 above-seen : (parents : List (List ℕ)) (s : Search) → IsSearch parents s → ((k : ℕ) → k < length s.met.items → (p : ℕ) → IsListed parents p (item_at s.met.items k) → IsSeen s.seen.items p)
     → (n a i : ℕ) → Links (IsListed parents) n a i → IsSeen s.seen.items i → IsSeen s.seen.items a
 above-seen parents s k closed zero a i e seen = subst (λ (x : ℕ). IsSeen s.seen.items x) (sym e) seen
@@ -157,7 +157,7 @@ never-round parents s item k first above (n, round) =
     let (m, h, is) = k.seen b seen in
     (above m h item (subst (λ (x : ℕ). IsListed parents item x) (sym is) link)).1 refl
 
--- one place more on the way down
+-- one more place on the way down
 pub path-push : (met : List Met) (from at next : ℕ) (places path new : List ℕ) → IsTrail (IsBelow met) from places at → 0 < at → next ≡ (met_at met at).below
     → path ≡ item_at met 0 ∷ item_at met from ∷ map (item_at met) places → new ≡ path ++ item_at met next ∷ []
     → new ≡ item_at met 0 ∷ item_at met from ∷ map (item_at met) (places ++ next ∷ [])
@@ -165,11 +165,11 @@ path-push met from at next places path new trail pos is before pushed =
     pushed ∙ ap (λ xs. xs ++ item_at met next ∷ []) before
     ∙ ap (λ xs. item_at met 0 ∷ item_at met from ∷ xs) (sym (map_push (item_at met) places next))
 
--- what was read of those met
+-- what was read of those found
 pub met-is : (met : List Met) (k : ℕ) (m : Met) → k < length met → m ≡ get_or met k m → met_at met k ≡ m
 met-is met k m h is = get_or_default met k (record { item = 0; below = 0 }) m h ∙ sym is
 
--- the parents of one more of those met were met, and aren't the first item
+-- the parents of one more of those found were found, and are not the first item
 pub above-more : (parents : List (List ℕ)) (s t : Search) (item next : ℕ) → Extends s t → next < length s.met.items
     → ((k : ℕ) → k < next → (p : ℕ) → IsListed parents p (item_at s.met.items k) → IsSeen s.seen.items p × (p ≢ item))
     → ((i : ℕ) → IsSeen s.seen.items i → IsSeen t.seen.items i)
@@ -187,14 +187,14 @@ above-more parents s t item next e low before stays here k h p link = by (cases_
     by (inl lt) = let (seen, ne) = before k lt p link' in (stays p seen, ne)
     by (inr ge) = here p (subst (λ (x : ℕ). IsListed parents p (item_at s.met.items x)) (omega arith) link')
 
--- what a search that goes on has seen
+-- what a search has seen after a step
 pub extends-seen : (parents : List (List ℕ)) (s t : Search) → IsSearch parents s → IsSearch parents t → Extends s t → (i : ℕ) → IsSeen s.seen.items i → IsSeen t.seen.items i
 extends-seen parents s t k l e i seen =
     let (n, h, is) = k.seen i seen in
     let same : item_at t.met.items n ≡ i = ap (λ (x : Met). x.item) (e.kept n h) ∙ is in
     subst (λ (x : ℕ). IsSeen t.seen.items x) same (l.met n (omega (arith, e.longer)))
 
--- a list that a search doesn't find a number in has others
+-- a list in which a search does not find a number has only others
 pub others-of : (i : ℕ) (xs : List ℕ) → ((k d : ℕ) → 0 ≤ k → k < length xs → eqb (get_or xs k d) i ≡ false) → (p : ℕ) → Contains xs p → p ≢ i
 others-of i xs none p (k, low, is) same =
     let no = none k p (omega arith) low in

@@ -49,7 +49,7 @@ pub record IsDepth (lines : List BillLine) (count n : ℕ) : Type 0 where
   pub greatest : (i m : ℕ) → i < count → IsCode lines i m → m ≤ n
   pub reached : (n ≡ 0) ⊎ ((i : ℕ) × (i < count) × IsCode lines i n)
 
--- an item that stands above itself
+-- an item that is above itself
 abbrev pub NeedsItself : List BillLine → ℕ → Type 0
 NeedsItself lines i = IsAbove lines i i
 
@@ -65,17 +65,17 @@ IsPath lines a rest b = IsTrail (IsParent lines) a rest b
 abbrev pub IsLoopPath : List BillLine → List ℕ → Type 0
 IsLoopPath lines path = (i : ℕ) × IsFirstLoop lines i × IsRound (IsParent lines) i path
 
--- what a program shows of codes: they rise along each line, and each above 0 is one above a parent's
+-- what is proved of codes: they rise along each line, and each above 0 is one above a parent's
 abbrev pub AreCodes : List BillLine → (ℕ → ℕ) → Type 0
 AreCodes lines code = AreRising (IsParent lines) code
 
--- each of the first items stands in the list exactly once
+-- each of the first items is in the list exactly once
 pub record HoldsEachOnce (count : ℕ) (order : List ℕ) : Type 0 where
   pub items : All (λ i. i < count) order
   pub each : (i : ℕ) → i < count → (place : ℕ) × (place < length order) × (slice_index order place ≡ i)
   pub once : (j k : ℕ) → j < length order → k < length order → slice_index order j ≡ slice_index order k → j ≡ k
 
--- an order of all items in which parents stand before their components
+-- an order of all items in which parents come before their components
 pub record IsOrder (lines : List BillLine) (count : ℕ) (order : List ℕ) : Type 0 where
   pub all : HoldsEachOnce count order
   pub parents_first : (j k : ℕ) → j < length order → k < length order → IsParent lines (slice_index order j) (slice_index order k) → j < k

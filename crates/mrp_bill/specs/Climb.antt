@@ -9,13 +9,13 @@ use Rattle.mrp_bill.specs.Grouped.{listed, IsListed}
 abbrev pub stage_at : List Stage → ℕ → Stage
 stage_at stages i = slice_index_or stages i New
 
--- how often the walk still moves an item
+-- how often the walk will still move an item
 abbrev pub moves : Stage → ℕ
 moves New = 2
 moves (Open depth) = 1
 moves (Placed place) = 0
 
--- what is left of a walk
+-- the remaining work of a walk
 abbrev pub work : Climb → ℕ
 work c = sum_by moves c.stages.items + sum c.left.items
 
@@ -31,7 +31,7 @@ pub record AreStages (stages : List Stage) (stack order : List ℕ) : Type 0 whe
 abbrev pub IsLinked : (ℕ → ℕ → Type 0) → List ℕ → Type 0
 IsLinked R stack = (k : ℕ) → suc k < length stack → R (slice_index stack (suc k)) (slice_index stack k)
 
--- each parent of each item in the order stands before it
+-- each parent of each item in the order comes before it
 abbrev pub IsSettled : (ℕ → ℕ → Type 0) → List ℕ → Type 0
 IsSettled R order = (k p : ℕ) → k < length order → R p (slice_index order k) → (j : ℕ) × (j < k) × (slice_index order j ≡ p)
 
@@ -41,7 +41,7 @@ ArePassed parents left stages =
     (i k : ℕ) → i < length stages → slice_index left i ≤ k → k < length (listed parents i)
     → (place : ℕ) × (stage_at stages (slice_index (listed parents i) k) ≡ Placed place)
 
--- how far a walk is
+-- the state of a walk
 pub record IsClimb (parents : List (List ℕ)) (c : Climb) : Type 0 where
   pub size : length c.stages.items ≡ length parents
   pub sizes : length c.left.items ≡ length parents
@@ -60,7 +60,7 @@ pub record Opens (old new : Climb) (item : ℕ) : Type 0 where
   pub left : new.left.items ≡ old.left.items
   pub closed : new.closed ≡ old.closed
 
--- the item on the top of the stack is moved to the order's end
+-- the item on top of the stack is moved to the end of the order
 pub record Places (old new : Climb) (item : ℕ) : Type 0 where
   pub stages : new.stages.items ≡ slice_set old.stages.items item (Placed (length old.order.items))
   pub stack : new.stack.items ≡ take (length old.stack.items - 1) old.stack.items
@@ -68,11 +68,11 @@ pub record Places (old new : Climb) (item : ℕ) : Type 0 where
   pub left : new.left.items ≡ old.left.items
   pub closed : new.closed ≡ old.closed
 
--- items that were met stay met
+-- items that were found stay found
 abbrev pub KeepsMet : Climb → Climb → Type 0
 KeepsMet old new = (i : ℕ) → stage_at old.stages.items i ≢ New → stage_at new.stages.items i ≢ New
 
--- an item has passed a parent, and this closes a loop or doesn't
+-- an item has passed a parent, and this closes a loop or does not
 pub record Passes (old new : Climb) (item remaining : ℕ) (closes : Bool) : Type 0 where
   pub stages : new.stages.items ≡ old.stages.items
   pub stack : new.stack.items ≡ old.stack.items

@@ -7,12 +7,12 @@ use Rattle.mrp_bill.specs.declared.fault.BillFault.{BillFault}
 use Rattle.mrp_bill.specs.declared.fault.BillFault.TheVariants.{Loop, NoMemory}
 use Rattle.mrp_bill.specs.Bill.{IsLoopPath}
 
--- tables with a loop are refused by its path, or where no memory was left to find it
+-- tables with a loop are refused by its path, or out of memory in the search for it
 abbrev pub loop_fault : Result (Vec ℕ Global) Refused → BillFault
 loop_fault (Ok path) = Loop path
 loop_fault (Err refused) = NoMemory
 
--- the bill's lines are the reason of the refusal, want of memory aside
+-- the bill's lines are the reason of the refusal, unless it is out of memory
 abbrev pub IsRefusal : List BillLine → BillFault → Type 0
 IsRefusal lines (Loop path) = IsLoopPath lines path.items
 IsRefusal lines NoMemory = ⊤

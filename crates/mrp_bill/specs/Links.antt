@@ -1,4 +1,4 @@
--- Chains of links, for any relation that says what is linked to what.
+-- Chains of links, for any relation.
 use Rattle.std.specs.Prelude.{ℕ, zero, suc, ◌≡◌, ◌<◌, List, [], ◌∷◌}
 
 -- a chain of n links leads from a to b
@@ -26,12 +26,12 @@ pub record IsFirstRound (R : ℕ → ℕ → Type 0) (i : ℕ) : Type 0 where
   pub loop : Leads R i i
   pub first : (j : ℕ) → j < i → Leads R j j → ⊥
 
--- codes rise along each link, and each above 0 is one above a code that is linked to it
+-- codes rise along each link, and each above 0 is one above the code of something linked to it
 pub record AreRising (R : ℕ → ℕ → Type 0) (code : ℕ → ℕ) : Type 0 where
   pub rises : (p i : ℕ) → R p i → code p < code i
   pub from_parent : (i n : ℕ) → code i ≡ suc n → (p : ℕ) × R p i × (code p ≡ n)
 
--- an item's code rises from each code that is linked to it, and is one above one of them if it is above 0
+-- an item's code is above that of each item linked to it, and one above one of them if it is above 0
 pub record IsCoded (R : ℕ → ℕ → Type 0) (code : ℕ → ℕ) (i : ℕ) : Type 0 where
   pub above : (p : ℕ) → R p i → code p < code i
   pub from_one : (n : ℕ) → code i ≡ suc n → (p : ℕ) × R p i × (code p ≡ n)

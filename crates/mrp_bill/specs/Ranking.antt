@@ -6,7 +6,7 @@ abbrev pub one_if_unseen : Bool → ℕ
 one_if_unseen true = 0
 one_if_unseen false = 1
 
--- how many items were not seen
+-- the number of items that were not seen
 abbrev pub unseen : List Bool → ℕ
 unseen seen = sum_by one_if_unseen seen
 

@@ -19,12 +19,12 @@ IsBelow met place below = (0 < place) × (below ≡ (met_at met place).below)
 abbrev pub IsSeen : List Bool → ℕ → Type 0
 IsSeen seen item = slice_index_or seen item false ≡ true
 
--- an item is met
+-- an item is found
 pub record Meets (old new : Search) (item below : ℕ) : Type 0 where
   pub met : new.met.items ≡ old.met.items ++ (record { item = item; below = below } ∷ [])
   pub seen : new.seen.items ≡ slice_set old.seen.items item true
 
--- the items met are those seen, and each but the first is a parent of the one below it
+-- the items found are those seen, and each but the first is a parent of the one below it
 pub record IsSearch (parents : List (List ℕ)) (s : Search) : Type 0 where
   pub size : length s.seen.items ≡ length parents
   pub some : 0 < length s.met.items
@@ -33,7 +33,7 @@ pub record IsSearch (parents : List (List ℕ)) (s : Search) : Type 0 where
   pub below : (k : ℕ) → 0 < k → k < length s.met.items
       → ((met_at s.met.items k).below < k) × IsListed parents (item_at s.met.items k) (item_at s.met.items (met_at s.met.items k).below)
 
--- what was met stays
+-- what was found stays
 pub record Extends (old new : Search) : Type 0 where
   pub longer : length old.met.items ≤ length new.met.items
   pub kept : (k : ℕ) → k < length old.met.items → met_at new.met.items k ≡ met_at old.met.items k

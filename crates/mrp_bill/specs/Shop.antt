@@ -8,7 +8,7 @@ pub record Shop : Type 0 where
   pub tables : Tables
   pub codes : List ℕ
 
--- what an accepted shop keeps; so no item needs itself
+-- what holds of an accepted shop; so no item needs itself
 pub record IsShop (s : Shop) : Type 0 where
   pub size : length s.codes ≡ length s.tables.items
   pub codes : AreCodes s.tables.bills (slice_index s.codes)

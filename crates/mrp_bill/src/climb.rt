@@ -1,9 +1,9 @@
-//! A walk up through parents that puts every item behind its parents, as far as there is no loop.
+//! A walk up through parents that orders every item after its parents, if there is no loop.
 
 use mrp_qty::NoMemory;
 use std::alloc::Global;
 
-// How far the walk is with an item.
+// The state of an item in the walk.
 #[derive(Clone, Copy)]
 enum Stage {
     New,
@@ -17,14 +17,14 @@ enum Stage {
 #[derive(Drop)]
 struct Climb {
     stages: Vec<Stage>,
-    // How many of each item's parents the walk hasn't passed.
+    // The number of each item's parents that the walk has not passed.
     left: Vec<usize>,
     stack: Vec<usize>,
     order: Vec<usize>,
     closed: bool,
 }
 
-// The items in an order, and whether a loop was met.
+// The items in an order, and whether a loop was found.
 #[derive(Drop)]
 pub struct Order {
     pub items: Vec<usize>,

@@ -27,7 +27,7 @@ fn code_below(parents: &[usize], codes: &[usize]) -> usize
     code
 }
 
-// The items' low-level codes, from an order in which parents stand before their components.
+// The items' low-level codes, from an order in which parents come before their components.
 pub fn codes_of(
     alloc: Global,
     parents: &Grouped<usize>,
@@ -48,7 +48,7 @@ pub fn codes_of(
     Ok(codes)
 }
 
-// The greatest code, 0 where there is none.
+// The greatest code, 0 if there is none.
 pub fn greatest(codes: &[usize]) -> usize
     ensures greatest { All (λ code. code ≤ result) codes.now }
     ensures reached { (result ≡ 0) ⊎ Contains codes.now result }

@@ -1,16 +1,16 @@
-//! Why tables make no shop.
+//! Why tables are not a shop.
 
 use mrp_qty::NoMemory;
 use thiserror::Error;
 
-/// Why tables make no shop.
+/// Why tables are not a shop.
 #[derive(Debug, Drop, Error)]
 pub enum BillFault {
     /// An item needs itself. The path is a chain of items, by their places in the table, each the
     /// parent of the next, that begins and ends at the first item in table order that needs itself.
     #[error("loop")]
     Loop { path: Vec<usize> },
-    /// A growth of memory was refused.
+    /// An allocation failed.
     #[error("no memory")]
     NoMemory,
 }

@@ -5,8 +5,8 @@ ghost use Rattle.mrp_bill.specs.Bill.{AreCodes, AreWithin, Chain, IsCode, IsFirs
 ghost use Rattle.mrp_bill.specs.Shop.{IsShop, Shop};
 ghost use Rattle.mrp_tables.specs.Tables.{Tables};
 
-/// Codes that rise along each line, each above 0 one above a parent's, are the low-level codes, of
-/// which an item has one alone; and then no item needs itself.
+/// Codes that rise along each line, each above 0 one above a parent's, are the low-level codes, and an
+/// item has only one; and then no item needs itself.
 pub fn codes()
     ensures no_loop { (lines : List _) (code : ℕ → ℕ) → AreCodes lines code → (i : ℕ) → NeedsItself lines i → ⊥ }
     ensures greatest { (lines : List _) (code : ℕ → ℕ) → AreCodes lines code → (i : ℕ) → IsCode lines i (code i) }
@@ -18,7 +18,7 @@ pub fn shops()
     ensures { (a b : _) → IsShop a → IsShop b → a.tables ≡ b.tables → a ≡ b }
 {}
 
-/// A chain of lines is a path that passes an item with each line, and a loop's path is a chain that
+/// A chain of lines is a path that visits an item with each line, and a loop's path is a chain that
 /// leads from its item to itself.
 pub fn paths()
     ensures chains { (lines : List _) (n a b : ℕ) → Chain lines n a b ↔ ((rest : List ℕ) × (length rest ≡ n) × IsPath lines a rest b) }
@@ -26,13 +26,13 @@ pub fn paths()
 {}
 
 /// A bill has a first item that needs itself, or no item needs itself and each has a low-level code;
-/// and its tables have the path of a loop, or make a shop.
+/// and its tables have the path of a loop, or are a shop.
 pub fn loops()
     ensures first { (count : ℕ) (lines : List _) → AreWithin count lines → ((i : ℕ) × IsFirstLoop lines i) ⊎ (((i : ℕ) → NeedsItself lines i → ⊥) × ((i : ℕ) → (n : ℕ) × IsCode lines i n)) }
     ensures shop { (tables : Tables) → AreWithin (length tables.items) tables.bills → ((path : List ℕ) × IsLoopPath tables.bills path) ⊎ ((shop : Shop) × IsShop shop × (shop.tables ≡ tables)) }
 {}
 
-/// The lines at the places to an item are the lines in which it is the component, in table order.
+/// The lines at an item's line places are those in which it is the component, in table order.
 pub fn lines()
     ensures { (lines : List _) (i : ℕ) → map (line_at lines) (lines_of lines i) ≡ filter (λ line. line.component == i) lines }
 {}

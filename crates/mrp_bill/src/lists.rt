@@ -1,4 +1,4 @@
-//! A list for each of some places: of each item the lines to it, its parents, its components.
+//! A list for each place: for each item the lines to it, its parents, its components.
 
 ghost use Rattle.std.specs.Prelude.{◌≡◌, ◌<◌, [], ℕ, length, OnOk, IfOk};
 ghost use Rattle.mrp_bill.specs.Lists.{listed, Appends};
@@ -15,7 +15,7 @@ pub struct Lists {
     pub children: Grouped<usize>,
 }
 
-/// As many empty lists.
+/// A number of empty lists.
 pub fn empty_lists<X: Drop>(alloc: Global, count: usize) -> Result<Vec<Vec<X>>, NoMemory>
     ensures size { IfOk result (λ lists. length lists.items ≡ count) }
     ensures empty { IfOk result (λ lists. (i : ℕ) → listed lists.items i ≡ []) }
@@ -27,7 +27,7 @@ pub fn empty_lists<X: Drop>(alloc: Global, count: usize) -> Result<Vec<Vec<X>>, 
     Ok(lists)
 }
 
-/// Puts an element at the end of the list at a place.
+/// Appends an element to the list at a place.
 pub fn append<X: Drop>(lists: &mut Vec<Vec<X>>, at: usize, x: X) -> Result<(), NoMemory>
     requires { at < length lists.old.items }
     ensures { OnOk result (Appends lists.old.items lists.new.items at x) }

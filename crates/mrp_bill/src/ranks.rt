@@ -7,7 +7,7 @@ use crate::groups::Grouped;
 use mrp_qty::NoMemory;
 use std::alloc::Global;
 
-// The ranks that were given so far, and the items whose components are still to be looked at.
+// The ranks so far, and the items whose components are still to be visited.
 #[derive(Drop)]
 struct Ranking {
     seen: Vec<bool>,
@@ -20,7 +20,7 @@ impl Ranking {
     ghost use Rattle.mrp_bill.specs.Grouped.{IsListed};
     ghost use Rattle.mrp_bill.specs.Ranking.{IsRanking, to_do};
 
-    // Gives an item its rank, and puts it on the stack.
+    // Gives an item its rank, and pushes it onto the stack.
     fn give(&mut self, item: usize, rank: usize) -> Result<(), NoMemory>
         requires ranking { IsRanking self.old }
         requires within { item < length self.old.seen.items }
@@ -66,9 +66,9 @@ impl Ranking {
     }
 }
 
-// Ranks that don't rise from a parent to its component, and that items have in common exactly where
-// they need each other, if the order is the one in which a walk up through parents left the items
-// (the second pass of Kosaraju's search for strong components). Nothing rests on that but speed.
+// Ranks that do not rise from a parent to its component, and that items share exactly where they need
+// each other, if the order is the one in which a walk up through parents left the items (the second
+// pass of Kosaraju's search for strong components). Only speed depends on that.
 pub fn ranks_of(
     alloc: Global,
     children: &Grouped<usize>,

@@ -1,9 +1,9 @@
-//! A search up through parents for the way from an item to itself.
+//! A search up through parents for a path from an item to itself.
 
 use mrp_qty::NoMemory;
 use std::alloc::Global;
 
-// An item that a search up through parents met, and the place among those met of the one whose
+// An item found by a search up through parents, and the place, among the items found, of the one whose
 // parent it is.
 #[derive(Clone, Copy)]
 struct Met {
@@ -11,7 +11,7 @@ struct Met {
     below: usize,
 }
 
-// The items met by a search up through parents.
+// The items found by a search up through parents.
 #[derive(Drop)]
 struct Search {
     met: Vec<Met>,

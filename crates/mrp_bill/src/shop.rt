@@ -13,8 +13,8 @@ use mrp_tables::Tables;
 use std::alloc::Global;
 use std::marker::Model;
 
-/// An accepted shop: tables in which no item needs itself, with the ways through their bill of
-/// material. Items are named by their places in the table, from 0.
+/// An accepted shop: tables in which no item needs itself, with the parents, the components and the
+/// low-level code of each item. Items are named by their places in the table, from 0.
 #[derive(Drop)]
 pub struct Shop {
     tables: Tables,
@@ -77,7 +77,7 @@ impl Shop {
         self.lists.lines.group(item)
     }
 
-    /// All items, each once, in an order in which parents stand before their components.
+    /// All items, each once, in an order in which parents come before their components.
     pub fn order(&self) -> &[usize]
         ensures { IsOrder self.now.tables.bills (length self.now.tables.items) result.now }
     {
@@ -101,7 +101,7 @@ impl Shop {
     }
 }
 
-// Why tables with a loop make no shop: the loop's path, or that no memory was left to find it.
+// Why tables with a loop are not a shop: the loop's path, or out of memory in the search for it.
 fn loop_fault(path: Result<Vec<usize>, NoMemory>) -> BillFault
     ensures { result ≡ loop_fault path }
 {
@@ -120,11 +120,10 @@ impl Bill {
     ghost use Rattle.mrp_bill.specs.Fault.{IsRefusal};
     ghost use Rattle.mrp_bill.specs.Shop.{IsShop};
 
-    /// The shop of these tables, which are given up.
+    /// The shop of these tables, which it consumes.
     ///
-    /// Errors: `Loop` where an item needs itself, with a path that begins and ends at the first such
-    /// item in table order, and `NoMemory`. Where no item needs itself, want of memory is the only
-    /// refusal.
+    /// Errors: `Loop` if an item needs itself, with a path that begins and ends at the first such item in
+    /// table order, and `NoMemory`. If no item needs itself, `NoMemory` is the only error.
     pub fn of(alloc: Global, tables: Tables) -> Result<Shop, BillFault>
         ensures shop { IfOk result (λ shop. shop.tables ≡ tables) }
         ensures accepted { IfOk result IsShop }

@@ -1,4 +1,4 @@
--- What is booked of an item, week by week.
+-- The booked quantity of an item, week by week.
 use Rattle.std.specs.Prelude.{All, replicate, sum_by}
 use Rattle.std.proofs.Common.{◌≡◌, ◌≢◌, ℕ, ◌+◌, ◌<◌, ◌≤◌, inl, inr, Bool, true, false, List, [], ◌∷◌, ◌++◌, length, get_or, take, drop, refl, sym, ap, subst, ◌∙◌, arith}
 use Rattle.std.proofs.lemmas.Bool.{cases_eq}
@@ -30,7 +30,7 @@ due_in-le-all item week (b ∷ bs) =
 pub little_together : (weeks : ℕ) (bs : List Booking) → sum_by (λ (b : Booking). b.line.quantity) bs ≤ greatest_quantity → AreLittle weeks bs
 little_together weeks bs h item week a b = omega (arith, due_in-le-all item week bs)
 
--- of an item that is no master item nothing is booked
+-- nothing is booked of an item that is not a master item
 nothing_of : (s : Supply) (item week : ℕ) (bs : List Booking) → ¬ IsMaster s item → All (λ (b : Booking). IsLine s b.line) bs → due_in item week (lines_of bs) ≡ 0
 nothing_of s item week [] fails all = refl
 nothing_of s item week (b ∷ bs) fails all =
@@ -39,7 +39,7 @@ nothing_of s item week (b ∷ bs) fails all =
     let apart : item ≢ b.line.item = λ (e : item ≡ b.line.item). fails (subst (IsMaster s) (sym e) inside.item) in
     omega (arith, due_in-cons item week b.line (lines_of bs), part_other_item item week b.line apart, nothing_of s item week bs fails (All-tail In b bs all))
 
--- what a book books is little
+-- what a book books is within the greatest quantity
 pub little_booked : (s : Supply) (bs : List Booking) → IsSupply s → AreBooked s bs → AreLittle s.weeks bs
 little_booked s bs supplied booked item week a b = by (get_or s.masters item false) refl
   where
@@ -49,7 +49,7 @@ little_booked s bs supplied booked item week a b = by (get_or s.masters item fal
         let fails : ¬ IsMaster s item = λ (h : IsMaster s item). let bad : true ≡ false = sym h ∙ e in cc in
         omega (arith, nothing_of s item week bs fails booked.lines)
 
--- One booking after the other.
+-- Booking by booking.
 
 abbrev pub demand_of : List Booking → ℕ → ℕ → ℕ
 demand_of bs item week = due_in item week (lines_of bs)

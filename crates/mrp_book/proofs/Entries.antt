@@ -43,7 +43,7 @@ find-all P p (x ∷ bs) b e all = by (find-all P p bs b) (p x) refl
         subst P own (All-head P x bs all)
     by rest false t = rest (sym (ap (λ (v : Bool). if v then Some x else find p bs) t) ∙ e) (All-tail P x bs all)
 
--- One booking less.
+-- One booking fewer.
 
 less_due : (item week : ℕ) (made : List Made) (i : ℕ) → i < length made → (get_or made i nothing_made).stands ≡ true
     → due_in item week (lines_of (standing_of made)) ≡ due_in item week (lines_of (standing_of (set made i (cancelled (get_or made i nothing_made))))) + part item week (get_or made i nothing_made).booking.line
@@ -82,7 +82,7 @@ module _ (s : Supply) (entries : ℕ) (rows : List (Option AtpRow)) (made : List
   pub row_found : (item : ℕ) (found : Option AtpRow) → IsMaster s item → found ≡ get_or rows item found → found ≡ Some (atp_row s item due)
   row_found item found master here = here ∙ get_or_default rows item found None (row_inside item master) ∙ k.by_item item master
 
-  -- the rows where one has changed, and with it what is due
+  -- the rows after one has changed, and with it what is due
   changed_rows : (item : ℕ) (new : Option AtpRow) (later : List Booking) → IsMaster s item → new ≡ Some (atp_row s item (lines_of later))
       → ((other : ℕ) → other ≢ item → atp_row s other due ≡ atp_row s other (lines_of later)) → HasRows s (set rows item new) later
   changed_rows item new later master here others other is = elim (cases_eq other item) [
@@ -163,7 +163,7 @@ module _ (s : Supply) (entries : ℕ) (rows : List (Option AtpRow)) (made : List
           few = omega arith;
         })
 
-  -- A booking less.
+  -- One booking cancelled.
 
   module _ (place : ℕ) (m : Made) (inside : place < length made) (here : m ≡ get_or made place m) where
     m_is : m ≡ get_or made place nothing_made
@@ -205,7 +205,7 @@ module _ (s : Supply) (entries : ℕ) (rows : List (Option AtpRow)) (made : List
         subst (λ (x : Made). due_in item week due ≡ due_in item week (lines_of (standing_of (set made place (cancelled x)))) + part item week x.booking.line) (sym m_is)
         (less_due item week made place inside (ap (λ (x : Made). x.stands) (sym m_is) ∙ stands))
 
-    -- what stands after it
+    -- the standing bookings after it
     pub standing_after_cancel : standing_of after ≡ filter (is_other m.booking.number) (standing_of made)
     standing_after_cancel =
         sym (others-at made m.booking.number place inside (own_number nothing_made) (others_differ made k.rising m.booking.number place inside (own_number nothing_made))

@@ -25,19 +25,19 @@ use Rattle.mrp_book.proofs.Standings.{standing-more, not_cancelled, covered-fewe
 abbrev pub E : Type 0
 E = Entry Call Reply
 
--- the entries in turn
+-- the entries in order
 abbrev pub IsLegalFrom : Supply → History → History → Type 0
 IsLegalFrom s before h = InTurn (MayFollow s) before h
 
 module _ (s : Supply) where
-  -- a history with no entry is legal, and one more entry that may follow keeps it so
+  -- a history without entries is legal, and one more entry that may follow keeps it legal
   pub legal-none : IsLegal s []
   legal-none = EachFollows-nil (MayFollow s)
 
   pub legal-more : (h : History) (e : E) → IsLegal s h → MayFollow s h e → IsLegal s (h ++ e ∷ [])
   legal-more h e legal m = EachFollows-more (MayFollow s) h e legal m
 
-  -- the front of a legal history is legal
+  -- a prefix of a legal history is legal
   pub legal-front : (h more : History) → IsLegal s (h ++ more) → IsLegal s h
   legal-front h more legal = EachFollows-front (MayFollow s) h more legal
 
@@ -75,14 +75,14 @@ module _ (s : Supply) where
   unfolding standing
   nothing-covered i m t w = omega arith
 
-  -- a legal history is covered, and so is each front of it
+  -- a legal history is covered, and so is each prefix of it
   pub legal-covered : (h : History) → IsLegal s h → IsCovered s (booked h)
   legal-covered h legal = covered-from [] h (InTurn-from_Each (MayFollow s) [] h legal) nothing-covered
 
   pub prefix-covered : (h more : History) → IsLegal s (h ++ more) → IsCovered s (booked h)
   prefix-covered h more legal = legal-covered h (legal-front h more legal)
 
-  -- What stands is of the shop.
+  -- The standing bookings are of the shop.
 
   abbrev pub IsOfShop : Booking → Type 0
   IsOfShop b = IsLine s b.line

@@ -15,7 +15,7 @@ use Rattle.mrp_book.specs.declared.booking.Booking.{Booking}
 use Rattle.mrp_book.specs.declared.made.Made.{Made}
 use Rattle.mrp_book.specs.Made.{IsRising, standing_of}
 
--- a place holder, past the end
+-- a placeholder, beyond the end
 abbrev pub nothing_made : Made
 nothing_made = record { booking = record { number = 0; desk = 0; line = record { item = 0; week = 0; quantity = 0 } }; stands = false }
 
@@ -35,7 +35,7 @@ module _ (made : List Made) (rising : IsRising made) (n : ℕ) where
       let up : number_at made i ≤ number_at made j = not_falling i j le within in
       grind (arith, nat_tests))
 
-  -- a binary search by number ends at the booking with the number, or none has it
+  -- a binary search by number finds the booking with the number, or no booking has it
   pub searched : (r : Result ℕ ℕ) → IsSearchInRange r (length made) → IsBinarySearchResult (λ (m : Made). nat_cmp m.booking.number n) made r
       → record { within : IfSome (result_ok r) (λ place. place < length made); found : IfSome (result_ok r) (HoldsAt (λ (m : Made). m.booking.number ≡ n) made); none : IfNone (result_ok r) (All (λ (m : Made). m.booking.number ≢ n) made) }
   searched (Ok place) within equal = record { within = within; found = λ d. ranked _ n _ (sym (equal d)); none = tt }
@@ -55,7 +55,7 @@ module _ (made : List Made) (rising : IsRising made) (n : ℕ) where
     | inr after ↦ let h : number_at made i < number_at made k = rising i k nothing_made (omega arith) within in omega arith
   ]
 
--- One booking more.
+-- One more booking.
 
 pub standing_of-push : (made : List Made) (b : Booking) → standing_of (made ++ record { booking = b; stands = true } ∷ []) ≡ standing_of made ++ b ∷ []
 standing_of-push made b =
@@ -142,7 +142,7 @@ find-at (m ∷ ms) n (suc i) inside here others = by (find-at ms n i (omega arit
         ap (find (has_number n)) (standing_of-cons m ms true e) ∙ find-cons m.booking (standing_of ms) n false (ne_eqb m.booking.number n (others 0 (omega arith) (omega arith))) ∙ rest
     by rest false e = ap (find (has_number n)) (standing_of-cons m ms false e) ∙ rest
 
--- a booking that stands no more
+-- a booking that no longer stands
 abbrev pub cancelled : Made → Made
 cancelled m = record { booking = m.booking; stands = false }
 

@@ -1,4 +1,4 @@
--- What legal histories keep: what was promised, under which numbers, what was snapped, and who called.
+-- What holds of legal histories: what was promised, under which numbers, the snapshots, and who called.
 use Rattle.std.specs.Prelude.{All, AllPairs, filter}
 use Rattle.std.proofs.Common.{ℕ, ◌≡◌, ◌<◌, ◌+◌, ◌==◌, inl, inr, true, false, if◌then◌else◌, nat_le, List, [], ◌∷◌, ◌++◌, find, take, length, get_or, Option, Some, None, arith, refl, sym, ◌∙◌, ap, subst}
 use Rattle.std.proofs.lemmas.Bool.{cases_lt}
@@ -49,7 +49,7 @@ module _ (s : Supply) where
   when_takes_none None t e = cc
   when_takes_none (Some w) t e = cc
 
-  -- a snapshot is what a call for it is answered, and no other call
+  -- only a call for a snapshot is answered with a snapshot
   taken : (h : History) (desk : ℕ) (c : Call) (t : Snapshot) → IsReply s h desk c (reply.Taken t) → (c ≡ call.Snapshot) × (t ≡ record { front = next_number h; weeks = s.weeks; standing = standing h })
   taken h desk (call.Book l) t (a, available, e) = absurd ((elim (nat_le l.quantity a) as (λ v. reply.Taken t ≡ (if v then reply.Booked (next_number h) else reply.Short a) → ⊥) [ true ↦ λ e. cc | false ↦ λ e. cc ]) e)
   taken h desk (call.Cancel n) t e = absurd (cancel_takes_none desk (find (λ b. b.number == n) (standing h)) t e)
@@ -83,7 +83,7 @@ module _ (s : Supply) where
   pub desks : (h : History) → IsLegal s h → AreFrom 64 h
   desks h legal = desks_from [] h (InTurn-from_Each (MayFollow s) [] h legal)
 
-  -- The numbers of what stands rise, none past the last entry.
+  -- The numbers of the standing bookings rise, none after the last entry.
 
   abbrev Rises : ℕ → List Booking → Type 0
   Rises next bs = AllPairs IsBefore bs × All (λ b. b.number < next) bs

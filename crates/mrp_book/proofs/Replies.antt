@@ -1,4 +1,4 @@
--- What the replies in a state say.
+-- What holds of the replies in a state.
 use Rattle.std.proofs.Common.{ℕ, ◌≡◌, ◌+◌, inl, inr, Bool, true, false, if◌then◌else◌, nat_le, arith, ◌∙◌, ap}
 use Rattle.std.proofs.lemmas.Bool.{cases_lt}
 use Rattle.std.proofs.lemmas.Bool.Decides.{nat_tests}

@@ -1,4 +1,4 @@
--- What stands in a legal history, and at its snapshots, is what a book of the shop may have.
+-- The standing bookings of a legal history, and of its snapshots, are such as a book of the shop may have.
 use Rattle.std.proofs.Common.{◌≡◌, ◌∙◌, ℕ, ◌+◌, ◌<◌, List, ◌∷◌, ◌++◌, length, take, drop, get_or, sym, ap, subst}
 use Rattle.std.proofs.lemmas.List.{drop_more, take-append-drop}
 use Rattle.mrp_turn.specs.declared.log.Entry.{Entry}

@@ -1,4 +1,4 @@
--- What stands after one more entry.
+-- The standing bookings after one more entry.
 use Rattle.std.specs.Prelude.{filter, not}
 use Rattle.std.specs.List.{list_any}
 use Rattle.std.proofs.Common.{ℕ, ◌≡◌, ◌≤◌, ◌+◌, ◌==◌, ◌&&◌, ◌||◌, Bool, true, false, if◌then◌else◌, nat_le, List, [], ◌∷◌, ◌++◌, Option, Some, None, arith, refl, sym, ◌∙◌, ap, append_assoc}
@@ -19,7 +19,7 @@ use Rattle.mrp_master.specs.Supply.{Supply, due_by, supply, IsCovered}
 use Rattle.mrp_book.specs.Standing.{History, standing, kept, booking_of, is_cancel_of, is_cancelled_in, stands_after}
 use Rattle.mrp_book.specs.Bookings.{lines_of}
 
--- the bookings that an entry leaves
+-- the bookings after an entry
 abbrev pub not_cancelled : Call → Reply → Booking → Bool
 not_cancelled c r b = not (is_cancel_of b.number c r)
 
@@ -53,7 +53,7 @@ all-kept (b ∷ bs) = ap (λ x. b ∷ x) (all-kept bs)
 nothing-changed : (bs : List Booking) → filter (λ b. true) bs ++ [] ≡ bs
 nothing-changed bs = append-nil (filter (λ b. true) bs) ∙ all-kept bs
 
--- what stands after one more entry, call by call
+-- the standing bookings after one more entry, call by call
 pub standing_after : (h : History) (desk : ℕ) (c : Call) (r : Reply) → standing (h ++ entry desk c r ∷ []) ≡ stands_after desk c r (standing h)
 standing_after h desk (call.Book l) (reply.Booked n) = standing-more h (entry desk (call.Book l) (reply.Booked n)) ∙ ap (λ x. x ++ record { number = n; desk = desk; line = l } ∷ []) (all-kept (standing h))
 standing_after h desk (call.Book l) (reply.Short q) = standing-more h (entry desk (call.Book l) (reply.Short q)) ∙ nothing-changed (standing h)
@@ -83,7 +83,7 @@ standing_after h desk call.Front r = standing-more h (entry desk call.Front r) �
 pub due_by-append : (item week : ℕ) (xs ys : List Line) → due_by item week (xs ++ ys) ≡ due_by item week xs + due_by item week ys
 due_by-append item week xs ys = sum_by-append (λ l. if (l.item == item) && nat_le l.week week then l.quantity else 0) xs ys
 
--- a part of the bookings is due for no more
+-- no more is due by a part of the bookings
 due_by-fewer : (item week : ℕ) (p : Booking → Bool) (bs : List Booking) → due_by item week (lines_of (filter p bs)) ≤ due_by item week (lines_of bs)
 due_by-fewer item week p [] = omega arith
 due_by-fewer item week p (b ∷ bs) =

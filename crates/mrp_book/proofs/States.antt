@@ -1,4 +1,4 @@
--- The states that histories leave.
+-- The states after histories.
 use Rattle.std.proofs.Common.{ℕ, ◌≡◌, ◌<◌, ◌++◌, ◌∷◌, [], length, refl, sym, ◌∙◌, ap, subst, arith}
 use Rattle.std.proofs.lemmas.List.{length_push}
 use Rattle.mrp_turn.specs.declared.log.Entry.{Entry}
@@ -13,7 +13,7 @@ use Rattle.mrp_book.specs.Books.{KeepsHistory}
 use Rattle.mrp_book.proofs.Standings.{standing_after}
 use Rattle.mrp_book.proofs.Histories.{legal-more, legal-none}
 
--- a history without an entry
+-- a history without entries
 pub state_none : (s : Supply) → state_of s [] ≡ record { supply = s; entries = 0; standing = [] }
 unfolding standing
 state_none s = refl
@@ -22,7 +22,7 @@ state_none s = refl
 pub state_more : (s : Supply) (h : History) (desk : ℕ) (c : Call) (r : Reply) → state_of s (h ++ entry desk c r ∷ []) ≡ state_after (state_of s h) desk c r
 state_more s h desk c r = λ i. record { supply = s; entries = length_push h (entry desk c r) i; standing = standing_after h desk c r i }
 
--- a book without an entry
+-- a book without entries
 pub keeps_none : (b : BookState) (h : History) (s : Supply) → b ≡ record { supply = s; entries = 0; standing = [] } → h ≡ [] → KeepsHistory b h
 keeps_none b h s opened none = subst (KeepsHistory b) (sym none) (subst (λ x. KeepsHistory x []) (sym (opened ∙ sym (state_none s))) (record { history = record { legal = legal-none s; few = omega arith }; left = refl }))
 

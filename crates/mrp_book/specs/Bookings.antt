@@ -9,7 +9,7 @@ use Rattle.mrp_book.specs.declared.booking.Booking.{Booking}
 abbrev pub lines_of : List Booking → List Line
 lines_of bookings = map (λ b. b.line) bookings
 
--- in no week of a horizon is more of an item due than the greatest quantity
+-- in each week of a horizon, no more of an item is due than the greatest quantity
 abbrev pub AreLittle : ℕ → List Booking → Type 0
 AreLittle weeks bookings = (item week : ℕ) → 1 ≤ week → week ≤ weeks → due_in item week (lines_of bookings) ≤ greatest_quantity
 

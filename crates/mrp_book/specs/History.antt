@@ -22,7 +22,7 @@ abbrev pub week_reply : Option ℕ → Reply
 week_reply None = reply.NoWeek
 week_reply (Some week) = reply.Week week
 
--- what a desk's cancel of a booking is answered, if it stands
+-- the reply to a desk's cancel of a booking, if it stands
 abbrev pub cancel_reply : ℕ → Option Booking → Reply
 cancel_reply desk None = reply.NotStanding
 cancel_reply desk (Some b) = if b.desk == desk then reply.Cancelled else reply.NotYours
@@ -38,11 +38,11 @@ IsReplyIn b desk (call.When w) r = (week : Option ℕ) × IsEarliest b.supply (l
 IsReplyIn b desk call.Snapshot r = r ≡ reply.Taken (record { front = b.entries + 1; weeks = b.supply.weeks; standing = b.standing })
 IsReplyIn b desk call.Front r = r ≡ reply.Front (b.entries + 1)
 
--- the state that an entry leaves
+-- the state after an entry
 abbrev pub state_after : BookState → ℕ → Call → Reply → BookState
 state_after b desk c r = record { supply = b.supply; entries = b.entries + 1; standing = stands_after desk c r b.standing }
 
--- the state that a history leaves
+-- the state after a history
 abbrev pub state_of : Supply → History → BookState
 state_of s h = record { supply = s; entries = length h; standing = standing h }
 
@@ -67,15 +67,15 @@ MayFollow s h e = IsSeatNumber e.who × IsReply s h e.who e.call e.reply × Fits
 abbrev pub IsLegal : Supply → History → Type 0
 IsLegal s h = EachFollows (MayFollow s) h
 
--- so many entries that a book takes no more
+-- a book's limit of entries
 abbrev pub IsLimit : ℕ → Type 0
 IsLimit entries = MOST_ENTRIES ≤ entries
 
--- a book that takes no more entries
+-- a book at its limit
 abbrev pub IsFull : History → Type 0
 IsFull h = IsLimit (length h)
 
--- a call that takes memory in a state: a booking that can be promised, and a snapshot
+-- a call that allocates in a state: a booking that can be promised, and a snapshot
 abbrev pub TakesMemory : BookState → Call → Type 0
 TakesMemory b (call.Book l) = CanPromise b.supply (lines_of b.standing) l.item l.quantity l.week
 TakesMemory b call.Snapshot = Unit {0}

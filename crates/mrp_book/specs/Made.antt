@@ -1,4 +1,4 @@
--- What a state of the book is kept as.
+-- The representation of a book's state.
 use Rattle.std.specs.Prelude.{ℕ, ◌≡◌, ◌≤◌, ◌<◌, List, All, map, filter, length, Option, Some, None}
 use Rattle.std.specs.List.{slice_index_or}
 use Rattle.mrp_book.specs.declared.booking.Booking.{Booking}
@@ -9,7 +9,7 @@ use Rattle.mrp_master.specs.AtpRow.{AtpRow, atp_row}
 use Rattle.mrp_book.specs.Booked.{AreBooked}
 use Rattle.mrp_book.specs.Bookings.{lines_of}
 
--- those of the bookings made that stand
+-- the standing ones of the bookings made
 abbrev pub standing_of : List Made → List Booking
 standing_of made = map (λ m. m.booking) (filter (λ m. m.stands) made)
 
@@ -21,7 +21,7 @@ IsRising made = (i j : ℕ) (d : Made) → i < j → j < length made → (slice_
 abbrev pub HasRows : Supply → List (Option AtpRow) → List Booking → Type 0
 HasRows s rows standing = (item : ℕ) → IsMaster s item → slice_index_or rows item None ≡ Some (atp_row s item (lines_of standing))
 
--- the rows say what is booked, and each booking was made by an entry, by rising numbers
+-- the rows have what is booked, and each booking was made by an entry, in order of rising numbers
 pub record KeepsState (s : Supply) (entries : ℕ) (rows : List (Option AtpRow)) (made : List Made) : Type 0 where
   pub supplied : IsSupply s
   pub by_item : HasRows s rows (standing_of made)

@@ -1,4 +1,4 @@
--- The bookings that stand in a history.
+-- The standing bookings of a history.
 use Rattle.std.specs.Prelude.{ℕ, ◌==◌, Bool, false, if◌then◌else◌, List, [], ◌∷◌, ◌++◌, filter, not, Option, Some, None}
 use Rattle.std.specs.List.{list_any}
 use Rattle.mrp_turn.specs.declared.log.Entry.{Entry}
@@ -36,11 +36,12 @@ unfoldable pub standing : History → List Booking
 standing [] = []
 standing (e ∷ later) = kept later (booking_of e.who e.call e.reply) ++ standing later
 
--- what stands, as quantities due
+-- the standing bookings, as quantities due
 abbrev pub booked : History → List Line
 booked h = lines_of (standing h)
 
--- what stands after one more entry, of what stood before it: a call answered Booked adds its booking, and one answered Cancelled takes the booking out that it names
+-- the standing bookings after one more entry, from those before it: a call answered Booked adds its booking, and one
+-- answered Cancelled removes the booking that it names
 abbrev pub stands_after : ℕ → Call → Reply → List Booking → List Booking
 stands_after desk (call.Book l) (reply.Booked n) bookings = bookings ++ record { number = n; desk = desk; line = l } ∷ []
 stands_after desk (call.Cancel n) reply.Cancelled bookings = filter (λ b. not (n == b.number)) bookings

@@ -39,7 +39,7 @@ impl Book {
 
     /// The order book of a shop, without an entry.
     ///
-    /// Errors: `NoMemory` where memory is refused.
+    /// Errors: `NoMemory` if an allocation fails.
     pub fn open(alloc: Global, shop: &Shop) -> Result<Book, NoMemory>
         ensures { IfOk result (λ b. b ≡ record { supply = supply_of shop.now.tables; entries = [] }) }
     {
@@ -48,11 +48,11 @@ impl Book {
         Ok(Book { state, entries })
     }
 
-    /// Answers a desk's call, and makes an entry of it: the entry's number, and the reply. The
-    /// caller owes a desk from 1 to 64, and a call that was made for an equal shop.
+    /// Answers a desk's call, and makes an entry of it: returns the entry's number and the reply. The
+    /// desk must be from 1 to 64, and the call must have been made for an equal shop.
     ///
-    /// Errors: `Full` exactly where the book has 1,000,000 entries, before all else, and `NoMemory`
-    /// where memory is refused. Nothing has changed then.
+    /// Errors: `Full` exactly if the book has 1,000,000 entries, before all else, and `NoMemory` if an
+    /// allocation fails. After an error the book is unchanged.
     pub fn call(&mut self, alloc: Global, desk: u64, call: Call) -> Result<(u64, Reply), Refused>
         requires desk { IsInRange 1 MOST_DESKS desk }
         requires fits { Fits self.old.supply call }
@@ -78,7 +78,7 @@ impl Book {
         Ok((number, reply))
     }
 
-    /// Whether the book has 1,000,000 entries: every call is refused then.
+    /// Whether the book has 1,000,000 entries: then every call is refused.
     pub fn is_full(&self) -> bool
         ensures { IsTrue result ↔ IsFull self.now.entries }
     {

@@ -7,9 +7,8 @@ use mrp_tables::limits::MOST_ENTRIES;
 use mrp_turn::Entry;
 use std::marker::Model;
 
-/// What an order book was asked and what it replied, entry by entry, with the supply that it
-/// promised of. It is legal: the entries before an entry decide its reply; and it has at most
-/// 1,000,000 of them.
+/// The calls on an order book and its replies, entry by entry, with the supply that it promised from.
+/// It is legal: the entries before an entry decide its reply; and it has at most 1,000,000 entries.
 #[derive(Drop)]
 pub struct History {
     supply: Supply,
@@ -31,8 +30,8 @@ impl History {
     ghost use Rattle.mrp_book.specs.Books.{OrderBook};
     ghost use Rattle.mrp_book.specs.History.{IsLegal};
 
-    /// The history of entries that are legal over a supply, which the caller owes; None exactly
-    /// where there are more than 1,000,000. It takes no memory.
+    /// The history of entries, which must be legal over the supply; `None` exactly if there are more
+    /// than 1,000,000. It does not allocate.
     pub fn new(supply: Supply, entries: Vec<Entry<Call, Reply>>) -> Option<History>
         requires { IsLegal supply entries.items }
         ensures value { IfSome result (λ h. h ≡ record { supply = supply; entries = entries.items }) }

@@ -21,17 +21,17 @@ pub fn histories()
     ensures covered { (s : Supply) (before after : History) → IsLegal s (before ++ after) → IsCovered s (booked before) }
     // One more entry that may follow keeps a history legal.
     ensures more { (s : Supply) (h : History) (e : _) → IsLegal s h → MayFollow s h e → IsLegal s (h ++ e ∷ []) }
-    // A call that fits has a reply, and a call has no two.
+    // A call that fits has exactly one reply.
     ensures some_reply { (s : Supply) (h : History) (desk : ℕ) (c : _) → IsLegal s h → Fits s c → (r : _) × IsReply s h desk c r }
     ensures one_reply { (s : Supply) (h : History) (desk : ℕ) (c : _) (q r : _) → IsReply s h desk c q → IsReply s h desk c r → q ≡ r }
     // Calls of desks that fit have a legal history, and legal histories with the same calls are the same.
     ensures some_history { (s : Supply) (calls : List (ℕ × Call)) → All (λ a. IsSeatNumber a.0 × Fits s a.1) calls → (h : History) × IsLegal s h × (asked h ≡ calls) }
     ensures one_history { (s : Supply) (g h : History) → IsLegal s g → IsLegal s h → asked g ≡ asked h → g ≡ h }
-    // What stands is of master items, in weeks of the horizon, of pieces that can be booked.
+    // Standing bookings are of master items, in weeks of the horizon, of pieces that can be booked.
     ensures lines { (s : Supply) (h : History) → IsLegal s h → All (λ b. IsLine s b.line) (standing h) }
     // Each desk's number is from 1 to 64.
     ensures desks { (s : Supply) (h : History) → IsLegal s h → AreFrom MOST_DESKS h }
-    // Counted by desk, its entries are all of them.
+    // Counted by desk, these are all entries.
     ensures counts { (s : Supply) (h : History) → IsLegal s h → sum_by (λ desk. length (entries_by desk h)) (range_with_len 1 MOST_DESKS) ≡ length h }
 {}
 
@@ -41,7 +41,7 @@ pub fn bookings()
     ensures within { (s : Supply) (before after : History) (desk number : ℕ) (l : _) → IsLegal s (before ++ entry desk (call.Book l) (reply.Booked number) ∷ after) → CanPromise s (booked before) l.item l.quantity l.week }
     // A booking's number is that of its entry.
     ensures number { (s : Supply) (before after : History) (desk number : ℕ) (l : _) → IsLegal s (before ++ entry desk (call.Book l) (reply.Booked number) ∷ after) → number ≡ next_number before }
-    // What stands is in order of its numbers, none of them past the last entry.
+    // Standing bookings are in order of their numbers, none of them after the last entry.
     ensures rising { (s : Supply) (h : History) → IsLegal s h → AreRising (standing h) }
     ensures entered { (s : Supply) (h : History) → IsLegal s h → All (λ b. b.number < next_number h) (standing h) }
     // A booking stands from its entry until one answered Cancelled names it.
@@ -56,14 +56,14 @@ pub fn snapshots()
     ensures before { (s : Supply) (before after : History) (desk : ℕ) (c t : _) → IsLegal s (before ++ entry desk c (reply.Taken t) ∷ after) → t.standing ≡ standing before }
     // They are of the shop, covered, and in order of their numbers.
     ensures booked { (s : Supply) (before after : History) (desk : ℕ) (c t : _) → IsLegal s (before ++ entry desk c (reply.Taken t) ∷ after) → AreBooked s t.standing }
-    // These stand after as many entries of the history as its front counts.
+    // These stand after as many entries of the history as its front says.
     ensures at_front { (s : Supply) (h before after : History) (desk : ℕ) (c t : _) → IsLegal s h → h ≡ before ++ entry desk c (reply.Taken t) ∷ after → t.standing ≡ standing (take t.front h) }
 {}
 
 /// States of the book.
 pub fn states()
-    // A history without an entry leaves the state that a book opens with.
+    // A history without entries leads to the state that a book opens with.
     ensures none { (s : Supply) → state_of s [] ≡ record { supply = s; entries = 0; standing = [] } }
-    // One more entry changes the state that a history leaves as it changes any.
+    // One more entry changes the state after a history as it changes any state.
     ensures more { (s : Supply) (h : History) (desk : ℕ) (c r : _) → state_of s (h ++ entry desk c r ∷ []) ≡ state_after (state_of s h) desk c r }
 {}

@@ -1,4 +1,4 @@
-//! The order book: desks book, cancel and ask, and every call has one reply.
+//! The order book: desks book, cancel and ask for available to promise, and every call has one reply.
 #![tactic(auto)]
 
 mod book;

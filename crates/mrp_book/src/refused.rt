@@ -9,7 +9,7 @@ pub enum Refused {
     /// The book has 1,000,000 entries.
     #[error("the book is full")]
     Full,
-    /// A growth of memory was refused.
+    /// An allocation failed.
     #[error("no memory")]
     NoMemory,
 }

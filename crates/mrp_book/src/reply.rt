@@ -8,7 +8,7 @@ use mrp_qty::{NoMemory, Qty};
 pub enum Reply {
     /// Booked, under the number of this entry.
     Booked(u64),
-    /// Not booked: no more than this is available to promise.
+    /// Not booked: only this quantity is available to promise.
     Short(Qty),
     /// The booking was cancelled.
     Cancelled,
@@ -16,13 +16,13 @@ pub enum Reply {
     NotStanding,
     /// Another desk made the booking.
     NotYours,
-    /// So much is available to promise.
+    /// This quantity is available to promise.
     Available(Qty),
-    /// The first week in which so much is available to promise.
+    /// The first week in which the quantity is available to promise.
     Week(u16),
-    /// In no week is so much available to promise.
+    /// The quantity is not available to promise in any week.
     NoWeek,
-    /// What stands, with the number of this entry.
+    /// The standing bookings, with the number of this entry.
     Taken(Snapshot),
     /// The number of this entry.
     Front(u64),
@@ -34,8 +34,8 @@ impl Reply {
 
     /// An equal reply.
     ///
-    /// Errors: `NoMemory` where the count of a snapshot's sharers could not rise. No other reply is
-    /// refused.
+    /// Errors: `NoMemory` if the reference count of a snapshot cannot rise. Any other reply is copied
+    /// without error.
     pub fn copy(&self) -> Result<Reply, NoMemory>
         ensures copy { IfOk result (λ r. r ≡ self.now) }
         ensures memory { OnErr result (HasSnapshot self.now) }

@@ -1,4 +1,4 @@
-//! The rows of promising, one for each master item.
+//! The available-to-promise rows, one for each master item.
 
 ghost use Rattle.std.specs.Prelude.{◌≡◌, ◌≤◌, IfOk, Some, [], length};
 ghost use Rattle.std.specs.Option.{ForSome, option_map};
@@ -11,7 +11,7 @@ use mrp_master::{AtpRow, Line, Supply};
 use mrp_qty::NoMemory;
 use std::alloc::Global;
 
-// The row of each master item of a shop with so many items; a part has none.
+// The row of each master item of a shop; a part has none.
 pub(crate) fn rows_of(
     alloc: Global,
     supply: &Supply,
@@ -37,7 +37,7 @@ fn row_of(alloc: Global, supply: &Supply, item: usize) -> Result<Option<AtpRow>,
     Ok(Some(AtpRow::of(alloc, supply, item)?))
 }
 
-// Books a line in its item's row, which there is.
+// Books a line in its item's row, which must exist.
 pub(crate) fn take(row: &mut Option<AtpRow>, line: Line)
     requires week { ForSome row.old (λ r. IsWeekOf r line.week) }
     requires available { ForSome row.old (λ r. IsCoveredRow (with_booking r line.week line.quantity)) }
@@ -48,7 +48,7 @@ pub(crate) fn take(row: &mut Option<AtpRow>, line: Line)
     }
 }
 
-// Gives back what a line booked in its item's row, which there is.
+// Releases a line's booking in its item's row, which must exist.
 pub(crate) fn give(row: &mut Option<AtpRow>, line: Line)
     requires week { ForSome row.old (λ r. IsWeekOf r line.week) }
     requires booked { ForSome row.old (λ r. line.quantity ≤ in_week r.booked line.week) }

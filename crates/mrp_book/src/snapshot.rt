@@ -1,4 +1,4 @@
-//! What stands of the bookings at an entry of the order book.
+//! The standing bookings at an entry of the order book.
 
 ghost use Rattle.std.specs.Prelude.{◌≡◌, ◌↔◌, ◌≤◌, IsTrue, sum_by};
 ghost use Rattle.mrp_qty.specs.Quantity.{greatest_quantity};
@@ -11,8 +11,8 @@ use std::alloc::Global;
 use std::marker::Model;
 use std::sync::Arc;
 
-/// What stands at an entry of the book: the entry's number, the weeks of the horizon, and the
-/// standing bookings.
+/// A snapshot at an entry of the book: the entry's number, the weeks of the horizon, and the standing
+/// bookings.
 #[derive(Drop)]
 pub struct Snapshot {
     front: u64,
@@ -39,11 +39,11 @@ impl Snapshot {
     ghost use Rattle.mrp_book.specs.Bookings.{AreLittle, lines_of};
     ghost use Rattle.mrp_book.specs.Snapshot.{Snapshot};
 
-    /// What stands at an entry, by its number, in a horizon of so many weeks, the bookings by their
-    /// numbers.
+    /// The snapshot of an entry's number, the weeks of the horizon, and the standing bookings in order of
+    /// their numbers.
     ///
-    /// Errors: `TooLarge` exactly where all bookings together have more than 10^15 pieces, before
-    /// memory is asked for, and `NoMemory` where memory is refused.
+    /// Errors: `TooLarge` exactly if all bookings together have more than 10^15 pieces, before anything is
+    /// allocated, and `NoMemory` if an allocation fails.
     pub fn new(
         alloc: Global,
         front: u64,
@@ -59,7 +59,7 @@ impl Snapshot {
         Snapshot::of(alloc, front, weeks, standing).map_err(|_| PhaseFault::NoMemory)
     }
 
-    // What stands at an entry, where no week has too many pieces of an item.
+    // The snapshot at an entry, if no week has too many pieces of an item.
     pub(crate) fn of(
         alloc: Global,
         front: u64,
@@ -90,16 +90,16 @@ impl Snapshot {
         self.weeks
     }
 
-    /// The bookings that stand, by their numbers.
+    /// The standing bookings, in order of their numbers.
     pub fn standing(&self) -> &[Booking]
         ensures { result.now ≡ self.now.standing }
     {
         self.standing.as_slice()
     }
 
-    /// What is booked of an item in each week of the horizon, in pieces.
+    /// The booked quantity of an item in each week of the horizon, in pieces.
     ///
-    /// Errors: `NoMemory` where memory is refused.
+    /// Errors: `NoMemory` if an allocation fails.
     pub fn demand(&self, alloc: Global, item: usize) -> Result<Weeks<Qty>, NoMemory>
         ensures { IfOk result (λ demand. demand ≡ row self.now.weeks (λ week. due_in item week (lines_of self.now.standing))) }
     {
@@ -116,7 +116,7 @@ impl Snapshot {
 
     /// An equal snapshot, which shares the bookings.
     ///
-    /// Errors: `NoMemory` where the count of sharers could not rise.
+    /// Errors: `NoMemory` if the reference count cannot rise.
     pub fn copy(&self) -> Result<Snapshot, NoMemory>
         ensures { IfOk result (λ s. s ≡ self.now) }
     {
@@ -128,7 +128,7 @@ impl Snapshot {
     }
 }
 
-// Whether a line is of an item, and in a horizon of so many weeks.
+// Whether a line is of an item, and within a horizon.
 fn is_in(line: &Line, item: usize, weeks: u16) -> bool
     ensures { IsTrue result ↔ ((line.now.item ≡ item) × (1 ≤ line.now.week) × (line.now.week ≤ weeks)) }
 {

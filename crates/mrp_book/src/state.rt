@@ -1,4 +1,4 @@
-//! What an order book is between two calls.
+//! The state of an order book between two calls.
 
 use crate::booking::Booking;
 use crate::call::Call;
@@ -14,11 +14,11 @@ use mrp_tables::limits::MOST_ENTRIES;
 use std::alloc::Global;
 use std::marker::Model;
 
-/// An order book without its history: what it promises of, how many entries were made, and the
-/// bookings that stand.
+/// An order book without its history: the supply that it promises from, the number of entries, and
+/// the standing bookings.
 ///
-/// It keeps a row of promising for each master item, and each booking that was made with a mark
-/// whether it stands.
+/// It keeps an available-to-promise row for each master item, and every booking that was made, with
+/// a flag whether it stands.
 #[derive(Drop)]
 pub struct BookState {
     supply: Supply,
@@ -51,7 +51,7 @@ impl BookState {
 
     /// The state of a shop's order book without an entry.
     ///
-    /// Errors: `NoMemory` where memory is refused.
+    /// Errors: `NoMemory` if an allocation fails.
     pub fn open(alloc: Global, shop: &Shop) -> Result<BookState, NoMemory>
         ensures { IfOk result (λ b. b ≡ record { supply = supply_of shop.now.tables; entries = 0; standing = [] }) }
     {
@@ -65,12 +65,12 @@ impl BookState {
         })
     }
 
-    /// Answers a desk's call: the reply, and an equal copy. The caller owes a call that was made
-    /// for an equal shop.
+    /// Answers a desk's call: returns the reply, and an equal copy. The call must have been made for an
+    /// equal shop.
     ///
-    /// Errors: `Full` exactly where 1,000,000 entries were made, before all else, and `NoMemory`
-    /// where memory is refused, which only a booking that is not short and a snapshot take. Nothing
-    /// has changed then.
+    /// Errors: `Full` exactly if 1,000,000 entries were made, before all else, and `NoMemory` if an
+    /// allocation fails; only a booking that is not short and a snapshot allocate. After an error the
+    /// state is unchanged.
     pub fn apply(
         &mut self,
         alloc: Global,
@@ -94,7 +94,7 @@ impl BookState {
         Ok((reply, copy))
     }
 
-    /// Whether 1,000,000 entries were made: every call is refused then.
+    /// Whether 1,000,000 entries were made: then every call is refused.
     pub fn is_full(&self) -> bool
         ensures { IsTrue result ↔ IsLimit self.now.entries }
     {
@@ -108,7 +108,7 @@ impl BookState {
         self.entries + 1
     }
 
-    /// What is promised of.
+    /// The supply that it promises from.
     pub fn into_supply(self) -> Supply
         ensures { result ≡ self.supply }
     {
@@ -176,7 +176,7 @@ impl BookState {
         }
     }
 
-    // What stands, with the number of the next entry.
+    // The standing bookings, with the number of the next entry.
     fn snapshot(&self, alloc: Global) -> Result<Snapshot, NoMemory>
         ensures { IfOk result (λ s. s ≡ record { front = self.now.entries + 1; weeks = self.now.supply.weeks; standing = self.now.standing }) }
     {
@@ -219,7 +219,7 @@ impl BookState {
         self.row(item).available(week)
     }
 
-    // The first week in which so much of an item is available to promise.
+    // The first week in which a quantity of an item is available to promise.
     fn earliest(&self, item: usize, quantity: Qty) -> Option<u16>
         requires { IsMaster self.now.supply item }
         ensures { IsEarliest self.now.supply (lines_of self.now.standing) item quantity result }
@@ -227,7 +227,7 @@ impl BookState {
         self.row(item).earliest(quantity)
     }
 
-    // Makes an entry of a call that was answered so.
+    // Makes an entry of a call and its reply.
     fn enter(&mut self, desk: u64, call: &Call, reply: &Reply) -> Result<(), NoMemory>
         requires few { self.old.entries < MOST_ENTRIES }
         requires fits { Fits self.old.supply call.now }

@@ -25,7 +25,7 @@ date_where_is (Some d) year month day (inr out) when parts = absurd (out (has_da
 date_where_is None year month day (inl has) when parts = absurd (false≢true (when.1 (is_date year month day has)))
 date_where_is None year month day (inr out) when parts = refl
 
--- an answer that is there exactly where the calendar has the day, and then has these parts
+-- an answer that is `Some` exactly where the calendar has the day, and then has these parts
 pub civil_date_is : (o : Option Date) (year : ℤ) (month day : ℕ) → (IsSome o ↔ IsDate year (pos month) (pos day)) → IfSome o (IsYmd year (pos month) (pos day)) → o ≡ civil_date year month day
 unfolding civil_date
 civil_date_is o year month day when parts = date_where_is o year month day (civil_or_not year month day) when parts

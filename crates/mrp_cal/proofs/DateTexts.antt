@@ -10,7 +10,7 @@ use Rattle.mrp_cal.proofs.CivilDates.{civil_date_is, is_date}
 use Rattle.mrp_cal.specs.CivilDay.{IsCivilDay, civil_date, civil_or_not, date_where}
 use Rattle.mrp_cal.specs.DateText.{IsPlanningYear, IsTextOf, IsDateText, ◌>>=◌, two_digits, planning_date, has_date_form, date_of}
 
--- four readers in turn gave a value
+-- each of four readers gave a value
 record Reads (century year month day : Option ℕ) (date : ℕ → ℕ → ℕ → ℕ → Option Date) (d : Date) : Type 0 where
   c : ℕ
   y : ℕ

@@ -27,7 +27,7 @@ weekday_of-day c keeps d day is =
 unfoldable new_year : (year : ℕ) → year ≤ 9999 → Date
 new_year year h = record { year = pos year; month = 1; day = 1; year_in = (omega (arith, ints), omega (arith, ints)); month_in = search rules; day_in = search rules }
 
--- each year has a day at least
+-- each year has at least one day
 years_pass : (years from : ℕ) (first : from ≤ 9999) (last : from + years ≤ 9999) → (epoch_day (new_year from first) +ℤ pos years) ≤ℤ epoch_day (new_year (from + years) last)
 unfolding new_year
 years_pass zero from first last =

@@ -35,7 +35,7 @@ days_in weeks = 7 * weeks
 abbrev pub is_days_after : Date → ℕ → Date → Bool
 is_days_after start days d = int_eq (epoch_day d) (epoch_day start +ℤ pos days)
 
--- for each day of the horizon, whether it is one of the holidays: one that stands twice counts
+-- for each day of the horizon, whether it is one of the holidays: one that is listed twice counts
 -- once, and one outside the horizon has no effect (profile)
 abbrev pub holidays_in : Date → ℕ → List Date → List Bool
 holidays_in start weeks holidays =
@@ -59,7 +59,7 @@ pub record IsShopCalendar (c : ShopCalendar) : Type 0 where
   pub worked : IsTrue (has_workday c.workdays)
   pub days : length c.holidays ≡ days_in c.weeks
 
--- the day of the horizon, counted from 0, that lies so many days after the start
+-- the day of the horizon, counted from 0, that is so many days after the start
 abbrev pub horizon_day : ℕ → ℤ → Option ℕ
 horizon_day weeks (pos days) = if nat_lt days (days_in weeks) then Some days else None
 horizon_day weeks (negsuc _) = None

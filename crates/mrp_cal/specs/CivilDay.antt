@@ -24,13 +24,13 @@ range_or_not low high n = elim (cases_lt n low) [
   ]
 ]
 
--- the calendar has a year, or it has not
+-- the calendar has a year, or does not
 pub year_or_not : (year : ℤ) → IsYear year ⊎ ¬ (IsYear year)
 year_or_not year =
     by_lt_z {P = IsYear year ⊎ ¬ (IsYear year)} year (neg_ℤ (pos 9999)) (λ under. inr (λ h. clash_ℤ under h.0))
     (λ from. by_lt_z {P = IsYear year ⊎ ¬ (IsYear year)} (pos 9999) year (λ over. inr (λ h. clash_ℤ over h.1)) (λ to. inl (from, to)))
 
--- the calendar has a day, or it has not
+-- the calendar has a day, or does not
 pub civil_or_not : (year : ℤ) (month day : ℕ) → IsCivilDay year month day ⊎ ¬ (IsCivilDay year month day)
 civil_or_not year month day = elim (year_or_not year) [
   | inr out ↦ inr (λ h. out h.0)

@@ -10,7 +10,7 @@ use Rattle.mrp_cal.specs.declared.date_text.TheConstants.{FIRST_YEAR, LAST_YEAR}
 abbrev pub IsPlanningYear : ℤ → Type 0
 IsPlanningYear year = IsBetween (pos FIRST_YEAR) (pos LAST_YEAR) year
 
--- a text is that of a date: YYYY-MM-DD (ISO 8601), in the years of a plan
+-- a text is a date's text: YYYY-MM-DD (ISO 8601), in the years of a plan
 pub record IsTextOf (text : List ℕ) (d : Date) : Type 0 where
   pub text_is : text ≡ date_text d
   pub year_in : IsPlanningYear d.year
@@ -19,13 +19,13 @@ pub record IsTextOf (text : List ℕ) (d : Date) : Type 0 where
 abbrev pub IsDateText : List ℕ → Type 0
 IsDateText text = (d : Date) × IsTextOf text d
 
--- a step of a reader, where there is a value to go on with
+-- a reader's next step, if there is a value to continue with
 infixl 10 ◌>>=◌
 abbrev pub ◌>>=◌ : {A B : Type 0} → Option A → (A → Option B) → Option B
 (Some x) >>= f = f x
 None >>= f = None
 
--- the number that two bytes write, if they are digits
+-- the number written in two bytes, if they are digits
 abbrev pub two_digits : ℕ → ℕ → Option ℕ
 two_digits tens ones =
     if is_ascii_digit tens && is_ascii_digit ones then Some (10 * (tens - 48) + (ones - 48)) else None
@@ -40,7 +40,7 @@ abbrev pub has_date_form : List ℕ → Bool
 has_date_form text =
     (length text == 10) && (slice_index text 4 == 45) && (slice_index text 7 == 45)
 
--- the date that the digits among ten bytes write
+-- the date written in the digits of ten bytes
 abbrev pub digits_date : List ℕ → Option Date
 digits_date text = do
   century ← two_digits (slice_index text 0) (slice_index text 1)

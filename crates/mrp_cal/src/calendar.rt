@@ -48,7 +48,7 @@ impl Calendar {
 
     /// The calendar of a start in the years `FIRST_YEAR` to `LAST_YEAR`, a horizon in weeks, the weekdays that
     /// are worked, from Monday, and the holidays. A holiday outside the horizon has no effect, and
-    /// one that stands twice counts once.
+    /// one that is listed twice counts once.
     ///
     /// What is wrong is looked for in this order: a start that is not a Monday, weeks that are not
     /// 1 to 104, no weekday that is worked.
@@ -92,7 +92,7 @@ impl Calendar {
         self.horizon.week_of(date)
     }
 
-    /// How many of a week's days are shop days: days of a weekday that is worked, and no holidays.
+    /// The number of shop days in a week: days of a weekday that is worked, holidays excepted.
     pub fn shop_days(&self, week: u16) -> u8
         requires { IsInRange 1 self.now.weeks week }
         ensures value { result ≡ shop_days_in self.now week }

@@ -22,7 +22,7 @@ pub fn read_date(text: &[u8]) -> Option<Date>
     date_of(text)
 }
 
-// The date that ten bytes write, with dashes at their places.
+// The date written in ten bytes, with dashes in their places.
 #[tactic(auto, unfolding(crate::specs::DateText::date_of))]
 fn date_of(text: &[u8]) -> Option<Date>
     ensures { result ≡ spec.date_of text.now }
@@ -37,7 +37,7 @@ fn date_of(text: &[u8]) -> Option<Date>
     planning_date(u16::from(century) * 100 + u16::from(year), month, day)
 }
 
-// The number that two bytes write, if they are digits.
+// The number written in two bytes, if they are digits.
 fn two_digits(tens: u8, ones: u8) -> Option<u8>
     ensures value { result ≡ spec.two_digits tens ones }
     ensures bound { IfSome result (λ n. n < 100) }
@@ -49,7 +49,7 @@ fn two_digits(tens: u8, ones: u8) -> Option<u8>
     }
 }
 
-// The date of a year of a plan, a month and a day, where the calendar has that day.
+// The date of a plan's year, a month and a day, if the calendar has that day.
 fn planning_date(year: u16, month: u8, day: u8) -> Option<Date>
     requires month { month < 100 }
     requires day { day < 100 }
@@ -61,7 +61,7 @@ fn planning_date(year: u16, month: u8, day: u8) -> Option<Date>
     civil_date(year as i16, month as i8, day as i8)
 }
 
-// The date of a year, month and day, where the calendar has that day.
+// The date of a year, month and day, if the calendar has that day.
 fn civil_date(year: i16, month: i8, day: i8) -> Option<Date>
     ensures some { IsSome result ↔ IsDate year month day }
     ensures value { IfSome result (IsYmd year month day) }

@@ -2,7 +2,7 @@
 use std::error::Error;
 use std::fmt;
 
-/// Why a calendar was refused. Where several hold, the first of them is answered.
+/// Why a calendar was refused. If several apply, the first is returned.
 #[derive(Clone, Copy, Debug, PartialEq, Eq, Hash)]
 pub enum CalFault {
     /// The start is not a Monday.

@@ -8,8 +8,8 @@ ghost use Rattle.mrp_cal.specs.Calendar.{IsShopCalendar, ShopCalendar};
 ghost use Rattle.mrp_cal.specs.Releases.{IsOfWeek, first_shop_day, release_of};
 ghost use Rattle.mrp_cal.specs.ShopDays.{shop_days_in};
 
-/// A date that lies so many days after the start falls on the weekday, counted from Monday, that is
-/// left of their number when whole weeks are taken away.
+/// A date a number of days after the start falls on the weekday, counted from Monday as 0, that is
+/// the remainder of that number by 7.
 pub fn weekdays()
     ensures { (c : ShopCalendar) → IsShopCalendar c → (d : Date) (day : ℕ)
         → epoch_day d ≡ epoch_day c.start +ℤ pos day → weekday_of d ≡ day % 7 }

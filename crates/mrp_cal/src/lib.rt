@@ -1,5 +1,5 @@
 //! The shop calendar: which week of the planning horizon a date falls in, which days of a week are
-//! worked, and which texts are dates. Nothing here takes memory.
+//! worked, and which texts are dates. Nothing here allocates.
 #![tactic(auto)]
 
 mod calendar;

@@ -1,4 +1,4 @@
-//! How a run of the program ends, and in what two endings differ.
+//! How a run of the program ends, and how two endings differ.
 
 ghost use Rattle.std.specs.Prelude.{◌≡◌, ◌↔◌, IsTrue, IsNone, string_bytes};
 
@@ -12,14 +12,14 @@ pub struct Ending {
     pub words: String,
 }
 
-// The first line that two texts do not share: its number, from 1, and what each text has there.
+// The first line in which two texts differ: its number, from 1, and what each text has there.
 struct OtherLine<'a> {
     number: usize,
     ended: &'a str,
     wanted: &'a str,
 }
 
-// What is told of a text that has no such line.
+// What is reported for a text that has no such line.
 const NO_LINE: &str = "(no line)";
 
 fn other_line<'a>(ended: &'a str, wanted: &'a str) -> Option<OtherLine<'a>>
@@ -40,7 +40,7 @@ fn other_line<'a>(ended: &'a str, wanted: &'a str) -> Option<OtherLine<'a>>
     })
 }
 
-// Tells, behind what is told already, the first line in which a text is another than it is wanted.
+// Appends to a report the first line in which a text differs from the expected one.
 fn tell_line(told: &mut String, text: &str, ended: &str, wanted: &str) -> Result<(), AllocError> {
     if let Some(line) = other_line(ended, wanted) {
         let OtherLine {
@@ -70,7 +70,7 @@ fn is_of_one_desk(day: &str) -> bool {
 }
 
 impl Ending {
-    /// Whether a run has ended exactly as it is wanted to.
+    /// Whether a run has ended exactly as expected.
     pub fn is(&self, wanted: &Ending) -> bool
         ensures { IsTrue result ↔ (self.now.status ≡ wanted.now.status)
             × (string_bytes self.now.output ≡ string_bytes wanted.now.output)
@@ -79,7 +79,7 @@ impl Ending {
         self.status == wanted.status && self.output == wanted.output && self.words == wanted.words
     }
 
-    /// Whether desks that make their calls beside one another can end in no other way: one made all
+    /// Whether desks that make their calls concurrently can end in no other way: one desk made all
     /// calls, or the bundle has a fault.
     pub fn is_of_any_order(&self) -> bool {
         match self.status {
@@ -88,8 +88,9 @@ impl Ending {
         }
     }
 
-    /// Tells what is other than it is wanted: the status, and the first other line of the output and of the words.
-    pub fn told_beside(&self, alloc: Global, wanted: &Ending) -> Result<String, AllocError> {
+    /// Reports the differences from the expected ending: the status, and the first line that differs in the
+    /// output and in the words.
+    pub fn differences(&self, alloc: Global, wanted: &Ending) -> Result<String, AllocError> {
         let mut told = String::new(alloc);
         if self.status != wanted.status {
             write!(told, "; status {}, and not {}", self.status, wanted.status)?;

@@ -1,7 +1,7 @@
-//! The folder of cases that the program is run in: of each case the file NAME.bundle, or the folder
-//! NAME.files with its tables, and beside it either NAME.day, the day that planning it writes, or
-//! NAME.said, the words with which it is refused; and of each day that is drawn the file NAME.drawn,
-//! and beside it NAME.html, its page.
+//! The folder of cases, in which the program is run. A case is the file NAME.bundle, or the folder
+//! NAME.files with its tables, and with it either NAME.day, the day that planning it writes, or
+//! NAME.said, the words with which it is refused. A day that is drawn is the file NAME.drawn, and
+//! with it NAME.html, its page.
 
 use crate::ending::Ending;
 use std::alloc::Global;
@@ -9,7 +9,7 @@ use std::io::ErrorKind;
 use std::rt::Files;
 use std::{fs, io};
 
-/// The end of the name of a case's folder of tables.
+/// The suffix of the name of a case's folder of tables.
 pub const FILES: &str = ".files";
 
 const BUNDLE: &str = ".bundle";
@@ -22,10 +22,10 @@ const SAID: &str = ".said";
 
 const PAGE: &str = ".html";
 
-// The ends of the names of what stands beside a case, or a day that is drawn.
+// The suffixes of the files that go with a case, or with a day that is drawn.
 const ANSWERS: [&str; 3] = [DAY, SAID, PAGE];
 
-/// What stands in the folder.
+/// What the folder contains.
 #[derive(Drop)]
 pub struct Folder {
     /// The names of the cases, in order.
@@ -36,7 +36,7 @@ pub struct Folder {
     pub answers: usize,
 }
 
-// Adds the name of a file or a folder, without its end, where it has that end.
+// Adds the name of a file or a folder without its suffix, if it has that suffix.
 fn add_named(alloc: Global, names: &mut Vec<String>, file: &str, end: &str) -> io::Result<()> {
     if let Some(name) = file.strip_suffix(end) {
         names.push(String::from_str(alloc, name)?)?;
@@ -81,7 +81,7 @@ pub fn bundle_of<R: Files + AllocGlobal>(rt: &R, name: &str) -> io::Result<Optio
     }
 }
 
-// What stands beside a case, or a day that is drawn, in the file with this end, if there is one.
+// The file with this suffix that goes with a case, or with a day that is drawn, if there is one.
 fn answer_of<R: Files + AllocGlobal>(rt: &R, name: &str, end: &str) -> io::Result<Option<String>> {
     let file = format!(in rt.alloc(); "{name}{end}")?;
     match fs::read_to_string(rt, &file) {
@@ -91,8 +91,8 @@ fn answer_of<R: Files + AllocGlobal>(rt: &R, name: &str, end: &str) -> io::Resul
     }
 }
 
-/// How planning a case has to end: its day is written, or it is refused with its words. None where it
-/// has neither.
+/// How planning a case has to end: its day is written, or it is refused with its words. `None` if it has
+/// neither.
 pub fn wanted_of<R: Files + AllocGlobal>(rt: &R, name: &str) -> io::Result<Option<Ending>> {
     let nothing = String::new(rt.alloc());
     if let Some(output) = answer_of(rt, name, DAY)? {
@@ -118,7 +118,7 @@ pub fn drawn_day<R: Files + AllocGlobal>(rt: &R, name: &str) -> io::Result<Vec<u
     fs::read(rt, &file)
 }
 
-/// How drawing a day has to end: its page is written. None where it has no page.
+/// How drawing a day has to end: its page is written. `None` if it has no page.
 pub fn wanted_page<R: Files + AllocGlobal>(rt: &R, name: &str) -> io::Result<Option<Ending>> {
     Ok(answer_of(rt, name, PAGE)?.map(|output| Ending {
         status: 0,

@@ -1,8 +1,8 @@
-//! Plans each bundle and each folder of tables of the folder that it is run in, as `mrp plan` does, and as
-//! `mrp live` does where that can end in one way alone. Tells of each that does not end as the file beside it
-//! says: with its day written, or refused with its words. Each day that is made is checked beside its tables
-//! too, and has to be found right. Draws each day that is to be drawn, as `mrp page` does, and compares it
-//! with the page beside it.
+//! Plans each bundle and each folder of tables in the folder that it is run in, like `mrp plan`, and like
+//! `mrp live` if that can end in only one way. Reports each that does not end as expected: with its day
+//! written, or refused with its words. Each day that is made is also checked against its tables, and has to
+//! be found right. Draws each day that is to be drawn, like `mrp page`, and compares the page with the
+//! expected one.
 #![tactic(auto)]
 
 mod ending;
@@ -31,7 +31,7 @@ fn text_of(bytes: Vec<u8>) -> io::Result<String> {
     }
 }
 
-// How these words end, over this input.
+// How the program ends with these words and this input.
 fn ended(
     rt: &(impl Alloc + Files + Threads + Wait + Sync),
     alloc: Global,
@@ -49,7 +49,7 @@ fn ended(
     })
 }
 
-// How a command ends over a case: its bundle, or its folder of tables where it has no bundle.
+// How a command ends with a case: its bundle, or its folder of tables if it has no bundle.
 fn ended_by<R: Files + AllocGlobal + Threads + Wait + Sync>(
     rt: &R,
     command: &str,
@@ -62,7 +62,7 @@ fn ended_by<R: Files + AllocGlobal + Threads + Wait + Sync>(
     ended(rt, rt.alloc(), &[command, "--dir", folder.as_str()], b"")
 }
 
-// Whether a command has ended over a case as it must. Where it has not, a line tells how it ended.
+// Whether a command ended with a case as it must. If not, a line reports how it ended.
 fn is_as_wanted<R: AllocGlobal + Print>(
     rt: &R,
     command: &str,
@@ -73,12 +73,12 @@ fn is_as_wanted<R: AllocGlobal + Print>(
     if ended.is(wanted) {
         return Ok(true);
     }
-    let told = ended.told_beside(rt.alloc(), wanted)?;
+    let told = ended.differences(rt.alloc(), wanted)?;
     println!(rt; "{command} {name} is not as it must be{told}")?;
     Ok(false)
 }
 
-// What is said of a case's day beside its bundle, or beside its folder of tables where it has no bundle.
+// What a check says of a case's day against its bundle, or against its folder of tables if it has no bundle.
 fn said_of<R: Files + AllocGlobal + Threads + Wait + Sync>(
     rt: &R,
     name: &str,
@@ -95,7 +95,7 @@ fn said_of<R: Files + AllocGlobal + Threads + Wait + Sync>(
     Ok(ended(rt, rt.alloc(), &words, day.as_bytes())?.output)
 }
 
-// Whether a case's day is found right, if it has one. Where it is not, a line tells what is said of it.
+// Whether a case's day is found right, if it has one. If not, a line reports what was said of it.
 fn is_found_right<R: Files + AllocGlobal + Print + Threads + Wait + Sync>(
     rt: &R,
     name: &str,
@@ -112,17 +112,17 @@ fn is_found_right<R: Files + AllocGlobal + Print + Threads + Wait + Sync>(
     Ok(false)
 }
 
-// How a case compares with what stands beside it.
+// How a case compares with what is expected.
 #[derive(Clone, Copy)]
 enum Verdict {
     Wrong,
     Planned,
-    // Planned, and made live as well.
+    // Right when planned, and also when made live.
     Live,
 }
 
-// Whether a case ends as it must, by a plan and where there is no choice by a live day, and a day of
-// it is found right.
+// Whether a case ends as it must, when planned and, if that can end in only one way, when made
+// live, and its day is found right.
 fn compare<R: Files + AllocGlobal + Print + Threads + Wait + Sync>(
     rt: &R,
     name: &str,
@@ -146,7 +146,7 @@ fn compare<R: Files + AllocGlobal + Print + Threads + Wait + Sync>(
     }
 }
 
-// Whether the page of a day is the one that stands beside it.
+// Whether the page of a day is the expected one.
 fn is_drawn_right<R: Files + AllocGlobal + Print + Threads + Wait + Sync>(
     rt: &R,
     name: &str,
@@ -181,7 +181,7 @@ fn count_wrong_pages<R: Files + AllocGlobal + Print + Threads + Wait + Sync>(
     Ok(wrong)
 }
 
-// How many of the cases do not end as they must, and how many were made live as well.
+// How many of the cases do not end as they must, and how many were also made live.
 fn count_verdicts<R: Files + AllocGlobal + Print + Threads + Wait + Sync>(
     rt: &R,
     cases: &[String],

@@ -15,7 +15,7 @@ line_of section.Pegs = codes "[pegs]"
 line_of section.Messages = codes "[messages]"
 line_of section.Loads = codes "[loads]"
 
--- the names of its columns
+-- the names of the section's columns
 abbrev pub columns_of : Section → List (List ℕ)
 columns_of section.History = codes "entry" ∷ codes "desk" ∷ codes "call" ∷ codes "item" ∷ codes "week" ∷ codes "quantity" ∷ codes "number" ∷ codes "reply" ∷ codes "value" ∷ []
 columns_of section.Run = codes "front" ∷ codes "standing" ∷ []
@@ -26,6 +26,6 @@ columns_of section.Pegs = codes "item" ∷ codes "week" ∷ codes "need" ∷ cod
 columns_of section.Messages = codes "item" ∷ codes "supply" ∷ codes "source" ∷ codes "message" ∷ codes "value" ∷ []
 columns_of section.Loads = codes "centre" ∷ codes "week" ∷ codes "load" ∷ codes "capacity" ∷ codes "over" ∷ []
 
--- what stands before its rows: its line, and the names of its columns as a record
+-- what comes before the section's rows: its line, and the names of its columns as a record
 unfoldable pub head_of : Section → List ℕ
 head_of section = line_of section ++ codes "\n" ++ row_text default_writer (columns_of section)

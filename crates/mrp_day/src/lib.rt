@@ -1,4 +1,4 @@
-//! The text of a day: its sections, each with its line and its columns.
+//! The sections of a day's text, each with its first line and its columns.
 #![tactic(auto)]
 
 mod section;

@@ -6,26 +6,26 @@ ghost use Rattle.mrp_day.specs.Sections.{columns_of, head_of, line_of};
 /// A section of a day: the history of the order book, or a section of a run's report.
 #[derive(Clone, Copy, Debug, PartialEq, Eq)]
 pub enum Section {
-    /// What the order book was asked, and what it replied.
+    /// The calls that the order book answered, and its replies.
     History,
-    /// The entry of the order book that a run plans from.
+    /// The entry of the order book that the run plans from.
     Run,
-    /// What can be promised of each master item in each week.
+    /// What is available to promise of each master item in each week.
     Promises,
-    /// What is required, comes in and is left of each item in each week.
+    /// Gross requirements, receipts and projected available balance of each item in each week.
     Plan,
     /// The orders of each item, firm and planned.
     Orders,
     /// Which supply serves which requirement.
     Pegs,
-    /// What is said of each supply to the planner.
+    /// The messages to the planner about each supply.
     Messages,
     /// The load and the capacity of each work centre in each week.
     Loads,
 }
 
 impl Section {
-    /// The line that it begins with, without its line feed.
+    /// The line that the section begins with, without its line feed.
     pub fn line(self) -> &'static str
         ensures { result.now ≡ line_of self }
     {
@@ -41,7 +41,7 @@ impl Section {
         }
     }
 
-    /// The names of its columns, in order.
+    /// The names of the section's columns, in order.
     pub fn columns(self) -> &'static [&'static str]
         ensures { map (λ c. c.now) result.now ≡ columns_of self }
     {
@@ -65,7 +65,8 @@ impl Section {
         }
     }
 
-    /// What stands before its rows: its line, and the names of its columns as a record of csv.
+    /// What comes before the section's rows: its line, and the names of its columns as a csv
+    /// record.
     #[tactic(auto, unfolding(crate::specs::Sections::head_of, csv::specs::Writing::fields_text, csv::specs::Writing::is_blank))]
     pub fn head(self) -> &'static str
         ensures { result.now ≡ head_of self }

@@ -1,4 +1,4 @@
--- Bookings in a list: by rising numbers, and one taken out by its number.
+-- Bookings in a list: by rising numbers, and one removed by its number.
 use Rattle.std.specs.Prelude.{filter, find}
 use Rattle.std.proofs.Common.{◌≡◌, ◌≢◌, ℕ, ◌==◌, ◌<◌, ◌≤◌, inl, inr, Bool, true, false, if◌then◌else◌, List, [], ◌∷◌, ◌++◌, Some, refl, sym, ap, subst, ◌∙◌, arith}
 use Rattle.std.proofs.lemmas.Bool.{cases_eq, eq-eqb, ne_eqb}
@@ -9,7 +9,7 @@ use Rattle.mrp_book.proofs.Numbers.{has_number, is_other, test_other, test_same}
 pub kept_head : {A : Type 0} (p : A → Bool) (x : A) (xs : List A) (v : Bool) → p x ≡ v → filter p (x ∷ xs) ≡ (if v then x ∷ filter p xs else filter p xs)
 kept_head p x xs v e = ap (λ (b : Bool). if b then x ∷ filter p xs else filter p xs) e
 
--- the order of two tests is all one
+-- the order of two tests does not matter
 pub tests_commute : {A : Type 0} (p q : A → Bool) (xs : List A) → filter p (filter q xs) ≡ filter q (filter p xs)
 tests_commute p q [] = refl
 tests_commute {A} p q (x ∷ xs) = by (tests_commute p q xs) (p x) (q x) refl refl
@@ -50,7 +50,7 @@ rise_kept p low high (b ∷ bs) r = by (rise_kept p b.number high bs r.1) (p b) 
     by rest true e = subst (Rise low high) (sym (kept_head p b bs true e)) (r.0, rest)
     by rest false e = subst (Rise low high) (sym (kept_head p b bs false e)) (rise_lower low b.number high (filter p bs) (omega (arith, r.0)) rest)
 
--- One booking taken out, by its number.
+-- One booking removed, by its number.
 
 abbrev pub is_of : ℕ → Booking → Bool
 is_of desk b = b.desk == desk
@@ -62,7 +62,7 @@ above_stay number low high (b ∷ bs) le r =
     kept_head (is_other number) b bs true (test_other b.number number (λ (e : b.number ≡ number). omega (arith, e, le, r.0)))
     ∙ ap (λ (xs : List Booking). b ∷ xs) (above_stay number b.number high bs (omega (arith, le, r.0)) r.1)
 
--- a desk's bookings stay where another desk's is taken out
+-- a desk's bookings stay if another desk's is removed
 pub others_stay : (desk number low high : ℕ) (bs : List Booking) (taken : Booking) → Rise low high bs → find (has_number number) bs ≡ Some taken → taken.desk ≢ desk
     → filter (is_of desk) (filter (is_other number) bs) ≡ filter (is_of desk) bs
 others_stay desk number low high [] taken r found ne = refl

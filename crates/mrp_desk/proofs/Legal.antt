@@ -1,4 +1,5 @@
--- A log that the lock calls legal is a legal history, within the limit of a book, and its state is the one that the history leaves.
+-- A log that the lock calls legal is a legal history, within the limit of a book, and its state is the one after the
+-- history.
 use Rattle.std.proofs.Common.{◌≡◌, ℕ, ◌+◌, ◌<◌, ◌≤◌, inl, inr, [], ◌∷◌, ◌++◌, length, sym, ap, subst, ◌∙◌, arith}
 use Rattle.std.proofs.lemmas.Bool.{cases_lt}
 use Rattle.std.proofs.lemmas.List.{append-nil, length_push}
@@ -22,7 +23,7 @@ below_limit n not = elim (cases_lt n 1000000) [
   | inr over ↦ absurd (not over)
 ]
 
--- a legal history within the limit, which leaves the state
+-- a legal history within the limit, which leads to the state
 pub record IsHistory (s : Supply) (h : History) (b : BookState) : Type 0 where
   pub legal : IsLegal s h
   pub few : length h ≤ 1000000
@@ -50,6 +51,6 @@ module _ (shop : Shop) where
   pub is_history : (log : History) (t : BookState) → LeadsTo (Answers shop) (Opens shop) log t → IsHistory s log t
   is_history log t (b, opens, leads) = goes_on [] log b t (record { legal = legal-none s; few = omega arith; left = opens ∙ sym (state_none s) }) leads
 
-  -- a state that calls led to promises of the shop's supply
+  -- a state that calls led to promises from the shop's supply
   pub reached_supply : (b : BookState) → IsReached (Answers shop) (Opens shop) b → b.supply ≡ s
   reached_supply b (log, leads) = ap (λ (x : BookState). x.supply) (is_history log b leads).left

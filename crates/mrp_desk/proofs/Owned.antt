@@ -68,7 +68,7 @@ module _ (s : Supply) where
     abbrev IsOwned : History → Type 0
     IsOwned h = filter (is_of desk) (standing h) ≡ standing (entries_by desk h)
 
-    -- another desk's entry takes none of the desk's bookings out
+    -- another desk's entry removes none of the desk's bookings
     unmoved : (h : History) (other : ℕ) (c : Call) (r : Reply) → other ≢ desk → IsReply s h other c r → IsRising h
         → filter (is_of desk) (filter (not_cancelled c r) (standing h)) ≡ filter (is_of desk) (standing h)
     unmoved h other (call.Cancel n) reply.Cancelled ne is rise =

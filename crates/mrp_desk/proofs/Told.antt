@@ -1,4 +1,4 @@
--- What the lock tells of a call, as a desk is told it.
+-- What the lock's contract says of a call, said of a desk.
 use Rattle.std.proofs.Common.{◌≡◌, ◌≢◌, ℕ, ◌+◌, ◌==◌, ◌≤◌, ◌⊎◌, inl, inr, true, [], ◌∷◌, ◌++◌, length, Result, Ok, Err, IfOk, IfErr, refl, sym, ap, subst, ◌∙◌, arith}
 use Rattle.std.proofs.lemmas.Bool.{eq-eqb}
 use Rattle.std.proofs.lemmas.List.{append_cancel_right, length_push}
@@ -22,7 +22,7 @@ use Rattle.mrp_book.specs.History.{IsLegal, IsLimit, TakesMemory}
 use Rattle.mrp_book.proofs.Histories.{legal-front}
 use Rattle.mrp_desk.specs.Calls.{HasCause, IsAnswerOf, IsSnapshot, Tells}
 use Rattle.mrp_desk.specs.Offices.{Desk, supply_at}
-use Rattle.mrp_desk.specs.ShopBook.{Answers, Opens, Refuses, WantsMemory}
+use Rattle.mrp_desk.specs.ShopBook.{Answers, Opens, Refuses, IsOutOfMemory}
 use Rattle.mrp_desk.proofs.Bookings.{kept_head}
 use Rattle.mrp_desk.proofs.Legal.{is_history}
 use Rattle.mrp_desk.proofs.Owned.{own_stand}
@@ -31,9 +31,9 @@ module _ (office : TurnId Shop) (c : Call) (old new : Desk) where
   abbrev shop : Shop
   shop = office.about.object
 
-  -- what the lock tells
+  -- what the lock's contract says
   abbrev pub LockTells : Result (ℕ × Reply) (CallFault Refused) → Type 0
-  LockTells given = lock.Tells (Opens shop) (Answers shop) (λ b _ _ e. Refuses b e) (λ b _ c e. WantsMemory b c e) office.about.room old.number c old.seen old.mine given new.seen new.mine
+  LockTells given = lock.Tells (Opens shop) (Answers shop) (λ b _ _ e. Refuses b e) (λ b _ c e. IsOutOfMemory b c e) office.about.room old.number c old.seen old.mine given new.seen new.mine
 
   -- the log had a place
   pub roomy : (given : Result (ℕ × Reply) (CallFault Refused)) → office.about.room ≡ 1000001 → LockTells given → IfErr given (λ f. f ≢ fault.NoMemory)
@@ -41,14 +41,14 @@ module _ (office : TurnId Shop) (c : Call) (old new : Desk) where
   roomy (Err f) room told = λ (is : f ≡ fault.NoMemory).
       let few : length new.seen ≤ 1000000 = (is_history shop new.seen told.legal.0 told.legal.1).few in
       let full : office.about.room ≤ length new.seen =
-      subst (lock.HasCause (Opens shop) (Answers shop) (λ b _ _ e. Refuses b e) (λ b _ c e. WantsMemory b c e) office.about.room old.number c new.seen) is told.cause in
+      subst (lock.HasCause (Opens shop) (Answers shop) (λ b _ _ e. Refuses b e) (λ b _ c e. IsOutOfMemory b c e) office.about.room old.number c new.seen) is told.cause in
       absurd (omega (arith, room, few, full))
 
   entries_seen : (b : BookState) → LeadsTo (Answers shop) (Opens shop) new.seen b → b.entries ≡ length new.seen
   entries_seen b leads = ap (λ (x : BookState). x.entries) (is_history shop new.seen b leads).left
 
   -- why the book refused
-  cause : (e : Refused) → (b : BookState) × LeadsTo (Answers shop) (Opens shop) new.seen b × (WantsMemory b c e ⊎ Refuses b e) → HasCause (supply_at office) c new.seen e
+  cause : (e : Refused) → (b : BookState) × LeadsTo (Answers shop) (Opens shop) new.seen b × (IsOutOfMemory b c e ⊎ Refuses b e) → HasCause (supply_at office) c new.seen e
   cause Full (b, leads, inl never) = absurd never
   cause Full (b, leads, inr limit) = subst IsLimit (entries_seen b leads) limit
   cause NoMemory (b, leads, inl (takes, within)) = (subst (λ (x : BookState). TakesMemory x c) (is_history shop new.seen b leads).left takes, λ full. within (subst IsLimit (sym (entries_seen b leads)) full))
@@ -88,7 +88,7 @@ module _ (office : TurnId Shop) (c : Call) (old new : Desk) where
       })
   tells (Err fault.NoMemory) result is office_is desk_is told = absurd is
 
--- a snapshot has what stands in all that was seen before its entry
+-- a snapshot has the bookings that stand in all that was seen before its entry
 pub snapped : (s : Supply) (old new : Desk) (result : Result (ℕ × Reply) Refused) → Tells s call.Snapshot old result new → IfOk result (IsSnapshot s old new)
 snapped s old new (Err e) told = tt
 snapped s old new (Ok answer) told =

@@ -1,4 +1,4 @@
--- What a desk's call tells. Profile.
+-- What the contract of a desk's call says. Profile.
 use Rattle.std.specs.Prelude.{◌≡◌, ◌≢◌, ℕ, ◌≤◌, ◌==◌, [], ◌∷◌, ◌++◌, Result, Ok, Err, IfOk, IfErr, OnErr, filter, length}
 use Rattle.mrp_turn.specs.Lists.{StartsWith}
 use Rattle.mrp_turn.specs.Log.{entry, entries_by}
@@ -22,7 +22,7 @@ abbrev pub HasCause : Supply → Call → History → Refused → Type 0
 HasCause s c seen Full = IsFull seen
 HasCause s c seen NoMemory = TakesMemory (state_of s seen) c × (¬ IsFull seen)
 
--- What a desk's call tells of the desk, old and new
+-- What the contract of a desk's call says of the desk, old and new
 pub record Tells (s : Supply) (c : Call) (old : Desk) (result : Result (ℕ × Reply) Refused) (new : Desk) : Type 0 where
   -- it is the same desk
   pub office : new.turn ≡ old.turn
@@ -42,7 +42,8 @@ pub record Tells (s : Supply) (c : Call) (old : Desk) (result : Result (ℕ × R
   pub unchanged : OnErr result (new.mine ≡ old.mine)
   pub cause : IfErr result (HasCause s c new.seen)
 
--- What a desk's call for a snapshot tells: it has the bookings that stand in all that was seen before its entry, and so of the desk's own those that its own entries leave
+-- What the contract of a desk's call for a snapshot says: it has the bookings that stand in all that was seen before its
+-- entry, and so of the desk's own those that its own entries leave
 pub record IsSnapshot (s : Supply) (old new : Desk) (answer : ℕ × Reply) : Type 0 where
   pub before : History
   pub reply : answer.1 ≡ reply.Taken (record { front = answer.0; weeks = s.weeks; standing = standing before })
@@ -50,7 +51,7 @@ pub record IsSnapshot (s : Supply) (old new : Desk) (answer : ℕ × Reply) : Ty
   pub goes_on : StartsWith before old.seen
   pub own : filter (λ b. b.desk == old.number) (standing before) ≡ standing old.mine
 
--- an answer of the lock for a call that had a place in the log, as the book gives it
+-- the book's answer, from the lock's answer to a call that had a place in the log
 abbrev pub IsAnswerOf : {A E : Type 0} → Result A (CallFault E) → Result A E → Type 0
 IsAnswerOf (Ok a) result = result ≡ Ok a
 IsAnswerOf (Err (fault.Refused e)) result = result ≡ Err e

@@ -1,4 +1,4 @@
--- When an office is refused. Profile.
+-- When opening an office is refused. Profile.
 use Rattle.std.specs.Prelude.{◌≡◌, ℕ, ◌<◌, ◌≤◌, ◌⊎◌}
 use Rattle.mrp_desk.specs.declared.fault.OfficeFault.{OfficeFault}
 use Rattle.mrp_desk.specs.declared.fault.OfficeFault.TheVariants.{Desks, NoMemory}

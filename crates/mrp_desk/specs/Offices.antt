@@ -9,6 +9,6 @@ use Rattle.mrp_book.specs.declared.reply.Reply.{Reply}
 abbrev pub Desk : Type 0
 Desk = Seated Shop Call Reply
 
--- what an office promises of
+-- the supply that an office promises from
 abbrev pub supply_at : TurnId Shop → Supply
 supply_at office = supply_of office.about.object.tables

@@ -10,7 +10,7 @@ use Rattle.mrp_book.specs.declared.refused.Refused.TheVariants.{Full, NoMemory}
 use Rattle.mrp_book.specs.BookState.{BookState}
 use Rattle.mrp_book.specs.History.{Fits, IsLimit, IsReplyIn, TakesMemory, state_after}
 
--- it opens without an entry
+-- it opens without entries
 abbrev pub Opens : Shop → BookState → Type 0
 Opens shop b = b ≡ record { supply = supply_of shop.tables; entries = 0; standing = [] }
 
@@ -27,7 +27,7 @@ abbrev pub Refuses : BookState → Refused → Type 0
 Refuses b Full = IsLimit b.entries
 Refuses b NoMemory = ⊥
 
--- below its limit, a booking that can be promised and a snapshot take memory
-abbrev pub WantsMemory : BookState → Call → Refused → Type 0
-WantsMemory b c Full = ⊥
-WantsMemory b c NoMemory = TakesMemory b c × (¬ IsLimit b.entries)
+-- below its limit, a booking that can be promised and a snapshot allocate
+abbrev pub IsOutOfMemory : BookState → Call → Refused → Type 0
+IsOutOfMemory b c Full = ⊥
+IsOutOfMemory b c NoMemory = TakesMemory b c × (¬ IsLimit b.entries)

@@ -9,7 +9,7 @@ pub enum OfficeFault {
     /// The number of desks is 0 or over 64.
     #[error("not 1 to 64 desks")]
     Desks,
-    /// A growth of memory was refused.
+    /// An allocation failed.
     #[error("no memory")]
     NoMemory,
 }

@@ -14,15 +14,15 @@ use std::alloc::Global;
 use std::marker::Model;
 use std::sync::{Arc, Wait};
 
-// One place more than an order book has entries, so that the log never grows.
+// One place more than an order book's greatest number of entries, so that the log never grows.
 const ROOM: usize = MOST_ENTRIES as usize + 1;
 
-/// An order desk, which one thread at a time makes calls with. Contracts see its office, its number, what
-/// it has seen of the order book's history, and its own entries; the last two have no bytes.
+/// An order desk, with which one thread at a time makes calls. Contracts see its office, its number,
+/// what it has seen of the order book's history, and its own entries; the last two have no bytes.
 pub type Desk = Seat<ShopBook>;
 
-/// An office of order desks: a shop, and the history of its order book. A call of a desk is answered
-/// while no other is, and makes one entry.
+/// An office of order desks: a shop, and the history of its order book. Calls are answered one at a
+/// time, and each answered call makes one entry.
 #[derive(Drop)]
 pub struct Office {
     turn: Turn<ShopBook>,
@@ -53,15 +53,15 @@ impl Office {
     ghost use Rattle.mrp_desk.specs.Faults.{HasFault};
     ghost use Rattle.mrp_desk.specs.Offices.{supply_at};
 
-    /// An office with a shop's order book without an entry, and its desks, numbered from 1. Its
-    /// history has places for all entries that the book can have.
+    /// An office with a shop's order book without entries, and its desks, numbered from 1. Its history has
+    /// places for all entries that the book can have.
     ///
-    /// Errors, in this order: `Desks` where the number of desks is 0 or over `MOST_DESKS`; `NoMemory` where
-    /// memory is refused.
+    /// Errors, in this order: `Desks` if the number of desks is 0 or over `MOST_DESKS`; `NoMemory` if an
+    /// allocation fails.
     pub fn open(alloc: Global, shop: Shop, desks: u64) -> Result<(Office, Vec<Desk>), OfficeFault>
         ensures accepted { OnOk result ((1 ≤ desks) × (desks ≤ MOST_DESKS)) }
         ensures shop { IfOk result (λ r. r.0.about.object ≡ shop) }
-        // As many desks as were asked for; the k-th has the number k, and has seen and called nothing.
+        // As many desks as requested; the k-th has the number k, and has seen and called nothing.
         ensures asked { IfOk result (λ r. r.0.about.seats ≡ desks) }
         ensures count { IfOk result (λ r. length r.1.items ≡ desks) }
         ensures desks { IfOk result (λ r. (k : ℕ) → k < desks → slice_get r.1.items k ≡ Some (newcomer r.0 (k + 1))) }
@@ -84,12 +84,12 @@ impl Office {
         self.turn.object().shop()
     }
 
-    /// Books a quantity of an item, due in a week: the entry's number, and the reply. The caller
-    /// owes a line of the shop and a desk of this office, here and in the calls below, which may
+    /// Books a quantity of an item, due in a week: returns the entry's number and the reply. The line must
+    /// be one of the shop, and the desk one of this office, here and in the calls below. All of them may
     /// wait for calls of other desks.
     ///
-    /// Errors: `Full` where the book has 1,000,000 entries, and `NoMemory` where memory is refused,
-    /// of which a short booking takes none. No entry was made then.
+    /// Errors: `Full` if the book has 1,000,000 entries, and `NoMemory` if an allocation fails; a short
+    /// booking does not allocate. After an error no entry was made.
     pub fn book<R: Wait>(
         &self,
         rt: &R,
@@ -148,7 +148,7 @@ impl Office {
         self.call(rt, desk, Call::When(wish))
     }
 
-    /// Takes a snapshot of the standing bookings, those of this desk among them.
+    /// Takes a snapshot of the standing bookings, including those of this desk.
     ///
     /// Errors: as of [`Office::book`].
     pub fn snapshot<R: Wait>(&self, rt: &R, desk: &mut Desk) -> Result<(u64, Reply), Refused>
@@ -189,16 +189,16 @@ impl Office {
         answered(self.turn.meet(rt, desk, other, Call::Front))
     }
 
-    /// Ends the office, and gives the history of its order book. The caller owes every desk that
-    /// was made. It takes no memory.
+    /// Ends the office, and returns the history of its order book. All desks must be given. It does not
+    /// allocate.
     pub fn close(self, desks: Vec<Desk>) -> History
         requires office { All (λ d. d.turn ≡ self) desks.items }
         requires all { (n : ℕ) → 1 ≤ n → n ≤ self.about.seats → HasNumber desks.items n }
         ensures supply { result.supply ≡ supply_at self }
         ensures legal { IsLegal result.supply result.entries }
         ensures few { length result.entries ≤ MOST_ENTRIES }
-        // What each desk has seen is the front of the history, and its own entries are all those under
-        // its number.
+        // What each desk has seen is a prefix of the history, and its own entries are all those under its
+        // number.
         ensures seen { All (λ d. StartsWith result.entries d.seen) desks.items }
         ensures mine { All (λ d. d.mine ≡ entries_by d.number result.entries) desks.items }
         // Every entry is under the number of one of the desks.
@@ -223,7 +223,7 @@ impl Office {
     }
 }
 
-// What a desk is answered: its call never lacks a place in the log.
+// The answer to a desk: its call never lacks a place in the log.
 fn answered(given: Result<(u64, Reply), CallFault<Refused>>) -> Result<(u64, Reply), Refused>
     requires { IfErr given (λ f. f ≢ fault.NoMemory) }
     ensures { IsAnswerOf given result }

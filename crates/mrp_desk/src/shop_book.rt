@@ -1,4 +1,4 @@
-//! The order book as an object that desks take turns with.
+//! The order book as the object that desks take turns on.
 
 use mrp_bill::Shop;
 use mrp_book::{BookState, Call, Refused, Reply};
@@ -12,7 +12,7 @@ use std::sync::Arc;
 #[derive(Drop)]
 pub struct ShopBook {
     shop: Arc<Shop>,
-    // What bookings and snapshots take memory from.
+    // The allocator of bookings and snapshots.
     alloc: Global,
 }
 
@@ -28,7 +28,7 @@ impl ShopBook {
     ghost use Rattle.std.specs.Prelude.{◌≡◌, IfOk};
     ghost use Rattle.mrp_desk.specs.ShopBook.{Opens};
 
-    // The order book of a shop, and its state without an entry.
+    // The order book of a shop, and its state without entries.
     pub(crate) fn open(alloc: Global, shop: Shop) -> Result<(ShopBook, BookState), NoMemory>
         ensures { IfOk result (λ r. (r.0 ≡ shop) × Opens r.0 r.1) }
     {
@@ -48,7 +48,7 @@ impl ShopBook {
 impl Object for ShopBook {
     ghost use Rattle.mrp_master.specs.Supply.{supply_of};
     ghost use Rattle.mrp_book.specs.History.{Fits};
-    ghost use Rattle.mrp_desk.specs.ShopBook.{Opens, Answers, Refuses, WantsMemory};
+    ghost use Rattle.mrp_desk.specs.ShopBook.{Opens, Answers, Refuses, IsOutOfMemory};
 
     type State = BookState;
 
@@ -66,7 +66,7 @@ impl Object for ShopBook {
 
     ghost refuses = { λ _ b _ _ e. Refuses b e };
 
-    ghost wants_memory = { λ _ b _ call e. WantsMemory b call e };
+    ghost out_of_memory = { λ _ b _ call e. IsOutOfMemory b call e };
 
     fn apply(
         &self,

@@ -59,7 +59,7 @@ by-words t h answers = of-records Worded t h answers (added (list_any (λ r. is_
     added true = worded
     added false = All-push Worded (script_of t) (1, call.Snapshot) worded (s.Run, refl)
 
--- where each run is planned, each has its report
+-- if each run is planned, each has its report
 all-reported : (runs : List Inputs) → AllByRecursion IsPlannable runs → flat_map run_report runs ≡ flat_map report_text runs
 all-reported [] all = refl
 all-reported (run ∷ runs) all = ap₂ (λ (x y : List ℕ). x ++ y) (ap (text_of_plan run) all.0.1) (all-reported runs all.1)

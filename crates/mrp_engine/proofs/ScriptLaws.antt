@@ -51,7 +51,7 @@ taken s h desk call.Snapshot r snapshot e is =
     (refl, same)
 taken s h desk call.Front r snapshot e is = absurd (cc)
 
--- an entry's run, and the runs of the entries behind it
+-- an entry's run, and the runs of the entries after it
 run-at : (t : Tables) (h before : History) (e : Entry Call Reply) (later : History) → h ≡ before ++ e ∷ later → IsReply (supply_of t) before e.who e.call e.reply
     → (r : Reply) → e.reply ≡ r → All (IsRunOf t h) (runs_of t later) → All (IsRunOf t h) (planned_from t r ++ runs_of t later)
 run-at t h before e later cut is (reply.Taken snapshot) same rest =

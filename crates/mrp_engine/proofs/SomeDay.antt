@@ -25,7 +25,7 @@ use Rattle.mrp_engine.specs.day.Script.{Script, is_run, record_of, script_of, wi
 use Rattle.mrp_engine.proofs.lemmas.day.ScriptCalls.{call-fits}
 use Rattle.mrp_engine.proofs.lemmas.day.ShopFaults.{sections-refused, tables-are}
 
--- what the laws say on which this one stands: tables keep their limits
+-- what the laws that this one rests on say: tables keep their limits
 abbrev pub KeepLimits : Type 0
 KeepLimits = (texts : List (List ℕ)) (tables : Tables) → tables_in texts ≡ Ok tables → AreTables tables
 

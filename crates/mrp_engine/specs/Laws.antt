@@ -1,4 +1,4 @@
--- That a bundle has a day, and what the bookings of an answered script are.
+-- That a bundle has a day, and what holds of the bookings of an answered script.
 use Rattle.std.specs.Prelude.{ℕ, ◌≡◌, ◌≤◌, ◌+◌, ◌⊎◌, List, ◌∷◌, ◌++◌, length, All, Contains, Ok, Err}
 use Rattle.mrp_rows.specs.declared.fault.Fault.{Fault}
 use Rattle.mrp_tables.specs.declared.rows.BillLine.{BillLine}
@@ -29,11 +29,12 @@ HasLoopOrNone lines = ((item : ℕ) × IsFirstLoop lines item) ⊎ ((i : ℕ) �
 abbrev pub ArePlannedOrRefused : List Inputs → Type 0
 ArePlannedOrRefused runs = All IsPlannable runs ⊎ ((name : List ℕ) × IsFirstRefusal runs name)
 
--- a bundle has the text of a day, or a first fault, the loop last, or the name of the item that refuses its first run that is refused
+-- a bundle has the text of a day, or a first fault, a loop in the bill last, or the name of the item that gets too
+-- large in the first run that is refused
 abbrev pub HasDay : List ℕ → Type 0
 HasDay bundle = ((text : List ℕ) × IsDay bundle text) ⊎ ((f : Fault) × IsRefused bundle f) ⊎ ((name : List ℕ) × IsTooLarge bundle name)
 
--- a run of a history: an entry of it called for a snapshot, and what is planned from are the bookings that stood then
+-- a run of a history: an entry of it called for a snapshot, and the run plans from the bookings that stood then
 pub record IsRunOf (tables : Tables) (h : History) (s : Inputs) : Type 0 where
   pub before : History
   pub entry : Entry Call Reply
@@ -52,11 +53,11 @@ BooksWithin tables h =
     (before : History) (e : Entry Call Reply) (after : History) (l : Line) (n : ℕ) → h ≡ before ++ e ∷ after → e.call ≡ call.Book l → e.reply ≡ reply.Booked n
     → (available : ℕ) × IsAvailable (supply_of tables) (booked before) l.item l.week available × (l.quantity ≤ available)
 
--- what stands is covered by the supply at every front
+-- at every front the standing bookings are covered by the supply
 abbrev pub StaysCovered : Tables → History → Type 0
 StaysCovered tables h = (before after : History) → h ≡ before ++ after → IsCovered (supply_of tables) (booked before)
 
--- a call that one of the script's five words makes
+-- a call by one of the script's five words
 abbrev pub IsOfWord : Call → Type 0
 IsOfWord c = (word : ScriptCall) × (c ≡ call_of word)
 

@@ -1,4 +1,5 @@
-//! A day: its shop is opened, its script answered, its runs planned, its texts written; here a day before it is written.
+//! Days: the shop of a bundle is opened, its script is answered, its runs are planned, its texts are
+//! written. This file has a day before it is written.
 
 ghost use Rattle.std.specs.Prelude.{◌≡◌};
 ghost use Rattle.mrp_master.specs.Supply.{supply_of};
@@ -27,7 +28,8 @@ use std::sync::Arc;
 use std::thread::Threads;
 pub(crate) use writing::write_day;
 
-/// The rows of a shop, a history of its order book, and the plan of each run of it, in order.
+/// A planned day: the rows of a shop, a history of its order book, and the plan of each run in it,
+/// in order.
 #[derive(Drop)]
 pub struct Day {
     pub rows: Arc<ShopRows>,
@@ -35,11 +37,11 @@ pub struct Day {
     pub plans: Vec<Plan>,
 }
 
-/// The day of a shop's history, each run of which is planned over the shop's rows. The caller owes a
-/// history of an equal shop.
+/// Plans each run of a history over the shop's rows. The caller guarantees that the history has the
+/// supply of the shop.
 ///
-/// Errors: `TooLarge` with the first item in table order that gets too large in the first run with
-/// such an item, and `NoMemory`.
+/// Errors: `TooLarge` with the first item in table order whose quantities get too large in the
+/// first run with such an item; `NoMemory` if an allocation fails.
 pub fn plan_history(
     rt: &(impl Threads + Sync),
     alloc: Global,

@@ -20,8 +20,8 @@ use std::sync::Arc;
 use std::thread::Threads;
 
 /// The core of a shop: its order book with its history, and the runs that were started, each with
-/// its board. Contracts see the shop's tables, the history, and of each run its front and the log of
-/// its board.
+/// its board. Contracts see the shop's tables, the history, and for each run its front and the log
+/// of its board.
 #[derive(Drop)]
 pub struct Core {
     book: Book,
@@ -52,12 +52,12 @@ impl Core {
     ghost use Rattle.mrp_master.specs.Supply.{supply_of};
     ghost use Rattle.mrp_book.specs.History.{Fits};
     ghost use Rattle.mrp_engine.specs.declared.event_core.event.Event.TheVariants as event;
-    ghost use Rattle.mrp_engine.specs.event_core.Core.{FitsShop, IsAnswer, IsStarted, WantsMemory, after, opened};
+    ghost use Rattle.mrp_engine.specs.event_core.Core.{FitsShop, IsAnswer, IsStarted, IsOutOfMemory, after, opened};
     ghost use Rattle.mrp_engine.specs.event_core.Headline.{RunsRight};
 
-    /// The core of a shop, without an entry and without a run.
+    /// The core of a shop, without entries and without runs.
     ///
-    /// Errors: `NoMemory` where memory is refused.
+    /// Errors: `NoMemory` if an allocation fails.
     pub fn new(alloc: Global, shop: Shop) -> Result<Core, NoMemory>
         ensures { IfOk result (λ core. core ≡ opened shop.tables) }
     {
@@ -70,14 +70,12 @@ impl Core {
         })
     }
 
-    /// Answers an event: a call on the order book, the start of a run, a step of a worker at a run,
-    /// or the report of a run. An event that has no meaning is answered `Nothing` and changes
-    /// nothing. Of a desk with a number from 1 to 64 the caller owes a call that was made for an equal
-    /// shop.
+    /// Answers an event: a call on the order book, the start of a run, a step of a worker on a run, or the
+    /// report of a run. An event that has no meaning is answered `Nothing` and changes nothing. The caller
+    /// guarantees that a call by a desk with a number from 1 to 64 was made for an equal shop.
     ///
-    /// Errors: `NoMemory` where memory is refused. Nothing has changed then. An event that has no
-    /// meaning takes no memory, nor does one that a full order book is asked, or one that is answered
-    /// `NotYet`.
+    /// Errors: `NoMemory` if an allocation fails; nothing has changed then. An event that is answered
+    /// `Nothing`, `Full` or `NotYet` takes no memory.
     pub fn step(
         &mut self,
         rt: &(impl Alloc + Threads + Sync),
@@ -88,7 +86,7 @@ impl Core {
         ensures answer { IfOk result (IsAnswer self.old event) }
         ensures after { IfOk result (λ a. self.new ≡ after self.old event a) }
         ensures refused { OnErr result (self.new ≡ self.old) }
-        ensures memory { OnErr result (WantsMemory self.old event) }
+        ensures memory { OnErr result (IsOutOfMemory self.old event) }
         ensures tables { self.new.tables ≡ self.old.tables }
     {
         match event {
@@ -107,7 +105,7 @@ impl Core {
         ensures answer { IfOk result (IsAnswer self.old (event.Call desk call)) }
         ensures after { IfOk result (λ a. self.new ≡ after self.old (event.Call desk call) a) }
         ensures refused { OnErr result (self.new ≡ self.old) }
-        ensures memory { OnErr result (WantsMemory self.old (event.Call desk call)) }
+        ensures memory { OnErr result (IsOutOfMemory self.old (event.Call desk call)) }
     {
         if !is_seat(desk) {
             return Ok(Answer::Nothing);
@@ -119,19 +117,20 @@ impl Core {
         }
     }
 
-    // The rows of the shop, shared.
+    // A new reference to the rows of the shop.
     fn share_rows(&self) -> Result<Arc<ShopRows>, NoMemory>
         ensures { IfOk result (λ rows. rows.value.tables ≡ self.now.tables) }
     {
         Ok(self.rows.clone()?)
     }
 
-    // A desk starts a run. All that can be refused comes before the entry, which is not taken back.
+    // A desk starts a run. Everything that can fail comes before the entry, since an entry is never
+    // taken back.
     fn start(&mut self, alloc: Global, desk: u64) -> Result<Answer, NoMemory>
         ensures answer { IfOk result (IsAnswer self.old (event.Start desk)) }
         ensures after { IfOk result (λ a. self.new ≡ after self.old (event.Start desk) a) }
         ensures refused { OnErr result (self.new ≡ self.old) }
-        ensures memory { OnErr result (WantsMemory self.old (event.Start desk)) }
+        ensures memory { OnErr result (IsOutOfMemory self.old (event.Start desk)) }
     {
         if !is_seat(desk) {
             return Ok(Answer::Nothing);
@@ -141,7 +140,7 @@ impl Core {
         }
         let rows = self.share_rows()?;
         self.runs.try_reserve(1)?;
-        // The entries are legal, so what stands after them can be planned from.
+        // The entries are legal, so a run can be planned from what stands after them.
         let _legal = self.book.entries();
         match self.book.call(alloc, desk, Call::Snapshot) {
             Ok((front, Reply::Taken(snapshot))) => {
@@ -153,7 +152,7 @@ impl Core {
         }
     }
 
-    // The place of a run that was started.
+    // The place of a run, if it was started.
     fn place(&self, run: usize) -> Option<usize>
         ensures started { IfSome result (λ place. IsStarted self.now run × (run ≡ place + 1)) }
         ensures none { IfNone result (IsStarted self.now run → ⊥) }
@@ -170,7 +169,7 @@ impl Core {
         ensures answer { IfOk result (IsAnswer self.old (event.Take run worker)) }
         ensures after { IfOk result (λ a. self.new ≡ after self.old (event.Take run worker) a) }
         ensures refused { OnErr result (self.new ≡ self.old) }
-        ensures memory { OnErr result (WantsMemory self.old (event.Take run worker)) }
+        ensures memory { OnErr result (IsOutOfMemory self.old (event.Take run worker)) }
     {
         let Some(place) = self.place(run) else {
             return Ok(Answer::Nothing);
@@ -189,7 +188,7 @@ impl Core {
         ensures answer { IfOk result (IsAnswer self.old (event.Finish run worker)) }
         ensures after { IfOk result (λ a. self.new ≡ after self.old (event.Finish run worker) a) }
         ensures refused { OnErr result (self.new ≡ self.old) }
-        ensures memory { OnErr result (WantsMemory self.old (event.Finish run worker)) }
+        ensures memory { OnErr result (IsOutOfMemory self.old (event.Finish run worker)) }
     {
         let Some(place) = self.place(run) else {
             return Ok(Answer::Nothing);
@@ -205,7 +204,7 @@ impl Core {
         ensures answer { IfOk result (IsAnswer self.old (event.GiveUp run worker)) }
         ensures after { IfOk result (λ a. self.new ≡ after self.old (event.GiveUp run worker) a) }
         ensures refused { OnErr result (self.new ≡ self.old) }
-        ensures memory { OnErr result (WantsMemory self.old (event.GiveUp run worker)) }
+        ensures memory { OnErr result (IsOutOfMemory self.old (event.GiveUp run worker)) }
     {
         let Some(place) = self.place(run) else {
             return Ok(Answer::Nothing);
@@ -227,7 +226,7 @@ impl Core {
         ensures answer { IfOk result (IsAnswer self.old (event.Write run)) }
         ensures after { IfOk result (λ a. self.new ≡ after self.old (event.Write run) a) }
         ensures refused { OnErr result (self.new ≡ self.old) }
-        ensures memory { OnErr result (WantsMemory self.old (event.Write run)) }
+        ensures memory { OnErr result (IsOutOfMemory self.old (event.Write run)) }
     {
         let Some(place) = self.place(run) else {
             return Ok(Answer::Nothing);
@@ -235,10 +234,10 @@ impl Core {
         self.runs[place].write(rt, alloc)
     }
 
-    /// What a new core of a shop answers to events, one answer each. The caller owes of desks with a
-    /// number from 1 to 64 calls that were made for an equal shop.
+    /// The answers of a new core of a shop to events, one for each. The caller guarantees that the
+    /// calls by desks with numbers from 1 to 64 were made for an equal shop.
     ///
-    /// Errors: `NoMemory` where memory is refused.
+    /// Errors: `NoMemory` if an allocation fails.
     pub fn run(
         rt: &(impl Alloc + Threads + Sync),
         alloc: Global,

@@ -23,18 +23,18 @@ use mrp_bill::laws::loops;
 use mrp_book::laws::histories;
 use mrp_tables::laws::accepted_tables_keep_their_limits;
 
-/// Each bundle has a day: a text, or a fault, or an item that is too large. The law stands on those
-/// that it calls, of tables, bills and order books.
+/// Each bundle has a day: a text, a fault, or an item that gets too large. The law rests on the
+/// laws that it calls, about tables, bills and order books.
 pub fn some_day()
     // A bundle has tables, which keep their limits, or a first fault.
     ensures reading { (bundle : List ℕ) → HasReading bundle }
-    // Of such tables a first item needs itself, or none does.
+    // In such tables there is a first item that needs itself, or none does.
     ensures bill { (tables : Tables) → AreTables tables → HasLoopOrNone tables.bills }
     // Their script has a history that answers it.
     ensures history { (tables : Tables) → AreTables tables → (h : History) × AnswersScript tables h }
     // All runs can be planned, or there is a first that is refused.
     ensures runs { (all : List Inputs) → ArePlannedOrRefused all }
-    // So a bundle has a text, a fault or the name of an item that is too large.
+    // So a bundle has a text, a fault, or the name of an item that gets too large.
     ensures day { (bundle : List ℕ) → HasDay bundle }
 {
     accepted_tables_keep_their_limits();
@@ -42,7 +42,7 @@ pub fn some_day()
     histories();
 }
 
-/// A bundle has one day: one text, or one fault, or one item that is too large.
+/// A bundle has exactly one day: one text, one fault, or one item that gets too large.
 pub fn one_day()
     ensures text { (bundle one other : List ℕ) → IsDay bundle one → IsDay bundle other → one ≡ other }
     ensures fault { (bundle : List ℕ) (one other : Fault) → IsRefused bundle one → IsRefused bundle other → one ≡ other }
@@ -53,27 +53,29 @@ pub fn one_day()
     ensures fault_or_name { (bundle name : List ℕ) (f : Fault) → IsRefused bundle f → IsTooLarge bundle name → ⊥ }
 {}
 
-/// A script's history, and what its runs are planned from.
+/// The history of a script is unique, and its runs are planned from what stood at their entries.
 pub fn runs()
     // A script has one history.
     ensures one_history { (tables : Tables) (one other : History) → AnswersScript tables one → AnswersScript tables other → one ≡ other }
-    // A run is planned from the bookings that stood at its entry, whatever came later.
+    // A run is planned from the bookings that stood at its entry, whatever came later in the
+    // history.
     ensures what_stood { (tables : Tables) (h : History) → AnswersScript tables h → PlansWhatStood tables h }
 {}
 
-/// The bookings of a script's history.
+/// Promising never exceeds the supply in a script's history.
 pub fn bookings()
-    // Each booking that was made was within what was available to promise then.
+    // Each booking that was made was within what was available to promise at that moment.
     ensures within { (tables : Tables) (h : History) → AnswersScript tables h → BooksWithin tables h }
     // At every front the standing bookings are covered by the supply.
     ensures covered { (tables : Tables) (h : History) → AnswersScript tables h → StaysCovered tables h }
 {}
 
-/// The right days of a bundle, in which its desks make their calls beside one another.
+/// The right days of a bundle, in which its desks make their calls concurrently.
 pub fn right_days()
     // The history that answers a script in row order is one of those that answer it desk by desk.
     ensures in_order { (tables : Tables) (h : History) → AnswersScript tables h → AnswersDesks tables h }
-    // So the day of a bundle is a right day of it, and so is each in which the desks answer beside one another.
+    // So the day of a bundle is a right day of it, and so is each day whose desks make their calls
+    // concurrently.
     ensures day { (bundle text : List ℕ) → IsDay bundle text → IsRightDay bundle text }
     ensures live { (bundle text : List ℕ) → IsDayBy AnswersDesks bundle text → IsRightDay bundle text }
     // Each call of its history is one of the script's, by one of the script's five words.
@@ -85,34 +87,34 @@ pub fn right_days()
     ensures covered { (tables : Tables) (h : History) → AnswersDesks tables h → StaysCovered tables h }
 {}
 
-/// The state of a run's board, of which every item has its worker, if it was handed out, and whether it
+/// The state of a run's board: for every item, the worker that it was handed out to, if any, and whether it
 /// is stored.
 pub fn boards()
-    // A legal log is answered as the state that it leaves.
+    // A board answers by its legal log as it does by the state that the log leaves.
     ensures reply { (s : Inputs) (log : BoardLog) (who : ℕ) (c : BoardCall) → IsLegalBoard s log → board_reply s log who c ≡ board_reply_in s (state_of s log) who c }
-    // A log without an entry leaves the state in which a board opens.
+    // An empty log leaves the state in which a board opens.
     ensures none { (s : Inputs) → state_of s [] ≡ new_board s }
-    // One more entry changes the state that a log leaves as it changes any.
+    // One more entry changes the state that a log leaves as it changes any state.
     ensures more { (s : Inputs) (log : BoardLog) (who : ℕ) (c : BoardCall) (r : BoardReply) → board_reply s log who c ≡ Some r → state_of s (log ++ entry who c r ∷ []) ≡ state_after (state_of s log) who c r }
 {}
 
-/// Events that are asked of `Core::step` one by one. So the events that it was asked so far, with its
-/// answers, are right, and keep the headline.
+/// Events passed to `Core::step` one by one. By these laws the events passed so far, with their answers, are
+/// right, so the headline holds of them.
 pub fn steps()
-    // No events are right, and leave the core that was opened.
+    // The empty list of events is right, and leaves the core as it was opened.
     ensures none { (tables : Tables) → IsRight tables [] × (core_of tables [] ≡ opened tables) }
-    // Right ones stay right with one more of the shop that is answered by the core which they leave.
+    // Right events stay right with one more, if it fits the shop and is answered by the core that they leave.
     ensures more { (tables : Tables) (steps : List Step) (e : Event) (a : Answer) → IsRight tables steps → FitsShop tables e → IsAnswer (core_of tables steps) e a → IsRight tables (steps ++ (e, a) ∷ []) }
-    // It leaves that core as `after` says, and its tables are always the shop's.
+    // That event leaves the core that `after` defines, and the core's tables are always the shop's.
     ensures after { (tables : Tables) (steps : List Step) (e : Event) (a : Answer) → core_of tables (steps ++ (e, a) ∷ []) ≡ after (core_of tables steps) e a }
     ensures tables { (tables : Tables) (steps : List Step) → (core_of tables steps).tables ≡ tables }
 {}
 
-/// The headline. For every interleaving of bookings, cancellations, snapshots and item steps, with any
-/// number of desks and workers from 1 to 64: the bytes that a finished run writes are the report of
-/// the plan that the tables and the bookings standing at its snapshot define; no accepted booking
-/// exceeded what was then available to promise; every requirement's pegs add up to it exactly; every
-/// work centre's load is its orders' standard minutes. `Headline` has a clause for each.
+/// The headline: what holds for every interleaving of bookings, cancellations, snapshots and item steps, with
+/// any number of desks and workers from 1 to 64. The bytes that a finished run writes are the report of the
+/// plan that the tables and the bookings standing at its snapshot define. No accepted booking exceeded what
+/// was then available to promise. The pegs of every requirement add up to it exactly. The load of every work
+/// centre is the standard minutes of its orders. `Headline` has a clause for each.
 pub fn headline()
     ensures { (shop : Shop) (steps : List Step) → IsAcceptedShop shop → IsRight shop.tables steps → Headline shop.tables steps }
 {}

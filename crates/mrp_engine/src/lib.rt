@@ -1,4 +1,4 @@
-//! Days: from a bundle's bytes to its history and reports.
+//! Days: from the bytes of a bundle to the history of its order book and the reports of its runs.
 #![tactic(auto)]
 
 mod day;

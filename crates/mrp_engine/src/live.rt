@@ -1,4 +1,4 @@
-//! A live day: the desks of its script answer beside one another.
+//! A live day: the desks of its script make their calls concurrently.
 
 ghost use Rattle.std.specs.Prelude.{◌≤◌, Some, ⊤, vec_len};
 ghost use Rattle.std.specs.Int.{IsInRange};
@@ -23,7 +23,7 @@ use std::io::{Read, Write};
 use std::sync::Wait;
 use std::thread::Threads;
 
-// Has a shop's desks answer its script beside one another, and plans the runs of it.
+// Has a shop's desks make the calls of its script concurrently, and plans the runs.
 fn plan_live(
     rt: &(impl Alloc + Threads + Wait + Sync),
     alloc: Global,
@@ -36,18 +36,16 @@ fn plan_live(
     plan_history(rt, alloc, rows, history)
 }
 
-/// Has the desks of a bundle's script make their calls beside one another, plans the runs of what they
-/// did, and writes the history and the report of each run. Nothing is written before every run is
-/// planned. The bundle is of at most 67,108,864 bytes, as the caller owes, and its bytes are given up
-/// once its shop is open.
+/// Has the desks of a bundle's script make their calls concurrently, plans the runs that they started, and
+/// writes the history and the report of each run. Nothing is written before every run is planned. The caller
+/// guarantees that the bundle has at most 67,108,864 bytes; they are dropped once its shop is open.
 ///
-/// There are as many desks as the script's greatest desk number. Each has a thread, where one can be
-/// started, and makes the calls of its records in order; which desk comes first is left open. A
-/// script without a run is taken with one more record, a run of desk 1 after all others. What is
-/// written is a right day (`laws::right_days`). So many workers, 1 to 64 as the caller owes, make the
-/// rows of a report.
+/// There are as many desks as the script's greatest desk number. Each has a thread, if one can be started,
+/// and makes the calls of its records in order; the order between desks is not specified. A script without a
+/// run is taken with one more record, a run of desk 1 after all others. What is written is a right day
+/// (`laws::right_days`). `workers` threads (1 to 64, as the caller guarantees) make the rows of a report.
 ///
-/// Errors: as of [`run_bundle`](crate::run_bundle), by a history that answers the script desk by desk.
+/// Errors: those of [`run_bundle`](crate::run_bundle), for a history that answers the script desk by desk.
 pub fn live_bundle<W: Write>(
     rt: &(impl Alloc + Threads + Wait + Sync),
     alloc: Global,
@@ -65,9 +63,10 @@ pub fn live_bundle<W: Write>(
     write_day(rt, alloc, day, writer, workers)
 }
 
-/// Reads a bundle to its end, and makes a live day of it as [`live_bundle`] does.
+/// Reads a bundle to its end, and makes a live day of it like [`live_bundle`].
 ///
-/// Errors: as of [`run_day`](crate::run_day), by a history that answers the script desk by desk.
+/// Errors: those of [`run_day`](crate::run_day), for a history that answers the script desk by
+/// desk.
 pub fn live_day<R: Read, W: Write>(
     rt: &(impl Alloc + Threads + Wait + Sync),
     alloc: Global,

@@ -1,4 +1,4 @@
--- What stands in a list of places, each of which holds something, is taken out from the front.
+-- What is in a list of places, each of which holds something, is taken out from the first on.
 use Rattle.std.proofs.Common.{◌≡◌, ◌∙◌, ◌<◌, ℕ, List, ◌++◌, Option, Some, None, length, get_or, map, ap, sym, subst, arith}
 use Rattle.std.proofs.lemmas.List.{length-map, get_or-map, get_or_default, ext_get_or}
 use Rattle.std.proofs.lemmas.List.FromFn.{get_or-map-range_with_len, length-map-range_with_len}

@@ -6,12 +6,12 @@ use Rattle.mrp_item.specs.Inputs.{Inputs, count}
 use Rattle.mrp_item.specs.Made.{item_from}
 use Rattle.mrp_item.specs.Places.{ItemOf}
 
--- the outcomes so far, by their items' places, and what they are planned from
+-- the outcomes so far, by their items' places, and the inputs that they are planned from
 pub record Progress : Type 0 where
   pub inputs : Inputs
   pub outcomes : List (Option ItemOf)
 
--- a place for each item, and each outcome is its item's
+-- there is a place for each item, and each outcome is that of its item
 pub record AreOwn (s : Inputs) (outcomes : List (Option ItemOf)) : Type 0 where
   pub size : length outcomes ≡ count s
   pub own : (i : ℕ) (o : ItemOf) → slice_index_or outcomes i None ≡ Some o → o ≡ item_from s i

@@ -6,11 +6,11 @@ use thiserror::Error;
 /// Why a run has no plan.
 #[derive(Clone, Copy, Debug, PartialEq, Eq, Error)]
 pub enum RunFault {
-    /// A growth of memory was refused.
+    /// Out of memory.
     #[error("no memory")]
     NoMemory,
-    /// This item, by its place in the table, is the first that gets too large where none above it
-    /// does.
+    /// The first item in table order whose quantities get too large while those of no item above it
+    /// do; by its place in the table.
     #[error("too large")]
     TooLarge { item: usize },
 }

@@ -15,7 +15,7 @@ use std::alloc::Global;
 use std::marker::Model;
 use std::sync::Arc;
 
-/// The outcomes of the items that are planned so far, by their places; each is its item's.
+/// The outcomes of the items that are planned so far, each at its item's place in the table.
 #[derive(Drop)]
 pub struct Finished {
     inputs: Arc<Inputs>,
@@ -32,14 +32,14 @@ impl Model for Finished {
     ghost invariant = { λ f. AreOwn f.inputs.value f.outcomes.items };
 }
 
-// Why a run has no plan, by the first item that is over.
+// The fault `TooLarge` with the first item that is over.
 fn too_large(item: usize) -> RunFault
     ensures { result ≡ RunFault.TooLarge item }
 {
     RunFault::TooLarge { item }
 }
 
-// The plan that all items' outcomes make, or why there is none, for which memory is no reason.
+// The plan that the outcomes of all items make, or why there is none. This takes no memory.
 fn plan_from(inputs: Arc<Inputs>, outcomes: Vec<Outcome>) -> Result<Plan, RunFault>
     requires { outcomes.items ≡ all_from inputs.value }
     ensures plan { Explodes inputs.value result }
@@ -51,7 +51,7 @@ fn plan_from(inputs: Arc<Inputs>, outcomes: Vec<Outcome>) -> Result<Plan, RunFau
     }
 }
 
-// The outcomes in a list of places, none of which is empty.
+// The outcomes in a list of places of which none is empty.
 fn out_of_places(alloc: Global, outcomes: Vec<Option<Outcome>>) -> Result<Vec<Outcome>, NoMemory>
     requires { All IsSome outcomes.items }
     ensures { IfOk result (λ all. outcomes.items ≡ map Some all.items) }
@@ -67,9 +67,9 @@ fn out_of_places(alloc: Global, outcomes: Vec<Option<Outcome>>) -> Result<Vec<Ou
 }
 
 impl Finished {
-    /// No item is planned yet.
+    /// The state in which no item is planned yet.
     ///
-    /// Errors: `NoMemory` where memory is refused, or a count of sharers can't rise.
+    /// Errors: `NoMemory` if an allocation fails, or a reference count cannot rise.
     pub fn new(alloc: Global, inputs: &Arc<Inputs>) -> Result<Finished, NoMemory>
         ensures inputs { IfOk result (λ f. f.inputs ≡ inputs.now.value) }
         ensures none { IfOk result (λ f. f.outcomes ≡ replicate (count inputs.now.value) None) }
@@ -139,9 +139,9 @@ impl Finished {
         Ok(copies)
     }
 
-    /// What planning makes of an item whose parents are finished.
+    /// The outcome of planning an item whose parents are finished.
     ///
-    /// Errors: `NoMemory` where memory is refused, or a count of sharers can't rise.
+    /// Errors: `NoMemory` if an allocation fails, or a reference count cannot rise.
     pub fn outcome_for(&self, alloc: Global, item: usize) -> Result<Outcome, NoMemory>
         requires item { item < count self.now.inputs }
         requires ready { IsReady self.now item }
@@ -151,7 +151,8 @@ impl Finished {
         plan_item(alloc, &self.inputs, item, &parents)
     }
 
-    /// Puts an outcome in its item's place.
+    /// Puts an outcome in its item's place. The caller guarantees that it was planned from the same
+    /// inputs.
     pub fn put(&mut self, outcome: Outcome)
         requires inputs { outcome.inputs ≡ self.old.inputs }
         requires item { outcome.item < count self.old.inputs }
@@ -162,9 +163,9 @@ impl Finished {
         self.outcomes[item] = Some(outcome);
     }
 
-    /// Plans an item whose parents are finished.
+    /// Plans an item whose parents are finished, and puts the outcome in its place.
     ///
-    /// Errors: `NoMemory` where memory is refused, or a count of sharers can't rise.
+    /// Errors: `NoMemory` if an allocation fails, or a reference count cannot rise.
     pub fn plan(&mut self, alloc: Global, item: usize) -> Result<(), NoMemory>
         requires item { item < count self.old.inputs }
         requires ready { IsReady self.old item }
@@ -190,17 +191,17 @@ impl Finished {
         Ok(all)
     }
 
-    // What the items are planned from, shared.
+    // A new reference to what the items are planned from.
     fn share_inputs(&self) -> Result<Arc<Inputs>, NoMemory>
         ensures { IfOk result (λ inputs. inputs.value ≡ self.now.inputs) }
     {
         Ok(self.inputs.clone()?)
     }
 
-    /// The plan of all items, each of which is finished. What was finished is moved into it, and is given
-    /// up where it is refused.
+    /// The plan of all items. The caller guarantees that each is finished. The outcomes are moved into the
+    /// plan, and dropped on an error.
     ///
-    /// Errors: `NoMemory` where memory is refused, and `TooLarge` with the first item that is over.
+    /// Errors: `NoMemory` if an allocation fails; `TooLarge` with the first item that is over.
     pub fn into_whole(self, alloc: Global) -> Result<Plan, RunFault>
         requires { (i : ℕ) → i < count self.inputs → IsFinished self i }
         ensures { Explodes self.inputs result }
@@ -210,9 +211,10 @@ impl Finished {
         plan_from(inputs, all)
     }
 
-    /// The plan of all items, each of which is finished, made of copies of their outcomes.
+    /// The plan of all items, from copies of their outcomes. The caller guarantees that each is
+    /// finished.
     ///
-    /// Errors: `NoMemory` where memory is refused, and `TooLarge` with the first item that is over.
+    /// Errors: `NoMemory` if an allocation fails; `TooLarge` with the first item that is over.
     pub fn whole(&self, alloc: Global) -> Result<Plan, RunFault>
         requires { (i : ℕ) → i < count self.now.inputs → IsFinished self.now i }
         ensures { Explodes self.now.inputs result }

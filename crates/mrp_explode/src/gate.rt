@@ -1,11 +1,12 @@
-//! Gates, which work passes one by one.
+//! Gates, which each step of work passes before it is done.
 
 use std::sync::Wait;
 
-/// What work passes before each of its steps. A gate may hold it, for a test to see what goes on beside it.
+/// What work passes before each of its steps. A gate may hold the work there, so that a test sees what others
+/// do meanwhile.
 pub trait Gate {
-    /// Passes, before what has this number is done: an item's plan, by its place in the table, or a
-    /// record of a desk, by the desk's number. It may wait.
+    /// Passes the gate before a step: before an item is planned, with its place in the table, or
+    /// before a desk's record is answered, with the desk's number. It may wait.
     fn pass<R: Wait>(&self, rt: &R, number: usize);
 }
 

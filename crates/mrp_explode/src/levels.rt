@@ -1,4 +1,4 @@
-//! Explosion by low-level codes: the items of a code are planned side by side.
+//! Explosion by low-level codes: the items of one code are planned in parallel.
 
 ghost use Rattle.std.specs.Prelude.{◌≡◌, ◌==◌, ◌<◌, ◌%◌, if◌then◌else◌, vec_capacity, All, IfOk, OnOk, OnErr};
 ghost use Rattle.mrp_item.specs.Inputs.{count};
@@ -19,14 +19,16 @@ use std::thread::Threads;
 // The fewest items for which a thread is started.
 const LEAST_ITEMS: usize = 64;
 
-// An item whose place is a multiple of this asks for the room of so many.
+// An item whose place is a multiple of this number reserves the room of that many items.
 const ITEMS_OF_ROOM: usize = 8;
 
-// The bytes of that room: an item with an order in each of 104 weeks keeps some 6,700, and its planning takes others.
+// The bytes of that room: an item with an order in each of 104 weeks keeps about 6,700, and its planning
+// uses more.
 const ROOM: usize = 60_000;
 
-// The room that is asked for at an item: that of some items at once, or none. Given back, it is the thread's own heap's.
-// That grows by what is asked for, so else by a page or two at a time, and while the heap of one thread grows no other's can.
+// The room that is reserved at an item: that of some items at once, or none. Once freed it stays in the
+// thread's own heap. A heap grows by what is asked for, otherwise by a page or two at a time, and while the
+// heap of one thread grows no other can.
 fn make_room(alloc: Global, item: usize) -> Result<Vec<u8>, NoMemory>
     ensures room { IfOk result (λ room. vec_capacity room ≡ (if item % ITEMS_OF_ROOM == 0 then ROOM else 0)) }
     ensures refused { OnErr result (item % ITEMS_OF_ROOM ≡ 0) }
@@ -35,7 +37,7 @@ fn make_room(alloc: Global, item: usize) -> Result<Vec<u8>, NoMemory>
     Ok(Vec::with_capacity(alloc, bytes)?)
 }
 
-// What planning makes of items whose parents are finished, side by side.
+// What planning makes of items whose parents are finished, in parallel.
 fn outcomes_for(
     rt: &(impl Threads + Sync),
     alloc: Global,
@@ -62,7 +64,7 @@ fn outcomes_for(
         .collect::<Result<Vec<Outcome>, NoMemory>>(rt, alloc)?
 }
 
-// Plans the items of a level, whose parents are finished.
+// Plans the items of a level; their parents are finished.
 fn plan_level(
     rt: &(impl Threads + Sync),
     alloc: Global,
@@ -80,11 +82,11 @@ fn plan_level(
 }
 
 /// The plan of these inputs: every item is planned, low-level code by low-level code from 0
-/// (Orlicky: level-by-level explosion), and the items of a code side by side, where there are
-/// enough of them. It is the plan that `explode_serial` gives.
+/// (Orlicky: level-by-level explosion), the items of one code in parallel if there are enough of
+/// them. It is the plan that `explode_serial` gives.
 ///
-/// Errors: `NoMemory` where memory is refused, and else `TooLarge` with the first item in table
-/// order that gets too large where none above it does (profile).
+/// Errors: `NoMemory` if an allocation fails; otherwise `TooLarge` with the first item in table
+/// order whose quantities get too large while those of no item above it do (profile).
 pub fn explode_levels(
     rt: &(impl Threads + Sync),
     alloc: Global,

@@ -1,4 +1,4 @@
-//! Explosion by one worker.
+//! Explosion on one thread.
 
 ghost use Rattle.mrp_explode.specs.Explosion.{Explodes};
 
@@ -8,11 +8,11 @@ use mrp_item::{Inputs, Plan};
 use std::alloc::Global;
 use std::sync::Arc;
 
-/// The plan of these inputs: every item is planned, one after the other, parents before their
-/// components (Orlicky: explosion).
+/// The plan of these inputs: every item is planned, one at a time, parents before their components
+/// (Orlicky: explosion).
 ///
-/// Errors: `NoMemory` where memory is refused, and else `TooLarge` with the first item in table
-/// order that gets too large where none above it does (profile).
+/// Errors: `NoMemory` if an allocation fails; otherwise `TooLarge` with the first item in table
+/// order whose quantities get too large while those of no item above it do (profile).
 pub fn explode_serial(alloc: Global, inputs: &Arc<Inputs>) -> Result<Plan, RunFault>
     ensures { Explodes inputs.now.value result }
 {

@@ -119,7 +119,7 @@ pub wheel_row : outcome_of shop wheel ≡ plan.Planned wheel_plan
 unfolding outcome_of value_to row in_week greatest_to receipts
 wheel_row = refl
 
--- the need of the bike, and the shortages of the frame
+-- the net requirements of the bike, and the shortages of the frame
 pub bike_need : row 6 (need (stock_of shop bike) bike_plan.gross) ≡ 0 ∷ 8 ∷ 8 ∷ 8 ∷ 11 ∷ 11 ∷ []
 unfolding row in_week greatest_to
 bike_need = refl

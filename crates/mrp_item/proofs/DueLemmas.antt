@@ -1,4 +1,4 @@
--- What is due, one row at a time.
+-- Quantities due, one row at a time.
 use Rattle.std.proofs.Common.{◌≡◌, ◌≢◌, ◌∙◌, ℕ, zero, ◌+◌, ◌<◌, ◌≤◌, Bool, true, false, cond, eqb, List, [], ◌∷◌, length, take, map, get_or, replicate, refl, sym, ap, arith}
 use Rattle.std.specs.Prelude.{filter, sum, sum_by}
 use Rattle.std.proofs.lemmas.List.{length-replicate}
@@ -9,7 +9,7 @@ use Rattle.mrp_phase.proofs.WeekRows.{row_is, row_same, in_week_row, in_week_cha
 use Rattle.mrp_item.specs.declared.due.Due.{Due}
 use Rattle.mrp_item.specs.Dues.{due_in, due_sum, with_more}
 
--- a quantity that is due in a week, and 0 in another
+-- a quantity that is due in a week, and 0 in another week
 abbrev pub one_due : ℕ → Due → ℕ
 one_due week d = cond (eqb d.week week) d.quantity 0
 

@@ -1,4 +1,4 @@
--- What is due of an item is what its rows say.
+-- What is due of an item is what is due by its rows.
 use Rattle.std.proofs.Common.{◌≡◌, ◌∙◌, ℕ, ◌<◌, ◌≤◌, Bool, true, false, cond, eqb, List, [], ◌∷◌, map, refl, sym, ap, arith}
 use Rattle.std.specs.Prelude.{All, filter, sum, sum_by, ◌&&◌, nat_le, Some, None}
 use Rattle.std.specs.Int.{IsInRange}
@@ -66,7 +66,7 @@ due_sum-bookings s i week =
     ap sum (due_in-dues (λ (b : Booking). eqb b.line.item i) (λ b. eqb b.line.item i && eqb b.line.week week) booking_due week (λ b. refl) s.standing)
     ∙ sum-map (λ (b : Booking). b.line.quantity) (bookings_due s i week)
 
--- a row of what is due is the row of what its rows say
+-- the row of what is due is the row of what is due by its rows
 pub dated-row : (dues : List Due) (f : ℕ → ℕ) (n : ℕ) (xs : List ℕ) → ((week : ℕ) → due_sum dues week ≡ f week) → xs ≡ row n (due_sum dues) → xs ≡ row n f
 dated-row dues f n xs same is = is ∙ row_same (due_sum dues) f n (λ week a b. same week)
 

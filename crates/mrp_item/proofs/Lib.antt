@@ -3,7 +3,7 @@ pub mod DueRows
 pub mod Starts
 pub mod Releases
 pub mod OrderWeeks
-pub mod Asks
+pub mod DependentDemand
 pub mod Parents
 pub mod StartedRows
 pub mod PlannedRows

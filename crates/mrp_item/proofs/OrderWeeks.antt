@@ -64,7 +64,7 @@ due_here s i week receipts =
     by true = All-cons IsDue planned [] refl (All-nil IsDue)
     by false = All-nil IsDue
 
--- what is within each week from 1 on of all that a week has is within the weeks of all that they have
+-- if each week's elements are within week 1 and that week, the elements of the first n weeks are within week 1 and week n
 within-all : {X : Type 0} (of : X → ℕ) (f : ℕ → List X) → ((n : ℕ) → All (λ x. IsInRange 1 (suc n) (of x)) (f (suc n))) → (n : ℕ) → All (λ x. IsInRange 1 n (of x)) (flat_map f (weeks n))
 within-all of f each zero = All-nil (λ x. IsInRange 1 0 (of x))
 within-all {X} of f each (suc n) =

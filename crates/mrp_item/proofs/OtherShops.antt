@@ -39,7 +39,7 @@ shop_of items stock bills master standing = record {
   standing = standing;
 }
 
--- a shop of one lead and no scrap, without bookings
+-- a shop with one lead time and no scrap, without bookings
 abbrev pub plain_shop : Inputs
 plain_shop = shop_of
     (item Master 1 0 LotForLot 0 ∷ item Part 1 0 LotForLot 0 ∷ item Part 1 0 LotForLot 0 ∷ [])
@@ -86,7 +86,7 @@ pub split_line_plan : plan_of (record shop { tables = record (shop.tables) { bil
 unfolding outcome_of value_to row in_week greatest_to receipts
 split_line_plan = refl
 
--- a component of an item with scrap: 138 for 46 starts of 3 each
+-- a component of an item with scrap: 138 for 46 pieces started, 3 each
 abbrev pub tubes : Inputs
 tubes = record shop {
   tables = record (shop.tables) {
@@ -129,7 +129,7 @@ pub two_too_large : plan_of (record (tall 1001) { tables = record (tall 1001).ta
 unfolding outcome_of value_to row in_week greatest_to receipts
 two_too_large = refl
 
--- a booking makes a plan too large that was not
+-- a booking makes a plan too large that was not before
 abbrev pub wide : List Booking → Inputs
 wide standing = shop_of
     (item Master 0 0 LotForLot 0 ∷ plain_part ∷ plain_part ∷ [])

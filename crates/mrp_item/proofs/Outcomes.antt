@@ -1,4 +1,4 @@
--- Outcomes: what they unfold to, and where they are Over and Blocked.
+-- Outcomes: what they unfold to, and when they are Over and Blocked.
 use Rattle.std.proofs.Common.{◌≡◌, ◌≢◌, ◌∙◌, ◌+◌, ◌<◌, ◌≤◌, ℕ, zero, suc, sym, ap, refl, arith, Bool, true, false, cond, List, [], ◌∷◌, ◌⊎◌, inl, inr, eqb}
 use Rattle.std.specs.Prelude.{filter, find, map, IsTrue, ◌&&◌, ◌↔◌, Option, Some, None, Err}
 use Rattle.std.specs.List.{list_all, range_with_len}
@@ -16,7 +16,7 @@ outcome_of-unfolds s code ranked i =
     let within : code i < suc (count s) = omega (arith, ranked.within i) in
     value_to-unfolds (IsParent s.tables.bills) (outcome_step s) Blocked code (outcome_step-local s) ranked.rises (suc (count s)) i within
 
--- a list that is not all passed has an element that fails
+-- a list that does not pass a test has an element that fails it
 some-fails : (q r : ℕ → Bool) (xs : List ℕ) → list_all q (filter r xs) ≡ false → (p : ℕ) × (r p ≡ true) × (q p ≡ false)
 some-fails q r [] h = absurd (cc)
 some-fails q r (x ∷ xs) h = by (r x) refl (some-fails q r xs) h
@@ -32,7 +32,7 @@ some-fails q r (x ∷ xs) h = by (r x) refl (some-fails q r xs) h
     by true e more k = one (q x) refl e more k
     by false e more k = more k
 
--- where all pass, each does
+-- if all pass, each does
 each-passes : (q r : ℕ → Bool) (a n p : ℕ) → a ≤ p → p < a + n → r p ≡ true → list_all q (filter r (range_with_len a n)) ≡ true → q p ≡ true
 each-passes q r a zero p low high e h = absurd (omega arith)
 each-passes q r a (suc n) p low high e h = by (eqb a p) refl (r a) refl (each-passes q r (a + 1) n p) h
@@ -80,7 +80,7 @@ own_plan s i = item_plan s i (row (horizon s) (gross_in s i (outcome_of s)))
 pub not_ready : (s : Inputs) (code : ℕ → ℕ) → IsRanked s code → (i : ℕ) → ready s i ≡ false → outcome_of s i ≡ Blocked
 not_ready s code ranked i e = outcome_of-unfolds s code ranked i ∙ rw e refl
 
--- where every parent is planned, each is
+-- if every parent is planned, each is
 pub parent-planned : (s : Inputs) (i p : ℕ) → ready s i ≡ true → p < count s → IsParent s.tables.bills p i → is_planned (outcome_of s p) ≡ true
 parent-planned s i p all within parent = each-passes (λ p. is_planned (outcome_of s p)) (λ p. is_parent s.tables.bills p i) 0 (count s) p (omega arith) (omega arith) parent all
 
@@ -90,7 +90,7 @@ is_ready s code ranked i e = outcome_of-unfolds s code ranked i ∙ rw e refl
 OverAbove : Inputs → ℕ → Type 0
 OverAbove s i = (a : ℕ) × IsAbove s.tables.bills a i × (outcome_of s a ≡ Over)
 
--- above a blocked item stands one that is over
+-- above a blocked item there is one that is over
 blocked-above : (s : Inputs) (code : ℕ → ℕ) → IsRanked s code → (n i : ℕ) → code i < n → outcome_of s i ≡ Blocked → OverAbove s i
 unfolding OverAbove
 blocked-above s code ranked zero i within e = absurd (omega arith)
@@ -121,7 +121,7 @@ parent-blocks s code ranked has p i parent h = by (ready s i) refl
         absurd (cc)
     by false k = not_ready s code ranked i k
 
--- and so does one that is over and stands above
+-- and so does one above that is over
 above-blocks : (s : Inputs) (code : ℕ → ℕ) → IsRanked s code → HasParents s → (n a i : ℕ) → Chain s.tables.bills (suc n) a i → outcome_of s a ≡ Over → outcome_of s i ≡ Blocked
 above-blocks s code ranked has zero a i (p, same, parent) e =
     parent-blocks s code ranked has p i parent (ap (λ x. is_planned (outcome_of s x)) (sym same) ∙ ap is_planned e)
@@ -188,7 +188,7 @@ first s i h = by (first_over s) refl h
         let found = find-first (λ i. is_over (outcome_of s i)) 0 (count s) i (e ∙ ap Some same) in
         (is_over-true (outcome_of s i) found.0, λ j low over. absurd (let no = found.1 j (omega arith) low in let yes : is_over (outcome_of s j) ≡ true = ap is_over over in cc))
 
--- where nothing is found, nothing passes
+-- if nothing is found, nothing passes
 pub find-none : (q : ℕ → Bool) (a n : ℕ) → find q (range_with_len a n) ≡ None → (j : ℕ) → a ≤ j → j < a + n → q j ≡ false
 find-none q a zero h j low high = absurd (omega arith)
 find-none q a (suc n) h j low high = by (q a) refl (eqb a j) refl h (λ k above. find-none q (a + 1) n k j above (omega arith))
@@ -205,7 +205,7 @@ above-is-item : (s : Inputs) → HasParents s → (n a i : ℕ) → Chain s.tabl
 above-is-item s has zero a i (p, same, parent) = rw same (has p i parent)
 above-is-item s has (suc n) a i (p, chain, parent) = above-is-item s has n a p chain
 
--- where no item is over, every item is planned
+-- if no item is over, every item is planned
 pub all-planned : (s : Inputs) (code : ℕ → ℕ) → IsRanked s code → HasParents s → first_over s ≡ None → (i : ℕ) → i < count s
     → outcome_of s i ≡ Planned (plan_in (outcome_of s i))
 all-planned s code ranked has none i within = by (outcome_of s i) refl

@@ -1,4 +1,4 @@
--- What an item's rows make of it.
+-- An item's outcome from its rows.
 use Rattle.std.proofs.Common.{◌≡◌, ◌∙◌, ℕ, ◌+◌, ◌<◌, ◌≤◌, inl, inr, true, false, List, length, refl, sym, ap, arith}
 use Rattle.std.specs.Prelude.{sum, sum_by, nat_lt}
 use Rattle.std.specs.List.{list_all}
@@ -34,7 +34,7 @@ own s i = item_plan s i (own_gross s i)
 over : (s : Inputs) (code : ℕ → ℕ) (i : ℕ) → IsRanked s code → IsReady s i → is_too_large s i (own s i) ≡ true → outcome_of s i ≡ Over
 over s code i ranked ready large = is_ready s code ranked i ready ∙ rw large refl
 
--- requirements or supplies past the greatest quantity
+-- requirements or supplies above the greatest quantity
 pub past-over : (s : Inputs) (code : ℕ → ℕ) (i : ℕ) → IsRanked s code → IsReady s i → ArePast s i (own_gross s i) → outcome_of s i ≡ Over
 past-over s code i ranked ready (inl h) =
     over s code i ranked ready (rw (lt-ltb greatest_quantity (sum_to (own_gross s i) (horizon s) + (stock_of s i).safety) (omega (arith, h, gross_whole s i))) refl)
@@ -42,11 +42,11 @@ past-over s code i ranked ready (inr h) =
     over s code i ranked ready (or_right (nat_lt greatest_quantity (sum_to (own_gross s i) (horizon s) + (stock_of s i).safety)) _
     (rw (lt-ltb greatest_quantity ((stock_of s i).on_hand + sum_to (stock_of s i).scheduled (horizon s) + in_week (receipts_of s i (own_gross s i)) (horizon s)) (omega (arith, h, scheduled_whole s i))) refl))
 
--- requirements alone past it
+-- requirements alone above it
 pub gross-over : (s : Inputs) (code : ℕ → ℕ) (i : ℕ) → IsRanked s code → IsReady s i → greatest_quantity < sum (own_gross s i) → outcome_of s i ≡ Over
 gross-over s code i ranked ready h = past-over s code i ranked ready (inl (omega (arith, h)))
 
--- starts past it
+-- starts above it
 pub starts-over : (s : Inputs) (code : ℕ → ℕ) (i : ℕ) → IsRanked s code → IsReady s i → greatest_quantity < sum_by (λ o. o.start) (orders_of s i (receipts_of s i (own_gross s i))) → outcome_of s i ≡ Over
 starts-over s code i ranked ready h =
     over s code i ranked ready (or_right (nat_lt greatest_quantity (sum_to (own_gross s i) (horizon s) + (stock_of s i).safety)) _
@@ -63,7 +63,7 @@ within-planned s code i ranked ready within starts =
     let small : is_too_large s i (own s i) ≡ false = rw (a, b, d) refl in
     is_ready s code ranked i ready ∙ rw small refl
 
--- parents that are told one by one
+-- parents, each by its place
 pub told : (s : Inputs) (i : ℕ) (parents : List ItemOf) → parents ≡ parents_from s i
     → list_all (λ o. is_planned (outcome_of o.inputs o.item)) parents ≡ list_all (λ p. is_planned (outcome_of s p)) (parents_of s.tables.bills (count s) i)
 told s i parents are =

@@ -45,7 +45,7 @@ kept_rise p a (suc n) i j le h = by (p a) i j le h (λ i j le h. kept_rise p (a 
     by true (suc i) (suc j) le h more above = more i j (omega arith) (omega arith)
     by false i j le h more above = more i j le h
 
--- and each that passes is there
+-- and each that passes is among them
 pub kept_there : (p : ℕ → Bool) (a n x : ℕ) → a ≤ x → x < a + n → p x ≡ true
     → (k : ℕ) × (k < length (filter p (range_with_len a n))) × (get_or (filter p (range_with_len a n)) k 0 ≡ x)
 kept_there p a zero x low high e = absurd (omega arith)

@@ -1,4 +1,4 @@
--- The plan of an item, if planning makes one.
+-- The plan of an item, if it is planned.
 use Rattle.std.proofs.Common.{◌≡◌, ◌∙◌, false, sym, ap, refl}
 use Rattle.std.specs.Prelude.{Some, None}
 use Rattle.mrp_item.specs.Places.{ItemOf, PlannedItem}
@@ -21,7 +21,7 @@ planned-is o p e = by (outcome_of o.inputs o.item) refl e
     by Over f k = absurd (cc)
     by Blocked f k = absurd (cc)
 
--- what a plan says of its item
+-- what follows from a plan for its item
 pub planned-plan : (o : ItemOf) (p : PlannedItem) → Some p ≡ planned_item o → p ≡ record { inputs = o.inputs; item = o.item; plan = plan_in (outcome_of o.inputs o.item) }
 planned-plan o p e =
     let is = planned-is o p e in

@@ -1,4 +1,4 @@
--- What a planned item's rows keep.
+-- What holds of a planned item's rows.
 use Rattle.std.proofs.Common.{◌≡◌, ◌∙◌, ℕ, ◌+◌, ◌≤◌, ◌||◌, Bool, true, false, length, ap, sym, refl, arith}
 use Rattle.std.proofs.lemmas.Bool.{ltb-false}
 use Rattle.std.specs.Prelude.{if◌then◌else◌, sum, nat_lt}

@@ -1,4 +1,4 @@
--- An item's receipts, from its need.
+-- An item's planned receipts, from its net requirements.
 use Rattle.std.proofs.Common.{◌≡◌, ◌∙◌, ℕ, ◌<◌, ◌≤◌, List, length, Bool, true, false, cond, refl, sym, ap, arith}
 use Rattle.std.specs.Prelude.{nat_le, Some, None}
 use Rattle.std.proofs.lemmas.Bool.{leb-true}
@@ -14,7 +14,7 @@ use Rattle.mrp_item.specs.Rows.{stock_of}
 use Rattle.mrp_item.specs.Lot.{rule_of}
 use Rattle.mrp_item.specs.Plan.{needs_of, receipts_of}
 
--- the needs as the item's needs
+-- the net requirements, as the item's
 pub needs_are : (s : Inputs) (i : ℕ) (gross needs : List ℕ) (stock : Stock) → length gross ≡ horizon s → stock ≡ stock_of s i → needs ≡ row (length gross) (need stock gross) → needs ≡ needs_of s i gross
 needs_are s i gross needs stock size is are = are ∙ ap (λ n. row n (need stock gross)) size ∙ ap (λ (x : Stock). row (horizon s) (need x gross)) is
 

@@ -1,9 +1,9 @@
--- Results of a list's elements, that are all there.
+-- Results of a list's elements, all without error.
 use Rattle.std.proofs.Common.{◌≡◌, ◌∙◌, List, [], ◌∷◌, Result, Ok, Err, map, ap, sym, refl}
 use Rattle.std.specs.Prelude.{IfOk}
 use Rattle.std.specs.List.{AllZip}
 
--- each is made of its element
+-- each is made from its element
 pub results-are : {X Y V E : Type 0} (v : Y → V) (f : X → V) (xs : List X) (rs : List (Result Y E)) (ys : List Y) → AllZip (λ x r. IfOk r (λ y. v y ≡ f x)) xs rs → rs ≡ map Ok ys → map v ys ≡ map f xs
 results-are v f [] [] [] h e = refl
 results-are v f [] [] (y ∷ ys) h e = absurd (cc)

@@ -1,4 +1,4 @@
--- The tables' lot rules keep what lot rules keep.
+-- The tables' lot rules are lot rules.
 use Rattle.mrp_tables.specs.declared.item.Item.{Item}
 use Rattle.mrp_tables.specs.declared.item.LotRule.{LotRule}
 use Rattle.mrp_tables.specs.declared.item.LotRule.TheVariants.{LotForLot, Fixed, Period}

@@ -1,4 +1,4 @@
--- What an accepted shop says of codes and parents.
+-- What holds of the codes and parents of an accepted shop.
 use Rattle.std.proofs.Common.{◌≡◌, ◌<◌, ◌≤◌, ℕ, suc, Bool, true, false, eqb, List, [], ◌∷◌, ◌⊎◌, inl, inr, length, get_or, refl, ap, arith}
 use Rattle.std.specs.Prelude.{All, ◌||◌, ◌&&◌, slice_index}
 use Rattle.std.proofs.lemmas.Bool.{eqb-true, cases_lt}

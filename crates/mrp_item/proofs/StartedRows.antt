@@ -1,4 +1,4 @@
--- What starts in each week, one order at a time.
+-- The starts in each week, one order at a time.
 use Rattle.std.proofs.Common.{◌≡◌, ◌∙◌, ℕ, ◌+◌, ◌<◌, ◌≤◌, Bool, true, false, cond, eqb, List, [], ◌∷◌, length, take, get_or, replicate, refl, sym, ap, arith}
 use Rattle.std.specs.Prelude.{sum_by}
 use Rattle.std.proofs.lemmas.Bool.{eq-eqb}
@@ -12,7 +12,7 @@ use Rattle.mrp_item.specs.declared.order.Order.{Order}
 use Rattle.mrp_item.specs.Dues.{with_more}
 use Rattle.mrp_item.specs.Orders.{started_in}
 
--- what an order starts in a week
+-- the start of an order in a week
 abbrev pub one_started : ℕ → Order → ℕ
 one_started week o = cond (eqb o.release week) o.start 0
 

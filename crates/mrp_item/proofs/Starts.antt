@@ -1,4 +1,4 @@
--- What starts of orders, one order at a time.
+-- The starts of orders, one order at a time.
 use Rattle.std.proofs.Common.{◌≡◌, ℕ, zero, suc, ◌+◌, ◌-◌, ◌<◌, ◌≤◌, Bool, true, false, cond, eqb, List, [], ◌∷◌, ◌++◌, length, take, map, get_or, refl, ap, arith}
 use Rattle.std.specs.Prelude.{filter, flat_map, sum_by}
 use Rattle.std.proofs.lemmas.Bool.{eq-eqb}
@@ -13,7 +13,7 @@ use Rattle.mrp_item.specs.Dues.{due_in}
 abbrev pub start : Order → ℕ
 start o = o.start
 
--- what starts of the orders for what is due in a week, told of each row
+-- the starts of the orders for what is due in a week, row by row
 abbrev pub one_start : (ℕ → Order) → ℕ → Due → ℕ
 one_start f week d = cond (eqb d.week week) (f d.quantity).start 0
 
@@ -54,7 +54,7 @@ starts_by F m (suc k) =
     let e : suc k + m ≡ suc (k + m) = omega arith in
     rw e (omega (arith, ap (sum_by start) (flat_map-weeks_suc F (k + m)), sum_by-append start (flat_map F (weeks (k + m))) (F (suc (k + m))), starts_by F m k))
 
--- the starts of more weeks are no less
+-- the starts of more weeks are not less
 pub starts_rise : (F : ℕ → List Order) (m n : ℕ) → m ≤ n → sum_by start (flat_map F (weeks m)) ≤ sum_by start (flat_map F (weeks n))
 starts_rise F m n h =
     let e : n ≡ (n - m) + m = omega arith in

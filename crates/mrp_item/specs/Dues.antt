@@ -1,4 +1,4 @@
--- What is due of an item, row by row.
+-- Quantities due of an item, row by row.
 use Rattle.std.specs.Prelude.{ℕ, ◌==◌, ◌&&◌, ◌+◌, if◌then◌else◌, Bool, List, map, filter, sum}
 use Rattle.mrp_phase.specs.Weeks.{in_week}
 use Rattle.mrp_tables.specs.declared.rows.MasterRow.{MasterRow}
@@ -14,11 +14,11 @@ due_in week dues = map (λ d. d.quantity) (filter (λ d. d.week == week) dues)
 abbrev pub due_sum : List Due → ℕ → ℕ
 due_sum dues week = sum (due_in week dues)
 
--- what a row has in a week, with more in one of them
+-- a row's value in a week, with a quantity added in one of its weeks
 abbrev pub with_more : List ℕ → ℕ → ℕ → ℕ → ℕ
 with_more xs at more week = in_week xs week + (if at == week then more else 0)
 
--- what each of some rows says
+-- the quantities due by those rows that a test keeps
 abbrev pub dues_of : {R D : Type 0} → (R → Bool) → (R → D) → List R → List D
 dues_of keep due rows = map due (filter keep rows)
 
@@ -31,7 +31,7 @@ receipt_due r = record { number = r.number; week = r.week; quantity = r.quantity
 abbrev pub booking_due : Booking → Due
 booking_due b = record { number = b.number; week = b.line.week; quantity = b.line.quantity }
 
--- what is due of an item: its firm rows, its forecasts, its open receipts, its bookings
+-- the quantities due of an item: its firm rows, its forecasts, its open receipts, its bookings
 abbrev pub firm_dues : List MasterRow → ℕ → List Due
 firm_dues rows i = dues_of (λ r. (r.item == i) && is_firm r.kind) master_due rows
 

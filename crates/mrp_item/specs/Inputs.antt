@@ -1,4 +1,4 @@
--- What a plan is made from.
+-- The inputs of a plan.
 use Rattle.std.specs.Prelude.{ℕ, List, length, Bool}
 use Rattle.std.specs.List.{range_with_len}
 use Rattle.mrp_tables.specs.Tables.{Tables}

@@ -17,5 +17,5 @@ pub mod Cases
 pub mod Own
 pub mod Whole
 pub mod Made
-pub mod Asked
+pub mod DependentDemand
 pub mod Supplies

@@ -1,4 +1,4 @@
--- The limits of an item that planning rests on.
+-- The limits of an item's master data that planning depends on.
 use Rattle.std.specs.Prelude.{◌<◌, ◌≤◌, ⊤}
 use Rattle.mrp_tables.specs.declared.limits.TheConstants.{MOST_LEAD, MOST_SCRAP}
 use Rattle.mrp_tables.specs.declared.item.LotRule.{LotRule}
@@ -14,7 +14,7 @@ HasSize (Period n) = 0 < n
 abbrev pub IsSized : Item → Type 0
 IsSized item = HasSize item.lot
 
--- scrap, lead and lot size
+-- scrap, lead time and lot size
 pub record IsPlannable (item : Item) : Type 0 where
   pub scrap : item.scrap ≤ MOST_SCRAP
   pub lead : item.lead ≤ MOST_LEAD

@@ -1,4 +1,4 @@
--- Outcomes, seen as their items and what these are planned from.
+-- Outcomes, seen as their items and the inputs that these are planned from.
 use Rattle.std.specs.Prelude.{ℕ, List, map, Option, Some, None}
 use Rattle.mrp_bill.specs.Bill.{parents_of}
 use Rattle.mrp_item.specs.Inputs.{Inputs, count, places}
@@ -21,7 +21,7 @@ parents_from s i = items_from s (parents_of s.tables.bills (count s) i)
 abbrev pub all_from : Inputs → List ItemOf
 all_from s = items_from s (places s)
 
--- the plan of an item, if planning makes one
+-- the plan of an item, if it is planned
 abbrev pub planned_as : ItemOf → Outcome → Option PlannedItem
 planned_as o (Planned plan) = Some (record { inputs = o.inputs; item = o.item; plan = plan })
 planned_as o Over = None

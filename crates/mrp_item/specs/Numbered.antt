@@ -1,4 +1,4 @@
--- What rows say is due, numbered by their items.
+-- Quantities due by rows, numbered by their items.
 use Rattle.mrp_tables.specs.declared.rows.MasterRow.{MasterRow}
 use Rattle.mrp_tables.specs.declared.rows.Receipt.{Receipt}
 use Rattle.mrp_book.specs.declared.booking.Booking.{Booking}
@@ -6,7 +6,7 @@ use Rattle.mrp_bill.specs.declared.groups.Numbered.{Numbered}
 use Rattle.mrp_item.specs.declared.due.Due.{Due}
 use Rattle.mrp_item.specs.Dues.{booking_due, master_due, receipt_due}
 
--- what a row says is due, and of which item
+-- the quantity due by a row, numbered by its item
 abbrev pub of_master : MasterRow → Numbered Due
 of_master r = record { number = r.item; value = master_due r }
 

@@ -26,7 +26,7 @@ order_of tables item kind due quantity = record {
 abbrev pub firm_orders : Inputs → ℕ → ℕ → List Order
 firm_orders s i week = map (λ r. order_of s.tables (item_at s i) Firm week r.quantity) (firm_rows s i week)
 
--- the planned order of a week, for what the receipts up to it are above those before it (Orlicky: planned order releases)
+-- the planned order of a week, for the rise of the cumulative receipts in it (Orlicky: planned order releases)
 abbrev pub planned_order : Tables → Item → ℕ → ℕ → ℕ → List Order
 planned_order tables item week before received =
     if nat_lt before received then order_of tables item Planned week (received - before) ∷ [] else []
@@ -48,6 +48,6 @@ is_firm_order Planned = false
 abbrev pub released_in : ℕ → List Order → List Order
 released_in week orders = filter (λ order. order.release == week) orders
 
--- what starts in a week
+-- the starts in a week
 abbrev pub started_in : List Order → ℕ → ℕ
 started_in orders week = sum_by (λ order. order.start) (released_in week orders)

@@ -1,4 +1,4 @@
--- An item and what it is planned from, as contracts see outcomes.
+-- An item and the inputs that it is planned from, as contracts see outcomes.
 use Rattle.std.specs.Prelude.{ℕ, List}
 use Rattle.mrp_item.specs.Inputs.{Inputs}
 use Rattle.mrp_item.specs.Plan.{ItemPlan}

@@ -9,7 +9,7 @@ use Rattle.mrp_net.specs.Need.{need, balance}
 use Rattle.mrp_lots.specs.Lots.{receipts}
 use Rattle.mrp_item.specs.declared.order.Order.{Order}
 use Rattle.mrp_item.specs.Inputs.{Inputs, count, horizon, places, item_at, is_master}
-use Rattle.mrp_item.specs.Rows.{lines_to, demand, stock_of}
+use Rattle.mrp_item.specs.Rows.{lines_to, independent_demand, stock_of}
 use Rattle.mrp_item.specs.Lot.{rule_of}
 use Rattle.mrp_item.specs.Orders.{orders_of, released_in}
 use Rattle.mrp_item.specs.Recursion.{value_to}
@@ -20,7 +20,7 @@ pub record ItemPlan : Type 0 where
   pub receipts : List ℕ
   pub orders : List Order
 
--- what planning makes of an item
+-- the outcome of planning an item
 pub data Outcome : Type 0 where
   Planned : ItemPlan → Outcome
   Over : Outcome
@@ -44,20 +44,21 @@ is_over (Planned plan) = false
 is_over Over = true
 is_over Blocked = false
 
--- what a line asks of its component in a week: the starts of its parent's orders released there, times the quantity per
--- (Orlicky: explosion)
-abbrev pub asked_by : (ℕ → Outcome) → ℕ → BillLine → ℕ
-asked_by above week line = sum_by (λ order. order.start * line.per) (released_in week (plan_in (above line.parent)).orders)
+-- the requirement of a bill line for its component in a week: the starts of its parent's orders released there, times the
+-- quantity per (Orlicky: explosion)
+abbrev pub line_demand : (ℕ → Outcome) → ℕ → BillLine → ℕ
+line_demand above week line = sum_by (λ order. order.start * line.per) (released_in week (plan_in (above line.parent)).orders)
 
--- the gross requirement of a part in a week: what the lines to it ask
+-- the gross requirement of a part in a week: its dependent demand, by the lines to it
 abbrev pub part_gross : Inputs → ℕ → (ℕ → Outcome) → ℕ → ℕ
-part_gross s i above week = sum_by (asked_by above week) (lines_to s i)
+part_gross s i above week = sum_by (line_demand above week) (lines_to s i)
 
--- the gross requirement of an item in a week (Orlicky: gross requirements): the demand of a master item (profile), or a part's
+-- the gross requirement of an item in a week (Orlicky: gross requirements): the independent demand of a master item
+-- (profile), the dependent demand of a part
 abbrev pub gross_in : Inputs → ℕ → (ℕ → Outcome) → ℕ → ℕ
-gross_in s i above week = if is_master s i then demand s i week else part_gross s i above week
+gross_in s i above week = if is_master s i then independent_demand s i week else part_gross s i above week
 
--- the need up to each week, and the receipts up to each week that the lot rule makes of it
+-- the net requirements up to each week, and the planned receipts up to each week by the lot rule
 abbrev pub needs_of : Inputs → ℕ → List ℕ → List ℕ
 needs_of s i gross = row (horizon s) (need (stock_of s i) gross)
 
@@ -77,14 +78,14 @@ is_too_large s i plan =
 abbrev pub judged : Inputs → ℕ → ItemPlan → Outcome
 judged s i plan = if is_too_large s i plan then Over else Planned plan
 
--- the outcome of an item, given those of its parents: blocked where one of them is not planned (profile)
+-- the outcome of an item, given those of its parents: blocked if one of them is not planned (profile)
 abbrev pub outcome_step : Inputs → ℕ → (ℕ → Outcome) → Outcome
 outcome_step s i above =
     if list_all (λ p. is_planned (above p)) (parents_of s.tables.bills (count s) i)
     then judged s i (item_plan s i (row (horizon s) (gross_in s i above)))
     else Blocked
 
--- the outcome of an item, as far up through its parents as there are items
+-- the outcome of an item, by recursion up through its parents, at most as far as there are items
 unfoldable pub outcome_of : Inputs → ℕ → Outcome
 outcome_of s i = value_to (outcome_step s) Blocked (suc (count s)) i
 
@@ -97,7 +98,7 @@ pub record IsRanked (s : Inputs) (code : ℕ → ℕ) : Type 0 where
 abbrev pub HasParents : Inputs → Type 0
 HasParents s = (p i : ℕ) → IsParent s.tables.bills p i → p < count s
 
--- outcomes that all are the step of their parents' outcomes
+-- outcomes that are each the step of their parents' outcomes
 abbrev pub IsSolution : Inputs → (ℕ → Outcome) → Type 0
 IsSolution s f = (i : ℕ) → f i ≡ outcome_step s i f
 

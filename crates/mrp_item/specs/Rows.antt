@@ -1,4 +1,4 @@
--- What the tables and the bookings say of an item in a week.
+-- An item's rows of the tables and its bookings, by week.
 use Rattle.std.specs.Prelude.{ℕ, ◌==◌, ◌&&◌, if◌then◌else◌, List, filter, sum_by, max}
 use Rattle.mrp_tables.specs.declared.rows.BillLine.{BillLine}
 use Rattle.mrp_tables.specs.declared.rows.Receipt.{Receipt}
@@ -29,29 +29,29 @@ bookings_due s i week = filter (λ b. (b.line.item == i) && (b.line.week == week
 abbrev pub lines_to : Inputs → ℕ → List BillLine
 lines_to s i = filter (λ line. line.component == i) s.tables.bills
 
--- what is forecast of an item in a week: the rows of one week add up
+-- the forecast of an item in a week: the rows of one week add up
 abbrev pub forecast : Inputs → ℕ → ℕ → ℕ
 forecast s i week = sum_by (λ r. r.quantity) (forecast_rows s i week)
 
--- what is booked of an item for a week
+-- the booked quantity of an item due in a week
 abbrev pub booked : Inputs → ℕ → ℕ → ℕ
 booked s i week = sum_by (λ b. b.line.quantity) (bookings_due s i week)
 
--- the demand of a master item in a week: the greater of its forecast and its standing bookings (profile)
-abbrev pub demand : Inputs → ℕ → ℕ → ℕ
-demand s i week = max (forecast s i week) (booked s i week)
+-- the independent demand of a master item in a week: the greater of its forecast and its standing bookings (profile)
+abbrev pub independent_demand : Inputs → ℕ → ℕ → ℕ
+independent_demand s i week = max (forecast s i week) (booked s i week)
 
--- what is scheduled for an item in a week: the firm rows of a master item, the open receipts of another
+-- the scheduled receipts of an item in a week: the firm rows of a master item, the open receipts of a part
 -- (Orlicky: scheduled receipts)
 abbrev pub scheduled_in : Inputs → ℕ → ℕ → ℕ
 scheduled_in s i week =
     if is_master s i then sum_by (λ r. r.quantity) (firm_rows s i week)
     else sum_by (λ r. r.quantity) (open_receipts s i week)
 
--- what is on hand of an item; one without a stock record has 0
+-- the stock on hand of an item; 0 without a stock record
 abbrev pub on_hand : Inputs → ℕ → ℕ
 on_hand s i = on_hand_of s.tables.stock i
 
--- what an item has without planning
+-- an item's stock on hand, safety stock and scheduled receipts
 abbrev pub stock_of : Inputs → ℕ → Stock
 stock_of s i = record { on_hand = on_hand s i; safety = (item_at s i).safety; scheduled = row (horizon s) (scheduled_in s i) }

@@ -1,4 +1,4 @@
--- What a shop's rows keep, grouped by their items.
+-- What holds of a shop's rows, grouped by their items.
 use Rattle.std.specs.Prelude.{ℕ, ◌≡◌, ◌<◌, All, length}
 use Rattle.mrp_tables.specs.Facts.{IsReceipt}
 use Rattle.mrp_master.specs.Supply.{supply_of}
@@ -10,7 +10,8 @@ use Rattle.mrp_item.specs.declared.shop_rows.ShopRows.TheInside.{Inside}
 abbrev pub items_of : Inside → ℕ
 items_of a = length a.shop.value.tables.items
 
--- what promising reads of the shop, what is due of each item, and that open receipts come in weeks of the horizon
+-- the supply for available to promise, the quantities due of each item, and that open receipts are due in weeks of the
+-- horizon
 pub record KeepsShopRows (a : Inside) : Type 0 where
   pub supply : a.supply ≡ supply_of a.shop.value.tables
   pub firm_size : length a.firm ≡ items_of a

@@ -10,7 +10,7 @@ use Rattle.mrp_item.specs.Dues.{receipt_due}
 use Rattle.mrp_item.specs.Inputs.{Inputs, horizon}
 use Rattle.mrp_item.specs.Rows.{on_hand, open_receipts}
 
--- what is on hand
+-- stock on hand
 abbrev pub stock_supply : ℕ → Supply
 stock_supply quantity = record { source = supplied.Stock; week = 0; quantity = quantity; order = None }
 
@@ -22,16 +22,17 @@ due_supply due = record { source = supplied.Receipt due.number; week = due.week;
 abbrev pub order_supply : ℕ → Order → Supply
 order_supply number order = record { source = supplied.Order number; week = order.due; quantity = order.quantity; order = Some order }
 
--- what comes in a week: the open receipts in table order, then the orders by their numbers, firm ones before the planned one
+-- the supplies due in a week: the open receipts in table order, then the orders by their numbers, firm ones before the
+-- planned one
 abbrev pub supplies_in : Inputs → ℕ → List Order → ℕ → List Supply
 supplies_in s i orders week =
     map (λ r. due_supply (receipt_due r)) (open_receipts s i week)
     ++ map (λ o. order_supply o.0 o.1) (filter (λ o. o.1.due == week) (enumerate_from 1 orders))
 
--- what comes, week by week, of an item with these orders
+-- the supplies due, week by week, of an item with these orders
 abbrev pub supplies_to_come : Inputs → ℕ → List Order → List Supply
 supplies_to_come s i orders = flat_map (supplies_in s i orders) (weeks (horizon s))
 
--- the supplies of an item with these orders: what is on hand, and then what comes
+-- the supplies of an item with these orders: stock on hand, and then what is due
 abbrev pub supplies_of : Inputs → ℕ → List Order → List Supply
 supplies_of s i orders = stock_supply (on_hand s i) ∷ supplies_to_come s i orders

@@ -1,4 +1,4 @@
--- The inputs as callers see them, and what they keep beside.
+-- The inputs as contracts see them, and what holds of their fields.
 use Rattle.std.specs.Prelude.{ℕ, ◌≡◌, ◌<◌, length, slice_index}
 use Rattle.mrp_master.specs.Supply.{supply_of}
 use Rattle.mrp_book.specs.Booked.{AreBooked}
@@ -11,7 +11,7 @@ use Rattle.mrp_item.specs.Plan.{IsRanked, HasParents}
 abbrev pub inputs_view : Inside → Inputs
 inputs_view a = record { tables = a.rows.value.tables; front = a.snapshot.front; standing = a.snapshot.standing }
 
--- the bookings of each item, and that what stands is what a book of the shop may have
+-- the bookings of each item, and that the standing bookings are such as a book of the shop may have
 pub record KeepsRows (a : Inside) : Type 0 where
   pub bookings_size : length a.bookings ≡ count (inputs_view a)
   pub bookings : (i : ℕ) → i < count (inputs_view a) → listed a.bookings i ≡ booking_dues a.snapshot.standing i

@@ -1,4 +1,4 @@
--- What a plan of every item keeps.
+-- What holds of a plan of every item.
 use Rattle.std.specs.Prelude.{ℕ, ◌≡◌, ◌<◌, map, None}
 use Rattle.mrp_item.specs.Inputs.{count, places}
 use Rattle.mrp_item.specs.Places.{WholePlan}
@@ -9,7 +9,7 @@ use Rattle.mrp_item.specs.declared.plan.Plan.TheInside.{Inside}
 abbrev pub whole_view : Inside → WholePlan
 whole_view p = record { inputs = p.inputs.value; plans = map (λ i. plan_in (outcome_of p.inputs.value i)) (places p.inputs.value) }
 
--- the outcomes are all items', in table order; no item is over, and so each is planned
+-- the outcomes are those of all items, in table order; no item is over, and so each is planned
 pub record IsWhole (p : Inside) : Type 0 where
   pub outcomes : p.outcomes.items ≡ all_from p.inputs.value
   pub none_over : first_over p.inputs.value ≡ None

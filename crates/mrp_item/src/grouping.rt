@@ -13,7 +13,7 @@ use mrp_qty::NoMemory;
 use mrp_tables::{MasterRow, Receipt};
 use std::alloc::Global;
 
-// What a row of the master schedule says.
+// The quantity due by a row of the master schedule, numbered by its item.
 fn due_of_master(row: &MasterRow) -> Numbered<Due>
     ensures { result ≡ of_master row.now }
 {
@@ -27,7 +27,7 @@ fn due_of_master(row: &MasterRow) -> Numbered<Due>
     }
 }
 
-// What an open receipt says.
+// The quantity due by an open receipt, numbered by its item.
 fn due_of_receipt(row: &Receipt) -> Numbered<Due>
     ensures { result ≡ of_receipt row.now }
 {
@@ -41,7 +41,7 @@ fn due_of_receipt(row: &Receipt) -> Numbered<Due>
     }
 }
 
-// What a booking says.
+// The quantity due by a booking, numbered by its item.
 fn due_of_booking(booking: &Booking) -> Numbered<Due>
     ensures { result ≡ of_booking booking.now }
 {
@@ -56,7 +56,7 @@ fn due_of_booking(booking: &Booking) -> Numbered<Due>
     }
 }
 
-// What the firm rows say.
+// The quantities due by the firm rows.
 fn firm(alloc: Global, rows: &[MasterRow]) -> Result<Vec<Numbered<Due>>, NoMemory>
     ensures { IfOk result (λ dues. dues.items ≡ map of_master (filter (λ r. is_firm r.kind) rows.now)) }
 {
@@ -68,7 +68,7 @@ fn firm(alloc: Global, rows: &[MasterRow]) -> Result<Vec<Numbered<Due>>, NoMemor
     Ok(dues)
 }
 
-// What the forecasts say.
+// The quantities due by the forecasts.
 fn forecasts(alloc: Global, rows: &[MasterRow]) -> Result<Vec<Numbered<Due>>, NoMemory>
     ensures { IfOk result (λ dues. dues.items ≡ map of_master (filter (λ r. is_forecast r.kind) rows.now)) }
 {
@@ -80,7 +80,7 @@ fn forecasts(alloc: Global, rows: &[MasterRow]) -> Result<Vec<Numbered<Due>>, No
     Ok(dues)
 }
 
-// What the open receipts say.
+// The quantities due by the open receipts.
 fn receipts(alloc: Global, rows: &[Receipt]) -> Result<Vec<Numbered<Due>>, NoMemory>
     ensures { IfOk result (λ dues. dues.items ≡ map of_receipt rows.now) }
 {
@@ -88,7 +88,7 @@ fn receipts(alloc: Global, rows: &[Receipt]) -> Result<Vec<Numbered<Due>>, NoMem
     Ok(dues)
 }
 
-// What the bookings say.
+// The quantities due by the bookings.
 fn bookings(alloc: Global, rows: &[Booking]) -> Result<Vec<Numbered<Due>>, NoMemory>
     ensures { IfOk result (λ dues. dues.items ≡ map of_booking rows.now) }
 {

@@ -1,4 +1,4 @@
-//! What a plan is made from.
+//! The inputs of a plan.
 
 use crate::due::Due;
 use crate::grouping::bookings_by_item;
@@ -11,7 +11,7 @@ use std::alloc::Global;
 use std::marker::Model;
 use std::sync::Arc;
 
-/// What a plan is made from: a shop, and what stands of its order book.
+/// The inputs of a plan: a shop, and a snapshot of its order book.
 #[derive(Drop)]
 pub struct Inputs {
     rows: Arc<ShopRows>,
@@ -43,11 +43,11 @@ impl Inputs {
     ghost use Rattle.mrp_item.specs.Dues.{firm_dues, forecast_dues, receipt_dues, booking_dues};
     ghost use Rattle.mrp_item.specs.Plan.{IsRanked, HasParents};
 
-    /// The inputs of a shop and a snapshot of its order book. The caller owes that the book is that
-    /// of an equal shop: its bookings are of master items, in weeks of the horizon, of pieces that can
-    /// be booked, by rising numbers, and covered.
+    /// The inputs of a shop and a snapshot of its order book. The book must be that of an equal shop: its
+    /// bookings are of master items, in weeks of the horizon, of pieces that can be booked, in order of
+    /// rising numbers, and covered.
     ///
-    /// Errors: `NoMemory` where memory is refused.
+    /// Errors: `NoMemory` if an allocation fails.
     pub fn new(alloc: Global, shop: Arc<Shop>, snapshot: Snapshot) -> Result<Arc<Inputs>, NoMemory>
         requires { AreBooked (supply_of shop.value.tables) snapshot.standing }
         ensures { IfOk result (λ inputs. inputs.value ≡ inputs_of shop.value.tables snapshot) }
@@ -55,10 +55,10 @@ impl Inputs {
         Inputs::over(alloc, ShopRows::of(alloc, shop)?, snapshot)
     }
 
-    /// The inputs of a shop, whose rows are shared, and a snapshot of its order book. The caller owes
-    /// of the snapshot what `new` is owed.
+    /// The inputs of a shop, whose rows are shared, and a snapshot of its order book. The snapshot must be
+    /// as for `new`.
     ///
-    /// Errors: `NoMemory` where memory is refused.
+    /// Errors: `NoMemory` if an allocation fails.
     pub fn over(
         alloc: Global,
         rows: Arc<ShopRows>,
@@ -96,7 +96,7 @@ impl Inputs {
         self.rows.shop()
     }
 
-    /// What stands of the order book.
+    /// The snapshot of the order book.
     pub fn snapshot(&self) -> &Snapshot
         ensures front { result.now.front ≡ self.now.front }
         ensures standing { result.now.standing ≡ self.now.standing }
@@ -114,7 +114,7 @@ impl Inputs {
         self.shop().tables().calendar().weeks()
     }
 
-    /// An item's master data. The caller owes that the shop has the item.
+    /// An item's master data. The shop must have the item.
     pub fn entry(&self, item: usize) -> Item
         requires { item < count self.now }
         ensures value { result ≡ item_at self.now item }
@@ -139,8 +139,8 @@ impl Inputs {
         self.rows.forecasts(item)
     }
 
-    /// The open receipts of an item, in table order, by the numbers of their records. The caller
-    /// owes that the shop has the item.
+    /// The open receipts of an item, in table order, each with its record's number. The shop must have the
+    /// item.
     pub fn receipts(&self, item: usize) -> &[Due]
         requires { item < count self.now }
         ensures dues { result.now ≡ receipt_dues self.now.tables.receipts item }
@@ -149,8 +149,7 @@ impl Inputs {
         self.rows.receipts(item)
     }
 
-    /// The bookings of an item that stand, by their numbers. The caller owes that the shop has the
-    /// item.
+    /// The standing bookings of an item, in order of their numbers. The shop must have the item.
     pub fn bookings(&self, item: usize) -> &[Due]
         requires { item < count self.now }
         ensures dues { result.now ≡ booking_dues self.now.standing item }
@@ -159,7 +158,7 @@ impl Inputs {
         self.bookings.group(item)
     }
 
-    /// What is on hand of an item, in pieces. The caller owes that the shop has the item.
+    /// The stock on hand of an item, in pieces. The shop must have the item.
     pub fn on_hand(&self, item: usize) -> Qty
         requires { item < count self.now }
         ensures { result ≡ on_hand self.now item }

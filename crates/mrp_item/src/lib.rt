@@ -1,7 +1,7 @@
 //! Planning: the plan of each item, from its parents' plans.
 #![tactic(auto)]
 
-mod asked;
+mod dependent;
 mod due;
 mod grouping;
 mod inputs;

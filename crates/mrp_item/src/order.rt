@@ -2,7 +2,7 @@
 
 use mrp_qty::Qty;
 
-/// Who made an order.
+/// The origin of an order.
 #[derive(Clone, Copy, Debug, PartialEq, Eq)]
 pub enum OrderKind {
     /// A row of the master schedule, which planning may not change.
@@ -14,16 +14,16 @@ pub enum OrderKind {
 /// An order of an item.
 #[derive(Clone, Copy, Debug, PartialEq, Eq)]
 pub struct Order {
-    /// Who made it.
+    /// Its origin.
     pub kind: OrderKind,
     /// The week in which it is due.
     pub due: u16,
     /// The pieces that are due.
     pub quantity: Qty,
-    /// The pieces that start, so that the quantity is left after scrap.
+    /// The pieces started, so that the quantity remains after scrap.
     pub start: Qty,
-    /// The week in which it is released: week 1 for a late one.
+    /// The week of its release: week 1 for a late order.
     pub release: u16,
-    /// The weeks by which it is released too late.
+    /// The number of weeks by which its release is late.
     pub late: u16,
 }

@@ -19,7 +19,7 @@ use mrp_tables::{Item, Tables};
 use std::alloc::Global;
 use std::marker::Model;
 
-// Orders, and what starts of them in all.
+// Orders, and the sum of their starts.
 #[derive(Drop)]
 pub struct OrderList {
     orders: Vec<Order>,
@@ -38,7 +38,7 @@ impl Model for OrderList {
     ghost invariant = { λ o. (o.started ≡ sum_by (λ x. x.start) o.orders.items) × (o.started ≤ greatest_quantity) };
 }
 
-// An order for a quantity that is due in a week; None where its start passes the greatest quantity.
+// An order for a quantity that is due in a week; `None` if its start overflows.
 fn order(tables: &Tables, item: &Item, kind: OrderKind, due: u16, quantity: Qty) -> Option<Order>
     requires { IsPlannable item.now }
     ensures { MatchOption result (greatest_quantity < start_of item.now.scrap quantity) (λ order. order ≡ order_of tables.now item.now kind due quantity) }
@@ -56,7 +56,7 @@ fn order(tables: &Tables, item: &Item, kind: OrderKind, due: u16, quantity: Qty)
 }
 
 impl OrderList {
-    // No orders, with room for so many.
+    // No orders, with room for a number of them.
     fn with_room(alloc: Global, room: usize) -> Result<OrderList, NoMemory>
         ensures { IfOk result (λ list. list ≡ []) }
     {
@@ -74,7 +74,7 @@ impl OrderList {
         self.orders
     }
 
-    // Puts an order at the end.
+    // Appends an order.
     fn push(&mut self, order: Order) -> Result<(), PhaseFault>
         ensures added { OnOk result (self.new ≡ self.old ++ order ∷ []) }
         ensures over { IfErr result (λ fault. fault ≡ PhaseFault.TooLarge → greatest_quantity < sum_by (λ x. x.start) self.old + order.start) }
@@ -85,7 +85,7 @@ impl OrderList {
         Ok(())
     }
 
-    // Puts an order of an item at the end.
+    // Appends an order of an item.
     fn add(
         &mut self,
         tables: &Tables,
@@ -101,7 +101,7 @@ impl OrderList {
         self.push(or_over(order(tables, item, kind, due, quantity))?)
     }
 
-    // Puts the firm orders of a week at the end.
+    // Appends the firm orders of a week.
     fn add_firm(
         &mut self,
         tables: &Tables,
@@ -121,7 +121,7 @@ impl OrderList {
         Ok(())
     }
 
-    // Puts the planned order of a week at the end, if there is one.
+    // Appends the planned order of a week, if there is one.
     fn add_planned(
         &mut self,
         tables: &Tables,
@@ -142,7 +142,7 @@ impl OrderList {
         self.add(tables, item, OrderKind::Planned, week, quantity)
     }
 
-    // Puts the orders of a week at the end: the firm ones, then the planned one.
+    // Appends the orders of a week: the firm ones, then the planned one.
     fn add_week(
         &mut self,
         tables: &Tables,
@@ -161,7 +161,7 @@ impl OrderList {
     }
 }
 
-// In how many weeks receipts are above those before.
+// The number of weeks in which cumulative receipts rise.
 fn rises(receipts: &[Qty]) -> usize {
     receipts
         .windows(2)
@@ -170,7 +170,7 @@ fn rises(receipts: &[Qty]) -> usize {
         + 1
 }
 
-// The orders of an item, from its receipts up to each week.
+// The orders of an item, from its cumulative planned receipts.
 pub fn orders_for(
     alloc: Global,
     inputs: &Inputs,

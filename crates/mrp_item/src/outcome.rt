@@ -1,4 +1,4 @@
-//! What planning makes of an item.
+//! The outcome of planning an item.
 
 use crate::inputs::Inputs;
 use crate::planned::Planned;
@@ -6,7 +6,7 @@ use mrp_qty::NoMemory;
 use std::marker::Model;
 use std::sync::Arc;
 
-// What planning makes of an item, with what it is planned from.
+// The outcome of planning an item, with the inputs that it is planned from.
 #[derive(Drop)]
 enum Case {
     // The item is planned.
@@ -17,10 +17,10 @@ enum Case {
     Blocked(Arc<Inputs>, usize),
 }
 
-/// What planning makes of an item, for the inputs that it holds (profile): the item is planned; or
-/// it is over, where its requirements, supplies or starts add up to more than the greatest
-/// quantity; or it is blocked, where an item above it is over. Contracts see the inputs and the
-/// item, which say which of these it is.
+/// The outcome of planning an item, for the inputs that it holds (profile): the item is planned; or it
+/// is over, if its requirements, supplies or starts add up to more than the greatest quantity; or it is
+/// blocked, if an item above it is over. Contracts see the inputs and the item, which determine which
+/// of these it is.
 #[derive(Drop)]
 pub struct Outcome {
     case: Case,
@@ -75,7 +75,7 @@ impl Outcome {
         }
     }
 
-    /// What the item is planned from.
+    /// The inputs that the item is planned from.
     pub fn inputs(&self) -> &Arc<Inputs>
         ensures { result.now.value ≡ self.now.inputs }
     {
@@ -95,7 +95,7 @@ impl Outcome {
         }
     }
 
-    /// The item's plan; None where it is not planned.
+    /// The item's plan; `None` if it is not planned.
     pub fn plan(&self) -> Option<&Planned>
         ensures { option_copied result ≡ planned_item self.now }
     {
@@ -127,7 +127,7 @@ impl Outcome {
 
     /// An equal outcome, which shares the plan.
     ///
-    /// Errors: `NoMemory` where a count of sharers can't rise.
+    /// Errors: `NoMemory` if a reference count cannot rise.
     pub fn copy(&self) -> Result<Outcome, NoMemory>
         ensures { IfOk result (λ copy. copy ≡ self.now) }
     {

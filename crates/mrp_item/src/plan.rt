@@ -32,8 +32,8 @@ impl Plan {
     ghost use Rattle.mrp_item.specs.Made.{all_from};
     ghost use Rattle.mrp_item.specs.Plan.{outcome_of, plan_in, plan_of};
 
-    /// The plan that every item's outcome makes, in table order, or the first item that is over. It
-    /// takes no memory. It needs the outcomes of all items, in table order, of equal inputs.
+    /// The plan of every item, from the outcomes of all items in table order, of equal inputs; or the first
+    /// item that is over. It does not allocate.
     pub fn of(inputs: Arc<Inputs>, outcomes: Vec<Outcome>) -> Result<Plan, usize>
         requires { outcomes.items ≡ all_from inputs.value }
         ensures plan { IfOk result (λ plan. plan_of inputs.value ≡ Ok plan.plans) }
@@ -51,7 +51,7 @@ impl Plan {
         Ok(Plan { inputs, outcomes })
     }
 
-    /// What the items are planned from.
+    /// The inputs that the items are planned from.
     pub fn inputs(&self) -> &Arc<Inputs>
         ensures inputs { result.now.value ≡ self.now.inputs }
         ensures plan { plan_of self.now.inputs ≡ Ok self.now.plans }

@@ -48,7 +48,7 @@ impl Planned {
     ghost use Rattle.mrp_item.specs.Rows.{stock_of};
     ghost use Rattle.mrp_item.specs.Kept.{AreRowsOf, plan_in_rows};
 
-    // A plan that is the item's.
+    // The plan of an item, from its rows.
     pub(crate) fn new(inputs: Arc<Inputs>, item: usize, rows: Arc<PlanRows>) -> Planned
         requires within { item < count inputs.value }
         requires rows { AreRowsOf inputs.value item rows.value }
@@ -57,7 +57,7 @@ impl Planned {
         Planned { inputs, item, rows }
     }
 
-    /// What the item is planned from.
+    /// The inputs that the item is planned from.
     pub fn inputs(&self) -> &Arc<Inputs>
         ensures inputs { result.now.value ≡ self.now.inputs }
         ensures outcome { outcome_of self.now.inputs self.now.item ≡ plan.Planned self.now.plan }
@@ -97,7 +97,7 @@ impl Planned {
         self.rows.orders.as_slice()
     }
 
-    /// What starts in each week: the starts of the orders released there.
+    /// The starts in each week: those of the orders released there.
     pub fn started(&self) -> &Weeks<Qty>
         ensures started { result.now ≡ row (horizon self.now.inputs) (started_in self.now.plan.orders) }
         ensures outcome { outcome_of self.now.inputs self.now.item ≡ plan.Planned self.now.plan }
@@ -105,7 +105,7 @@ impl Planned {
         &self.rows.started
     }
 
-    /// What the item has without planning.
+    /// The item's stock and scheduled receipts, before planning.
     pub fn stock(&self) -> &Stock
         ensures { result.now ≡ stock_of self.now.inputs self.now.item }
     {
@@ -114,7 +114,7 @@ impl Planned {
 
     /// An equal plan, which shares the rows.
     ///
-    /// Errors: `NoMemory` where a count of sharers can't rise.
+    /// Errors: `NoMemory` if a reference count cannot rise.
     pub fn copy(&self) -> Result<Planned, NoMemory>
         ensures { IfOk result (λ copy. copy ≡ self.now) }
     {

@@ -16,15 +16,15 @@ ghost use Rattle.mrp_item.specs.Rows.{stock_of};
 ghost use Rattle.mrp_item.specs.Plan as plan;
 ghost use Rattle.mrp_item.specs.Plan.{is_planned, outcome_of, receipts_of};
 
-use crate::asked::asked_row;
-use crate::due::{add_in, nothing};
+use crate::dependent::dependent_demand;
+use crate::due::{add_in, zero_weeks};
 use crate::inputs::Inputs;
 use crate::order::Order;
 use crate::orders::orders_for;
 use crate::outcome::Outcome;
 use crate::over::or_over;
 use crate::planned::{PlanRows, Planned};
-use crate::supply::{demand_row, stock_for};
+use crate::supply::{independent_demand, stock_for};
 use mrp_lots::{Fixed, LotForLot, Period, receipts};
 use mrp_net::{NeedRow, Stock, need};
 use mrp_phase::{PhaseFault, Weeks};
@@ -47,13 +47,13 @@ fn gross_row(
     ensures over { IfErr result (λ fault. fault ≡ PhaseFault.TooLarge → greatest_quantity < sum (own_gross inputs.now item)) }
 {
     if inputs.entry(item).class.is_master() {
-        demand_row(alloc, inputs, item)
+        independent_demand(alloc, inputs, item)
     } else {
-        asked_row(alloc, inputs, item, parents)
+        dependent_demand(alloc, inputs, item, parents)
     }
 }
 
-// The planned receipts that an item's lot rule makes of needs.
+// The planned receipts, by an item's lot rule, from net requirements.
 fn lot_receipts(alloc: Global, needs: &NeedRow, item: &Item) -> Result<Weeks<Qty>, PhaseFault>
     requires { IsSized item.now }
     ensures value { IfOk result (λ w. w ≡ row (length needs.now) (receipts (rule_of item.now) (length needs.now) (in_week needs.now))) }
@@ -66,26 +66,26 @@ fn lot_receipts(alloc: Global, needs: &NeedRow, item: &Item) -> Result<Weeks<Qty
     }
 }
 
-// What is there, what is scheduled and what is planned to come; None past the greatest quantity.
+// What is there, what is scheduled and what is planned to come; overflow yields `None`.
 fn supplies(stock: &Stock, received: Qty) -> Option<Qty>
     ensures { result ≡ quantity_of (stock.now.on_hand + sum stock.now.scheduled + received) }
 {
     stock.scheduled.sum_from(stock.on_hand)?.add(received)
 }
 
-// What starts in each week of orders.
+// The starts of orders in each week.
 fn started_row(alloc: Global, weeks: u16, orders: &[Order]) -> Result<Weeks<Qty>, PhaseFault>
     ensures value { IfOk result (λ w. w ≡ row weeks (started_in orders.now)) }
     ensures over { IfErr result (λ fault. fault ≡ PhaseFault.TooLarge → greatest_quantity < sum_by (λ order. order.start) orders.now) }
 {
-    let mut started = nothing(alloc, weeks)?;
+    let mut started = zero_weeks(alloc, weeks)?;
     for order in orders {
         or_over(add_in(&mut started, weeks, order.release, order.start))?;
     }
     Ok(started)
 }
 
-// The planned receipts of an item, from its gross requirements and what it has without planning.
+// The planned receipts of an item, from its gross requirements, stock and scheduled receipts.
 fn receipts_row(
     alloc: Global,
     inputs: &Inputs,
@@ -144,7 +144,7 @@ fn own_rows(
     Ok(Arc::new(alloc, rows)?)
 }
 
-// What planning makes of an item, by its rows, or by why they can't be finished.
+// The outcome of planning an item, from its rows, or from why they cannot be finished.
 fn outcome_from(
     source: Arc<Inputs>,
     item: usize,
@@ -162,12 +162,12 @@ fn outcome_from(
     }
 }
 
-/// What planning makes of an item: its plan, or that it is over, or that one above it is (profile).
-/// It plans by netting, the item's lot rule, scrap and lead (Orlicky).
+/// The outcome of planning an item: its plan, or that it is over, or blocked by one above it (profile).
+/// It plans by netting, the item's lot rule, scrap and lead time (Orlicky).
 ///
 /// It needs the outcomes of the item's distinct parents, in table order, of equal inputs.
 ///
-/// Errors: `NoMemory` where memory is refused, or a count of sharers can't rise.
+/// Errors: `NoMemory` if an allocation fails, or a reference count cannot rise.
 pub fn plan_item(
     alloc: Global,
     inputs: &Arc<Inputs>,

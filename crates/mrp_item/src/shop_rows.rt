@@ -9,8 +9,8 @@ use std::alloc::Global;
 use std::marker::Model;
 use std::sync::Arc;
 
-/// A shop with its rows grouped by item: what promising reads of it, and of each item the firm rows,
-/// the forecasts and the open receipts. All inputs of plans for the shop can share it.
+/// A shop with its rows grouped by item: the supply for available to promise, and for each item the
+/// firm rows, the forecasts and the open receipts. All inputs of plans for the shop can share it.
 #[derive(Drop)]
 pub struct ShopRows {
     shop: Arc<Shop>,
@@ -40,7 +40,7 @@ impl ShopRows {
 
     /// The rows of a shop.
     ///
-    /// Errors: `NoMemory` where memory is refused.
+    /// Errors: `NoMemory` if an allocation fails.
     pub fn of(alloc: Global, shop: Arc<Shop>) -> Result<Arc<ShopRows>, NoMemory>
         ensures { IfOk result (λ rows. rows.value ≡ shop.value) }
     {
@@ -67,14 +67,14 @@ impl ShopRows {
         &self.shop
     }
 
-    /// What promising reads of the shop.
+    /// The supply that the shop's available to promise is computed from.
     pub fn supply(&self) -> &Supply
         ensures { result.now ≡ supply_of self.now.tables }
     {
         &self.supply
     }
 
-    // What is on hand of an item.
+    // The stock on hand of an item.
     pub(crate) fn on_hand(&self, item: usize) -> Qty
         requires { item < length self.now.tables.items }
         ensures { result ≡ on_hand_of self.now.tables.stock item }

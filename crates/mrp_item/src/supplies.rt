@@ -11,10 +11,10 @@ use crate::planned::Planned;
 use mrp_qty::{NoMemory, Qty};
 use std::alloc::Global;
 
-/// What serves the requirements of an item.
+/// The source of a supply that covers requirements of an item.
 #[derive(Clone, Copy, Debug, PartialEq, Eq)]
 pub enum Supplied {
-    /// What is on hand.
+    /// The stock on hand.
     Stock,
     /// The open receipt with this record number, from 1.
     Receipt(u64),
@@ -25,9 +25,9 @@ pub enum Supplied {
 /// A supply of an item.
 #[derive(Clone, Copy, Debug, PartialEq, Eq)]
 pub struct Supply {
-    /// What it is.
+    /// Its source.
     pub source: Supplied,
-    /// The week in which it comes, from 1; 0 for what is on hand.
+    /// The week in which it is due, from 1; 0 for stock on hand.
     pub week: u16,
     /// The pieces.
     pub quantity: Qty,
@@ -35,7 +35,7 @@ pub struct Supply {
     pub order: Option<Order>,
 }
 
-// Puts open receipts at the end.
+// Appends open receipts.
 fn add_receipts(supplies: &mut Vec<Supply>, receipts: &[Due]) -> Result<(), NoMemory>
     ensures { OnOk result (supplies.new.items ≡ supplies.old.items ++ map due_supply receipts.now) }
 {
@@ -50,7 +50,7 @@ fn add_receipts(supplies: &mut Vec<Supply>, receipts: &[Due]) -> Result<(), NoMe
     Ok(())
 }
 
-// Puts orders, by their numbers, at the end.
+// Appends orders, with their numbers.
 fn add_orders(supplies: &mut Vec<Supply>, orders: &[Order]) -> Result<(), NoMemory>
     ensures { OnOk result (supplies.new.items ≡ supplies.old.items ++ map (λ o. order_supply o.0 o.1) (enumerate_from 1 orders.now)) }
 {
@@ -69,10 +69,10 @@ impl Planned {
     ghost use Rattle.std.specs.Prelude.{◌≡◌, IfOk};
     ghost use Rattle.mrp_item.specs.Supplies.{supplies_of};
 
-    /// The supplies of the item, in their order: what is on hand; then by week the open receipts in
-    /// table order and the orders by their numbers, firm ones before the planned one (profile).
+    /// The supplies of the item, in their order: stock on hand; then by week the open receipts in table
+    /// order and the orders by their numbers, firm ones before the planned one (profile).
     ///
-    /// Errors: `NoMemory` where memory is refused.
+    /// Errors: `NoMemory` if an allocation fails.
     pub fn supplies(&self, alloc: Global) -> Result<Vec<Supply>, NoMemory>
         ensures { IfOk result (λ supplies. supplies.items ≡ supplies_of self.now.inputs self.now.item self.now.plan.orders) }
     {

@@ -1,10 +1,10 @@
-//! What an item has without planning, and what is demanded of a master item.
+//! An item's stock and scheduled receipts, and the independent demand of a master item.
 
 ghost use Rattle.std.specs.Prelude.{◌≡◌, ◌<◌, ◌+◌, ℕ, length, max, sum, IfOk, IfErr};
 ghost use Rattle.mrp_qty.specs.Quantity.{greatest_quantity};
 ghost use Rattle.mrp_phase.specs.Weeks.{in_week, row};
 ghost use Rattle.mrp_item.specs.Inputs.{count, horizon};
-ghost use Rattle.mrp_item.specs.Rows.{demand, scheduled_in, stock_of};
+ghost use Rattle.mrp_item.specs.Rows.{independent_demand, scheduled_in, stock_of};
 ghost use Rattle.mrp_item.specs.Dues.{due_sum};
 
 use crate::due::{Due, dated};
@@ -14,7 +14,7 @@ use mrp_phase::{PhaseFault, Weeks};
 use mrp_qty::{NoMemory, Qty};
 use std::alloc::Global;
 
-// The firm rows of a master item, and the open receipts of another.
+// The scheduled receipts of an item: the firm rows of a master item, the open receipts of a part.
 fn scheduled_dues(inputs: &Inputs, item: usize) -> &[Due]
     requires { item < count inputs.now }
     ensures { (week : ℕ) → due_sum result.now week ≡ scheduled_in inputs.now item week }
@@ -26,7 +26,7 @@ fn scheduled_dues(inputs: &Inputs, item: usize) -> &[Due]
     }
 }
 
-// What an item has without planning.
+// An item's stock on hand, safety stock and scheduled receipts.
 pub fn stock_for(alloc: Global, inputs: &Inputs, item: usize) -> Result<Stock, PhaseFault>
     requires { item < count inputs.now }
     ensures value { IfOk result (λ stock. stock ≡ stock_of inputs.now item) }
@@ -55,11 +55,15 @@ fn higher(alloc: Global, one: &[Qty], other: &[Qty]) -> Result<Weeks<Qty>, NoMem
     Ok(Weeks::from_vec(greater))
 }
 
-// What is demanded of a master item in each week.
-pub fn demand_row(alloc: Global, inputs: &Inputs, item: usize) -> Result<Weeks<Qty>, PhaseFault>
+// The independent demand of a master item in each week: the greater of forecast and bookings.
+pub fn independent_demand(
+    alloc: Global,
+    inputs: &Inputs,
+    item: usize,
+) -> Result<Weeks<Qty>, PhaseFault>
     requires { item < count inputs.now }
-    ensures value { IfOk result (λ w. w ≡ row (horizon inputs.now) (demand inputs.now item)) }
-    ensures over { IfErr result (λ fault. fault ≡ PhaseFault.TooLarge → greatest_quantity < sum (row (horizon inputs.now) (demand inputs.now item))) }
+    ensures value { IfOk result (λ w. w ≡ row (horizon inputs.now) (independent_demand inputs.now item)) }
+    ensures over { IfErr result (λ fault. fault ≡ PhaseFault.TooLarge → greatest_quantity < sum (row (horizon inputs.now) (independent_demand inputs.now item))) }
 {
     let weeks = inputs.weeks();
     let forecast = dated(alloc, weeks, inputs.forecasts(item))?;

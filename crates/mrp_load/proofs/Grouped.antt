@@ -28,7 +28,7 @@ items group = group.items
 abbrev pub at_centre : ℕ → Operation → Bool
 at_centre centre operation = eqb operation.centre centre
 
--- one more operation in its group, told of each group
+-- one more operation in its group, stated for each group
 pub grouped-more : (operations : List Operation) (k : ℕ) (d : Operation) (old new : List (Vec Operation Global)) → k < length operations
     → Appends old new (get_or operations k d).centre (get_or operations k d)
     → ((centre : ℕ) → listed old centre ≡ filter (at_centre centre) (take k operations))

@@ -1,4 +1,4 @@
--- What keeps the loads within their numbers.
+-- What keeps loads within the range of their numbers.
 use Rattle.std.specs.Prelude.{ℕ, ◌≤◌, ◌<◌, ◌^◌, List, All, length, sum_by}
 use Rattle.std.specs.Int.{IsInRange}
 use Rattle.mrp_qty.specs.Quantity.{greatest_quantity}
@@ -8,7 +8,8 @@ use Rattle.mrp_tables.specs.declared.rows.Operation.{Operation}
 use Rattle.mrp_item.specs.declared.order.Order.{Order}
 use Rattle.mrp_item.specs.Inputs.{Inputs}
 
--- orders of a plan: due and released within the horizon, no more starts than the greatest quantity, and no more orders than memory has places
+-- orders of a plan: due and released within the horizon, starting no more than the greatest quantity, and no more
+-- orders than fit into memory
 pub record AreOrders (weeks : ℕ) (orders : List Order) : Type 0 where
   pub due : All (λ order. IsInRange 1 weeks order.due) orders
   pub released : All (λ order. 1 ≤ order.release) orders

@@ -1,4 +1,4 @@
--- What a table of loads keeps.
+-- What a table of loads contains.
 use Rattle.std.specs.Prelude.{◌≡◌, List, map, Vec}
 use Rattle.std.specs.declared.alloc.Global.{Global}
 use Rattle.std.specs.Prelude.{ℕ}

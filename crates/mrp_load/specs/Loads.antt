@@ -1,4 +1,5 @@
--- What the orders of a plan load work centres with, week by week, and what the centres can take.
+-- The loads that the orders of a plan put on work centres, week by week, and the centres'
+-- capacities.
 use Rattle.std.specs.Prelude.{ℕ, ◌+◌, ◌-◌, ◌*◌, ◌==◌, nat_lt, if◌then◌else◌, List, [], ◌∷◌, length, filter, flat_map, sum_by, min}
 use Rattle.std.specs.List.{range_with_len, slice_index_or}
 use Rattle.mrp_cal.specs.ShopDays.{shop_days_in}
@@ -9,16 +10,17 @@ use Rattle.mrp_item.specs.declared.order.Order.{Order}
 use Rattle.mrp_item.specs.Inputs.{Inputs, horizon}
 use Rattle.mrp_item.specs.Plan.{outcome_of, plan_in}
 
--- the week in which an order's operation stands: so many weeks after the order's release, and no later than it is due (profile)
+-- the week in which an order's operation loads its centre: so many weeks after the order's release, and no later than
+-- the order is due (profile)
 abbrev pub operation_week : Operation → Order → ℕ
 operation_week operation order = min order.due (order.release + operation.offset)
 
--- what an order's operation takes, in thousandths of a minute: its setup, and its run time for each piece that starts
--- (APICS Dictionary: standard time, setup time, run time)
+-- the standard time of an order's operation, in thousandths of a minute: its setup, and its run time for each piece
+-- that starts (APICS Dictionary: standard time, setup time, run time)
 abbrev pub standard_time : Operation → Order → ℕ
 standard_time operation order = 1000 * operation.setup + operation.run * order.start
 
--- what an operation takes in a week, over the orders that it stands there of
+-- the time that an operation takes in a week: for those orders whose operation is in that week
 abbrev pub operation_load : List Order → Operation → ℕ → ℕ
 operation_load orders operation week = sum_by (standard_time operation) (filter (λ order. operation_week operation order == week) orders)
 
@@ -26,7 +28,7 @@ operation_load orders operation week = sum_by (standard_time operation) (filter 
 abbrev pub orders_in : Inputs → ℕ → List Order
 orders_in s i = (plan_in (outcome_of s i)).orders
 
--- what some operations take in a week, over the orders of their items
+-- the time that some operations take in a week, for the orders of their items
 abbrev pub load_by : Inputs → List Operation → ℕ → ℕ
 load_by s operations week = sum_by (λ operation. operation_load (orders_in s operation.item) operation week) operations
 
@@ -49,7 +51,8 @@ load s centre week = load_by s (operations_at s centre) week
 abbrev pub centre_at : Inputs → ℕ → Centre
 centre_at s centre = slice_index_or s.tables.centres centre (record { name = []; minutes = 0 })
 
--- the capacity of a work centre in a week, in thousandths of a minute: its minutes of each shop day (APICS Dictionary: capacity available)
+-- the capacity of a work centre in a week, in thousandths of a minute: its minutes of each shop day (APICS
+-- Dictionary: capacity available)
 abbrev pub capacity : Inputs → ℕ → ℕ → ℕ
 capacity s centre week = 1000 * ((centre_at s centre).minutes * shop_days_in s.tables.calendar week)
 
@@ -57,7 +60,7 @@ capacity s centre week = 1000 * ((centre_at s centre).minutes * shop_days_in s.t
 abbrev pub over : Inputs → ℕ → ℕ → ℕ
 over s centre week = load s centre week - capacity s centre week
 
--- a work centre's week with what it is over, if it is
+-- a work centre's week with its overload, if it has one
 abbrev pub overload : Inputs → ℕ → ℕ → List (ℕ × ℕ × ℕ)
 overload s centre week = if nat_lt 0 (over s centre week) then (centre, week, over s centre week) ∷ [] else []
 
@@ -65,6 +68,6 @@ overload s centre week = if nat_lt 0 (over s centre week) then (centre, week, ov
 abbrev pub overloads_at : Inputs → ℕ → List (ℕ × ℕ × ℕ)
 overloads_at s centre = flat_map (overload s centre) (weeks (horizon s))
 
--- all overloads: the work centres in table order, the weeks of each in theirs
+-- all overloads: the work centres in table order, and the weeks of each in order
 abbrev pub overloads : Inputs → List (ℕ × ℕ × ℕ)
 overloads s = flat_map (overloads_at s) (centres s)

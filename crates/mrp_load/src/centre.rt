@@ -1,4 +1,4 @@
-//! What the operations at a work centre take.
+//! The time that the operations at a work centre take.
 
 ghost use Rattle.std.specs.Prelude.{◌≡◌, ◌≤◌, ◌<◌, ◌+◌, ◌^◌, ℕ, length, min, IfOk};
 ghost use Rattle.mrp_phase.specs.Weeks.{in_week, row};
@@ -12,7 +12,7 @@ use mrp_tables::Operation;
 use mrp_tables::limits::{MOST_OFFSET, MOST_RUN, MOST_SETUP};
 use std::alloc::Global;
 
-// A week, and no later than another.
+// A week, or the due week if that is earlier.
 fn no_later(week: u64, due: u16) -> u16
     ensures { result ≡ min due week }
 {
@@ -23,7 +23,7 @@ fn no_later(week: u64, due: u16) -> u16
     }
 }
 
-// The week in which an order's operation stands.
+// The week in which an order's operation loads its centre.
 fn operation_week(operation: &Operation, order: &Order) -> u16
     requires { operation.now.offset ≤ MOST_OFFSET }
     ensures { result ≡ operation_week operation.now order.now }
@@ -31,7 +31,7 @@ fn operation_week(operation: &Operation, order: &Order) -> u16
     no_later(u64::from(order.release) + operation.offset, order.due)
 }
 
-// What an order's operation takes, in thousandths of a minute.
+// The standard time of an order's operation, in thousandths of a minute.
 fn standard_time(operation: &Operation, order: &Order) -> u128
     ensures { result ≡ standard_time operation.now order.now }
 {
@@ -39,7 +39,7 @@ fn standard_time(operation: &Operation, order: &Order) -> u128
     setup + u128::from(operation.run) * u128::from(order.start.value())
 }
 
-// Adds what an operation takes of its item's orders, each in its week.
+// Adds the standard time of an operation for each of its item's orders, in its week.
 fn add_operation(loads: &mut Vec<u128>, operation: &Operation, orders: &[Order])
     requires offset { operation.now.offset ≤ MOST_OFFSET }
     requires setup { operation.now.setup ≤ MOST_SETUP }
@@ -64,7 +64,7 @@ fn orders_of(plan: &Plan, item: usize) -> &[Order]
     plan.item(item).orders()
 }
 
-// What operations take in each week, in thousandths of a minute.
+// The load of a centre's operations in each week, in thousandths of a minute.
 pub fn load_row(alloc: Global, plan: &Plan, operations: &[Operation]) -> Result<Vec<u128>, NoMemory>
     requires { AreOperations plan.now.inputs operations.now }
     ensures { IfOk result (λ loads. loads.items ≡ loads_by plan.now.inputs operations.now) }

@@ -1,4 +1,4 @@
-//! Capacity requirements: what the orders of a plan load work centres with.
+//! Capacity requirements planning: the loads that the orders of a plan put on work centres.
 #![tactic(auto)]
 
 mod centre;

@@ -16,10 +16,10 @@ use rayon::prelude::*;
 use std::alloc::Global;
 use std::thread::Threads;
 
-// The fewest work centres that are summed as one part.
+// The fewest work centres that one thread sums.
 const LEAST_CENTRES: usize = 8;
 
-// The load of each centre in each week, from the operations at each, side by side.
+// The load of each centre in each week, from the operations at each, in parallel.
 fn load_rows(
     rt: &(impl Threads + Sync),
     alloc: Global,
@@ -44,11 +44,11 @@ fn load_rows(
 }
 
 /// The loads of a plan's work centres (APICS Dictionary: capacity requirements planning): each
-/// operation of each firm and planned order of its item loads its centre in the week in which it
-/// stands (profile). The centres' sums are made side by side, in parts of at least
-/// eight.
+/// operation of an item loads its work centre for each firm and planned order of the item, in the
+/// order's release week plus the operation's offset, or in its due week if that is earlier
+/// (profile). The centres are summed in parallel, at least eight by one thread.
 ///
-/// Errors: `NoMemory` where memory is refused, or a count of sharers can't rise.
+/// Errors: `NoMemory` if an allocation fails, or a reference count cannot rise.
 pub fn loads(rt: &(impl Threads + Sync), alloc: Global, plan: &Plan) -> Result<LoadTable, NoMemory>
     ensures { IfOk result (λ table. table ≡ plan.now.inputs) }
 {

@@ -6,12 +6,12 @@ use std::alloc::Global;
 use std::marker::Model;
 use std::sync::Arc;
 
-/// The loads of a plan's work centres in the weeks of its horizon. Contracts see it as what the
-/// plan is made from.
+/// The loads of a plan's work centres in the weeks of its horizon. Contracts see it as the inputs
+/// of the plan.
 #[derive(Drop)]
 pub struct LoadTable {
     inputs: Arc<Inputs>,
-    // For each centre its load in each week, in thousandths of a minute.
+    // The load of each centre in each week, in thousandths of a minute.
     rows: Vec<Vec<u128>>,
 }
 
@@ -42,9 +42,9 @@ impl LoadTable {
         LoadTable { inputs, rows }
     }
 
-    /// The load of a work centre, by its place, in a week: the standard times of all operations
-    /// there (APICS Dictionary: load). The caller owes a centre of the shop and a week of the
-    /// horizon.
+    /// The load of a work centre, by its place, in a week: the sum of the standard times of all
+    /// operations there, in thousandths of a minute (APICS Dictionary: load). The caller guarantees
+    /// a centre of the shop and a week of the horizon.
     pub fn load(&self, centre: usize, week: u16) -> Milli
         requires centre { centre < length self.now.tables.centres }
         requires week { IsInRange 1 (horizon self.now) week }
@@ -53,9 +53,9 @@ impl LoadTable {
         Milli::new(self.rows[centre][usize::from(week) - 1])
     }
 
-    /// The capacity of a work centre, by its place, in a week: its minutes of each shop day (APICS
-    /// Dictionary: capacity available). The caller owes a centre of the shop and a week of the
-    /// horizon.
+    /// The capacity of a work centre, by its place, in a week: its minutes on each shop day of the
+    /// week, in thousandths of a minute (APICS Dictionary: capacity available). The caller
+    /// guarantees a centre of the shop and a week of the horizon.
     pub fn capacity(&self, centre: usize, week: u16) -> Milli
         requires centre { centre < length self.now.tables.centres }
         requires week { IsInRange 1 (horizon self.now) week }
@@ -67,8 +67,9 @@ impl LoadTable {
         Milli::new(1000 * (minutes * days))
     }
 
-    /// By how much the load of a work centre, by its place, in a week exceeds its capacity; 0 where
-    /// it does not. The caller owes a centre of the shop and a week of the horizon.
+    /// By how much the load of a work centre, by its place, in a week exceeds its capacity, in
+    /// thousandths of a minute; 0 if it does not. The caller guarantees a centre of the shop and a
+    /// week of the horizon.
     pub fn over(&self, centre: usize, week: u16) -> Milli
         requires centre { centre < length self.now.tables.centres }
         requires week { IsInRange 1 (horizon self.now) week }
@@ -78,7 +79,7 @@ impl LoadTable {
         Milli::new(load.saturating_sub(self.capacity(centre, week).value()))
     }
 
-    // Puts a centre's overloads at the end.
+    // Appends a centre's overloads.
     fn add_overloads(
         &self,
         all: &mut Vec<(usize, u16, Milli)>,
@@ -98,10 +99,10 @@ impl LoadTable {
     }
 
     /// The weeks in which work centres are loaded above their capacity (APICS Dictionary:
-    /// overload), with by how much: the centres in table order, by their places, and the weeks of
-    /// each in theirs.
+    /// overload): centre by its place, week, and by how many thousandths of a minute. Centres are
+    /// in table order, the weeks of each in order.
     ///
-    /// Errors: `NoMemory` where memory is refused.
+    /// Errors: `NoMemory` if an allocation fails.
     pub fn overloads(&self, alloc: Global) -> Result<Vec<(usize, u16, Milli)>, NoMemory>
         ensures { IfOk result (λ all. all.items ≡ overloads self.now) }
     {

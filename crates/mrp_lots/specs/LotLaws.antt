@@ -79,7 +79,7 @@ period_idle k p horizon need n t h c = rw (le-leb (need (suc t)) (receipts (peri
 pub period_rule : (k : ℕ) → 0 < k → IsLotRule (period k)
 period_rule k p = record { covers = period_rule_covers k p; idle = period_idle k p }
 
--- receipts cover the need
+-- receipts cover the net requirements
 pub covers : (rule : Rule) → IsLotRule rule → (horizon : ℕ) (need : ℕ → ℕ) → IsNeed horizon need → (t : ℕ) → 0 < t → t ≤ horizon → need t ≤ receipts rule horizon need t
 covers rule r horizon need n zero a h = absurd (omega arith)
 covers rule r horizon need n (suc t) a h = r.covers horizon need n t (omega arith)
@@ -87,7 +87,7 @@ covers rule r horizon need n (suc t) a h = r.covers horizon need n t (omega arit
 suc_is : (t : ℕ) → t + 1 ≡ suc t
 suc_is t = omega arith
 
--- where the need is covered, nothing is ordered
+-- where the net requirements are covered, nothing is ordered
 pub idle : (rule : Rule) → IsLotRule rule → (horizon : ℕ) (need : ℕ → ℕ) → IsNeed horizon need → (t : ℕ) → t + 1 ≤ horizon
     → need (t + 1) ≤ receipts rule horizon need t → receipts rule horizon need (t + 1) ≡ receipts rule horizon need t
 idle rule r horizon need n t h = rw (suc_is t) (r.idle horizon need n t (omega arith))
@@ -118,7 +118,7 @@ rises rule r horizon need n s t h within =
     let e : t ≡ (t - s) + s = omega arith in
     rw e (rises_by rule r horizon need n s (t - s) (omega arith))
 
--- lots of one week's needs are lot for lot
+-- lots for a period of one week are lot for lot
 pub period_is_lot_for_lot : (horizon : ℕ) (need : ℕ → ℕ) (t : ℕ) → IsNeed horizon need → t ≤ horizon → receipts (period 1) horizon need t ≡ receipts lot_for_lot horizon need t
 unfolding receipts
 period_is_lot_for_lot horizon need zero r h = refl
@@ -144,7 +144,7 @@ pub receipts_more : (rule : Rule) (horizon : ℕ) (need : ℕ → ℕ) (t : ℕ)
 unfolding receipts
 receipts_more rule horizon need t = rw (suc_is t) refl
 
--- a number that is no quantity is past the greatest
+-- a number that is not a quantity is above the greatest
 pub quantity_of-none : (n : ℕ) → quantity_of n ≡ None → greatest_quantity < n
 quantity_of-none n h = by (nat_le n greatest_quantity) refl h
   where

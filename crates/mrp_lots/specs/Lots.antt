@@ -1,18 +1,18 @@
--- Lot sizing: the planned receipts up to each week, from the need up to each.
+-- Lot sizing: the planned receipts up to each week, from the net requirements up to each.
 use Rattle.std.specs.Prelude.{ℕ, zero, suc, ◌≡◌, ◌<◌, ◌≤◌, ◌+◌, ◌-◌, min, nat_le, if◌then◌else◌}
 use Rattle.mrp_qty.specs.Quantity.{multiple_of}
 use Rattle.mrp_net.specs.Need.{IsNeed}
 
--- a lot rule: the receipts up to a week, from the horizon, the need up to each week, the week, and the receipts
--- before it (APICS Dictionary: lot sizing)
+-- a lot rule: the receipts up to a week, from the horizon, the net requirements up to each week, the week, and the
+-- receipts before it (APICS Dictionary: lot sizing)
 abbrev pub Rule : Type 0
 Rule = ℕ → (ℕ → ℕ) → ℕ → ℕ → ℕ
 
--- what is needed comes in the week that needs it (Orlicky: lot for lot)
+-- each week's net requirement is received in that week (Orlicky: lot for lot)
 abbrev pub lot_for_lot : Rule
 lot_for_lot horizon need week before = need week
 
--- whole multiples of a size (Orlicky: fixed order quantity; profile for several at once)
+-- whole multiples of a size (Orlicky: fixed order quantity; profile for several lots at once)
 abbrev pub fixed : ℕ → Rule
 fixed size horizon need week before = multiple_of size (need week)
 
@@ -20,7 +20,7 @@ fixed size horizon need week before = multiple_of size (need week)
 abbrev pub last_of : ℕ → ℕ → ℕ → ℕ
 last_of horizon n week = min (week + n - 1) horizon
 
--- where a need is not covered, what n weeks from there on need (Orlicky: fixed period requirements)
+-- where net requirements are not covered, those of n weeks from there on (Orlicky: fixed period requirements)
 abbrev pub period : ℕ → Rule
 period n horizon need week before = if nat_le (need week) before then before else need (last_of horizon n week)
 
@@ -29,7 +29,7 @@ unfoldable pub receipts : Rule → ℕ → (ℕ → ℕ) → ℕ → ℕ
 receipts rule horizon need zero = 0
 receipts rule horizon need (suc t) = rule horizon need (suc t) (receipts rule horizon need t)
 
--- what each lot rule keeps: receipts cover the need, and grow only where it is not covered
+-- what each lot rule keeps: receipts cover the net requirements, and grow only where these are not covered
 pub record IsLotRule (rule : Rule) : Type 0 where
   pub covers : (horizon : ℕ) (need : ℕ → ℕ) → IsNeed horizon need → (t : ℕ) → t < horizon → need (suc t) ≤ receipts rule horizon need (suc t)
   pub idle : (horizon : ℕ) (need : ℕ → ℕ) → IsNeed horizon need → (t : ℕ) → t < horizon

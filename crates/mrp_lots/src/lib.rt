@@ -1,4 +1,4 @@
-//! Lot sizing: how needs are put together into planned receipts.
+//! Lot sizing: planned receipts from net requirements.
 #![tactic(auto)]
 
 pub mod laws;

@@ -9,13 +9,13 @@ ghost use Rattle.mrp_lots.specs.LotLaws.{lot_for_lot_rule, fixed_rule, period_ru
 
 use mrp_qty::Qty;
 
-/// A rule by which needs are put together into receipts (APICS Dictionary: lot sizing): they cover
-/// the need, and nothing is ordered where it is covered.
+/// A rule by which net requirements are combined into planned receipts (APICS Dictionary: lot sizing):
+/// receipts cover the net requirements, and nothing is ordered where these are covered.
 pub trait Lot {
     ghost rule: { Self → Rule };
 
-    /// The receipts up to a week, from the needs up to each week, the week's place from 0, and the
-    /// receipts before it; None past the greatest quantity.
+    /// The receipts up to a week, from the net requirements up to each week, the week's place from 0,
+    /// and the receipts before it; overflow yields `None`.
     fn receive(&self, needs: &[Qty], place: usize, before: Qty) -> Option<Qty>
         requires { place < length needs.now }
         ensures { result ≡ quantity_of (rule self.now (length needs.now) (in_week needs.now) (place + 1) before) };
@@ -23,7 +23,7 @@ pub trait Lot {
     ghost kept: { (lot : Self) → IsLotRule (rule lot) };
 }
 
-/// What is needed comes in the week that needs it (Orlicky: lot for lot).
+/// Each week's net requirement is received in that week (Orlicky: lot for lot).
 #[derive(Clone, Copy, Debug, PartialEq, Eq)]
 pub struct LotForLot;
 
@@ -38,7 +38,7 @@ impl Lot for LotForLot {
     ghost kept = { λ _. lot_for_lot_rule };
 }
 
-/// Whole multiples of a size (Orlicky: fixed order quantity; profile for several at once).
+/// Whole multiples of a size (Orlicky: fixed order quantity; profile for several lots at once).
 #[derive(Clone, Copy, Debug, PartialEq, Eq)]
 pub struct Fixed {
     size: u64,
@@ -66,7 +66,7 @@ impl Lot for Fixed {
     ghost kept = { λ lot. fixed_rule lot.size lot.some };
 }
 
-/// What a number of weeks needs together (Orlicky: fixed period requirements).
+/// The net requirements of a number of weeks in one lot (Orlicky: fixed period requirements).
 #[derive(Clone, Copy, Debug, PartialEq, Eq)]
 pub struct Period {
     weeks: u64,

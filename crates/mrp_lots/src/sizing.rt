@@ -12,10 +12,10 @@ use mrp_phase::Weeks;
 use mrp_qty::Qty;
 use std::alloc::Global;
 
-/// The planned receipts up to each week that a lot rule makes of the needs up to each.
+/// The planned receipts up to each week, by a lot rule, from the net requirements up to each week.
 ///
-/// Errors: `TooLarge` where the receipts up to the last week pass the greatest quantity, `NoMemory`
-/// where the row's memory is refused.
+/// Errors: `TooLarge` if the receipts up to the last week pass the greatest quantity, `NoMemory`
+/// if the row cannot be allocated.
 pub fn receipts<L: Lot>(alloc: Global, needs: &NeedRow, lot: &L) -> Result<Weeks<Qty>, NetFault>
     ensures value { IfOk result (λ w. w ≡ row (length needs.now) (receipts (L.rule lot.now) (length needs.now) (in_week needs.now))) }
     ensures too_large { IsErrOf result NetFault.TooLarge → greatest_quantity < receipts (L.rule lot.now) (length needs.now) (in_week needs.now) (length needs.now) }
@@ -25,8 +25,8 @@ pub fn receipts<L: Lot>(alloc: Global, needs: &NeedRow, lot: &L) -> Result<Weeks
     receipts_in(room, needs, lot)
 }
 
-// The same in room that was made for them; `TooLarge` where they pass the greatest quantity, and no
-// other fault. It takes no memory.
+// The same, in room that was reserved for them; `TooLarge` if they pass the greatest quantity, and no
+// other fault. It does not allocate.
 #[tactic(auto, using(mrp_phase::proofs::WeekRows::row_none, mrp_phase::proofs::WeekRows::row_more, crate::specs::LotLaws::receipts_none, crate::specs::LotLaws::receipts_more))]
 fn receipts_in<L: Lot>(room: Vec<Qty>, needs: &[Qty], lot: &L) -> Result<Weeks<Qty>, NetFault>
     requires empty { room.items ≡ [] }

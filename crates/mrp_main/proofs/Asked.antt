@@ -1,4 +1,4 @@
--- What words ask for, from what clap answers them.
+-- What words ask for, from what clap returns for them.
 use Rattle.std.proofs.Common.{◌∙◌, ◌≡◌, ◌⊎◌, inl, inr, ap, codes, [], List, Option, Some, None, option_and_then, option_map, Result, Ok, Err, true, refl, subst, sym}
 use Rattle.std.specs.Prelude.{IfErr, IfOk, OnOk, OnErr}
 use Rattle.std.specs.Result.{ForOk}
@@ -23,26 +23,26 @@ is-plain = refl
 pub is-simple-command : is_simple mrp_command ≡ true
 is-simple-command = refl
 
--- what `--dir` is given, by the rows of the subcommand alone
+-- the value of `--dir`, from the rows of the subcommand alone
 among-rows : (found : Option (Text × List Row)) → option_and_then (first_of (codes "dir")) (option_map (λ p. p.1) found) ≡ dir_among found
 among-rows None = refl
 among-rows (Some p) = refl
 
--- where the matches have a subcommand
+-- if the matches have a subcommand
 pub dir-in : {X : Type 0} (rows : X → List Row) (o : Option X) (x : X) (found : Option (Text × List Row)) → o ≡ Some x → option_map rows o ≡ option_map (λ p. p.1) found → first_of (codes "dir") (rows x) ≡ dir_among found
 dir-in rows o x found is e = ap (option_and_then (first_of (codes "dir"))) (ap (option_map rows) (sym is) ∙ e) ∙ among-rows found
 
--- where they have none
+-- if they have none
 pub dir-out : {X : Type 0} (rows : X → List Row) (o : Option X) (found : Option (Text × List Row)) → o ≡ None → option_map rows o ≡ option_map (λ p. p.1) found → None ≡ dir_among found
 dir-out rows o found is e = ap (option_and_then (first_of (codes "dir"))) (ap (option_map rows) (sym is) ∙ e) ∙ among-rows found
 
--- words that are taken ask for what clap finds in them
+-- words that are accepted ask for what clap finds in them
 pub asked-for : (words : List Text) (r : Result Request NoRequest) → refusals words ≡ [] → IfOk r (λ request. IsAsAsked (subcommand_of mrp_command words) request)
     → IfOk r (λ request. HasFolder (subcommand_of mrp_command words) request) → IfErr r (λ none. none ≡ NoMemory) → Asks words r
 asked-for words (Ok request) taken asked folder none = (taken, asked, folder)
 asked-for words (Err e) taken asked folder none = subst (λ (e : NoRequest). Asks words (Err e)) (sym none) tt
 
--- help is not want of memory
+-- help is not out of memory
 answer-takes-memory : (kind : ErrorKind) → IsAnswer kind → kind ≡ OutOfMemory → ⊥
 answer-takes-memory kind (inl help) none = cc
 answer-takes-memory kind (inr version) none = cc
@@ -62,7 +62,7 @@ for-ok P (Ok x) p y e =
     subst P same p
 for-ok P (Err e) p y is = cc
 
--- a text is told whole, or in part by a stream that gave up
+-- a text is written whole, or in part to a stream that gave up
 pub was-told : {T E : Type 0} (r : Result T E) (Whole GaveUp Front : Type 0) → OnOk r Whole → OnErr r GaveUp → OnErr r Front → Whole ⊎ (GaveUp × Front)
 was-told (Ok x) Whole GaveUp Front whole gave_up front = inl whole
 was-told (Err e) Whole GaveUp Front whole gave_up front = inr (gave_up, front)

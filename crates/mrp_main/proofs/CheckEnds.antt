@@ -1,4 +1,4 @@
--- How a check ends, by what came of its parts.
+-- How a check ends, by the results of its parts.
 use Rattle.std.proofs.Common.{◌≡◌, ◌⊎◌, ◌^◌, ℕ, List, Option, Result, Err, refl}
 use Rattle.mrp_rows.specs.declared.told.Told.{Told}
 use Rattle.mrp_rows.specs.declared.streams.ReadFault.{ReadFault}

@@ -46,7 +46,7 @@ module _ {W : Type 0} (command : DayCommand) (contents : W → Option (List ℕ)
   day-writes (Err fault.Write) end day is = subst (λ (e : Ending). DayWrites command contents given ended failed output written e) (sym is) (day.gave_up refl, day.write refl)
   day-writes (Err fault.NoMemory) end day is = subst (λ (e : Ending). DayWrites command contents given ended failed output written e) (sym is) (day.memory refl)
 
-  -- want of memory is told where the output did not fail
+  -- it ends out of memory only if the output did not fail
   pub none-failed : (r : Result (Unit {0}) DayFault) (end : Ending) → WritesDay (answering command) contents given ended failed output written r → EndsAs r end → end ≡ NoMemory
       → HasNotFailed output written
   none-failed (Ok x) end day is e = (cc)
@@ -76,7 +76,7 @@ after-reading (Err fault.Read) end is all = subst HasReadAll is all
 after-reading (Err fault.Write) end is all = tt
 after-reading (Err fault.NoMemory) end is all = subst HasReadAll is all
 
--- want of memory is told where the input was read within its limits
+-- it ends out of memory only if the input was read within its limits
 read-within : {R : Type 0} (input read : Told R) (r : Result (Unit {0}) DayFault) (end : Ending) → (r ≡ Err fault.NoMemory → IsReadWithin input read) → (IsAfterReading r → IsReadWithin input read)
     → EndsAs r end → end ≡ NoMemory → IsReadWithin input read
 read-within input read (Ok x) end unfailed within is e = (cc)

@@ -1,4 +1,4 @@
--- Words that clap takes enter one of the commands.
+-- Words that clap accepts enter one of the commands.
 use Rattle.std.proofs.Common.{◌≡◌, ◌∙◌, ◌&&◌, ◌||◌, ◌⊎◌, inl, inr, Bool, true, false, not, cond, List, [], ◌∷◌, Option, Some, None, is_some, option_map, ap, codes, fold, refl, subst, sym, true≢false}
 use Rattle.std.specs.Prelude.{⊤}
 use Rattle.std.specs.Str.{bytes_eq}
@@ -17,7 +17,7 @@ use Rattle.mrp_main.specs.declared.day.DayCommand.TheVariants.{Plan, Live}
 some-kind : (k : ErrorKind) (ks : Kinds) → (k ∷ ks) ≡ [] → ⊥
 some-kind k ks e = cc
 
--- where there is no fault, there is none in either part
+-- if there is no fault, there is none in either part
 or-else-none : (one other : Kinds) → or_else one other ≡ [] → (one ≡ []) × (other ≡ [])
 or-else-none [] other e = (refl, e)
 or-else-none (k ∷ ks) other e = absurd (some-kind k ks e)
@@ -152,7 +152,7 @@ help-apart text true apart same =
 label-apart : (word name : Text) → bytes_eq name word ≡ false → answers_to word (name, []) ≡ false
 label-apart word name apart = subst (λ (b : Bool). (b || false) ≡ false) (sym apart) refl
 
--- of five subcommands, of which the last is `help`, one of the others was entered
+-- of five subcommands, the last of which is `help`, one of the others was entered
 of-five : (a : App) (plan live page check help : Shape) (p : Text × List Text) → a.subs ≡ plan ∷ live ∷ page ∷ check ∷ help ∷ [] → label_of help ≡ (codes "help", []) → bytes_eq p.0 (codes "help") ≡ false
     → is_some (entered a (Some p)) ≡ true → OneOf (entered a (Some p)) (rows_at plan p.1) (rows_at live p.1) (rows_at page p.1) (rows_at check p.1)
 of-five a plan live page check help p subs label apart =
@@ -173,7 +173,7 @@ entered-one : (stop : Option (Text × List Text)) → NotAtHelp stop → is_some
 entered-one None apart some = absurd (true≢false (sym some))
 entered-one (Some p) apart some = as-command (entered (built mrp_command) (Some p)) _ _ _ _ (of-five (built mrp_command) _ _ _ _ _ p refl refl apart some)
 
--- words that are taken enter one of the commands
+-- words that are accepted enter one of the commands
 pub enters-one : (words : List Text) → refusals words ≡ [] → IsEntered (subcommand_of mrp_command words)
 enters-one words none =
     let top : Shape = (built mrp_command).top in

@@ -97,7 +97,7 @@ past-section : (o : Option (Option (List ℕ))) (parts : List Part) (table : Tab
 past-section None parts table bytes left sum long is = tt
 past-section (Some kept) parts table bytes left sum long is = (bytes, sym is, omega (arith, sum, long, joined_length parts (table, bytes)))
 
--- a folder has too much where a table's file does not fit
+-- a folder has too much if a table's file does not fit
 too-much-at : (known : Known) (folder : List ℕ) (k : ℕ) (table : Table) (parts : List Part) → k < length all_tables
     → ArePartsOf known folder (take k all_tables) parts → IsPastAt known folder parts (get_or all_tables k table) → HasTooMuch known folder
 too-much-at known folder k table parts less (found, are, is) past = record {

@@ -1,4 +1,4 @@
--- How a page ends, by what came of writing it.
+-- How a page ends, by the result of writing it.
 use Rattle.std.proofs.Common.{◌≡◌, ℕ, false, List, Option, Some, Result, Ok, Err, refl, sym, subst}
 use Rattle.std.specs.Prelude.{OnOk, IfErr, MatchResult, option_map, string_bytes}
 use Rattle.std.specs.Io.KnownBytes.{Appends}
@@ -27,7 +27,7 @@ pub record IsPageLeft {R W X : Type 0} (words : PageWords) (remaining : R → Op
   pub gave_up : page ≡ Err fault.Write → HasGivenUp output written 1000000
   pub front : page ≡ Err fault.Write → (text : List ℕ) → remaining (inner_of input) ≡ Some text → IsPageBy words text (λ whole. WritesFront (contents (inner_of output)) (contents (inner_of written)) whole)
 
--- the end that is told is its end
+-- the ending that is returned is its ending
 pub page-ends : {R W X : Type 0} (words : PageWords) (remaining : R → Option (List ℕ)) (contents : W → Option (List ℕ)) (input read : Told R) (output written : Told W) (page : Result X PageFault) (end : Ending)
     → IsPageLeft words remaining contents input read output written page → MatchResult page (λ x. end ≡ Done) (λ given. end ≡ end_of given) → PageEnds words remaining contents input read output written end
 page-ends words remaining contents input read output written (Ok x) end left is =

@@ -25,7 +25,7 @@ both f g (Some x) name rows named has =
     let is_rows : g x ≡ rows = cc in
     ap₂ (λ (t : Text) (r : List Row). Some (t, r)) is_name is_rows
 
--- what is not `page` and was entered is `check`, or makes a day
+-- a command that was entered and is not `page` is `check`, or makes a day
 pub unpaged : (m : ArgMatches) → (subcommand_name_of m ≡ Some (codes "page") → ⊥) → IsEntered (subcommand_rows_of m) → EntersCheckOrDay (subcommand_rows_of m)
 unpaged m other (inl entered) = entered
 unpaged m other (inr (rows, is)) = absurd (other (named m (codes "page") rows is))

@@ -35,7 +35,7 @@ pub day-word : (word : Text) (command : DayCommand) → word ≡ word_of command
 day-word word Plan is = inl is
 day-word word Live is = inr is
 
--- the text that stands for the workers
+-- the text of the number of workers
 pub text-of : (m found : ArgMatches) (asked : ℕ) → (p : IsBy (subcommand_rows_of m) asked) → Some (rows_of (found_of found)) ≡ option_map (λ (q : Text × List Row). q.1) (subcommand_rows_of m)
     → one_text (found_of found) (codes "workers") ≡ Some p.text
 text-of m found asked p entered =

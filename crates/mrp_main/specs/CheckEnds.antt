@@ -17,29 +17,33 @@ use Rattle.mrp_main.specs.declared.ending.Ending.TheVariants.{Done, Wrong, NoMem
 use Rattle.mrp_main.specs.Folder.{IsReadFrom, Known}
 use Rattle.mrp_main.specs.Refusal.{TellsFault, end_of_read}
 
--- the text that a reader had left, of any length, and it is at its end; or why it was not read: a read failed, or there were too many, or more bytes than a machine can count; or memory was refused, and no read failed
+-- the text that a reader had left, of any length, and it is at its end; or why it was not read: a read failed, or there
+-- were too many, or more bytes than a machine can count; or out of memory, and no read failed
 abbrev pub IsDayRead : {R : Type 0} → (R → Option (List ℕ)) → Told R → Told R → Result (List ℕ) ReadFault → Type 0
 IsDayRead remaining old new (Ok text) = IfSome (remaining (inner_of old)) (λ left. text ≡ left) × IsAtEnd (remaining (inner_of new)) × IsReadWithin old new
 IsDayRead remaining old new (Err read.Read) =
     HasRisenBy 1 (failures_of old) (failures_of new) ⊎ HasRisenBy READ_CALLS (calls_of old) (calls_of new) ⊎ HasRisenBy (2 ^ 64) (moved_of old) (moved_of new)
 IsDayRead remaining old new (Err read.NoMemory) = failures_of new ≡ failures_of old
 
--- a reader's text was read, or a front of it
+-- a reader's text was read, or a prefix of it
 abbrev pub ReadsDay : {R : Type 0} → (R → Option (List ℕ)) → Told R → Told R → Result (List ℕ) ReadFault → Type 0
 ReadsDay remaining old new day = IsDayRead remaining old new day × TakesFront (remaining (inner_of old)) (remaining (inner_of new)) (moved_of old) (moved_of new)
 
--- the bundle of a folder's files and the text that a reader had left were read, in this order; or the first of them that was not
+-- the bundle of a folder's files and the text that a reader had left were read, in this order; or the first of them
+-- that was not
 abbrev pub AreRead : Known → List ℕ → {R : Type 0} → (R → Option (List ℕ)) → Told R → Told R → Result (List ℕ × List ℕ) ReadFault → Type 0
 AreRead known folder remaining old new (Ok both) = IsReadFrom known folder (Ok both.0) × ReadsDay remaining old new (Ok both.1)
 AreRead known folder remaining old new (Err fault) =
     (IsReadFrom known folder (Err fault) × (new ≡ old)) ⊎ ((bundle : List ℕ) × IsReadFrom known folder (Ok bundle) × ReadsDay remaining old new (Err fault))
 
--- a line was said, and this is the end of a check that has said it; or the output gave up with a front of it
+-- a line was written, and this is the ending of a check that has written it; or the output gave up with a
+-- prefix of it
 abbrev pub Says : {W : Type 0} → (W → Option (List ℕ)) → Told W → Told W → List ℕ → Ending → Ending → Type 0
 Says contents output written line said end =
     ((end ≡ said) × HasTakenAll contents output written line) ⊎ ((end ≡ Write) × HasGivenUp output written WRITE_TRIES × HasTakenFront contents output written line)
 
--- why a day is not found right is told: on the output what is wrong with it, and nothing there where its bundle was refused, or memory
+-- why a day was not found right is reported: what is wrong with it on the output, and nothing there if its bundle was
+-- refused or memory ran out
 abbrev pub TellsAudit : {W : Type 0} → (W → Option (List ℕ)) → Told W → Told W → AuditFault → Ending → Type 0
 TellsAudit contents output written (found.Input f) end = TellsFault f end × (written ≡ output)
 TellsAudit contents output written found.Shape end = Says contents output written (codes "wrong: shape" ++ 10 ∷ []) Wrong end
@@ -48,17 +52,18 @@ TellsAudit contents output written (found.DeskRows desk) end = Says contents out
 TellsAudit contents output written (found.ReportDiffers run) end = Says contents output written (codes "wrong: report " ++ decimal run ++ 10 ∷ []) Wrong end
 TellsAudit contents output written found.NoMemory end = (end ≡ NoMemory) × (written ≡ output)
 
--- what was found of a day is told
+-- what was found of a day is reported
 abbrev pub TellsFound : {W : Type 0} → (W → Option (List ℕ)) → Told W → Told W → Result ⊤ AuditFault → Ending → Type 0
 TellsFound contents output written (Ok done) end = Says contents output written (codes "right" ++ 10 ∷ []) Done end
 TellsFound contents output written (Err fault) end = TellsAudit contents output written fault end
 
--- how a check ends, by what was read: as what is found of the bundle and the text is told; or with what kept them from being read, and nothing was written
+-- how a check ends, by what was read: with the report of the verdict on the bundle and the text; or with what kept them
+-- from being read, and nothing was written
 abbrev pub EndsBy : {W : Type 0} → (W → Option (List ℕ)) → Told W → Told W → Result (List ℕ × List ℕ) ReadFault → Ending → Type 0
 EndsBy contents output written (Ok both) end = (verdict : Result ⊤ AuditFault) × Judges both.0 both.1 verdict × TellsFound contents output written verdict end
 EndsBy contents output written (Err fault) end = (end ≡ end_of_read fault) × (written ≡ output)
 
--- how the check of the day that a reader had left ends, beside the bundle of a folder's files
+-- how the check of the day that a reader had left against the bundle of a folder's files ends
 pub record CheckEnds {R W : Type 0} (known : Known) (folder : List ℕ) (remaining : R → Option (List ℕ)) (contents : W → Option (List ℕ)) (input read : Told R) (output written : Told W) (end : Ending) : Type 0 where
   pub both : Result (List ℕ × List ℕ) ReadFault
   pub are_read : AreRead known folder remaining input read both

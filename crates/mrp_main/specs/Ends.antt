@@ -1,4 +1,5 @@
--- How a command ends: what it leaves of its input and its output, and what its error stream is told (profile).
+-- How a command ends: what it leaves of its input and its output, and what it writes to its error stream
+-- (profile).
 use Rattle.std.specs.Prelude.{ℕ, ◌≡◌, ◌≢◌, ◌⊎◌, List, [], ◌∷◌, ◌++◌, Option, Some, None, Result, Ok, Err, ⊤, codes, string_bytes}
 use Rattle.std.specs.Io.KnownBytes.{IsAtEnd}
 use Rattle.mrp_rows.specs.FaultText.{text_of_fault}
@@ -32,20 +33,22 @@ use Rattle.mrp_main.specs.Refusal.{TellsFault}
 use Rattle.mrp_main.specs.CheckEnds.{CheckEnds}
 use Rattle.mrp_main.specs.Words.{Asks}
 
--- how a command has the script answered: by `plan` in row order, by `live` desk by desk
+-- how a command answers the script: `plan` in row order, `live` desk by desk
 abbrev pub answering : DayCommand → Answering
 answering Plan = AnswersScript
 answering Live = AnswersDesks
 
--- what a reader had left is a bundle with a fault of this text, which is no want of memory
+-- what a reader had left is a bundle with a fault of this text, which is not out of memory
 abbrev pub IsRefusedAs : Option (List ℕ) → List ℕ → Type 0
 IsRefusedAs given text = (bundle : List ℕ) × IsRead given bundle × (f : Fault) × IsRefused bundle f × (f.code ≢ faults.NO_MEMORY) × (text ≡ text_of_fault f)
 
--- what a reader had left is a bundle, a day of which by this command has a plan that gets too large, at the item of this name
+-- what a reader had left is a bundle, a day of which by this command has a plan that gets too large, at the item of
+-- this name
 abbrev pub IsTooLargeAt : DayCommand → Option (List ℕ) → List ℕ → Type 0
 IsTooLargeAt command given name = (bundle : List ℕ) × IsRead given bundle × IsTooLargeBy (answering command) bundle name
 
--- what a command has written of what was given at its end: a day, or a front of one, or nothing; a front where memory is wanted only after all was read, and nothing where reading failed
+-- what a command has written for what was given when it ends: a day, a prefix of one, or nothing; if memory ran out, a
+-- prefix only after everything was read; if reading failed, nothing
 abbrev pub DayWrites : DayCommand → {W : Type 0} → (W → Option (List ℕ)) → Option (List ℕ) → Type 0 → Type 0 → Told W → Told W → Ending → Type 0
 DayWrites command contents given ended failed output written Done = (text : List ℕ) × TellsDayBy (answering command) given text × HasTakenAll contents output written text
 DayWrites command contents given ended failed output written (Refused text) = IsRefusedAs given (string_bytes text) × (written ≡ output)
@@ -76,7 +79,8 @@ HasReadAll NoMemory = ⊥
 HasReadAll Read = ⊥
 HasReadAll Write = ⊤
 
--- how a day of the input ends: what was written; whether the input was read to its end, within the limits; a front of what the input had left was taken; and want of memory is told where neither failed
+-- how a day of the input ends: what was written; whether the input was read to its end, within the limits; a prefix of
+-- what the input had left was taken; and it ends out of memory only if neither stream failed
 pub record DayEnds {R W : Type 0} (command : DayCommand) (remaining : R → Option (List ℕ)) (contents : W → Option (List ℕ)) (input read : Told R) (output written : Told W) (end : Ending) : Type 0 where
   pub writes : InputWrites command remaining contents input read output written end
   pub at_end : HasReadAll end → IsAtEnd (remaining (inner_of read))
@@ -84,7 +88,8 @@ pub record DayEnds {R W : Type 0} (command : DayCommand) (remaining : R → Opti
   pub unfailed : end ≡ NoMemory → IsReadWithin input read × HasNotFailed output written
   pub taken : TakesFront (remaining (inner_of input)) (remaining (inner_of read)) (moved_of input) (moved_of read)
 
--- how a day of a bundle that was read ends: with this day, where no reading fails any more and memory is wanted only if the output did not fail; or with what kept it from being read, and nothing was written
+-- how a day of a bundle that was read ends: with this day, where reading can no longer fail, and out of memory only if
+-- the output did not fail; or with what kept the bundle from being read, and nothing was written
 abbrev pub BundleEnds : DayCommand → {W : Type 0} → (W → Option (List ℕ)) → Told W → Told W → Result (List ℕ) ReadFault → Ending → Type 0
 BundleEnds command contents output written (Ok bundle) end = DayWrites command contents (Some bundle) ⊤ ⊥ output written end × (end ≡ NoMemory → HasNotFailed output written)
 BundleEnds command contents output written (Err read.Read) end = (end ≡ Read) × (written ≡ output)
@@ -96,7 +101,8 @@ pub record FolderEnds {W : Type 0} (command : DayCommand) (known : Known) (folde
   pub is_read : IsReadFrom known folder read
   pub ends : BundleEnds command contents output written read end
 
--- how what is asked for ends: a day of a folder's files leaves the input as it was, and a page is of the day that the input had left, as a check is; words ask for no check without a folder
+-- how a request ends: a day of a folder's files leaves the input as it was; a page and a check are of the day that the
+-- input had left; words ask for no check without a folder
 abbrev pub RequestEnds : Known → {R W : Type 0} → (R → Option (List ℕ)) → (W → Option (List ℕ)) → Told R → Told R → Told W → Told W → Request → Ending → Type 0
 RequestEnds known remaining contents input read output written (Day command workers None) end = DayEnds command remaining contents input read output written end
 RequestEnds known remaining contents input read output written (Day command workers (Some folder)) end = (read ≡ input) × FolderEnds command known (string_bytes folder) contents output written end
@@ -104,13 +110,14 @@ RequestEnds known remaining contents input read output written (Page words) end 
 RequestEnds known remaining contents input read output written (Check (Some folder)) end = CheckEnds known (string_bytes folder) remaining contents input read output written end
 RequestEnds known remaining contents input read output written (Check None) end = (read ≡ input) × (written ≡ output) × (status_of end ≡ status.Usage)
 
--- how help ends: it was written, or a front of it
+-- how help ends: it was written, or a prefix of it
 abbrev pub HelpEnds : {W : Type 0} → (W → Option (List ℕ)) → Told W → Told W → List ℕ → Ending → Type 0
 HelpEnds contents output written help Done = HasTakenWhole contents output written help
 HelpEnds contents output written help Write = HasGivenUp output written WRITE_TRIES × HasTakenFront contents output written help
 HelpEnds contents output written help _ = ⊥
 
--- how a command ends, by what its words ask for: what asks for nothing leaves the input as it was
+-- how a command ends, by what its words ask for; words that ask for nothing leave the input as it
+-- was
 abbrev pub Ends : Known → {R W : Type 0} → (R → Option (List ℕ)) → (W → Option (List ℕ)) → Told R → Told R → Told W → Told W → Result Request NoRequest → Ending → Type 0
 Ends known remaining contents input read output written (Ok request) end = RequestEnds known remaining contents input read output written request end
 Ends known remaining contents input read output written (Err (none.Help text)) end = (read ≡ input) × HelpEnds contents output written (string_bytes text) end
@@ -125,7 +132,7 @@ IsEndOf fault.Read end = end ≡ Read
 IsEndOf fault.Write end = end ≡ Write
 IsEndOf fault.NoMemory end = end ≡ NoMemory
 
--- what the error stream is told of an end
+-- what is written to the error stream for an ending
 abbrev pub words_of : Ending → List ℕ
 words_of Done = []
 words_of (Refused text) = codes "refused: " ++ string_bytes text ++ 10 ∷ []
@@ -138,11 +145,11 @@ words_of NoMemory = codes "no memory" ++ 10 ∷ []
 words_of Read = codes "read failed" ++ 10 ∷ []
 words_of Write = codes "write failed" ++ 10 ∷ []
 
--- a stream was told a text: it took it whole, or gave up with a front of it
+-- a text was written to a stream: it took the text whole, or gave up with a prefix of it
 abbrev pub WasTold : {E : Type 0} → (E → Option (List ℕ)) → Told E → Told E → List ℕ → Type 0
 WasTold contents old new text = HasTakenAll contents old new text ⊎ (HasGivenUp old new WRITE_TRIES × HasTakenFront contents old new text)
 
--- a command was done: what its words ask for, how it ended, with what status, and what was told of it
+-- a command was done: what its words ask for, how it ended, with what status, and what was written about it
 pub record IsDone {R W E : Type 0} (remaining : R → Option (List ℕ)) (contents : W → Option (List ℕ)) (heard : E → Option (List ℕ)) (words : List (List ℕ))
     (input read : Told R) (output written : Told W) (errors told : Told E) (status : ℕ) : Type 0 where
   pub asked : Result Request NoRequest

@@ -1,4 +1,4 @@
--- A bundle that is kept as the files of a folder (profile).
+-- A bundle as the files of a folder (profile).
 use Rattle.std.specs.Prelude.{ℕ, Bool, true, false, ◌≡◌, ◌≤◌, ◌<◌, ◌++◌, List, [], ◌∷◌, Option, Some, None, IfSome, Result, Ok, Err, ⊤, codes, length, map, option_map}
 use Rattle.std.specs.List.{All, filter_map}
 use Rattle.std.specs.Path.{path_join}
@@ -12,19 +12,19 @@ use Rattle.mrp_rows.specs.declared.streams.ReadFault.{ReadFault}
 use Rattle.mrp_rows.specs.declared.streams.ReadFault.TheVariants.{Read, NoMemory}
 use Rattle.mrp_rows.specs.declared.streams.TheConstants.{GREATEST_BUNDLE}
 
--- the tables, in their order
+-- the tables, in the order of a bundle
 abbrev pub all_tables : List Table
 all_tables = Calendar ∷ Items ∷ Centres ∷ Stock ∷ Receipts ∷ Bills ∷ Routings ∷ Master ∷ Script ∷ []
 
--- where a folder has a table: `items.csv` and so on
+-- the path of a table's file in a folder: `items.csv` and so on
 abbrev pub path_in : List ℕ → Table → List ℕ
 path_in folder table = path_join folder (table_name table ++ codes ".csv")
 
--- a table's file: its bytes, or none where there is no such file
+-- a table's file: its bytes, or none if there is no such file
 abbrev pub Kept : Type 0
 Kept = Table × Option (List ℕ)
 
--- a file is a part of the bundle: none where it is not there
+-- a file is a part of the bundle; none if there is no file
 abbrev pub part_in : Kept → Option Part
 part_in file = option_map (λ bytes. (file.0, bytes)) file.1
 
@@ -32,13 +32,13 @@ part_in file = option_map (λ bytes. (file.0, bytes)) file.1
 abbrev pub Known : Type 0
 Known = List ℕ → Option (Option (List ℕ))
 
--- a file that can't be opened for this reason is not there: none has its name, or there is no folder above it
+-- a file that cannot be opened for this reason does not exist, or its folder does not
 abbrev pub is_absent : ErrorKind → Bool
 is_absent NotFound = true
 is_absent NotADirectory = true
 is_absent _ = false
 
--- a file is as it is known at a path
+-- a file is what is known to be at a path
 abbrev pub IsAt : Known → List ℕ → Option (List ℕ) → Type 0
 IsAt known path file = IfSome (known path) (λ kept. file ≡ kept)
 
@@ -46,17 +46,19 @@ IsAt known path file = IfSome (known path) (λ kept. file ≡ kept)
 abbrev pub IsTooLongAt : Known → List ℕ → ℕ → Type 0
 IsTooLongAt known path most = IfSome (known path) (λ kept. (bytes : List ℕ) × (kept ≡ Some bytes) × (most < length bytes))
 
--- with the file that a folder has of a table behind these parts a bundle is longer than one may be, or nothing is known of that file
+-- with a table's file of a folder after these parts a bundle is longer than one may be, or nothing is known of that
+-- file
 abbrev pub IsPastAt : Known → List ℕ → List Part → Table → Type 0
 IsPastAt known folder parts table =
     IfSome (known (path_in folder table)) (λ kept. (bytes : List ℕ) × (kept ≡ Some bytes) × (GREATEST_BUNDLE < length (joined (parts ++ (table, bytes) ∷ []))))
 
--- files are those that a folder has of some tables, one for each
+-- files are those of some tables in a folder, one for each
 pub record AreFilesOf (known : Known) (folder : List ℕ) (tables : List Table) (files : List Kept) : Type 0 where
   pub tables_are : map (λ (file : Kept). file.0) files ≡ tables
   pub files_are : All (λ (file : Kept). IsAt known (path_in folder file.0) file.1) files
 
--- a folder has more bytes than a bundle may have: the bundle of the files of some tables and of this one is longer, or nothing is known of this one
+-- a folder has more bytes than a bundle may have: the bundle of the files of some tables and of this one is longer,
+-- or nothing is known of this one
 pub record HasTooMuch (known : Known) (folder : List ℕ) : Type 0 where
   pub before : List Table
   pub table : Table
@@ -73,12 +75,13 @@ pub record AreParts (known : Known) (folder : List ℕ) (parts : List Part) : Ty
   pub is : parts ≡ filter_map part_in files
   pub fits : length (joined parts) ≤ GREATEST_BUNDLE
 
--- what reading a folder gives: its files' bundle; or it has too much, or memory was refused
+-- the result of reading a folder: the bundle of its files; or it has too much, or out of memory
 abbrev pub IsReadFrom : Known → List ℕ → Result (List ℕ) ReadFault → Type 0
 IsReadFrom known folder (Ok bundle) = (parts : List Part) × AreParts known folder parts × (bundle ≡ joined parts)
 IsReadFrom known folder (Err Read) = HasTooMuch known folder
 IsReadFrom known folder (Err NoMemory) = ⊤
 
--- of no path anything is known: which bytes the operating system's files have no contract can say
+-- nothing is known of any path: no contract can say which bytes the files of the operating system
+-- have
 abbrev pub nothing_known : Known
 nothing_known path = None

@@ -4,12 +4,12 @@ use Rattle.mrp_main.specs.declared.command.TheConstants.{ABOUT_LIVE, ABOUT_PLAN,
 use Rattle.mrp_main.specs.declared.day.DayCommand.{DayCommand}
 use Rattle.mrp_main.specs.declared.day.DayCommand.TheVariants.{Live, Plan}
 
--- in a line, among all commands
+-- in one line, among all commands
 abbrev pub help_line : DayCommand → List ℕ
 help_line Plan = LINE_PLAN.now
 help_line Live = LINE_LIVE.now
 
--- at length
+-- in full
 abbrev pub help_text : DayCommand → List ℕ
 help_text Plan = ABOUT_PLAN.now
 help_text Live = ABOUT_LIVE.now

@@ -16,7 +16,7 @@ use Rattle.mrp_main.specs.declared.page_words.PageWords.{PageWords}
 use Rattle.mrp_main.specs.declared.ending.Ending.{Ending}
 use Rattle.mrp_main.specs.declared.ending.Ending.TheVariants.{Done, Refused, TooLarge, WrongShape, Wrong, NoRun, Usage, NoMemory, Read, Write}
 
--- the names of a line; none where there is no line
+-- the names of a line; none if there is no line
 abbrev pub names_in : Option (List ℕ) → List (List ℕ)
 names_in None = []
 names_in (Some line) = names_of line
@@ -26,19 +26,19 @@ abbrev pub title_of : Option (List ℕ) → List ℕ
 title_of None = codes "Plan"
 title_of (Some title) = title
 
--- these are the names that a page is asked for
+-- these are the names of the items that a page is asked to show
 abbrev pub AreAsked : PageWords → Names → Type 0
 AreAsked words names = map (λ name. name.now) names ≡ names_in (option_map string_bytes words.items)
 
--- a text is a day, and this holds of the page that is asked for of it
+-- a text is a day, and this holds of the page that is asked for
 abbrev pub IsPageBy : PageWords → List ℕ → (List ℕ → Type 0) → Type 0
 IsPageBy words text P = (names : Names) × AreAsked words names × IsPageOf (title_of (option_map string_bytes words.title)) names words.run text P
 
--- a text has fewer runs than that which is asked for
+-- a text has fewer runs than the number asked for
 abbrev pub LacksRunBy : PageWords → List ℕ → Type 0
 LacksRunBy words text = (names : Names) × AreAsked words names × LacksRun names words.run text
 
--- how a page of what an input had left ends: it was written, or a front of it, or nothing
+-- how a page of what an input had left ends: it was written, or a prefix of it, or nothing
 abbrev pub PageEnds : PageWords → {R W : Type 0} → (R → Option (List ℕ)) → (W → Option (List ℕ)) → Told R → Told R → Told W → Told W → Ending → Type 0
 PageEnds words remaining contents input read output written Done =
     HasGoneOn output written WRITE_TRIES × ((text : List ℕ) → remaining (inner_of input) ≡ Some text → IsPageBy words text (λ page. Appends (contents (inner_of output)) (contents (inner_of written)) page))

@@ -1,4 +1,4 @@
--- How a bundle that was refused or not read is told (profile).
+-- How a bundle that was refused or not read is reported (profile).
 use Rattle.std.specs.Prelude.{◌≡◌, ⊤, string_bytes}
 use Rattle.mrp_rows.specs.FaultText.{text_of_fault}
 use Rattle.mrp_rows.specs.declared.fault.Fault.{Fault}
@@ -13,7 +13,7 @@ TellsFault f (Refused text) = string_bytes text ≡ text_of_fault f
 TellsFault f NoMemory = ⊤
 TellsFault f _ = ⊥
 
--- the end of reading that gave nothing
+-- the ending for a read that failed
 abbrev pub end_of_read : ReadFault → Ending
 end_of_read read.Read = Read
 end_of_read read.NoMemory = NoMemory

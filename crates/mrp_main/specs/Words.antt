@@ -22,7 +22,7 @@ use Rattle.mrp_main.specs.declared.day.DayCommand.TheVariants.{Plan, Live}
 use Rattle.mrp_main.specs.declared.command.NoRequest.{NoRequest}
 use Rattle.mrp_main.specs.declared.command.NoRequest.TheVariants.{Help, Usage, NoMemory}
 
--- `--workers N`, a number from 1 to `MOST_WORKERS`, or 1 where it is left out
+-- `--workers N`, a number from 1 to `MOST_WORKERS`, or 1 if it is left out
 abbrev pub workers_rule : Rule
 workers_rule = record (new_rule (codes "workers")) {
   long = Some (codes "workers");
@@ -40,7 +40,7 @@ dir_rule = record (new_rule (codes "dir")) {
   value_names = 1;
 }
 
--- the same, where it has to be there
+-- the same, but required
 abbrev pub checked_rule : Rule
 checked_rule = record dir_rule { required = true }
 
@@ -78,23 +78,23 @@ word_of Live = codes "live"
 abbrev pub IsDayWord : Text → Type 0
 IsDayWord word = (word ≡ word_of Plan) ⊎ (word ≡ word_of Live)
 
--- such a command: its word, and what it may be given
+-- such a command: its word, and its options
 abbrev pub day_app : DayCommand → App
 day_app command = with_rule (with_rule (new_app (word_of command)) workers_rule) dir_rule
 
--- `page`: its word, and what it may be given
+-- `page`: its word, and its options
 abbrev pub page_app : App
 page_app = with_rule (with_rule (with_rule (new_app (codes "page")) run_rule) items_rule) title_rule
 
--- `check`: its word, and what it has to be given
+-- `check`: its word, and its required option
 abbrev pub check_app : App
 check_app = with_rule (new_app (codes "check")) checked_rule
 
--- no argument of a command is one of its subcommands too
+-- no argument of a command is also one of its subcommands
 abbrev pub HasNoGlobals : Command → Type 0
 HasNoGlobals command = (out-Command command).has_globals ≡ false
 
--- `mrp`, without its name: one of its subcommands has to be there
+-- `mrp`, without its name: one of its subcommands is required
 abbrev pub mrp_command : App
 mrp_command =
     with_subcommand (
@@ -106,11 +106,11 @@ mrp_command =
     page_app.top)
     check_app.top
 
--- why clap may refuse the words; help is a refusal too, and words that are taken have none
+-- why clap may refuse the words; help is also a refusal, and words that are accepted have none
 abbrev pub refusals : List Text → Kinds
 refusals words = fault_of mrp_command words
 
--- what `--dir` is given, in the matches of a subcommand
+-- the value of `--dir` in the matches of a subcommand
 abbrev pub dir_among : Option (Text × List Row) → Option Text
 dir_among found = option_and_then (λ rows. first_of (codes "dir") rows.1) found
 
@@ -136,7 +136,8 @@ HasWorkers (Day command workers folder) = IsInRange 1 MOST_WORKERS workers
 HasWorkers (Page words) = ⊤
 HasWorkers (Check folder) = ⊤
 
--- the folder whose files are to be planned, or that a day is to be checked beside, is the one that the words name
+-- the folder whose files are to be planned, or that a day is to be checked against, is the one that the words
+-- name
 abbrev pub HasFolder : Option (Text × List Row) → Request → Type 0
 HasFolder entered (Day command workers folder) = option_map string_bytes folder ≡ dir_among entered
 HasFolder entered (Page words) = ⊤
@@ -180,15 +181,15 @@ pub record ArePageRows (rows : List Row) (run : Option ℕ) (items title : Optio
 abbrev pub HasPageWords : List Row → PageWords → Type 0
 HasPageWords rows words = ArePageRows rows words.run (option_map string_bytes words.items) (option_map string_bytes words.title)
 
--- words ask for the page of this run, of these items and with this title
+-- words ask for the page of this run, with these items and this title
 abbrev pub AskForPage : List Text → Option ℕ → Option Text → Option Text → Type 0
 AskForPage words run items title = (rows : List Row) × EntersPage (subcommand_of mrp_command words) rows × ArePageRows rows run items title
 
--- words ask for a check beside the files of this folder
+-- words ask for a check against the files of this folder
 abbrev pub AskForCheck : List Text → Text → Type 0
 AskForCheck words folder = ((rows : List Row) × EntersCheck (subcommand_of mrp_command words) rows) × (folder_in words ≡ Some folder)
 
--- the subcommand that words enter is by so many workers: by the number of `--workers`, or by the one that stands for it
+-- the subcommand that words enter has so many workers: the number of `--workers`, or the default
 pub record IsBy (entered : Option (Text × List Row)) (workers : ℕ) : Type 0 where
   pub name : Text
   pub rows : List Row
@@ -198,7 +199,7 @@ pub record IsBy (entered : Option (Text × List Row)) (workers : ℕ) : Type 0 w
   pub number : IsUnsignedIn 1 MOST_WORKERS text
   pub value : workers ≡ digits_value 10 (without_leading_plus text)
 
--- words ask for a command by so many workers
+-- words ask for a command with so many workers
 abbrev pub AskFor : List Text → DayCommand → ℕ → Type 0
 AskFor words command workers = Enters (subcommand_of mrp_command words) command × IsBy (subcommand_of mrp_command words) workers
 
@@ -208,13 +209,13 @@ IsAsAsked entered (Day command workers folder) = Enters entered command × ((ask
 IsAsAsked entered (Page words) = (rows : List Row) × EntersPage entered rows × HasPageWords rows words
 IsAsAsked entered (Check folder) = (rows : List Row) × EntersCheck entered rows
 
--- what an error of clap's asks for, by its kind
+-- what an error of `clap` asks for, by its kind
 abbrev pub IsOfKind : ErrorKind → NoRequest → Type 0
 IsOfKind kind (Help text) = IsAnswer kind
 IsOfKind kind (Usage text) = (kind ≢ OutOfMemory) × (IsAnswer kind → ⊥)
 IsOfKind kind NoMemory = kind ≡ OutOfMemory
 
--- what the words ask for, or memory was refused
+-- what the words ask for, or out of memory
 abbrev pub Asks : List Text → Result Request NoRequest → Type 0
 Asks words (Ok request) = (refusals words ≡ []) × IsAsAsked (subcommand_of mrp_command words) request × HasFolder (subcommand_of mrp_command words) request
 Asks words (Err (Help text)) = AskForHelp words

@@ -1,4 +1,4 @@
-//! The check of a day, made as words ask for it.
+//! Checking a day, as the words of the command line ask.
 
 ghost use Rattle.std.specs.Prelude.{◌++◌, ◌∷◌, [], decimal};
 ghost use Rattle.std.specs.Result.{result_map_both};
@@ -14,7 +14,7 @@ use std::alloc::Global;
 use std::io::{Read, Write};
 use std::thread::Threads;
 
-// The bundle of a folder's files, and then all that an input has left, however long it is.
+// The bundle of a folder's files, and then everything that an input has left, of any length.
 fn read_both<F: FileStore, R: Read>(
     files: &F,
     alloc: Global,
@@ -28,7 +28,7 @@ fn read_both<F: FileStore, R: Read>(
     Ok((bundle, day))
 }
 
-// Says a line of two parts on the output. A check that has said it ends so.
+// Writes a line of two parts to the output. A check that has written it has this ending.
 fn say<W: Write>(head: &[u8], rest: &[u8], end: Ending, output: &mut Told<W>) -> Ending
     ensures { Says W.contents output.old output.new (head.now ++ rest.now ++ 10 ∷ []) end result }
 {
@@ -38,7 +38,7 @@ fn say<W: Write>(head: &[u8], rest: &[u8], end: Ending, output: &mut Told<W>) ->
     }
 }
 
-// Says that a day is wrong, and at which entry, desk or run.
+// Writes that a day is wrong, and at which entry, desk or run.
 fn say_at<W: Write>(head: &[u8], number: u64, output: &mut Told<W>) -> Ending
     ensures { Says W.contents output.old output.new (head.now ++ decimal number ++ 10 ∷ []) end.Wrong result }
 {
@@ -47,8 +47,8 @@ fn say_at<W: Write>(head: &[u8], number: u64, output: &mut Told<W>) -> Ending
     say(head, number, Ending::Wrong, output)
 }
 
-// Tells why a day is not found right: on the output what is wrong with it, and elsewhere that its bundle
-// was refused, or memory.
+// Reports why a day was not found right: what is wrong with it, on the output; or, as the ending, that its
+// bundle was refused or that memory ran out.
 fn tell_fault<W: Write>(alloc: Global, fault: AuditFault, output: &mut Told<W>) -> Ending
     ensures { TellsAudit W.contents output.old output.new fault result }
 {
@@ -62,7 +62,7 @@ fn tell_fault<W: Write>(alloc: Global, fault: AuditFault, output: &mut Told<W>) 
     }
 }
 
-// Tells what was found of a day.
+// Reports what a check found.
 fn tell_found<W: Write>(
     alloc: Global,
     found: Result<(), AuditFault>,
@@ -76,8 +76,8 @@ fn tell_found<W: Write>(
     }
 }
 
-/// Checks the day that an input has left beside the bundle of a folder's files, says on the output
-/// what was found of it, and tells how that ended.
+/// Checks the day that an input has left against the bundle of a folder's files, writes to the
+/// output what was found, and returns how that ended.
 pub(crate) fn check_day<F: FileStore, R: Read, W: Write>(
     rt: &(impl Alloc + Threads + Sync),
     alloc: Global,

@@ -1,4 +1,4 @@
-//! What the words of the command line ask for.
+//! What the words of the command line ask for, parsed by `clap`.
 
 ghost use Rattle.std.specs.Prelude.{◌≡◌, ℕ, IfErr, IfOk, Some, codes, false, map, option_map, string_bytes};
 ghost use Rattle.std.specs.Int.{IsInRange};
@@ -19,7 +19,7 @@ use mrp_engine::MOST_WORKERS;
 use std::alloc::{AllocError, Global};
 use std::convert::AsStr;
 
-// How the program is called.
+// The texts of the help: of the program, its commands and their options.
 const ABOUT: &str =
     "Plans a shop's materials: reads the tables of a bundle, answers its desks, and writes what to make and when.";
 
@@ -76,28 +76,27 @@ Exit status: 0 done, 1 refused or wrong, 2 usage, 3 no memory, 4 read or write f
 /// What the words ask for.
 #[derive(Drop)]
 pub enum Request {
-    /// Make the day of the bundle of the input, or of a folder's files where one is named, by so
-    /// many workers, 1 to 64.
+    /// Make the day of the bundle on the input, or of a folder's files if one is named, with 1 to
+    /// 64 workers.
     Day {
         command: DayCommand,
         workers: usize,
         folder: Option<String>,
     },
-    /// Make the page of the day that the input has.
+    /// Make the page of the day on the input.
     Page(PageWords),
-    /// Check the day that the input has beside the files of the folder that is named. `clap` asks for
-    /// one.
+    /// Check the day on the input against the files of the folder that is named. `clap` requires one.
     Check(Option<String>),
 }
 
-/// Why words ask for nothing that can be done.
+/// Why the words ask for nothing to be done.
 #[derive(Drop)]
 pub enum NoRequest {
     /// They ask for this text.
     Help(String),
-    /// They are wrong, as this text says.
+    /// They are wrong; this text says how.
     Usage(String),
-    /// A growth of memory was refused.
+    /// Out of memory.
     NoMemory,
 }
 
@@ -136,7 +135,7 @@ fn dir<'a>(alloc: Global) -> Arg<'a>
         .help(ABOUT_DIR)
 }
 
-// What the help says of a command, in a line and at length.
+// What the help says of a command, in a line and in full.
 fn help_of<'a>(command: DayCommand) -> (&'a str, &'a str)
     ensures line { result.0.now ≡ help_line command }
     ensures text { result.1.now ≡ help_text command }
@@ -175,7 +174,7 @@ fn command<'a>(alloc: Global) -> Result<Command<'a>, AllocError>
         .subcommand(check_command(alloc)?)
 }
 
-// Why clap gave no matches, as the text that it has for it.
+// Why `clap` gave no matches, with its text.
 fn no_request(alloc: Global, error: &Error) -> Result<NoRequest, AllocError>
     ensures { IfOk result (IsOfKind (kind_of error.now)) }
 {
@@ -201,7 +200,7 @@ fn command_of(matches: &ArgMatches<'_>) -> DayCommand
     }
 }
 
-// The number of workers that the command is asked for by.
+// The number of workers in the words of a command, if there is one.
 fn workers_of(matches: &ArgMatches<'_>) -> Option<u64>
     ensures { (asked : ℕ) → IsBy (subcommand_rows_of matches.now) asked → result ≡ Some asked }
 {
@@ -211,7 +210,7 @@ fn workers_of(matches: &ArgMatches<'_>) -> Option<u64>
     }
 }
 
-// A number of workers that is in its range; one that is not is 1.
+// A number of workers if it is in range, otherwise 1.
 fn taken(workers: u64) -> usize
     ensures within { IsInRange 1 MOST_WORKERS result }
     ensures same { IsInRange 1 MOST_WORKERS workers → result ≡ workers }
@@ -223,7 +222,7 @@ fn taken(workers: u64) -> usize
     }
 }
 
-// The number of workers that a command takes; 1 where none is found.
+// The number of workers of a command; 1 if its words have none.
 fn workers_taken(matches: &ArgMatches<'_>) -> usize
     ensures within { IsInRange 1 MOST_WORKERS result }
     ensures asked { (asked : ℕ) → IsBy (subcommand_rows_of matches.now) asked → result ≡ asked }
@@ -234,7 +233,7 @@ fn workers_taken(matches: &ArgMatches<'_>) -> usize
     }
 }
 
-// The text that a word is given in the matches of a subcommand.
+// The text of an option in the matches of a subcommand.
 pub(crate) fn text_in(
     alloc: Global,
     found: &ArgMatches<'_>,
@@ -248,7 +247,7 @@ pub(crate) fn text_in(
     }
 }
 
-// The folder that is named.
+// The folder that the words name, if any.
 fn folder_named(alloc: Global, matches: &ArgMatches<'_>) -> Result<Option<String>, AllocError>
     ensures { IfOk result (λ folder. option_map string_bytes folder ≡ dir_among (subcommand_rows_of matches.now)) }
 {
@@ -301,7 +300,8 @@ fn request_of(alloc: Global, matches: &ArgMatches<'_>) -> Result<Request, NoRequ
     }
 }
 
-/// What the words behind the program's name ask for. It is `clap` that decides, here alone.
+/// What the words after the program's name ask for. `clap` decides it, and it is called nowhere
+/// else.
 pub fn read_words<S: AsStr>(alloc: Global, words: &[S]) -> Result<Request, NoRequest>
     ensures asks { Asks (map S.text words.now) result }
     ensures workers { IfOk result HasWorkers }

@@ -8,12 +8,12 @@ ghost use Rattle.mrp_main.specs.Words.{IsDayWord, word_of};
 pub enum DayCommand {
     /// The script is answered record by record, in row order.
     Plan,
-    /// The desks of the script make their calls beside one another.
+    /// The desks of the script make their calls concurrently.
     Live,
 }
 
 impl DayCommand {
-    /// The word that asks for it.
+    /// The word of the command.
     pub fn word<'a>(self) -> &'a str
         ensures { result.now ≡ word_of self }
     {
@@ -23,7 +23,7 @@ impl DayCommand {
         }
     }
 
-    /// The command that a word asks for. The caller owes one of the words above.
+    /// The command of a word. The caller guarantees that it is one of those words.
     pub fn of(word: &str) -> DayCommand
         requires { IsDayWord word.now }
         ensures { word.now ≡ word_of result }

@@ -12,24 +12,24 @@ use mrp_rows::{Name, ReadFault, Told, Tries, WRITE_TRIES, WriteFault, fault_text
 use std::alloc::Global;
 use std::io::Write;
 
-/// How a command ended, with what is said of it.
+/// How a command ended, with what there is to say about it.
 #[derive(Drop)]
 pub enum Ending {
-    /// What was asked for was done.
+    /// The command succeeded.
     Done,
-    /// The bundle has a fault, of this text.
+    /// The bundle has a fault; this text names it.
     Refused(String),
-    /// The plan of the item of this name gets too large.
+    /// The quantities of the item with this name get too large.
     TooLarge(Name),
     /// The text is no day.
     WrongShape,
-    /// The day that was checked is wrong, as the output says.
+    /// The day that was checked is wrong; the output says how.
     Wrong,
-    /// The day has fewer runs than the one that is asked for.
+    /// The day has fewer runs than the number asked for.
     NoRun,
-    /// The words are wrong, as this text says.
+    /// The words are wrong; this text says how.
     Usage(String),
-    /// A growth of memory was refused.
+    /// Out of memory.
     NoMemory,
     /// The input failed, or passed a limit.
     Read,
@@ -70,7 +70,7 @@ impl Ending {
     ghost use Rattle.mrp_main.specs.Refusal.{end_of_read};
     ghost use Rattle.mrp_main.specs.Status.{status_of};
 
-    // A bundle was refused: its fault's text, or want of memory for it.
+    // A bundle was refused: the text of its fault, or no memory for the text.
     pub(crate) fn of_text(text: Result<String, NoMemory>) -> Ending
         ensures { MatchResult text (λ t. result ≡ Ending.Refused t) (λ _. result ≡ Ending.NoMemory) }
     {
@@ -80,7 +80,7 @@ impl Ending {
         }
     }
 
-    // A day was not written whole. The text of a fault takes memory, of which there may be none.
+    // A day was not written whole. The text of a fault takes memory, which may run out.
     fn of_fault(alloc: Global, fault: &DayFault) -> Ending
         ensures { IsEndOf fault.now result }
     {
@@ -93,7 +93,7 @@ impl Ending {
         }
     }
 
-    /// How a day ended. The text of a fault takes memory.
+    /// How making a day ended. The text of a fault takes memory.
     pub fn of_day(alloc: Global, day: Result<(), DayFault>) -> Ending
         ensures { MatchResult day (λ _. result ≡ Ending.Done) (λ fault. IsEndOf fault result) }
     {
@@ -103,7 +103,7 @@ impl Ending {
         }
     }
 
-    /// How reading ended that gave nothing.
+    /// How a read that failed ended.
     pub(crate) fn of_read(fault: ReadFault) -> Ending
         ensures { result ≡ end_of_read fault }
     {
@@ -113,7 +113,7 @@ impl Ending {
         }
     }
 
-    /// How a page ended.
+    /// How making a page ended.
     pub fn of_page(page: Result<(), PageFault>) -> Ending
         ensures { MatchResult page (λ _. result ≡ Ending.Done) (λ fault. result ≡ end_of fault) }
     {
@@ -142,10 +142,9 @@ impl Ending {
         }
     }
 
-    /// Says on the error stream how the command ended: nothing where it was done, or where the output
-    /// says it.
+    /// Writes to the error stream how the command ended: nothing if it succeeded, or if the output says it.
     ///
-    /// Errors: where a write failed. A front was written then.
+    /// Errors: if a write failed. A prefix of the line has been written then.
     pub fn tell<E: Write>(&self, errors: &mut Told<E>) -> Result<(), WriteFault>
         ensures whole { OnOk result (HasTakenAll E.contents errors.old errors.new (words_of self.now)) }
         ensures front { OnErr result (HasTakenFront E.contents errors.old errors.new (words_of self.now)) }

@@ -1,4 +1,4 @@
-//! A bundle that is kept as the files of a folder.
+//! A bundle as the files of a folder.
 
 ghost use Rattle.std.specs.Prelude.{◌≡◌, ◌≤◌, ◌<◌, ◌+◌, ◌++◌, ◌∷◌, [], Err, IfErr, IfOk, IfSome, OnOk, length, map, option_map, vec_len};
 ghost use Rattle.std.specs.Result.{result_map_both};
@@ -15,7 +15,7 @@ use std::io::ErrorKind;
 use std::path::{Path, PathBuf};
 use std::rt::Files;
 
-// The tables, in their order.
+// The tables, in the order of a bundle.
 const TABLES: [Table; 9] = [
     Table::Calendar,
     Table::Items,
@@ -32,10 +32,10 @@ const TABLES: [Table; 9] = [
 pub trait FileStore {
     ghost known: { Self → Known };
 
-    /// The bytes of the file at a path, at most so many; none where there is no such file.
+    /// The bytes of the file at a path, at most `most`; `None` if there is no such file.
     ///
-    /// Errors: `Read` where a file is there and can't be read, or has more bytes; `NoMemory` where
-    /// a growth was refused.
+    /// Errors: `Read` if the file exists and cannot be read, or has more bytes; `NoMemory` if an
+    /// allocation fails.
     fn read_file(
         &self,
         alloc: Global,
@@ -47,14 +47,14 @@ pub trait FileStore {
         ensures past { result ≡ Err read.Read → IsTooLongAt (known self.now) path.now most };
 }
 
-// Whether a file can't be opened because there is none: none of its name, or no folder above it.
+// Whether a file cannot be opened because it does not exist, or its folder does not.
 fn is_absent(kind: ErrorKind) -> bool
     ensures { result ≡ is_absent kind }
 {
     matches!(kind, ErrorKind::NotFound | ErrorKind::NotADirectory)
 }
 
-// No contract can say which bytes the operating system's files have.
+// No contract can say which bytes the files of the operating system have.
 impl<F: Files> FileStore for F {
     ghost known = { λ _. nothing_known };
 
@@ -75,7 +75,7 @@ impl<F: Files> FileStore for F {
     }
 }
 
-// Where a folder has a table: `items.csv` and so on.
+// The path of a table's file in a folder: `items.csv` and so on.
 fn path_of(alloc: Global, folder: &str, table: Table) -> Result<PathBuf, AllocError>
     ensures { IfOk result (λ path. path_buf_bytes path ≡ path_in folder.now table) }
 {
@@ -84,7 +84,7 @@ fn path_of(alloc: Global, folder: &str, table: Table) -> Result<PathBuf, AllocEr
     Path::new(folder).join(alloc, file)
 }
 
-// The bytes of a table's file, at most so many; none where there is no such file.
+// The bytes of a table's file, at most `most`; `None` if there is no such file.
 fn read_table<F: FileStore>(
     files: &F,
     alloc: Global,
@@ -100,7 +100,7 @@ fn read_table<F: FileStore>(
     files.read_file(alloc, path.as_str(), most)
 }
 
-// Puts a table with its bytes behind the others.
+// Appends a table with its bytes.
 fn push_table(
     tables: &mut Vec<(Table, Vec<u8>)>,
     table: Table,
@@ -115,15 +115,15 @@ fn push_table(
     }
 }
 
-// What a table's section leaves of so many bytes of a bundle.
+// How many of the bytes that a bundle may still have are left after a table's section.
 //
-// Errors: `Read` where it has more.
+// Errors: `Read` if the section has more.
 #[tactic(auto, using(crate::proofs::Folders::section_length))]
 fn left_by(left: usize, table: Table, bytes: &[u8]) -> Result<usize, ReadFault>
     ensures leaves { IfOk result (λ rest. rest + length (section_bytes (section_of (table, bytes.now))) ≡ left) }
     ensures past { IfErr result (λ fault. (fault ≡ read.Read) × (left < length (section_bytes (section_of (table, bytes.now))))) }
 {
-    // (two brackets and two line feeds)
+    // Two brackets and two line feeds.
     let frame = table.name().len() + 4;
     match left.checked_sub(bytes.len()) {
         Some(rest) if rest >= frame => Ok(rest - frame),
@@ -131,8 +131,8 @@ fn left_by(left: usize, table: Table, bytes: &[u8]) -> Result<usize, ReadFault>
     }
 }
 
-// The tables that have a file in a folder, with its bytes: their sections have all together at most as
-// many as a bundle may have.
+// The tables that have a file in a folder, each with its bytes. Their sections together have at most as many
+// bytes as a bundle may have.
 fn read_tables<F: FileStore>(
     files: &F,
     alloc: Global,
@@ -164,11 +164,11 @@ fn join_tables(alloc: Global, tables: &[(Table, Vec<u8>)]) -> Result<Vec<u8>, No
     join_bundle(alloc, &parts)
 }
 
-/// The bundle of a folder's files `calendar.csv`, `items.csv` and so on: a section for each that is
-/// there, in the order of the tables.
+/// The bundle of a folder's files `calendar.csv`, `items.csv` and so on: a section for each file
+/// that exists, in the order of the tables.
 ///
-/// Errors, at the first file that has one: `Read` where a file is there and can't be read, or makes the
-/// bundle of the files up to it longer than 67,108,864 bytes; `NoMemory` where a growth was refused.
+/// Errors, at the first file that has one: `Read` if a file exists and cannot be read, or makes the bundle of
+/// the files so far longer than 67,108,864 bytes; `NoMemory` if an allocation fails.
 pub fn read_folder<F: FileStore>(
     files: &F,
     alloc: Global,

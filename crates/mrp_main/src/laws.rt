@@ -1,14 +1,14 @@
-//! What the definition of the words says of some, each law the contract of a function that does
-//! nothing.
+//! Examples of what the definition of the words says. Each law is the contract of a function that
+//! does nothing.
 
 ghost use Rattle.std.specs.Prelude.{◌≡◌, [], ◌∷◌, Some, None, codes};
 ghost use Rattle.clap.specs.declared.error.kind.ErrorKind.TheVariants as kind;
 ghost use Rattle.mrp_main.specs.declared.day.DayCommand.TheVariants.{Plan, Live};
 ghost use Rattle.mrp_main.specs.Words.{AskFor, AskForCheck, AskForPage, folder_in, refusals};
 
-/// Words that are taken, and why others are refused.
+/// Words that are accepted, and why others are refused.
 pub fn words()
-    // These are taken.
+    // These are accepted.
     ensures plan { refusals (codes "plan" ∷ []) ≡ [] }
     ensures live { refusals (codes "live" ∷ []) ≡ [] }
     ensures workers { refusals (codes "plan" ∷ codes "--workers" ∷ codes "64" ∷ []) ≡ [] }
@@ -23,16 +23,16 @@ pub fn words()
     ensures behind { folder_in (codes "plan" ∷ codes "--workers=2" ∷ codes "--dir=shop" ∷ []) ≡ Some (codes "shop") }
     ensures of_live { folder_in (codes "live" ∷ codes "--dir" ∷ codes "shop" ∷ []) ≡ Some (codes "shop") }
     ensures input { folder_in (codes "plan" ∷ codes "--workers=2" ∷ []) ≡ None }
-    // They ask for these commands, by these workers.
+    // They ask for these commands, with this many workers.
     ensures one_worker { AskFor (codes "plan" ∷ []) Plan 1 }
     ensures all_workers { AskFor (codes "plan" ∷ codes "--workers" ∷ codes "64" ∷ []) Plan 64 }
     ensures two_workers { AskFor (codes "plan" ∷ codes "--workers=2" ∷ []) Plan 2 }
     ensures live_day { AskFor (codes "live" ∷ []) Live 1 }
     ensures live_workers { AskFor (codes "live" ∷ codes "--workers" ∷ codes "8" ∷ []) Live 8 }
-    // They ask for the page of this run, of these items and with this title.
+    // They ask for the page of this run, with these items and this title.
     ensures last_page { AskForPage (codes "page" ∷ []) None None None }
     ensures asked_page { AskForPage (codes "page" ∷ codes "--run" ∷ codes "2" ∷ codes "--items=A,B" ∷ codes "--title" ∷ codes "Shop" ∷ []) (Some 2) (Some (codes "A,B")) (Some (codes "Shop")) }
-    // They ask for a check beside the files of this folder.
+    // They ask for a check against the files of this folder.
     ensures checked { AskForCheck (codes "check" ∷ codes "--dir=shop" ∷ []) (codes "shop") }
     // These ask for help.
     ensures help { refusals (codes "--help" ∷ []) ≡ kind.DisplayHelp ∷ [] }

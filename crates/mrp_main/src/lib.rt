@@ -1,4 +1,5 @@
-//! The program's commands: from its words to what it writes and its exit status.
+//! The commands of the program: from the words of the command line to its output and its exit
+//! status.
 #![tactic(auto)]
 
 mod check;

@@ -1,4 +1,4 @@
-//! The page of a day, made as words ask for it.
+//! Making the page of a day, as the words of the command line ask.
 
 ghost use Rattle.std.specs.Prelude.{◌≡◌, ℕ, List, Err, IfErr, IfOk, OnOk, Some, false, option_map, string_bytes};
 ghost use Rattle.std.specs.Io.KnownBytes.{Appends};
@@ -16,7 +16,7 @@ use mrp_rows::{Told, WRITE_TRIES};
 use std::alloc::Global;
 use std::io::{Read, Write};
 
-// The names that are asked for.
+// The names of the items that are asked for.
 fn names_in(alloc: Global, items: &Option<String>) -> Result<ItemNames, NoMemory>
     ensures { IfOk result (λ names. names ≡ names_in (option_map string_bytes items.now)) }
 {
@@ -36,7 +36,7 @@ fn title_of(title: &Option<String>) -> &str
     }
 }
 
-// Writes the page of the day that an input has.
+// Writes the page of the day on an input.
 fn write_asked<R: Read, W: Write>(
     alloc: Global,
     words: &PageWords,
@@ -62,7 +62,7 @@ fn write_asked<R: Read, W: Write>(
     write_page(alloc, input, &options, output)
 }
 
-/// Makes the page of the day that an input has, and tells how that ended.
+/// Makes the page of the day on an input, and returns how that ended.
 pub(crate) fn make_page<R: Read, W: Write>(
     alloc: Global,
     words: &PageWords,

@@ -27,14 +27,14 @@ const ABOUT_ITEMS: &str =
 
 const ABOUT_TITLE: &str = "The title of the page; Plan where it is left out";
 
-/// What a page is asked for by.
+/// The options of the page command.
 #[derive(Drop)]
 pub struct PageWords {
-    /// The number of the run that is shown; the last one where none is named.
+    /// The number of the run to show, from 1; the last run if none is named.
     pub run: Option<u64>,
-    /// The names of the items that are shown, as a row of csv.
+    /// The names of the items to show, as a csv record.
     pub items: Option<String>,
-    /// The title.
+    /// The title of the page.
     pub title: Option<String>,
 }
 
@@ -85,7 +85,7 @@ pub(crate) fn page_command<'a>(alloc: Global) -> Result<Command<'a>, AllocError>
         .arg(title(alloc))
 }
 
-/// What the matches of the subcommand ask for.
+/// The options in the matches of the subcommand.
 pub(crate) fn page_words(alloc: Global, found: &ArgMatches<'_>) -> Result<PageWords, AllocError>
     ensures { IfOk result (HasPageWords (rows_of (found_of found.now))) }
 {

@@ -1,4 +1,4 @@
-//! What the words ask for, done over an input, an output and an error stream.
+//! Doing what the words of the command line ask for, with an input, an output and an error stream.
 
 ghost use Rattle.std.specs.Prelude.{◌≡◌, ◌<◌, ◌≤◌, Ok, map, string_bytes, vec_len};
 ghost use Rattle.std.specs.Int.{IsInRange};
@@ -32,7 +32,7 @@ fn write_help<W: Write>(text: &str, output: &mut Told<W>) -> Ending
     }
 }
 
-// Makes a day of the bundle of the input.
+// Makes a day of the bundle on the input.
 fn make_day<R: Read, W: Write>(
     rt: &(impl Alloc + Threads + Wait + Sync),
     alloc: Global,
@@ -119,7 +119,7 @@ fn answer<F: FileStore, R: Read, W: Write>(
     }
 }
 
-// Does what was asked for. The error stream has no part in it, so it decides nothing.
+// Does what was asked for. It does not get the error stream, so nothing depends on that.
 fn carry_out<F: FileStore, R: Read, W: Write>(
     rt: &(impl Alloc + Threads + Wait + Sync),
     alloc: Global,
@@ -139,30 +139,30 @@ fn carry_out<F: FileStore, R: Read, W: Write>(
     }
 }
 
-/// Does what the words behind the program's name ask for, as `plan --workers 2`, `live`, `page` or
-/// `check --dir D`, over an input, an output and an error stream, and gives the exit status. A plan or a
-/// live day with `--dir D` is of the files of the folder D in place of the input.
+/// Does what the words after the program's name ask for, such as `plan --workers 2`, `live`, `page` or
+/// `check --dir D`, with an input, an output and an error stream, and returns the exit status. `plan` and
+/// `live` with `--dir D` take the files of the folder D instead of the input.
 ///
-/// The status is 0 where it was done, 1 where the bundle was refused or its plan gets too large, where
-/// the text that a page is asked for of is no day, or where a day was checked and is wrong, 2 for wrong
-/// words, also for a run that the day does not have, 3 where memory was refused, and 4 where reading or
-/// writing failed. A line on the error stream says why; its failure does not change the status.
+/// The status is 0 on success; 1 if the bundle was refused or its plan gets too large, if the text for a page
+/// is no day, or if the day that was checked is wrong; 2 for wrong words, including a run that the day does
+/// not have; 3 when out of memory; and 4 if reading or writing failed. A line on the error stream says why; a
+/// failure to write it does not change the status.
 ///
-/// Words that ask for a plan have the script answered in row order, and words that ask for a live day
-/// desk by desk, which leaves open which desk comes first. At 0 such a day of what the input had left
-/// was written; at 1, and where reading failed, nothing was; at 3 and where writing failed, at most a
-/// front of such a day. Of a folder the same is said of the bundle that the files of this folder make:
-/// for each table one section with its file's bytes, or none. Which bytes files have no contract says.
+/// `plan` answers the script in row order; `live` answers it desk by desk, in an order between desks that is
+/// not specified. At 0 such a day of what the input had left has been written; at 1, and if reading failed,
+/// nothing; at 3, and if writing failed, at most a prefix of such a day. With a folder the same holds for the
+/// bundle of its files: for each table one section with the bytes of its file, or none. No contract says
+/// which bytes the files have.
 ///
-/// Words that ask for a page have it drawn of the day that the input had left: at 0 the whole page was
-/// written; where writing failed, a front of it; else nothing.
+/// `page` draws the page of the day that the input had left: at 0 the whole page has been written; if writing
+/// failed, a prefix of it; otherwise nothing.
 ///
-/// Words that ask for a check have the day that the input had left checked beside the bundle of a folder's
-/// files: at 0 the line `right` was written, and it is a right day; at 1 the line of the first of its
-/// faults, or the bundle was refused and nothing was; where writing failed, a front of a line; else nothing.
+/// `check` checks the day that the input had left against the bundle of a folder's files: at 0 the line
+/// `right` has been written, and it is a right day; at 1 the line of its first fault, or nothing if the
+/// bundle was refused; if writing failed, a prefix of a line; otherwise nothing.
 ///
-/// Words that ask for help have it written, and wrong words nothing. All but a day, a page and a check of
-/// the input leave it as it is.
+/// Words that ask for help have it written; wrong words have nothing written. Only days, pages and checks
+/// that take the input read it.
 pub fn run_words<S: AsStr, R: Read, W: Write, E: Write>(
     rt: &(impl Alloc + Files + Threads + Wait + Sync),
     alloc: Global,

@@ -3,13 +3,13 @@
 /// How the program ended.
 #[derive(Clone, Copy, Debug, PartialEq, Eq)]
 pub enum Status {
-    /// What was asked for was done.
+    /// The command succeeded.
     Done,
-    /// The bundle was refused, or its plan gets too large; or a text is no day, or no right one.
+    /// The bundle was refused, or its plan gets too large; or a text is no day, or not a right one.
     Refused,
     /// The words were wrong.
     Usage,
-    /// A growth of memory was refused.
+    /// Out of memory.
     NoMemory,
     /// The input or the output failed.
     Stream,
@@ -19,7 +19,7 @@ impl Status {
     ghost use Rattle.std.specs.Prelude.{◌≡◌};
     ghost use Rattle.mrp_main.specs.Status.{code_of};
 
-    /// The exit status.
+    /// The number of the exit status.
     pub fn code(self) -> u8
         ensures { result ≡ code_of self }
     {

@@ -1,4 +1,4 @@
--- What tables have in range is a line, a spot or a wish of theirs.
+-- What is in the range of the tables is a line, a spot or a wish of theirs.
 use Rattle.std.proofs.Common.{◌≡◌, ◌<◌, ℕ, zero, suc, true, false, List, [], ◌∷◌, length, map, Ok, Result, arith}
 use Rattle.std.specs.Prelude.{IsTrue}
 use Rattle.std.specs.List.{slice_index_or}
@@ -45,7 +45,7 @@ master_at (i ∷ items) (suc item) h =
     (omega (arith, rest.0), rest.1)
 
 module _ (t : Tables) where
-  -- what is a line, a spot or a wish of the supply is made as it is
+  -- a line, a spot or a wish of the supply is constructed as it is
   pub line_made : (l : Line) → IsLine (supply_of t) l → line_of t l.item l.week l.quantity ≡ Ok l
   line_made l is =
       let there = master_at t.items l.item is.item in

@@ -10,7 +10,7 @@ use Rattle.mrp_master.specs.Supply.{Supply, IsMaster, IsWeek, line, due_by, supp
 abbrev pub share : ℕ → ℕ → ℕ → ℕ → ℕ → ℕ
 share item week i w quantity = if (i == item) && nat_le w week then quantity else 0
 
--- what is due with one line more
+-- what is due with one more line
 pub due_by_more : (lines : List Line) (item week i w quantity : ℕ) → due_by item week (lines ++ line i w quantity ∷ []) ≡ due_by item week lines + share item week i w quantity
 due_by_more lines item week i w quantity = sum_by_push (λ l. if (l.item == item) && nat_le l.week week then l.quantity else 0) lines (line i w quantity)
 
@@ -18,11 +18,11 @@ due_by_more lines item week i w quantity = sum_by_push (λ l. if (l.item == item
 pub share_here : (item week w quantity : ℕ) → w ≤ week → share item week item w quantity ≡ quantity
 share_here item week w quantity h = grind (arith, nat_tests)
 
--- and nothing else
+-- and to nothing else
 pub share_cases : (item week i w quantity : ℕ) → (share item week i w quantity ≡ 0) ⊎ ((i ≡ item) × (w ≤ week) × (share item week i w quantity ≡ quantity))
 share_cases item week i w quantity = grind (arith, nat_tests)
 
--- a week before what the least value is of
+-- a week before those of the least value
 least_step : (f : ℕ → ℕ) (week last rest : ℕ) → week < last → IsLeastFrom f (suc week) last rest → IsLeastFrom f week last (min (f week) rest)
 least_step f week last rest more r = record {
   below = λ t a b. elim (cases_lt week t) [

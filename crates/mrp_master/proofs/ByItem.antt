@@ -14,7 +14,7 @@ use Rattle.mrp_master.specs.declared.line.Line.{Line}
 use Rattle.mrp_master.specs.Numbered.{line_of}
 use Rattle.mrp_master.specs.Supply.{firm_lines}
 
--- what is grouped of the firm rows
+-- the groups of the firm rows
 pub firm_grouped : (rows : List MasterRow) (lines : List (Numbered Line)) (r : Result (List (List Line)) NoMemory) (n : ℕ) → lines ≡ map line_of (filter (λ x. is_firm x.kind) rows)
     → IfOk r (λ g. length g ≡ n) → IfOk r (λ g. (i : ℕ) → i < n → listed g i ≡ values_of lines i) → IfOk r (λ g. g ≡ map (firm_lines rows) (range_with_len 0 n))
 firm_grouped rows lines (Ok g) n is size groups =

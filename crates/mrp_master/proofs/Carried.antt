@@ -5,14 +5,14 @@ use Rattle.mrp_phase.specs.Weeks.{in_week, row, sum_to, with_week}
 use Rattle.mrp_phase.proofs.WeekRows.{in_week_changed, in_week_kept, in_week_row, sum_to_suc}
 use Rattle.mrp_master.specs.AtpRow.{AtpRow, IsAtpRow, IsAvailableIn, IsCoveredRow, IsWeekOf, bucket, buckets_to, lacking, with_booked, with_booking}
 
--- with another quantity in a week, sums up to an earlier week stay
+-- with the quantity of a week replaced, sums up to an earlier week stay
 pub sum_before : (xs : List ℕ) (week quantity t : ℕ) → t < week → sum_to (with_week xs week quantity) t ≡ sum_to xs t
 sum_before xs week quantity zero h = refl
 sum_before xs week quantity (suc t) h =
     let other : suc t ≢ week = omega arith in
     omega (arith, sum_to_suc (with_week xs week quantity) t, sum_to_suc xs t, in_week_kept xs week (suc t) quantity other, sum_before xs week quantity t (omega arith))
 
--- and those from the week on have what it has
+-- and those from the week on include the new quantity
 pub sum_since : (xs : List ℕ) (week quantity t : ℕ) → 1 ≤ week → week ≤ length xs → week ≤ t
     → sum_to (with_week xs week quantity) t + in_week xs week ≡ sum_to xs t + quantity
 sum_since xs week quantity zero a b h = absurd (omega arith)
@@ -28,7 +28,7 @@ sum_since xs week quantity (suc t) a b h = elim (cases_lt t week) [
 ]
 
 module _ (r : AtpRow) where
-  -- what the weeks after one lack makes up for each overdraft since then
+  -- what the weeks after one lack covers each overdraft since then
   pub lacking_bounds : (more w t : ℕ) → w ≤ t → t ≤ w + more
       → sum_to r.booked t + sum_to r.supply w ≤ sum_to r.supply t + sum_to r.booked w + lacking r more (suc w)
   unfolding lacking
@@ -46,7 +46,7 @@ module _ (r : AtpRow) where
         subst P (sym same) (omega arith)
   ]
 
-  -- and is one of them, or nothing
+  -- and is one of them, or 0
   pub lacking_reached : (more w : ℕ)
       → (t : ℕ) × (w ≤ t) × (t ≤ w + more) × (sum_to r.booked t + sum_to r.supply w ≡ sum_to r.supply t + sum_to r.booked w + lacking r more (suc w))
   unfolding lacking
@@ -97,7 +97,7 @@ module _ (r : AtpRow) where
         sum_to_suc r.supply w,
       )
 
-  -- one booking more, up to each week
+  -- one more booking, up to each week
   pub booked_since : (week quantity t : ℕ) → IsWeekOf r week → length r.booked ≡ length r.supply → week ≤ t
       → sum_to (with_booking r week quantity).booked t ≡ sum_to r.booked t + quantity
   booked_since week quantity t inside same h =
@@ -107,7 +107,7 @@ module _ (r : AtpRow) where
   booked_before week quantity t h = sum_before r.booked week (in_week r.booked week + quantity) t h
 
   module _ (same : length r.booked ≡ length r.supply) (covered : IsCoveredRow r) where
-    -- so much can be booked as the buckets up to the week hold
+    -- as much can be booked as the buckets up to the week hold
     pub fits_within : (week quantity : ℕ) → IsWeekOf r week → quantity ≤ buckets_to r week → IsCoveredRow (with_booking r week quantity)
     fits_within week quantity inside h t within = elim (cases_lt t week) [
       | inl before ↦ omega (arith, covered t within, booked_before week quantity t before)
@@ -137,7 +137,7 @@ module _ (r : AtpRow) where
       greatest = λ more fits. fits_at_most week more inside fits;
     }
 
-    -- which is nothing else
+    -- and nothing else does
     available_is : (week quantity : ℕ) → IsWeekOf r week → IsAvailableIn r week quantity → quantity ≡ buckets_to r week
     available_is week quantity inside a =
         omega (arith, fits_at_most week quantity inside a.fits, a.greatest (buckets_to r week) (fits_within week (buckets_to r week) inside (omega arith)))
@@ -176,7 +176,7 @@ fits_lower r week less same inside h covered t within = elim (cases_lt t week) [
   | inr since ↦ omega (arith, covered t within, sum_since r.booked week less t inside.0 (omega (arith, inside.1)) since)
 ]
 
--- so much fits as is available, and less
+-- what is available fits, and so does less
 pub fits_available : (r : AtpRow) (week quantity available : ℕ) → IsAtpRow r → IsWeekOf r week → IsAvailableIn r week available → quantity ≤ available → IsCoveredRow (with_booking r week quantity)
 fits_available r week quantity available is inside most enough =
     fits_less r week (in_week r.booked week + quantity) (in_week r.booked week + available) is.same inside (omega arith) most.fits

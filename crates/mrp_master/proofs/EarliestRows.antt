@@ -1,4 +1,4 @@
--- The first week in which enough is available in an item's row is the first in which it can be promised.
+-- The first week in which enough is available in an item's row is the first in which a quantity can be promised.
 use Rattle.std.proofs.Common.{ℕ, List, Option, Some, None, arith}
 use Rattle.mrp_phase.proofs.WeekRows.{length-row}
 use Rattle.mrp_master.specs.declared.line.Line.{Line}

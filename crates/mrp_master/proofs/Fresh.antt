@@ -1,4 +1,4 @@
--- The row of an item of which nothing is booked.
+-- The row of an item without bookings.
 use Rattle.std.proofs.Common.{ℕ, ◌≡◌, List, [], replicate, arith, refl, ◌∙◌, ap}
 use Rattle.std.proofs.lemmas.List.{length-replicate}
 use Rattle.mrp_phase.specs.Weeks.{row, sum_to}

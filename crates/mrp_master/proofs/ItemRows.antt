@@ -1,4 +1,4 @@
--- The row of an item, and what is booked line by line.
+-- The row of an item, and its bookings line by line.
 use Rattle.std.proofs.Common.{◌≡◌, ◌≢◌, ℕ, zero, suc, ◌+◌, ◌-◌, ◌≤◌, ◌==◌, ◌&&◌, inl, inr, if◌then◌else◌, nat_le, List, [], ◌∷◌, ◌++◌, get_or, refl, sym, ap, subst, arith}
 use Rattle.std.proofs.lemmas.Bool.Decides.{nat_tests}
 use Rattle.std.proofs.lemmas.List.Elements.{All-head, All-push, All-tail, All-weaker}
@@ -80,7 +80,7 @@ firm_from_first s k item = All-weaker (λ l. IsWeek s l.week) (λ l. 1 ≤ l.wee
 pub week_of_row : (s : Supply) (item : ℕ) (ls : List Line) (week : ℕ) → IsWeek s week → IsWeekOf (atp_row s item ls) week
 week_of_row s item ls week w = (w.0, omega (arith, length-row (opening s item) s.weeks, w.1))
 
--- One line more.
+-- One more line.
 
 module _ (s : Supply) (item : ℕ) (ls : List Line) where
   pub row_with : (week quantity : ℕ) → IsWeek s week → with_booking (atp_row s item ls) week quantity ≡ atp_row s item (ls ++ line item week quantity ∷ [])
@@ -97,7 +97,7 @@ module _ (s : Supply) (item : ℕ) (ls : List Line) where
       ap (λ (x : List ℕ). record { supply = row s.weeks (opening s item); booked = x })
       (row_same (λ t. due_in item t (ls ++ l ∷ [])) (λ t. due_in item t ls) s.weeks (λ t a b. omega (arith, due_in-push item t ls l, part_other_item item t l ne)))
 
-  -- a line less: the one that is no more in the others
+  -- one line fewer: the one that is not among the others
   pub row_without : (others : List Line) (l : Line) → IsWeek s l.week → item ≡ l.item → ((t : ℕ) → due_in item t ls ≡ due_in item t others + part item t l)
       → without_booking (atp_row s item ls) l.week l.quantity ≡ atp_row s item others
   row_without others l w own parts =
@@ -114,13 +114,13 @@ module _ (s : Supply) (item : ℕ) (ls : List Line) where
       ap (λ (x : List ℕ). record { supply = row s.weeks (opening s item); booked = x })
       (row_same (λ t. due_in item t ls) (λ t. due_in item t others) s.weeks (λ t a b. omega (arith, parts t, part_other_item item t l ne)))
 
-  -- so much is booked in a line's week
+  -- a line's quantity is booked in its week
   pub booked_at_least : (others : List Line) (l : Line) → IsWeek s l.week → item ≡ l.item → ((t : ℕ) → due_in item t ls ≡ due_in item t others + part item t l) → l.quantity ≤ in_week (atp_row s item ls).booked l.week
   booked_at_least others l w own parts =
       let whole : part item l.week l ≡ l.quantity = subst (λ (x : ℕ). part x l.week l ≡ l.quantity) (sym own) (part_here l) in
       omega (arith, in_week_row (λ t. due_in item t ls) s.weeks l.week w.0 w.1, parts l.week, whole)
 
--- A row is covered where the item's lines are.
+-- A row is covered if the item's lines are.
 
 module _ (s : Supply) (supplied : IsSupply s) (item : ℕ) (ls : List Line) (all : FromFirst ls) where
   abbrev pub ItemCovered : Type 0
@@ -170,7 +170,7 @@ module _ (s : Supply) (supplied : IsSupply s) (item : ℕ) (master : IsMaster s 
     greatest = λ more fits. a.greatest more (fits_row week more w fits);
   }
 
-  -- the item's row is one
+  -- the item's row is a row
   pub is_row : IsAtpRow (atp_row s item ls)
   is_row = record {
     weeks = omega (arith, length-row (opening s item) s.weeks, supplied.last);
@@ -193,6 +193,6 @@ parted item week before after l =
       sum_by-cons (part item week) l after,
     )
 
--- a week in which nothing opens has an empty bucket
+-- a week without supply has an empty bucket
 pub empty_bucket : (r : AtpRow) (week : ℕ) → in_week r.supply week ≡ 0 → bucket r week ≡ 0
 empty_bucket r week none = omega arith

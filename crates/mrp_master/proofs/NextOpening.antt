@@ -5,14 +5,14 @@ use Rattle.mrp_phase.proofs.WeekRows.{sum_to_rises, sum_to_suc}
 use Rattle.mrp_master.specs.AtpRow.{AtpRow, IsNextOpening, IsWeekOf, booked_until, bucket, lacking, lacking_from}
 
 module _ (r : AtpRow) where
-  -- a week lacks what is due in it and what the later ones lack, less what comes in
+  -- a week lacks what is due in it and what the later ones lack, less its supply
   lacking-week : (t : ℕ) → suc t ≤ length r.supply → lacking_from r (suc t) ≡ in_week r.booked (suc t) + lacking_from r (suc (suc t)) - in_week r.supply (suc t)
   unfolding lacking
   lacking-week t h =
       let here : length r.supply + 1 - suc t ≡ suc (length r.supply + 1 - suc (suc t)) = omega arith in
       ap (λ n. lacking r n (suc t)) here
 
-  -- what weeks in which nothing comes in lack, up to the next that opens
+  -- what weeks without supply lack, up to the next that opens a bucket
   lacking-until : (more t next : ℕ) → t + more ≡ next → next ≤ length r.supply + 1 → 1 ≤ t → ((w : ℕ) → t ≤ w → w < next → in_week r.supply w ≡ 0) → lacking_from r t ≡ booked_until r t next + lacking_from r next
   lacking-until zero t next e last first none =
       let same : t ≡ next = omega arith in
@@ -34,7 +34,7 @@ module _ (r : AtpRow) where
       )
 
   module _ (week next : ℕ) (w : IsWeekOf r week) (n : IsNextOpening r week next) where
-    -- what is lacking after a week that opens
+    -- what is lacking after a week that opens a bucket
     after : lacking_from r (suc week) ≡ booked_until r (suc week) next + lacking_from r next
     after = lacking-until (next - suc week) (suc week) next (omega (arith, n.0)) n.1 (omega arith) (λ t a b. n.2 t (omega arith) b)
 
@@ -64,7 +64,7 @@ module _ (r : AtpRow) where
             subst (λ x. lacking_from r x ≡ in_week r.booked x + lacking_from r (suc x) - in_week r.supply x) e (lacking-week t (omega (arith, w.1))) in
             omega (arith, here, due)
 
-  -- behind the last week nothing is lacking
+  -- after the last week nothing is lacking
   pub none-lacking : lacking_from r (length r.supply + 1) ≡ 0
   unfolding lacking
   none-lacking =

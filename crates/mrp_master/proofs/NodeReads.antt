@@ -1,4 +1,4 @@
--- Reads of nodes, one after another.
+-- Sequences of node reads.
 use Rattle.std.proofs.Common.{ℕ, zero, suc, ◌≤◌, ◌<◌, refl, arith}
 use Rattle.mrp_master.specs.Nodes.{ReadsAtMost}
 

@@ -1,4 +1,4 @@
--- What is on hand of an item, one row of the stock at a time.
+-- The stock on hand of an item, one row at a time.
 use Rattle.std.proofs.Common.{ℕ, zero, suc, ◌≡◌, ◌≢◌, ◌∙◌, ◌+◌, ◌<◌, ◌≤◌, Bool, true, false, cond, eqb, List, length, take, set, get_or, map, refl, subst, sym, ap, arith, add-one}
 use Rattle.std.specs.Prelude.{sum_by, All}
 use Rattle.std.proofs.lemmas.Bool.{eqb-true, eqb-false}
@@ -16,14 +16,14 @@ use Rattle.mrp_tables.specs.Stock.{items_in_stock}
 use Rattle.mrp_phase.proofs.KeptSums.{sum_by-kept}
 use Rattle.mrp_master.specs.Supply.{on_hand_of}
 
--- what a row adds to what is on hand of an item
+-- what a row adds to the stock on hand of an item
 abbrev pub added : ℕ → StockRow → ℕ
 added item row = cond (eqb row.item item) row.on_hand 0
 
 pub on_hand_is_sum : (rows : List StockRow) (item : ℕ) → on_hand_of rows item ≡ sum_by (added item) rows
 on_hand_is_sum rows item = sum_by-kept (λ row. eqb row.item item) (λ (row : StockRow). row.on_hand) rows
 
--- one row more
+-- one more row
 pub on_hand_more : (rows : List StockRow) (k : ℕ) (d : StockRow) (item : ℕ) → k < length rows
     → on_hand_of (take (k + 1) rows) item ≡ on_hand_of (take k rows) item + added item (get_or rows k d)
 on_hand_more rows k d item h =
@@ -52,7 +52,7 @@ module _ (rows : List StockRow) (differ : AllDiffer (items_in_stock rows)) where
           let before : j < k = omega (arith, length-take k rows) in
           rw (get_or-take k rows j e before) (by j e before (eqb (get_or rows j e).item (get_or rows k d).item) refl)
 
-  -- what is on hand of each item, with one row more
+  -- the stock on hand of each item, with one more row
   set_at : (on_hand : List ℕ) (k i : ℕ) (d : StockRow) → k < length rows → (get_or rows k d).item < length on_hand
       → get_or on_hand i 0 ≡ on_hand_of (take k rows) i
       → get_or (set on_hand (get_or rows k d).item (get_or rows k d).on_hand) i 0 ≡ on_hand_of (take (k + 1) rows) i
@@ -75,7 +75,7 @@ module _ (rows : List StockRow) (differ : AllDiffer (items_in_stock rows)) where
       let there : (get_or rows k row).item < length items = (all k row h).item in
       subst (λ (r : StockRow). get_or (set on_hand r.item r.on_hand) i 0 ≡ on_hand_of (take (k + 1) rows) i) (sym is) (set_at on_hand k i row h (omega arith) before)
 
-  -- no more is on hand of an item than a row can say
+  -- the stock on hand of an item is within a row's limit
   within_more : (items : List Item) (item k : ℕ) (d : StockRow) → All (IsStockRow items) rows → k < length rows
       → on_hand_of (take k rows) item ≤ 1000000000 → on_hand_of (take (k + 1) rows) item ≤ 1000000000
   within_more items item k d all h so_far = by (eqb (get_or rows k d).item item) refl
@@ -95,7 +95,7 @@ module _ (rows : List StockRow) (differ : AllDiffer (items_in_stock rows)) where
   pub on_hand_within : (items : List Item) (item : ℕ) → All (IsStockRow items) rows → on_hand_of rows item ≤ 1000000000
   on_hand_within items item all = rw take-length at (within_so_far items item all (length rows) (omega arith))
 
--- what is on hand of each item, once every row was read
+-- the stock on hand of each item, once every row was read
 pub on_hand_of_each : (rows : List StockRow) (on_hand : List ℕ) (n k : ℕ) → length on_hand ≡ n → length rows ≤ k
     → ((i : ℕ) → i < n → get_or on_hand i 0 ≡ on_hand_of (take k rows) i) → on_hand ≡ map (on_hand_of rows) (range_with_len 0 n)
 on_hand_of_each rows on_hand n k size all read =

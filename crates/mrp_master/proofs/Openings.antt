@@ -1,4 +1,4 @@
--- What comes in of an item in each week, line by line.
+-- The supply of an item in each week, line by line.
 use Rattle.std.proofs.Common.{ℕ, ◌≡◌, ◌≢◌, ◌≤◌, ◌<◌, ◌+◌, ◌-◌, ◌&&◌, inl, inr, Bool, true, false, cond, eqb, leb, List, [], length, get_or, set, take, replicate, arith, refl, sym, ◌∙◌, ap, subst}
 use Rattle.std.specs.Prelude.{All, sum}
 use Rattle.std.proofs.lemmas.Bool.{cases_eq, eq-eqb, eqb-true, ne_eqb, leb-false}
@@ -45,7 +45,7 @@ due_in_by item week lines =
     by l true = in_week_too l (eqb l.week week) refl (leb l.week week) refl
     by l false = omega arith
 
--- what comes in in each week, with the first lines of the item
+-- the supply of each week, with the first lines of the item
 pub record Opened (s : Supply) (item k : ℕ) (lines : List Line) (openings : List ℕ) : Type 0 where
   pub size : length openings ≡ s.weeks
   pub each : (t : ℕ) → 1 ≤ t → t ≤ s.weeks → in_week openings t ≡ cond (eqb t 1) (get_or s.on_hand item 0) 0 + due_in item t (take k lines)
@@ -80,7 +80,7 @@ opened_start s item lines zeros on_hand some nothing is =
     }
 
 module _ (s : Supply) (item k : ℕ) (lines : List Line) (openings : List ℕ) (l : Line) (o : Opened s item k lines openings) (h : k < length lines) (read : l ≡ get_or lines k l) where
-  -- one line more
+  -- one more line
   line_more : (t : ℕ) → due_in item t (take (k + 1) lines) ≡ due_in item t (take k lines) + share_in item t l
   line_more t = sum_by_more (share_in item t) lines k l h ∙ ap (λ x. due_in item t (take k lines) + share_in item t x) (sym read)
 
@@ -91,7 +91,7 @@ module _ (s : Supply) (item k : ℕ) (lines : List Line) (openings : List ℕ) (
     each = λ t a b. omega (arith, o.each t a b, line_more t, share_no_item item t l other);
   }
 
-  -- what comes in in its week
+  -- the supply of the line's week
   pub opened_read : 1 ≤ l.week → l.week ≤ s.weeks → get_or openings (l.week - 1) 0 ≡ cond (eqb l.week 1) (get_or s.on_hand item 0) 0 + due_in item l.week (take k lines)
   opened_read a b = sym (in_week_at openings l.week a) ∙ o.each l.week a b
 
@@ -140,7 +140,7 @@ line_inside s item k lines l kept h read is =
     let all : All (λ (x : Line). IsWeek s x.week) lines = subst (λ (xs : List Line). All (λ (x : Line). IsWeek s x.week) xs) (sym is) (kept.inside item) in
     subst (λ (x : Line). IsWeek s x.week) (sym read) (all k l h)
 
--- what comes in in each week, once every line was read
+-- the supply of each week, once every line was read
 pub opened_all : (s : Supply) (item k : ℕ) (lines : List Line) (openings : List ℕ) → Opened s item k lines openings → length lines ≤ k → lines ≡ get_or s.firm item []
     → openings ≡ row s.weeks (opening s item)
 opened_all s item k lines openings o all is =

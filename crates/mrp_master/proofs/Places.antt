@@ -4,7 +4,7 @@ use Rattle.std.proofs.lemmas.Bool.{cases_lt}
 use Rattle.std.proofs.lemmas.Bool.Decides.{nat_tests}
 use Rattle.mrp_master.specs.Nodes.{before, height, last}
 
--- a node's places are those of its children, one after the other
+-- a node's places are those of its two children, in order
 pub record AreHalves (n : ℕ) : Type 0 where
   pub first : before (2 * n) ≡ before n
   pub middle : before (2 * n + 1) ≡ last (2 * n)

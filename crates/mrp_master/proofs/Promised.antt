@@ -1,4 +1,4 @@
--- What is available in a row and from which week on, by what is uncommitted.
+-- What is available in a row, and from which week on, by the uncommitted quantity.
 use Rattle.std.proofs.Common.{ℕ, ◌≡◌, ◌≤◌, ◌<◌, ◌+◌, ◌-◌, ◌*◌, inl, inr, Some, None, length, ℤ, pos, ◌+ℤ◌, ◌-ℤ◌, ◌≤ℤ◌, ◌<ℤ◌, arith, ap, sym, subst, ◌∙◌}
 use Rattle.std.proofs.lemmas.Bool.{cases_lt}
 use Rattle.std.proofs.lemmas.Int.{ints}
@@ -19,21 +19,21 @@ pub record IsWalk (r : AtpRow) (quantity node : ℕ) (end : ℤ) : Type 0 where
   pub enough : (t : ℕ) → last node < t → t ≤ 128 → quantity + sum_to r.booked t ≤ sum_to r.supply t
 
 module _ (r : AtpRow) (kept : IsPromiseRow r) where
-  -- so much fits where it is uncommitted from the week on
+  -- a quantity fits if it is uncommitted from the week on
   fits_from : (week quantity : ℕ) → IsWeekOf r week → ((t : ℕ) → week ≤ t → t ≤ length r.supply → quantity + sum_to r.booked t ≤ sum_to r.supply t) → IsCoveredRow (with_booking r week quantity)
   fits_from week quantity inside enough t within = elim (cases_lt t week) [
     | inl sooner ↦ omega (arith, kept.row.covered t within, booked_before r week quantity t sooner)
     | inr since ↦ omega (arith, enough t since within.1, booked_since r week quantity t inside kept.row.same since)
   ]
 
-  -- and not where it is more than that in a week since
+  -- and not if it is more than that in a week since
   fails_at : (week quantity t : ℕ) → IsWeekOf r week → week ≤ t → sum_to r.supply t < quantity + sum_to r.booked t → ¬ IsCoveredRow (with_booking r week quantity)
   fails_at week quantity t inside since short fits =
       let v = week_within r kept t in
       let later : week ≤ v.week = elim (cases_lt (length r.supply) t) [ inl past ↦ omega (arith, v.at_end, inside.1) | inr in_it ↦ omega (arith, v.as_it_is) ] in
       omega (arith, v.supplied, v.booked, fits v.week (omega (arith, later, inside.0), v.within), booked_since r week quantity v.week inside kept.row.same later)
 
-  -- the least over the weeks since one is available in it
+  -- the least over the weeks from one on is available in it
   pub span_available : (week quantity : ℕ) (node : Node) → IsWeekOf r week → IsSpan r 0 week 128 node → pos quantity ≡ node.least → IsAvailableIn r week quantity
   span_available week quantity node inside x is = record {
     fits = fits_from week quantity inside (λ t a b. omega (arith, ints, is, x.below t a (omega (arith, b, kept.row.weeks))));
@@ -89,7 +89,7 @@ module _ (r : AtpRow) (kept : IsPromiseRow r) where
     enough = λ t a b. absurd (omega (arith, root_last));
   }
 
-  -- no week is such: week 1 is the first
+  -- there is no such week: week 1 is the first
   pub from_first : (quantity : ℕ) (root : Node) → IsNode r 1 root → pos quantity ≤ℤ root.least → IsEarliestIn r quantity (Some 1)
   from_first quantity root x enough = (
     (omega arith, kept.some),
@@ -115,6 +115,6 @@ module _ (r : AtpRow) (kept : IsPromiseRow r) where
           λ sooner within before. fails_at sooner quantity (node - 127) within (omega (arith, before)) last_short,
         )
 
-    -- and none is where it is past all
+    -- and there is none if it would come after all
     pub none_after : length r.supply ≤ node - 127 → IsEarliestIn r quantity None
     none_after past = λ week inside. fails_at week quantity (node - 127) inside (omega (arith, inside.1, past)) last_short

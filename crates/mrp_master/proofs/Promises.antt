@@ -19,7 +19,7 @@ module _ (s : Supply) (lines : List Line) (item : ℕ) where
     ]
   ]
 
-  -- so much can be promised only where one line more of so much is covered
+  -- a quantity can be promised only if one more line of it is covered
   pub promise_fits : (week quantity : ℕ) → CanPromise s lines item quantity week → IsCovered s (lines ++ line item week quantity ∷ [])
   promise_fits week quantity (a, is, enough) = covered-less s lines item week quantity a enough is.fits
 
@@ -37,7 +37,7 @@ module _ (s : Supply) (lines : List Line) (item : ℕ) where
         let same : can.0 ≡ available s lines item week = available_unique s lines item week can.0 (available s lines item week) can.1 (available_is week w) in
         omega (arith, can.2, same, short)
 
-    -- the weeks from one on, where none before it has enough
+    -- the weeks from one on, if none before it has enough
     earliest_from : (quantity more week : ℕ) → week + more ≡ s.weeks + 1 → 1 ≤ week → ((sooner : ℕ) → IsWeek s sooner → sooner < week → ¬ CanPromise s lines item quantity sooner)
         → (found : Option ℕ) × IsEarliest s lines item quantity found
     earliest_from quantity zero week end first none = (None, λ t w. none t w (omega (arith, w.1)))

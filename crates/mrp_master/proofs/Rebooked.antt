@@ -1,4 +1,4 @@
--- A row with another quantity booked in a week, and its tree before the week is renewed.
+-- A row with the bookings of a week replaced, and its tree before the week is renewed.
 use Rattle.std.proofs.Common.{ℕ, zero, suc, ◌≡◌, ◌≢◌, ◌≤◌, ◌<◌, ◌+◌, ◌-◌, inl, inr, List, pos, ◌-ℤ◌, set, sym, ◌∙◌, ap, arith}
 use Rattle.std.proofs.lemmas.Bool.{cases_lt}
 use Rattle.mrp_phase.specs.Weeks.{in_week, sum_to, with_week}
@@ -49,7 +49,7 @@ module _ (supply booked : List ℕ) (nodes : List Node) (week pieces : ℕ) (kep
         little_to (row_of supply booked) kept.row week,
       )
 
-  -- nodes but the week's place are made as before
+  -- nodes other than the week's place are made as before
   pub others_made : (n : ℕ) → 1 ≤ n → n < 256 → n ≢ week + 127 → IsMade (row_of supply after) nodes n
   others_made n some within other = elim (cases_lt n 128) [
     | inl inner ↦ record { is = (kept.tree.made n some within).is ∙ made_inner (row_of supply booked) nodes n inner ∙ sym (made_inner (row_of supply after) nodes n inner) }

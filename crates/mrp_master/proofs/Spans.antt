@@ -1,4 +1,4 @@
--- What weeks change, one after the other.
+-- The net change of consecutive weeks.
 use Rattle.std.proofs.Common.{ℕ, suc, ◌≡◌, ◌≤◌, ◌+◌, inl, inr, List, length, take_all, pos, ◌+ℤ◌, ◌-ℤ◌, ◌≤ℤ◌, arith, refl, ap, sym, ◌∙◌}
 use Rattle.std.specs.Prelude.{sum, FitsSigned}
 use Rattle.std.specs.Int.{w64}
@@ -45,7 +45,7 @@ place_span r week =
       reached = (suc week, omega arith, omega arith, change);
     })
 
--- Past the last week nothing changes.
+-- After the last week nothing changes.
 
 past : (xs : List ℕ) (t : ℕ) → length xs ≤ t → sum_to xs t ≡ sum_to xs (length xs)
 past xs t h = ap sum (take_all t xs h) ∙ sym (sum_to_whole xs)
@@ -83,7 +83,7 @@ module _ (r : AtpRow) (kept : IsPromiseRow r) where
     }
   ]
 
-  -- up to no week is more booked than supplied, and no more supplied than a quantity
+  -- up to each week no more is booked than supplied, and the supply is within a quantity
   pub covered_to : (t : ℕ) → sum_to r.booked t ≤ sum_to r.supply t
   covered_to t =
       let v = week_within t in
@@ -99,7 +99,7 @@ module _ (r : AtpRow) (kept : IsPromiseRow r) where
       let v = week_within t in
       omega (arith, v.supplied, sum_to_rises r.supply v.week (length r.supply) v.within, sum_to_whole r.supply, kept.little)
 
-  -- so no node is past a quantity, nor two together past a number of the code
+  -- so each node is within a quantity, and two together are within the code's integers
   pub span_little : (before from last : ℕ) (a : Node) → IsSpan r before from last a
       → (a.sum ≤ℤ pos 1000000000000000) × (pos 0 ≤ℤ (a.sum +ℤ pos 1000000000000000)) × (a.least ≤ℤ pos 1000000000000000) × (pos 0 ≤ℤ (a.least +ℤ pos 1000000000000000))
   span_little before from last a x =

@@ -25,7 +25,7 @@ share_within item week l h = by (eqb l.item item && leb l.week week)
     by true = h
     by false = omega arith
 
--- no more is due by lines than each can say
+-- no more is due by lines than each may have
 pub due_by_within : (item week : ℕ) (lines : List Line) → All (λ l. l.quantity ≤ 1000000000) lines → due_by item week lines ≤ length lines * 1000000000
 due_by_within item week lines all =
     sum_by-le (λ l. cond (eqb l.item item && leb l.week week) l.quantity 0) 1000000000 lines
@@ -63,7 +63,7 @@ on_hand_at_within items rows item n differ all = elim (cases_lt item n) [
       omega (arith, get_or_past (map (on_hand_of rows) (range_with_len 0 n)) item 0 (omega arith))
 ]
 
--- what is on hand and the firm rows, within the limits of their tables, are a supply
+-- stock on hand and firm rows, within the limits of their tables, are a supply
 pub rows_are_supply : (items : List Item) (stock : List StockRow) (master : List MasterRow) (horizon count weeks : ℕ) (masters : List Bool) (on_hand : List ℕ) (firm : List (List Line))
     → IsInRange 1 104 weeks → weeks ≡ horizon → All (IsStockRow items) stock → AllDiffer (items_in_stock stock) → All (IsMasterRow horizon items) master → length master ≤ 100000
     → on_hand ≡ map (on_hand_of stock) (range_with_len 0 count) → firm ≡ map (firm_lines master) (range_with_len 0 count)

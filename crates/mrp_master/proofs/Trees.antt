@@ -1,4 +1,4 @@
--- Each node of a tree is what the weeks below it change.
+-- Each node of a tree is the net change of the weeks below it.
 use Rattle.std.proofs.Common.{ℕ, zero, suc, ◌≡◌, ◌≢◌, ◌≤◌, ◌<◌, ◌+◌, ◌-◌, ◌*◌, inl, inr, cond, List, length, pos, set, arith, refl, ap, sym, subst, ◌∙◌}
 use Rattle.std.proofs.lemmas.Bool.{cases_lt, le-ltb, lt-ltb}
 use Rattle.std.proofs.lemmas.List.{get_or-set_other, get_or-set_same}
@@ -35,7 +35,7 @@ module _ (r : AtpRow) (nodes : List Node) where
       (span_at r (before (2 * n)) (before (2 * n) + 1) (last (2 * n)) (before n) (before n + 1) (last (2 * n)) a h.first (ap (λ k. k + 1) h.first) refl x)
       (span_at r (before (2 * n + 1)) (before (2 * n + 1) + 1) (last (2 * n + 1)) (last (2 * n)) (last (2 * n) + 1) (last n) b h.middle (ap (λ k. k + 1) h.middle) h.end y)
 
-  -- from a number on, where each is made of those below it
+  -- from a number on, if each is made of those below it
   module _ (m : ℕ) (all : (n : ℕ) → m ≤ n → 1 ≤ n → n < 256 → IsMade r nodes n) where
     by_rest : (rest n : ℕ) → m ≤ n → 1 ≤ n → n < 256 → 256 ≤ n + rest → IsNode r n (node_at nodes n)
     by_rest zero n a b c d = absurd (omega arith)
@@ -66,11 +66,11 @@ module _ (r : AtpRow) (nodes : List Node) where
       | inr place ↦ made_place r (set nodes k node) n place ∙ sym (made_place r nodes n place)
     ]
 
-    -- another stays made where the changed one is not its child
+    -- another node stays made if the changed one is not its child
     pub made_other : (n : ℕ) → n ≢ k → (n < 128 → (2 * n ≢ k) × (2 * n + 1 ≢ k)) → IsMade r nodes n → IsMade r (set nodes k node) n
     made_other n other apart x = record { is = get_or-set_other nodes k n node (record { sum = pos 0; least = pos 0 }) other ∙ x.is ∙ sym (made_same n apart) }
 
-    -- and it is made anew
+    -- and it is recomputed
     pub made_new : node ≡ made r nodes k → IsMade r (set nodes k node) k
     made_new e = record { is = get_or-set_same nodes k node (record { sum = pos 0; least = pos 0 }) within ∙ e ∙ sym (made_same k (λ inner. (omega arith, omega arith))) }
 

@@ -13,17 +13,18 @@ pub record IsPromiseRow (r : AtpRow) : Type 0 where
   pub some : 1 ≤ length r.supply
   pub little : sum r.supply ≤ greatest_quantity
 
--- what comes in up to a week, less what is booked up to it; after the last week it stays as it is
+-- supply up to a week, less bookings up to it; constant after the last week
 abbrev pub uncommitted_to : AtpRow → ℕ → ℤ
 uncommitted_to r week = pos (sum_to r.supply week) -ℤ pos (sum_to r.booked week)
 
--- what the weeks after a week, up to a last one, change: in all, and from the first of them the least up to one of those from a week on
+-- the net change of the weeks after a week, up to a last one: in all, and the least from the first of them up to one of
+-- those from a week on
 pub record IsSpan (r : AtpRow) (before from last : ℕ) (node : Node) : Type 0 where
   pub sum : node.sum ≡ uncommitted_to r last -ℤ uncommitted_to r before
   pub below : (week : ℕ) → from ≤ week → week ≤ last → node.least ≤ℤ (uncommitted_to r week -ℤ uncommitted_to r before)
   pub reached : (week : ℕ) × (from ≤ week) × (week ≤ last) × (node.least ≡ uncommitted_to r week -ℤ uncommitted_to r before)
 
--- how often a node's number doubles until it is a week's place
+-- how often a node's number is doubled until it is a week's place
 unfoldable pub height : ℕ → ℕ
 height node =
     if nat_lt node 2 then 7
@@ -42,22 +43,22 @@ before node = node * 2 ^ height node - PLACES
 unfoldable pub last : ℕ → ℕ
 last node = (node + 1) * 2 ^ height node - PLACES
 
--- a node of a row's tree: what the weeks below it change
+-- a node of a row's tree: the net change of the weeks below it
 abbrev pub IsNode : AtpRow → ℕ → Node → Type 0
 IsNode r number node = IsSpan r (before number) (before number + 1) (last number) node
 
--- Reads of nodes, one after another, where it is told what one of them makes.
+-- Sequences of node reads, given what one read does.
 module _ {S : Type 0} (IsRead : S → S → Type 0) where
-  -- so many of them make the new of the old
+  -- so many reads lead from the old to the new
   abbrev pub AreReads : ℕ → S → S → Type 0
   AreReads zero old new = old ≡ new
   AreReads (suc more) old new = (between : S) × AreReads more old between × IsRead between new
 
-  -- no more than so many do
+  -- at most so many reads do
   abbrev pub ReadsAtMost : ℕ → S → S → Type 0
   ReadsAtMost most old new = (count : ℕ) × (count ≤ most) × AreReads count old new
 
--- A node over two others.
+-- The node over two others.
 
 -- the weeks of the first, then those of the second
 abbrev pub joined : Node → Node → Node

@@ -1,7 +1,7 @@
--- Cover, the greatest quantity and the least week, over whatever is supplied and due (profile).
+-- Cover, the greatest quantity and the least week, over any supply and any quantity due (profile).
 use Rattle.std.specs.Prelude.{ℕ, ◌≤◌, ◌<◌, Option, Some, None}
 
--- up to no week is more due than supplied
+-- up to each week no more is due than supplied
 abbrev pub Covers : (ℕ → Type 0) → (ℕ → ℕ) → (ℕ → ℕ) → Type 0
 Covers IsIn supplied due = (week : ℕ) → IsIn week → due week ≤ supplied week
 

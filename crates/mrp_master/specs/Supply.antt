@@ -11,7 +11,8 @@ use Rattle.mrp_tables.specs.Tables.{Tables}
 use Rattle.mrp_master.specs.declared.line.Line.{Line}
 use Rattle.mrp_master.specs.Promising.{Covers, IsGreatest, IsLeastWeek}
 
--- what promising reads of the tables: the weeks, which items are master items, and of each item what is on hand and its firm rows
+-- what available to promise is computed from: the weeks, which items are master items, and of each item its stock on hand
+-- and its firm rows
 pub record Supply : Type 0 where
   pub weeks : ℕ
   pub masters : List Bool
@@ -31,23 +32,23 @@ line item week quantity = record { item = item; week = week; quantity = quantity
 abbrev pub due_by : ℕ → ℕ → List Line → ℕ
 due_by item week lines = sum_by (λ l. if (l.item == item) && nat_le l.week week then l.quantity else 0) lines
 
--- the supply of an item up to a week: what is on hand, and the firm rows up to the week
+-- the supply of an item up to a week: the stock on hand, and the firm rows up to the week
 abbrev pub supply : Supply → ℕ → ℕ → ℕ
 supply s item week = slice_index_or s.on_hand item 0 + due_by item week (slice_index_or s.firm item [])
 
--- of no master item is more due up to any week than its supply up to that week
+-- for each master item, no more is due up to a week than its supply up to that week
 abbrev pub IsCovered : Supply → List Line → Type 0
 IsCovered s booked = (item : ℕ) → IsMaster s item → Covers (IsWeek s) (supply s item) (λ week. due_by item week booked)
 
--- available to promise: the greatest quantity of which one more booking leaves all covered
+-- available to promise: the greatest quantity that leaves all covered with one more booking
 abbrev pub IsAvailable : Supply → List Line → ℕ → ℕ → ℕ → Type 0
 IsAvailable s booked item week quantity = IsGreatest (λ more. IsCovered s (booked ++ line item week more ∷ [])) quantity
 
--- so much of an item can be promised in a week
+-- a quantity of an item can be promised in a week
 abbrev pub CanPromise : Supply → List Line → ℕ → ℕ → ℕ → Type 0
 CanPromise s booked item quantity week = (available : ℕ) × IsAvailable s booked item week available × (quantity ≤ available)
 
--- the least week in which so much can be promised, or none
+-- the least week in which a quantity can be promised, or none
 abbrev pub IsEarliest : Supply → List Line → ℕ → ℕ → Option ℕ → Type 0
 IsEarliest s booked item quantity found = IsLeastWeek (IsWeek s) (CanPromise s booked item quantity) found
 
@@ -69,9 +70,9 @@ least_from f week (suc more) = min (f week) (least_from f (suc week) more)
 abbrev pub available : Supply → List Line → ℕ → ℕ → ℕ
 available s booked item week = least_from (uncommitted s booked item) week (s.weeks - week)
 
--- What the tables say.
+-- The supply of the tables.
 
--- what is on hand of an item; one without a stock record has 0
+-- the stock on hand of an item; 0 without a stock record
 abbrev pub on_hand_of : List StockRow → ℕ → ℕ
 on_hand_of rows item = sum_by (λ r. r.on_hand) (filter (λ r. r.item == item) rows)
 
@@ -79,7 +80,7 @@ on_hand_of rows item = sum_by (λ r. r.on_hand) (filter (λ r. r.item == item) r
 abbrev pub firm_lines : List MasterRow → ℕ → List Line
 firm_lines rows item = map (λ r. line r.item r.week r.quantity) (filter (λ r. (r.item == item) && is_firm r.kind) rows)
 
--- what promising reads of the tables
+-- the supply data of the tables
 abbrev pub supply_of : Tables → Supply
 supply_of t = record {
   weeks = t.calendar.weeks;
@@ -88,7 +89,7 @@ supply_of t = record {
   firm = map (firm_lines t.master) (range_with_len 0 (length t.items));
 }
 
--- what the supply of a shop keeps: weeks of a horizon, firm rows in them, and no sum past the greatest quantity
+-- what holds of the supply of a shop: weeks of a horizon, firm rows in them, and no sum above the greatest quantity
 pub record IsSupply (s : Supply) : Type 0 where
   pub first : 1 ≤ s.weeks
   pub last : s.weeks ≤ MOST_WEEKS

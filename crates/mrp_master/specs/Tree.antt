@@ -1,4 +1,4 @@
--- What the nodes of a row's tree keep (profile).
+-- What holds of the nodes of a row's tree (profile).
 use Rattle.std.specs.Prelude.{ℕ, ◌≡◌, ◌≤◌, ◌<◌, ◌+◌, ◌-◌, ◌*◌, pos, ◌-ℤ◌, if◌then◌else◌, nat_lt, List, length}
 use Rattle.std.specs.List.{slice_index_or}
 use Rattle.mrp_phase.specs.Weeks.{in_week}
@@ -20,7 +20,7 @@ place_node r week = record {
   least = pos (in_week r.supply week) -ℤ pos (in_week r.booked week);
 }
 
--- a node by the two below it, or by its week
+-- a node from the two below it, or from its week
 abbrev pub made : AtpRow → List Node → ℕ → Node
 made r nodes n = if nat_lt n PLACES then joined (node_at nodes (2 * n)) (node_at nodes (2 * n + 1)) else place_node r (n - (PLACES - 1))
 
@@ -32,7 +32,7 @@ pub record IsTree (r : AtpRow) (nodes : List Node) : Type 0 where
   pub size : length nodes ≡ 256
   pub made : (n : ℕ) → 1 ≤ n → n < 256 → IsMade r nodes n
 
--- what a row keeps
+-- what holds of a row's fields
 pub record IsKept (supply booked : List ℕ) (nodes : List Node) : Type 0 where
   pub row : IsPromiseRow (row_of supply booked)
   pub tree : IsTree (row_of supply booked) nodes

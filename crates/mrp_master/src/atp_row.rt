@@ -1,4 +1,4 @@
-//! What can be promised of an item, by the tree of its weeks.
+//! What is available to promise of an item, by a tree over its weeks.
 
 use crate::nodes::{Node, Nodes, available_in, earliest_in};
 use crate::supply::{Supply, quantity};
@@ -7,7 +7,7 @@ use mrp_qty::{NoMemory, Qty};
 use std::alloc::Global;
 use std::marker::Model;
 
-/// An item's supply and bookings, with a tree over the weeks (APICS Dictionary:
+/// An item's supply and bookings by week, with a tree over the weeks (APICS Dictionary:
 /// available-to-promise; profile: overdrafts are carried back).
 #[derive(Drop)]
 pub struct AtpRow {
@@ -28,7 +28,7 @@ impl Model for AtpRow {
     ghost invariant = { λ r. IsKept r.supply.items r.booked.items r.nodes.items };
 }
 
-/// The tree of a row, with the count of the nodes that were read.
+/// The tree of a row, with a count of node reads.
 #[derive(Drop)]
 pub struct RowNodes<'a> {
     row: &'a AtpRow,
@@ -66,7 +66,7 @@ impl AtpRow {
 
     /// An item's row, with nothing booked.
     ///
-    /// Errors: `NoMemory` where memory is refused.
+    /// Errors: `NoMemory` if an allocation fails.
     pub fn of(alloc: Global, supply: &Supply, item: usize) -> Result<AtpRow, NoMemory>
         ensures { IfOk result (λ r. r ≡ atp_row supply.now item []) }
     {
@@ -88,7 +88,7 @@ impl AtpRow {
         self.booked.len() as u16
     }
 
-    /// The tree of the row, of which no node was read.
+    /// The tree of the row, with no node read yet.
     pub fn nodes(&self) -> RowNodes<'_>
         ensures row { ⟦<RowNodes<'static> as Nodes>⟧.of_row result ≡ self.now }
         ensures fresh { ⟦<RowNodes<'static> as Nodes>⟧.count result ≡ 0 }
@@ -109,7 +109,7 @@ impl AtpRow {
         self.nodes[usize::from(node)]
     }
 
-    // What comes in in a week, in pieces.
+    // The supply of a week, in pieces: firm quantity, and in week 1 stock on hand.
     fn supplied(&self, week: u16) -> Qty
         requires { IsWeekOf self.now week }
         ensures { result ≡ in_week self.now.supply week }
@@ -117,7 +117,7 @@ impl AtpRow {
         self.supply[usize::from(week) - 1]
     }
 
-    /// What is booked that is due in a week, in pieces.
+    /// The booked quantity due in a week, in pieces.
     pub fn booked(&self, week: u16) -> Qty
         requires { IsWeekOf self.now week }
         ensures value { result ≡ in_week self.now.booked week }
@@ -126,7 +126,7 @@ impl AtpRow {
         self.booked[usize::from(week) - 1]
     }
 
-    /// A week's bucket: what is left of what came in, in pieces; 0 where none opens. It is what is
+    /// A week's bucket: what is left of its supply, in pieces; 0 in a week without supply. It is what is
     /// available in the week and not in the one before.
     pub fn bucket(&self, week: u16) -> Qty
         requires { IsWeekOf self.now week }
@@ -152,14 +152,14 @@ impl AtpRow {
         available_in(&mut self.nodes(), week)
     }
 
-    /// The first week in which so much is available to promise.
+    /// The first week in which a quantity is available to promise.
     pub fn earliest(&self, quantity: Qty) -> Option<u16>
         ensures { IsEarliestIn self.now quantity result }
     {
         earliest_in(&mut self.nodes(), quantity)
     }
 
-    /// Books so much, due in a week. The caller owes that it is available there.
+    /// Books a quantity, due in a week. It must be available there.
     pub fn take(&mut self, week: u16, quantity: Qty)
         requires week { IsWeekOf self.old week }
         requires available { IsCoveredRow (with_booking self.old week quantity) }
@@ -169,7 +169,7 @@ impl AtpRow {
         self.book(week, before + quantity.value());
     }
 
-    /// Gives back so much of what is booked in a week. The caller owes that it is booked there.
+    /// Releases a quantity booked in a week. It must be booked there.
     pub fn give(&mut self, week: u16, quantity: Qty)
         requires week { IsWeekOf self.old week }
         requires booked { quantity ≤ in_week self.old.booked week }
@@ -179,7 +179,7 @@ impl AtpRow {
         self.book(week, before - quantity.value());
     }
 
-    // Has so many pieces booked in a week.
+    // Sets the pieces booked in a week.
     fn book(&mut self, week: u16, pieces: u64)
         requires week { IsWeekOf self.old week }
         requires available { IsCoveredRow (with_booked self.old week pieces) }

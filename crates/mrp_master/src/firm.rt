@@ -38,7 +38,7 @@ fn lines(alloc: Global, rows: &[MasterRow]) -> Result<Vec<Numbered<Line>>, NoMem
     Ok(lines)
 }
 
-// The firm rows of each of so many items.
+// The firm rows of each item.
 pub fn firm_rows(alloc: Global, count: usize, rows: &[MasterRow]) -> Result<Grouped<Line>, NoMemory>
     requires { All (λ r. r.item < count) rows.now }
     ensures { IfOk result (λ f. f ≡ map (firm_lines rows.now) (range_with_len 0 count)) }

@@ -7,32 +7,32 @@ ghost use Rattle.mrp_master.specs.Supply.{CanPromise, IsAvailable, IsCovered, Is
 
 /// What is available to promise.
 pub fn promising()
-    // It is the least of supply less bookings, over the weeks from this one on.
+    // It is the least of cumulative supply less bookings, over the weeks from this one on.
     ensures least { (s : Supply) (lines : List _) (item week quantity : ℕ) → IsMaster s item → IsWeek s week → IsCovered s lines → IsLeastFrom (uncommitted s lines item) week s.weeks quantity → IsAvailable s lines item week quantity }
     ensures is_least { (s : Supply) (lines : List _) (item week quantity : ℕ) → IsMaster s item → IsWeek s week → IsAvailable s lines item week quantity → IsLeastFrom (uncommitted s lines item) week s.weeks quantity }
-    // There is such a quantity, and it is one.
+    // There is exactly one such quantity.
     ensures some { (s : Supply) (lines : List _) (item week : ℕ) → IsMaster s item → IsWeek s week → IsCovered s lines → IsAvailable s lines item week (available s lines item week) }
     ensures one { (s : Supply) (lines : List _) (item week p q : ℕ) → IsAvailable s lines item week p → IsAvailable s lines item week q → p ≡ q }
-    // So much can be promised exactly where one more line of so much leaves all covered.
+    // A quantity can be promised exactly if one more line of that quantity leaves all covered.
     ensures fits { (s : Supply) (lines : List _) (item week quantity : ℕ) → IsMaster s item → IsWeek s week → IsCovered s lines
         → CanPromise s lines item quantity week ↔ IsCovered s (lines ++ line item week quantity ∷ []) }
 {}
 
-/// The first week in which so much can be promised.
+/// The first week in which a quantity can be promised.
 pub fn earliest()
-    // There is such a week, or none is, and it is one.
+    // There is exactly one such week, or there is none.
     ensures some { (s : Supply) (lines : List _) (item quantity : ℕ) → IsMaster s item → IsCovered s lines → (found : Option ℕ) × IsEarliest s lines item quantity found }
     ensures one { (s : Supply) (lines : List _) (item quantity : ℕ) (v w : Option ℕ) → IsEarliest s lines item quantity v → IsEarliest s lines item quantity w → v ≡ w }
 {}
 
-/// The row of an item: its supply, and what is due of it.
+/// The row of an item: its supply, and the bookings due.
 pub fn rows()
-    // Up to each week of the horizon it has the item's supply, and what lines say is due.
+    // Up to each week of the horizon it has the item's supply, and the quantity due by the lines.
     ensures supply { (s : Supply) (lines : List _) (item week : ℕ) → IsSupply s → IsWeek s week → sum_to (atp_row s item lines).supply week ≡ supply s item week }
     ensures booked { (s : Supply) (lines : List _) (item week : ℕ) → FromFirst lines → IsWeek s week → sum_to (atp_row s item lines).booked week ≡ due_by item week lines }
-    // A master item's row is covered where the lines are.
+    // A master item's row is covered if the lines are.
     ensures covered { (s : Supply) (lines : List _) (item : ℕ) → IsSupply s → IsMaster s item → FromFirst lines → IsCovered s lines → IsAtpRow (atp_row s item lines) }
-    // So much fits into the row as into the lines, so much is available, and from the same week on.
+    // The same quantities fit the row and the lines, the same is available, and from the same week on.
     ensures fits { (s : Supply) (lines : List _) (item week quantity : ℕ) → IsSupply s → IsMaster s item → FromFirst lines → IsCovered s lines → IsWeek s week
         → IsCoveredRow (with_booking (atp_row s item lines) week quantity) ↔ IsCovered s (lines ++ line item week quantity ∷ []) }
     ensures available { (s : Supply) (lines : List _) (item week quantity : ℕ) → IsSupply s → IsMaster s item → FromFirst lines → IsCovered s lines → IsWeek s week
@@ -54,11 +54,11 @@ pub fn buckets()
     ensures available { (r : AtpRow) (week : ℕ) → IsAtpRow r → IsWeekOf r week → IsAvailableIn r week (buckets_to r week) }
     ensures promised { (s : Supply) (lines : List _) (item week : ℕ) → IsSupply s → IsMaster s item → FromFirst lines → IsCovered s lines → IsWeek s week
         → IsAvailable s lines item week (buckets_to (atp_row s item lines) week) }
-    // A week in which nothing comes in has an empty one.
+    // A week without supply has an empty one.
     ensures empty { (r : AtpRow) (week : ℕ) → in_week r.supply week ≡ 0 → bucket r week ≡ 0 }
-    // One that opens holds what comes in then, less what is due before the next one opens and what that one lacks.
+    // A week with supply opens one: it holds the supply, less what is due before the next one opens and what that one lacks.
     ensures opening { (r : AtpRow) (week next : ℕ) → IsWeekOf r week → IsNextOpening r week next → bucket r week ≡ in_week r.supply week - (booked_until r week next + lacking_from r next) }
-    // It lacks what these are more, and so from the last one back, behind which nothing is lacking.
+    // It lacks the excess of these over the supply, and so on back from the last one, after which nothing is lacking.
     ensures overdrawn { (r : AtpRow) (week next : ℕ) → IsWeekOf r week → IsNextOpening r week next → lacking_from r week ≡ (booked_until r week next + lacking_from r next) - in_week r.supply week }
     ensures last { (r : AtpRow) → lacking_from r (length r.supply + 1) ≡ 0 }
 {}

@@ -1,4 +1,4 @@
-//! What can be promised of the master schedule.
+//! Available to promise, from the master schedule.
 #![tactic(auto)]
 
 mod atp_row;

@@ -21,19 +21,19 @@ pub struct Line {
     pub(crate) quantity: Qty,
 }
 
-/// Why a line, a spot or a wish is none of a shop.
+/// Why a line, a spot or a wish does not fit a shop.
 #[derive(Clone, Copy, Debug, PartialEq, Eq, Error)]
 pub enum LineFault {
     /// The shop has no such item.
     #[error("unknown item")]
     UnknownItem,
-    /// The item is no master item.
+    /// The item is not a master item.
     #[error("not a master item")]
     NotMaster,
     /// The week is outside the horizon.
     #[error("a week outside the horizon")]
     BadWeek,
-    /// There is no piece.
+    /// The quantity is 0.
     #[error("no piece")]
     ZeroQuantity,
     /// There are more than 1,000,000,000 pieces.
@@ -45,7 +45,7 @@ impl Line {
     /// A quantity of a master item of a shop, due in a week of its horizon.
     ///
     /// Errors: the first of `UnknownItem`, `NotMaster`, `BadWeek`, `ZeroQuantity` and `TooLarge`
-    /// that the line has.
+    /// that applies.
     pub fn new(shop: &Shop, item: usize, week: u16, quantity: Qty) -> Result<Line, LineFault>
         ensures exact { result ≡ line_of shop.now.tables item week quantity }
         ensures within { IfOk result (IsLine (supply_of shop.now.tables)) }

@@ -1,4 +1,4 @@
-//! A tree of counts over the weeks of a row, and what is promised by its nodes alone.
+//! A tree of counts over the weeks of a row, and available to promise by its nodes alone.
 
 ghost use Rattle.std.specs.Prelude.{◌≡◌, ◌≤◌, ◌+◌, ◌-◌, ◌^◌, ◌+ℤ◌, ℕ, FitsSigned, length, min};
 ghost use Rattle.std.specs.Int.{w64};
@@ -8,23 +8,23 @@ ghost use Rattle.mrp_master.specs.Nodes.{IsNode, IsPromiseRow, ReadsAtMost, join
 use crate::supply::quantity;
 use mrp_qty::Qty;
 
-/// The places of weeks in a tree. Places past the last week of a row change nothing.
+/// The number of places for weeks in a tree. Places after the last week of a row count 0.
 pub const PLACES: u8 = 128;
 
-/// What the weeks below a node change: by how much what comes in is more than what is booked.
+/// The net change of the weeks below a node: supply less bookings.
 #[derive(Clone, Copy, Debug, PartialEq, Eq)]
 pub struct Node {
-    /// In all of them together, in pieces.
+    /// In all of these weeks together, in pieces.
     pub sum: i64,
-    /// The least, over these weeks, of the sum from the first of them up to it, in pieces.
+    /// The least, over these weeks, of the sum from the first of them up to the week, in pieces.
     pub least: i64,
 }
 
 impl Node {
-    // A node over no change.
+    // A node of weeks without change.
     pub(crate) const NONE: Node = Node { sum: 0, least: 0 };
 
-    // A node over what two nodes are over, the first before the second.
+    // The node over the weeks of two nodes, the first before the second.
     pub(crate) fn join(self, later: Node) -> Node
         requires sum { FitsSigned w64 (self.sum +ℤ later.sum) }
         requires least { FitsSigned w64 (self.sum +ℤ later.least) }
@@ -55,17 +55,17 @@ pub trait Nodes {
     // The row that it is the tree of.
     ghost of_row: { Self → AtpRow };
 
-    // How many nodes were read.
+    // The number of node reads.
     ghost count: { Self → ℕ };
 
-    // What one read makes of the first is the second.
+    // One read leads from the first to the second.
     ghost is_read: { Self → Self → Type 0 };
 
     /// The weeks of the horizon.
     fn weeks(&self) -> u16
         ensures { result ≡ length (of_row self.now).supply };
 
-    /// Reads a node. The caller owes a node from 1 to 255.
+    /// Reads a node, from 1 to 255.
     fn read(&mut self, node: u8) -> Node
         requires { 1 ≤ node }
         ensures value { IsNode (of_row self.old) node result }
@@ -73,19 +73,19 @@ pub trait Nodes {
         ensures count { count self.new ≡ min (count self.old + 1) (2 ^ 64 - 1) }
         ensures one { is_read self.old self.new };
 
-    /// How many nodes were read, up to the greatest number, where the count stays.
+    /// The number of node reads; it saturates.
     fn reads(&self) -> u64
         ensures { result ≡ count self.now };
 }
 
-/// What is available to promise in a week, in pieces, by the nodes over the week and those beside
-/// them, of which at most 16 are read. The caller owes the tree of a covered row.
+/// What is available to promise in a week, in pieces, by the nodes over the week and their siblings;
+/// at most 16 nodes are read. The tree must be of a covered row.
 pub fn available_in<N: Nodes>(nodes: &mut N, week: u16) -> Qty
     requires row { IsPromiseRow (N.of_row nodes.old) }
     requires week { IsWeekOf (N.of_row nodes.old) week }
     ensures value { IsAvailableIn (N.of_row nodes.old) week result }
     ensures same { N.of_row nodes.new ≡ N.of_row nodes.old }
-    // By the count, and also where that has come to its end and tells no more.
+    // By the count, and by the reads themselves once the count has saturated.
     ensures count { N.count nodes.new ≤ N.count nodes.old + 16 }
     ensures few { ReadsAtMost N.is_read 16 nodes.old nodes.new }
 {
@@ -102,13 +102,13 @@ pub fn available_in<N: Nodes>(nodes: &mut N, week: u16) -> Qty
     quantity(since.least as u64)
 }
 
-/// The first week in which so much is available to promise: the one after the last up to which
-/// less is uncommitted. At most 16 nodes are read. The caller owes the tree of a covered row.
+/// The first week in which a quantity is available to promise: the one after the last week up to which
+/// less is uncommitted. At most 16 nodes are read. The tree must be of a covered row.
 pub fn earliest_in<N: Nodes>(nodes: &mut N, quantity: Qty) -> Option<u16>
     requires { IsPromiseRow (N.of_row nodes.old) }
     ensures value { IsEarliestIn (N.of_row nodes.old) quantity result }
     ensures same { N.of_row nodes.new ≡ N.of_row nodes.old }
-    // By the count, and also where that has come to its end and tells no more.
+    // By the count, and by the reads themselves once the count has saturated.
     ensures count { N.count nodes.new ≤ N.count nodes.old + 16 }
     ensures few { ReadsAtMost N.is_read 16 nodes.old nodes.new }
 {

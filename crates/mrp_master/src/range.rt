@@ -1,4 +1,4 @@
-//! What of a line, a spot or a wish is a shop's.
+//! Checks that the parts of a line, a spot or a wish fit a shop.
 
 ghost use Rattle.std.specs.Prelude.{◌≡◌, Ok};
 ghost use Rattle.mrp_master.specs.Lines.{in_horizon, of_master, of_pieces};
@@ -8,7 +8,7 @@ use mrp_qty::Qty;
 use mrp_tables::Tables;
 use mrp_tables::limits::MOST_PIECES;
 
-// Whether the shop has the item, as a master item.
+// Checks that the shop has the item, as a master item.
 pub(crate) fn check_item(tables: &Tables, item: usize) -> Result<(), LineFault>
     ensures { result ≡ of_master tables.now item (Ok tt) }
 {
@@ -19,7 +19,7 @@ pub(crate) fn check_item(tables: &Tables, item: usize) -> Result<(), LineFault>
     }
 }
 
-// Whether the week is one of the horizon.
+// Checks that the week is one of the horizon.
 pub(crate) fn check_week(tables: &Tables, week: u16) -> Result<(), LineFault>
     ensures { result ≡ in_horizon tables.now week (Ok tt) }
 {
@@ -30,7 +30,7 @@ pub(crate) fn check_week(tables: &Tables, week: u16) -> Result<(), LineFault>
     }
 }
 
-// Whether there are pieces, and not too many.
+// Checks that the pieces are at least 1 and not too many.
 pub(crate) fn check_pieces(quantity: Qty) -> Result<(), LineFault>
     ensures { result ≡ of_pieces quantity (Ok tt) }
 {

@@ -1,4 +1,4 @@
-//! What the order book is asked of: an item in a week.
+//! The subject of a question to the order book: an item in a week.
 
 ghost use Rattle.std.specs.Prelude.{◌≡◌, IfOk};
 ghost use Rattle.mrp_master.specs.Lines.{IsSpot, spot_of};
@@ -20,7 +20,7 @@ pub struct Spot {
 impl Spot {
     /// A master item of a shop and a week of its horizon.
     ///
-    /// Errors: the first of `UnknownItem`, `NotMaster` and `BadWeek` that the spot has.
+    /// Errors: the first of `UnknownItem`, `NotMaster` and `BadWeek` that applies.
     pub fn new(shop: &Shop, item: usize, week: u16) -> Result<Spot, LineFault>
         ensures exact { result ≡ spot_of shop.now.tables item week }
         ensures within { IfOk result (IsSpot (supply_of shop.now.tables)) }

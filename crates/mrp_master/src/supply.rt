@@ -1,4 +1,4 @@
-//! What promising reads of a shop.
+//! The data of a shop that available to promise is computed from.
 
 ghost use Rattle.std.specs.Prelude.{◌≡◌, ◌≤◌, All, IfOk, length, map};
 ghost use Rattle.std.specs.List.{range_with_len};
@@ -18,8 +18,8 @@ use mrp_tables::{Item, StockRow};
 use std::alloc::Global;
 use std::marker::Model;
 
-/// What promising reads of a shop: the weeks, which items are master items, what is on hand of each
-/// item, and the firm rows.
+/// The data of a shop that available to promise is computed from: the weeks, which items are master
+/// items, the stock on hand of each item, and the firm rows.
 #[derive(Drop)]
 pub struct Supply {
     weeks: u16,
@@ -44,9 +44,9 @@ impl Supply {
     ghost use Rattle.std.specs.List.{slice_index_or};
     ghost use Rattle.mrp_master.specs.Supply.{IsSupply, supply, supply_of};
 
-    /// What promising reads of a shop.
+    /// The supply data of a shop.
     ///
-    /// Errors: `NoMemory` where memory is refused.
+    /// Errors: `NoMemory` if an allocation fails.
     pub fn of(alloc: Global, shop: &Shop) -> Result<Supply, NoMemory>
         ensures { IfOk result (λ s. s ≡ supply_of shop.now.tables) }
     {
@@ -78,7 +78,7 @@ impl Supply {
         }
     }
 
-    /// What is on hand of an item, in pieces; 0 where there is no such item.
+    /// The stock on hand of an item, in pieces; 0 if there is no such item.
     pub fn on_hand(&self, item: usize) -> Qty
         ensures value { result ≡ slice_index_or self.now.on_hand item 0 }
         ensures kept { IsSupply self.now }
@@ -89,7 +89,7 @@ impl Supply {
         }
     }
 
-    // The firm rows of an item; none where there is no such item.
+    // The firm rows of an item; none if there is no such item.
     fn firm_of(&self, item: usize) -> &[Line]
         ensures { result.now ≡ slice_index_or self.now.firm item [] }
     {
@@ -100,15 +100,15 @@ impl Supply {
         }
     }
 
-    /// The supply of an item up to a week, in pieces: what is on hand, and the firm rows up to the
-    /// week; 0 of what is no item.
+    /// The supply of an item up to a week, in pieces: the stock on hand, and the firm rows up to the
+    /// week; 0 if there is no such item.
     pub fn up_to(&self, item: usize, week: u16) -> Qty
         ensures { result ≡ supply self.now item week }
     {
         quantity(self.on_hand(item).value() + due_by(item, week, self.firm_of(item)))
     }
 
-    // What comes in of an item in each week: its firm rows, and in week 1 what is on hand.
+    // The supply of an item in each week: its firm rows, and in week 1 the stock on hand.
     pub(crate) fn openings(&self, alloc: Global, item: usize) -> Result<Vec<Qty>, NoMemory>
         ensures value { IfOk result (λ openings. openings.items ≡ row self.now.weeks (opening self.now item)) }
         ensures kept { IsSupply self.now }
@@ -136,7 +136,7 @@ pub(crate) fn quantity(pieces: u64) -> Qty
     }
 }
 
-// What is due of an item up to a week.
+// The quantity of an item due up to a week.
 fn due_by(item: usize, week: u16, lines: &[Line]) -> u64
     requires { due_by item week lines.now ≤ greatest_quantity }
     ensures { result ≡ due_by item week lines.now }
@@ -161,7 +161,7 @@ fn masters(alloc: Global, items: &[Item]) -> Result<Vec<bool>, NoMemory>
     Ok(masters)
 }
 
-// What is on hand of each item.
+// The stock on hand of each item.
 fn on_hand(alloc: Global, items: &[Item], rows: &[StockRow]) -> Result<Vec<Qty>, NoMemory>
     requires within { All (IsStockRow items.now) rows.now }
     requires once { AllDiffer (items_in_stock rows.now) }

@@ -1,4 +1,4 @@
-//! The nodes of a row's tree, kept in step with what comes in and what is booked.
+//! The nodes of a row's tree, kept up to date with supply and bookings.
 
 ghost use Rattle.std.specs.Prelude.{◌≡◌, ◌≢◌, ◌≤◌, ◌<◌, ◌+◌, ℕ, length, IfOk};
 ghost use Rattle.mrp_master.specs.Nodes.{IsPromiseRow};
@@ -13,7 +13,7 @@ pub const NODES: usize = 256;
 
 pub const FIRST_PLACE: usize = PLACES as usize;
 
-// The node of a place: what comes in there less what is booked, and nothing past the last week.
+// The node of a place: its week's supply less bookings, and 0 after the last week.
 fn place_of(supply: &[Qty], booked: &[Qty], place: usize) -> Node
     requires { length booked.now ≡ length supply.now }
     ensures { result ≡ place_node (row_of supply.now booked.now) (place + 1) }
@@ -28,7 +28,7 @@ fn place_of(supply: &[Qty], booked: &[Qty], place: usize) -> Node
     }
 }
 
-// A node by the two below it, or by its place.
+// A node from the two below it, or from its place.
 fn node_of(supply: &[Qty], booked: &[Qty], nodes: &[Node], node: usize) -> Node
     requires size { length nodes.now ≡ NODES }
     requires row { IsPromiseRow (row_of supply.now booked.now) }
@@ -55,7 +55,7 @@ pub fn grow(alloc: Global, supply: &[Qty], booked: &[Qty]) -> Result<Vec<Node>, 
     Ok(nodes)
 }
 
-// Makes the place of a week and the nodes over it anew.
+// Recomputes the place of a week and the nodes over it.
 pub fn renew(supply: &[Qty], booked: &[Qty], nodes: &mut [Node], week: u16)
     requires size { length nodes.old ≡ NODES }
     requires row { IsPromiseRow (row_of supply.now booked.now) }

@@ -1,4 +1,4 @@
-//! What is wished for of the order book: so much of an item, as early as can be.
+//! A question to the order book: a quantity of an item, as early as possible.
 
 ghost use Rattle.std.specs.Prelude.{◌≡◌, IfOk};
 ghost use Rattle.mrp_master.specs.Lines.{IsWish, wish_of};
@@ -21,8 +21,7 @@ pub struct Wish {
 impl Wish {
     /// A quantity of a master item of a shop.
     ///
-    /// Errors: the first of `UnknownItem`, `NotMaster`, `ZeroQuantity` and `TooLarge` that the wish
-    /// has.
+    /// Errors: the first of `UnknownItem`, `NotMaster`, `ZeroQuantity` and `TooLarge` that applies.
     pub fn new(shop: &Shop, item: usize, quantity: Qty) -> Result<Wish, LineFault>
         ensures exact { result ≡ wish_of shop.now.tables item quantity }
         ensures within { IfOk result (IsWish (supply_of shop.now.tables)) }

@@ -1,4 +1,4 @@
--- Laws of the need.
+-- Laws of net requirements.
 use Rattle.std.proofs.Common.{◌≡◌, ◌⊎◌, inl, inr, ℕ, zero, suc, ◌+◌, ◌<◌, ◌≤◌, List, length, sym, ap, arith}
 use Rattle.std.proofs.lemmas.Bool.{cases_lt}
 use Rattle.mrp_phase.specs.Weeks.{row, in_week, sum_to}
@@ -6,7 +6,7 @@ use Rattle.mrp_phase.proofs.WeekRows.{in_week_row, length-row, greatest_none, gr
 use Rattle.mrp_net.specs.declared.stock.Stock.{Stock}
 use Rattle.mrp_net.specs.Need.{shortage, need, net_to, running_balance, balance, IsNeed}
 
--- week after week, the balances and the needs add up
+-- week after week, the balances and the net requirements add up
 record AddsUp (stock : Stock) (gross : List ℕ) (t : ℕ) : Type 0 where
   needs : net_to stock gross t ≡ need stock gross t
   balances : running_balance stock gross t + sum_to gross t ≡ stock.on_hand + sum_to stock.scheduled t + need stock gross t
@@ -35,7 +35,7 @@ recurrence_balance stock gross t = omega (arith, (adds_up stock gross t).balance
 pub need_rises : (stock : Stock) (gross : List ℕ) (horizon : ℕ) → IsNeed horizon (need stock gross)
 need_rises stock gross horizon s t h within = greatest_rises (shortage stock gross) s t h
 
--- a row of a need has it in its weeks, and does not fall
+-- a row of cumulative net requirements has them in its weeks, and does not fall
 pub row_rises : (f : ℕ → ℕ) (horizon : ℕ) → IsNeed horizon f → IsNeed horizon (in_week (row horizon f))
 unfolding in_week
 row_rises f horizon rises zero t h within = omega arith

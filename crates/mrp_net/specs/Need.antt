@@ -1,9 +1,9 @@
--- Netting in cumulative form: what an item needs up to each week.
+-- Netting in cumulative form: the net requirements of an item up to each week.
 use Rattle.std.specs.Prelude.{ℕ, zero, suc, ◌+◌, ◌-◌, ◌≤◌, List}
 use Rattle.mrp_phase.specs.Weeks.{sum_to, in_week, greatest_to}
 use Rattle.mrp_net.specs.declared.stock.Stock.{Stock}
 
--- by how much gross requirements and safety stock up to a week exceed what is on hand and scheduled, or 0
+-- by how much gross requirements and safety stock up to a week exceed stock on hand and scheduled receipts, or 0
 -- (Orlicky: netting, summed up to the week)
 abbrev pub shortage : Stock → List ℕ → ℕ → ℕ
 shortage stock gross week = (sum_to gross week + stock.safety) - (stock.on_hand + sum_to stock.scheduled week)
@@ -12,15 +12,15 @@ shortage stock gross week = (sum_to gross week + stock.safety) - (stock.on_hand 
 abbrev pub need : Stock → List ℕ → ℕ → ℕ
 need stock gross week = greatest_to (shortage stock gross) week
 
--- a need that does not fall within the horizon
+-- cumulative net requirements that do not fall within the horizon
 abbrev pub IsNeed : ℕ → (ℕ → ℕ) → Type 0
 IsNeed horizon need = (s t : ℕ) → s ≤ t → t ≤ horizon → need s ≤ need t
 
--- what is on hand, scheduled and planned up to a week, given the planned receipts up to it
+-- stock on hand, scheduled receipts and planned receipts up to a week, given the planned receipts up to it
 abbrev pub supply : Stock → ℕ → ℕ → ℕ
 supply stock received week = stock.on_hand + sum_to stock.scheduled week + received
 
--- what is left at a week's end, given the planned receipts up to it (APICS Dictionary: projected available balance)
+-- the balance at a week's end, given the planned receipts up to it (APICS Dictionary: projected available balance)
 abbrev pub balance : Stock → List ℕ → ℕ → ℕ → ℕ
 balance stock gross received week = supply stock received week - sum_to gross week
 
@@ -28,7 +28,7 @@ balance stock gross received week = supply stock received week - sum_to gross we
 abbrev pub net : Stock → List ℕ → ℕ → ℕ → ℕ
 net stock gross before week = (in_week gross week + stock.safety) - (in_week stock.scheduled week + before)
 
--- the balance where each week's net requirement comes in, week after week
+-- the balance if each week's net requirement is received, week after week
 abbrev pub running_balance : Stock → List ℕ → ℕ → ℕ
 running_balance stock gross zero = stock.on_hand
 running_balance stock gross (suc t) =

@@ -3,7 +3,7 @@ use Rattle.std.specs.Prelude.{ℕ, ◌≡◌, ◌≤◌, ◌+◌, ◌-◌, max}
 use Rattle.mrp_qty.specs.Quantity.{greatest_quantity}
 use Rattle.mrp_net.specs.declared.needs.SoFar.{SoFar}
 
--- before the first week, the safety stock is required and what is on hand is there
+-- before the first week, the safety stock is required and the stock on hand is supplied
 pub record IsStart (safety on_hand : ℕ) (new : SoFar) : Type 0 where
   pub required : new.required ≡ safety
   pub supplied : new.supplied ≡ on_hand
@@ -11,7 +11,7 @@ pub record IsStart (safety on_hand : ℕ) (new : SoFar) : Type 0 where
   pub required_within : new.required ≤ greatest_quantity
   pub supplied_within : new.supplied ≤ greatest_quantity
 
--- a week's gross requirement and scheduled receipts come in
+-- a week's gross requirement and scheduled receipts are added
 pub record AddsWeek (old : SoFar) (gross scheduled : ℕ) (new : SoFar) : Type 0 where
   pub required : new.required ≡ old.required + gross
   pub supplied : new.supplied ≡ old.supplied + scheduled

@@ -1,4 +1,4 @@
-//! What is left of an item at the end of each week.
+//! The projected available balance of an item at the end of each week.
 
 ghost use Rattle.std.specs.Prelude.{◌≡◌, ◌≤◌, ◌<◌, ◌+◌, ◌⊎◌, ◌↔◌, length, sum, IfOk, OnOk, IsErrOf, IsTrue};
 ghost use Rattle.mrp_qty.specs.Quantity.{greatest_quantity};
@@ -11,13 +11,13 @@ use mrp_phase::{PhaseFault as NetFault, Weeks};
 use mrp_qty::{NoMemory, Qty};
 use std::alloc::Global;
 
-/// What is left at the end of each week, by the gross requirements of each and the planned receipts
-/// up to each, which do not fall (APICS Dictionary: projected available balance). Where requirements
-/// are above all supplies nothing is left.
+/// The balance at the end of each week, from the gross requirements of each week and the cumulative
+/// planned receipts, which do not fall (APICS Dictionary: projected available balance). It is 0 where
+/// requirements exceed all supplies.
 ///
 /// Errors: `TooLarge` exactly where gross requirements and safety stock, or what is on hand,
-/// scheduled and planned, add up to more than the greatest quantity, before memory is asked for, and
-/// `NoMemory` where the row's memory is refused.
+/// scheduled and planned, add up to more than the greatest quantity, before anything is allocated, and
+/// `NoMemory` if the row cannot be allocated.
 pub fn balance_row(
     alloc: Global,
     gross: &Weeks<Qty>,
@@ -62,7 +62,7 @@ fn is_supply_within(stock: &Stock, receipts: &Weeks<Qty>) -> bool
     }
 }
 
-// What is left at the end of each week, where requirements and supplies are within the greatest
+// The balance at the end of each week, of requirements and supplies that are within the greatest
 // quantity.
 #[tactic(auto, using(mrp_phase::proofs::WeekRows::row_none, mrp_phase::proofs::WeekRows::row_more, mrp_phase::proofs::WeekRows::sum_to_whole, mrp_phase::proofs::WeekRows::sum_to_next, mrp_phase::proofs::WeekRows::in_week_next))]
 fn balances_within(
@@ -90,7 +90,7 @@ fn balances_within(
     Ok(Weeks::from_vec(balances))
 }
 
-/// Whether planned receipts up to each week, from week 1 on, never fall, as `balance_row` is owed.
+/// Whether cumulative planned receipts, from week 1 on, never fall, as `balance_row` requires.
 #[tactic(auto, using(mrp_phase::proofs::WeekRows::in_week_next))]
 pub fn never_fall(receipts: &[Qty]) -> bool
     ensures { IsTrue result ↔ IsNeed (length receipts.now) (in_week receipts.now) }

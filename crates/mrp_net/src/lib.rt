@@ -1,4 +1,4 @@
-//! Netting: what an item needs beyond what it has.
+//! Netting: net requirements and projected available balance, from gross requirements and stock.
 #![tactic(auto)]
 
 mod balances;

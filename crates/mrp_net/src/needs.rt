@@ -1,4 +1,4 @@
-//! What an item needs up to each week.
+//! The net requirements of an item up to each week.
 
 ghost use Rattle.std.specs.Prelude.{◌≡◌, ◌≤◌, ◌<◌, ◌+◌, ◌-◌, ◌⊎◌, ◌↔◌, length, sum, IfOk, OnOk, IsErrOf, IsTrue};
 ghost use Rattle.mrp_qty.specs.Quantity.{greatest_quantity};
@@ -11,7 +11,7 @@ use mrp_qty::{NoMemory, Qty};
 use std::alloc::Global;
 use std::marker::Model;
 
-/// What is needed up to each week, beyond what is there. It does not fall.
+/// Net requirements up to each week. They do not fall.
 #[derive(Drop)]
 pub struct NeedRow {
     needs: Vec<Qty>,
@@ -30,7 +30,7 @@ impl Model for NeedRow {
 }
 
 impl NeedRow {
-    /// The needs up to each week, from week 1 on.
+    /// The net requirements up to each week, from week 1 on.
     pub fn as_slice(&self) -> &[Qty]
         ensures value { result.now ≡ self.now }
         ensures rises { IsNeed (length result.now) (in_week result.now) }
@@ -47,7 +47,7 @@ pub(crate) struct SoFar {
     shortage: Qty,
 }
 
-// By how much one quantity is above another, or 0.
+// The excess of one quantity over another, or 0.
 fn excess(required: Qty, supplied: Qty) -> Qty
     ensures { result ≡ required - supplied }
 {
@@ -74,7 +74,7 @@ impl SoFar {
         }
     }
 
-    // One more week, where neither requirements nor supplies pass the greatest quantity.
+    // One more week, if neither requirements nor supplies pass the greatest quantity.
     pub(crate) fn with(self, gross: Qty, scheduled: Qty) -> SoFar
         requires required { self.required + gross ≤ greatest_quantity }
         requires supplied { self.supplied + scheduled ≤ greatest_quantity }
@@ -89,8 +89,8 @@ impl SoFar {
         }
     }
 
-    // What is left once the planned receipts are in, the safety stock counted as left, where
-    // supplies do not pass the greatest quantity.
+    // The balance with the planned receipts, safety stock included, if supplies do not pass the
+    // greatest quantity.
     pub(crate) fn balance(&self, safety: Qty, received: Qty) -> Qty
         requires { self.now.supplied + received ≤ greatest_quantity }
         ensures { result ≡ (self.now.supplied + received) - (self.now.required - safety) }
@@ -111,8 +111,8 @@ pub(crate) fn are_within(gross: &Weeks<Qty>, stock: &Stock) -> bool
 /// The net requirements up to each week, by the gross requirements of each (Orlicky: netting).
 ///
 /// Errors: `TooLarge` exactly where gross requirements and safety stock, or what is on hand and
-/// scheduled, add up to more than the greatest quantity, before memory is asked for, and `NoMemory`
-/// where the row's memory is refused.
+/// scheduled, add up to more than the greatest quantity, before anything is allocated, and `NoMemory`
+/// if the row cannot be allocated.
 pub fn need(alloc: Global, gross: &Weeks<Qty>, stock: &Stock) -> Result<NeedRow, NetFault>
     requires { length stock.now.scheduled ≡ length gross.now }
     ensures value { IfOk result (λ n. n ≡ row (length gross.now) (need stock.now gross.now)) }

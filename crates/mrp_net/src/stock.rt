@@ -1,15 +1,15 @@
-//! What an item has without planning.
+//! An item's stock and scheduled receipts, before planning.
 
 use mrp_phase::Weeks;
 use mrp_qty::Qty;
 
-/// What an item has without planning, and what is to stay of it.
+/// What an item has before planning, and its safety stock.
 #[derive(Drop)]
 pub struct Stock {
-    /// What is on hand.
+    /// The pieces on hand.
     pub on_hand: Qty,
-    /// The safety stock.
+    /// The safety stock, in pieces.
     pub safety: Qty,
-    /// What is scheduled in each week: firm rows, or open receipts (Orlicky: scheduled receipts).
+    /// The scheduled receipts of each week: firm rows, or open receipts (Orlicky: scheduled receipts).
     pub scheduled: Weeks<Qty>,
 }

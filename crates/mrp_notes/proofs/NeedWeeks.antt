@@ -1,4 +1,4 @@
--- The first week of which a test holds.
+-- The first week that passes a test.
 use Rattle.std.proofs.Common.{◌≡◌, ◌≢◌, ◌∙◌, ℕ, zero, suc, ◌+◌, ◌<◌, ◌≤◌, Bool, true, false, cond, eqb, List, length, refl, sym, ap, arith}
 use Rattle.std.specs.Prelude.{nat_lt, find, Option, Some, None}
 use Rattle.std.specs.List.{range_with_len}
@@ -28,7 +28,7 @@ none_from p a (suc n) before =
     let first : p a ≡ false = rw at at (before 0 (omega arith)) in
     rw first (none_from p (a + 1) n (λ j below. let e : a + 1 + j ≡ a + suc j = omega arith in ap p e ∙ before (suc j) (omega arith)))
 
--- the week behind those that are covered
+-- the week after those that are covered
 pub need_week_found : (gross : List ℕ) (safety supplied k : ℕ) → k < length gross
     → ((week : ℕ) → 0 < week → week ≤ k → sum_to gross week + safety ≤ supplied)
     → supplied < sum_to gross (k + 1) + safety → need_week gross safety supplied ≡ Some (k + 1)
@@ -40,7 +40,7 @@ need_week_found gross safety supplied k h covered short =
     (ap p e ∙ lt-ltb supplied (sum_to gross (k + 1) + safety) short)
     ∙ ap Some e
 
--- where all weeks are covered there is none
+-- if all weeks are covered there is none
 pub need_week_none : (gross : List ℕ) (safety supplied : ℕ)
     → ((week : ℕ) → 0 < week → week ≤ length gross → sum_to gross week + safety ≤ supplied)
     → need_week gross safety supplied ≡ None

@@ -29,7 +29,7 @@ find_same p q a (suc n) same =
     ap (λ b. cond b (Some a) (find p (range_with_len (a + 1) n))) (same a (omega arith) (omega arith))
     ∙ ap (λ (o : Option ℕ). cond (q a) (Some a) o) (find_same p q (a + 1) n (λ k low high. same k (omega arith) (omega arith)))
 
--- where neither number is exceeded or both are
+-- if neither number is exceeded or both are
 tests_same : (a b n : ℕ) → n ≤ most → b ≡ min a most → nat_lt b n ≡ nat_lt a n
 tests_same a b n h e = by (nat_lt a n) refl
   where

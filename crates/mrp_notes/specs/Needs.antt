@@ -10,16 +10,18 @@ use Rattle.mrp_item.specs.declared.supplies.Supply.{Supply}
 abbrev pub need_week : List ℕ → ℕ → ℕ → Option ℕ
 need_week gross safety supplied = find (λ week. nat_lt supplied (sum_to gross week + safety)) (weeks (length gross))
 
--- what is said of a supply that is due in a week and needed in one (Orlicky: expedite, de-expedite, cancel)
+-- what is said of a supply, by the week in which it is due and the one in which it is needed (Orlicky:
+-- expedite, de-expedite, cancel)
 abbrev pub rescheduled : ℕ → Option ℕ → Option Advice
 rescheduled due None = Some Cancel
 rescheduled due (Some week) = if nat_lt week due then Some (Earlier week) else if nat_lt due week then Some (Later week) else None
 
--- the same of a supply, given what is supplied before it: planning may not change a fixed one, and has its way with the others
+-- the same for a supply, given what is supplied before it; only for a fixed one, since planning may change the others
+-- itself
 abbrev pub rescheduling : List ℕ → ℕ → ℕ → Supply → Option Advice
 rescheduling gross safety supplied x = if is_fixed x then rescheduled x.week (need_week gross safety supplied) else None
 
--- whether advice moves a supply or cancels it
+-- whether advice reschedules a supply or cancels it
 abbrev pub is_rescheduling : Advice → Bool
 is_rescheduling Release = false
 is_rescheduling (PastDue late) = false

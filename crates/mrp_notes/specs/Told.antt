@@ -9,7 +9,7 @@ use Rattle.mrp_item.specs.declared.supplies.Supply.{Supply}
 use Rattle.mrp_notes.specs.Needs.{rescheduling}
 use Rattle.mrp_notes.specs.Release.{action_on, is_fixed}
 
--- what the fixed ones of some supplies add up to
+-- the sum of the fixed ones of some supplies
 abbrev pub fixed_sum : List Supply → ℕ
 fixed_sum supplies = sum_by (λ x. x.quantity) (filter is_fixed supplies)
 
@@ -17,7 +17,7 @@ fixed_sum supplies = sum_by (λ x. x.quantity) (filter is_fixed supplies)
 abbrev pub supplied_before : Stock → List Supply → ℕ → ℕ
 supplied_before stock supplies place = stock.on_hand + fixed_sum (take place supplies)
 
--- what is said of the supply at a place: of its release first
+-- what is said of the supply at a place; its release comes first
 abbrev pub advice_on : List ℕ → Stock → List Supply → ℕ → Supply → List Advice
 advice_on gross stock supplies place x =
     cons_option (action_on x) (cons_option (rescheduling gross stock.safety (supplied_before stock supplies place) x) [])

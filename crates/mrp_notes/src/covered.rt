@@ -1,4 +1,4 @@
-//! What the fixed supplies cover, and what is said of the next one.
+//! What the fixed supplies cover, and what is said of the next supply.
 
 ghost use Rattle.std.specs.Prelude.{◌≡◌, ◌≤◌, ◌+◌, length, sum};
 ghost use Rattle.mrp_qty.specs.Quantity.{greatest_quantity};
@@ -10,8 +10,8 @@ use crate::release::is_fixed;
 use mrp_item::Supply;
 use mrp_qty::Qty;
 
-// What is supplied, and the first weeks, as far as it covers them, with what they require. What is
-// supplied stands at the greatest number where it is more.
+// What is supplied, how many weeks from the first it covers, and what these require. The sum
+// supplied saturates at the greatest number.
 #[derive(Drop)]
 pub struct Covered {
     weeks: u16,
@@ -19,7 +19,7 @@ pub struct Covered {
     supplied: u64,
 }
 
-// What is said of a supply that is due in a week and needed in one.
+// What is said of a supply, by the week in which it is due and the one in which it is needed.
 fn rescheduled(due: u16, needed: Option<u16>) -> Option<Advice>
     ensures { result ≡ rescheduled due needed }
 {
@@ -32,7 +32,7 @@ fn rescheduled(due: u16, needed: Option<u16>) -> Option<Advice>
 }
 
 impl Covered {
-    // No week, by what is on hand.
+    // What is on hand, and no week covered yet.
     pub fn start(on_hand: Qty) -> Covered
         ensures { result ≡ record { weeks = 0; required = 0; supplied = on_hand } }
     {
@@ -64,8 +64,8 @@ impl Covered {
         None
     }
 
-    // Whether the next supply is to come in earlier or later, or to be cancelled. A fixed one then
-    // supplies the ones behind it.
+    // Whether the next supply should be rescheduled in or out, or cancelled. A fixed one then
+    // counts as supplied for those after it.
     pub fn advice(
         &mut self,
         horizon: u16,

@@ -1,4 +1,4 @@
-//! Messages to the planner: what to release, what is late, and what to move or to cancel.
+//! Messages to the planner: what to release, what is past due, and what to reschedule or to cancel.
 #![tactic(auto)]
 
 mod covered;

@@ -5,22 +5,22 @@ use mrp_item::Supplied;
 /// What a message says of a supply (APICS Dictionary: action message).
 #[derive(Clone, Copy, Debug, PartialEq, Eq)]
 pub enum Advice {
-    /// To release the order in week 1.
+    /// Release the order: its release is due in week 1.
     Release,
-    /// The order is released too late by so many weeks.
+    /// The order should have been released this many weeks before week 1.
     PastDue(u16),
-    /// To have the supply come in earlier, in a week (APICS Dictionary: expedite).
+    /// Reschedule in: the supply is needed earlier, in this week (APICS Dictionary: expedite).
     Earlier(u16),
-    /// To have it come in later, in a week (APICS Dictionary: de-expedite).
+    /// Reschedule out: the supply is needed later, in this week (APICS Dictionary: de-expedite).
     Later(u16),
-    /// To cancel it, since no week needs it.
+    /// Cancel the supply: no week needs it.
     Cancel,
 }
 
 /// A message to the planner.
 #[derive(Clone, Copy, Debug, PartialEq, Eq)]
 pub struct Message {
-    /// The item, by its place.
+    /// The item, by its place in the table.
     pub item: usize,
     /// The supply.
     pub supply: Supplied,

@@ -9,11 +9,11 @@ use mrp_item::{Plan, Planned};
 use mrp_qty::NoMemory;
 use std::alloc::Global;
 
-/// The messages of an item's plan, in order of its supplies: by week, open receipts and firm orders
-/// in table order, then the planned order. What is said of an order's release comes before whether
-/// it is to come in earlier or later, or to be cancelled (APICS Dictionary: action message; profile).
+/// The messages of an item's plan, in order of its supplies: by week, open receipts and firm orders in table
+/// order, then the planned order. For one order, a message about its release comes before one that
+/// reschedules or cancels it (APICS Dictionary: action message; profile).
 ///
-/// Errors: `NoMemory` where memory is refused.
+/// Errors: `NoMemory` if an allocation fails.
 pub fn item_messages(alloc: Global, planned: &Planned) -> Result<Vec<Message>, NoMemory>
     ensures { IfOk result (λ messages. messages.items ≡ messages_of planned.now.inputs planned.now.item planned.now.plan) }
 {
@@ -27,7 +27,7 @@ pub fn item_messages(alloc: Global, planned: &Planned) -> Result<Vec<Message>, N
 
 /// The messages of a plan: those of each item, in table order.
 ///
-/// Errors: `NoMemory` where memory is refused.
+/// Errors: `NoMemory` if an allocation fails.
 pub fn messages(alloc: Global, plan: &Plan) -> Result<Vec<Message>, NoMemory>
     ensures { IfOk result (λ messages. messages.items ≡ plan_messages plan.now.inputs) }
 {

@@ -1,4 +1,4 @@
-//! What an order is for messages: whether planning may change it, and what is said of its release.
+//! What messages ask of a supply: whether planning may change it, and what is said of its release.
 
 ghost use Rattle.std.specs.Prelude.{◌≡◌};
 ghost use Rattle.mrp_notes.specs.Release.{action_of, action_on, is_fixed};

@@ -1,4 +1,4 @@
-//! What is told of the supplies of an item.
+//! The messages about the supplies of an item.
 
 ghost use Rattle.std.specs.Prelude.{◌≡◌, ◌≤◌, ◌+◌, ◌++◌, [], length, map, sum, IfOk, OnOk};
 ghost use Rattle.std.specs.List.{cons_option};
@@ -13,7 +13,7 @@ use mrp_net::Stock;
 use mrp_qty::{NoMemory, Qty};
 use std::alloc::Global;
 
-// Puts a message at the end, if there is advice.
+// Appends a message, if there is advice.
 fn tell(
     messages: &mut Vec<Message>,
     item: usize,

@@ -17,7 +17,7 @@ use Rattle.mrp_page.proofs.CountedRows.{count-kept}
 use Rattle.mrp_page.proofs.SectionRows.{after-begun, after-line, after-rows, no-row, place-more, rows-more, runs-more, same-place, stage, stays-in-report}
 use Rattle.mrp_page.proofs.ShownItems.{end-stage}
 
--- no entry is left out of what a page is to show
+-- no entry is left out of what a page should show
 wants-all : (items : Names) (c : Cells) → wants items s.History c ≡ true
 wants-all items c = by (length items == 0)
   where

@@ -1,4 +1,5 @@
--- The rows of a section that are kept, and those that are counted as left out, are all that a page is to show.
+-- The rows of a section that are kept, and those that are counted as left out, are together all that a page
+-- should show.
 use Rattle.std.proofs.Common.{◌≡◌, ◌∙◌, ◌⊎◌, ◌+◌, ◌*◌, ◌-◌, ◌^◌, ◌<◌, ◌≤◌, ℕ, Bool, true, false, not, List, [], ◌∷◌, ◌++◌, Option, Some, None, length, refl, sym, ap, subst, arith, inl, inr, append_assoc}
 use Rattle.std.specs.Prelude.{◌&&◌, ◌||◌, if◌then◌else◌, is_some, min}
 use Rattle.std.specs.List.{All, filter}
@@ -93,7 +94,7 @@ not-history s.Pegs low = refl
 not-history s.Messages low = refl
 not-history s.Loads low = refl
 
--- one more row is kept, or counted, or not asked for
+-- one more row is kept, or counted, or not one that the page should show
 sums : (w room : Bool) (kept missed all records : ℕ) → kept + missed ≡ all → all ≤ records → records + 1 < 2 ^ 64
     → (kept + (if w && room then 1 else 0)) + min (missed + (if w && not (w && room) then 1 else 0)) (2 ^ 64 - 1) ≡ all + (if w then 1 else 0)
 sums true true kept missed all records is few small = omega arith
@@ -290,7 +291,7 @@ module _ (items : Names) (asked : Option ℕ) (S : Section) (low : 2 ≤ place_o
             let past : 3 * place_of S + 3 < stage here = subst (λ (q : Place). 3 * place_of S + 3 < stage q) (sym (at-rows amid.at)) out.1 in
             leaves (inr (step.same-run (ap begins_run (at-rows amid.at) ∙ out.0) ∙ amid.now ∙ sym same.run, past)) (λ e. omega arith) (λ e. omega arith)
 
-    -- behind the section
+    -- after the section
     behind-more : Same → Behind done n → Phase more next
     behind-more same behind = by behind.late
       where
@@ -320,7 +321,7 @@ module _ (items : Names) (asked : Option ℕ) (S : Section) (low : 2 ≤ place_o
         by (inl past) = gone (omega (arith, least (begins_run here) refl, same.run))
         by (inr now) = on now.0 (goes-on S n.spot.place now.1 c)
 
-    -- where the next run begins, and the last one is shown
+    -- if the next run begins, and the last one is shown
     fresh-more : FreshRun items asked S done n c → Phase more next
     fresh-more fresh =
         let other : is_row_of S here ≡ false = no-row S here (λ e. omega (arith, run-stage here fresh.begun, low)) in

@@ -18,7 +18,8 @@ use Rattle.mrp_page.specs.declared.spot.Spot.{Spot}
 use Rattle.mrp_page.proofs.NamesOnce.{Keeps, has-at, has-push, items-new, items-same, keeps-more, keeps-none, keeps-past, place-of, same-text, text-same}
 use Rattle.mrp_page.proofs.RowLists.{last-more, leaders-more}
 
--- a section whose rows are of items, 200 of which are kept at least; neither the first of a report nor the last
+-- a section whose rows belong to items, with room for at least 200 items; neither the first of a report nor the
+-- last
 pub record IsItemSection (S : Section) : Type 0 where
   pub items : is_of_items S ≡ true
   pub most : items_of S ≡ MOST_ITEMS
@@ -40,7 +41,7 @@ name_of cells = get_or cells 0 []
 abbrev pub leader_names : List RowView → List (List ℕ)
 leader_names rows = map (λ r. cell_at r 0) (leaders [] rows)
 
--- which rows a page is to show
+-- which rows a page should show
 pub wants-asked : (items : Names) (S : Section) (cells : Cells) → is_of_items S ≡ true → wants items S cells ≡ is_asked items (name_of cells)
 wants-asked items S cells of = rw of (by (length items == 0))
   where
@@ -52,7 +53,7 @@ wants-asked items S cells of = rw of (by (length items == 0))
 abbrev pub EndsAt : List Cells → Spot → Cells → Type 0
 EndsAt rows spot last = ((rows ≡ []) × (is_row spot.place ≡ false)) ⊎ ((front : List Cells) × (rows ≡ front ++ (last ∷ [])) × (is_row spot.place ≡ true))
 
--- a name that stands again stands behind itself
+-- a name that occurs again occurs after itself
 last-again : (names front : List (List ℕ)) (last name : List ℕ) → StandTogether (names ++ (name ∷ [])) → names ≡ front ++ (last ∷ []) → has_name names name ≡ true → last ≡ name
 last-again names front last name stand is has =
     let (i, within, at) = place-of names name has in
@@ -95,7 +96,7 @@ lead-old rows spot last cells (inr (front, ends, row)) is =
           (has-at (row_names front ++ (name_of last ∷ [])) (name_of cells) (length (row_names front)) (omega arith) (get_or_push (row_names front) (name_of last) [] (length (row_names front)) refl ∙ same));
     }
 
--- what is kept of the rows of a section up to a spot, and what stands there of them
+-- what is kept of the rows of a section up to a spot, and the rows up to there
 pub record Inside (items : Names) (S : Section) (count : ℕ) (rows : List Cells) (kept : List RowView) (spot : Spot) (last : Cells) : Type 0 where
   pub keeps : Keeps (items_in items rows) (leader_names kept)
   pub named : All (λ r. cell_at r 0 ≢ []) kept
@@ -126,7 +127,7 @@ has-last rows cells =
     ap (λ (t : List (List ℕ)). has_name t (name_of cells)) (map_push (λ (c : Cells). name_of c) rows cells)
     ∙ has-at (row_names rows ++ (name_of cells ∷ [])) (name_of cells) (length (row_names rows)) (omega arith) (get_or_push (row_names rows) (name_of cells) [] (length (row_names rows)) refl)
 
--- where there is no room for a row
+-- if there is no room for a row
 no-room : (S : Section) (spot : Spot) (l u : Bool) → has_room S spot l u ≡ false → room_of S ≤ spot.taken
 no-room S spot l u none = ltb-false spot.taken (room_of S) (or_parts _ _ none).0
 

@@ -1,4 +1,4 @@
--- Which of two labels what comes in has.
+-- Which of the two labels the supplies have.
 use Rattle.std.proofs.Common.{◌≡◌, ◌∙◌, ◌⊎◌, ◌^◌, ◌<◌, ◌≤◌, ℕ, zero, suc, Bool, true, false, not, List, [], ◌∷◌, codes, decimal, get_or, length, map, nat_lt, refl, sym, ap, subst, arith, inl, inr}
 use Rattle.std.specs.Prelude.{◌&&◌, if◌then◌else◌}
 use Rattle.std.specs.List.{All, Contains, fold}
@@ -42,7 +42,7 @@ no-zero n some small =
     λ text begins. false_from_ne_true (same_text (decimal n) text) (λ e. omega (arith, first_decimal n some small, begins, ap (λ (t : List ℕ). get_or t 0 0) (text-same (decimal n) text e))) in
     rw (other (codes "0") refl, other (codes "0.000") refl) refl
 
--- the greater of two numbers is one of them, and above 0 where one of them is
+-- the greater of two numbers is one of them, and above 0 if one of them is
 record Higher (a b c : ℕ) : Type 0 where
   is : higher (decimal a) (decimal b) ≡ decimal c
   first : 0 < a → 0 < c
@@ -67,7 +67,7 @@ higher-is a b small-a small-b = by (nat_lt (rank (decimal a)) (rank (decimal b))
         above some (inl is) = is
         above some (inr is) = absurd (omega (arith, rank-above b some small-b, none a is, ltb-false _ _ e))
 
--- the greatest of numbers is a number, and above 0 where one of them is
+-- the greatest of numbers is a number, and above 0 if one of them is
 record Greatest (a : ℕ) (ns : List ℕ) (c : ℕ) : Type 0 where
   is : fold higher (decimal a) (map decimal ns) ≡ decimal c
   first : 0 < a → 0 < c

@@ -1,4 +1,4 @@
--- Where the items stand on a page, and how a name leads to its item.
+-- Where the items are on a page, and how a name links to its item.
 use Rattle.std.proofs.Common.{◌≡◌, ◌-◌, ℕ, List, [], ◌++◌, codes, length, refl, ap, append_assoc}
 use Rattle.mrp_page.specs.Draw.{history_html, item_html, item_lists_html, items_html, link_html, more_html, more_items, more_rows, named_note, named_record, named_tasks, todo_html}
 use Rattle.mrp_page.specs.Escaped.{escaped}

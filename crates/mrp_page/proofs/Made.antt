@@ -1,4 +1,4 @@
--- Pages are made of their own words and of texts that are known.
+-- Pages consist of fixed markup and of texts that are known.
 use Rattle.std.proofs.Common.{◌≡◌, ◌∙◌, ◌⊎◌, ◌-◌, ◌<◌, ◌≤◌, ℕ, zero, suc, Bool, true, false, List, [], ◌∷◌, ◌++◌, codes, decimal, drop, get_or, length, refl, sym, ap, subst, arith, inl, inr, not}
 use Rattle.std.specs.Prelude.{if◌then◌else◌, ◌==◌, ◌&&◌, ◌||◌, nat_lt}
 use Rattle.std.proofs.lemmas.Bool.{cases_lt}
@@ -264,7 +264,7 @@ own-no_promises : Contains own_words no_promises
 unfolding plain
 own-no_promises = own no_promises 34 (omega arith) refl
 
--- where some rows are, each of them stands among all
+-- if some rows are kept, each of them is among all
 module _ {X : Type 0} (P : X → Type 0) where
   pub all-stretch : (p : X → Bool) (xs : List X) → All P xs → All P (stretch p xs)
   all-stretch p xs all = All-take P (position_or_len (λ x. not (p x)) (drop (position_or_len p xs) xs)) (drop (position_or_len p xs) xs) (All-drop P (position_or_len p xs) xs all)

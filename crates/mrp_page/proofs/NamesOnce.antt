@@ -125,7 +125,7 @@ items-new items rows cells has =
     ∙ ap (filter (is_asked items)) (once-more (row_names rows) name ∙ cond-false _ _ _ (once-has (row_names rows) name ∙ has))
     ∙ filter-append (is_asked items) (each_once (row_names rows)) (name ∷ [])
 
--- some names are kept of all of them: their first 200, and all where they are fewer
+-- some names are kept of all of them: their first 200, and all if they are fewer
 pub record Keeps (all kept : List (List ℕ)) : Type 0 where
   pub front : take MOST_ITEMS kept ≡ take MOST_ITEMS all
   pub whole : length all < MOST_ITEMS → kept ≡ all
@@ -162,7 +162,7 @@ keeps-past all kept name keeps long =
       whole = λ few. absurd (omega arith);
     }
 
--- no more names are among some than these are, where each stands once
+-- no more names are among some than there are of these, if each occurs once
 told-few : (told names : List (List ℕ)) → IsDistinct same_text names → length (filter (has_name told) names) ≤ length told
 told-few told names is = length-le_from_is_member nat_list_eq_equiv (filter (has_name told) names) told (distinct-filter (has_name told) names is) among
   where
@@ -180,7 +180,7 @@ others-enough told names is long =
     let sum = length-append told (others told (take MOST_ITEMS names)) in
     omega arith
 
--- the first 200 names are those of all, where the first 200 of each list are kept
+-- the first 200 names are those of all, if the first 200 of each list are kept
 pub first-shown : (told planned kept-told kept-planned : List (List ℕ)) → Keeps told kept-told → Keeps planned kept-planned → IsDistinct same_text planned
     → take MOST_ITEMS (kept-told ++ others kept-told kept-planned) ≡ take MOST_ITEMS (told ++ others told planned)
 first-shown told planned kept-told kept-planned of-told of-planned is = by (cases_lt (length told) MOST_ITEMS)

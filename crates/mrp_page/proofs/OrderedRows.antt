@@ -41,7 +41,7 @@ ordered-push (x ∷ rows) row is below = (
 later : (S : Section) (rows : List RowView) → From (place_of S + 1) rows → All (λ q. is_in S q ≡ false) rows
 later S rows from = λ k d within. ne_eqb _ (place_of S) (λ e. omega (arith, from k d within))
 
--- behind a row of a section those of it come first
+-- after a row of a section those of the section come first
 rest-is : (S : Section) (rows : List RowView) → From (place_of S) rows → Ordered rows → before_first (λ q. not (is_in S q)) rows ≡ filter (is_in S) rows
 rest-is S [] from is = refl
 rest-is S (row ∷ rows) from is = by (is_in S row) refl (rest-is S rows (All-tail (λ (q : RowView). place_of S ≤ place_of q.section) row rows from) is.1)

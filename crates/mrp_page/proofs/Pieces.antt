@@ -1,17 +1,17 @@
--- Texts of a list's elements, one after the other.
+-- Texts of a list's elements, in order.
 use Rattle.std.proofs.Common.{◌≡◌, ◌∙◌, ℕ, ◌+◌, ◌<◌, List, [], ◌∷◌, ◌++◌, length, take, get_or, map, refl, sym, ap}
 use Rattle.std.proofs.Math.Seq.{take-length}
 use Rattle.std.proofs.lemmas.List.{append-nil, flat_map_more, take_more}
 use Rattle.std.specs.List.{flat_map, fold, sum_by}
 
--- the text of the first k elements, behind what stands before
+-- the text of the first k elements, after what was there before
 abbrev pub so_far : {A B : Type 0} → List B → (A → List B) → List A → ℕ → List B
 so_far before text xs k = before ++ flat_map text (take k xs)
 
 pub so_far-none : {A B : Type 0} (before : List B) (text : A → List B) (xs : List A) → before ≡ so_far before text xs 0
 so_far-none before text xs = sym (append-nil before)
 
--- one more element was added behind a text
+-- one more element was added after a text
 pub so_far-added : {A B : Type 0} (before : List B) (text : A → List B) (xs : List A) (k : ℕ) (x d : A) (page next : List B) → page ≡ so_far before text xs k → k < length xs → x ≡ get_or xs k d → next ≡ page ++ text x
     → next ≡ so_far before text xs (k + 1)
 so_far-added {A} {B} before text xs k x d page next begun within is adds =

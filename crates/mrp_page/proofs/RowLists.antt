@@ -9,7 +9,7 @@ use Rattle.std.specs.Option.{IfSome}
 use Rattle.mrp_page.specs.Row.{RowView, cell_at}
 use Rattle.mrp_page.specs.Rows.{last_name, leader_rows, leaders, stretch}
 
--- a place, or the length where there is none
+-- a place, or the length if there is none
 pub position_or : {A : Type 0} (p : A → Bool) (xs : List A) → unwrap_or (position p xs) (length xs) ≡ position_or_len p xs
 position_or p xs = by (nat_lt (position_or_len p xs) (length xs)) refl
   where

@@ -20,7 +20,7 @@ use Rattle.mrp_page.specs.declared.spot.Place.{Place}
 use Rattle.mrp_page.specs.declared.spot.Place.TheVariants as place
 use Rattle.mrp_page.specs.declared.spot.Spot.{Spot}
 
--- records behind others
+-- records after others
 pub place-append : (here : Place) (xs ys : List Cells) → place_from here (xs ++ ys) ≡ place_from (place_from here xs) ys
 unfolding place_from
 place-append here [] ys = refl
@@ -134,11 +134,11 @@ place-most s.Pegs = omega arith
 place-most s.Messages = omega arith
 place-most s.Loads = omega arith
 
--- two sections of one place are one
+-- two sections at the same place are the same
 pub same-place : (x y : Section) → place_of x ≡ place_of y → x ≡ y
 same-place x y e = sym (at-place x) ∙ ap section_at e ∙ at-place y
 
--- the section behind another begins a run, or is the next of the report
+-- the section after another begins a run, or is the next of the report
 pub next-section : (x : Section) → (is_run (next_of x) ≡ true) ⊎ ((place_of (next_of x) ≡ place_of x + 1) × (is_run (next_of x) ≡ false))
 next-section s.History = inl refl
 next-section s.Run = inr (refl, refl)
@@ -176,7 +176,7 @@ run-stage (place.Header x) e = absurd cc
 run-stage (place.Row x) e = absurd cc
 run-stage place.Wrong e = absurd cc
 
--- what a record may be behind another
+-- what a record may be after another
 pub after-line : (x : Section) (c : Cells) → (place_after (place.Line x) c ≡ place.Header x) ⊎ (place_after (place.Line x) c ≡ place.Wrong)
 after-line x c = by (same_cells c (columns_of x))
   where
@@ -198,7 +198,7 @@ after-rows x c = by (length c == length (columns_of x))
     by true = inl refl
     by false = inr (after-begun (next_of x) c)
 
--- behind a place before a section's header
+-- after a place before a section's header
 abbrev pub Nears : Section → Place → Type 0
 Nears S next = (next ≡ place.Header S) ⊎ ((stage next ≤ 3 * place_of S + 1) ⊎ (next ≡ place.Wrong))
 
@@ -285,7 +285,7 @@ rows-stay x low c = by (after-rows x c)
     by (inr (inl e)) = rw e (next (next-section x))
     by (inr (inr e)) = rw e (omega arith)
 
--- behind the history reports follow
+-- after the history reports follow
 pub stays-in-report : (here : Place) → 4 ≤ stage here → (c : Cells) → 4 ≤ stage (place_after here c)
 stays-in-report place.Front high c = absurd (omega arith)
 stays-in-report (place.Line x) high c = (report-line x (omega arith) c).1
@@ -293,11 +293,11 @@ stays-in-report (place.Header x) high c = rows-stay x (omega arith) c
 stays-in-report (place.Row x) high c = rows-stay x (omega arith) c
 stays-in-report place.Wrong high c = omega arith
 
--- behind such a section the next run begins, or the report goes on
+-- after such a section the next run begins, or the report goes on
 abbrev pub GoesOn : Section → Place → Type 0
 GoesOn S next = (begins_run next ≡ true) ⊎ ((begins_run next ≡ false) × (3 * place_of S + 3 < stage next))
 
--- behind a row the section goes on, or the report, or the next run begins
+-- after a row the section goes on, or the report, or the next run begins
 after-row : (S x : Section) → place_of S ≤ place_of x → (c : Cells) → (inside x c ≡ place.Row x) ⊎ GoesOn S (inside x c)
 after-row S x least c = by (after-rows x c)
   where
@@ -468,7 +468,7 @@ module _ {A : Type 0} (p : A → Bool) where
       by true e rest = ap (λ (t : List A). not (length t == 0)) (here x xs e) ∙ ap not (ne_eqb (length (x ∷ before_first (λ y. not (p y)) xs)) 0 (λ none. omega arith)) ∙ sym (ap (λ (b : Bool). b || list_any p xs) e)
       by false e rest = ap (λ (t : List A). not (length t == 0)) (skip x xs e) ∙ rest ∙ sym (ap (λ (b : Bool). b || list_any p xs) e)
 
--- where a row of the plan of that run stands, the count is that of its items so far
+-- at a row of the plan of that run the count is that of its items so far
 pub items-header : (S : Section) (asked : Option ℕ) (spot : Spot) (counts : Counts) → place_of S ≡ 3 → is_shown asked spot.run ≡ true → (counts_at asked spot (place.Header S) counts).items ≡ spot.items
 items-header s.History asked spot counts e shown = absurd (omega arith)
 items-header s.Run asked spot counts e shown = absurd (omega arith)

@@ -1,4 +1,4 @@
--- What a row shows are its cells, and what a page begins and ends with.
+-- A row shows its cells; what a page begins and ends with.
 use Rattle.std.proofs.Common.{◌≡◌, ◌∙◌, ◌⊎◌, ◌<◌, ◌≤◌, ℕ, List, [], ◌∷◌, ◌++◌, codes, drop, length, refl, sym, ap, append_assoc, inl, inr}
 use Rattle.std.proofs.lemmas.Bool.{cases_lt}
 use Rattle.std.proofs.lemmas.List.{append-nil, get_or_past}

@@ -1,4 +1,4 @@
--- The items that a page shows are the first of all that it is to show.
+-- The items that a page shows are the first of all that it should show.
 use Rattle.std.proofs.Common.{◌≡◌, ◌≢◌, ◌∙◌, ◌⊎◌, ◌+◌, ◌*◌, ◌-◌, ◌^◌, ◌<◌, ◌≤◌, ℕ, Bool, true, false, not, List, [], ◌∷◌, ◌++◌, Option, Some, None, length, map, take, refl, sym, ap, subst, arith, inl, inr, append_assoc}
 use Rattle.std.specs.Prelude.{◌&&◌, ◌||◌, if◌then◌else◌, is_some}
 use Rattle.std.specs.List.{All, flat_map, list_any}
@@ -123,7 +123,7 @@ module _ (items : Names) (asked : Option ℕ) (S : Section) (is : IsItemSection 
     abbrev next : Noted
     next = noted items asked n c
 
-    -- whether the record is taken, where it stands at a place
+    -- whether the record is taken, by its place
     abbrev takes_at : Place → Bool
     takes_at q = is_wanted items q c && room_at q n.spot (is_wanted items q c && leads n.spot n.last c) ((is_wanted items q c && leads n.spot n.last c) && starts_at q c)
 
@@ -287,7 +287,7 @@ module _ (items : Names) (asked : Option ℕ) (S : Section) (is : IsItemSection 
         by (inl e) = goes (at-rows amid.at ∙ e)
         by (inr out) = leaves (ap begins_run (at-rows amid.at) ∙ out.0) (subst (λ (q : Place). 3 * place_of S + 3 < stage q) (sym (at-rows amid.at)) out.1)
 
-    -- behind the section
+    -- after the section
     behind-more : Same → Behind done n → Phase more next
     behind-more same behind = by behind.late
       where
@@ -338,7 +338,7 @@ module _ (items : Names) (asked : Option ℕ) (S : Section) (is : IsItemSection 
         by (inl past) = gone (omega (arith, least (begins_run here) refl, same.run))
         by (inr now) = on now.0 (goes-on S n.spot.place now.1 c)
 
-    -- where the next run begins, and the last one is shown
+    -- if the next run begins, and the last one is shown
     fresh-more : Fresh → Phase more next
     fresh-more fresh =
         let other : is_row_of S here ≡ false = no-row S here (λ e. omega (arith, run-stage here fresh.begun, is.first)) in
@@ -447,7 +447,7 @@ or-none false false e = refl
 or-none true false e = absurd cc
 or-none false true e = absurd cc
 
--- an item has messages where it is among those that they are of
+-- an item has messages if it is among the items of messages
 told-is : (messages : List RowView) (r : RowView) → cell_at r 0 ≢ [] → is_told messages r ≡ has_name (leader_names messages) (cell_at r 0)
 unfolding rows_named
 told-is messages r named =
@@ -481,7 +481,7 @@ shown-names messages plan named =
     ∙ ap (take MOST_ITEMS) (map-append (λ (r : RowView). cell_at r 0) (leaders [] messages) (flat_map (untold_rows messages) (leaders [] plan)))
     ∙ ap (λ (t : List (List ℕ)). take MOST_ITEMS (leader_names messages ++ t)) (untold-names messages (leaders [] plan) (all-leaders (λ (r : RowView). cell_at r 0 ≢ []) [] plan named))
 
--- a run that is asked for has a number, and has begun
+-- the run asked for has a number, and has begun
 pub asked-from : (asked : Option ℕ) (runs : ℕ) → has_run asked runs ≡ true → (number : ℕ) → asked ≡ Some number → 1 ≤ number
 asked-from asked runs has number e = leb-true 1 number (and_parts _ _ (subst (λ (a : Option ℕ). has_run a runs ≡ true) e has)).0
 

@@ -35,7 +35,7 @@ module _ (items : Names) (asked : Option ℕ) (S : Section) (done : List Cells) 
   abbrev pub next : Noted
   next = noted items asked n c
 
-  -- whether the record is taken, where it stands at a place
+  -- whether the record is taken, by its place
   abbrev pub takes_at : Place → Bool
   takes_at q = is_wanted items q c && room_at q n.spot (is_wanted items q c && leads n.spot n.last c) ((is_wanted items q c && leads n.spot n.last c) && starts_at q c)
 
@@ -53,7 +53,7 @@ module _ (items : Names) (asked : Option ℕ) (S : Section) (done : List Cells) 
     pub run : runs_of more ≡ shown_in more
     pub left : rows_left asked next_spot n.report ≡ []
 
-  -- what is so of this record
+  -- what holds of this record
   pub record Step : Type 0 where
     pub here-is : here ≡ place_in more
     pub run-is : next_spot.run ≡ runs_of more

@@ -1,4 +1,4 @@
--- Each message stands in *To do* once, under its own word.
+-- Each message is in *To do* once, under its own word.
 use Rattle.std.proofs.Common.{◌≡◌, ◌∙◌, ℕ, Bool, true, false, not, List, [], ◌∷◌, ◌++◌, codes, refl, sym, ap, ap₂, subst, append_assoc}
 use Rattle.std.specs.Prelude.{◌||◌, IsPermutation, if◌then◌else◌}
 use Rattle.std.specs.List.{filter, flat_map, list_any}
@@ -123,7 +123,7 @@ or-second : (a b : Bool) → b ≡ true → (a || b) ≡ true
 or-second true b e = refl
 or-second false b e = e
 
--- a message of one of these words is said more plainly
+-- a message with one of these words is put into plain ones
 module _ (message : RowView) where
   abbrev late : Bool
   late = has_word 3 (codes "PAST-DUE") message
@@ -222,7 +222,7 @@ page-messages title notes =
           ∙ ap (λ (t : List ℕ). top ++ (todo_open ++ (t ++ (todo_end ++ (todo_back notes.counts.messages ++ rest))))) (tasks-are shown messages),
     )
 
--- what is said of a message, word by word
+-- the text of a message, word by word
 module _ (message : RowView) where
   pub said-late : word_of message ≡ codes "PAST-DUE" → row_html task_words message ≡ said (codes "Past due, start now: ") (codes ", weeks late: ") message
   unfolding row_html task_words

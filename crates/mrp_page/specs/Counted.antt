@@ -8,15 +8,15 @@ use Rattle.mrp_page.specs.declared.counts.Counts.{Counts}
 use Rattle.mrp_day.specs.declared.section.Section.{Section}
 use Rattle.mrp_day.specs.declared.section.Section.TheVariants as s
 
--- the rows of a section in a run of a day, of those that a page is to show
+-- the rows of a section in a run of a day that a page should show
 abbrev pub wanted_rows : Names → Section → ℕ → List Cells → List Cells
 wanted_rows items section run records = filter (wants items section) (rows_of section run records)
 
--- those that are kept of a section of the report
+-- the rows that are kept of a section of the report
 abbrev pub kept_of : Section → Noted → List RowView
 kept_of section notes = filter (is_in section) notes.report
 
--- how many of a section are counted as left out; a report has one row of its run
+-- how many rows of a section are counted as left out; the section `run` has a single row
 abbrev pub missed_of : Section → Counts → ℕ
 missed_of s.History counts = counts.history
 missed_of s.Run counts = 0

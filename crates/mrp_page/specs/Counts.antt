@@ -1,4 +1,4 @@
--- How many rows of a day a page has no room for, section by section.
+-- Counts of the rows of a day for which a page has no room, section by section.
 use Rattle.mrp_page.specs.declared.counts.Counts.{Counts}
 
 abbrev pub none_counted : Counts

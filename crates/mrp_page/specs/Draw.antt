@@ -25,7 +25,7 @@ measure_html label column rows =
     ++ (numbers_html column rows
     ++ codes "</tr>\n")
 
--- a name that leads to its item, which stands on the same page
+-- a name that links to its item on the same page
 unfoldable pub link_html : List ℕ → List ℕ
 link_html name =
     link_open
@@ -38,19 +38,19 @@ link_html name =
 abbrev pub has_item : List RowView → List ℕ → Bool
 has_item shown name = list_any (is_of name) shown
 
--- the name of an item, which leads to it where it is among those that are shown
+-- the name of an item, as a link if the item is among those that are shown
 unfoldable pub item_name_html : List RowView → List ℕ → List ℕ
 item_name_html shown name =
     if has_item shown name then link_html name else escaped name
 
--- a message in such words
+-- a message in these words
 unfoldable pub task_html : List RowView → List Drawn → RowView → List ℕ
 task_html shown words message =
     row_html task_head message
     ++ (item_name_html shown (cell_at message 0)
     ++ row_html words message)
 
--- a message in plain words, where it has this word
+-- a message in plain words, if it has this word
 abbrev pub task_if : List RowView → List ℕ → RowView → List ℕ
 task_if shown word message = if has_word 3 word message then task_html shown task_words message else []
 
@@ -58,15 +58,15 @@ task_if shown word message = if has_word 3 word message then task_html shown tas
 unfoldable pub tasks_with : List RowView → List ℕ → List RowView → List ℕ
 tasks_with shown word messages = flat_map (task_if shown word) messages
 
--- a message has one of the words that a page says more plainly
+-- a message has one of the words that a page puts into plain ones
 abbrev pub is_plain : RowView → Bool
 is_plain message = has_word 3 (codes "PAST-DUE") message || (has_word 3 (codes "RELEASE") message || (has_word 3 (codes "IN") message || (has_word 3 (codes "OUT") message || has_word 3 (codes "CANCEL") message)))
 
--- a message as it stands, where it has another word
+-- a message with its own word, if it is none of those
 abbrev pub other_if : List RowView → RowView → List ℕ
 other_if shown message = if is_plain message then [] else task_html shown other_words message
 
--- the messages that have another word
+-- the messages that have none of those words
 unfoldable pub other_tasks : List RowView → List RowView → List ℕ
 other_tasks shown messages = flat_map (other_if shown) messages
 
@@ -87,18 +87,18 @@ task_table front shown messages back =
     ++ (tasks_html shown messages
     ++ back)
 
--- how much more there is that is not shown: nothing where that is all
+-- how many are not shown; nothing if that is none
 unfoldable pub more_html : ℕ → List ℕ → List ℕ → List ℕ
 more_html count one many =
     if count == 0 then [] else row_html more (count_row count one many)
 
--- how many more messages there are: these are in no order of urgency
+-- how many more messages there are; they may be of any urgency
 unfoldable pub todo_back : ℕ → List ℕ
 todo_back missed =
     more_html missed (codes "message, perhaps an urgent one, is") (codes "messages, urgent ones perhaps among them, are")
     ++ section_end
 
--- what is to be done
+-- the section *To do*
 unfoldable pub todo_html : List RowView → List RowView → ℕ → List ℕ
 todo_html shown messages missed =
     task_table todo_open shown messages todo_end
@@ -109,14 +109,15 @@ unfoldable pub weeks_html : List RowView → List ℕ
 weeks_html rows =
     table_html [] week rows weeks_end
 
--- the weeks of a table, between what a frame names: its heading, and what its picture begins with
+-- the weeks of a table, between the markup of its frame: its heading, and what its picture begins
+-- with
 unfoldable pub grid_html : List Drawn → List Drawn → RowView → List RowView → List ℕ
 grid_html head chart frame rows =
     row_html head frame
     ++ (weeks_html rows
     ++ row_html chart frame)
 
--- what the picture of loads shows
+-- the bars of the picture of loads
 unfoldable pub bars_html : List RowView → List ℕ
 bars_html rows =
     table_html [] bar rows bars_end
@@ -136,7 +137,7 @@ centre_rows_html name rows =
     ++ (bars_html rows
     ++ loads_html rows)
 
--- a work centre, by a row of it: its load against its capacity
+-- a work centre, by a row of it: its loads against its capacities
 unfoldable pub centre_html : List RowView → RowView → List ℕ
 centre_html loads leader =
     centre_rows_html (cell_at leader 0) (rows_named (cell_at leader 0) loads)
@@ -146,7 +147,7 @@ unfoldable pub each_centre : List RowView → List RowView → List ℕ
 each_centre loads leaders =
     flat_map (centre_html loads) leaders
 
--- the section of the work centres, and of how many more weeks there are loads
+-- the section of the work centres, and for how many more weeks there are loads
 unfoldable pub centres_html : List RowView → List RowView → ℕ → List ℕ
 centres_html loads leaders missed =
     centres_open
@@ -162,29 +163,29 @@ has_none rows = length rows == 0
 abbrev pub has_firm : List RowView → Bool
 has_firm plan = not (is_zero (greatest 4 (codes "0") plan))
 
--- what is to come in: the firm schedule of a master item, the scheduled receipts of another
+-- what is due: the firm schedule of a master item, the scheduled receipts of a part
 unfoldable pub supplies_html : List RowView → List RowView → List ℕ
 supplies_html plan promises =
     if has_none promises && not (has_firm plan) then measure_html scheduled_label 3 plan
     else measure_html firm_label 4 plan
 
--- what is booked of a master item, and what can still be promised
+-- what is booked of a master item, and what is available to promise
 unfoldable pub booked_html : List RowView → List ℕ
 booked_html promises =
     measure_html booked_label 3 promises
     ++ measure_html available_label 5 promises
 
--- what is promised of a master item: nothing for another
+-- what is promised of a master item; nothing for a part
 unfoldable pub promised_html : List RowView → List ℕ
 promised_html promises =
     if has_none promises then [] else booked_html promises
 
--- what the picture of balances shows
+-- the points of the picture of balances
 unfoldable pub points_html : List RowView → List ℕ
 points_html plan =
     table_html [] point plan points_end
 
--- the balances of an item as a line
+-- the picture of an item's balances, a line
 unfoldable pub balance_html : List ℕ → List RowView → List ℕ
 balance_html name plan =
     grid_html record_head balance_chart (frame_of name plan 7 7 (codes "1")) plan
@@ -222,19 +223,19 @@ unfoldable pub pegs_html : List RowView → List ℕ
 pegs_html pegs =
     table_html pegs_open peg pegs list_end
 
--- the messages of an item, of which this is a row
+-- the messages of the item that this is a row of
 unfoldable pub item_tasks : RowView → List RowView → List ℕ
 item_tasks leader messages =
     task_table item_tasks_open (leader ∷ []) messages item_tasks_end
 
--- what stands behind an item's record
+-- what follows an item's record: its orders and its pegs
 unfoldable pub item_lists_html : ItemLists → List ℕ → List ℕ
 item_lists_html rows name =
     orders_html (rows_named name rows.orders)
     ++ (pegs_html (rows_named name rows.pegs)
     ++ section_end)
 
--- the record of an item, or that it is not kept
+-- the record of an item, or a note that it is not kept
 unfoldable pub record_or_none : List ℕ → List RowView → List RowView → List ℕ
 record_or_none name plan promises =
     if has_none plan then no_record else record_html name plan promises
@@ -244,22 +245,22 @@ unfoldable pub named_record : ItemLists → List ℕ → List ℕ
 named_record rows name =
     record_or_none name (rows_named name rows.plan) (rows_named name rows.promises)
 
--- the messages of an item, by a row of it
+-- the messages of an item, given a row of it
 unfoldable pub named_tasks : ItemLists → RowView → List ℕ
 named_tasks rows leader =
     item_tasks leader (rows_named (cell_at leader 0) rows.messages)
 
--- that an item with a record may have promises that are not kept, where so many are not
+-- a note that an item with a record may have promises that are not kept, if any are not
 abbrev pub promises_note : List RowView → List RowView → ℕ → List ℕ
 promises_note plan promises missed =
     if (missed == 0) || (has_none plan || not (has_none promises)) then [] else no_promises
 
--- what is said of an item's promises, by its name
+-- the note on an item's promises, by its name
 unfoldable pub named_note : ItemLists → ℕ → List ℕ → List ℕ
 named_note rows missed name =
     promises_note (rows_named name rows.plan) (rows_named name rows.promises) missed
 
--- an item, by a row of it, where so many rows of promises are not kept
+-- an item, by a row of it, given how many rows of promises are not kept
 unfoldable pub item_html : ItemLists → ℕ → RowView → List ℕ
 item_html rows missed leader =
     row_html item_head leader
@@ -273,7 +274,7 @@ unfoldable pub items_html : ItemLists → ℕ → List RowView → List ℕ
 items_html rows missed leaders =
     flat_map (item_html rows missed) leaders
 
--- of how many more weeks there are records and promises
+-- for how many more weeks there are records and promises
 unfoldable pub more_weeks : Counts → List ℕ
 more_weeks counts =
     more_html counts.plan (codes "week of a record is") (codes "weeks of records are")
@@ -285,11 +286,11 @@ more_lists counts =
     more_html counts.orders (codes "order is") (codes "orders are")
     ++ more_html counts.pegs (codes "peg is") (codes "pegs are")
 
--- how many more rows of items there are that are not kept
+-- how many more rows of items are not kept
 unfoldable pub more_rows : Counts → List ℕ
 more_rows counts = more_weeks counts ++ more_lists counts
 
--- how many more items there are than these, and rows of items that are not kept
+-- how many more items there are than these, and how many rows of items are not kept
 unfoldable pub more_items : Counts → List RowView → List ℕ
 more_items counts shown =
     more_html (counts.items - length shown) (codes "item is") (codes "items are")

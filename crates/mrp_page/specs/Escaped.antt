@@ -1,4 +1,4 @@
--- Texts as HTML shows them, and how a browser reads them back.
+-- Escaping texts for HTML, and how a browser reads them back.
 use Rattle.std.specs.Prelude.{ℕ, List, [], ◌∷◌, ◌++◌, Option, Some, None, codes, bytes_eq, Bool, flat_map, if◌then◌else◌, ◌==◌, ◌||◌, option_map}
 
 -- a byte: `<`, `>`, `&`, `"` and `'` as character references
@@ -15,7 +15,7 @@ escaped_byte byte =
 unfoldable pub escaped : List ℕ → List ℕ
 escaped text = flat_map escaped_byte text
 
--- a byte that may not stand in an escaped text as such; `&` begins a reference
+-- a byte that an escaped text may not contain as such; `&` begins a reference
 abbrev pub is_special : ℕ → Bool
 is_special byte = (byte == 60) || (byte == 62) || (byte == 34) || (byte == 39)
 
@@ -29,13 +29,13 @@ referred name =
     else if bytes_eq name (codes "#39") then Some 39
     else None
 
--- a byte before the rest, where both are read
+-- a byte before the rest, if both are read
 abbrev pub before : Option ℕ → Option (List ℕ) → Option (List ℕ)
 before None rest = None
 before (Some byte) rest = option_map (λ text. byte ∷ text) rest
 
--- what a browser reads, with the name of the reference that it stands in, if it does; none where one of the five stands
--- as such: `<`, `>`, `"` or `'`, or a `&` that begins none of the references
+-- what a browser reads, given the part of a reference's name that it has read, if it is in one; none if one of the five
+-- characters occurs as such: `<`, `>`, `"` or `'`, or a `&` that begins none of the references
 unfoldable pub read_from : Option (List ℕ) → List ℕ → Option (List ℕ)
 read_from None [] = Some []
 read_from (Some name) [] = None

@@ -3,7 +3,7 @@ use Rattle.std.specs.Prelude.{ℕ, Bool, List, ◌++◌, ◌||◌, codes, if◌t
 use Rattle.mrp_page.specs.Escaped.{escaped}
 use Rattle.mrp_page.specs.Row.{same_text}
 
--- a number is zero, with three decimals or without
+-- a number is zero, with or without three decimals
 abbrev pub is_zero : List ℕ → Bool
 is_zero text = same_text text (codes "0") || same_text text (codes "0.000")
 

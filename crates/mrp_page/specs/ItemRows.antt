@@ -1,4 +1,4 @@
--- The rows of a report that are of items, section by section.
+-- The rows of a report that belong to items, section by section.
 use Rattle.std.specs.Prelude.{List}
 use Rattle.mrp_day.specs.declared.section.Section.TheVariants as s
 use Rattle.mrp_page.specs.Row.{RowView}

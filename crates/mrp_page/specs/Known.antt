@@ -1,4 +1,4 @@
--- What pages are made of: words of their own, and texts that are known.
+-- What pages consist of: fixed markup, and texts that are known.
 use Rattle.std.specs.Prelude.{ℕ, ◌≡◌, ◌⊎◌, ◌-◌, List, [], ◌∷◌, ◌++◌, codes, decimal, flat_map, length, map}
 use Rattle.std.specs.List.{All, Contains}
 use Rattle.mrp_page.specs.ItemRows.{item_lists}
@@ -11,7 +11,7 @@ use Rattle.mrp_page.specs.Template.{Drawn, Mark, Number, Text, Where}
 use Rattle.mrp_page.specs.declared.counts.Counts.{Counts}
 use Rattle.mrp_page.specs.Unshown.{unshown}
 
--- what rows are drawn as
+-- the markup that rows are drawn with
 unfoldable pub layouts : List (List Drawn)
 layouts = page_top ∷ page_head ∷ task_head ∷ task_words ∷ week ∷ entry ∷ order ∷ peg ∷ centre_head ∷ load_chart ∷ bar ∷ item_head ∷ record_head ∷ balance_chart ∷ point ∷ more ∷ other_words ∷ []
 
@@ -26,17 +26,17 @@ marks_of (Where column word markup) = markup ∷ []
 marks_of (Text column) = []
 marks_of (Number column) = []
 
--- all markup that a page may have, which no day has a say in
+-- all markup that a page may have; it is the same for every day
 unfoldable pub own_words : List (List ℕ)
 own_words = plain ++ flat_map (flat_map marks_of) layouts
 
--- a piece is such markup, a text that is known, or a name of an item that is shown, which leads to it
+-- a piece is such markup, a text that is known, or the name of an item that is shown, as a link to it
 abbrev pub IsPieceOf : (List ℕ → Type 0) → (List ℕ → Type 0) → Piece → Type 0
 IsPieceOf Known Shown (Markup markup) = Contains own_words markup
 IsPieceOf Known Shown (Escaped text) = Known text
 IsPieceOf Known Shown (Link name) = Shown name
 
--- a text is made of such pieces, one behind the other
+-- a text consists of such pieces
 abbrev pub IsMadeOf : (List ℕ → Type 0) → (List ℕ → Type 0) → List ℕ → Type 0
 IsMadeOf Known Shown html = (pieces : List Piece) × All (IsPieceOf Known Shown) pieces × (html ≡ flat_map piece_html pieces)
 
@@ -52,13 +52,14 @@ names_shown notes = map (λ r. cell_at r 0) (shown_items (item_lists notes.repor
 abbrev pub left_of : Noted → Counts
 left_of notes = unshown (item_lists notes.report) (shown_items (item_lists notes.report)) notes.counts
 
--- the numbers of what is not shown, and of the items
+-- the counts of what is not shown, and of the items
 abbrev pub count_texts : Noted → List (List ℕ)
 count_texts notes =
     decimal notes.counts.messages ∷ decimal notes.counts.loads ∷ decimal (notes.counts.items - length (shown_items (item_lists notes.report)))
     ∷ decimal (left_of notes).plan ∷ decimal (left_of notes).promises ∷ decimal (left_of notes).orders ∷ decimal (left_of notes).pegs ∷ decimal notes.counts.history ∷ decimal notes.counts.items ∷ []
 
--- texts that a page shows where no row has one: of a table without rows, and what is counted
+-- texts of a page that come from no row: those of a table without rows, and the words for what is
+-- counted
 unfoldable pub small_words : List (List ℕ)
 small_words = [] ∷ codes "0" ∷ codes "1" ∷ codes "message, perhaps an urgent one, is" ∷ codes "messages, urgent ones perhaps among them, are" ∷ codes "week of a work centre is" ∷ codes "weeks of work centres are" ∷ codes "item is" ∷ codes "items are" ∷ codes "week of a record is" ∷ codes "weeks of records are" ∷ codes "week of promises is" ∷ codes "weeks of promises are" ∷ codes "order is" ∷ codes "orders are" ∷ codes "peg is" ∷ codes "pegs are" ∷ codes "entry is" ∷ codes "entries are" ∷ codes "1.000" ∷ []
 

@@ -1,4 +1,4 @@
--- What a time-phased record says of what comes in.
+-- The label of the supplies in a time-phased record.
 use Rattle.std.specs.Prelude.{ℕ, ◌≡◌, ◌<◌, ◌^◌, List, All, codes, decimal, map}
 use Rattle.mrp_page.specs.Columns.{column}
 use Rattle.mrp_page.specs.Row.{RowView, cell_at}

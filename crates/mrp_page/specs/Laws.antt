@@ -6,7 +6,7 @@ use Rattle.mrp_page.specs.Html.{number_tag}
 use Rattle.mrp_page.specs.Row.{RowView, cell_at}
 use Rattle.mrp_page.specs.Template.{Drawn, Mark, Number, Text, Where, has_word, markup_if}
 
--- a piece of a page: markup, which is no text of a day, a text, or a name that leads to its item
+-- a piece of a page: markup, which is no text of a day; a text; or a name that links to its item
 pub data Piece : Type 0 where
   Markup : List ℕ → Piece
   Escaped : List ℕ → Piece

@@ -1,4 +1,4 @@
--- The parts of a page: what its rows are drawn as.
+-- The parts of a page: the markup that its rows are drawn with.
 use Rattle.std.specs.Prelude.{ℕ, List, [], ◌∷◌, codes}
 use Rattle.mrp_page.specs.Template.{Drawn, Mark, Number, Text, Where}
 use Rattle.mrp_page.specs.declared.style.TheConstants.{STYLE}
@@ -7,14 +7,14 @@ use Rattle.mrp_page.specs.declared.style.TheConstants.{STYLE}
 unfoldable pub style : List ℕ
 style = STYLE.now
 
--- what stands before the style sheet: the title
+-- what comes before the style sheet: the title
 unfoldable pub page_top : List Drawn
 page_top =
     Mark (codes "<!doctype html>\n<html lang=\"en\">\n<head>\n<meta charset=\"utf-8\">\n<meta name=\"viewport\" content=\"width=device-width, initial-scale=1\">\n<title>") ∷
     Text 0 ∷
     Mark (codes "</title>\n<style>\n") ∷ []
 
--- the head of a page: the title, the entry that the plan stands at, the bookings that stand there, the weeks, the items
+-- the head of a page: the title, the entry that the run plans from, the bookings that stand there, the weeks, the items
 unfoldable pub page_head : List Drawn
 page_head =
     Mark (codes "</style>\n</head>\n<body>\n<header>\n<h1>") ∷
@@ -42,7 +42,7 @@ task_head =
     Where 3 (codes "CANCEL") (codes "cancel") ∷
     Mark (codes "\"><th scope=row>") ∷ []
 
--- a message in plain words, behind the name of its item
+-- a message in plain words, after the name of its item
 unfoldable pub task_words : List Drawn
 task_words =
     Mark (codes "</th><td>") ∷
@@ -60,7 +60,7 @@ task_words =
     Text 4 ∷
     Mark (codes "</td></tr>\n") ∷ []
 
--- a message whose word stands as it is, behind the name of its item
+-- a message with its own word, after the name of its item
 unfoldable pub other_words : List Drawn
 other_words =
     Mark (codes "</th><td>") ∷
@@ -73,19 +73,19 @@ other_words =
     Text 4 ∷
     Mark (codes "</td></tr>\n") ∷ []
 
--- what a link to an item begins with, before the name that it leads to
+-- what a link to an item begins with, before the name in its address
 unfoldable pub link_open : List ℕ
 link_open = codes "<a href=\"#i-"
 
--- before the name that is shown
+-- what comes between the address and the name that is shown
 unfoldable pub link_middle : List ℕ
 link_middle = codes "\">"
 
--- and what it ends with
+-- what it ends with
 unfoldable pub link_end : List ℕ
 link_end = codes "</a>"
 
--- a week of a heading
+-- a week of a table's heading
 unfoldable pub week : List Drawn
 week =
     Mark (codes "<th scope=col>") ∷
@@ -151,7 +151,7 @@ peg =
     Number 8 ∷
     Mark (codes "</tr>\n") ∷ []
 
--- the heading of a work centre, of its name
+-- the heading of a work centre, with its name
 unfoldable pub centre_head : List Drawn
 centre_head =
     Mark (codes "<div class=scroll tabindex=0 role=region aria-label=\"Load and capacity of ") ∷
@@ -160,7 +160,7 @@ centre_head =
     Text 0 ∷
     Mark (codes ", in minutes</span></caption>\n<thead><tr><th scope=col>Week</th>") ∷ []
 
--- the frame of loads, of the name, the weeks and the greatest number
+-- the frame of the picture of loads, with the name, the weeks and the greatest number
 unfoldable pub load_chart : List Drawn
 load_chart =
     Mark (codes "<tr class=chart><th scope=row>Load; the line is capacity</th><td colspan=\"") ∷
@@ -175,7 +175,7 @@ load_chart =
     Text 0 ∷
     Mark (codes "</title><g transform=\"translate(-.4) scale(1 -1)\">") ∷ []
 
--- the load of a week, with what is over, and its capacity
+-- the load of a week with its overload, and its capacity
 unfoldable pub bar : List Drawn
 bar =
     Mark (codes "<path class=load d=\"M") ∷
@@ -196,7 +196,7 @@ bar =
     Text 3 ∷
     Mark (codes "h.8\"/>") ∷ []
 
--- the heading of an item, of its name
+-- the heading of an item, with its name
 unfoldable pub item_head : List Drawn
 item_head =
     Mark (codes "<section class=item id=\"i-") ∷
@@ -205,7 +205,7 @@ item_head =
     Text 0 ∷
     Mark (codes "</h2>\n") ∷ []
 
--- the heading of an item's time-phased record, of its name
+-- the heading of an item's time-phased record, with its name
 unfoldable pub record_head : List Drawn
 record_head =
     Mark (codes "<div class=scroll tabindex=0 role=region aria-label=\"Record of ") ∷
@@ -214,7 +214,7 @@ record_head =
     Text 0 ∷
     Mark (codes "</span></caption>\n<thead><tr><th scope=col>Week</th>") ∷ []
 
--- the frame of balances, of the name, the weeks and the greatest number
+-- the frame of the picture of balances, with the name, the weeks and the greatest number
 unfoldable pub balance_chart : List Drawn
 balance_chart =
     Mark (codes "<tr class=chart><th scope=row>Balance</th><td colspan=\"") ∷
@@ -237,11 +237,11 @@ point =
     Text 7 ∷
     Mark (codes " ") ∷ []
 
--- what the section of what is to be done begins with
+-- what the section *To do* begins with
 unfoldable pub todo_open : List ℕ
 todo_open = codes "<section id=todo>\n<h2>To do</h2>\n<table class=todo aria-label=\"What to do\"><thead><tr><th scope=col>Item</th><th scope=col>What to do</th></tr></thead>\n<tbody>"
 
--- and what it ends with
+-- what it ends with
 unfoldable pub todo_end : List ℕ
 todo_end = codes "</tbody></table>\n"
 
@@ -249,7 +249,7 @@ todo_end = codes "</tbody></table>\n"
 unfoldable pub item_tasks_open : List ℕ
 item_tasks_open = codes "<table class=todo aria-label=\"What to do for this item\"><thead><tr><th scope=col>Item</th><th scope=col>What to do</th></tr></thead>\n<tbody>"
 
--- and what they end with
+-- what they end with
 unfoldable pub item_tasks_end : List ℕ
 item_tasks_end = codes "</tbody></table>\n"
 
@@ -329,11 +329,11 @@ orders_open = codes "<details><summary>Orders</summary><div class=scroll tabinde
 unfoldable pub pegs_open : List ℕ
 pegs_open = codes "<details><summary>Where it goes (pegs)</summary><div class=scroll tabindex=0 role=region aria-label=Pegs><table class=list>\n<caption><span>Which supply serves which requirement</span></caption>\n<thead><tr><th scope=col>Week</th><th class=t scope=col>Requirement</th><th class=t scope=col>Supply</th><th scope=col>Pieces</th></tr></thead>\n<tbody>"
 
--- what these end with
+-- what orders and pegs end with
 unfoldable pub list_end : List ℕ
 list_end = codes "</tbody></table></div></details>\n"
 
--- how much more there is that is not shown, of its number and its words
+-- how many more are not shown, with the number and the words for it
 unfoldable pub more : List Drawn
 more =
     Mark (codes "<p class=more>and ") ∷
@@ -342,11 +342,11 @@ more =
     Text 1 ∷
     Mark (codes " not shown</p>\n") ∷ []
 
--- what is said of an item whose record is not kept
+-- the note for an item whose record is not kept
 unfoldable pub no_record : List ℕ
 no_record = codes "<p class=more>No record here: this item stands behind the first ones, which a page has room for. The option <code>--items</code> shows it.</p>\n"
 
--- what is said of an item that may have promises, where these are not kept
+-- the note for an item that may have promises that are not kept
 unfoldable pub no_promises : List ℕ
 no_promises = codes "<p class=more>If this is a master item, its rows of what is booked and available to promise stand behind those that a page has room for. The option <code>--items</code> shows them.</p>\n"
 
@@ -354,7 +354,7 @@ no_promises = codes "<p class=more>If this is a master item, its rows of what is
 unfoldable pub history_open : List ℕ
 history_open = codes "<section id=history>\n<details><summary>History of the order book</summary><div class=scroll tabindex=0 role=region aria-label=\"History of the order book\"><table class=list>\n<caption><span>The calls of the desks and their replies</span></caption>\n<thead><tr><th class=t scope=col>Entry</th><th scope=col>Desk</th><th class=t scope=col>Call</th><th class=t scope=col>Item</th><th scope=col>Week</th><th scope=col>Quantity</th><th scope=col>Number</th><th class=t scope=col>Reply</th><th scope=col>Value</th></tr></thead>\n<tbody>"
 
--- and what it ends with
+-- what it ends with
 unfoldable pub history_end : List ℕ
 history_end = codes "</details>\n</section>\n"
 

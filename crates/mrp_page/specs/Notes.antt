@@ -11,7 +11,7 @@ use Rattle.mrp_page.specs.Row.{Cells, RowView}
 use Rattle.mrp_page.specs.Section.{is_history}
 use Rattle.mrp_page.specs.Spot.{Names, after, begins_run, start}
 
--- where the last record stands, that record, the rows that were taken, and how many were not
+-- where the last record stands, that record, the rows that were taken, and how many were not taken
 pub record Noted : Type 0 where
   pub spot : Spot
   pub last : Cells
@@ -22,7 +22,7 @@ pub record Noted : Type 0 where
 abbrev pub none_noted : Noted
 none_noted = record { spot = start; last = []; history = []; report = []; counts = none_counted }
 
--- a run is the one that is asked for: by its number, or the last so far
+-- a run is the one asked for: by its number, or as the last so far
 abbrev pub is_shown : Option ℕ → ℕ → Bool
 is_shown None run = true
 is_shown (Some number) run = number == run
@@ -40,11 +40,11 @@ rows_taken shown (Some section) cells = if not (is_history section) && shown the
 abbrev pub report_rows : Option ℕ → Spot → Cells → List RowView
 report_rows asked spot cells = rows_taken (is_shown asked spot.run) spot.takes cells
 
--- the rows of the report that stay: none of them where the last run is asked for and another one begins
+-- the rows of the report that stay: none of them if the last run is asked for and another one begins
 abbrev pub rows_left : Option ℕ → Spot → List RowView → List RowView
 rows_left asked spot rows = if not (is_some asked) && begins_run spot.place then [] else rows
 
--- what is counted of a section at a spot in it
+-- the counts of a section at a spot in it
 abbrev pub counts_of : Section → Spot → Counts → Counts
 counts_of s.History spot counts = record counts { history = spot.missed }
 counts_of s.Run spot counts = counts
@@ -55,11 +55,11 @@ counts_of s.Pegs spot counts = record counts { pegs = spot.missed }
 counts_of s.Messages spot counts = record counts { messages = spot.missed }
 counts_of s.Loads spot counts = record counts { loads = spot.missed }
 
--- the same, where the section is the history or of the run that is shown
+-- the same, if the section is the history or in the run that is shown
 abbrev pub counts_if : Bool → Section → Spot → Counts → Counts
 counts_if holds section spot counts = if holds then counts_of section spot counts else counts
 
--- what is counted at a place: a section's counts begin anew at its header
+-- the counts at a place; those of a section start again at its header
 abbrev pub counts_at : Option ℕ → Spot → Place → Counts → Counts
 counts_at asked spot (place.Header section) counts = counts_if (is_history section || is_shown asked spot.run) section spot counts
 counts_at asked spot (place.Row section) counts = counts_if (is_history section || is_shown asked spot.run) section spot counts
@@ -74,20 +74,20 @@ noted_at asked spot before cells = record {
   counts = counts_at asked spot spot.place before.counts;
 }
 
--- with one more record
+-- what is kept with one more record
 abbrev pub noted : Names → Option ℕ → Noted → Cells → Noted
 noted items asked before cells = noted_at asked (after items before.spot before.last cells) before cells
 
--- with these records behind it
+-- what is kept with these records after it
 unfoldable pub noted_from : Names → Option ℕ → Noted → List Cells → Noted
 noted_from items asked before [] = before
 noted_from items asked before (cells ∷ rest) = noted_from items asked (noted items asked before cells) rest
 
--- of all these records
+-- what is kept of all these records
 abbrev pub notes_of : Names → Option ℕ → List Cells → Noted
 notes_of items asked records = noted_from items asked none_noted records
 
--- the run that is asked for has begun; each day has a last one
+-- the run asked for has begun; each day has a last run
 abbrev pub has_run : Option ℕ → ℕ → Bool
 has_run None runs = true
 has_run (Some number) runs = nat_le 1 number && nat_le number runs

@@ -1,4 +1,4 @@
--- A page, of what was kept of a day.
+-- A page, drawn from what was kept of a day.
 use Rattle.std.specs.Prelude.{ℕ, Bool, ◌++◌, not, List, [], ◌∷◌, flat_map, take, if◌then◌else◌}
 use Rattle.mrp_page.specs.declared.counts.Counts.{Counts}
 use Rattle.mrp_page.specs.declared.limits.TheConstants.{MOST_ITEMS}
@@ -17,7 +17,7 @@ use Rattle.mrp_page.specs.Unshown.{unshown}
 unfoldable pub head_html : RowView → List ℕ
 head_html heading = row_html page_top heading ++ (style ++ row_html page_head heading)
 
--- there are messages of the item of a row
+-- the item of a row has messages
 abbrev pub is_told : List RowView → RowView → Bool
 is_told messages row = not (has_none (rows_named (cell_at row 0) messages))
 
@@ -25,7 +25,7 @@ is_told messages row = not (has_none (rows_named (cell_at row 0) messages))
 abbrev pub untold_rows : List RowView → RowView → List RowView
 untold_rows messages row = if is_told messages row then [] else row ∷ []
 
--- the first rows of the items with messages, and then those of the others in the plan
+-- the first row of each item with messages, and then those of the other items in the plan
 unfoldable pub told_first : List RowView → List RowView → List RowView
 told_first messages plan = leaders [] messages ++ flat_map (untold_rows messages) (leaders [] plan)
 
@@ -45,7 +45,7 @@ items_of rows counts shown = items_html rows counts.promises shown ++ more_items
 unfoldable pub rest_html : ItemLists → Counts → List RowView → List RowView → List ℕ
 rest_html rows counts shown history = items_of rows counts shown ++ (history_html history counts.history ++ page_end)
 
--- the head of a page, of its title, the report, and the number of items
+-- the head of a page, with its title, the report, and the number of items
 unfoldable pub top_html : List ℕ → List RowView → ℕ → List ℕ
 top_html title report items = head_html (heading title report items)
 

@@ -10,7 +10,8 @@ use Rattle.mrp_day.specs.declared.section.Section.TheVariants as s
 abbrev text_in : Section → List ℕ → RowView → List ℕ
 text_in section name row = escaped (cell_at row (column section name))
 
--- a week's load as a bar from 0, what is over as one from the capacity up, and the line of the capacity, each 0.8 weeks wide
+-- a week's load as a bar from 0, its overload as a bar from the capacity up, and the line of the capacity, each 0.8
+-- weeks wide
 abbrev pub drawn_load : RowView → List ℕ
 drawn_load row =
     codes "<path class=load d=\"M" ++ (text_in s.Loads (codes "week") row ++ (codes " 0v" ++ (text_in s.Loads (codes "load") row ++ (codes "h.8V0z\"/>"

@@ -16,14 +16,14 @@ use Rattle.mrp_page.specs.Notes.{Noted, has_run, notes_of}
 use Rattle.mrp_page.specs.Row.{Cells}
 use Rattle.mrp_page.specs.Spot.{Names, is_end, is_wrong, place_of}
 
--- a reader with the default dialect, of records of any count of cells, which reads on
+-- a reader with the default dialect, for records with any number of cells, that can read on
 pub record IsReading {R : Type 0} (reader : Reader R) : Type 0 where
   pub config : reader_config reader ≡ default_config
   pub trim : reader_trim reader ≡ trim.None
   pub flexible : is_flexible reader ≡ true
   pub ready : Ready reader
 
--- how an error of a reader of records is told: that the input underneath stopped, or that memory was refused
+-- the fault for an error of a reader of records: `Read` if the input underneath stopped, otherwise `NoMemory`
 abbrev pub told_as : ErrorKind → Bool → PageFault
 told_as (kind.Io error) stopped = if stopped then fault.Read else fault.NoMemory
 told_as _ stopped = fault.NoMemory
@@ -36,7 +36,7 @@ has_risen_by count before after = nat_le (counted count before) after
 abbrev pub HasStopped : {R : Type 0} → Told R → Told R → Type 0
 HasStopped before after = HasRisenBy 1 (failures_of before) (failures_of after) ⊎ HasRisenBy READ_CALLS (calls_of before) (calls_of after)
 
--- no day, a reader that stopped, or memory that was refused
+-- no day, a reader that stopped, or out of memory
 abbrev pub is_reading_fault : PageFault → Bool
 is_reading_fault fault.Shape = true
 is_reading_fault fault.NoMemory = true
@@ -47,7 +47,7 @@ abbrev pub is_write_fault : PageFault → Bool
 is_write_fault fault.Write = true
 is_write_fault _ = false
 
--- the records that csv's words give for a text, all of them
+-- all records of a text, by the definition of csv
 abbrev pub AreRecordsOf : List ℕ → List Cells → Type 0
 AreRecordsOf text records = AreRecords default_config st.StartRecord (strip_bom text) records
 
@@ -67,7 +67,7 @@ HasWrongFront text = (records : List Cells) × BeginsWith text records × (is_wr
 abbrev pub IsNoDay : List ℕ → Type 0
 IsNoDay text = HasWrongFront text ⊎ HasRecords text (λ records. is_end (place_of records) ≡ false)
 
--- a text is a day, and has fewer runs than that which is asked for
+-- a text is a day, and has fewer runs than the number asked for
 abbrev pub LacksRun : Names → Option ℕ → List ℕ → Type 0
 LacksRun items asked text = HasRecords text (λ records. (is_end (place_of records) ≡ true) × (has_run asked (notes_of items asked records).spot.run ≡ false))
 

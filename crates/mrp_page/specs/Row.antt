@@ -8,12 +8,12 @@ use Rattle.mrp_day.specs.declared.section.Section.{Section}
 abbrev pub Cells : Type 0
 Cells = List (List ℕ)
 
--- a row, with the section that it stands in
+-- a row and its section
 pub record RowView : Type 0 where
   pub section : Section
   pub cells : Cells
 
--- a row's cell in a column, counted from 0: none past its last
+-- a row's cell in a column, counted from 0; empty past its last
 abbrev pub cell_at : RowView → ℕ → List ℕ
 cell_at r column = slice_index_or r.cells column []
 
@@ -25,6 +25,6 @@ same_text a b = pointwise nat_eq a b
 abbrev pub is_of : List ℕ → RowView → Bool
 is_of name r = same_text (cell_at r 0) name
 
--- a row stands in this section
+-- a row is in this section
 abbrev pub is_in : Section → RowView → Bool
 is_in section r = same_section r.section section

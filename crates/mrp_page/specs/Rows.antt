@@ -20,17 +20,17 @@ rows_named name rows = stretch (is_of name) rows
 abbrev pub leader_rows : List ℕ → RowView → List RowView
 leader_rows previous r = if is_of previous r then [] else r ∷ []
 
--- the first row of each item or work centre, behind rows of this one
+-- the first row of each item or work centre, after rows of this one
 unfoldable pub leaders : List ℕ → List RowView → List RowView
 leaders previous [] = []
 leaders previous (r ∷ rows) = leader_rows previous r ++ leaders (cell_at r 0) rows
 
--- the name of the last of these rows, behind rows of this one
+-- the name of the last of these rows, after rows of this one
 unfoldable pub last_name : List ℕ → List RowView → List ℕ
 last_name previous [] = previous
 last_name previous (r ∷ rows) = last_name (cell_at r 0) rows
 
--- what a digit more makes of a number; it stays at the greatest number
+-- a number with one more digit; it saturates at the greatest number
 abbrev pub ranked : ℕ → ℕ → ℕ
 ranked rank byte = min (min (rank * 10) (2 ^ 64 - 1) + byte) (2 ^ 64 - 1)
 

@@ -4,7 +4,7 @@ use Rattle.mrp_page.specs.declared.limits.TheConstants as limits
 use Rattle.mrp_day.specs.declared.section.Section.{Section}
 use Rattle.mrp_day.specs.declared.section.Section.TheVariants as s
 
--- the section behind another; behind the last one the report of the next run begins
+-- the section that follows another; after the last one the report of the next run begins
 abbrev pub next_of : Section → Section
 next_of s.History = s.Run
 next_of s.Run = s.Promises
@@ -15,7 +15,7 @@ next_of s.Pegs = s.Messages
 next_of s.Messages = s.Loads
 next_of s.Loads = s.Run
 
--- how many of its rows a page has room for
+-- how many of a section's rows a page has room for
 abbrev pub room_of : Section → ℕ
 room_of s.History = limits.MOST_ENTRIES
 room_of s.Run = 1
@@ -26,7 +26,7 @@ room_of s.Pegs = limits.MOST_PEGS
 room_of s.Messages = limits.MOST_ROWS
 room_of s.Loads = limits.MOST_ROWS
 
--- of how many items, or work centres, rows are kept even where its room is full
+-- for how many items, or work centres, rows are kept even if the section is full
 abbrev pub items_of : Section → ℕ
 items_of s.History = 0
 items_of s.Run = 0
@@ -37,7 +37,7 @@ items_of s.Pegs = 0
 items_of s.Messages = limits.MOST_ITEMS
 items_of s.Loads = limits.MOST_ITEMS
 
--- whether an item, or a work centre, has a row for each week there: these are kept together
+-- whether an item, or a work centre, has a row for each week in a section; these are kept together
 abbrev pub is_by_weeks : Section → Bool
 is_by_weeks s.History = false
 is_by_weeks s.Run = false
@@ -48,17 +48,17 @@ is_by_weeks s.Pegs = false
 is_by_weeks s.Messages = false
 is_by_weeks s.Loads = true
 
--- whether it is the history
+-- whether a section is the history
 abbrev pub is_history : Section → Bool
 is_history s.History = true
 is_history _ = false
 
--- whether it is the plan
+-- whether a section is the plan
 abbrev pub is_plan : Section → Bool
 is_plan s.Plan = true
 is_plan _ = false
 
--- whether its rows are of items
+-- whether a section's rows belong to items
 abbrev pub is_of_items : Section → Bool
 is_of_items s.History = false
 is_of_items s.Run = false
@@ -69,7 +69,7 @@ is_of_items s.Pegs = true
 is_of_items s.Messages = true
 is_of_items s.Loads = false
 
--- its place among the sections
+-- a section's place among all of them
 abbrev pub place_of : Section → ℕ
 place_of s.History = 0
 place_of s.Run = 1

@@ -1,4 +1,4 @@
--- Which items a page is to show, of all records of a day.
+-- Which items a page should show, from all records of a day.
 use Rattle.std.specs.Prelude.{ℕ, Bool, false, true, ◌≡◌, ◌≢◌, ◌≤◌, ◌<◌, ◌+◌, ◌^◌, ◌==◌, ◌&&◌, not, List, [], ◌∷◌, ◌++◌, Option, Some, None, length, map, take, slice_index_or, if◌then◌else◌}
 use Rattle.std.specs.List.{All, filter, fold, list_any}
 use Rattle.mrp_page.specs.declared.limits.TheConstants.{MOST_ITEMS}
@@ -19,7 +19,7 @@ is_row_of section _ = false
 abbrev pub runs_with : ℕ → Place → ℕ
 runs_with runs here = if begins_run here then runs + 1 else runs
 
--- how many runs have begun behind these records, where so many had begun at the place before them
+-- how many runs have begun after these records, if so many had begun at the place before them
 unfoldable pub runs_from : ℕ → Place → List Cells → ℕ
 runs_from runs here [] = runs
 runs_from runs here (cells ∷ rest) = runs_from (runs_with runs (place_after here cells)) (place_after here cells) rest
@@ -28,7 +28,7 @@ runs_from runs here (cells ∷ rest) = runs_from (runs_with runs (place_after he
 abbrev pub runs_of : List Cells → ℕ
 runs_of records = runs_from 0 place.Front records
 
--- the run that a page shows: the one that is asked for, or the last
+-- the run that a page shows: the one asked for, or the last
 abbrev pub run_shown : Option ℕ → List Cells → ℕ
 run_shown (Some number) records = number
 run_shown None records = runs_of records
@@ -36,7 +36,7 @@ run_shown None records = runs_of records
 abbrev pub row_if : Bool → Cells → List Cells
 row_if holds cells = if holds then cells ∷ [] else []
 
--- the rows of a section in a run, behind a place
+-- the rows of a section in a run, after a place
 unfoldable pub rows_from : Section → ℕ → ℕ → Place → List Cells → List Cells
 rows_from section run runs here [] = []
 rows_from section run runs here (cells ∷ rest) =
@@ -47,7 +47,7 @@ rows_from section run runs here (cells ∷ rest) =
 abbrev pub rows_of : Section → ℕ → List Cells → List Cells
 rows_of section run records = rows_from section run 0 place.Front records
 
--- the names of the items that rows are of, row by row
+-- the names of the items that rows belong to, row by row
 abbrev pub row_names : List Cells → List (List ℕ)
 row_names rows = map (λ cells. slice_index_or cells 0 []) rows
 
@@ -58,19 +58,19 @@ has_name names name = list_any (same_text name) names
 abbrev pub with_name : List (List ℕ) → List ℕ → List (List ℕ)
 with_name seen name = if has_name seen name then seen else seen ++ (name ∷ [])
 
--- names, each once, where it first stands
+-- names, each once, at its first place
 unfoldable pub each_once : List (List ℕ) → List (List ℕ)
 each_once names = fold with_name [] names
 
--- a page is to show an item: it is named, or none are
+-- a page should show an item: it is named, or no items are
 abbrev pub is_asked : Names → List ℕ → Bool
 is_asked items name = if length items == 0 then true else is_among items name
 
--- the items that rows are of, in order, of those that a page is to show
+-- the items that rows belong to, in order, as far as a page should show them
 unfoldable pub items_in : Names → List Cells → List (List ℕ)
 items_in items rows = filter (is_asked items) (each_once (row_names rows))
 
--- the first of these that are not among those
+-- the names that are not among the others
 abbrev pub others : List (List ℕ) → List (List ℕ) → List (List ℕ)
 others told names = filter (λ name. not (has_name told name)) names
 
@@ -81,7 +81,7 @@ items_to_show items run records =
     take MOST_ITEMS (items_in items (rows_of s.Messages run records)
     ++ others (items_in items (rows_of s.Messages run records)) (items_in items (rows_of s.Plan run records)))
 
--- all items of a run's plan, of those that a page is to show
+-- all items of a run's plan that a page should show
 abbrev pub items_of_plan : Names → ℕ → List Cells → List (List ℕ)
 items_of_plan items run records = items_in items (rows_of s.Plan run records)
 
@@ -90,7 +90,8 @@ pub record StandTogether (names : List (List ℕ)) : Type 0 where
   pub together : (i j k : ℕ) → i ≤ j → j ≤ k → k < length names → slice_index_or names i [] ≡ slice_index_or names k [] → slice_index_or names j [] ≡ slice_index_or names k []
   pub named : All (λ name. name ≢ []) names
 
--- a day of items: in each run they stand together in the plan and in the messages. It has fewer records than a count can hold
+-- a day by items: in each run the rows of an item stand together in the plan and in the messages. It has fewer records
+-- than a count can hold
 pub record IsByItems (records : List Cells) : Type 0 where
   pub plan : (run : ℕ) → StandTogether (row_names (rows_of s.Plan run records))
   pub messages : (run : ℕ) → StandTogether (row_names (rows_of s.Messages run records))

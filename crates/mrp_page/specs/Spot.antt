@@ -21,11 +21,11 @@ same_cells a b = pointwise (pointwise nat_eq) a b
 abbrev pub begun : Section → Cells → Place
 begun section cells = if same_cells cells (line_of section ∷ []) then place.Line section else place.Wrong
 
--- what a record is behind a section's header: a row with a cell for each column, or the line of the next section
+-- what a record is after a section's header: a row with a cell for each column, or the line of the next section
 abbrev pub inside : Section → Cells → Place
 inside section cells = if length cells == length (columns_of section) then place.Row section else begun (next_of section) cells
 
--- what the record behind another is
+-- what the record after another is
 abbrev pub place_after : Place → Cells → Place
 place_after place.Front cells = begun s.History cells
 place_after (place.Line section) cells = if same_cells cells (columns_of section) then place.Header section else place.Wrong
@@ -33,7 +33,7 @@ place_after (place.Header section) cells = inside section cells
 place_after (place.Row section) cells = inside section cells
 place_after place.Wrong cells = place.Wrong
 
--- the names that a page is asked for
+-- the names of the items that a page is asked to show
 abbrev pub Names : Type 0
 Names = List (Bor (List ℕ))
 
@@ -41,13 +41,13 @@ Names = List (Bor (List ℕ))
 abbrev pub is_among : Names → List ℕ → Bool
 is_among items name = list_any (λ item. same_text item.now name) items
 
--- whether a page is to show a row of a section: where items are named, those of these items alone
+-- whether a page should show a row of a section: if items are named, only rows of these items
 abbrev pub wants : Names → Section → Cells → Bool
 wants items section cells =
     if (length items == 0) || not (is_of_items section) then true
     else is_among items (slice_index_or cells 0 [])
 
--- whether a record is a row that a page is to show
+-- whether a record is a row that a page should show
 abbrev pub is_wanted : Names → Place → Cells → Bool
 is_wanted items (place.Row section) cells = wants items section cells
 is_wanted items _ cells = false
@@ -56,7 +56,7 @@ is_wanted items _ cells = false
 abbrev pub starts_order : Section → Cells → Bool
 starts_order section cells = is_plan section && not (same_text (slice_index_or cells 6 []) (codes "0"))
 
--- the same, of a record
+-- the same for a record
 abbrev pub starts_at : Place → Cells → Bool
 starts_at (place.Row section) cells = starts_order section cells
 starts_at _ cells = false
@@ -88,31 +88,31 @@ abbrev pub is_row : Place → Bool
 is_row (place.Row section) = true
 is_row _ = false
 
--- before the first record
+-- the spot before the first record
 abbrev pub start : Spot
 start = record { place = place.Front; run = 0; taken = 0; missed = 0; items = 0; urgent = 0; takes = None }
 
--- how many runs have begun at a place; the count stays at its greatest value
+-- how many runs have begun at a place; the count saturates
 abbrev pub run_at : ℕ → Place → ℕ
 run_at run here = if begins_run here then min (run + 1) (2 ^ 64 - 1) else run
 
--- a count of rows, with one more where this holds; it begins anew where no row stands, and stays at its greatest value
+-- a count of rows, plus one if `more`; it starts again from 0 at a record that is no row, and saturates
 abbrev pub counted : Bool → ℕ → Bool → ℕ
 counted row count more = if row then min (count + (if more then 1 else 0)) (2 ^ 64 - 1) else 0
 
--- a record is not of the item, or the work centre, of a row before it
+-- a record is not of the same item, or work centre, as the row before it
 abbrev pub leads : Spot → Cells → Cells → Bool
 leads spot last cells = not (is_row spot.place && same_text (slice_index_or last 0 []) (slice_index_or cells 0 []))
 
--- a page has room for a row of a section behind a spot: while the section has room, of the first items, of the first items
--- with an order that starts in their first week, and for the other weeks of an item that it has begun with
+-- a page has room for a row of a section after a spot: while the section is not full; for the first items; for the
+-- first items with an order that starts in the first week; and for the other weeks of an item that it has begun
 abbrev pub has_room : Section → Spot → Bool → Bool → Bool
 has_room section spot leads urgent =
     nat_lt spot.taken (room_of section)
     || (if leads then nat_lt spot.items (items_of section) || (urgent && nat_lt spot.urgent MOST_ITEMS)
     else is_by_weeks section && is_some spot.takes)
 
--- the same, of a record
+-- the same for a record
 abbrev pub room_at : Place → Spot → Bool → Bool → Bool
 room_at (place.Row section) spot leads urgent = has_room section spot leads urgent
 room_at _ spot leads urgent = false
@@ -122,7 +122,7 @@ abbrev pub section_if : Bool → Place → Option Section
 section_if true (place.Row section) = Some section
 section_if _ _ = None
 
--- behind a spot, with a row that is taken or missed
+-- the spot after another, with a row that is taken or missed
 abbrev pub spot_with : Spot → Place → Bool → Bool → Bool → Bool → Spot
 spot_with spot here wanted leads urgent takes = record {
   place = here;
@@ -134,15 +134,15 @@ spot_with spot here wanted leads urgent takes = record {
   takes = section_if takes here;
 }
 
--- behind a spot, with a row that leads those of an item or does not
+-- the spot after another, with a row that leads those of an item or does not
 abbrev pub spot_of : Spot → Place → Bool → Bool → Bool → Spot
 spot_of spot here wanted leads urgent = spot_with spot here wanted leads urgent (wanted && room_at here spot leads urgent)
 
--- behind a spot, with a row that is wanted or is not
+-- the spot after another, with a row that the page should show or should not
 abbrev pub spot_where : Spot → Place → Bool → Bool → Cells → Spot
 spot_where spot here wanted leads cells = spot_of spot here wanted leads (leads && starts_at here cells)
 
--- where a record stands of which this is the place, behind a spot and a record
+-- the spot of a record with this place, after a spot and a record
 abbrev pub spot_at : Names → Spot → Place → Cells → Cells → Spot
 spot_at items spot here last cells = spot_where spot here (is_wanted items here cells) (is_wanted items here cells && leads spot last cells) cells
 
@@ -150,7 +150,7 @@ spot_at items spot here last cells = spot_where spot here (is_wanted items here 
 abbrev pub after : Names → Spot → Cells → Cells → Spot
 after items spot last cells = spot_at items spot (place_after spot.place cells) last cells
 
--- what the last of these records is, behind another
+-- what the last of these records is, after another
 unfoldable pub place_from : Place → List Cells → Place
 place_from here [] = here
 place_from here (cells ∷ rest) = place_from (place_after here cells) rest

@@ -1,4 +1,4 @@
--- What rows are drawn as.
+-- The markup that rows are drawn with.
 use Rattle.std.specs.Prelude.{ℕ, Bool, List, [], if◌then◌else◌, flat_map}
 use Rattle.mrp_page.specs.declared.template.Part.{Part}
 use Rattle.mrp_page.specs.declared.template.Part.TheVariants as part
@@ -6,8 +6,8 @@ use Rattle.mrp_page.specs.Escaped.{escaped}
 use Rattle.mrp_page.specs.Html.{number_html}
 use Rattle.mrp_page.specs.Row.{RowView, cell_at, same_text}
 
--- a part of what a row is drawn as: markup, markup for the rows that have a word in a column, a cell's text, and a cell's
--- text as a number of a table
+-- a part of the markup that a row is drawn with: markup, markup for the rows that have a word in a column, a cell's
+-- text, and a cell's text as a number in a table
 pub data Drawn : Type 0 where
   Mark : List ℕ → Drawn
   Where : ℕ → List ℕ → List ℕ → Drawn
@@ -38,7 +38,7 @@ part_html row (Number column) = number_html (cell_at row column)
 unfoldable pub row_html : List Drawn → RowView → List ℕ
 row_html parts row = flat_map (part_html row) parts
 
--- rows, one behind the other
+-- rows, one after another
 unfoldable pub rows_html : List Drawn → List RowView → List ℕ
 rows_html parts rows = flat_map (row_html parts) rows
 
@@ -46,6 +46,6 @@ rows_html parts rows = flat_map (row_html parts) rows
 abbrev pub number_at : ℕ → RowView → List ℕ
 number_at column row = number_html (cell_at row column)
 
--- the numbers of a column, one behind the other
+-- the numbers of a column
 unfoldable pub numbers_html : ℕ → List RowView → List ℕ
 numbers_html column rows = flat_map (number_at column) rows

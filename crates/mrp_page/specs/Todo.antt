@@ -1,4 +1,4 @@
--- What stands in *To do*, message by message.
+-- The section *To do*, message by message.
 use Rattle.std.specs.Prelude.{ℕ, List, [], ◌∷◌, ◌++◌, codes, filter, flat_map, not, if◌then◌else◌}
 use Rattle.mrp_page.specs.Columns.{column}
 use Rattle.mrp_page.specs.Draw.{is_plain, task_html}
@@ -8,7 +8,7 @@ use Rattle.mrp_page.specs.Row.{RowView, cell_at}
 use Rattle.mrp_page.specs.Template.{has_word}
 use Rattle.mrp_day.specs.declared.section.Section.TheVariants as s
 
--- the words of messages that a page says more plainly, the most urgent first (profile)
+-- the words of messages that a page puts into plain ones, the most urgent first (profile)
 abbrev pub urgent_words : List (List ℕ)
 urgent_words = codes "PAST-DUE" ∷ codes "RELEASE" ∷ codes "IN" ∷ codes "OUT" ∷ codes "CANCEL" ∷ []
 
@@ -20,7 +20,7 @@ of_word messages word = filter (has_word (column s.Messages (codes "message")) w
 unfoldable pub by_urgency : List RowView → List RowView
 by_urgency messages = flat_map (of_word messages) urgent_words ++ filter (λ message. not (is_plain message)) messages
 
--- a message, which leads to its item where that is shown: in plain words, or as it stands where it has another word
+-- a message, with a link to its item if that is shown: in plain words, or with its own word
 unfoldable pub message_html : List RowView → RowView → List ℕ
 message_html shown message = task_html shown (if is_plain message then task_words else other_words) message
 
@@ -28,7 +28,8 @@ message_html shown message = task_html shown (if is_plain message then task_word
 abbrev pub word_of : RowView → List ℕ
 word_of message = cell_at message (column s.Messages (codes "message"))
 
--- what a message says behind its item: this, its supply, and before its week, or the weeks that it is late, these words
+-- what a message says after its item: a text, its supply, and a text before its week or before how many weeks it is
+-- late
 abbrev pub said : List ℕ → List ℕ → RowView → List ℕ
 said what before message =
     codes "</th><td>"
@@ -40,7 +41,7 @@ said what before message =
     ++ (escaped (cell_at message (column s.Messages (codes "value")))
     ++ codes "</td></tr>\n"))))))
 
--- what a message says whose word stands as it is
+-- what a message with its own word says
 abbrev pub said_of_another : RowView → List ℕ
 said_of_another message =
     codes "</th><td>"

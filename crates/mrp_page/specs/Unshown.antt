@@ -5,8 +5,8 @@ use Rattle.mrp_page.specs.ItemRows.{ItemLists}
 use Rattle.mrp_page.specs.Row.{RowView, cell_at}
 use Rattle.mrp_page.specs.Rows.{rows_named}
 
--- how many rows of a section are not on a page: those that are not kept, and those of other items than it shows, each of these
--- by a row of it; up to the greatest number of 64 bits
+-- how many rows of a section are not on a page: those that are not kept, and those of other items than the page shows,
+-- each given by one of its rows; at most the greatest number of 64 bits
 abbrev pub left_out : List RowView → List RowView → ℕ → ℕ
 left_out rows shown missed = min (missed + (length rows - sum_by (λ leader. length (rows_named (cell_at leader 0) rows)) shown)) (2 ^ 64 - 1)
 

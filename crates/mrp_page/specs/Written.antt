@@ -1,4 +1,4 @@
--- What is written of a day.
+-- The page of a day.
 use Rattle.std.specs.Prelude.{ℕ, ◌≡◌, List, Option}
 use Rattle.mrp_page.specs.Notes.{Noted}
 use Rattle.mrp_page.specs.Page.{page_html}

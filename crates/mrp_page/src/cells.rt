@@ -6,7 +6,7 @@ ghost use Rattle.csv.specs.Records.{fields_of};
 
 use csv::ByteRecord;
 
-// The bytes of a cell, counted from 0: none where the record has no such cell.
+// The bytes of a cell, counted from 0; empty if the record has no such cell.
 pub(crate) fn cell_of(cells: &ByteRecord, column: usize) -> &[u8]
     ensures { result.now ≡ slice_index_or (fields_of cells.now) column [] }
 {

@@ -1,4 +1,4 @@
-//! How many rows of a day a page has no room for.
+//! Counts of the rows of a day for which a page has no room.
 
 ghost use Rattle.std.specs.Prelude.{◌≡◌};
 ghost use Rattle.mrp_page.specs.Counts.{none_counted};
@@ -7,7 +7,7 @@ ghost use Rattle.mrp_page.specs.Notes.{counts_of};
 use crate::spot::Spot;
 use mrp_day::Section;
 
-// How many rows of a section are not kept, and how many items its plan has.
+// How many rows of each section are not kept, and how many items the plan has.
 #[derive(Clone, Copy)]
 pub(crate) struct Counts {
     pub(crate) history: u64,
@@ -21,7 +21,7 @@ pub(crate) struct Counts {
 }
 
 impl Counts {
-    // Before the first record.
+    // The counts before the first record.
     pub(crate) fn none() -> Counts
         ensures { result ≡ none_counted }
     {
@@ -37,7 +37,7 @@ impl Counts {
         }
     }
 
-    // What is counted of a section, up to a spot in it.
+    // Notes the counts of a section up to a spot in it.
     pub(crate) fn note(&mut self, section: Section, spot: Spot)
         ensures { self.new ≡ counts_of section spot self.old }
     {

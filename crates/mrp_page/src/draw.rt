@@ -1,4 +1,4 @@
-//! The parts of a page, one after the other.
+//! Drawing the parts of a page.
 
 ghost use Rattle.std.specs.Prelude.{◌≡◌, ◌++◌, OnOk, map};
 ghost use Rattle.mrp_page.specs.Draw.{balance_html, bars_html, booked_html, centre_html, centre_rows_html, centres_html, each_centre, grid_html, has_firm, has_item, history_html, is_plain, item_html, item_lists_html, item_name_html, item_tasks, items_html, link_html, loads_html, measure_html, more_html, more_items, more_lists, more_rows, more_weeks, named_note, named_record, named_tasks, orders_html, other_if, other_tasks, pegs_html, planned_html, points_html, promised_html, promises_note, record_html, record_or_none, record_rows, supplies_html, table_html, task_html, task_if, task_table, tasks_html, tasks_with, todo_back, todo_html, weeks_html};
@@ -50,7 +50,7 @@ fn put_measure(page: &mut Html, label: &[u8], column: usize, rows: &[Row]) -> Re
     page.markup(b"</tr>\n")
 }
 
-// Adds a name that leads to its item, which stands on the same page.
+// Adds a name that links to its item on the same page.
 #[tactic(auto, unfolding(crate::specs::Draw::link_html))]
 fn put_link(page: &mut Html, name: &[u8]) -> Result<(), NoMemory>
     ensures { OnOk result (page.new ≡ page.old ++ link_html name.now) }
@@ -62,21 +62,21 @@ fn put_link(page: &mut Html, name: &[u8]) -> Result<(), NoMemory>
     page.markup(link_end())
 }
 
-// Whether one of these rows is of an item.
+// Whether one of these rows is of this item.
 fn is_one_of(shown: &[&Row], name: &[u8]) -> bool
     ensures { result ≡ list_any (λ r. is_of name.now r.now) shown.now }
 {
     shown.iter().any(|row| row.is_of(name))
 }
 
-// Whether an item is among those of these rows.
+// Whether this item is among those of these rows.
 fn has_item(shown: &[&Row], name: &[u8]) -> bool
     ensures { result ≡ has_item (map (λ r. r.now) shown.now) name.now }
 {
     is_one_of(shown, name)
 }
 
-// Adds the name of an item, which leads to it where it is among those that are shown.
+// Adds the name of an item, as a link if the item is among those that are shown.
 #[tactic(auto, unfolding(crate::specs::Draw::item_name_html))]
 fn put_item_name(page: &mut Html, shown: &[&Row], name: &[u8]) -> Result<(), NoMemory>
     ensures { OnOk result (page.new ≡ page.old ++ item_name_html (map (λ r. r.now) shown.now) name.now) }
@@ -88,7 +88,7 @@ fn put_item_name(page: &mut Html, shown: &[&Row], name: &[u8]) -> Result<(), NoM
     }
 }
 
-// Adds a message in such words.
+// Adds a message in these words.
 #[tactic(auto, unfolding(crate::specs::Draw::task_html))]
 fn put_task(page: &mut Html, shown: &[&Row], words: &[Part], message: &Row) -> Result<(), NoMemory>
     ensures { OnOk result (page.new ≡ page.old ++ task_html (map (λ r. r.now) shown.now) (map drawn_of words.now) message.now) }
@@ -98,7 +98,7 @@ fn put_task(page: &mut Html, shown: &[&Row], words: &[Part], message: &Row) -> R
     put_row(page, words, message)
 }
 
-// Adds a message in plain words, where it has this word.
+// Adds a message in plain words, if it has this word.
 fn put_task_if(page: &mut Html, shown: &[&Row], word: &[u8], message: &Row) -> Result<(), NoMemory>
     ensures { OnOk result (page.new ≡ page.old ++ task_if (map (λ r. r.now) shown.now) word.now message.now) }
 {
@@ -125,7 +125,7 @@ fn put_tasks_with(
     Ok(())
 }
 
-// Whether a message has one of the words that a page says more plainly.
+// Whether a message has one of the words that a page puts into plain ones.
 fn is_plain(message: &Row) -> bool
     ensures { result ≡ is_plain message.now }
 {
@@ -136,7 +136,7 @@ fn is_plain(message: &Row) -> bool
         || has_word(3, b"CANCEL", message)
 }
 
-// Adds a message as it stands, where it has another word.
+// Adds a message with its own word, if it is none of those.
 fn put_other_if(page: &mut Html, shown: &[&Row], message: &Row) -> Result<(), NoMemory>
     ensures { OnOk result (page.new ≡ page.old ++ other_if (map (λ r. r.now) shown.now) message.now) }
 {
@@ -147,7 +147,7 @@ fn put_other_if(page: &mut Html, shown: &[&Row], message: &Row) -> Result<(), No
     }
 }
 
-// Adds the messages that have another word.
+// Adds the messages that have none of those words.
 #[tactic(auto, unfolding(crate::specs::Draw::other_tasks))]
 fn put_other_tasks(page: &mut Html, shown: &[&Row], messages: &[Row]) -> Result<(), NoMemory>
     ensures { OnOk result (page.new ≡ page.old ++ other_tasks (map (λ r. r.now) shown.now) messages.now) }
@@ -187,7 +187,7 @@ fn put_task_table(
     page.markup(back)
 }
 
-// Adds how much more there is that is not shown: nothing where that is all.
+// Adds how many are not shown; nothing if that is none.
 #[tactic(auto, unfolding(crate::specs::Draw::more_html))]
 fn put_more(
     alloc: Global,
@@ -205,7 +205,7 @@ fn put_more(
     put_row(page, more(), &row)
 }
 
-// Adds how many more messages there are: these are in no order of urgency.
+// Adds how many more messages there are. They may be of any urgency.
 #[tactic(auto, unfolding(crate::specs::Draw::todo_back))]
 fn put_todo_back(alloc: Global, page: &mut Html, missed: u64) -> Result<(), NoMemory>
     ensures { OnOk result (page.new ≡ page.old ++ todo_back missed) }
@@ -220,7 +220,7 @@ fn put_todo_back(alloc: Global, page: &mut Html, missed: u64) -> Result<(), NoMe
     page.markup(section_end())
 }
 
-// Adds what is to be done: the messages, each with a way to its item where it is shown.
+// Adds the section *To do*: the messages, each with a link to its item if that is shown.
 #[tactic(auto, unfolding(crate::specs::Draw::todo_html))]
 pub(crate) fn put_todo(
     alloc: Global,
@@ -243,7 +243,7 @@ fn put_weeks(page: &mut Html, rows: &[Row]) -> Result<(), NoMemory>
     put_table(page, b"", week(), rows, weeks_end())
 }
 
-// Adds the weeks of a table, between what a frame names.
+// Adds the weeks of a table, between the markup of its frame.
 #[tactic(auto, unfolding(crate::specs::Draw::grid_html))]
 fn put_grid(
     page: &mut Html,
@@ -259,7 +259,7 @@ fn put_grid(
     put_row(page, chart, frame)
 }
 
-// Adds what the picture of loads shows.
+// Adds the bars of the picture of loads.
 #[tactic(auto, unfolding(crate::specs::Draw::bars_html))]
 fn put_bars(page: &mut Html, rows: &[Row]) -> Result<(), NoMemory>
     ensures { OnOk result (page.new ≡ page.old ++ bars_html rows.now) }
@@ -294,7 +294,7 @@ fn put_centre_rows(
     put_loads(page, rows)
 }
 
-// Adds a work centre: its load against its capacity.
+// Adds a work centre: its loads against its capacities.
 #[tactic(auto, unfolding(crate::specs::Draw::centre_html))]
 fn put_centre(alloc: Global, page: &mut Html, loads: &[Row], leader: &Row) -> Result<(), NoMemory>
     ensures { OnOk result (page.new ≡ page.old ++ centre_html loads.now leader.now) }
@@ -318,7 +318,7 @@ fn put_each_centre(
     Ok(())
 }
 
-// Adds the section of the work centres, and of how many more weeks there are loads.
+// Adds the section of the work centres, and for how many more weeks there are loads.
 #[tactic(auto, unfolding(crate::specs::Draw::centres_html))]
 pub(crate) fn put_centres(
     alloc: Global,
@@ -348,7 +348,7 @@ fn has_firm(plan: &[Row]) -> bool
     !is_zero(greatest(plan, 4, b"0"))
 }
 
-// Adds what is to come in: the firm schedule of a master item, the scheduled receipts of another.
+// Adds what is due: the firm schedule of a master item, the scheduled receipts of a part.
 #[tactic(auto, unfolding(crate::specs::Draw::supplies_html))]
 fn put_supplies(page: &mut Html, plan: &[Row], promises: &[Row]) -> Result<(), NoMemory>
     ensures { OnOk result (page.new ≡ page.old ++ supplies_html plan.now promises.now) }
@@ -360,7 +360,7 @@ fn put_supplies(page: &mut Html, plan: &[Row], promises: &[Row]) -> Result<(), N
     }
 }
 
-// Adds what is booked of a master item, and what can still be promised.
+// Adds what is booked of a master item, and what is available to promise.
 #[tactic(auto, unfolding(crate::specs::Draw::booked_html))]
 fn put_booked(page: &mut Html, promises: &[Row]) -> Result<(), NoMemory>
     ensures { OnOk result (page.new ≡ page.old ++ booked_html promises.now) }
@@ -369,7 +369,7 @@ fn put_booked(page: &mut Html, promises: &[Row]) -> Result<(), NoMemory>
     put_measure(page, available_label(), 5, promises)
 }
 
-// Adds what is promised of a master item: nothing for another.
+// Adds what is promised of a master item; nothing for a part.
 #[tactic(auto, unfolding(crate::specs::Draw::promised_html))]
 fn put_promised(page: &mut Html, promises: &[Row]) -> Result<(), NoMemory>
     ensures { OnOk result (page.new ≡ page.old ++ promised_html promises.now) }
@@ -381,7 +381,7 @@ fn put_promised(page: &mut Html, promises: &[Row]) -> Result<(), NoMemory>
     }
 }
 
-// Adds what the picture of balances shows.
+// Adds the points of the picture of balances.
 #[tactic(auto, unfolding(crate::specs::Draw::points_html))]
 fn put_points(page: &mut Html, plan: &[Row]) -> Result<(), NoMemory>
     ensures { OnOk result (page.new ≡ page.old ++ points_html plan.now) }
@@ -389,7 +389,7 @@ fn put_points(page: &mut Html, plan: &[Row]) -> Result<(), NoMemory>
     put_table(page, b"", point(), plan, points_end())
 }
 
-// Adds the balances of an item as a line.
+// Adds the picture of an item's balances, a line.
 #[tactic(auto, unfolding(crate::specs::Draw::balance_html))]
 fn put_balance(alloc: Global, page: &mut Html, name: &[u8], plan: &[Row]) -> Result<(), NoMemory>
     ensures { OnOk result (page.new ≡ page.old ++ balance_html name.now plan.now) }
@@ -452,7 +452,7 @@ fn put_pegs(page: &mut Html, pegs: &[Row]) -> Result<(), NoMemory>
     put_table(page, pegs_open(), peg(), pegs, list_end())
 }
 
-// Adds the messages of an item, of which this is a row.
+// Adds the messages of the item that this is a row of.
 #[tactic(auto, unfolding(crate::specs::Draw::item_tasks))]
 fn put_item_tasks(page: &mut Html, leader: &Row, messages: &[Row]) -> Result<(), NoMemory>
     ensures { OnOk result (page.new ≡ page.old ++ item_tasks leader.now messages.now) }
@@ -466,7 +466,7 @@ fn put_item_tasks(page: &mut Html, leader: &Row, messages: &[Row]) -> Result<(),
     )
 }
 
-// Adds what stands behind an item's record.
+// Adds what follows an item's record: its orders and its pegs.
 #[tactic(auto, unfolding(crate::specs::Draw::item_lists_html))]
 fn put_item_lists(page: &mut Html, rows: &ItemRows<'_>, name: &[u8]) -> Result<(), NoMemory>
     ensures { OnOk result (page.new ≡ page.old ++ item_lists_html rows.now name.now) }
@@ -476,7 +476,7 @@ fn put_item_lists(page: &mut Html, rows: &ItemRows<'_>, name: &[u8]) -> Result<(
     page.markup(section_end())
 }
 
-// Adds the record of an item, or that it is not kept.
+// Adds the record of an item, or a note that it is not kept.
 #[tactic(auto, unfolding(crate::specs::Draw::record_or_none))]
 fn put_record_or_none(
     alloc: Global,
@@ -513,7 +513,7 @@ fn put_named_record(
     )
 }
 
-// Adds the messages of an item, by a row of it.
+// Adds the messages of an item, given a row of the item.
 #[tactic(auto, unfolding(crate::specs::Draw::named_tasks))]
 fn put_named_tasks(page: &mut Html, rows: &ItemRows<'_>, leader: &Row) -> Result<(), NoMemory>
     ensures { OnOk result (page.new ≡ page.old ++ named_tasks rows.now leader.now) }
@@ -521,7 +521,7 @@ fn put_named_tasks(page: &mut Html, rows: &ItemRows<'_>, leader: &Row) -> Result
     put_item_tasks(page, leader, rows_named(rows.messages(), leader.name()))
 }
 
-// Adds that an item with a record may have promises that are not kept, where so many are not.
+// Adds a note that an item with a record may have promises that are not kept, if any are not.
 fn put_promises_note(
     page: &mut Html,
     plan: &[Row],
@@ -537,7 +537,7 @@ fn put_promises_note(
     }
 }
 
-// Adds what is said of an item's promises, by its name.
+// Adds the note on an item's promises, by its name.
 #[tactic(auto, unfolding(crate::specs::Draw::named_note))]
 fn put_named_note(
     page: &mut Html,
@@ -551,7 +551,7 @@ fn put_named_note(
     put_promises_note(page, plan, rows_named(rows.promises(), name), missed)
 }
 
-// Adds an item, where so many rows of promises are not kept.
+// Adds an item, given how many rows of promises are not kept.
 #[tactic(auto, unfolding(crate::specs::Draw::item_html))]
 fn put_item(
     alloc: Global,
@@ -586,7 +586,7 @@ pub(crate) fn put_items(
     Ok(())
 }
 
-// Adds of how many more weeks there are records and promises.
+// Adds for how many more weeks there are records and promises.
 #[tactic(auto, unfolding(crate::specs::Draw::more_weeks))]
 fn put_more_weeks(alloc: Global, page: &mut Html, counts: Counts) -> Result<(), NoMemory>
     ensures { OnOk result (page.new ≡ page.old ++ more_weeks counts) }
@@ -616,7 +616,7 @@ fn put_more_lists(alloc: Global, page: &mut Html, counts: Counts) -> Result<(), 
     put_more(alloc, page, counts.pegs, b"peg is", b"pegs are")
 }
 
-// Adds how many more rows of items there are that are not kept.
+// Adds how many more rows of items are not kept.
 #[tactic(auto, unfolding(crate::specs::Draw::more_rows))]
 fn put_more_rows(alloc: Global, page: &mut Html, counts: Counts) -> Result<(), NoMemory>
     ensures { OnOk result (page.new ≡ page.old ++ more_rows counts) }
@@ -625,7 +625,7 @@ fn put_more_rows(alloc: Global, page: &mut Html, counts: Counts) -> Result<(), N
     put_more_lists(alloc, page, counts)
 }
 
-// Adds how many more items there are than these, and rows of items that are not kept.
+// Adds how many more items there are than these, and how many rows of items are not kept.
 #[tactic(auto, unfolding(crate::specs::Draw::more_items))]
 pub(crate) fn put_more_items(
     alloc: Global,

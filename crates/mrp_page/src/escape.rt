@@ -1,4 +1,4 @@
-//! Texts as HTML shows them.
+//! Escaping texts for HTML.
 
 ghost use Rattle.std.specs.Prelude.{◌≡◌, ◌++◌, List, ℕ, OnOk, Some};
 ghost use Rattle.mrp_page.specs.Escaped.{escaped, escaped_byte, read_back};
@@ -20,10 +20,10 @@ fn put_escaped_byte(page: &mut Vec<u8>, byte: u8) -> Result<(), AllocError>
     }
 }
 
-/// Adds a text so that HTML shows it as it is: `<`, `>`, `&`, `"` and `'` are written as character
-/// references, between tags and in quoted attributes.
+/// Appends a text so that HTML shows it unchanged, between tags and in quoted attributes: `<`, `>`,
+/// `&`, `"` and `'` are written as character references.
 ///
-/// Errors: where a growth of memory was refused.
+/// Errors: `NoMemory` if an allocation fails.
 #[tactic(auto, unfolding(crate::specs::Escaped::escaped))]
 pub fn put_escaped(page: &mut Vec<u8>, text: &[u8]) -> Result<(), NoMemory>
     ensures { OnOk result (page.new.items ≡ page.old.items ++ escaped text.now) }
@@ -34,8 +34,8 @@ pub fn put_escaped(page: &mut Vec<u8>, text: &[u8]) -> Result<(), NoMemory>
     Ok(())
 }
 
-/// An escaped text reads back as the text. That it reads at all says that none of the five
-/// characters stands in it as such.
+/// An escaped text reads back as the text. That it reads back at all means that none of the five
+/// characters occurs in it except in a reference.
 pub fn escaped_texts_read_back()
     ensures { (text : List ℕ) → read_back (escaped text) ≡ Some text }
 {}

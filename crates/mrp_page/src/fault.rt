@@ -1,4 +1,4 @@
-//! Why no page was made.
+//! Why a page was not made.
 
 ghost use Rattle.std.specs.Prelude.{◌≡◌};
 ghost use Rattle.csv.specs.Reading.{error_kind};
@@ -15,16 +15,16 @@ pub enum PageFault {
     /// The text is no day.
     #[error("wrong: shape")]
     Shape,
-    /// The day has fewer runs than the one that was asked for.
+    /// The day has fewer runs than the number asked for.
     #[error("no such run")]
     NoRun,
-    /// A growth of memory was refused.
+    /// Out of memory.
     #[error("no memory")]
     NoMemory,
     /// The reader failed.
     #[error("read failed")]
     Read,
-    /// The writer failed, or was interrupted too often. A front of the page was written.
+    /// The writer failed, or was interrupted too often. A prefix of the page has been written.
     #[error("write failed")]
     Write,
 }
@@ -51,8 +51,8 @@ impl From<WriteFault> for PageFault {
     }
 }
 
-// What an error of a reader of records is told as: a failed read where the input underneath stopped, and
-// else want of memory, which is all that there is besides.
+// The fault for an error of the reader of records: `Read` if the input underneath stopped, otherwise
+// `NoMemory`, the only other cause.
 pub(crate) fn read_fault(error: &csv::Error, stopped: bool) -> PageFault
     ensures { result ≡ told_as (error_kind error.now) stopped }
 {

@@ -1,4 +1,4 @@
-//! Rows that a page is made of beside those of the day: what its tables and pictures are framed by.
+//! Rows of a page that are not the day's: the frames of its tables and pictures.
 
 ghost use Rattle.std.specs.Prelude.{◌≡◌, IfOk};
 ghost use Rattle.mrp_page.specs.Frame.{count_row, frame, frame_of, heading, last_week};
@@ -10,7 +10,7 @@ use mrp_day::Section;
 use mrp_qty::{NoMemory, number_text};
 use std::alloc::Global;
 
-// The name, the weeks and the greatest number of a table.
+// A frame: the name, the weeks and the greatest number of a table.
 fn frame<'x>(alloc: Global, name: &'x [u8], weeks: &'x [u8], top: &'x [u8]) -> Result<Row, NoMemory>
     ensures { IfOk result (λ row. row ≡ frame name.now weeks.now top.now) }
 {
@@ -18,8 +18,8 @@ fn frame<'x>(alloc: Global, name: &'x [u8], weeks: &'x [u8], top: &'x [u8]) -> R
     Ok(Row::new(Section::Run, cells))
 }
 
-// The frame of the rows of an item or a work centre, with the greatest number of two columns, and at
-// least this one.
+// The frame of the rows of an item or a work centre. Its greatest number is that of two columns, or
+// this one if that is greater.
 pub(crate) fn frame_of<'x>(
     alloc: Global,
     name: &'x [u8],
@@ -34,7 +34,7 @@ pub(crate) fn frame_of<'x>(
     frame(alloc, name, greatest(rows, 1, b"1"), top)
 }
 
-// The last week that a report tells of, in its plan or its loads.
+// The last week of a report, in its plan or its loads.
 fn last_week(report: &[Row]) -> &[u8]
     ensures { result.now ≡ last_week report.now }
 {
@@ -42,8 +42,8 @@ fn last_week(report: &[Row]) -> &[u8]
     greatest(rows_in(report, Section::Loads), 1, planned)
 }
 
-// The title of a page, the entry that its plan stands at, the bookings there, the weeks, and the number
-// of items.
+// The title of a page, the entry that its run plans from, the bookings there, the weeks, and the number of
+// items.
 pub(crate) fn heading<'x>(
     alloc: Global,
     title: &'x [u8],
@@ -64,7 +64,7 @@ pub(crate) fn heading<'x>(
     Ok(Row::new(Section::Run, cells))
 }
 
-// A count of what is not shown, and what that is: of one, or of more.
+// A count of what is not shown, and the word for it, singular or plural.
 pub(crate) fn count_row<'x>(
     alloc: Global,
     count: u64,

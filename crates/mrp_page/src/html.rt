@@ -9,7 +9,7 @@ use mrp_qty::NoMemory;
 use std::alloc::Global;
 use std::marker::Model;
 
-/// A page so far, seen as its text.
+/// A page so far; contracts see it as its text.
 #[derive(Drop)]
 pub(crate) struct Html {
     bytes: Vec<u8>,
@@ -23,7 +23,7 @@ impl Model for Html {
     ghost view = { λ page. page.bytes.items };
 }
 
-// Whether a number is zero, with three decimals or without.
+// Whether a number is zero, with or without three decimals.
 pub(crate) fn is_zero(text: &[u8]) -> bool
     ensures { result ≡ is_zero text.now }
 {

@@ -1,4 +1,4 @@
-//! The rows of a report that are of items.
+//! The rows of a report that belong to items.
 
 ghost use Rattle.std.specs.Prelude.{◌≡◌};
 ghost use Rattle.mrp_page.specs.ItemRows.{item_lists};
@@ -8,7 +8,7 @@ use crate::rows::rows_in;
 use mrp_day::Section;
 use std::marker::Model;
 
-// The rows of a report that are of items, section by section.
+// The rows of a report that belong to items, section by section.
 #[derive(Drop)]
 pub(crate) struct ItemRows<'a> {
     promises: &'a [Row],
@@ -27,7 +27,7 @@ impl<'a> Model for ItemRows<'a> {
 }
 
 impl<'a> ItemRows<'a> {
-    // Those of a report.
+    // The rows of a report that belong to items.
     pub(crate) fn of(report: &'a [Row]) -> ItemRows<'a>
         ensures { result ≡ item_lists report.now }
     {

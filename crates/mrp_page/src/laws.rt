@@ -24,43 +24,45 @@ ghost use Rattle.mrp_page.specs.Todo.{by_urgency, message_html, said, said_of_an
 ghost use Rattle.mrp_day.specs.declared.section.Section.{Section};
 ghost use Rattle.mrp_day.specs.declared.section.Section.TheVariants as section;
 
-/// A page begins and ends as a whole one.
+/// A page is never cut short: it begins with the document type and ends with `</html>` and a line
+/// feed.
 pub fn pages_are_whole()
     ensures begins { (title : List ℕ) (notes : Noted) → (rest : List ℕ) × (page_html title notes ≡ codes "<!doctype html>" ++ rest) }
     ensures ends { (title : List ℕ) (notes : Noted) → (front : List ℕ) × (page_html title notes ≡ front ++ (codes "</html>" ++ 10 ∷ [])) }
 {}
 
-/// What a row is drawn as is markup and texts, escaped, and each text is a cell of the row, or empty.
+/// A row is drawn as markup and escaped texts, and each text is a cell of the row, or empty.
 pub fn rows_show_their_cells()
     ensures drawn { (parts : List Drawn) (row : RowView) → row_html parts row ≡ flat_map piece_html (pieces row parts) }
     ensures cells { (parts : List Drawn) (row : RowView) → All (λ text. (text ≡ []) ⊎ Contains row.cells text) (shown (pieces row parts)) }
 {}
 
-/// Each row that is kept of a day, and so may be shown, is a record of the day.
+/// Each row that a page keeps of a day, and so may show, is a record of the day.
 pub fn kept_rows_stand_in_the_day()
     ensures history { (items : Names) (asked : Option ℕ) (records : List Cells) → All (λ r. Contains records r.cells) (notes_of items asked records).history }
     ensures report { (items : Names) (asked : Option ℕ) (records : List Cells) → All (λ r. Contains records r.cells) (notes_of items asked records).report }
 {}
 
-/// The rows that are kept of a section and those that are counted as left out are all of the day's that a page
-/// is to show: those of the history, and of each section of the report that it shows, where items are named
-/// those of these items. They stand together, so the page finds all of them.
+/// No row is lost: of the history, and of each section of the report that a page shows, the rows kept and the
+/// rows counted as left out are together as many as the day has for the page to show. If items are named,
+/// these are the rows of those items. The rows kept of a section stand together, so the page finds all of
+/// them.
 pub fn rows_are_kept_or_counted()
     ensures history { (items : Names) (asked : Option ℕ) (records : List Cells) (notes : Noted) → IsDayOf items asked records notes → length records < 2 ^ 64 → length notes.history + notes.counts.history ≡ length (rows_of section.History 0 records) }
     ensures report { (items : Names) (asked : Option ℕ) (records : List Cells) (notes : Noted) → IsDayOf items asked records notes → length records < 2 ^ 64 → (section : Section) → 2 ≤ place_of section → length (kept_of section notes) + missed_of section notes.counts ≡ length (wanted_rows items section (run_shown asked records) records) }
     ensures together { (items : Names) (asked : Option ℕ) (records : List Cells) → length records < 2 ^ 64 → (section : Section) → rows_in section (notes_of items asked records).report ≡ kept_of section (notes_of items asked records) }
 {}
 
-/// A page is made of its own words, in which no day has a say, and of texts, escaped, that are known:
-/// each is its title, a cell of a record of the day, the number of items or of what is not shown, or a word
-/// of that.
-/// No other words lead anywhere but names of items that are shown, each to its item.
+/// A page consists of fixed markup, which is the same for every day, and of escaped texts that are known:
+/// each is the title, a cell of a record of the day, the number of items or of what is not shown, or the word
+/// for that. Its only links are names of items that are shown, each to its item.
 pub fn pages_show_what_is_known()
     ensures { (title : List ℕ) (items : Names) (asked : Option ℕ) (records : List Cells) → IsMadeOf (IsKnown title records (notes_of items asked records)) (Contains (names_shown (notes_of items asked records))) (page_html title (notes_of items asked records)) }
 {}
 
-/// A record shows an item's rows of the sections `plan` and `promises`, and the numbers beside each label
-/// of it, and of a work centre's table, are those of the column that the day has a name for.
+/// An item's time-phased record shows its rows of the sections `plan` and `promises`. The numbers next to
+/// each label, there and in a work centre's table, are those of the column that the label stands for, found
+/// by the column's name in the day.
 pub fn labels_stand_beside_their_columns()
     ensures record { (report : List RowView) (name : List ℕ) → named_record (item_lists report) name ≡ record_or_none name (rows_named name (rows_in section.Plan report)) (rows_named name (rows_in section.Promises report)) }
     ensures needs { (plan promises : List RowView) → record_rows plan promises ≡ measure_html gross_label (column section.Plan (codes "gross")) plan ++ (supplies_html plan promises ++ (planned_html plan ++ promised_html promises)) }
@@ -70,31 +72,31 @@ pub fn labels_stand_beside_their_columns()
     ensures loads { (rows : List RowView) → loads_html rows ≡ measure_html load_label (column section.Loads (codes "load")) rows ++ (measure_html capacity_label (column section.Loads (codes "capacity")) rows ++ (measure_html over_label (column section.Loads (codes "over")) rows ++ grid_end)) }
 {}
 
-/// A picture of loads is drawn week by week from these columns: up to its load, above the line of its
-/// capacity what is over. That of balances is a line from week to week.
+/// The picture of loads is drawn week by week from these columns: a bar up to the load, with the overload
+/// above the line of the capacity. The picture of balances is a line from week to week.
 pub fn pictures_are_drawn_from_their_columns()
     ensures loads { (rows : List RowView) → bars_html rows ≡ flat_map drawn_load rows ++ bars_end }
     ensures balances { (rows : List RowView) → points_html rows ≡ flat_map drawn_balance rows ++ points_end }
 {}
 
-/// What comes in has one of two labels: of an item with promises, and of one with firm pieces in a week, the
-/// firm master schedule, and of any other its scheduled receipts.
+/// The supplies of an item have one of two labels: *firm master schedule* for an item with promises or with
+/// firm pieces in some week, *scheduled receipts* for any other.
 pub fn supplies_have_one_label()
     ensures promised { (plan : List RowView) (row : RowView) (promises : List RowView) → supplies_html plan (row ∷ promises) ≡ measure_html firm_label (column section.Plan (codes "firm")) plan }
     ensures firm { (plan promises : List RowView) (firm : List ℕ) → AreFirm plan firm → (pieces : ℕ) → Contains firm pieces → 0 < pieces → supplies_html plan promises ≡ measure_html firm_label (column section.Plan (codes "firm")) plan }
     ensures scheduled { (plan : List RowView) (firm : List ℕ) → AreFirm plan firm → All (λ pieces. pieces ≡ 0) firm → supplies_html plan [] ≡ measure_html scheduled_label (column section.Plan (codes "open")) plan }
 {}
 
-/// Each message that is kept stands in *To do* once, and each of an item that is shown once with it, the
-/// most urgent first.
+/// Each message that is kept is shown once in *To do*, and once more with its item if that is shown, the most
+/// urgent first.
 pub fn messages_stand_once()
     ensures once { (messages : List RowView) → IsPermutation messages (by_urgency messages) }
     ensures todo { (title : List ℕ) (notes : Noted) → (front : List ℕ) × (back : List ℕ) × (page_html title notes ≡ front ++ (todo_open ++ (flat_map (message_html (shown_items (item_lists notes.report))) (by_urgency (rows_in section.Messages notes.report)) ++ (todo_end ++ back)))) }
     ensures item { (rows : ItemLists) (leader : RowView) → named_tasks rows leader ≡ item_tasks_open ++ (flat_map (message_html (leader ∷ [])) (by_urgency (rows_named (cell_at leader 0) rows.messages)) ++ item_tasks_end) }
 {}
 
-/// What a message says is that of its own word, of its supply, and of its value where that has a meaning: a
-/// week, or how many weeks it is late.
+/// What the page says of a message comes from the message's word, its supply, and its value if that has a
+/// meaning: a week, or how many weeks the order is past due.
 pub fn messages_stand_under_their_words()
     ensures past_due { (message : RowView) → word_of message ≡ codes "PAST-DUE" → row_html task_words message ≡ said (codes "Past due, start now: ") (codes ", weeks late: ") message }
     ensures release { (message : RowView) → word_of message ≡ codes "RELEASE" → row_html task_words message ≡ said (codes "Release now: ") [] message }
@@ -104,16 +106,16 @@ pub fn messages_stand_under_their_words()
     ensures another { (message : RowView) → row_html other_words message ≡ said_of_another message }
 {}
 
-/// A name that leads to an item leads to where that item's part of the page begins.
+/// A link to an item leads to where that item's part of the page begins.
 pub fn links_lead_to_items()
     ensures link { (name : List ℕ) → link_html name ≡ codes "<a href=\"#i-" ++ (escaped name ++ (codes "\">" ++ (escaped name ++ codes "</a>"))) }
     ensures item { (rows : ItemLists) (missed : ℕ) (leader : RowView) → (rest : List ℕ) × (item_html rows missed leader ≡ codes "<section class=item id=\"i-" ++ (escaped (cell_at leader 0) ++ (codes "\">" ++ rest))) }
 {}
 
-/// Which items a page shows, of a day in which the rows of each item stand together: 200 at most, those
-/// with messages first, in the order of the messages, and then the others in the order of the plan; where
-/// items are named, of these alone. They stand on the page in this order, and behind them how many more
-/// there are of those that it could have shown.
+/// Which items a page shows, if the rows of each item stand together in the day: at most 200, those with
+/// messages first, in the order of the messages, and then the others in the order of the plan. If items are
+/// named, only these. They are on the page in this order, followed by how many more items it could have
+/// shown.
 pub fn first_items_with_messages()
     ensures shown { (items : Names) (asked : Option ℕ) (records : List Cells) (notes : Noted) → IsDayOf items asked records notes → IsByItems records → names_shown notes ≡ items_to_show items (run_shown asked records) records }
     ensures count { (items : Names) (asked : Option ℕ) (records : List Cells) (notes : Noted) → IsDayOf items asked records notes → IsByItems records → notes.counts.items ≡ length (items_of_plan items (run_shown asked records) records) }

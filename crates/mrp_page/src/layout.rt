@@ -1,4 +1,4 @@
-//! The parts of a page: what its rows are drawn as.
+//! The parts of a page: the markup that its rows are drawn with.
 
 ghost use Rattle.std.specs.Prelude.{◌≡◌, map};
 ghost use Rattle.mrp_page.specs.Template.{drawn_of};
@@ -15,7 +15,7 @@ pub(crate) fn style() -> &'static [u8]
     STYLE.as_bytes()
 }
 
-// What stands before the style sheet: the title.
+// What comes before the style sheet: the title.
 #[tactic(auto, unfolding(crate::specs::Layout::page_top))]
 pub(crate) fn page_top() -> &'static [Part]
     ensures { map drawn_of result.now ≡ page_top }
@@ -29,7 +29,8 @@ pub(crate) fn page_top() -> &'static [Part]
     ]
 }
 
-// The head of a page: the title, the entry that the plan stands at, the bookings that stand there, the weeks, the items.
+// The head of a page: the title, the entry that the run plans from, the bookings that stand there, the
+// weeks, the items.
 #[tactic(auto, unfolding(crate::specs::Layout::page_head))]
 pub(crate) fn page_head() -> &'static [Part]
     ensures { map drawn_of result.now ≡ page_head }
@@ -67,7 +68,7 @@ pub(crate) fn task_head() -> &'static [Part]
     ]
 }
 
-// A message in plain words, behind the name of its item.
+// A message in plain words, after the name of its item.
 #[tactic(auto, unfolding(crate::specs::Layout::task_words))]
 pub(crate) fn task_words() -> &'static [Part]
     ensures { map drawn_of result.now ≡ task_words }
@@ -90,7 +91,7 @@ pub(crate) fn task_words() -> &'static [Part]
     ]
 }
 
-// A message whose word stands as it is, behind the name of its item.
+// A message with its own word, after the name of its item.
 #[tactic(auto, unfolding(crate::specs::Layout::other_words))]
 pub(crate) fn other_words() -> &'static [Part]
     ensures { map drawn_of result.now ≡ other_words }
@@ -108,7 +109,7 @@ pub(crate) fn other_words() -> &'static [Part]
     ]
 }
 
-// What a link to an item begins with, before the name that it leads to.
+// What a link to an item begins with, before the name in its address.
 #[tactic(auto, unfolding(crate::specs::Layout::link_open))]
 pub(crate) fn link_open() -> &'static [u8]
     ensures { result.now ≡ link_open }
@@ -116,7 +117,7 @@ pub(crate) fn link_open() -> &'static [u8]
     b"<a href=\"#i-"
 }
 
-// Before the name that is shown.
+// What comes between the address and the name that is shown.
 #[tactic(auto, unfolding(crate::specs::Layout::link_middle))]
 pub(crate) fn link_middle() -> &'static [u8]
     ensures { result.now ≡ link_middle }
@@ -124,7 +125,7 @@ pub(crate) fn link_middle() -> &'static [u8]
     b"\">"
 }
 
-// And what it ends with.
+// What it ends with.
 #[tactic(auto, unfolding(crate::specs::Layout::link_end))]
 pub(crate) fn link_end() -> &'static [u8]
     ensures { result.now ≡ link_end }
@@ -132,7 +133,7 @@ pub(crate) fn link_end() -> &'static [u8]
     b"</a>"
 }
 
-// A week of a heading.
+// A week of a table's heading.
 #[tactic(auto, unfolding(crate::specs::Layout::week))]
 pub(crate) fn week() -> &'static [Part]
     ensures { map drawn_of result.now ≡ week }
@@ -218,7 +219,7 @@ pub(crate) fn peg() -> &'static [Part]
     ]
 }
 
-// The heading of a work centre, of its name.
+// The heading of a work centre, with its name.
 #[tactic(auto, unfolding(crate::specs::Layout::centre_head))]
 pub(crate) fn centre_head() -> &'static [Part]
     ensures { map drawn_of result.now ≡ centre_head }
@@ -234,7 +235,7 @@ pub(crate) fn centre_head() -> &'static [Part]
     ]
 }
 
-// The frame of loads, of the name, the weeks and the greatest number.
+// The frame of the picture of loads, with the name, the weeks and the greatest number.
 #[tactic(auto, unfolding(crate::specs::Layout::load_chart))]
 pub(crate) fn load_chart() -> &'static [Part]
     ensures { map drawn_of result.now ≡ load_chart }
@@ -256,7 +257,7 @@ pub(crate) fn load_chart() -> &'static [Part]
     ]
 }
 
-// The load of a week, with what is over, and its capacity.
+// The load of a week with its overload, and its capacity.
 #[tactic(auto, unfolding(crate::specs::Layout::bar))]
 pub(crate) fn bar() -> &'static [Part]
     ensures { map drawn_of result.now ≡ bar }
@@ -282,7 +283,7 @@ pub(crate) fn bar() -> &'static [Part]
     ]
 }
 
-// The heading of an item, of its name.
+// The heading of an item, with its name.
 #[tactic(auto, unfolding(crate::specs::Layout::item_head))]
 pub(crate) fn item_head() -> &'static [Part]
     ensures { map drawn_of result.now ≡ item_head }
@@ -296,7 +297,7 @@ pub(crate) fn item_head() -> &'static [Part]
     ]
 }
 
-// The heading of an item's time-phased record, of its name.
+// The heading of an item's time-phased record, with its name.
 #[tactic(auto, unfolding(crate::specs::Layout::record_head))]
 pub(crate) fn record_head() -> &'static [Part]
     ensures { map drawn_of result.now ≡ record_head }
@@ -310,7 +311,7 @@ pub(crate) fn record_head() -> &'static [Part]
     ]
 }
 
-// The frame of balances, of the name, the weeks and the greatest number.
+// The frame of the picture of balances, with the name, the weeks and the greatest number.
 #[tactic(auto, unfolding(crate::specs::Layout::balance_chart))]
 pub(crate) fn balance_chart() -> &'static [Part]
     ensures { map drawn_of result.now ≡ balance_chart }
@@ -343,7 +344,7 @@ pub(crate) fn point() -> &'static [Part]
     ]
 }
 
-// What the section of what is to be done begins with.
+// What the section *To do* begins with.
 #[tactic(auto, unfolding(crate::specs::Layout::todo_open))]
 pub(crate) fn todo_open() -> &'static [u8]
     ensures { result.now ≡ todo_open }
@@ -351,7 +352,7 @@ pub(crate) fn todo_open() -> &'static [u8]
     b"<section id=todo>\n<h2>To do</h2>\n<table class=todo aria-label=\"What to do\"><thead><tr><th scope=col>Item</th><th scope=col>What to do</th></tr></thead>\n<tbody>"
 }
 
-// And what it ends with.
+// What it ends with.
 #[tactic(auto, unfolding(crate::specs::Layout::todo_end))]
 pub(crate) fn todo_end() -> &'static [u8]
     ensures { result.now ≡ todo_end }
@@ -367,7 +368,7 @@ pub(crate) fn item_tasks_open() -> &'static [u8]
     b"<table class=todo aria-label=\"What to do for this item\"><thead><tr><th scope=col>Item</th><th scope=col>What to do</th></tr></thead>\n<tbody>"
 }
 
-// And what they end with.
+// What they end with.
 #[tactic(auto, unfolding(crate::specs::Layout::item_tasks_end))]
 pub(crate) fn item_tasks_end() -> &'static [u8]
     ensures { result.now ≡ item_tasks_end }
@@ -527,7 +528,7 @@ pub(crate) fn pegs_open() -> &'static [u8]
     b"<details><summary>Where it goes (pegs)</summary><div class=scroll tabindex=0 role=region aria-label=Pegs><table class=list>\n<caption><span>Which supply serves which requirement</span></caption>\n<thead><tr><th scope=col>Week</th><th class=t scope=col>Requirement</th><th class=t scope=col>Supply</th><th scope=col>Pieces</th></tr></thead>\n<tbody>"
 }
 
-// What these end with.
+// What orders and pegs end with.
 #[tactic(auto, unfolding(crate::specs::Layout::list_end))]
 pub(crate) fn list_end() -> &'static [u8]
     ensures { result.now ≡ list_end }
@@ -535,7 +536,7 @@ pub(crate) fn list_end() -> &'static [u8]
     b"</tbody></table></div></details>\n"
 }
 
-// How much more there is that is not shown, of its number and its words.
+// How many more are not shown, with the number and the words for it.
 #[tactic(auto, unfolding(crate::specs::Layout::more))]
 pub(crate) fn more() -> &'static [Part]
     ensures { map drawn_of result.now ≡ more }
@@ -549,7 +550,7 @@ pub(crate) fn more() -> &'static [Part]
     ]
 }
 
-// What is said of an item whose record is not kept.
+// The note for an item whose record is not kept.
 #[tactic(auto, unfolding(crate::specs::Layout::no_record))]
 pub(crate) fn no_record() -> &'static [u8]
     ensures { result.now ≡ no_record }
@@ -557,7 +558,7 @@ pub(crate) fn no_record() -> &'static [u8]
     b"<p class=more>No record here: this item stands behind the first ones, which a page has room for. The option <code>--items</code> shows it.</p>\n"
 }
 
-// What is said of an item that may have promises, where these are not kept.
+// The note for an item that may have promises that are not kept.
 #[tactic(auto, unfolding(crate::specs::Layout::no_promises))]
 pub(crate) fn no_promises() -> &'static [u8]
     ensures { result.now ≡ no_promises }
@@ -573,7 +574,7 @@ pub(crate) fn history_open() -> &'static [u8]
     b"<section id=history>\n<details><summary>History of the order book</summary><div class=scroll tabindex=0 role=region aria-label=\"History of the order book\"><table class=list>\n<caption><span>The calls of the desks and their replies</span></caption>\n<thead><tr><th class=t scope=col>Entry</th><th scope=col>Desk</th><th class=t scope=col>Call</th><th class=t scope=col>Item</th><th scope=col>Week</th><th scope=col>Quantity</th><th scope=col>Number</th><th class=t scope=col>Reply</th><th scope=col>Value</th></tr></thead>\n<tbody>"
 }
 
-// And what it ends with.
+// What it ends with.
 #[tactic(auto, unfolding(crate::specs::Layout::history_end))]
 pub(crate) fn history_end() -> &'static [u8]
     ensures { result.now ≡ history_end }

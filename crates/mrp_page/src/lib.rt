@@ -1,4 +1,4 @@
-//! The page that a planner opens: a day, drawn as one file of HTML that fetches nothing and runs nothing.
+//! The page that a planner opens: a day as one file of HTML that fetches nothing and runs nothing.
 #![tactic(auto)]
 
 mod cells;

@@ -1,15 +1,15 @@
-//! How much of a day a page has room for: each limit stands in one place.
+//! How much of a day a page has room for. Each limit is defined once.
 
-/// The most items that a page shows, and the items and work centres of which it keeps rows where their
-/// section is full.
+/// The most items that a page shows. A page also keeps the rows of this many items, or work centres, in a
+/// section that is full.
 pub const MOST_ITEMS: u64 = 200;
 
 /// The most entries of the history that a page keeps.
 pub const MOST_ENTRIES: u64 = 1_000;
 
-/// The most rows of a section that a page keeps, but for the history, the run and the pegs: a row for
-/// each of the items in each of 104 weeks.
+/// The most rows of a section that a page keeps, except for the history, the run and the pegs: a row for each
+/// of [`MOST_ITEMS`] items in each of 104 weeks.
 pub const MOST_ROWS: u64 = MOST_ITEMS * 104;
 
-/// The most pegs that a page keeps: 300 of each of the items.
+/// The most pegs that a page keeps: 300 for each of [`MOST_ITEMS`] items.
 pub const MOST_PEGS: u64 = MOST_ITEMS * 300;

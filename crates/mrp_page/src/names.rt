@@ -1,4 +1,4 @@
-//! Names of items that a page is asked for.
+//! The names of the items that a page is asked to show.
 
 ghost use Rattle.std.specs.Prelude.{◌≡◌, [], IfOk, map};
 ghost use Rattle.csv.specs.Records.{fields_of};
@@ -11,7 +11,7 @@ use mrp_qty::NoMemory;
 use std::alloc::Global;
 use std::marker::Model;
 
-/// Names of items, seen as their list.
+/// Names of items; contracts see them as their list.
 #[derive(Drop)]
 pub struct ItemNames {
     cells: ByteRecord,
@@ -36,7 +36,7 @@ impl ItemNames {
         }
     }
 
-    // The names of a record, where one was found.
+    // The names of a record, if one was found.
     fn of(alloc: Global, found: bool, cells: ByteRecord) -> ItemNames
         ensures { result ≡ record_names found (fields_of cells) }
     {
@@ -47,9 +47,9 @@ impl ItemNames {
         }
     }
 
-    /// The names of a line, which is a record of csv: `A,B`, or `"A,B",C` where a name has a comma.
+    /// The names in a line, which is a csv record: `A,B`, or `"A,B",C` if a name has a comma.
     ///
-    /// Errors: where a growth of memory was refused.
+    /// Errors: `NoMemory` if an allocation fails.
     pub fn read(alloc: Global, line: &[u8]) -> Result<ItemNames, NoMemory>
         ensures { IfOk result (λ names. names ≡ names_of line.now) }
     {
@@ -64,9 +64,9 @@ impl ItemNames {
         }
     }
 
-    /// The names, one by one.
+    /// The names as a list of slices.
     ///
-    /// Errors: where a growth of memory was refused.
+    /// Errors: `NoMemory` if an allocation fails.
     pub fn slices(&self, alloc: Global) -> Result<Vec<&[u8]>, NoMemory>
         ensures { IfOk result (λ slices. map (λ s. s.now) slices.items ≡ self.now) }
     {

@@ -15,8 +15,8 @@ use std::alloc::Global;
 use std::marker::Model;
 use std::mem;
 
-// The record that was read last and where it stands, the rows of the history, those of the report of
-// the run that is shown, and how many of either are not kept.
+// The last record read and where it stands, the rows of the history, those of the report of the run
+// that is shown, and how many of both are not kept.
 #[derive(Drop)]
 pub(crate) struct Notes {
     spot: Spot,
@@ -45,7 +45,7 @@ fn add_row(rows: &mut Vec<Row>, section: Section, cells: &ByteRecord) -> Result<
     Ok(())
 }
 
-// Whether a run is the one that is asked for: by its number, or the last so far.
+// Whether a run is the one asked for: by its number, or as the last so far.
 fn is_shown(asked: Option<u64>, run: u64) -> bool
     ensures { result ≡ is_shown asked run }
 {
@@ -85,7 +85,7 @@ fn note_report(
     }
 }
 
-// Counts the rows of a section that are not kept, where it is the history or of the run that is shown.
+// Counts the rows of a section that are not kept, if it is the history or a section of the run that is shown.
 fn note_counts(counts: &mut Counts, asked: Option<u64>, spot: Spot)
     ensures { counts.new ≡ counts_at asked spot spot.place counts.old }
 {
@@ -99,7 +99,7 @@ fn note_counts(counts: &mut Counts, asked: Option<u64>, spot: Spot)
 }
 
 impl Notes {
-    // Before the first record.
+    // The notes before the first record.
     pub(crate) fn new(alloc: Global) -> Notes
         ensures { result ≡ none_noted }
     {
@@ -136,9 +136,9 @@ impl Notes {
         self.counts
     }
 
-    // Takes the next record: its row, where the page has room for it. Where the last run is asked
-    // for, the rows of a run are let go of when the next one begins. A record is given back to be
-    // read into.
+    // Takes the next record, and keeps its row if the page has room for it. If the last run is
+    // asked for, the rows of a run are dropped when the next run begins. Returns a record to read
+    // the next one into.
     pub(crate) fn note(
         &mut self,
         items: &[&[u8]],

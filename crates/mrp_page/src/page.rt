@@ -1,4 +1,4 @@
-//! A page, drawn of what was kept of a day.
+//! A page, drawn from what was kept of a day.
 
 ghost use Rattle.std.specs.Prelude.{◌≡◌, ◌++◌, IfOk, OnOk, flat_map, map, take};
 ghost use Rattle.mrp_page.specs.Page.{head_html, is_told, items_of, load_section, page_html, page_of, rest_html, told_first, top_html, untold_rows};
@@ -29,14 +29,14 @@ fn put_head(page: &mut Html, heading: &Row) -> Result<(), NoMemory>
     put_row(page, page_head(), heading)
 }
 
-// Whether there are messages of the item of a row.
+// Whether the item of a row has messages.
 fn is_told(messages: &[Row], row: &Row) -> bool
     ensures { result ≡ is_told messages.now row.now }
 {
     !rows_named(messages, row.name()).is_empty()
 }
 
-// Adds a row where its item has no messages.
+// Adds a row if its item has no messages.
 fn add_if_untold<'a>(
     rows: &mut Vec<&'a Row>,
     row: &'a Row,
@@ -64,7 +64,7 @@ fn add_untold<'a>(
     Ok(())
 }
 
-// The first rows of the items with messages, and then those of the others in the plan.
+// The first row of each item with messages, and then those of the other items in the plan.
 #[tactic(auto, unfolding(crate::specs::Page::told_first))]
 fn told_first<'a>(
     alloc: Global,
@@ -117,7 +117,7 @@ fn put_items_of(
     put_more_items(alloc, page, unshown(rows, shown, counts), shown)
 }
 
-// Adds what is said of the items, and the history.
+// Adds the items and the history.
 #[tactic(auto, unfolding(crate::specs::Page::rest_html))]
 fn put_rest(
     alloc: Global,
@@ -134,7 +134,7 @@ fn put_rest(
     page.markup(page_end())
 }
 
-// Adds the head of a page: its title, and what its plan stands at.
+// Adds the head of a page: its title, and the entry that its run plans from.
 #[tactic(auto, unfolding(crate::specs::Page::top_html))]
 fn put_top(
     alloc: Global,
@@ -171,7 +171,7 @@ fn put_page_of(
 
 // Adds a page.
 //
-// Errors: where a growth of memory was refused.
+// Errors: `NoMemory` if an allocation fails.
 #[tactic(auto, unfolding(crate::specs::Page::page_html, crate::specs::Page::shown_items))]
 pub(crate) fn put_page(
     alloc: Global,

@@ -1,4 +1,4 @@
-//! A day, read record by record.
+//! Reading a day record by record.
 
 ghost use Rattle.std.specs.Prelude.{◌≡◌, ◌||◌, ℕ, List, Err, IfErr, IfOk, OnOk, Some, false, true};
 ghost use Rattle.csv.specs.Reading.{ReadRecord};
@@ -16,7 +16,7 @@ use mrp_rows::{READ_CALLS, Told};
 use std::alloc::Global;
 use std::io::Read;
 
-// Reads the next record over the one before it; false at the end.
+// Reads the next record into the memory of the one before it; false at the end.
 pub(crate) fn read_cells<R: Read>(
     reader: &mut Reader<R>,
     cells: &mut ByteRecord,
@@ -31,14 +31,14 @@ pub(crate) fn read_cells<R: Read>(
     }
 }
 
-// Why nothing is kept of a text. Only `csv` makes an error of its own, so nothing else is told as one.
+// Why nothing is kept of a text. A `csv::Error` is only ever made by `csv`.
 #[derive(Drop)]
 enum Unread {
-    // A front of the text begins no day.
+    // No day begins with what was read.
     Shape,
-    // A growth of memory was refused.
+    // Out of memory.
     NoMemory,
-    // The reader of records says this.
+    // The reader of records failed.
     Records(csv::Error),
 }
 
@@ -89,27 +89,28 @@ fn read_records<R: Read + Drop>(
             return Err(Unread::Shape);
         }
     }
-    // (no memory has room for so many records)
+    // Not reached: no memory has room for so many records.
     Err(Unread::NoMemory)
 }
 
-// Whether a count has risen by so many.
+// Whether a count has risen by this number.
 fn has_risen_by(count: u32, before: u64, after: u64) -> bool
     ensures { result ≡ has_risen_by count before after }
 {
     before.saturating_add(u64::from(count)) <= after
 }
 
-// Whether an input failed, or took all calls that a day may take, since so many of either.
+// Whether an input has failed, or has taken all the calls that a day may take, since its counts
+// were these.
 fn has_stopped<R: Read>(input: &Told<R>, calls: u64, failures: u64) -> bool
     ensures { result ≡ (has_risen_by 1 failures (failures_of input.now) || has_risen_by READ_CALLS calls (calls_of input.now)) }
 {
     has_risen_by(1, failures, input.failures()) || has_risen_by(READ_CALLS, calls, input.calls())
 }
 
-// What is kept of the records that an input has left.
+// What is kept of the remaining records of an input.
 //
-// Errors: `Shape` where a front of these begins no day, `Read` where the input failed or needed more
+// Errors: `Shape` if no day begins with what was read, `Read` if the input failed or needed more
 // calls, `NoMemory`.
 fn read_notes<R: Read>(
     alloc: Global,
@@ -138,7 +139,7 @@ fn read_notes<R: Read>(
     }
 }
 
-// Whether the run that is asked for has begun. Each day has a last one.
+// Whether the run asked for has begun. Each day has a last run.
 fn has_run(asked: Option<u64>, runs: u64) -> bool
     ensures { result ≡ has_run asked runs }
 {
@@ -150,8 +151,8 @@ fn has_run(asked: Option<u64>, runs: u64) -> bool
 
 // What is kept of a day.
 //
-// Errors: `Shape` where the text is no day, `NoRun` where it has fewer runs than that which is asked
-// for, `Read` and `NoMemory`.
+// Errors: `Shape` if the text is no day, `NoRun` if it has fewer runs than the number asked for,
+// `Read` and `NoMemory`.
 pub(crate) fn read_day<R: Read>(
     alloc: Global,
     input: &mut Told<R>,

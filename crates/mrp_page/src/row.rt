@@ -10,7 +10,7 @@ use csv::ByteRecord;
 use mrp_day::Section;
 use std::marker::Model;
 
-/// A row of a day, with the section that it stands in, seen as that section and its cells.
+/// A row of a day and its section; contracts see it as the section and the cells.
 #[derive(Drop)]
 pub(crate) struct Row {
     section: Section,
@@ -33,7 +33,7 @@ impl Row {
         Row { section, cells }
     }
 
-    /// The bytes of a cell, counted from 0: none where the row has no such cell.
+    /// The bytes of a cell, counted from 0; empty if the row has no such cell.
     pub(crate) fn cell(&self, column: usize) -> &[u8]
         ensures { result.now ≡ cell_at self.now column }
     {
@@ -47,7 +47,7 @@ impl Row {
         same_section(self.section, section)
     }
 
-    /// What the row is of: its first cell.
+    /// The name of the row's item or work centre: its first cell.
     pub(crate) fn name(&self) -> &[u8]
         ensures { result.now ≡ cell_at self.now 0 }
     {

@@ -10,35 +10,35 @@ use mrp_day::Section;
 use mrp_qty::NoMemory;
 use std::alloc::Global;
 
-// The place of the first row that stands in a section.
+// The place of the first row in a section.
 fn first_in(rows: &[Row], section: Section) -> Option<usize>
     ensures { result ≡ position (is_in section) rows.now }
 {
     rows.iter().position(|row| row.is_in(section))
 }
 
-// The place of the first row that does not stand in a section.
+// The place of the first row that is not in a section.
 fn first_out(rows: &[Row], section: Section) -> Option<usize>
     ensures { result ≡ position (λ r. not (is_in section r)) rows.now }
 {
     rows.iter().position(|row| !row.is_in(section))
 }
 
-// The place of the first row that is of an item or a work centre.
+// The place of the first row of an item or a work centre.
 fn first_of(rows: &[Row], name: &[u8]) -> Option<usize>
     ensures { result ≡ position (is_of name.now) rows.now }
 {
     rows.iter().position(|row| row.is_of(name))
 }
 
-// The place of the first row that is not of an item or a work centre.
+// The place of the first row that is not of this item or work centre.
 fn first_other(rows: &[Row], name: &[u8]) -> Option<usize>
     ensures { result ≡ position (λ r. not (is_of name.now r)) rows.now }
 {
     rows.iter().position(|row| !row.is_of(name))
 }
 
-// The rows from a place on; none where there is no place.
+// The rows from a place on; none if there is no place.
 fn rows_from(rows: &[Row], place: Option<usize>) -> &[Row]
     requires { IfSome place (λ i. i ≤ length rows.now) }
     ensures { result.now ≡ drop (unwrap_or place (length rows.now)) rows.now }
@@ -47,7 +47,7 @@ fn rows_from(rows: &[Row], place: Option<usize>) -> &[Row]
     rest
 }
 
-// The rows before a place; all where there is no place.
+// The rows before a place; all if there is no place.
 fn rows_before(rows: &[Row], place: Option<usize>) -> &[Row]
     requires { IfSome place (λ i. i ≤ length rows.now) }
     ensures { result.now ≡ take (unwrap_or place (length rows.now)) rows.now }
@@ -96,7 +96,7 @@ pub(crate) fn leaders<'a>(alloc: Global, rows: &'a [Row]) -> Result<Vec<&'a Row>
     Ok(found)
 }
 
-// What a digit more makes of a number; it stays at the greatest number.
+// A number with one more digit; it saturates at the greatest number.
 fn ranked(rank: u64, byte: u8) -> u64
     ensures { result ≡ ranked rank byte }
 {

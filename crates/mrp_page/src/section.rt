@@ -6,7 +6,7 @@ ghost use Rattle.mrp_page.specs.Section.{is_by_weeks, is_history, is_of_items, i
 use crate::limits::{MOST_ENTRIES, MOST_ITEMS, MOST_PEGS, MOST_ROWS};
 use mrp_day::Section;
 
-// The section behind another. The report of another run may stand behind the last.
+// The section that follows another. After the last one the report of another run may follow.
 pub(crate) fn next_of(section: Section) -> Section
     ensures { result ≡ next_of section }
 {
@@ -34,7 +34,7 @@ pub(crate) fn room_of(section: Section) -> u64
     }
 }
 
-// Of how many items, or work centres, rows are kept even where a section's room is full.
+// For how many items, or work centres, rows are kept even if the section is full.
 pub(crate) fn items_of(section: Section) -> u64
     ensures { result ≡ items_of section }
 {
@@ -65,7 +65,7 @@ pub(crate) fn is_history(section: Section) -> bool
     matches!(section, Section::History)
 }
 
-// Whether a section's rows are of items.
+// Whether a section's rows belong to items.
 pub(crate) fn is_of_items(section: Section) -> bool
     ensures { result ≡ is_of_items section }
 {

@@ -10,7 +10,7 @@ use crate::section::{is_by_weeks, is_of_items, is_plan, items_of, next_of, room_
 use csv::ByteRecord;
 use mrp_day::Section;
 
-// What a record is in a day.
+// What a record is within a day.
 #[derive(Clone, Copy, Debug, PartialEq, Eq)]
 pub(crate) enum Place {
     // No record yet.
@@ -21,7 +21,7 @@ pub(crate) enum Place {
     Header(Section),
     // A row of a section.
     Row(Section),
-    // No record of a day, or one behind such a record.
+    // Not a record of a day, or after such a record.
     Wrong,
 }
 
@@ -33,17 +33,17 @@ pub(crate) struct Spot {
     pub(crate) run: u64,
     // How many rows of the section were taken.
     pub(crate) taken: u64,
-    // How many of its rows that a page is to show were not.
+    // How many rows of the section that the page should show were not taken.
     pub(crate) missed: u64,
-    // How many items, or work centres, have begun in it.
+    // How many items, or work centres, have begun in the section.
     pub(crate) items: u64,
-    // How many of these have an order that starts in their first week.
+    // How many of these have an order that starts in the first week.
     pub(crate) urgent: u64,
-    // The section as whose row the record is taken.
+    // The section of the record, if it is taken as a row.
     pub(crate) takes: Option<Section>,
 }
 
-// What the first record is where a section has to begin.
+// What a record is where a section has to begin.
 fn begun(section: Section, cells: &ByteRecord) -> Place
     ensures { result ≡ begun section (fields_of cells.now) }
 {
@@ -54,7 +54,7 @@ fn begun(section: Section, cells: &ByteRecord) -> Place
     }
 }
 
-// What a record is behind a section's header.
+// What a record is after a section's header: a row, or the line of the next section.
 fn inside(section: Section, cells: &ByteRecord) -> Place
     ensures { result ≡ inside section (fields_of cells.now) }
 {
@@ -72,7 +72,7 @@ fn is_among(items: &[&[u8]], name: &[u8]) -> bool
     items.iter().any(|item| *item == name)
 }
 
-// Whether a page is to show a row of a section: where items are named, those of these items alone.
+// Whether a page should show a row of a section: if items are named, only rows of these items.
 fn wants(items: &[&[u8]], section: Section, cells: &ByteRecord) -> bool
     ensures { result ≡ wants items.now section (fields_of cells.now) }
 {
@@ -83,14 +83,14 @@ fn wants(items: &[&[u8]], section: Section, cells: &ByteRecord) -> bool
 }
 
 impl Place {
-    // Whether it is that of a row.
+    // Whether it is the place of a row.
     fn is_row(self) -> bool
         ensures { result ≡ is_row self }
     {
         matches!(self, Place::Row(_))
     }
 
-    // What the record behind it is.
+    // What the next record is.
     fn after(self, cells: &ByteRecord) -> Place
         ensures { result ≡ place_after self (fields_of cells.now) }
     {
@@ -110,7 +110,7 @@ impl Place {
     }
 }
 
-// Whether a record is a row that a page is to show.
+// Whether a record is a row that a page should show.
 fn is_wanted(items: &[&[u8]], place: Place, cells: &ByteRecord) -> bool
     ensures { result ≡ is_wanted items.now place (fields_of cells.now) }
 {
@@ -140,7 +140,7 @@ fn section_if(takes: bool, place: Place) -> Option<Section>
     }
 }
 
-// A count of rows, with one more where this holds. It begins anew where no row stands.
+// A count of rows, plus one if `more`. It starts again from 0 at a record that is no row.
 fn counted(row: bool, count: u64, more: bool) -> u64
     ensures { result ≡ counted row count more }
 {
@@ -152,7 +152,7 @@ fn counted(row: bool, count: u64, more: bool) -> u64
 }
 
 impl Spot {
-    // Before the first record.
+    // The spot before the first record.
     pub(crate) fn start() -> Spot
         ensures { result ≡ start }
     {
@@ -174,7 +174,7 @@ impl Spot {
         matches!(self.place, Place::Line(Section::Run))
     }
 
-    // Whether no day has such a record here, or before it.
+    // Whether no day has this record here, or had one before it.
     pub(crate) fn is_wrong(self) -> bool
         ensures { result ≡ is_wrong self.place }
     {
@@ -191,16 +191,16 @@ impl Spot {
         )
     }
 
-    // Whether a record is not of the item, or the work centre, of a row before it.
+    // Whether a record is not of the same item, or work centre, as the row before it.
     fn leads(self, last: &ByteRecord, cells: &ByteRecord) -> bool
         ensures { result ≡ leads self (fields_of last.now) (fields_of cells.now) }
     {
         !(self.place.is_row() && cell_of(last, 0) == cell_of(cells, 0))
     }
 
-    // Whether a page has room for a row of a section: while the section has room, of the first
-    // items, of the first items with an order that starts in their first week, and for the other
-    // weeks of an item that it has begun with.
+    // Whether a page has room for a row of a section: while the section is not full; for the first
+    // items; for the first items with an order that starts in the first week; and for the other
+    // weeks of an item that it has begun.
     fn has_room(self, section: Section, leads: bool, urgent: bool) -> bool
         ensures { result ≡ has_room section self leads urgent }
     {
@@ -214,7 +214,7 @@ impl Spot {
         }
     }
 
-    // The same, of a record.
+    // The same for a record.
     fn room_at(self, place: Place, leads: bool, urgent: bool) -> bool
         ensures { result ≡ room_at place self leads urgent }
     {
@@ -234,7 +234,7 @@ impl Spot {
         }
     }
 
-    // Where the next record stands, behind the last one.
+    // Where the next record stands, given the last one.
     pub(crate) fn after(self, items: &[&[u8]], last: &ByteRecord, cells: &ByteRecord) -> Spot
         ensures { result ≡ after items.now self (fields_of last.now) (fields_of cells.now) }
     {

@@ -1,10 +1,10 @@
-//! A reader that goes on where a read is interrupted.
+//! A reader that tries interrupted reads again.
 
 use mrp_rows::Told;
 use std::io;
 use std::io::{ErrorKind, Read};
 
-// A told reader whose interrupted reads are tried again, within so many calls.
+// A `Told` reader whose interrupted reads are tried again, within a limit of calls.
 #[derive(Drop)]
 pub(crate) struct Steady<'a, R> {
     pub(crate) reader: &'a mut Told<R>,

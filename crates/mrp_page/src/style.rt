@@ -1,6 +1,6 @@
 //! The style sheet of a page. Nothing is fetched, and nothing runs.
 
-// Definitions cite it, so it stands here alone.
+// A constant of its own, since definitions cite it.
 pub(crate) const STYLE: &str = "*{box-sizing:border-box}
 body{font:15px/1.45 system-ui,sans-serif;max-width:72rem;margin:0 auto;padding:1rem 1.2rem 3rem;color:#1d2733;background:#fff}
 h1{font-size:1.5rem;margin:.4rem 0 0}

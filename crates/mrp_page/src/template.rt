@@ -1,4 +1,4 @@
-//! What rows are drawn as.
+//! The markup that rows are drawn with.
 
 ghost use Rattle.std.specs.Prelude.{◌≡◌, ◌++◌, OnOk, map};
 ghost use Rattle.mrp_page.specs.Template.{drawn_of, has_word, markup_if, numbers_html, part_html, row_html, rows_html};
@@ -7,7 +7,7 @@ use crate::html::Html;
 use crate::row::Row;
 use mrp_qty::NoMemory;
 
-// A part of what a row is drawn as.
+// A part of the markup that a row is drawn with.
 #[derive(Clone, Copy)]
 pub(crate) enum Part {
     // Markup, as it is.
@@ -16,7 +16,7 @@ pub(crate) enum Part {
     If(usize, &'static [u8], &'static [u8]),
     // The text of a cell.
     Cell(usize),
-    // The text of a cell as a number of a table.
+    // The text of a cell, as a number in a table.
     Number(usize),
 }
 
@@ -27,7 +27,7 @@ pub(crate) fn has_word(column: usize, word: &[u8], row: &Row) -> bool
     row.cell(column) == word
 }
 
-// Adds markup where this holds.
+// Adds markup if this holds.
 fn put_if(page: &mut Html, holds: bool, markup: &[u8]) -> Result<(), NoMemory>
     ensures { OnOk result (page.new ≡ page.old ++ markup_if holds markup.now) }
 {
@@ -56,7 +56,7 @@ pub(crate) fn put_row(page: &mut Html, parts: &[Part], row: &Row) -> Result<(), 
     Ok(())
 }
 
-// Adds rows, one behind the other.
+// Adds rows, one after another.
 #[tactic(auto, unfolding(crate::specs::Template::rows_html))]
 pub(crate) fn put_rows(page: &mut Html, parts: &[Part], rows: &[Row]) -> Result<(), NoMemory>
     ensures { OnOk result (page.new ≡ page.old ++ rows_html (map drawn_of parts.now) rows.now) }

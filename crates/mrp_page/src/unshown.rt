@@ -10,7 +10,8 @@ use crate::item_rows::ItemRows;
 use crate::row::Row;
 use crate::rows::rows_named;
 
-// How many of these rows are of other items than those that are shown, each told by a row of it.
+// How many of these rows belong to other items than those that are shown, each given by one of its
+// rows.
 fn count_others(rows: &[Row], shown: &[&Row]) -> usize
     ensures { result ≡ length rows.now - sum_by (λ leader. length (rows_named (cell_at leader 0) rows.now)) (map (λ r. r.now) shown.now) }
 {
@@ -21,14 +22,14 @@ fn count_others(rows: &[Row], shown: &[&Row]) -> usize
     others
 }
 
-// How many rows of a section are not on a page, of which so many are not kept.
+// How many rows of a section are not on a page, including those that are not kept.
 fn left_out(rows: &[Row], shown: &[&Row], missed: u64) -> u64
     ensures { result ≡ left_out rows.now (map (λ r. r.now) shown.now) missed }
 {
     missed.saturating_add(count_others(rows, shown) as u64)
 }
 
-// How many rows of items are not on a page that shows these.
+// How many rows of items are not on a page that shows these items.
 pub(crate) fn unshown(rows: &ItemRows<'_>, shown: &[&Row], counts: Counts) -> Counts
     ensures { result ≡ unshown rows.now (map (λ r. r.now) shown.now) counts }
 {

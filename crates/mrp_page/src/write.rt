@@ -15,14 +15,15 @@ use mrp_rows::{Told, Tries, WRITE_TRIES, write_text};
 use std::alloc::Global;
 use std::io::{Read, Write};
 
-/// What a page shows.
+/// What a page should show.
 #[derive(Clone, Copy)]
 pub struct PageOptions<'a> {
     /// Its title.
     pub title: &'a [u8],
-    /// The run whose report is shown, counted from 1; the last where none is named.
+    /// The run whose report is shown, counted from 1; the last if none is named.
     pub run: Option<u64>,
-    /// The names of the items that are shown, all where none is named: the first 200 of them, those with messages first.
+    /// The names of the items to show; all items if none is named. The page shows at most 200, those with
+    /// messages first.
     pub items: &'a [&'a [u8]],
 }
 
@@ -46,14 +47,13 @@ fn page_of<R: Read>(
 
 /// Writes the page of a day: one file of HTML, which fetches nothing and runs nothing.
 ///
-/// The day is read once, record by record, within 100,000,000 calls of `read`; an interrupted read is
-/// tried again and counts as a call. Nothing is written before all of it was read.
+/// The day is read once, record by record, in at most 100,000,000 calls of `read`; an interrupted read is
+/// tried again and counts as a call. Nothing is written before the whole day has been read.
 ///
-/// Errors, with nothing written: `Shape` where the text is no day, `NoRun` where it has fewer runs
-/// than the one that is asked for, `Read` where the reader failed in this call or needed more calls,
-/// `NoMemory`.
-/// `Write` where a write failed, or was interrupted more than 1,000,000 times: a front of the page was
-/// written then.
+/// Errors, with nothing written: `Shape` if the text is no day; `NoRun` if it has fewer runs than the number
+/// asked for; `Read` if the reader failed in this call or needed more calls; `NoMemory` if an allocation
+/// fails. `Write` if a write failed in this call, or was interrupted more than 1,000,000 times; a prefix of
+/// the page has been written then.
 pub fn write_page<R: Read, W: Write>(
     alloc: Global,
     input: &mut Told<R>,

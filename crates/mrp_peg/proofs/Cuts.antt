@@ -1,4 +1,4 @@
--- What is left to match behind a match: the matches of rows that are cut.
+-- What is left to match after a match: the matches of rows that are cut.
 use Rattle.std.proofs.Common.{◌≡◌, ◌∙◌, ℕ, suc, ◌+◌, ◌-◌, ◌<◌, ◌≤◌, min, max, inl, inr, Bool, true, false, cond, List, [], ◌∷◌, ◌++◌, refl, sym, ap, arith, length, drop, map, Option, Some, None, length-append}
 use Rattle.std.specs.Prelude.{filter, nat_lt, slice_get}
 use Rattle.std.proofs.lemmas.Bool.{cases_lt, le-ltb, ltb-false}
@@ -64,7 +64,7 @@ all_surplus {A} n m (s ∷ row) =
     let rest = all_surplus {A = A} (n + s.quantity) (m + s.quantity) row in
     λ j. record { need = None; supply = s.of; quantity = units j } ∷ rest j
 
--- requirements of which so many units more were passed, with a supply of which so many were taken
+-- requirements after so many units more were passed, with a supply after so many were taken
 cut_supply : {A B : Type 0} (k a : ℕ) (needs : List (Amount A)) (s : Amount B) (r : ℕ) (supplies : List (Amount B)) → a ≡ 0 + k → s.quantity ≡ r + k
     → rest_of a needs 0 (s ∷ supplies) (total needs + k) ≡ rest_of 0 needs 0 (record { of = s.of; quantity = r } ∷ supplies) (total needs)
 unfolding rest_of walked spans_from
@@ -74,7 +74,7 @@ cut_supply {A} k a needs s r supplies e f =
     let over = moved_surplus {A = A} k (total needs) (0 + r) (0 + s.quantity) (omega (arith, f)) supplies in
     λ j. filter is_positive (matched j) ++ filter is_positive (record { need = None; supply = s.of; quantity = units j } ∷ over j)
 
--- and supplies of which so many units more were passed, with a requirement of which so many were served
+-- and supplies after so many units more were passed, with a requirement after so many were served
 cut_need : {A B : Type 0} (k b : ℕ) (n : Amount A) (r : ℕ) (needs : List (Amount A)) (supplies : List (Amount B)) → b ≡ 0 + k → n.quantity ≡ r + k
     → rest_of 0 (n ∷ needs) b supplies (r + total needs + k) ≡ rest_of 0 (record { of = n.of; quantity = r } ∷ needs) 0 supplies (r + total needs)
 unfolding rest_of walked spans_from pairs
@@ -163,7 +163,7 @@ no_supply (n ∷ needs) of supplies =
     matches_supply n needs (record { of = of; quantity = 0 }) supplies (omega arith)
     ∙ ap (λ (q : ℕ). matches (record { of = n.of; quantity = q } ∷ needs) supplies) whole
 
--- what is left of a row of which some units of the first were taken
+-- what is left of a row after some units of its first element were taken
 left_need : {A B : Type 0} (taken : ℕ) (n : Amount A) (needs : List (Amount A)) (supplies : List (Amount B)) → matches (record { of = n.of; quantity = n.quantity - taken } ∷ needs) supplies ≡ matches (served taken (n ∷ needs)) supplies
 left_need {A} taken n needs supplies = by (nat_lt taken n.quantity) refl
   where
@@ -210,7 +210,7 @@ matches_both {A} {B} n needs s supplies = elim (cases_lt n.quantity s.quantity) 
       ∙ ap (λ (q : ℕ). one (Some n.of) s.of q ++ matches (served q (n ∷ needs)) (served q (s ∷ supplies))) least
 ]
 
--- more behind a row of which units of the first are taken
+-- more after a row of whose first element units are taken
 served_more : {A : Type 0} (taken : ℕ) (n : Amount A) (row later : List (Amount A)) → served taken (n ∷ (row ++ later)) ≡ served taken (n ∷ row) ++ later
 served_more {A} taken n row later = by (nat_lt taken n.quantity)
   where
@@ -251,7 +251,7 @@ supply_left item needs offers s none offer =
 length-first : {X : Type 0} (xs : List X) (x : X) → Some x ≡ slice_get xs 0 → length xs ≡ suc (length (drop 1 xs))
 length-first xs x e = ap length (first_is xs x e)
 
--- a row gets no longer, and shorter where all units of the first are taken
+-- a row gets no longer, and shorter if all units of the first are taken
 length-served : {A : Type 0} (taken : ℕ) (a : Amount A) (row : List (Amount A)) → length (served taken (a ∷ row)) ≡ length row + cond (nat_lt taken a.quantity) 1 0
 length-served {A} taken a row = by (nat_lt taken a.quantity)
   where

@@ -28,7 +28,7 @@ first_of f [] i more h = absurd (omega (arith, h))
 first_of f (x ∷ xs) zero more h = refl
 first_of f (x ∷ xs) (suc i) more h = first_of f xs i more (omega (arith, h))
 
--- units are taken of the first that is left, and it is passed where none are left of it
+-- units are taken of the first that is left, and it is passed once none are left of it
 pub served_at : {X A : Type 0} (f : X → Amount A) (xs : List X) (i : ℕ) (d y : X) (taken passed : ℕ) → i < length xs
     → f y ≡ record { of = (f (get_or xs i d)).of; quantity = (f (get_or xs i d)).quantity - taken } → passed ≡ cond ((f (get_or xs i d)).quantity - taken == 0) 1 0
     → map f (drop (i + passed) (set xs i y)) ≡ served taken (map f (drop i xs))

@@ -77,7 +77,7 @@ module _ (s : Inputs) (n : Need) (order : List ℕ) (is : IsOrder s.tables.bills
       (subst (λ (x : List Cause). IsWalked s n (place_in order) (left - 1) (fold (with_order s.tables.bills) orders (followed s orders (slice_index order (left - 1)))) x) (sym are_causes)
       (stepped parents left orders causes some high so))
 
-  -- each cause is told by pegs of an item that was visited
+  -- each cause is the end of pegs of an item that was visited
   pub visited : (orders : List (ℕ × ℕ)) (causes : List Cause) (items : List ℕ) → IsWalked s n (place_in order) 0 orders causes → AreMarked orders items → AreAmong causes items
   visited orders causes items so marks c inside =
       let (steps, m, g, leads, sourced, told) = so.ended c inside in

@@ -17,7 +17,7 @@ use Rattle.mrp_peg.specs.Pegging.{booking_needs, forecast_needs, line_needs, nee
 use Rattle.mrp_peg.specs.Units.{Amount}
 use Rattle.mrp_peg.proofs.Pairs.{append-pairs, flat-pairs, map-pairs, none-pairs, number-pairs, range-pairs}
 
--- two requirements are of different needs
+-- two requirements have different needs
 abbrev Differ : Amount Need → Amount Need → Type 0
 Differ a b = a.of ≢ b.of
 
@@ -58,7 +58,7 @@ master-pairs s i w rising = by (nat_lt (booked s i w) (forecast s i w))
         All-cons (Differ x) left [] (kinds-differ x left (λ e. cc)) (All-nil (Differ x))))
     by false = append-pairs Differ (booking_needs s i w) [] (booking-pairs s i w rising) (none-pairs Differ) (λ k d h. All-nil (Differ (get_or (booking_needs s i w) k d)))
 
--- what the orders of a parent ask by a line
+-- the needs that the orders of a parent make by a line
 line-pairs : (s : Inputs) (i w place : ℕ) → AllPairs Differ (line_needs s i w place)
 line-pairs s i w place =
     let line = line_at s.tables.bills place in
@@ -67,7 +67,7 @@ line-pairs s i w place =
     (filter (λ n. n.1.release == w) (orders_in s line.parent))
     (AllPairs-filter (λ (x y : ℕ × Order). x.0 < y.0) (λ n. n.1.release == w) (orders_in s line.parent) (number-pairs 1 _))
 
--- what two lines ask
+-- the needs that two lines make
 lines-apart : (s : Inputs) (i w k l : ℕ) → k < l → All (λ x. All (Differ x) (line_needs s i w l)) (line_needs s i w k)
 lines-apart s i w k l low =
     let one = line_at s.tables.bills k in

@@ -1,4 +1,4 @@
--- Lists of which each two elements are related.
+-- Lists in which any two elements are related.
 use Rattle.std.proofs.Common.{◌≡◌, ◌≢◌, ℕ, zero, suc, ◌+◌, ◌<◌, ◌≤◌, Bool, true, false, cond, List, [], ◌∷◌, ◌++◌, get_or, map, refl, arith}
 use Rattle.std.specs.Prelude.{All, AllPairs, filter, flat_map}
 use Rattle.std.specs.List.{enumerate_from, range_with_len}
@@ -55,7 +55,7 @@ number-pairs n [] = none-pairs (λ x y. x.0 < y.0)
 number-pairs n (o ∷ orders) =
     AllPairs-cons (λ x y. x.0 < y.0) (n, o) (enumerate_from (n + 1) orders) (λ k d h. omega (arith, numbers-least (n + 1) orders k d h)) (number-pairs (n + 1) orders)
 
--- what two tests leave of a list whose keys rise, where nothing passes both
+-- what two tests leave of a list whose keys rise, if nothing passes both
 pub parts-apart : {X : Type 0} (key : X → ℕ) (p q : X → Bool) → ((x : X) → p x ≡ true → q x ≡ true → ⊥) → (xs : List X) → AllPairs (λ x y. key x < key y) xs
     → All (λ x. All (λ y. key x ≢ key y) (filter q xs)) (filter p xs)
 parts-apart key p q apart [] rising = All-nil (λ x. All (λ y. key x ≢ key y) [])

@@ -17,13 +17,13 @@ use Rattle.mrp_item.specs.Plan.{IsRanked, Outcome, Planned, Over, Blocked, outco
 use Rattle.mrp_item.specs.Releases.{release_of}
 use Rattle.mrp_item.specs.Rows.{firm_rows}
 use Rattle.mrp_item.proofs.Releases.{released-rises}
-use Rattle.mrp_peg.specs.declared.matching.Wanted.{Wanted}
-use Rattle.mrp_peg.specs.Rows.{order_wanted}
+use Rattle.mrp_peg.specs.declared.matching.Requirement.{Requirement}
+use Rattle.mrp_peg.specs.Rows.{order_requirement}
 use Rattle.mrp_peg.proofs.Lists.{All-weeks}
 use Rattle.mrp_peg.proofs.Loops.{numbered_more}
 use Rattle.mrp_peg.proofs.Own.{orders-own, own}
 
--- rows in order, and behind them rows in order that are no lower
+-- rows in order, and after them rows in order that are no lower
 rising_append : {X : Type 0} (key : X → ℕ) (xs ys : List X) → IsNonDecreasingBy key xs → IsNonDecreasingBy key ys → (m : ℕ) → All (λ x. key x ≤ m) xs → All (λ y. m ≤ key y) ys → IsNonDecreasingBy key (xs ++ ys)
 rising_append key [] ys up more m low high i j d le h = more i j d le h
 rising_append key (x ∷ xs) ys up more m low high zero zero d le h = omega arith
@@ -62,7 +62,7 @@ release_in s i receipts w =
 abbrev release : Order → ℕ
 release o = o.release
 
--- the orders of any item of the plan are released one after the other
+-- the orders of any item of the plan are in order of release
 pub all_rising : (s : Inputs) (code : ℕ → ℕ) → IsRanked s code → (i : ℕ) → IsNonDecreasingBy (λ (o : Order). o.release) (plan_in (outcome_of s i)).orders
 all_rising s code ranked i = by (outcome_of s i) refl
   where
@@ -77,40 +77,40 @@ all_rising s code ranked i = by (outcome_of s i) refl
     by Over e a b d le h = absurd (omega (arith, h))
     by Blocked e a b d le h = absurd (omega (arith, h))
 
-abbrev pub in_the : ℕ → Wanted → Bool
+abbrev pub in_the : ℕ → Requirement → Bool
 in_the week w = w.need.week == week
 
-abbrev pub asked : ℕ → ℕ → ℕ → ℕ → ℕ → List Order → List Wanted
-asked i line per week n orders = filter (in_the week) (map (order_wanted i line per) (enumerate_from n orders))
+abbrev pub required : ℕ → ℕ → ℕ → ℕ → ℕ → List Order → List Requirement
+required i line per week n orders = filter (in_the week) (map (order_requirement i line per) (enumerate_from n orders))
 
-none_asked : (i line per week n k : ℕ) (orders : List Order) → ((j : ℕ) (d : Order) → j < k → j < length orders → release (get_or orders j d) ≢ week) → asked i line per week n (take k orders) ≡ []
-none_asked i line per week n zero orders other = refl
-none_asked i line per week n (suc k) [] other = refl
-none_asked i line per week n (suc k) (o ∷ orders) other =
-    ap (λ b. cond b (order_wanted i line per (n, o) ∷ asked i line per week (n + 1) (take k orders)) (asked i line per week (n + 1) (take k orders))) (ne_eqb o.release week (other 0 o (omega arith) (omega arith)))
-    ∙ none_asked i line per week (n + 1) k orders (λ j d below h. other (suc j) d (omega (arith, below)) (omega (arith, h)))
+none_required : (i line per week n k : ℕ) (orders : List Order) → ((j : ℕ) (d : Order) → j < k → j < length orders → release (get_or orders j d) ≢ week) → required i line per week n (take k orders) ≡ []
+none_required i line per week n zero orders other = refl
+none_required i line per week n (suc k) [] other = refl
+none_required i line per week n (suc k) (o ∷ orders) other =
+    ap (λ b. cond b (order_requirement i line per (n, o) ∷ required i line per week (n + 1) (take k orders)) (required i line per week (n + 1) (take k orders))) (ne_eqb o.release week (other 0 o (omega arith) (omega arith)))
+    ∙ none_required i line per week (n + 1) k orders (λ j d below h. other (suc j) d (omega (arith, below)) (omega (arith, h)))
 
--- no order of the week is behind a place
-pub asked_before : (i line per week n k : ℕ) (orders : List Order) → ((j : ℕ) (d : Order) → k ≤ j → j < length orders → release (get_or orders j d) ≢ week) → asked i line per week n orders ≡ asked i line per week n (take k orders)
-asked_before i line per week n k [] other = ap (asked i line per week n) (none k)
+-- no order of the week is after a place
+pub required_before : (i line per week n k : ℕ) (orders : List Order) → ((j : ℕ) (d : Order) → k ≤ j → j < length orders → release (get_or orders j d) ≢ week) → required i line per week n orders ≡ required i line per week n (take k orders)
+required_before i line per week n k [] other = ap (required i line per week n) (none k)
   where
     none : (k : ℕ) → [] ≡ take {A = Order} k []
     none zero = refl
     none (suc k) = refl
-asked_before i line per week n zero (o ∷ orders) other =
-    ap (λ b. cond b (order_wanted i line per (n, o) ∷ asked i line per week (n + 1) orders) (asked i line per week (n + 1) orders)) (ne_eqb o.release week (other 0 o (omega arith) (omega arith)))
-    ∙ asked_before i line per week (n + 1) 0 orders (λ j d above h. other (suc j) d (omega arith) (omega (arith, h)))
-asked_before i line per week n (suc k) (o ∷ orders) other =
-    ap (λ l. cond (o.release == week) (order_wanted i line per (n, o) ∷ l) l) (asked_before i line per week (n + 1) k orders (λ j d above h. other (suc j) d (omega (arith, above)) (omega (arith, h))))
+required_before i line per week n zero (o ∷ orders) other =
+    ap (λ b. cond b (order_requirement i line per (n, o) ∷ required i line per week (n + 1) orders) (required i line per week (n + 1) orders)) (ne_eqb o.release week (other 0 o (omega arith) (omega arith)))
+    ∙ required_before i line per week (n + 1) 0 orders (λ j d above h. other (suc j) d (omega arith) (omega (arith, h)))
+required_before i line per week n (suc k) (o ∷ orders) other =
+    ap (λ l. cond (o.release == week) (order_requirement i line per (n, o) ∷ l) l) (required_before i line per week (n + 1) k orders (λ j d above h. other (suc j) d (omega (arith, above)) (omega (arith, h))))
 
-pub asked_first : (i line per week k : ℕ) (orders : List Order) (old : List Wanted) → ((j : ℕ) (d : Order) → j < k → j < length orders → release (get_or orders j d) ≢ week) → old ≡ old ++ asked i line per week 1 (take k orders)
-asked_first i line per week k orders old other = sym (ap (λ l. old ++ l) (none_asked i line per week 1 k orders other) ∙ append-nil old)
+pub required_first : (i line per week k : ℕ) (orders : List Order) (old : List Requirement) → ((j : ℕ) (d : Order) → j < k → j < length orders → release (get_or orders j d) ≢ week) → old ≡ old ++ required i line per week 1 (take k orders)
+required_first i line per week k orders old other = sym (ap (λ l. old ++ l) (none_required i line per week 1 k orders other) ∙ append-nil old)
 
 -- one more order of the week
-pub asked_more : (i line per week k : ℕ) (orders : List Order) (o : Order) (old before now : List Wanted) → k < length orders → o ≡ get_or orders k o → o.release ≡ week
-    → before ≡ old ++ asked i line per week 1 (take k orders) → now ≡ before ++ order_wanted i line per (k + 1, o) ∷ [] → now ≡ old ++ asked i line per week 1 (take (k + 1) orders)
-asked_more i line per week k orders o old before now h at same is told =
-    let f = order_wanted i line per in
+pub required_more : (i line per week k : ℕ) (orders : List Order) (o : Order) (old before now : List Requirement) → k < length orders → o ≡ get_or orders k o → o.release ≡ week
+    → before ≡ old ++ required i line per week 1 (take k orders) → now ≡ before ++ order_requirement i line per (k + 1, o) ∷ [] → now ≡ old ++ required i line per week 1 (take (k + 1) orders)
+required_more i line per week k orders o old before now h at same is told =
+    let f = order_requirement i line per in
     let front = map f (enumerate_from 1 (take k orders)) in
     told ∙ ap (λ l. l ++ f ((k + 1, o)) ∷ []) is
     ∙ append_assoc old (filter (in_the week) front) (f ((k + 1, o)) ∷ [])
@@ -120,7 +120,7 @@ asked_more i line per week k orders o old before now h at same is told =
     ∙ ap (λ (x : Order). old ++ filter (in_the week) (map f (enumerate_from 1 (take k orders) ++ (k + 1, x) ∷ []))) at
     ∙ ap (λ l. old ++ filter (in_the week) (map f l)) (sym (numbered_more 1 k orders o h))
 
--- behind an order of a later week there is none of the week
+-- after an order of a later week there is none of the week
 pub none_behind : (week k : ℕ) (orders : List Order) (o : Order) → IsNonDecreasingBy (λ (x : Order). x.release) orders → k < length orders → o ≡ get_or orders k o → week ≤ o.release → o.release ≢ week
     → (j : ℕ) (d : Order) → k ≤ j → j < length orders → release (get_or orders j d) ≢ week
 none_behind week k orders o up h is low other j d above g same =

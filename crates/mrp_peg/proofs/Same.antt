@@ -22,6 +22,6 @@ equal_causes (cause.Surplus i m) (cause.Surplus j n) = refl
 pub grown : (ks : List Cause) (c : Cause) → insert_key ((derived.ghosts).eq) ks c ≡ insert_key same_cause ks c
 grown ks c = λ i. insert_key (λ x y. equal_causes x y i) ks c
 
--- and has what it has
+-- and contains the same causes
 pub held : (ks : List Cause) (c : Cause) → list_any ((derived.ghosts).eq c) ks ≡ list_any (same_cause c) ks
 held ks c = λ i. list_any (λ x. equal_causes c x i) ks

@@ -167,7 +167,7 @@ need_item s i g via inside at =
     let own : IsOwnNeed s i via = subst (IsOwnNeed s i) of (own_need s i a among) in
     own.item
 
--- what a peg of an item ends in is told by the item
+-- a peg of an item ends in a cause of that item
 pub ends_here : (s : Inputs) (i : ℕ) (g : Peg) (c : Cause) → Contains (pegs_of s i) g → ends_in g ≡ Some c → item_told c ≡ i
 ends_here s i g c inside is = by g.need refl is
   where

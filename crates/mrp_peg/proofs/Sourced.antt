@@ -6,12 +6,12 @@ use Rattle.std.proofs.lemmas.Bool.{and_parts}
 use Rattle.mrp_tables.specs.declared.rows.BillLine.{BillLine}
 use Rattle.mrp_bill.specs.Bill.{line_at}
 use Rattle.mrp_item.specs.Inputs.{Inputs}
-use Rattle.mrp_peg.specs.declared.matching.Wanted.{Wanted}
+use Rattle.mrp_peg.specs.declared.matching.Requirement.{Requirement}
 use Rattle.mrp_peg.specs.declared.peg.Need.{Need}
 use Rattle.mrp_peg.specs.declared.peg.NeedKind.{NeedKind}
 use Rattle.mrp_peg.specs.declared.peg.NeedKind.TheVariants as kind
 use Rattle.mrp_peg.specs.Causes.{is_need_of, order_for, order_pegs, sources_of}
-use Rattle.mrp_peg.specs.Matching.{amounts_wanted}
+use Rattle.mrp_peg.specs.Matching.{amounts_required}
 
 pub some_value : {X : Type 0} (x y : X) → Some x ≡ Some y → x ≡ y
 some_value x y e = cc
@@ -37,7 +37,7 @@ if_some n (Some e) small = small e refl
 pub order_small : (lines : List BillLine) (n : ℕ) → All (λ (l : BillLine). l.parent < n) lines → (k : NeedKind) → IfSome (order_for lines k) (λ e. e.0 < n)
 order_small lines n within k = if_some n (order_for lines k) (λ e is. order_within lines n within k e is)
 
--- the sources of a requirement that the plan has, and of one that it does not have
+-- the sources of a requirement of the plan, and of one that is not the plan's
 pub sources-there : (s : Inputs) (m : Need) → is_need_of s m ≡ true → sources_of s m ≡ order_pegs s (order_for s.tables.bills m.kind)
 unfolding sources_of
 sources-there s m has = ap (λ b. if b then order_pegs s (order_for s.tables.bills m.kind) else []) has
@@ -47,6 +47,6 @@ unfolding sources_of
 sources-absent s m none = ap (λ b. if b then order_pegs s (order_for s.tables.bills m.kind) else []) none
 
 -- a test of amounts is one of what the program lists
-pub any_wanted : (test : Need → Bool) (needs : List Wanted) → list_any (λ a. test a.of) (amounts_wanted needs) ≡ list_any (λ w. test w.need) needs
-any_wanted test [] = refl
-any_wanted test (w ∷ needs) = ap (λ b. test w.need || b) (any_wanted test needs)
+pub any_required : (test : Need → Bool) (needs : List Requirement) → list_any (λ a. test a.of) (amounts_required needs) ≡ list_any (λ w. test w.need) needs
+any_required test [] = refl
+any_required test (w ∷ needs) = ap (λ b. test w.need || b) (any_required test needs)

@@ -24,7 +24,7 @@ shared_column {A = A} supply n (a ∷ row) =
     sum_by-cons (λ need. shared need supply) (record { of = a.of; first = n; past = n + a.quantity }) (spans_from (n + a.quantity) row)
     ∙ omega (arith, shared_column supply (n + a.quantity) row, sum_by-cons (λ (x : Amount A). x.quantity) a row)
 
--- a list's sum is its positive ones'
+-- a list's sum is that of its positive matches
 pub positive_ones : {A B : Type 0} (f : Match A B → ℕ) → ((m : Match A B) → m.quantity ≡ 0 → f m ≡ 0) → (ms : List (Match A B)) → sum_by f (filter is_positive ms) ≡ sum_by f ms
 positive_ones f none [] = refl
 positive_ones f none (m ∷ ms) = by (nat_lt 0 m.quantity) refl (positive_ones f none ms) ∙ sym (sum_by-cons f m ms)
@@ -102,7 +102,7 @@ span_lengths {A} test n (a ∷ row) =
     ∙ ap (λ k. cond (test a.of) a.quantity 0 + k) (span_lengths test (n + a.quantity) row)
     ∙ sym (sum_by-cons (λ (x : Amount A). cond (test x.of) x.quantity 0) a row)
 
--- what a supply gives, and what it has over
+-- what a supply gives, and its surplus
 whole_supply : {A B : Type 0} (test : B → Bool) (needs : List (Amount A)) (supply : Span B)
     → sum_by (λ need. cond (test supply.of) (shared need supply) 0) (spans needs) + cond (test supply.of) (left_over (total needs) supply) 0
     ≡ cond (test supply.of) (supply.past - supply.first) 0
@@ -163,7 +163,7 @@ supplied_units {A} test most n (a ∷ row) within =
     ∙ ap (λ k. cond (test a.of) a.quantity 0 + k) (supplied_units test most (n + a.quantity) row (omega arith))
     ∙ sym (sum_by-cons (λ (x : Amount A). cond (test x.of) x.quantity 0) a row)
 
--- where as much is supplied as is required, they have exactly their units
+-- if as much is supplied as is required, they have exactly their units
 pub covered : {A B : Type 0} (test : A → Bool) (needs : List (Amount A)) (supplies : List (Amount B)) → total needs ≤ total supplies
     → sum_by (λ m. m.quantity) (filter (λ m. is_for test m.need) (matches needs supplies)) ≡ sum_by (λ a. a.quantity) (filter (λ a. test a.of) needs)
 covered {A} {B} test needs supplies enough =

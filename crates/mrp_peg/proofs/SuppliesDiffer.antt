@@ -1,4 +1,4 @@
--- The supplies of an item are of different sources.
+-- The supplies of an item have different sources.
 use Rattle.std.proofs.Common.{◌≡◌, ◌≢◌, ℕ, ◌<◌, Bool, true, List, [], ◌∷◌, ◌++◌, get_or, map, arith}
 use Rattle.std.specs.Prelude.{◌==◌, ◌&&◌, All, AllPairs, filter, flat_map}
 use Rattle.std.specs.List.{enumerate_from}
@@ -20,7 +20,7 @@ use Rattle.mrp_peg.specs.Matching.{amount_offered}
 use Rattle.mrp_peg.specs.Pegging.{supplies}
 use Rattle.mrp_peg.proofs.Pairs.{append-pairs, flat-pairs, map-pairs, number-pairs, parts-apart, range-pairs}
 
--- two supplies are of different sources
+-- two supplies have different sources
 abbrev Differ : Supply → Supply → Type 0
 Differ x y = x.source ≢ y.source
 

@@ -10,14 +10,14 @@ use Rattle.mrp_book.specs.declared.booking.Booking.{Booking}
 use Rattle.mrp_phase.specs.Weeks.{row, weeks}
 use Rattle.mrp_item.specs.declared.order.Order.{Order}
 use Rattle.mrp_item.specs.Inputs.{Inputs, horizon, is_master}
-use Rattle.mrp_item.specs.Plan.{asked_by, gross_in, outcome_of, plan_in}
-use Rattle.mrp_item.specs.Rows.{booked, bookings_due, demand, forecast, lines_to}
+use Rattle.mrp_item.specs.Plan.{line_demand, gross_in, outcome_of, plan_in}
+use Rattle.mrp_item.specs.Rows.{booked, bookings_due, independent_demand, forecast, lines_to}
 use Rattle.mrp_item.proofs.Parents.{lines-at}
 use Rattle.mrp_peg.specs.declared.peg.NeedKind.TheVariants.{Booking as for_booking, Forecast, Parent}
-use Rattle.mrp_peg.specs.declared.matching.Wanted.{Wanted}
-use Rattle.mrp_peg.specs.Matching.{amount_wanted}
+use Rattle.mrp_peg.specs.declared.matching.Requirement.{Requirement}
+use Rattle.mrp_peg.specs.Matching.{amount_required}
 use Rattle.mrp_peg.specs.Pegging.{booking_needs, forecast_needs, line_needs, needed, needs_in, orders_in, parent_needs, requirements}
-use Rattle.mrp_peg.specs.Rows.{all_wanted, demand_wanted, line_to, line_wanted, order_wanted, parents_wanted, place_to}
+use Rattle.mrp_peg.specs.Rows.{all_requirements, independent_requirements, line_to, line_requirements, order_requirement, parent_requirements, place_to}
 use Rattle.mrp_peg.specs.Units.{Amount, total}
 use Rattle.mrp_peg.specs.Weekly.{AreWithin, by_weeks}
 use Rattle.mrp_item.specs.Own.{own_gross}
@@ -48,19 +48,19 @@ numbered_sum g n (o ∷ orders) =
 abbrev units : {A : Type 0} → Amount A → ℕ
 units a = a.quantity
 
-line_total : (s : Inputs) (i w place : ℕ) → total (line_needs s i w place) ≡ asked_by (outcome_of s) w (line_at s.tables.bills place)
+line_total : (s : Inputs) (i w place : ℕ) → total (line_needs s i w place) ≡ line_demand (outcome_of s) w (line_at s.tables.bills place)
 line_total s i w place =
     let line = line_at s.tables.bills place in
     sum_by-map units (λ (n : ℕ × Order). needed i w (Parent (place + 1) n.0) (n.1.start * line.per)) (filter (λ n. n.1.release == w) (orders_in s line.parent))
     ∙ numbered_kept (λ o. o.start * line.per) (λ o. o.release == w) 1 (plan_in (outcome_of s line.parent)).orders
 
-parents_total : (s : Inputs) (i w : ℕ) → total (parent_needs s i w) ≡ sum_by (asked_by (outcome_of s) w) (lines_to s i)
+parents_total : (s : Inputs) (i w : ℕ) → total (parent_needs s i w) ≡ sum_by (line_demand (outcome_of s) w) (lines_to s i)
 parents_total s i w =
     let bills = s.tables.bills in
     sum_by-flat_map units (line_needs s i w) (lines_of bills i)
-    ∙ sum_by-agree (λ place. total (line_needs s i w place)) (λ place. asked_by (outcome_of s) w (line_at bills place)) (line_total s i w) (lines_of bills i)
-    ∙ sym (sum_by-map (asked_by (outcome_of s) w) (line_at bills) (lines_of bills i))
-    ∙ ap (sum_by (asked_by (outcome_of s) w)) (lines-at bills i)
+    ∙ sum_by-agree (λ place. total (line_needs s i w place)) (λ place. line_demand (outcome_of s) w (line_at bills place)) (line_total s i w) (lines_of bills i)
+    ∙ sym (sum_by-map (line_demand (outcome_of s) w) (line_at bills) (lines_of bills i))
+    ∙ ap (sum_by (line_demand (outcome_of s) w)) (lines-at bills i)
 
 forecast_total : (s : Inputs) (i w : ℕ) → total (forecast_needs s i w) ≡ forecast s i w - booked s i w
 forecast_total s i w = by (nat_lt (booked s i w) (forecast s i w)) refl
@@ -72,7 +72,7 @@ forecast_total s i w = by (nat_lt (booked s i w) (forecast s i w)) refl
 week_total : (s : Inputs) (i w : ℕ) → total (needs_in s i w) ≡ gross_in s i (outcome_of s) w
 week_total s i w = by (is_master s i)
   where
-    by : (b : Bool) → total (cond b (booking_needs s i w ++ forecast_needs s i w) (parent_needs s i w)) ≡ cond b (demand s i w) (sum_by (asked_by (outcome_of s) w) (lines_to s i))
+    by : (b : Bool) → total (cond b (booking_needs s i w ++ forecast_needs s i w) (parent_needs s i w)) ≡ cond b (independent_demand s i w) (sum_by (line_demand (outcome_of s) w) (lines_to s i))
     by true =
         let bookings : total (booking_needs s i w) ≡ booked s i w = sum_by-map units (λ (b : Booking). needed i w (for_booking b.number) b.line.quantity) (bookings_due s i w) in
         sum_by-append units (booking_needs s i w) (forecast_needs s i w) ∙ omega (arith, bookings, forecast_total s i w)
@@ -86,42 +86,42 @@ requirements_total s i =
     ∙ sum_by-agree (λ w. total (needs_in s i w)) (gross_in s i (outcome_of s)) (week_total s i) (weeks (horizon s))
     ∙ sym (sum_by-map (λ n. n) (gross_in s i (outcome_of s)) (weeks (horizon s)))
 
-abbrev pieces : Wanted → ℕ
+abbrev pieces : Requirement → ℕ
 pieces w = w.quantity
 
-wanted_total : (s : Inputs) (i : ℕ) → IsOwn s i → AreWithin (λ (w : Wanted). w.need.week) 1 (horizon s) (all_wanted s i) → sum_by pieces (all_wanted s i) ≡ sum (own_gross s i)
-wanted_total s i is within =
-    sym (sum_by_weeks pieces (λ (w : Wanted). w.need.week) 1 (horizon s) (all_wanted s i) within)
-    ∙ sym (sum_by-map units amount_wanted (by_weeks (λ (w : Wanted). w.need.week) (weeks (horizon s)) (all_wanted s i)))
+required_total : (s : Inputs) (i : ℕ) → IsOwn s i → AreWithin (λ (w : Requirement). w.need.week) 1 (horizon s) (all_requirements s i) → sum_by pieces (all_requirements s i) ≡ sum (own_gross s i)
+required_total s i is within =
+    sym (sum_by_weeks pieces (λ (w : Requirement). w.need.week) 1 (horizon s) (all_requirements s i) within)
+    ∙ sym (sum_by-map units amount_required (by_weeks (λ (w : Requirement). w.need.week) (weeks (horizon s)) (all_requirements s i)))
     ∙ ap total (requirements_are s i is) ∙ requirements_total s i
 
--- what an order of a parent asks is a quantity
-pub asked_within : (s : Inputs) (i : ℕ) → IsOwn s i → is_master s i ≡ false → AreWithin (λ (w : Wanted). w.need.week) 1 (horizon s) (all_wanted s i)
+-- what an order of a parent requires is a quantity
+pub required_within : (s : Inputs) (i : ℕ) → IsOwn s i → is_master s i ≡ false → AreWithin (λ (w : Requirement). w.need.week) 1 (horizon s) (all_requirements s i)
     → (k : ℕ) → k < length (lines_of s.tables.bills i) → (j : ℕ) (d : Order) → j < length (plan_in (outcome_of s (line_to s i k).parent)).orders
     → (get_or (plan_in (outcome_of s (line_to s i k).parent)).orders j d).start * (line_to s i k).per ≤ greatest_quantity
-asked_within s i is part within k h j d g =
+required_within s i is part within k h j d g =
     let places = lines_of s.tables.bills i in
     let place = place_to s i k in
     let line = line_to s i k in
     let orders = (plan_in (outcome_of s line.parent)).orders in
-    let one : sum_by (λ (o : Order). o.start * line.per) orders ≡ sum_by pieces (line_wanted s i place) =
-    sym (sum_by-map pieces (order_wanted i (place + 1) line.per) (orders_in s line.parent) ∙ numbered_sum (λ (o : Order). o.start * line.per) 1 orders) in
-    let all : sum_by (λ p. sum_by pieces (line_wanted s i p)) places ≡ sum_by pieces (all_wanted s i) =
-    sym (sum_by-flat_map pieces (line_wanted s i) places) ∙ ap (λ b. sum_by pieces (cond b (demand_wanted s i) (parents_wanted s i))) (sym part) in
+    let one : sum_by (λ (o : Order). o.start * line.per) orders ≡ sum_by pieces (line_requirements s i place) =
+    sym (sum_by-map pieces (order_requirement i (place + 1) line.per) (orders_in s line.parent) ∙ numbered_sum (λ (o : Order). o.start * line.per) 1 orders) in
+    let all : sum_by (λ p. sum_by pieces (line_requirements s i p)) places ≡ sum_by pieces (all_requirements s i) =
+    sym (sum_by-flat_map pieces (line_requirements s i) places) ∙ ap (λ b. sum_by pieces (cond b (independent_requirements s i) (parent_requirements s i))) (sym part) in
     omega (
       arith,
       get_or-le-sum_by (λ (o : Order). o.start * line.per) orders j d g,
       one,
-      get_or-le-sum_by (λ p. sum_by pieces (line_wanted s i p)) places k 0 h,
+      get_or-le-sum_by (λ p. sum_by pieces (line_requirements s i p)) places k 0 h,
       all,
-      wanted_total s i is within,
+      required_total s i is within,
       gross-within s i is,
     )
 
 -- the same of the orders that are found by a line to the item
-pub used_within : (s : Inputs) (i : ℕ) → IsOwn s i → is_master s i ≡ false → AreWithin (λ (w : Wanted). w.need.week) 1 (horizon s) (all_wanted s i)
+pub used_within : (s : Inputs) (i : ℕ) → IsOwn s i → is_master s i ≡ false → AreWithin (λ (w : Requirement). w.need.week) 1 (horizon s) (all_requirements s i)
     → (k per : ℕ) (orders : List Order) → k < length (lines_of s.tables.bills i) → per ≡ (line_to s i k).per → orders ≡ (plan_in (outcome_of s (line_to s i k).parent)).orders
     → All (λ (o : Order). o.start * per ≤ greatest_quantity) orders
 used_within s i is part within k per orders h is_per are_orders =
     let Q : ℕ → List Order → Type 0 = λ n os. All (λ (o : Order). o.start * n ≤ greatest_quantity) os in
-    subst (λ n. Q n orders) (sym is_per) (subst (Q (line_to s i k).per) (sym are_orders) (asked_within s i is part within k h))
+    subst (λ n. Q n orders) (sym is_per) (subst (Q (line_to s i k).per) (sym are_orders) (required_within s i is part within k h))

@@ -54,7 +54,7 @@ known_told causes c (Some d) inside = by (list_any (same_cause d) causes) refl (
 known_place : (s : Inputs) (causes : List Cause) (c : Cause) → Contains causes c → first_place same_cause (λ g. known causes (ends_in g)) (plan_pegs s) c ≡ place_of s c
 known_place s causes c inside = ap (λ (p : Peg → Bool). position_or_len p (plan_pegs s)) (λ k g. known_told causes c (ends_in g) inside k)
 
--- what a peg ends in, if it is one of the causes
+-- the cause that a peg ends in, if it is among these causes
 abbrev told_of : List Cause → Peg → Option Cause
 told_of causes g = known causes (ends_in g)
 
@@ -93,7 +93,7 @@ traced s n causes has alone ends = record {
     found c (inl own) = let none : Option Cause = None in let e : none ≡ Some c = sym alone ∙ own in absurd (cc)
     found c (inr end) = is_told_by s n causes ends c end
 
--- a requirement that the plan does not have has no trace
+-- a requirement that is not one of the plan's has no trace
 pub untraced : (s : Inputs) (n : Need) → is_need_of s n ≡ false → IsTrace s n []
 untraced s n none = record {
   each = λ c. (λ inside. absurd (nothing c inside), λ (has, why). let e : true ≡ false = sym has ∙ none in absurd (cc));

@@ -19,7 +19,7 @@ drop_empty m ms none = by (nat_lt 0 m.quantity) refl
     by true e = absurd (omega (arith, ltb-true 0 m.quantity e))
     by false e = refl
 
--- a requirement that ends before a row of supplies begins has nothing of it
+-- a requirement that ends before a row of supplies begins takes nothing of it
 past_row : {A B : Type 0} (need : Span A) (b : ℕ) (supplies : List (Amount B)) → need.past ≤ b → filter is_positive (map (match_of need) (spans_from b supplies)) ≡ []
 unfolding spans_from
 past_row need b [] before = refl

@@ -32,7 +32,7 @@ is_order number supplied.Stock = false
 is_order number (supplied.Receipt r) = false
 is_order number (supplied.Order n) = n == number
 
--- the parent's order that a requirement is for, by item and number; the line is a record of the bill
+-- the parent's order that a requirement is for, by item and number, if its bill line exists
 abbrev pub order_for : List BillLine → NeedKind → Option (ℕ × ℕ)
 order_for lines (kind.Parent line number) =
     if nat_lt 0 line && nat_le line (length lines) then Some ((line_at lines (line - 1)).parent, number) else None
@@ -44,7 +44,8 @@ abbrev pub order_pegs : Inputs → Option (ℕ × ℕ) → List Peg
 order_pegs s None = []
 order_pegs s (Some order) = filter (λ g. is_order order.1 g.supply) (pegs_of s order.0)
 
--- the sources of a requirement: the pegs of the parent's order that caused it, and none if the plan does not have it
+-- the sources of a requirement: the pegs of the parent's order that caused it; none if it is not a requirement of
+-- the plan
 unfoldable pub sources_of : Inputs → Need → List Peg
 sources_of s need = if is_need_of s need then order_pegs s (order_for s.tables.bills need.kind) else []
 
@@ -63,16 +64,16 @@ abbrev pub need_or_surplus_cause : Peg → Option Need → Option Cause
 need_or_surplus_cause g (Some need) = own_cause need need.kind
 need_or_surplus_cause g None = surplus_cause g.item g.supply
 
--- what a peg ends in, if it ends there: the booking or the forecast that it serves, or its order's surplus
+-- the cause that a peg ends in, if any: the booking or the forecast that it serves, or its order's surplus
 abbrev pub ends_in : Peg → Option Cause
 ends_in g = need_or_surplus_cause g g.need
 
--- n leads to m by so many steps, each from a requirement to one that a source of it serves
+-- n leads to m in so many steps, each from a requirement to one that a source of it serves
 abbrev pub Leads : Inputs → ℕ → Need → Need → Type 0
 Leads s zero n m = n ≡ m
 Leads s (suc steps) n m = (via : Need) × (g : Peg) × Leads s steps n via × Contains (sources_of s via) g × (g.need ≡ Some m)
 
--- repeated sources of n end in c
+-- the sources of n, followed upwards, end in c
 abbrev pub EndsIn : Inputs → Need → Cause → Type 0
 EndsIn s n c = (steps : ℕ) × (m : Need) × (g : Peg) × Leads s steps n m × Contains (sources_of s m) g × (ends_in g ≡ Some c)
 

@@ -7,7 +7,8 @@ use Rattle.mrp_peg.specs.declared.peg.Cause.{Cause}
 use Rattle.mrp_peg.specs.Causes.{EndsIn, ends_in}
 use Rattle.mrp_peg.specs.Pegging.{pegs_of}
 
--- all that repeated sources of a requirement end in, each told by a peg of the plan, and nothing else
+-- exactly the causes that the sources of a requirement, followed upwards, end in; each is the end of a peg of
+-- the plan
 pub record AreEnds (s : Inputs) (n : Need) (causes : List Cause) : Type 0 where
   pub ended : (c : Cause) → Contains causes c → EndsIn s n c
   pub all : (c : Cause) → EndsIn s n c → Contains causes c × ((i : ℕ) × (g : Peg) × (i < count s) × Contains (pegs_of s i) g × (ends_in g ≡ Some c))

@@ -10,11 +10,12 @@ use Rattle.mrp_peg.specs.declared.peg.Need.{Need}
 use Rattle.mrp_peg.specs.declared.peg.Peg.{Peg}
 use Rattle.mrp_peg.specs.declared.supplies_left.SuppliesLeft.{SuppliesLeft}
 use Rattle.mrp_peg.specs.declared.peg_walk.PegWalk.{PegWalk}
-use Rattle.mrp_peg.specs.Matching.{amounts_offered, amounts_wanted, peg_of}
+use Rattle.mrp_peg.specs.Matching.{amounts_offered, amounts_required, peg_of}
 use Rattle.mrp_peg.specs.Pegging.{needs_in}
 use Rattle.mrp_peg.specs.Units.{Amount, matches}
 
--- a row of which so many units of the first are taken; it is passed where none are left of it
+-- a row after so many units of its first element are taken; the element is passed once none are
+-- left of it
 abbrev pub served : {A : Type 0} → ℕ → List (Amount A) → List (Amount A)
 served taken [] = []
 served taken (a ∷ row) = if nat_lt taken a.quantity then record { of = a.of; quantity = a.quantity - taken } ∷ row else row
@@ -33,15 +34,15 @@ to_come (Some part) week = required_after part.plan.now.inputs part.item week
 
 -- the requirements that are left and listed
 abbrev pub listed_left : NeedsLeft → List (Amount Need)
-listed_left n = amounts_wanted (drop n.place n.needs.items)
+listed_left n = amounts_required (drop n.place n.needs.items)
 
 -- the requirements that are left: those that are listed, and those of the weeks to come
-abbrev pub wanted_left : NeedsLeft → List (Amount Need)
-wanted_left n = listed_left n ++ to_come n.part n.week
+abbrev pub required_left : NeedsLeft → List (Amount Need)
+required_left n = listed_left n ++ to_come n.part n.week
 
 -- the first requirement that is left is listed, if there is one
 abbrev pub IsFilled : NeedsLeft → Type 0
-IsFilled n = slice_get (wanted_left n) 0 ≡ slice_get (listed_left n) 0
+IsFilled n = slice_get (required_left n) 0 ≡ slice_get (listed_left n) 0
 
 -- the pegs of these requirements and supplies of an item
 abbrev pub pegs_between : ℕ → List (Amount Need) → List (Amount Supplied) → List Peg
@@ -49,13 +50,13 @@ pegs_between item needs supplies = map (peg_of item) (matches needs supplies)
 
 -- the pegs that are still to come
 abbrev pub pegs_left : PegWalk → List Peg
-pegs_left w = pegs_between w.item (wanted_left w.needs) (offered_left w.supplies)
+pegs_left w = pegs_between w.item (required_left w.needs) (offered_left w.supplies)
 
--- a peg, where it has pieces
+-- a peg, if it has pieces
 abbrev pub shown : Peg → List Peg
 shown peg = if nat_lt 0 peg.quantity then peg ∷ [] else []
 
--- the next of some pegs, and what is left behind it; none where there is none, and none is left then
+-- the next of some pegs and those after it; `None` once there are no more
 abbrev pub IsNext : List Peg → Option Peg → List Peg → Type 0
 IsNext pegs (Some peg) left = pegs ≡ peg ∷ left
 IsNext pegs None left = (pegs ≡ []) × (left ≡ [])

@@ -4,14 +4,14 @@ use Rattle.mrp_peg.specs.declared.peg.Need.{Need}
 use Rattle.mrp_item.specs.declared.supplies.Supplied.{Supplied}
 use Rattle.mrp_item.specs.declared.supplies.Supply.{Supply}
 use Rattle.mrp_peg.specs.declared.peg.Peg.{Peg}
-use Rattle.mrp_peg.specs.declared.matching.Wanted.{Wanted}
+use Rattle.mrp_peg.specs.declared.matching.Requirement.{Requirement}
 use Rattle.mrp_peg.specs.Units.{Amount, Match}
 
-abbrev pub amount_wanted : Wanted → Amount Need
-amount_wanted w = record { of = w.need; quantity = w.quantity }
+abbrev pub amount_required : Requirement → Amount Need
+amount_required w = record { of = w.need; quantity = w.quantity }
 
-abbrev pub amounts_wanted : List Wanted → List (Amount Need)
-amounts_wanted needs = map amount_wanted needs
+abbrev pub amounts_required : List Requirement → List (Amount Need)
+amounts_required needs = map amount_required needs
 
 abbrev pub amount_offered : Supply → Amount Supplied
 amount_offered x = record { of = x.source; quantity = x.quantity }

@@ -23,30 +23,32 @@ orders_in s i = enumerate_from 1 (plan_in (outcome_of s i)).orders
 abbrev pub needed : ℕ → ℕ → NeedKind → ℕ → Amount Need
 needed i week kind quantity = record { of = record { item = i; week = week; kind = kind }; quantity = quantity }
 
--- what the bookings of a week need, in order of the bookings
+-- the requirements of the bookings of a week, in order of the bookings
 abbrev pub booking_needs : Inputs → ℕ → ℕ → List (Amount Need)
 booking_needs s i week = map (λ b. needed i week (Booking b.number) b.line.quantity) (bookings_due s i week)
 
--- what the forecast of a week has beyond the bookings, where it has more
+-- by how much the forecast of a week exceeds the bookings, if it does
 abbrev pub forecast_needs : Inputs → ℕ → ℕ → List (Amount Need)
 forecast_needs s i week =
     if nat_lt (booked s i week) (forecast s i week) then needed i week Forecast (forecast s i week - booked s i week) ∷ [] else []
 
--- what the line at a place of the bill asks of its component for the parent's orders that are released in a week, by order
+-- the requirements of a component, by the line at a place of the bill, from the parent's orders that are released in a
+-- week, by order
 abbrev pub line_needs : Inputs → ℕ → ℕ → ℕ → List (Amount Need)
 line_needs s i week place =
     let line = line_at s.tables.bills place in
     map (λ n. needed i week (Parent (place + 1) n.0) (n.1.start * line.per)) (filter (λ n. n.1.release == week) (orders_in s line.parent))
 
--- what parents ask in a week, by bill record and then by order
+-- the requirements from parents' orders in a week, by bill record and then by order
 abbrev pub parent_needs : Inputs → ℕ → ℕ → List (Amount Need)
 parent_needs s i week = flat_map (line_needs s i week) (lines_of s.tables.bills i)
 
--- the requirements of a part in a week: what parents ask
+-- the requirements of a part in a week: those from its parents' orders
 abbrev pub part_needs : Inputs → ℕ → ℕ → List (Amount Need)
 part_needs s i week = parent_needs s i week
 
--- the requirements of a week: of a master item bookings and forecast, or a part's
+-- the requirements of an item in a week: for a master item bookings and forecast, otherwise those
+-- of a part
 abbrev pub needs_in : Inputs → ℕ → ℕ → List (Amount Need)
 needs_in s i week = if is_master s i then booking_needs s i week ++ forecast_needs s i week else part_needs s i week
 
@@ -62,7 +64,7 @@ supplies s i = amounts_offered (supplies_of s i (plan_in (outcome_of s i)).order
 unfoldable pub pegs_of : Inputs → ℕ → List Peg
 pegs_of s i = map (peg_of i) (matches (requirements s i) (supplies s i))
 
--- those of some pegs that are an item's
+-- the pegs of an item among some pegs
 abbrev pub pegs_for : ℕ → List Peg → List Peg
 pegs_for i pegs = filter (λ g. g.item == i) pegs
 

@@ -1,4 +1,4 @@
--- Requirements as a program lists them before it puts them in order of weeks.
+-- Requirements as the program lists them before it sorts them by week.
 use Rattle.std.specs.Prelude.{ℕ, ◌+◌, ◌-◌, ◌*◌, ◌++◌, nat_lt, if◌then◌else◌, List, [], ◌∷◌, map, flat_map, slice_index}
 use Rattle.mrp_tables.specs.declared.rows.BillLine.{BillLine}
 use Rattle.mrp_bill.specs.Bill.{line_at, lines_of}
@@ -9,15 +9,15 @@ use Rattle.mrp_item.specs.Dues.{booking_dues, due_sum}
 use Rattle.mrp_item.specs.Inputs.{Inputs, horizon, is_master}
 use Rattle.mrp_item.specs.Plan.{outcome_of, plan_in}
 use Rattle.mrp_peg.specs.declared.peg.NeedKind.TheVariants.{Booking, Forecast, Parent}
-use Rattle.mrp_peg.specs.declared.matching.Wanted.{Wanted}
+use Rattle.mrp_peg.specs.declared.matching.Requirement.{Requirement}
 use Rattle.mrp_peg.specs.Pegging.{orders_in}
 
-abbrev pub booking_wanted : ℕ → Due → Wanted
-booking_wanted i due = record { need = record { item = i; week = due.week; kind = Booking due.number }; quantity = due.quantity }
+abbrev pub booking_requirement : ℕ → Due → Requirement
+booking_requirement i due = record { need = record { item = i; week = due.week; kind = Booking due.number }; quantity = due.quantity }
 
--- what is left of a week's demand, where something is
-abbrev pub forecast_wanted : ℕ → List ℕ → ℕ → List Wanted
-forecast_wanted i left week =
+-- what is left of a week's demand, if anything is
+abbrev pub forecast_requirements : ℕ → List ℕ → ℕ → List Requirement
+forecast_requirements i left week =
     if nat_lt 0 (in_week left week) then record { need = record { item = i; week = week; kind = Forecast }; quantity = in_week left week } ∷ [] else []
 
 -- the place in the bill table of one of the lines to an item, and the line there
@@ -27,27 +27,27 @@ place_to s i k = slice_index (lines_of s.tables.bills i) k
 abbrev pub line_to : Inputs → ℕ → ℕ → BillLine
 line_to s i k = line_at s.tables.bills (place_to s i k)
 
-abbrev pub order_wanted : ℕ → ℕ → ℕ → ℕ × Order → Wanted
-order_wanted i line per n = record { need = record { item = i; week = n.1.release; kind = Parent line n.0 }; quantity = n.1.start * per }
+abbrev pub order_requirement : ℕ → ℕ → ℕ → ℕ × Order → Requirement
+order_requirement i line per n = record { need = record { item = i; week = n.1.release; kind = Parent line n.0 }; quantity = n.1.start * per }
 
-abbrev pub line_wanted : Inputs → ℕ → ℕ → List Wanted
-line_wanted s i place = let line = line_at s.tables.bills place in map (order_wanted i (place + 1) line.per) (orders_in s line.parent)
+abbrev pub line_requirements : Inputs → ℕ → ℕ → List Requirement
+line_requirements s i place = let line = line_at s.tables.bills place in map (order_requirement i (place + 1) line.per) (orders_in s line.parent)
 
 -- the demand of each week less what is booked there
 abbrev pub beyond : List ℕ → List Due → ℕ → ℕ
 beyond demand bookings week = in_week demand week - due_sum bookings week
 
-abbrev pub demand_wanted : Inputs → ℕ → List Wanted
-demand_wanted s i =
-    map (booking_wanted i) (booking_dues s.standing i)
-    ++ flat_map (forecast_wanted i (row (horizon s) (beyond (plan_in (outcome_of s i)).gross (booking_dues s.standing i)))) (weeks (horizon s))
+abbrev pub independent_requirements : Inputs → ℕ → List Requirement
+independent_requirements s i =
+    map (booking_requirement i) (booking_dues s.standing i)
+    ++ flat_map (forecast_requirements i (row (horizon s) (beyond (plan_in (outcome_of s i)).gross (booking_dues s.standing i)))) (weeks (horizon s))
 
-abbrev pub parents_wanted : Inputs → ℕ → List Wanted
-parents_wanted s i = flat_map (line_wanted s i) (lines_of s.tables.bills i)
+abbrev pub parent_requirements : Inputs → ℕ → List Requirement
+parent_requirements s i = flat_map (line_requirements s i) (lines_of s.tables.bills i)
 
--- what a part needs: what parents ask
-abbrev pub part_wanted : Inputs → ℕ → List Wanted
-part_wanted s i = parents_wanted s i
+-- the requirements of a part: those from its parents' orders
+abbrev pub part_requirements : Inputs → ℕ → List Requirement
+part_requirements s i = parent_requirements s i
 
-abbrev pub all_wanted : Inputs → ℕ → List Wanted
-all_wanted s i = if is_master s i then demand_wanted s i else part_wanted s i
+abbrev pub all_requirements : Inputs → ℕ → List Requirement
+all_requirements s i = if is_master s i then independent_requirements s i else part_requirements s i

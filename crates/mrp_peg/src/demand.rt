@@ -1,19 +1,19 @@
-//! What the bookings and the forecasts of a master item need.
+//! The requirements of a master item from its bookings and forecasts.
 
 ghost use Rattle.std.specs.Prelude.{◌≡◌, ◌++◌, ◌∷◌, [], length, map, nat_lt, flat_map, if◌then◌else◌, All, IfOk, OnOk};
 ghost use Rattle.std.specs.Int.{IsInRange};
 ghost use Rattle.mrp_phase.specs.Weeks.{row, weeks};
-ghost use Rattle.mrp_peg.specs.Rows.{beyond, booking_wanted, forecast_wanted};
+ghost use Rattle.mrp_peg.specs.Rows.{beyond, booking_requirement, forecast_requirements};
 
-use crate::matching::{Wanted, less};
+use crate::matching::{Requirement, less};
 use crate::peg::{Need, NeedKind};
 use mrp_item::Due;
 use mrp_qty::{NoMemory, Qty};
 use std::alloc::Global;
 
-// Adds what each booking needs.
-fn add_bookings(needs: &mut Vec<Wanted>, item: usize, bookings: &[Due]) -> Result<(), NoMemory>
-    ensures { OnOk result (needs.new.items ≡ needs.old.items ++ map (booking_wanted item) bookings.now) }
+// Adds the requirement of each booking.
+fn add_bookings(needs: &mut Vec<Requirement>, item: usize, bookings: &[Due]) -> Result<(), NoMemory>
+    ensures { OnOk result (needs.new.items ≡ needs.old.items ++ map (booking_requirement item) bookings.now) }
 {
     for booking in bookings {
         let need = Need {
@@ -22,7 +22,7 @@ fn add_bookings(needs: &mut Vec<Wanted>, item: usize, bookings: &[Due]) -> Resul
             kind: NeedKind::Booking(booking.number),
         };
         let quantity = booking.quantity;
-        needs.push(Wanted { need, quantity })?;
+        needs.push(Requirement { need, quantity })?;
     }
     Ok(())
 }
@@ -37,7 +37,7 @@ fn copy_of(alloc: Global, quantities: &[Qty]) -> Result<Vec<Qty>, NoMemory>
     Ok(copy)
 }
 
-// What the demand of each week has beyond the bookings.
+// By how much the demand of each week exceeds the bookings.
 fn left_over(alloc: Global, demand: &[Qty], bookings: &[Due]) -> Result<Vec<Qty>, NoMemory>
     requires { All (λ due. IsInRange 1 (length demand.now) due.week) bookings.now }
     ensures { IfOk result (λ left. left.items ≡ row (length demand.now) (beyond demand.now bookings.now)) }
@@ -50,9 +50,9 @@ fn left_over(alloc: Global, demand: &[Qty], bookings: &[Due]) -> Result<Vec<Qty>
     Ok(left)
 }
 
-// Adds what the forecast of a week needs, if it has pieces.
+// Adds the requirement of a week's forecast, if it has pieces.
 fn add_forecast(
-    needs: &mut Vec<Wanted>,
+    needs: &mut Vec<Requirement>,
     item: usize,
     week: u16,
     quantity: Qty,
@@ -65,20 +65,20 @@ fn add_forecast(
             week,
             kind: NeedKind::Forecast,
         };
-        needs.push(Wanted { need, quantity })?;
+        needs.push(Requirement { need, quantity })?;
     }
     Ok(())
 }
 
-// Adds what the forecast of each week needs, from what it has beyond the bookings.
+// Adds the requirement of each week's forecast: by how much it exceeds the bookings.
 fn add_forecasts(
-    needs: &mut Vec<Wanted>,
+    needs: &mut Vec<Requirement>,
     item: usize,
     horizon: u16,
     left: &[Qty],
 ) -> Result<(), NoMemory>
     requires { length left.now ≡ horizon }
-    ensures { OnOk result (needs.new.items ≡ needs.old.items ++ flat_map (forecast_wanted item left.now) (weeks horizon)) }
+    ensures { OnOk result (needs.new.items ≡ needs.old.items ++ flat_map (forecast_requirements item left.now) (weeks horizon)) }
 {
     for place in 0..horizon {
         add_forecast(needs, item, place + 1, left[usize::from(place)])?;
@@ -86,18 +86,18 @@ fn add_forecasts(
     Ok(())
 }
 
-// What bookings and forecasts need of a master item, given the weeks of the horizon and its demand
-// in each: the bookings by number, then the forecasts by week.
+// The requirements of a master item from its bookings, by number, and then from its forecasts, by
+// week, given the weeks of the horizon and the demand in each.
 pub fn demand_of(
     alloc: Global,
     item: usize,
     horizon: u16,
     demand: &[Qty],
     bookings: &[Due],
-) -> Result<Vec<Wanted>, NoMemory>
+) -> Result<Vec<Requirement>, NoMemory>
     requires weeks { length demand.now ≡ horizon }
     requires within { All (λ due. IsInRange 1 (length demand.now) due.week) bookings.now }
-    ensures { IfOk result (λ needs. needs.items ≡ map (booking_wanted item) bookings.now ++ flat_map (forecast_wanted item (row (length demand.now) (beyond demand.now bookings.now))) (weeks horizon)) }
+    ensures { IfOk result (λ needs. needs.items ≡ map (booking_requirement item) bookings.now ++ flat_map (forecast_requirements item (row (length demand.now) (beyond demand.now bookings.now))) (weeks horizon)) }
 {
     let mut needs = Vec::new(alloc);
     add_bookings(&mut needs, item, bookings)?;

@@ -1,4 +1,5 @@
-//! Pegging: what each requirement of an item is served by, and what a requirement goes back to.
+//! Pegging: which supplies serve each requirement of an item, and which demand a requirement goes
+//! back to.
 #![tactic(auto)]
 
 mod demand;

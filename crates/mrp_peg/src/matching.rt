@@ -1,4 +1,4 @@
-//! What is matched piece by piece, first to first: requirements and supplies.
+//! Requirements and supplies, which are matched piece by piece, first to first.
 
 ghost use Rattle.std.specs.Prelude.{◌≡◌, ◌-◌, min};
 
@@ -6,14 +6,14 @@ use crate::peg::Need;
 use mrp_item::Supplied;
 use mrp_qty::Qty;
 
-/// A requirement and its pieces.
+/// A requirement and how many pieces it needs.
 #[derive(Clone, Copy, Debug, PartialEq, Eq)]
-pub struct Wanted {
+pub struct Requirement {
     pub need: Need,
     pub quantity: Qty,
 }
 
-/// A supply and its pieces.
+/// A supply and how many pieces it has.
 #[derive(Clone, Copy, Debug, PartialEq, Eq)]
 pub struct Offered {
     pub source: Supplied,
@@ -27,7 +27,7 @@ pub fn less(quantity: Qty, taken: Qty) -> Qty
     Qty::new(quantity.value().saturating_sub(taken.value())).unwrap()
 }
 
-// The lesser of two quantities.
+// The smaller of two quantities.
 #[inline(always)]
 pub fn lesser(quantity: Qty, other: Qty) -> Qty
     ensures { result ≡ min quantity other }

@@ -1,14 +1,15 @@
-//! What is left of the requirements of an item, which are listed at once, or a week at a time where they may be many.
+//! What is left of the requirements of an item. They are listed at once, or a week at a time if they may be
+//! many.
 
 ghost use Rattle.std.specs.Prelude.{◌≡◌, ◌<◌, ◌≤◌, slice_get, IfOk, OnOk};
 ghost use Rattle.std.specs.Option.{option_map};
 ghost use Rattle.mrp_item.specs.Inputs.{count};
-ghost use Rattle.mrp_peg.specs.Left.{IsFilled, listed_left, served, wanted_left};
-ghost use Rattle.mrp_peg.specs.Matching.{amount_wanted};
+ghost use Rattle.mrp_peg.specs.Left.{IsFilled, listed_left, served, required_left};
+ghost use Rattle.mrp_peg.specs.Matching.{amount_required};
 ghost use Rattle.mrp_peg.specs.Pegging.{requirements, supplies};
 ghost use Rattle.mrp_peg.specs.Units.{total};
 
-use crate::matching::{Wanted, less};
+use crate::matching::{Requirement, less};
 use crate::next_orders::NextOrders;
 use crate::part::Part;
 use crate::pegging::{is_master_item, needs_of};
@@ -17,21 +18,21 @@ use mrp_item::{Inputs, Plan};
 use mrp_qty::{NoMemory, Qty};
 use std::alloc::Global;
 
-// The requirements of an item from a place on, of which the first has what is left of it. All are
-// listed, or those up to a week where they may be many.
+// The requirements of an item from a place on; the first has what is left of it. All are listed, or
+// those up to a week if they may be many.
 #[derive(Drop)]
 pub struct NeedsLeft<'a> {
     part: Option<Part<'a>>,
     week: u16,
     next: NextOrders,
-    needs: Vec<Wanted>,
+    needs: Vec<Requirement>,
     place: usize,
 }
 
-// So many requirements of a part are listed at once: some three megabytes.
+// The most requirements of a part that are listed at once: about three megabytes.
 const AT_ONCE: usize = 32_768;
 
-// Whether a part has at most so many requirements, also where each parent has an order a week.
+// Whether a part has at most that many requirements even if each parent has an order every week.
 fn are_few(used: &WhereUsed<'_>, weeks: u16) -> bool {
     if used.len().saturating_mul(usize::from(weeks)) > AT_ONCE {
         return false;
@@ -51,7 +52,7 @@ impl<'a> NeedsLeft<'a> {
     // All requirements of an item, listed. The item's supplies cover them.
     fn listed(alloc: Global, plan: &'a Plan, item: usize) -> Result<NeedsLeft<'a>, NoMemory>
         requires { item < count plan.now.inputs }
-        ensures needs { IfOk result (λ left. wanted_left left ≡ requirements plan.now.inputs item) }
+        ensures needs { IfOk result (λ left. required_left left ≡ requirements plan.now.inputs item) }
         ensures covered { OnOk result (total (requirements plan.now.inputs item) ≤ total (supplies plan.now.inputs item)) }
     {
         let needs = needs_of(alloc, plan, item)?;
@@ -67,7 +68,7 @@ impl<'a> NeedsLeft<'a> {
     // All requirements of an item. The item's supplies cover them.
     pub fn of(alloc: Global, plan: &'a Plan, item: usize) -> Result<NeedsLeft<'a>, NoMemory>
         requires { item < count plan.now.inputs }
-        ensures needs { IfOk result (λ left. wanted_left left ≡ requirements plan.now.inputs item) }
+        ensures needs { IfOk result (λ left. required_left left ≡ requirements plan.now.inputs item) }
         ensures covered { OnOk result (total (requirements plan.now.inputs item) ≤ total (supplies plan.now.inputs item)) }
     {
         let inputs: &Inputs = plan.inputs();
@@ -90,9 +91,9 @@ impl<'a> NeedsLeft<'a> {
         })
     }
 
-    // Lists the requirements of the next week that has some, where all that are listed were passed.
+    // Once all listed requirements are passed, lists those of the next week that has any.
     fn fill(&mut self) -> Result<(), NoMemory>
-        ensures left { OnOk result (wanted_left self.new ≡ wanted_left self.old) }
+        ensures left { OnOk result (required_left self.new ≡ required_left self.old) }
         ensures filled { OnOk result (IsFilled self.new) }
     {
         if let Some(part) = self.part {
@@ -106,14 +107,14 @@ impl<'a> NeedsLeft<'a> {
         Ok(())
     }
 
-    // The first of them, with what is left of it.
+    // The first requirement, with what is left of it.
     //
-    // Errors: where memory is refused.
+    // Errors: `NoMemory` if an allocation fails.
     #[inline(always)]
-    pub fn first(&mut self) -> Result<Option<Wanted>, NoMemory>
-        ensures left { OnOk result (wanted_left self.new ≡ wanted_left self.old) }
+    pub fn first(&mut self) -> Result<Option<Requirement>, NoMemory>
+        ensures left { OnOk result (required_left self.new ≡ required_left self.old) }
         ensures filled { OnOk result (IsFilled self.new) }
-        ensures first { IfOk result (λ first. option_map amount_wanted first ≡ slice_get (listed_left self.new) 0) }
+        ensures first { IfOk result (λ first. option_map amount_required first ≡ slice_get (listed_left self.new) 0) }
     {
         if self.place >= self.needs.len() {
             self.fill()?;
@@ -121,7 +122,7 @@ impl<'a> NeedsLeft<'a> {
         Ok(self.needs.get(self.place).copied())
     }
 
-    // Takes pieces of the first that is listed, and passes it where none are left.
+    // Takes pieces of the first listed requirement, and passes it once none are left.
     #[inline(always)]
     pub fn take(&mut self, quantity: Qty)
         ensures listed { listed_left self.new ≡ served quantity (listed_left self.old) }

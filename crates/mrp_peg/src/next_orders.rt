@@ -3,15 +3,15 @@
 use mrp_qty::NoMemory;
 use std::alloc::Global;
 
-// For each of an item's bill lines a place among its parent's orders, at which those of the next week are looked for
-// first. Nothing but speed rests on it.
+// For each bill line to an item, the place among its parent's orders where those of the next week are
+// looked for first. It affects speed alone.
 #[derive(Drop)]
 pub struct NextOrders {
     places: Vec<usize>,
 }
 
 impl NextOrders {
-    // The front of each line's orders.
+    // The first place of each line's orders.
     pub fn of(alloc: Global, lines: usize) -> Result<NextOrders, NoMemory> {
         let places = vec![in alloc; 0; lines]?;
         Ok(NextOrders { places })

@@ -1,21 +1,21 @@
-//! What the orders of a parent ask of an item.
+//! What the orders of a parent require of an item.
 
 ghost use Rattle.std.specs.Prelude.{◌≡◌, ◌==◌, ◌≤◌, ◌<◌, ◌*◌, ◌++◌, ℕ, true, false, filter, length, map, nat_lt, All, IsTrue, OnOk};
 ghost use Rattle.std.specs.List.{enumerate_from, slice_index_or};
 ghost use Rattle.std.specs.List.Sorted.{IsNonDecreasingBy, IsPartitionPoint};
 ghost use Rattle.mrp_qty.specs.Quantity.{greatest_quantity};
-ghost use Rattle.mrp_peg.specs.Rows.{order_wanted};
+ghost use Rattle.mrp_peg.specs.Rows.{order_requirement};
 ghost use Rattle.mrp_peg.specs.Weekly.{of_week};
 
-use crate::matching::Wanted;
+use crate::matching::Requirement;
 use crate::ordering::with_week;
 use crate::peg::{Need, NeedKind};
 use mrp_bill::Numbered;
 use mrp_item::Order;
 use mrp_qty::NoMemory;
 
-// A bill line to an item: the number of its record from 1, the pieces that go into one, and the
-// parent's orders.
+// A bill line to an item: the number of its record from 1, the quantity per, and the parent's
+// orders.
 #[derive(Clone, Copy)]
 pub struct UsedBy<'a> {
     pub line: usize,
@@ -23,7 +23,7 @@ pub struct UsedBy<'a> {
     pub orders: &'a [Order],
 }
 
-// Whether the orders in front of a place are released before a week.
+// Whether the orders before a place are released before a week.
 fn are_before(orders: &[Order], week: u16, place: usize) -> bool
     requires rising { IsNonDecreasingBy (λ order. order.release) orders.now }
     requires within { place ≤ length orders.now }
@@ -33,7 +33,7 @@ fn are_before(orders: &[Order], week: u16, place: usize) -> bool
 }
 
 // Whether the orders from a place on are released in a week or later.
-fn are_behind(orders: &[Order], week: u16, place: usize) -> bool
+fn are_not_before(orders: &[Order], week: u16, place: usize) -> bool
     requires { IsNonDecreasingBy (λ order. order.release) orders.now }
     ensures { IsTrue result → (k : ℕ) (d : _) → place ≤ k → k < length orders.now → nat_lt (slice_index_or orders.now k d).release week ≡ false }
 {
@@ -46,10 +46,11 @@ fn begins_at(orders: &[Order], week: u16, place: usize) -> bool
     ensures within { IsTrue result → place ≤ length orders.now }
     ensures begins { IsTrue result → IsPartitionPoint (λ order. nat_lt order.release week ≡ true) (λ order. nat_lt order.release week ≡ false) orders.now place }
 {
-    place <= orders.len() && are_before(orders, week, place) && are_behind(orders, week, place)
+    place <= orders.len() && are_before(orders, week, place) && are_not_before(orders, week, place)
 }
 
-// Where the orders that are released in a week or later begin. They most likely do at a place that is looked at first.
+// Where the orders that are released in a week or later begin: most likely at a place, which is looked at
+// first.
 fn first_released(orders: &[Order], week: u16, likely: usize) -> usize
     requires { IsNonDecreasingBy (λ order. order.release) orders.now }
     ensures within { result ≤ length orders.now }
@@ -61,10 +62,10 @@ fn first_released(orders: &[Order], week: u16, likely: usize) -> usize
     orders.partition_point(|order| order.release < week)
 }
 
-// What an order of a parent asks by a bill line.
-fn asked_by(item: usize, by: &UsedBy<'_>, number: usize, order: &Order) -> Wanted
+// The requirement that an order of a parent makes by a bill line.
+fn requirement_of(item: usize, by: &UsedBy<'_>, number: usize, order: &Order) -> Requirement
     requires { order.now.start * by.now.per ≤ greatest_quantity }
-    ensures { result ≡ order_wanted item by.now.line by.now.per (number, order.now) }
+    ensures { result ≡ order_requirement item by.now.line by.now.per (number, order.now) }
 {
     let kind = NeedKind::Parent {
         line: by.line,
@@ -76,13 +77,13 @@ fn asked_by(item: usize, by: &UsedBy<'_>, number: usize, order: &Order) -> Wante
         kind,
     };
     let quantity = order.start.times(by.per).unwrap();
-    Wanted { need, quantity }
+    Requirement { need, quantity }
 }
 
-// Adds what the orders of a parent that are released in a week ask by a bill line, and tells the place behind them. A
-// place tells where to look for them first.
+// Adds the requirements that the parent's orders released in a week make by a bill line, and returns the
+// place after them. They are looked for first at the place that is given.
 pub fn add_released(
-    needs: &mut Vec<Wanted>,
+    needs: &mut Vec<Requirement>,
     item: usize,
     by: &UsedBy<'_>,
     week: u16,
@@ -90,29 +91,29 @@ pub fn add_released(
 ) -> Result<usize, NoMemory>
     requires rising { IsNonDecreasingBy (λ order. order.release) by.now.orders.now }
     requires small { All (λ order. order.start * by.now.per ≤ greatest_quantity) by.now.orders.now }
-    ensures { OnOk result (needs.new.items ≡ needs.old.items ++ filter (λ wanted. wanted.need.week == week) (map (order_wanted item by.now.line by.now.per) (enumerate_from 1 by.now.orders.now))) }
+    ensures { OnOk result (needs.new.items ≡ needs.old.items ++ filter (λ requirement. requirement.need.week == week) (map (order_requirement item by.now.line by.now.per) (enumerate_from 1 by.now.orders.now))) }
 {
     let orders = by.orders;
     let mut place = first_released(orders, week, likely);
     while place < orders.len() && orders[place].release == week {
-        needs.push(asked_by(item, by, place + 1, &orders[place]))?;
+        needs.push(requirement_of(item, by, place + 1, &orders[place]))?;
         place += 1;
     }
     Ok(place)
 }
 
-// Adds what all orders of a parent ask by a bill line, each with its week.
+// Adds the requirements that all orders of a parent make by a bill line, each with its week.
 pub fn add_all(
-    rows: &mut Vec<Numbered<Wanted>>,
+    rows: &mut Vec<Numbered<Requirement>>,
     item: usize,
     by: &UsedBy<'_>,
 ) -> Result<(), NoMemory>
     requires { All (λ order. order.start * by.now.per ≤ greatest_quantity) by.now.orders.now }
-    ensures { OnOk result (rows.new.items ≡ rows.old.items ++ map of_week (map (order_wanted item by.now.line by.now.per) (enumerate_from 1 by.now.orders.now))) }
+    ensures { OnOk result (rows.new.items ≡ rows.old.items ++ map of_week (map (order_requirement item by.now.line by.now.per) (enumerate_from 1 by.now.orders.now))) }
 {
     let orders = by.orders;
     for (place, order) in orders.iter().enumerate() {
-        rows.push(with_week(asked_by(item, by, place + 1, order)))?;
+        rows.push(with_week(requirement_of(item, by, place + 1, order)))?;
     }
     Ok(())
 }

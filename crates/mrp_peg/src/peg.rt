@@ -1,14 +1,14 @@
-//! What needs an item, what serves the need, and what a need goes back to.
+//! What an item is needed for, what serves the need, and what a need goes back to.
 
 use mrp_item::Supplied;
 use mrp_qty::Qty;
 
-/// What needs pieces of an item.
+/// What pieces of an item are needed for.
 #[derive(Clone, Copy, Debug, PartialEq, Eq)]
 pub enum NeedKind {
     /// The booking with this number.
     Booking(u64),
-    /// The forecast, as far as it is above the bookings.
+    /// The forecast, as far as it exceeds the bookings.
     Forecast,
     /// An order of a parent.
     Parent {
@@ -22,20 +22,21 @@ pub enum NeedKind {
 /// A requirement of an item (Orlicky: gross requirement).
 #[derive(Clone, Copy, Debug, PartialEq, Eq)]
 pub struct Need {
-    /// The item, by its place.
+    /// The item, by its place in the table.
     pub item: usize,
-    /// The week in which it is needed: for a parent's order that in which it is released.
+    /// The week in which it is needed, from 1: for a parent's order the week of its release.
     pub week: u16,
-    /// What needs it.
+    /// What it is needed for.
     pub kind: NeedKind,
 }
 
-/// Pieces of a supply that serve a requirement, or that no requirement takes (Orlicky: pegging).
+/// Pieces of one supply that serve one requirement, or that no requirement takes (Orlicky:
+/// pegging).
 #[derive(Clone, Copy, Debug, PartialEq, Eq)]
 pub struct Peg {
-    /// The item, by its place.
+    /// The item, by its place in the table.
     pub item: usize,
-    /// The requirement; None for surplus.
+    /// The requirement; `None` for surplus.
     pub need: Option<Need>,
     /// The supply.
     pub supply: Supplied,
@@ -43,26 +44,26 @@ pub struct Peg {
     pub quantity: Qty,
 }
 
-/// What the sources of a requirement end in (profile).
+/// A cause of a requirement: what its sources end in when they are followed upwards (profile).
 #[derive(Clone, Copy, Debug, PartialEq, Eq, Hash)]
 pub enum Cause {
     /// A booking.
     Booking {
-        /// The item, by its place.
+        /// The item, by its place in the table.
         item: usize,
         /// The booking's number.
         number: u64,
     },
-    /// The forecast of a week, as far as it is above the bookings.
+    /// The forecast of a week, as far as it exceeds the bookings.
     Forecast {
-        /// The item, by its place.
+        /// The item, by its place in the table.
         item: usize,
-        /// The week.
+        /// The week, from 1.
         week: u16,
     },
     /// Pieces of an order that no requirement takes.
     Surplus {
-        /// The item, by its place.
+        /// The item, by its place in the table.
         item: usize,
         /// The order, by its number from 1.
         order: usize,

@@ -8,12 +8,12 @@ ghost use Rattle.mrp_peg.specs.Units.{total};
 ghost use Rattle.mrp_peg.specs.Own.{IsOwn};
 ghost use Rattle.mrp_phase.specs.Weeks.{weeks};
 ghost use Rattle.mrp_peg.specs.Weekly.{AreWithin, by_weeks};
-ghost use Rattle.mrp_peg.specs.Matching.{amounts_wanted};
+ghost use Rattle.mrp_peg.specs.Matching.{amounts_required};
 ghost use Rattle.mrp_peg.specs.Pegging.{pegs_for, pegs_of, plan_pegs, requirements, supplies};
-ghost use Rattle.mrp_peg.specs.Rows.{all_wanted};
+ghost use Rattle.mrp_peg.specs.Rows.{all_requirements};
 
 use crate::demand::demand_of;
-use crate::matching::Wanted;
+use crate::matching::Requirement;
 use crate::ordering::sort_needs;
 use crate::peg::Peg;
 use crate::peg_walk::PegWalk;
@@ -31,12 +31,12 @@ pub fn is_master_item(inputs: &Inputs, item: usize) -> bool
     inputs.entry(item).class.is_master()
 }
 
-// The requirements of an item as rows in order of weeks.
-fn listed_needs(alloc: Global, plan: &Plan, item: usize) -> Result<Vec<Wanted>, NoMemory>
+// The requirements of an item as rows, in order of weeks.
+fn listed_needs(alloc: Global, plan: &Plan, item: usize) -> Result<Vec<Requirement>, NoMemory>
     requires item { item < count plan.now.inputs }
     requires own { IsOwn plan.now.inputs item }
-    requires within { AreWithin (λ wanted. wanted.need.week) 1 (horizon plan.now.inputs) (all_wanted plan.now.inputs item) }
-    ensures needs { IfOk result (λ needs. needs.items ≡ by_weeks (λ wanted. wanted.need.week) (weeks (horizon plan.now.inputs)) (all_wanted plan.now.inputs item)) }
+    requires within { AreWithin (λ requirement. requirement.need.week) 1 (horizon plan.now.inputs) (all_requirements plan.now.inputs item) }
+    ensures needs { IfOk result (λ needs. needs.items ≡ by_weeks (λ requirement. requirement.need.week) (weeks (horizon plan.now.inputs)) (all_requirements plan.now.inputs item)) }
     ensures sized { IsSized (item_at plan.now.inputs item) }
 {
     let inputs: &Inputs = plan.inputs();
@@ -56,9 +56,9 @@ fn listed_needs(alloc: Global, plan: &Plan, item: usize) -> Result<Vec<Wanted>, 
 }
 
 // The requirements of an item, in order. The item's supplies cover them.
-pub fn needs_of(alloc: Global, plan: &Plan, item: usize) -> Result<Vec<Wanted>, NoMemory>
+pub fn needs_of(alloc: Global, plan: &Plan, item: usize) -> Result<Vec<Requirement>, NoMemory>
     requires { item < count plan.now.inputs }
-    ensures needs { IfOk result (λ needs. amounts_wanted needs.items ≡ requirements plan.now.inputs item) }
+    ensures needs { IfOk result (λ needs. amounts_required needs.items ≡ requirements plan.now.inputs item) }
     ensures covered { OnOk result (total (requirements plan.now.inputs item) ≤ total (supplies plan.now.inputs item)) }
 {
     let inputs: &Inputs = plan.inputs();
@@ -68,12 +68,12 @@ pub fn needs_of(alloc: Global, plan: &Plan, item: usize) -> Result<Vec<Wanted>, 
     listed_needs(alloc, plan, item)
 }
 
-/// The pegs of an item, by its place, in order of requirement and supply, surplus last (Orlicky:
-/// pegging; profile: the first piece required is served by the first piece supplied, and so on). The
-/// pegs of each requirement add up to it, and those of each supply, with its surplus, to the supply.
-/// The caller owes that the shop has the item.
+/// The pegs of an item, by its place in the table, in order of requirement and supply, surplus last
+/// (Orlicky: pegging; profile: the first piece required is served by the first piece supplied, and
+/// so on). The pegs of each requirement add up to it, and those of each supply, with its surplus,
+/// to the supply. The caller guarantees that the shop has the item.
 ///
-/// Errors: `NoMemory` where memory is refused.
+/// Errors: `NoMemory` if an allocation fails.
 pub fn item_pegs(alloc: Global, plan: &Plan, item: usize) -> Result<Vec<Peg>, NoMemory>
     requires { item < count plan.now.inputs }
     ensures pegs { IfOk result (λ pegs. pegs.items ≡ pegs_of plan.now.inputs item) }
@@ -91,7 +91,7 @@ pub fn item_pegs(alloc: Global, plan: &Plan, item: usize) -> Result<Vec<Peg>, No
 /// The pegs of all items, in table order. The pegs of each requirement add up to it, and those of
 /// each supply, with its surplus, to the supply.
 ///
-/// Errors: `NoMemory` where memory is refused.
+/// Errors: `NoMemory` if an allocation fails.
 pub fn pegs(alloc: Global, plan: &Plan) -> Result<Vec<Peg>, NoMemory>
     ensures pegs { IfOk result (λ pegs. pegs.items ≡ plan_pegs plan.now.inputs) }
     ensures requirements { IfOk result (λ pegs. (i : ℕ) → i < count plan.now.inputs → AddUpToRequirements plan.now.inputs i (pegs_for i pegs.items)) }

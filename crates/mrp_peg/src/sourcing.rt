@@ -6,7 +6,7 @@ ghost use Rattle.mrp_item.specs.Inputs.{count};
 ghost use Rattle.mrp_peg.specs.Causes as causes;
 ghost use Rattle.mrp_peg.specs.Causes.{is_need_of, is_order, order_pegs, same_need, sources_of};
 
-use crate::matching::Wanted;
+use crate::matching::Requirement;
 use crate::peg::{Need, NeedKind, Peg};
 use crate::pegging::{item_pegs, needs_of};
 use crate::where_used::line_of;
@@ -15,7 +15,7 @@ use mrp_qty::NoMemory;
 use mrp_tables::BillLine;
 use std::alloc::Global;
 
-// Whether two requirements are one.
+// Whether two requirements are the same.
 #[tactic(auto, using(crate::proofs::SameNeeds::equal_needs))]
 fn is_same(one: &Need, other: &Need) -> bool
     ensures { result ≡ same_need one.now other.now }
@@ -23,13 +23,13 @@ fn is_same(one: &Need, other: &Need) -> bool
     *one == *other
 }
 
-// Whether a requirement is among some.
+// Whether a requirement is among the given ones.
 #[tactic(auto, using(std::proofs::lemmas::List::Folds::list_any_more, std::proofs::lemmas::List::Folds::list_any_at))]
-fn is_wanted(needs: &[Wanted], need: &Need) -> bool
-    ensures { result ≡ list_any (λ wanted. same_need wanted.need need.now) needs.now }
+fn is_required(needs: &[Requirement], need: &Need) -> bool
+    ensures { result ≡ list_any (λ requirement. same_need requirement.need need.now) needs.now }
 {
-    for wanted in needs {
-        if is_same(&wanted.need, need) {
+    for requirement in needs {
+        if is_same(&requirement.need, need) {
             return true;
         }
     }
@@ -44,10 +44,10 @@ pub fn has_need(alloc: Global, plan: &Plan, need: &Need) -> Result<bool, NoMemor
         return Ok(false);
     }
     let needs = needs_of(alloc, plan, need.item)?;
-    Ok(is_wanted(&needs, need))
+    Ok(is_required(&needs, need))
 }
 
-// The parent's order that a requirement is for, by item and number.
+// The parent's order that a requirement is for, by the parent's place and the order's number.
 pub fn order_for(bills: &[BillLine], kind: NeedKind) -> Option<(usize, usize)>
     ensures { result ≡ causes.order_for bills.now kind }
 {
@@ -60,7 +60,7 @@ pub fn order_for(bills: &[BillLine], kind: NeedKind) -> Option<(usize, usize)>
     Some((line_of(bills, line - 1).parent, order))
 }
 
-// Whether a supply is the order of a number.
+// Whether a supply is the order with this number.
 fn is_numbered(supply: Supplied, number: usize) -> bool
     ensures { result ≡ is_order number supply }
 {
@@ -70,7 +70,7 @@ fn is_numbered(supply: Supplied, number: usize) -> bool
     }
 }
 
-// Those pegs that are an order's.
+// The pegs whose supply is the order with this number.
 #[tactic(auto, using(std::proofs::lemmas::List::Elements::filter_more))]
 fn of_order(alloc: Global, pegs: &[Peg], number: usize) -> Result<Vec<Peg>, NoMemory>
     ensures { IfOk result (λ own. own.items ≡ filter (λ g. is_order number g.supply) pegs.now) }
@@ -98,11 +98,11 @@ fn pegs_for(alloc: Global, plan: &Plan, order: Option<(usize, usize)>) -> Result
     }
 }
 
-/// The sources of a requirement: the pegs of the parent's order that caused it, with its surplus, in
-/// their order (Orlicky: pegging). Bookings, forecasts and requirements that the plan does not have
-/// have none.
+/// The sources of a requirement: the pegs of the parent's order that caused it, with its surplus,
+/// in their order (Orlicky: pegging). A booking or a forecast has none, and neither has a
+/// requirement that is not one of the plan's.
 ///
-/// Errors: `NoMemory` where memory is refused.
+/// Errors: `NoMemory` if an allocation fails.
 pub fn sources(alloc: Global, plan: &Plan, need: &Need) -> Result<Vec<Peg>, NoMemory>
     ensures { IfOk result (λ pegs. pegs.items ≡ sources_of plan.now.inputs need.now) }
 {

@@ -9,7 +9,7 @@ use crate::matching::{Offered, less};
 use mrp_item::Supply;
 use mrp_qty::Qty;
 
-// The supplies of an item from a place on, of which the first has what is left of it.
+// The supplies of an item from a place on; the first has what is left of it.
 #[derive(Drop)]
 pub struct SuppliesLeft {
     supplies: Vec<Supply>,
@@ -23,7 +23,7 @@ impl SuppliesLeft {
         SuppliesLeft { supplies, place: 0 }
     }
 
-    // The first of them, with what is left of it.
+    // The first supply, with what is left of it.
     #[inline(always)]
     pub fn first(&self) -> Option<Offered>
         ensures { option_map amount_of_offer result ≡ slice_get (offered_left self.now) 0 }
@@ -37,7 +37,7 @@ impl SuppliesLeft {
         }
     }
 
-    // Takes pieces of the first, and goes on to the next where none are left.
+    // Takes pieces of the first supply, and goes on to the next once none are left.
     #[inline(always)]
     pub fn take(&mut self, quantity: Qty)
         ensures { offered_left self.new ≡ served quantity (offered_left self.old) }
@@ -49,7 +49,7 @@ impl SuppliesLeft {
         }
     }
 
-    // Goes on to the next.
+    // Goes on to the next supply.
     #[inline(always)]
     pub fn pass(&mut self)
         ensures { offered_left self.new ≡ drop 1 (offered_left self.old) }

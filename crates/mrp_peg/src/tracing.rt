@@ -16,7 +16,7 @@ use mrp_item::Plan;
 use mrp_qty::NoMemory;
 use std::alloc::Global;
 
-// What a peg ends in, if it is one of the causes.
+// The cause that a peg ends in, if it is among these causes.
 #[tactic(auto, using(crate::proofs::Same::held))]
 fn known(causes: &IndexSet<Cause>, peg: &Peg) -> Option<Cause>
     ensures { result ≡ walk.known causes.now.keys (ends_in peg.now) }
@@ -27,7 +27,7 @@ fn known(causes: &IndexSet<Cause>, peg: &Peg) -> Option<Cause>
     }
 }
 
-// Adds those causes that pegs end in.
+// Adds those of the causes that pegs end in.
 #[tactic(auto, using(std::proofs::lemmas::List::Sums::fold_more))]
 fn add_known(
     found: &mut IndexSet<Cause>,
@@ -42,7 +42,7 @@ fn add_known(
     Ok(())
 }
 
-// Adds those causes that an item's pegs end in. An item that was not visited has none.
+// Adds those of the causes that an item's pegs end in. An item that was not visited has none.
 fn add_item(
     alloc: Global,
     plan: &Plan,
@@ -71,7 +71,7 @@ fn copy_of(alloc: Global, causes: &[Cause]) -> Result<Vec<Cause>, NoMemory>
     Ok(copy)
 }
 
-// Causes in order of the plan's pegs that end in them, each at the first.
+// The causes in order of the plan's pegs, each at the first peg that ends in it.
 #[tactic(auto, using(crate::proofs::Gathered::gathered))]
 fn in_order(alloc: Global, plan: &Plan, ends: &Ends) -> Result<Vec<Cause>, NoMemory>
     requires { AreAmong ends.now.causes.keys ends.now.items.keys }
@@ -84,7 +84,7 @@ fn in_order(alloc: Global, plan: &Plan, ends: &Ends) -> Result<Vec<Cause>, NoMem
     copy_of(alloc, found.as_slice())
 }
 
-// A single cause.
+// A list of a single cause.
 fn alone(alloc: Global, cause: Cause) -> Result<Vec<Cause>, NoMemory>
     ensures { IfOk result (λ trace. trace.items ≡ cause ∷ []) }
 {
@@ -93,12 +93,12 @@ fn alone(alloc: Global, cause: Cause) -> Result<Vec<Cause>, NoMemory>
     Ok(trace)
 }
 
-/// The causes of a requirement: the bookings, the forecasts and the surplus of orders that repeated
-/// sources end in, each once, in order of item and peg (Orlicky: full pegging; profile: surplus). A
-/// booking or a forecast of the plan is its own cause. Each requirement of the plan has causes; one
-/// that the plan does not have has none.
+/// The causes of a requirement: the bookings, the forecasts and the surplus of orders that its
+/// sources, followed upwards, end in, each once, in order of item and peg (Orlicky: full pegging;
+/// profile: surplus). A booking or a forecast of the plan is its own cause. Each requirement of the
+/// plan has at least one cause; a requirement that is not one of the plan's has none.
 ///
-/// Errors: `NoMemory` where memory is refused.
+/// Errors: `NoMemory` if an allocation fails.
 pub fn trace(alloc: Global, plan: &Plan, need: &Need) -> Result<Vec<Cause>, NoMemory>
     ensures causes { IfOk result (λ causes. IsTrace plan.now.inputs need.now causes.items) }
     ensures some { IfOk result (λ causes. is_need_of plan.now.inputs need.now ≡ true → 0 < length causes.items) }

@@ -39,7 +39,7 @@ pub fn own_cause(need: &Need) -> Option<Cause>
     }
 }
 
-// What a peg ends in, if it ends there.
+// The cause that a peg ends in, if it ends in one.
 pub fn cause_of(peg: &Peg) -> Option<Cause>
     ensures { result ≡ ends_in peg.now }
 {
@@ -53,7 +53,7 @@ pub fn cause_of(peg: &Peg) -> Option<Cause>
     }
 }
 
-// The parent's order whose requirement a peg serves, by item and number.
+// The parent's order whose requirement a peg serves, by the parent's place and the order's number.
 fn order_of(bills: &[BillLine], peg: &Peg) -> Option<(usize, usize)>
     ensures { result ≡ order_served bills.now peg.now.need }
 {
@@ -90,7 +90,7 @@ fn add_order(
     Ok(())
 }
 
-// Adds what pegs end in.
+// Adds the causes that pegs end in.
 #[tactic(auto, using(std::proofs::lemmas::List::Sums::fold_more))]
 fn add_causes(causes: &mut IndexSet<Cause>, pegs: &[Peg]) -> Result<(), NoMemory>
     ensures { OnOk result (causes.new.keys ≡ fold with_told causes.old.keys pegs.now) }
@@ -118,7 +118,7 @@ fn add_orders(
     Ok(())
 }
 
-// Whether an item's supply is one of some orders.
+// Whether an item's supply is one of the orders.
 fn is_reached(orders: &IndexSet<(usize, usize)>, item: usize, supply: Supplied) -> bool
     ensures { result ≡ walk.is_reached orders.now.keys item supply }
 {
@@ -128,7 +128,7 @@ fn is_reached(orders: &IndexSet<(usize, usize)>, item: usize, supply: Supplied) 
     }
 }
 
-// Those pegs of an item that are of orders that were reached.
+// The pegs of an item whose supply is an order that was reached.
 #[tactic(auto, using(std::proofs::lemmas::List::Elements::filter_more))]
 fn of_reached(
     alloc: Global,
@@ -148,7 +148,7 @@ fn of_reached(
 }
 
 // Follows the orders of an item that were reached: to what their pegs end in, and to the parents'
-// orders whose requirements they serve. An item without such orders is passed by.
+// orders whose requirements they serve. An item without such orders is skipped.
 fn follow(
     alloc: Global,
     plan: &Plan,
@@ -173,8 +173,8 @@ fn follow(
     add_causes(causes, &pegs)
 }
 
-// What repeated sources of a requirement of the plan end in, and the items on the way: from
-// components to parents, each item once.
+// What the sources of a requirement of the plan, followed upwards, end in, and the items on the
+// way: from components to parents, each item once.
 pub fn ends_of(alloc: Global, plan: &Plan, need: &Need) -> Result<Ends, NoMemory>
     requires { is_need_of plan.now.inputs need.now ≡ true }
     ensures ends { IfOk result (λ ends. AreEnds plan.now.inputs need.now ends.causes.keys) }

@@ -1,4 +1,4 @@
-//! Where an item is used: the bill lines to it, each with the orders of its parent.
+//! The where-used list of an item: the bill lines to it, each with the orders of its parent.
 
 ghost use Rattle.std.specs.Prelude.{◌≡◌, ◌==◌, ◌+◌, ◌<◌, ◌≤◌, ◌++◌, ℕ, false, filter, length, map, slice_index, IfOk, OnOk};
 ghost use Rattle.std.specs.List.{enumerate_from};
@@ -8,11 +8,11 @@ ghost use Rattle.mrp_bill.specs.Bill.{line_at, lines_of};
 ghost use Rattle.mrp_item.specs.Inputs.{count, horizon, is_master};
 ghost use Rattle.mrp_item.specs.Plan.{HasParents, outcome_of, plan_in};
 ghost use Rattle.mrp_peg.specs.Own.{IsOwn};
-ghost use Rattle.mrp_peg.specs.Rows.{all_wanted, line_to, line_wanted, order_wanted, parents_wanted, place_to};
+ghost use Rattle.mrp_peg.specs.Rows.{all_requirements, line_to, line_requirements, order_requirement, parent_requirements, place_to};
 ghost use Rattle.mrp_peg.specs.Weekly.{AreWithin, by_weeks, of_week};
 ghost use Rattle.mrp_phase.specs.Weeks.{weeks};
 
-use crate::matching::Wanted;
+use crate::matching::Requirement;
 use crate::next_orders::NextOrders;
 use crate::ordering::in_order;
 use crate::parents::{UsedBy, add_all, add_released};
@@ -85,7 +85,7 @@ impl<'a> WhereUsed<'a> {
         ensures line { result.line ≡ place_to self.now.plan.now.inputs self.now.item at + 1 }
         ensures per { result.per ≡ (line_to self.now.plan.now.inputs self.now.item at).per }
         ensures orders { result.orders.now ≡ (plan_in (outcome_of self.now.plan.now.inputs (line_to self.now.plan.now.inputs self.now.item at).parent)).orders }
-        ensures asked { line_wanted self.now.plan.now.inputs self.now.item (place_to self.now.plan.now.inputs self.now.item at) ≡ map (order_wanted self.now.item result.line result.per) (enumerate_from 1 result.orders.now) }
+        ensures required { line_requirements self.now.plan.now.inputs self.now.item (place_to self.now.plan.now.inputs self.now.item at) ≡ map (order_requirement self.now.item result.line result.per) (enumerate_from 1 result.orders.now) }
         ensures rising { IsNonDecreasingBy (λ order. order.release) result.orders.now }
     {
         let place = place_at(self.places, at);
@@ -98,18 +98,18 @@ impl<'a> WhereUsed<'a> {
         }
     }
 
-    // Adds what parents ask in a week of an item that is no master item, by bill record and then by
-    // order. Weeks that are asked for in turn are found the faster.
-    pub fn asked_in(
+    // Adds the requirements in a week of an item that is no master item, by bill record and then by
+    // order. It is faster if the weeks are asked for in order.
+    pub fn required_in(
         &self,
         week: u16,
         next: &mut NextOrders,
-        needs: &mut Vec<Wanted>,
+        needs: &mut Vec<Requirement>,
     ) -> Result<(), NoMemory>
         requires part { is_master self.now.plan.now.inputs self.now.item ≡ false }
         requires own { IsOwn self.now.plan.now.inputs self.now.item }
-        requires within { AreWithin (λ wanted. wanted.need.week) 1 (horizon self.now.plan.now.inputs) (all_wanted self.now.plan.now.inputs self.now.item) }
-        ensures { OnOk result (needs.new.items ≡ needs.old.items ++ filter (λ wanted. wanted.need.week == week) (parents_wanted self.now.plan.now.inputs self.now.item)) }
+        requires within { AreWithin (λ requirement. requirement.need.week) 1 (horizon self.now.plan.now.inputs) (all_requirements self.now.plan.now.inputs self.now.item) }
+        ensures { OnOk result (needs.new.items ≡ needs.old.items ++ filter (λ requirement. requirement.need.week == week) (parent_requirements self.now.plan.now.inputs self.now.item)) }
     {
         for at in 0..self.len() {
             let by = self.line(at);
@@ -120,13 +120,13 @@ impl<'a> WhereUsed<'a> {
         Ok(())
     }
 
-    // What parents ask of an item that is no master item, by bill record and then by order, each with
-    // its week.
-    pub fn asked(&self, alloc: Global) -> Result<Vec<Numbered<Wanted>>, NoMemory>
+    // The requirements of an item that is no master item, by bill record and then by order, each with its
+    // week.
+    pub fn required(&self, alloc: Global) -> Result<Vec<Numbered<Requirement>>, NoMemory>
         requires part { is_master self.now.plan.now.inputs self.now.item ≡ false }
         requires own { IsOwn self.now.plan.now.inputs self.now.item }
-        requires within { AreWithin (λ wanted. wanted.need.week) 1 (horizon self.now.plan.now.inputs) (all_wanted self.now.plan.now.inputs self.now.item) }
-        ensures { IfOk result (λ rows. rows.items ≡ map of_week (parents_wanted self.now.plan.now.inputs self.now.item)) }
+        requires within { AreWithin (λ requirement. requirement.need.week) 1 (horizon self.now.plan.now.inputs) (all_requirements self.now.plan.now.inputs self.now.item) }
+        ensures { IfOk result (λ rows. rows.items ≡ map of_week (parent_requirements self.now.plan.now.inputs self.now.item)) }
     {
         let mut rows = Vec::new(alloc);
         for at in 0..self.len() {
@@ -137,15 +137,15 @@ impl<'a> WhereUsed<'a> {
     }
 }
 
-// What parents ask of an item that is no master item, week by week.
-pub fn parents_of(alloc: Global, plan: &Plan, item: usize) -> Result<Vec<Wanted>, NoMemory>
+// The requirements of an item that is no master item, week by week.
+pub fn parents_of(alloc: Global, plan: &Plan, item: usize) -> Result<Vec<Requirement>, NoMemory>
     requires item { item < count plan.now.inputs }
     requires part { is_master plan.now.inputs item ≡ false }
     requires own { IsOwn plan.now.inputs item }
-    requires within { AreWithin (λ wanted. wanted.need.week) 1 (horizon plan.now.inputs) (all_wanted plan.now.inputs item) }
-    ensures { IfOk result (λ needs. needs.items ≡ by_weeks (λ wanted. wanted.need.week) (weeks (horizon plan.now.inputs)) (parents_wanted plan.now.inputs item)) }
+    requires within { AreWithin (λ requirement. requirement.need.week) 1 (horizon plan.now.inputs) (all_requirements plan.now.inputs item) }
+    ensures { IfOk result (λ needs. needs.items ≡ by_weeks (λ requirement. requirement.need.week) (weeks (horizon plan.now.inputs)) (parent_requirements plan.now.inputs item)) }
 {
-    let rows = WhereUsed::of(plan, item).asked(alloc)?;
+    let rows = WhereUsed::of(plan, item).required(alloc)?;
     let inputs: &Inputs = plan.inputs();
     in_order(alloc, inputs.weeks(), &rows)
 }

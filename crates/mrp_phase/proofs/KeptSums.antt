@@ -1,9 +1,9 @@
--- Sums over what a test keeps of a list.
+-- Sums over the members of a list that a test keeps.
 use Rattle.std.proofs.Common.{◌≡◌, ℕ, Bool, true, false, cond, List, [], ◌∷◌, refl, ap, arith}
 use Rattle.std.specs.Prelude.{filter, sum_by}
 use Rattle.std.proofs.lemmas.List.Sums.{sum_by-cons}
 
--- such a sum is one over all, with 0 of the others
+-- such a sum is a sum over all, in which the others count 0
 pub sum_by-kept : {X : Type 0} (p : X → Bool) (f : X → ℕ) (xs : List X) → sum_by f (filter p xs) ≡ sum_by (λ x. cond (p x) (f x) 0) xs
 sum_by-kept p f [] = refl
 sum_by-kept {X} p f (x ∷ xs) = by (p x) refl (sum_by-kept p f xs)

@@ -1,4 +1,4 @@
--- Rows that grow by a week.
+-- Rows that grow by one week.
 use Rattle.std.proofs.Common.{◌≡◌, ◌∙◌, ℕ, zero, suc, ◌+◌, ◌<◌, ◌≤◌, max, List, [], ◌∷◌, ◌++◌, refl, ap, sym, arith, take, length, get_or, set, take_all, ◌-◌, ◌≢◌, get_or-set_same, get_or-set_other, length-set, ext_get_or, Bool, true, false, eqb, add-one, append-nil}
 use Rattle.std.specs.Prelude.{flat_map, sum, map, fold, replicate}
 use Rattle.std.specs.List.{range_with_len}
@@ -28,7 +28,7 @@ pub length-row : {V : Type 0} (f : ℕ → V) (n : ℕ) → length (row n f) ≡
 unfolding row
 length-row f n = length-map-range_with_len f 1 n
 
--- what a row has in one of its weeks
+-- a row's value in one of its weeks
 pub in_week_row : (f : ℕ → ℕ) (n t : ℕ) → 0 < t → t ≤ n → in_week (row n f) t ≡ f t
 unfolding row in_week
 in_week_row f n zero a b = absurd (omega arith)
@@ -84,13 +84,13 @@ with_week_at xs (suc t) quantity a =
     let back : suc t - 1 ≡ t = omega arith in
     rw back (unfold with_week in refl)
 
--- one more week, by its number's constructor
+-- one more week, by the constructor of its number
 pub weeks_more : (horizon : ℕ) → weeks (suc horizon) ≡ weeks horizon ++ suc horizon ∷ []
 weeks_more horizon =
     let next : 1 + horizon ≡ suc horizon = omega arith in
     range_more 1 horizon ∙ ap (λ (week : ℕ). weeks horizon ++ week ∷ []) next
 
--- what is listed week by week, of one more week
+-- what is listed week by week, with one more week
 pub flat_map-weeks_suc : {Y : Type 0} (f : ℕ → List Y) (n : ℕ) → flat_map f (weeks (suc n)) ≡ flat_map f (weeks n) ++ f (suc n)
 flat_map-weeks_suc {Y} f n = ap (flat_map f) (weeks_more n) ∙ flat_map-append f (weeks n) (suc n ∷ []) ∙ ap (λ (ys : List Y). flat_map f (weeks n) ++ ys) (append-nil (f (suc n)))
 
@@ -148,7 +148,7 @@ in_week_replicate n (suc t) = by n t
     by (suc n) zero = refl
     by (suc n) (suc t) = by n t
 
--- a changed week, and the others
+-- the changed week, and the others
 pub in_week_changed : (xs : List ℕ) (t quantity : ℕ) → 0 < t → t ≤ length xs → in_week (with_week xs t quantity) t ≡ quantity
 unfolding in_week with_week
 in_week_changed xs zero quantity a b = absurd (omega arith)
@@ -184,7 +184,7 @@ pub sum-row_above : (f : ℕ → ℕ) (n t : ℕ) → 0 < t → t ≤ n → f t 
 sum-row_above f n t a b =
     omega (arith, sum_to_within (row n f) (t - 1) (omega (arith, length-row f n)), in_week_at (row n f) t a, in_week_row f n t a b)
 
--- a row with another quantity in a week
+-- a row with the quantity of a week replaced
 pub with_week-row : (f g : ℕ → ℕ) (n t quantity : ℕ) → 0 < t → t ≤ n → quantity ≡ g t → ((other : ℕ) → other ≢ t → g other ≡ f other)
     → with_week (row n f) t quantity ≡ row n g
 with_week-row f g n t quantity a b here others =

@@ -10,12 +10,12 @@ weeks horizon = range_with_len 1 horizon
 unfoldable pub row : {V : Type 0} → ℕ → (ℕ → V) → List V
 row horizon f = map f (weeks horizon)
 
--- what a row has in a week, and 0 before the first
+-- a row's value in a week, and 0 before the first
 unfoldable pub in_week : List ℕ → ℕ → ℕ
 in_week xs zero = 0
 in_week xs (suc before) = slice_index xs before
 
--- a row with another quantity in a week
+-- a row with the quantity of a week replaced
 unfoldable pub with_week : List ℕ → ℕ → ℕ → List ℕ
 with_week xs zero quantity = xs
 with_week xs (suc before) quantity = slice_set xs before quantity

@@ -1,4 +1,4 @@
-//! Why a row is refused.
+//! Why a row cannot be made.
 
 ghost use Rattle.std.specs.Prelude.{◌≡◌};
 ghost use Rattle.mrp_phase.specs.declared.fault.PhaseFault.TheVariants.{NoMemory};
@@ -6,13 +6,13 @@ ghost use Rattle.mrp_phase.specs.declared.fault.PhaseFault.TheVariants.{NoMemory
 use std::alloc::{AllocError, AllocFailed};
 use thiserror::Error;
 
-/// Why a row over weeks, or of the needs and receipts of an item in them, could not be made.
+/// Why a row over weeks could not be made, also one of an item's net requirements or receipts.
 #[derive(Clone, Copy, Debug, PartialEq, Eq, Error)]
 pub enum PhaseFault {
     /// A sum passes the greatest quantity.
     #[error("a sum over weeks is too large")]
     TooLarge,
-    /// A growth of memory was refused.
+    /// An allocation failed.
     #[error("no memory")]
     NoMemory,
 }

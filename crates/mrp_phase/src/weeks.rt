@@ -24,14 +24,14 @@ impl<T> Model for Weeks<T> {
 }
 
 impl<T> Weeks<T> {
-    /// The row that has these values, from week 1 on. It takes no memory.
+    /// The row of these values, from week 1 on. It does not allocate.
     pub fn from_vec(values: Vec<T>) -> Weeks<T>
         ensures { result ≡ values.items }
     {
         Self { values }
     }
 
-    /// The values, from week 1 on. It takes no memory.
+    /// The values, from week 1 on. It does not allocate.
     pub fn into_vec(self) -> Vec<T>
         ensures { result.items ≡ self }
     {
@@ -61,9 +61,9 @@ fn nothing() -> Qty
 }
 
 impl Weeks<Qty> {
-    /// Nothing in each of so many weeks.
+    /// A row of zeros, one for each week.
     ///
-    /// Errors: `NoMemory` where the row's memory is refused.
+    /// Errors: `NoMemory` if the row cannot be allocated.
     pub fn zero(alloc: Global, weeks: u16) -> Result<Weeks<Qty>, PhaseFault>
         ensures value { IfOk result (λ w. w ≡ replicate weeks 0) }
         ensures memory { IsOkUnless result PhaseFault.NoMemory }
@@ -72,8 +72,7 @@ impl Weeks<Qty> {
         Ok(Weeks::from_vec(quantities))
     }
 
-    /// The sum of a quantity and those of all weeks; None past the greatest quantity. It takes no
-    /// memory.
+    /// The sum of a quantity and those of all weeks; overflow yields `None`. It does not allocate.
     #[tactic(auto, using(crate::proofs::WeekRows::sum_to_within, crate::proofs::WeekRows::sum_to_whole, crate::proofs::WeekRows::sum_to_next, crate::proofs::WeekRows::in_week_next))]
     pub fn sum_from(&self, first: Qty) -> Option<Qty>
         ensures { result ≡ quantity_of (first + sum self.now) }
@@ -89,7 +88,7 @@ impl Weeks<Qty> {
     /// The sums up to each week.
     ///
     /// Errors: `TooLarge` exactly where the sum of all weeks passes the greatest quantity, before
-    /// memory is asked for, and `NoMemory` where the row's memory is refused.
+    /// anything is allocated, and `NoMemory` if the row cannot be allocated.
     pub fn cumulative(&self, alloc: Global) -> Result<Weeks<Qty>, PhaseFault>
         ensures sums { IfOk result (λ w. w ≡ row (length self.now) (sum_to self.now)) }
         ensures too_large { IsErrOf result PhaseFault.TooLarge ↔ greatest_quantity < sum self.now }
@@ -100,7 +99,7 @@ impl Weeks<Qty> {
         Ok(self.sums(alloc)?)
     }
 
-    // The sums up to each week, of quantities whose sum is one.
+    // The sums up to each week, of quantities whose sum is a quantity.
     #[tactic(auto, using(crate::proofs::WeekRows::row_none, crate::proofs::WeekRows::row_more, crate::proofs::WeekRows::sum_to_whole, std::proofs::lemmas::List::Sums::sum_by_more))]
     fn sums(&self, alloc: Global) -> Result<Weeks<Qty>, NoMemory>
         requires { sum self.now ≤ greatest_quantity }
@@ -118,7 +117,7 @@ impl Weeks<Qty> {
 
     /// The greatest quantities up to each week.
     ///
-    /// Errors: `NoMemory` where the row's memory is refused.
+    /// Errors: `NoMemory` if the row cannot be allocated.
     #[tactic(auto, using(crate::proofs::WeekRows::row_none, crate::proofs::WeekRows::row_more, crate::proofs::WeekRows::greatest_none, crate::proofs::WeekRows::greatest_more, crate::proofs::WeekRows::in_week_next))]
     pub fn prefix_max(&self, alloc: Global) -> Result<Weeks<Qty>, PhaseFault>
         ensures value { IfOk result (λ w. w ≡ row (length self.now) (greatest_to (in_week self.now))) }
@@ -144,7 +143,7 @@ impl Weeks<Qty> {
         self.values[usize::from(week) - 1]
     }
 
-    /// Adds to the quantity of a week; None, and nothing changed, where the sum passes 10^15.
+    /// Adds to the quantity of a week; overflow past 10^15 yields `None` and changes nothing.
     #[tactic(auto, using(crate::proofs::WeekRows::in_week_at, crate::proofs::WeekRows::with_week_at))]
     pub fn add_at(&mut self, week: u16, more: Qty) -> Option<()>
         requires first { 0 < week }

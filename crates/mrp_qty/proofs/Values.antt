@@ -2,7 +2,7 @@
 use Rattle.std.proofs.Common.{◌≡◌, ℕ, ◌+◌, ◌*◌, ◌-◌, ◌<◌, ◌≤◌, List, [], ◌∷◌, length, get_or, drop, sym, ap, ◌∙◌, arith, add-one, drop-cons}
 use Rattle.mrp_qty.specs.Digits.{value_after}
 
--- more digits make no number less
+-- a number does not fall with more digits
 pub value_after-least : (before : ℕ) (digits : List ℕ) → before ≤ value_after before digits
 value_after-least before [] = omega arith
 value_after-least before (d ∷ digits) = omega (arith, value_after-least (before * 10 + (d - 48)) digits)

@@ -11,11 +11,11 @@ greatest_quantity = GREATEST_QUANTITY
 abbrev pub quantity_of : ℕ → Option ℕ
 quantity_of n = if nat_le n greatest_quantity then Some n else None
 
--- what has to start so that a quantity is left after a scrap of so many per thousand (Orlicky: scrap allowance; profile:
--- rounded up)
+-- the pieces to start so that a quantity remains after a scrap of so many per thousand (Orlicky: scrap allowance;
+-- profile: rounded up)
 abbrev pub start_of : ℕ → ℕ → ℕ
 start_of scrap quantity = div_ceil (quantity * 1000) (1000 - scrap)
 
--- the least multiple of a size that is no less than a quantity (Orlicky: fixed order quantity; profile for several at once)
+-- the least multiple of a size that covers a quantity (Orlicky: fixed order quantity; profile for several lots at once)
 abbrev pub multiple_of : ℕ → ℕ → ℕ
 multiple_of size quantity = size * div_ceil quantity size

@@ -1,4 +1,4 @@
--- Reading as functions in turn: the first refusal ends it, so the order of lines is the order of faults.
+-- Reading as a sequence of functions: the first refusal ends it, so the order of lines is the order of faults.
 use Rattle.std.specs.Prelude.{Result, Ok, Err}
 
 infixl 10 ◌>>=◌

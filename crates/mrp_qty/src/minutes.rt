@@ -53,7 +53,7 @@ fn digit(number: u128) -> char
 
 /// The text of a time in minutes: the whole minutes in decimal, a point, and three decimals.
 ///
-/// Errors: `NoMemory` where the text's memory is refused.
+/// Errors: `NoMemory` if the text cannot be allocated.
 pub fn minutes_text(alloc: Global, time: Milli) -> Result<String, NoMemory>
     ensures { IfOk result (λ text. string_bytes text ≡ minutes_text_of time) }
 {

@@ -10,16 +10,16 @@ use itoa::Buffer;
 use std::alloc::Global;
 use thiserror::Error;
 
-/// Why a text is no number, in the order in which it is looked for.
+/// Why a text is not a number, in the order in which it is checked.
 #[derive(Clone, Copy, Debug, PartialEq, Eq, Error)]
 pub enum NumberFault {
     /// The text is empty.
     #[error("no digit")]
     Empty,
-    /// A byte is no digit.
+    /// A byte is not a digit.
     #[error("not digits alone")]
     NotDigits,
-    /// The number passes the greatest one that was asked for.
+    /// The number is above the given maximum.
     #[error("too large")]
     TooLarge,
 }
@@ -46,10 +46,10 @@ fn value_within(digits: &[u8], max: u64) -> Result<u64, NumberFault>
     Ok(value)
 }
 
-/// The number that a text's decimal digits stand for, leading zeros accepted, up to `max`.
+/// The number that a text's decimal digits stand for, up to `max`; leading zeros are accepted.
 ///
-/// Errors, in this order: `Empty` for an empty text, `NotDigits` where a byte is no digit,
-/// `TooLarge` where the number passes `max`.
+/// Errors, in this order: `Empty` for an empty text, `NotDigits` if a byte is not a digit,
+/// `TooLarge` if the number is above `max`.
 pub fn read_number(text: &[u8], max: u64) -> Result<u64, NumberFault>
     ensures { result ≡ number_of max text.now }
 {
@@ -64,7 +64,7 @@ pub fn read_number(text: &[u8], max: u64) -> Result<u64, NumberFault>
 
 /// The decimal text of a number, without leading zeros.
 ///
-/// Errors: `NoMemory` where the text's memory is refused.
+/// Errors: `NoMemory` if the text cannot be allocated.
 pub fn number_text(alloc: Global, number: u64) -> Result<String, NoMemory>
     ensures { IfOk result (λ text. string_bytes text ≡ decimal number) }
 {

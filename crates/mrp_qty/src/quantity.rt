@@ -5,7 +5,7 @@ ghost use Rattle.mrp_qty.specs.Quantity.{greatest_quantity, multiple_of, quantit
 
 use std::marker::Model;
 
-/// The most scrap in a thousand.
+/// The greatest scrap, per thousand pieces started.
 pub const MOST_SCRAP: u64 = 900;
 
 /// The greatest quantity, in pieces (profile).
@@ -31,7 +31,7 @@ impl Model for Qty {
 }
 
 impl Qty {
-    /// A number of pieces as a quantity; None past `GREATEST_QUANTITY`.
+    /// A number of pieces as a quantity; `None` above `GREATEST_QUANTITY`.
     pub fn new(pieces: u64) -> Option<Qty>
         ensures { result ≡ quantity_of pieces }
     {
@@ -50,14 +50,14 @@ impl Qty {
         self.pieces
     }
 
-    /// The sum; None past `GREATEST_QUANTITY`.
+    /// The sum; `None` above `GREATEST_QUANTITY`.
     pub fn add(self, other: Qty) -> Option<Qty>
         ensures { result ≡ quantity_of (self + other) }
     {
         Qty::new(self.value() + other.value())
     }
 
-    /// This quantity for each of `per` pieces; None past `GREATEST_QUANTITY`.
+    /// This quantity for each of `per` pieces; `None` above `GREATEST_QUANTITY`.
     pub fn times(self, per: u64) -> Option<Qty>
         ensures { result ≡ quantity_of (self * per) }
     {
@@ -65,8 +65,8 @@ impl Qty {
         Qty::new(u64::try_from(product).ok()?)
     }
 
-    /// What has to start so that this quantity is left after a scrap of so many per thousand, at
-    /// most `MOST_SCRAP` (Orlicky: scrap allowance; profile: rounded up); None past `GREATEST_QUANTITY`.
+    /// The pieces to start so that this quantity remains after `scrap` per thousand, at most
+    /// `MOST_SCRAP` (Orlicky: scrap allowance; profile: rounded up); `None` above `GREATEST_QUANTITY`.
     pub fn start_for(self, scrap: u64) -> Option<Qty>
         requires { scrap ≤ MOST_SCRAP }
         ensures { result ≡ quantity_of (start_of scrap self) }
@@ -74,8 +74,8 @@ impl Qty {
         Qty::new((self.value() * 1000).div_ceil(1000 - scrap))
     }
 
-    /// The least multiple of a size, at least 1, that is no less than this quantity (Orlicky: fixed
-    /// order quantity; profile for several at once); None past `GREATEST_QUANTITY`.
+    /// The least multiple of a size, at least 1, that covers this quantity (Orlicky: fixed order
+    /// quantity; profile for several lots at once); `None` above `GREATEST_QUANTITY`.
     pub fn up_to_multiple(self, size: u64) -> Option<Qty>
         requires { 0 < size }
         ensures { result ≡ quantity_of (multiple_of size self) }

@@ -97,12 +97,12 @@ written-taken contents start now then first tries fewer page text w less taken =
       taken = taken;
     })
 
--- another page is to be written
+-- another page has to be written
 pub written-next : {W : Type 0} (contents : W → Option (List ℕ)) (start now : Told W) (first tries : ℕ) (text more : List ℕ) → IsWritten contents start now first tries [] text
     → IsWritten contents start now first tries more (text ++ more)
 written-next contents start now first tries text more w = written-more contents start now first tries [] more text more w refl
 
--- all that was to be written was taken
+-- all that had to be written was taken
 pub taken-whole : {W : Type 0} (contents : W → Option (List ℕ)) (start now : Told W) (first tries : ℕ) (text : List ℕ) → IsWritten contents start now first tries [] text → HasTaken contents start now text (first - tries)
 taken-whole {W} contents start now first tries text w =
     subst (λ (t : List ℕ). HasTaken contents start now t (first - tries)) (sym (w.split ∙ append-nil w.passed)) w.taken
@@ -110,7 +110,7 @@ taken-whole {W} contents start now first tries text w =
 take-behind : (s t u : List ℕ) (n : ℕ) → n ≤ length t → take (length s + n) (s ++ (t ++ u)) ≡ s ++ take n t
 take-behind s t u n h = take-append-add s (t ++ u) n ∙ ap (λ (l : List ℕ). s ++ l) (take-append-le n t u h)
 
--- what was passed on is a front of the whole
+-- what was passed on is a prefix of the whole
 pub front-now : {W : Type 0} (contents : W → Option (List ℕ)) (start now : Told W) (first tries : ℕ) (page text rest whole : List ℕ) → IsWritten contents start now first tries page text → whole ≡ text ++ rest
     → HasTakenFront contents start now whole
 front-now contents start now first tries page text rest whole w is =
@@ -121,7 +121,7 @@ front-now contents start now first tries page text rest whole w is =
           (sym (ap (take (length w.passed)) split ∙ take-append_seam w.passed (page ++ rest))) w.taken.bytes,
     )
 
--- and so it is with a front of the page
+-- and so it is with a prefix of the page
 pub front-then : {W : Type 0} (contents : W → Option (List ℕ)) (start now then : Told W) (first tries : ℕ) (page text rest whole : List ℕ) → IsWritten contents start now first tries page text → whole ≡ text ++ rest
     → HasTakenFront contents now then page → HasTakenFront contents start then whole
 front-then contents start now then first tries page text rest whole w is (n, within, bytes) =
@@ -180,7 +180,7 @@ same-fault {S} f g e =
     let same : f ≡ g = cc in
     ap (λ (h : ReportFault). Err h) same
 
--- a call has done what it was to do
+-- a call has done what it should
 pub ends-done : {W D : Type 0} (contents : W → Option (List ℕ)) (old new : Told W) (text : List ℕ) (allowed left : ℕ) → left ≤ allowed → D → Ends {T = Unit {0}} contents old new text allowed left (Ok tt) D
 ends-done contents old new text allowed left less done = record {
   whole = done;
@@ -190,7 +190,7 @@ ends-done contents old new text allowed left less done = record {
   memory = λ e. absurd cc;
 }
 
--- memory was refused behind a part of a text
+-- memory ran out after a part of a text
 pub ends-refused : {W T D : Type 0} (contents : W → Option (List ℕ)) (start now : Told W) (first tries : ℕ) (page text rest whole : List ℕ) (r : Result T ReportFault) → IsWritten contents start now first tries page text
     → whole ≡ text ++ rest → r ≡ Err NoMemory → Ends contents start now whole first tries r D
 ends-refused {W} {T} {D} contents start now first tries page text rest whole r w is refused =
@@ -203,7 +203,7 @@ ends-refused {W} {T} {D} contents start now first tries page text rest whole r w
       memory = λ e. gone-on contents start now first tries page text w;
     })
 
--- memory was refused before anything was written
+-- memory ran out before anything was written
 pub ends-at_once : {W T D : Type 0} (contents : W → Option (List ℕ)) (w : Told W) (first : ℕ) (whole : List ℕ) (r : Result T ReportFault) → r ≡ Err NoMemory → Ends contents w w whole first first r D
 ends-at_once contents w first whole r refused =
     ends-refused contents w w first first [] [] whole whole r (written-none contents w first first [] [] refl refl) refl refused

@@ -1,4 +1,4 @@
--- What a told writer has taken of a text (profile).
+-- What a `Told` writer has taken of a text (profile).
 use Rattle.std.specs.Prelude.{ℕ, ◌≡◌, ◌≤◌, ◌+◌, ◌-◌, ◌++◌, ◌⊎◌, List, Option, Result, Err, OnOk, OnErr}
 use Rattle.std.specs.Io.KnownBytes.{Appends}
 use Rattle.mrp_rows.specs.declared.told.Told.{Told}
@@ -14,7 +14,7 @@ pub record HasTaken {W : Type 0} (contents : W → Option (List ℕ)) (old new :
   pub failures : failures_of new ≡ failures_of old
   pub interrupted : RisesBy retried (interrupted_of old) (interrupted_of new)
 
--- a writer took a front of a text
+-- a writer took a prefix of a text
 abbrev pub HasTakenFront : {W : Type 0} → (W → Option (List ℕ)) → Told W → Told W → List ℕ → Type 0
 HasTakenFront contents old new text = WritesFront (contents (inner_of old)) (contents (inner_of new)) text
 
@@ -27,7 +27,7 @@ HasGivenUp old new tries =
 abbrev pub HasGoneOn : {W : Type 0} → Told W → Told W → ℕ → Type 0
 HasGoneOn old new tries = (failures_of new ≡ failures_of old) × (interrupted_of new ≤ interrupted_of old + tries)
 
--- a page's text is passed on to a writer, or a front of it, and the rest is left on the page
+-- a page's text, or a prefix of it, is passed on to a writer, and the rest is left on the page
 pub record PassesOn {W : Type 0} (contents : W → Option (List ℕ)) (old new : Told W) (page left : List ℕ) (retried : ℕ) : Type 0 where
   pub passed : List ℕ
   pub split : page ≡ passed ++ left
@@ -37,8 +37,8 @@ pub record PassesOn {W : Type 0} (contents : W → Option (List ℕ)) (old new :
 abbrev pub HasTakenWhole : {W : Type 0} → (W → Option (List ℕ)) → Told W → Told W → List ℕ → Type 0
 HasTakenWhole contents old new text = (retried : ℕ) × (retried ≤ WRITE_TRIES) × HasTaken contents old new text retried
 
--- how a call ends that is to write a text and has so many tries: it has done that, or a front of the text is taken. It fails
--- as a writer that gave up, or for want of memory, and then the writer has gone on
+-- how a call ends that should write a text and has so many tries: it has done that, or a prefix of the text is taken.
+-- It fails because the writer gave up, or because it ran out of memory, and then the writer has gone on
 pub record Ends {W T : Type 0} (contents : W → Option (List ℕ)) (old new : Told W) (text : List ℕ) (allowed left : ℕ) (result : Result T ReportFault) (Done : Type 0) : Type 0 where
   pub whole : OnOk result Done
   pub tries : left ≤ allowed
@@ -46,11 +46,11 @@ pub record Ends {W T : Type 0} (contents : W → Option (List ℕ)) (old new : T
   pub refused : result ≡ Err Write → HasGivenUp old new allowed
   pub memory : result ≡ Err NoMemory → HasGoneOn old new allowed
 
--- a text is written; so many tries are left of those before
+-- a text is written; so many of the allowed tries are left
 abbrev pub Writes : {W T : Type 0} → (W → Option (List ℕ)) → Told W → Told W → List ℕ → ℕ → ℕ → Result T ReportFault → Type 0
 Writes contents old new text allowed left result = Ends contents old new text allowed left result (HasTaken contents old new text (allowed - left))
 
--- a text is written, or a front of it, and the rest stands on a page
+-- a text, or a prefix of it, is written, and the rest is on a page
 abbrev pub Passes : {W T : Type 0} → (W → Option (List ℕ)) → Told W → Told W → List ℕ → List ℕ → ℕ → ℕ → Result T ReportFault → Type 0
 Passes contents old new text page allowed left result = Ends contents old new text allowed left result (PassesOn contents old new text page (allowed - left))
 

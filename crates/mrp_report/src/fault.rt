@@ -4,13 +4,13 @@ use mrp_qty::NoMemory;
 use mrp_rows::WriteFault;
 use thiserror::Error;
 
-/// Why a report was not written whole. A front of its text was written.
+/// Why a report was not written whole. A prefix of its text has been written.
 #[derive(Clone, Copy, Debug, PartialEq, Eq, Error)]
 pub enum ReportFault {
     /// The writer failed, or was interrupted too often.
     #[error("write failed")]
     Write,
-    /// A growth of memory was refused.
+    /// Out of memory.
     #[error("no memory")]
     NoMemory,
 }

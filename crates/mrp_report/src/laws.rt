@@ -7,8 +7,8 @@ ghost use Rattle.mrp_book.specs.Bookings.{lines_of};
 ghost use Rattle.mrp_item.specs.Inputs.{Inputs};
 ghost use Rattle.mrp_report.specs.section.PromiseRows.{available};
 
-/// What the section `promises` says is available.
+/// What the column `available` of the section `promises` says.
 pub fn promising()
-    // It is what is available to promise beside the bookings that stand.
+    // It is what is available to promise besides the standing bookings.
     ensures { (s : Inputs) (i week : ℕ) → IsMaster (supply_of s.tables) i → IsWeek (supply_of s.tables) week → AreBooked (supply_of s.tables) s.standing → IsAvailable (supply_of s.tables) (lines_of s.standing) i week (available s i week) }
 {}

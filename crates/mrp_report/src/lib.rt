@@ -1,4 +1,5 @@
-//! The texts of a day, section by section: the history of the order book, and the report of a run.
+//! The text of a day, section by section: the history of the order book, and the report of each
+//! run.
 #![tactic(auto)]
 
 mod fault;

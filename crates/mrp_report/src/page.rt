@@ -1,4 +1,4 @@
-//! Pages, which are rows of csv text in memory, and the cells, words and numbers that rows are made of.
+//! Pages: rows of csv text in memory, and the cells, words and numbers that rows consist of.
 
 ghost use Rattle.std.specs.Prelude.{◌≡◌, ◌+◌, ◌≤◌, [], ◌∷◌, ◌++◌, OnOk, length, map, take, vec_len};
 ghost use Rattle.csv.specs.Writing.{default_writer, escaped, quoted};
@@ -33,13 +33,13 @@ use std::io::Write;
 use std::marker::Model;
 pub(crate) use word::{Word, put_word};
 
-// How many bytes a page may hold before it is handed to the writer.
+// A page with at least this many bytes is handed to the writer.
 const FULL: usize = 65_536;
 
-/// Rows of csv text, one after the other, seen as that text.
+/// Rows of csv text; contracts see it as the text.
 ///
-/// A page is put together in memory that is used again once its text was handed over: what stands
-/// behind its end is no part of the text.
+/// The memory of a page is used again once its text was handed over: what is after the end is no
+/// part of the text.
 #[derive(Drop)]
 pub(crate) struct Page {
     bytes: Vec<u8>,
@@ -56,7 +56,7 @@ impl Model for Page {
     ghost invariant = { λ p. p.end ≤ vec_len p.bytes };
 }
 
-// Makes room for a line behind the end.
+// Makes room for a line after the end.
 #[inline(always)]
 fn make_room(bytes: &mut Vec<u8>, end: usize) -> Result<(), AllocError>
     requires { end ≤ vec_len bytes.old }
@@ -133,7 +133,7 @@ impl Page {
         }
     }
 
-    // Adds a cell behind others.
+    // Adds a cell after others.
     fn add_next(&mut self, cell: &[u8]) -> Result<(), NoMemory>
         ensures { OnOk result (self.new ≡ self.old ++ next_cell cell.now) }
     {
@@ -143,7 +143,7 @@ impl Page {
 
     /// Adds a line.
     ///
-    /// Errors: where a growth of memory was refused.
+    /// Errors: `NoMemory` if an allocation fails.
     pub(crate) fn line<L: Line>(&mut self, line: &L) -> Result<(), NoMemory>
         ensures { OnOk result (self.new ≡ self.old ++ L.csv line.now) }
     {
@@ -152,9 +152,9 @@ impl Page {
         Ok(())
     }
 
-    /// Adds a row of cells, two at least: a row of one empty cell would be written another way.
+    /// Adds a row of at least two cells: csv writes a row of one empty cell differently.
     ///
-    /// Errors: where a growth of memory was refused.
+    /// Errors: `NoMemory` if an allocation fails.
     pub(crate) fn row(&mut self, cells: &[&[u8]]) -> Result<(), NoMemory>
         requires { 2 ≤ length cells.now }
         ensures { OnOk result (self.new ≡ self.old ++ row (map (λ cell. cell.now) cells.now)) }
@@ -168,15 +168,15 @@ impl Page {
 
     /// Adds what a section of a day begins with: its line and its header.
     ///
-    /// Errors: where a growth of memory was refused.
+    /// Errors: `NoMemory` if an allocation fails.
     pub(crate) fn begin(&mut self, section: Section) -> Result<(), NoMemory>
         ensures { OnOk result (self.new ≡ self.old ++ head_of section) }
     {
         self.add(section.head().as_bytes())
     }
 
-    /// Whether so much text stands on the page that it is worth a call of the writer. It may be
-    /// handed over at any time.
+    /// Whether the page has enough text for a call of the writer. It may be handed over at any
+    /// time.
     pub(crate) fn is_full(&self) -> bool {
         self.end >= FULL
     }
@@ -188,7 +188,7 @@ impl Page {
         &self.bytes[..self.end]
     }
 
-    /// Takes the text away. The page goes on in its memory.
+    /// Removes the text, and keeps the memory.
     pub(crate) fn clear(&mut self)
         ensures { self.new ≡ [] }
     {
@@ -197,8 +197,8 @@ impl Page {
 
     /// Writes the text, and leaves it on the page.
     ///
-    /// Errors: `Write` where a write failed in this call, or was interrupted with no try left. A
-    /// front of the text was written then.
+    /// Errors: `Write` if a write failed in this call, or was interrupted with no try left. A
+    /// prefix of the text has been written then.
     pub(crate) fn write<W: Write>(
         &self,
         writer: &mut Told<W>,
@@ -210,10 +210,10 @@ impl Page {
         Ok(())
     }
 
-    /// Writes the text, and goes on with an empty page in its memory.
+    /// Writes the text, and empties the page. Its memory is kept.
     ///
-    /// Errors: `Write` where a write failed in this call, or was interrupted with no try left. A
-    /// front of the text was written then.
+    /// Errors: `Write` if a write failed in this call, or was interrupted with no try left. A
+    /// prefix of the text has been written then.
     pub(crate) fn hand_over<W: Write>(
         &mut self,
         writer: &mut Told<W>,
@@ -227,7 +227,7 @@ impl Page {
         Ok(())
     }
 
-    // Hands the page over where it is full.
+    // Hands the page over if it is full.
     pub(crate) fn pass_on<W: Write>(
         &mut self,
         writer: &mut Told<W>,

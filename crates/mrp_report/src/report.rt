@@ -18,7 +18,8 @@ use std::alloc::Global;
 use std::io::Write;
 use std::thread::Threads;
 
-/// The most workers that make the rows of a report: the core numbers workers as it numbers desks.
+/// The most workers that make the rows of a report. Workers are numbered like desks, so it is the
+/// most desks.
 pub const MOST_WORKERS: u64 = mrp_tables::limits::MOST_DESKS;
 
 // Adds the section `run`.
@@ -29,9 +30,8 @@ fn write_run(page: &mut Page, plan: &Plan) -> Result<(), NoMemory>
     run_section(page, snapshot.front(), snapshot.standing().len() as u64)
 }
 
-// Writes what stands on the page, and the rows of a section behind it, in chunks that are made side
-// by side.
-fn write_beside<W: Write>(
+// Writes what is on the page and then the rows of a section, in chunks that are made in parallel.
+fn write_parallel<W: Write>(
     rt: &(impl Threads + Sync),
     alloc: Global,
     chunks: &Chunks<'_>,
@@ -47,8 +47,8 @@ fn write_beside<W: Write>(
     write_waves(rt, alloc, chunks, slots, writer, tries)
 }
 
-// Adds the rows of a section, and hands full pages over. They are made side by side where there are
-// more than a chunk of them, and a page for each of some workers.
+// Adds the rows of a section, and hands full pages over. The rows are made in parallel if they are
+// more than one chunk, and if there are several workers and memory for a page each.
 fn write_rows<W: Write>(
     rt: &(impl Threads + Sync),
     alloc: Global,
@@ -61,7 +61,7 @@ fn write_rows<W: Write>(
     ensures { Passes W.contents writer.old writer.new (page.old ++ rows_in chunks.now) page.new tries.old tries.new result }
 {
     if slots.len() > 1 && chunks.are_many() {
-        write_beside(rt, alloc, chunks, slots, page, writer, tries)
+        write_parallel(rt, alloc, chunks, slots, page, writer, tries)
     } else {
         write_in_turn(alloc, chunks, page, writer, tries)
     }
@@ -84,15 +84,15 @@ fn write_section<W: Write>(
 }
 
 /// Writes the report of a run: the sections `run`, `promises`, `plan`, `orders`, `pegs`, `messages`
-/// and `loads`. The work centres' loads are made side by side, before anything is written.
+/// and `loads`. The loads of the work centres are computed in parallel before anything is written.
 ///
-/// So many workers, 1 to 64 as the caller owes, make the rows: a section with more rows than one of
-/// them makes at a time is made by all of them side by side, and else by one. By one worker no
-/// thread is started for rows.
+/// `workers` (1 to 64, as the caller guarantees) is how many threads make the rows. A section with
+/// more rows than one of them makes at a time is made by all of them in parallel, any other section
+/// by one. With one worker no thread is started for rows.
 ///
-/// An interrupted write is tried again, at most 1,000,000 times. Errors: `Write` where a write failed
-/// in this call or was interrupted more often, and `NoMemory` where a growth of memory was refused
-/// and neither was so. A front of the text was written then.
+/// An interrupted write is tried again, at most 1,000,000 times. Errors: `Write` if a write failed in this
+/// call or was interrupted more often; otherwise `NoMemory` if an allocation fails. A prefix of the text has
+/// been written then.
 pub fn write_report<W: Write>(
     rt: &(impl Alloc + Threads + Sync),
     alloc: Global,

@@ -1,4 +1,5 @@
-//! The sections of a day, each with its rows; here those of a report that go over the items or the work centres.
+//! The sections of a day and their rows; in this file the sections of a report with rows for each item or work
+//! centre.
 
 ghost use Rattle.std.specs.Prelude.{◌≡◌, ◌<◌, ◌++◌, OnOk};
 ghost use Rattle.mrp_day.specs.Sections.{head_of};
@@ -89,7 +90,7 @@ fn told_rows(
 }
 
 impl Section {
-    // Which section of a day it is.
+    // The section of a day that it is.
     fn of_day(self) -> mrp_day::Section
         ensures { result ≡ of_day self }
     {
@@ -110,7 +111,7 @@ impl Section {
         page.begin(self.of_day())
     }
 
-    // How many items or work centres it goes over.
+    // How many items or work centres the section has rows for.
     pub(crate) fn count(self, plan: &Plan) -> usize
         ensures { result ≡ count_in plan.now.inputs self }
     {

@@ -1,4 +1,4 @@
-//! How a section's rows reach the writer: one after the other, or in chunks that are made in parallel, wave by wave.
+//! How the rows of a section reach the writer: in turn, or in chunks that are made in parallel, wave by wave.
 
 ghost use denote.Param.Send.{IsSync};
 ghost use Rattle.std.specs.Prelude.{◌≡◌, ◌<◌, ◌≤◌, length};
@@ -20,7 +20,7 @@ use std::io::Write;
 use std::thread;
 use std::thread::Threads;
 
-// Fills the only one of these pages with the chunk from a place.
+// Fills the only page with the chunk from a place.
 fn fill_one(alloc: Global, chunks: &Chunks<'_>, from: usize, slots: &mut [Slot])
     requires one { length slots.old ≡ 1 }
     requires from { from ≤ count_of chunks.now }
@@ -29,9 +29,9 @@ fn fill_one(alloc: Global, chunks: &Chunks<'_>, from: usize, slots: &mut [Slot])
     slots[0].fill(alloc, chunks, from);
 }
 
-// Fills pages with the chunks from a place: the last one on this thread, each of the others in a thread of its own where
-// one can be started. This thread starts them all: where threads that it started started others, two of them were seen to
-// share a processor, in each wave, while another one had nothing to do.
+// Fills pages with the chunks from a place: the last page on this thread, each of the others in a thread of
+// its own if one can be started. This thread starts them all. When started threads started others, two of
+// them shared a processor in each wave while another processor was idle.
 #[cycle(wave)]
 fn fill_wave<R: Threads + Sync>(
     rt: &R,
@@ -49,12 +49,12 @@ fn fill_wave<R: Threads + Sync>(
         return;
     }
     let (first, rest) = slots.split_at_mut(1);
-    fill_beside(rt, alloc, chunks, from, first, rest);
+    fill_parallel(rt, alloc, chunks, from, first, rest);
 }
 
-// Fills a page in a thread of its own, and in parallel the others with the next chunks.
+// Fills a page in a thread of its own, and meanwhile the others with the next chunks.
 #[cycle(wave)]
-fn fill_beside<R: Threads + Sync>(
+fn fill_parallel<R: Threads + Sync>(
     rt: &R,
     alloc: Global,
     chunks: &Chunks<'_>,
@@ -80,7 +80,7 @@ fn fill_beside<R: Threads + Sync>(
     thread::join_mut(rt, &mut beside, &mut here);
 }
 
-// Makes a wave, which is as many chunks from a place as there are pages, and writes it in order.
+// Makes a wave, as many chunks from a place as there are pages, and writes it in order.
 fn write_wave<W: Write>(
     rt: &(impl Threads + Sync),
     alloc: Global,
@@ -102,11 +102,10 @@ fn write_wave<W: Write>(
     Ok(())
 }
 
-/// Writes the rows of a section, wave by wave. The pages' memory is used again for each wave.
+/// Writes the rows of a section, wave by wave. Each wave reuses the memory of the pages.
 ///
-/// Errors: `Write` where a write failed in this call, or was interrupted with no try left, and
-/// `NoMemory` where a growth of memory was refused and neither was so. A front of the rows was
-/// written then.
+/// Errors: `Write` if a write failed in this call or was interrupted with no try left; otherwise
+/// `NoMemory` if an allocation fails. A prefix of the rows has been written then.
 pub(crate) fn write_waves<W: Write>(
     rt: &(impl Threads + Sync),
     alloc: Global,

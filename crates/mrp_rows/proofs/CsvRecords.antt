@@ -9,7 +9,7 @@ use Rattle.mrp_rows.proofs.CsvSteps.{records_in-next, records_in-none}
 head-same : (a b : List (List ℕ)) (x y : List (List (List ℕ))) → a ∷ x ≡ b ∷ y → (a ≡ b) × (x ≡ y)
 head-same a b x y e = (cc, cc)
 
--- these rows are all the records that are left
+-- these rows are all the remaining records
 pub are-records : (rows : List (List (List ℕ))) (s : State) (xs : List ℕ) → rows ≡ records_in s [] [] xs → AreRecords default_config s xs rows
 unfolding Reached
 are-records [] s xs e = by (next_record default_config s [] [] xs) refl

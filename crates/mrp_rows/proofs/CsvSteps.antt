@@ -1,4 +1,4 @@
--- How the records that are left follow a read.
+-- How the remaining records follow from a read.
 use Rattle.std.proofs.Common.{◌≡◌, ℕ, Bool, true, false, cond, List, [], ◌∷◌, ◌++◌, Some, None, refl, ◌∙◌}
 use Rattle.csv.specs.Machine.{Read, next_record, step, is_end, fields_after, field_after, ends_at_end}
 use Rattle.csv.specs.Reading.{Reached, ReadRecord, default_config, source_of}

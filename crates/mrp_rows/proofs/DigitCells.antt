@@ -18,7 +18,7 @@ pub number_cell-decimal : (n least most : ℕ) → n < 2 ^ 64 → least ≤ n �
 number_cell-decimal n least most small low high =
     digits-within n least most (decimal n) (decimal_is_IsNumeral n small).0.0 (digits_decimal numerals n small) (digits_value-decimal numerals n small) low high
 
--- a zero in front
+-- a leading zero
 zero-first : (least most byte : ℕ) (bytes : List ℕ) → number_cell least most (48 ∷ byte ∷ bytes) ≡ number_cell least most (byte ∷ bytes)
 zero-first least most byte bytes = refl
 

@@ -25,12 +25,12 @@ line-first t.Master rest = refl
 line-first t.Script rest = refl
 line-first t.Bundle rest = refl
 
--- the lines behind the first
+-- the lines after the first
 behind : List (List ℕ) → List (List ℕ)
 behind [] = []
 behind (l ∷ ls) = ls
 
--- a section line stands in bytes that stand at a line's front, or within a line
+-- a section line is in bytes that begin at the start of a line, or within a line
 has_line : Bool → List ℕ → Bool
 has_line true xs = list_any is_section_line (lines_of xs)
 has_line false xs = list_any is_section_line (behind (lines_of xs))
@@ -39,7 +39,7 @@ no-or : (a b : Bool) → (a || b) ≡ false → (a ≡ false) × (b ≡ false)
 no-or true b e = absurd (false≢true (sym e))
 no-or false b e = (refl, e)
 
--- no section line begins with the first byte, and none stands behind it
+-- no section line begins with the first byte, and none comes after it
 no-line-next : (front : Bool) (x : ℕ) (xs : List ℕ) → has_line front (x ∷ xs) ≡ false → (x ≡ 91 → front ≡ false) × (has_line (ends_line x) xs ≡ false)
 unfolding lines_of behind has_line
 no-line-next true x xs free = by (ends_line x) refl (lines_of xs) refl
@@ -55,7 +55,7 @@ no-line-next false x xs free = by (ends_line x) refl (lines_of xs) refl
     by false e [] f = (λ is. refl, rw f refl)
     by false e (l ∷ ls) f = (λ is. refl, rw f (rw (e, f) at free))
 
--- bytes without a section line, and a line feed, stand before the sections of what follows
+-- bytes without a section line, and a line feed, come before the sections of what follows
 plain-front : (front : Bool) (xs rest : List ℕ) → has_line front xs ≡ false
     → parts_at front (xs ++ 10 ∷ rest) ≡ (xs ++ 10 ∷ (sections_in rest).0, (sections_in rest).1)
 unfolding parts_at

@@ -36,11 +36,11 @@ together-parts (l ∷ ls) = by (is_section_line l) refl (together-parts ls)
 pub parts-together : (bytes : List ℕ) → PartsAreTogether bytes
 parts-together bytes = together-parts (lines_of bytes) ∙ joined-lines bytes
 
--- a line that stands before others
+-- a line before others
 abbrev IsLine : List ℕ → Type 0
 IsLine l = (ys : List ℕ) → lines_of (l ++ ys) ≡ l ∷ lines_of ys
 
--- lines that stand behind one another
+-- consecutive lines
 abbrev AreLines : List (List ℕ) → Type 0
 AreLines [] = Unit {0}
 AreLines (l ∷ []) = lines_of l ≡ l ∷ []

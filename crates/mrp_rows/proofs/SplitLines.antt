@@ -29,12 +29,12 @@ line-all (x ∷ y ∷ xs) lt before =
     let more = line-all (y ∷ xs) (omega arith) (λ k h. before (suc k) (omega arith)) in
     rw (first, more) refl
 
--- the parts of lines whose first goes on with one that has begun
+-- the parts of lines whose first continues one that has begun
 pub parts_within : List (List ℕ) → Parts
 parts_within [] = ([], [])
 parts_within (l ∷ ls) = (l ++ (parts_of ls).0, (parts_of ls).1)
 
--- the parts of bytes that stand at a line's front, or within a line
+-- the parts of bytes that begin at the start of a line, or within a line
 unfoldable pub parts_at : Bool → List ℕ → Parts
 parts_at true xs = sections_in xs
 parts_at false xs = parts_within (lines_of xs)
@@ -77,7 +77,7 @@ unfolding begins
 begins-next front x xs zero = refl
 begins-next front x xs (suc k) = refl
 
--- the first bracket that begins a line ends what stands before
+-- the first bracket that begins a line ends the text before the sections
 pub parts-from : (front : Bool) (xs : List ℕ) (n : ℕ) → n ≤ length xs → ((k : ℕ) → k < n → get_or xs k 0 ≡ 91 → begins front xs k ≡ false)
     → (n < length xs → (get_or xs n 0 ≡ 91) × (begins front xs n ≡ true))
     → ((parts_at front xs).0 ≡ take n xs) × ((parts_at front xs).1 ≡ (sections_in (drop n xs)).1)
@@ -109,7 +109,7 @@ opens-begins xs (suc k) =
     let no : eqb (suc k) 0 ≡ false = ne_eqb (suc k) 0 (λ e. absurd (omega (arith, e))) in
     rw (no, sub-one) refl
 
--- what stands before the first section line of a text, and where its sections begin
+-- the text before the first section line, and where the sections begin
 pub sections-from : (xs : List ℕ) (n : ℕ) → n ≤ length xs → ((k : ℕ) → k < n → get_or xs k 0 ≡ 91 → opens_line xs k ≡ false)
     → (n < length xs → (get_or xs n 0 ≡ 91) × (opens_line xs n ≡ true))
     → ((sections_in xs).0 ≡ take n xs) × ((sections_in xs).1 ≡ (sections_in (drop n xs)).1)

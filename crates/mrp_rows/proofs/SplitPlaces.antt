@@ -1,4 +1,4 @@
--- Placing the sections one after the other, as a loop does.
+-- Placing the sections one by one, as a loop does.
 use Rattle.std.proofs.Common.{◌≡◌, ℕ, zero, suc, ◌+◌, ◌<◌, true, List, [], ◌∷◌, get_or, take, drop, Result, Ok, Err, refl, sym, ap, ◌∙◌, arith}
 use Rattle.mrp_rows.specs.declared.fault.Fault.{Fault}
 use Rattle.mrp_rows.specs.Bundle.{lines_of, is_section_line, Section, parts_of, sections_in, section_text, Texts, put_all, table_of, line_text}

@@ -75,7 +75,7 @@ are-placed texts n (s ∷ ss) final nine e =
 same-ok : {A : Type 0} (x y : A) (r : Result A Fault) → r ≡ Ok x → r ≡ Ok y → x ≡ y
 same-ok x y r p q = cc
 
--- a step of a reading that is whole
+-- a step of a reading without fault
 pub whole_step : {A B : Type 0} (r : Result A Fault) (f : A → Result B Fault) (y : B) → (r >>= f) ≡ Ok y → (x : A) × (r ≡ Ok x) × (f x ≡ Ok y)
 whole_step (Ok x) f y e = (x, refl, e)
 whole_step (Err g) f y e = absurd (cc)

@@ -23,16 +23,16 @@ abbrev pub is_section_line : List ℕ → Bool
 is_section_line [] = false
 is_section_line (b ∷ bs) = b == 91
 
--- a section line, and what stands from after it to the next section line or the end
+-- a section line, and the text after it up to the next section line or the end
 pub record Section : Type 0 where
   pub line : List ℕ
   pub text : List ℕ
 
--- what stands before the first section line, and the sections
+-- the text before the first section line, and the sections
 abbrev pub Parts : Type 0
 Parts = List ℕ × List Section
 
--- lines in turn, cut at the section lines
+-- lines, cut at the section lines
 unfoldable pub parts_of : List (List ℕ) → Parts
 parts_of [] = ([], [])
 parts_of (l ∷ ls) =
@@ -43,18 +43,18 @@ parts_of (l ∷ ls) =
 abbrev pub sections_in : List ℕ → Parts
 sections_in bytes = parts_of (lines_of bytes)
 
--- bytes without the byte order mark of UTF-8 in front of them, if one is there
+-- bytes without a leading byte order mark of UTF-8
 unfoldable pub without_mark : List ℕ → List ℕ
 without_mark [] = []
 without_mark (a ∷ []) = a ∷ []
 without_mark (a ∷ b ∷ []) = a ∷ b ∷ []
 without_mark (a ∷ b ∷ c ∷ rest) = if (a == 239) && (b == 187) && (c == 191) then rest else a ∷ b ∷ c ∷ rest
 
--- bytes without the line ends in front of them
+-- bytes without leading line ends
 abbrev pub without_line_ends : List ℕ → List ℕ
 without_line_ends bytes = drop (prefix_len ends_line bytes) bytes
 
--- the text of a section, from what follows its line: without the line ends in front and one mark behind these
+-- the text of a section, from what follows its line: without leading line ends and one mark after them
 abbrev pub section_text : List ℕ → List ℕ
 section_text following = without_mark (without_line_ends following)
 
@@ -100,7 +100,7 @@ Texts = List (Option (List ℕ))
 abbrev pub no_texts : Texts
 no_texts = replicate 9 None
 
--- a text goes to its table's place, unless one stands there
+-- a text goes to its table's place, unless there already is one
 abbrev pub put_text : Texts → List ℕ → Table → Result Texts Fault
 put_text texts text table =
     if is_some (slice_index_or texts (table_index table) None) then Err (section_twice table)
@@ -111,7 +111,7 @@ abbrev pub put_named : Texts → ℕ → List ℕ → Option Table → Result Te
 put_named texts count text (Some table) = put_text texts text table
 put_named texts count text None = Err (unknown_section count)
 
--- the sections in turn, after a count of section lines: the tables' texts, or the first fault from the front
+-- the sections in order, after a count of section lines: the tables' texts, or the first fault
 unfoldable pub put_all : Texts → ℕ → List Section → Result Texts Fault
 put_all texts count [] = Ok texts
 put_all texts count (s ∷ rest) =

@@ -19,12 +19,12 @@ cell_at r column = slice_index_or r.cells column []
 abbrev pub fault_at : Cells → ℕ → Fault
 fault_at r code = record { code = code; table = r.table; row = r.number }
 
--- what a cell is read as, with the record where it is wrong
+-- what a cell is read as; a fault names the record
 abbrev pub blame : {X : Type 0} → Cells → Result X ℕ → Result X Fault
 blame r (Ok x) = Ok x
 blame r (Err code) = Err (fault_at r code)
 
--- a value where there is one, or this code
+-- a value if there is one, or this code
 abbrev pub or_code : {X : Type 0} → ℕ → Option X → Result X ℕ
 or_code code (Some x) = Ok x
 or_code code None = Err code
@@ -33,14 +33,14 @@ or_code code None = Err code
 abbrev pub name_of : List ℕ → Result (List ℕ) ℕ
 name_of cell = or_code faults.NAME (name_in cell)
 
--- a number that is at least this: RANGE where it is less, or too large; NUMBER where there is none
+-- a number that is at least this: RANGE if it is less, or too large; NUMBER if there is none
 abbrev pub at_least : ℕ → Result ℕ NumberFault → Result ℕ ℕ
 at_least least (Ok n) = if nat_le least n then Ok n else Err faults.RANGE
 at_least least (Err TooLarge) = Err faults.RANGE
 at_least least (Err Empty) = Err faults.NUMBER
 at_least least (Err NotDigits) = Err faults.NUMBER
 
--- a number within limits, or NUMBER where the cell is empty or not digits alone, or RANGE outside the limits
+-- a number within limits, or NUMBER if the cell is empty or has a byte that is not a digit, or RANGE outside the limits
 abbrev pub number_cell : ℕ → ℕ → List ℕ → Result ℕ ℕ
 number_cell least most cell = at_least least (number_of most cell)
 

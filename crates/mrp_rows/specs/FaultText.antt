@@ -46,10 +46,10 @@ fault_names =
     ∷ codes "no-memory"
     ∷ []
 
--- a fault's name; a code that no fault has is called a fault
+-- a fault's name; a code that no fault has is named `fault`
 abbrev pub fault_name : ℕ → List ℕ
 fault_name code = slice_index_or fault_names code (codes "fault")
 
--- code, name, table and row with one space between
+-- code, name, table and row, separated by single spaces
 abbrev pub text_of_fault : Fault → List ℕ
 text_of_fault f = decimal f.code ++ codes " " ++ fault_name f.code ++ codes " " ++ table_name f.table ++ codes " " ++ decimal f.row

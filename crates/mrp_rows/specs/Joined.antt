@@ -1,4 +1,4 @@
--- A bundle made of tables that are kept apart.
+-- A bundle joined from separate tables.
 use Rattle.std.specs.Prelude.{ℕ, ◌≡◌, false, List, [], ◌++◌, map, codes}
 use Rattle.std.specs.List.{flat_map, All}
 use Rattle.mrp_rows.specs.declared.fault.Table.{Table}
@@ -6,7 +6,7 @@ use Rattle.mrp_rows.specs.Bundle.{Section, sections_in}
 use Rattle.mrp_rows.specs.FaultText.{table_name}
 use Rattle.mrp_rows.specs.Together.{has_section_line}
 
--- a table, and the bytes that are kept of it
+-- a table and its bytes
 abbrev pub Part : Type 0
 Part = Table × List ℕ
 
@@ -14,7 +14,7 @@ Part = Table × List ℕ
 abbrev pub section_line_of : Table → List ℕ
 section_line_of table = codes "[" ++ table_name table ++ codes "]\n"
 
--- a part as a section: its table's line, and its bytes with a line feed behind them (profile)
+-- a part as a section: its table's line, and its bytes with a line feed after them (profile)
 abbrev pub section_of : Part → Section
 section_of part = record { line = section_line_of part.0; text = part.1 ++ codes "\n" }
 
@@ -22,7 +22,7 @@ section_of part = record { line = section_line_of part.0; text = part.1 ++ codes
 abbrev pub section_bytes : Section → List ℕ
 section_bytes s = s.line ++ s.text
 
--- the bundle of parts: their sections in turn
+-- the bundle of parts: their sections in order
 abbrev pub joined : List Part → List ℕ
 joined parts = flat_map (λ part. section_bytes (section_of part)) parts
 

@@ -9,7 +9,7 @@ pub record Cells : Type 0 where
   pub number : ℕ
   pub cells : List (List ℕ)
 
--- the records of a table that are left, the number of the first, and whether the reading is over: its end was told, or a refusal
+-- the remaining records of a table, the number of the first, and whether the reading is over: its end or a refusal was returned
 pub record Left : Type 0 where
   pub layout : Layout
   pub number : ℕ

@@ -12,7 +12,7 @@ use Rattle.mrp_rows.specs.Records.{records_of}
 abbrev pub header_fault : Table → Fault
 header_fault table = record { code = faults.HEADER; table = table; row = 0 }
 
--- memory was refused for a table's record of this number
+-- out of memory at a table's record of this number
 abbrev pub memory_fault : Table → ℕ → Fault
 memory_fault table number = record { code = faults.NO_MEMORY; table = table; row = number }
 
@@ -20,7 +20,7 @@ memory_fault table number = record { code = faults.NO_MEMORY; table = table; row
 abbrev pub is_header : Layout → List (List ℕ) → Bool
 is_header own cells = pointwise (pointwise nat_eq) cells own.columns
 
--- a table's header, or HEADER: also where there is no record
+-- a table's header, or HEADER, also if there is no record
 abbrev pub headed : Layout → Option Cells → Result (Unit {0}) Fault
 headed own None = Err (header_fault own.table)
 headed own (Some first) = if is_header own first.cells then Ok tt else Err (header_fault own.table)
@@ -36,16 +36,17 @@ after_header own (header ∷ records) =
 abbrev pub opened : Layout → List ℕ → Result Left Fault
 opened own text = after_header own (records_of text)
 
--- a table's record of this number has another count of cells than the table has columns
+-- the count of cells of a table's record of this number is not that of the table's columns
 abbrev pub columns_fault : Table → ℕ → Fault
 columns_fault table number = record { code = faults.COLUMNS; table = table; row = number }
 
--- what a call returned is what reading gives, or memory was refused
+-- what a call returned is what reading gives, or it was out of memory
 abbrev pub GivesUnless : {X : Type 0} → Fault → Result X Fault → Result X Fault → Type 0
 GivesUnless refused (Ok x) read = read ≡ Ok x
 GivesUnless refused (Err f) read = (f ≡ refused) ⊎ (read ≡ Err f)
 
--- the number of the record after this one. Numbers go up to the greatest of 32 bits: past it, which no table within its limits reaches, they stay
+-- the number of the record after this one. Numbers saturate at the greatest of 32 bits, which no table within its limits
+-- reaches
 abbrev pub next_number : ℕ → ℕ
 next_number n = min (n + 1) 4294967295
 
@@ -61,7 +62,7 @@ pub record HasEnded (old new : Left) : Type 0 where
   pub same : new.layout ≡ old.layout
   pub number : new.number ≡ old.number
 
--- the first of the records that were left is taken, with its table and number; the number goes on to those behind it
+-- the first of the remaining records is taken, with its table and number; the number moves on to those after it
 pub record IsTaken (old : Left) (r : Cells) (new : Left) : Type 0 where
   pub taken : old.left ≡ r.cells ∷ new.left
   pub table : r.table ≡ old.layout.table
@@ -71,7 +72,7 @@ pub record IsTaken (old : Left) (r : Cells) (new : Left) : Type 0 where
   pub was_open : old.is_over ≡ false
   pub is_open : new.is_over ≡ false
 
--- memory was refused for the next record: none is taken, and the number stays
+-- out of memory for the next record: none is taken, and the number stays
 pub record LacksMemory (old : Left) (f : Fault) (new : Left) : Type 0 where
   pub fault : f ≡ memory_fault old.layout.table old.number
   pub number : new.number ≡ old.number
@@ -83,7 +84,7 @@ pub record IsRefused (Why : Type 0) (old new : Left) : Type 0 where
   pub was_open : old.is_over ≡ false
   pub over : IsOver new
 
--- the next record with its number, whatever its cells; None at the end and from then on; or memory was refused
+-- the next record with its number, whatever its count of cells; None at the end and from then on; or out of memory
 abbrev pub TakesNext : Left → Result (Option Cells) Fault → Left → Type 0
 TakesNext old (Ok None) new = HasEnded old new
 TakesNext old (Ok (Some r)) new = IsTaken old r new
@@ -94,7 +95,7 @@ pub record IsNext (old : Left) (r : Cells) (new : Left) : Type 0 where
   pub first : IsTaken old r new
   pub wide : length r.cells ≡ width old.layout
 
--- the record that is taken has another count of cells, and the number goes on
+-- the count of cells of the record that is taken is wrong, and the number moves on
 pub record IsMisshapen (old : Left) (f : Fault) (new : Left) : Type 0 where
   pub cells : List (List ℕ)
   pub rest : List (List (List ℕ))
@@ -103,7 +104,8 @@ pub record IsMisshapen (old : Left) (f : Fault) (new : Left) : Type 0 where
   pub fault : f ≡ columns_fault old.layout.table old.number
   pub number : new.number ≡ next_number old.number
 
--- the same, of records that have as many cells as their table has columns: the first that has not is refused, and a refusal is the last answer but None
+-- the same, of records that have as many cells as their table has columns: the first that has not is refused, and after
+-- a refusal comes only None
 abbrev pub NextIs : Left → Result (Option Cells) Fault → Left → Type 0
 NextIs old (Ok None) new = HasEnded old new
 NextIs old (Ok (Some r)) new = IsNext old r new

@@ -19,11 +19,11 @@ abbrev pub PlacesAll : {T : Type 0} → List Section → (T → List (Option (Bo
 PlacesAll sections view (Ok texts) = put_all no_texts 0 sections ≡ Ok (texts_of (view texts))
 PlacesAll sections view (Err f) = put_all no_texts 0 sections ≡ Err f
 
--- no bytes, or bytes that begin with a section line
+-- empty, or begins with a section line
 abbrev pub IsAtSection : List ℕ → Type 0
 IsAtSection bytes = 0 < length bytes → slice_index bytes 0 ≡ 91
 
--- what a function gave behind a reference is what a definition gives
+-- what a function returned by reference is what a definition gives
 abbrev pub GivesText : Result (Bor (List ℕ)) Fault → Result (List ℕ) Fault → Type 0
 GivesText (Ok text) read = read ≡ Ok text.now
 GivesText (Err f) read = read ≡ Err f

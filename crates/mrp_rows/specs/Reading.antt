@@ -15,16 +15,16 @@ TextReader = Reader (Bor (List ℕ))
 abbrev pub remaining_of : Bor (List ℕ) → Option (List ℕ)
 remaining_of text = Some text.now
 
--- the records of the bytes that are left, where they are known
+-- the records of the remaining bytes, if these are known
 abbrev pub records_left : State → Option (List ℕ) → List (List (List ℕ))
 records_left s None = []
 records_left s (Some bytes) = records_in s [] [] bytes
 
--- the records that a reader has left
+-- the remaining records of a reader
 abbrev pub records_after : TextReader → List (List (List ℕ))
 records_after reader = records_left (reader_state reader) (source_of remaining_of reader)
 
--- a reader with the default dialect, of records of any count of cells, which reads on
+-- a reader with the default dialect, for records of any count of cells, that is not done
 pub record IsReading (reader : TextReader) : Type 0 where
   pub config : reader_config reader ≡ default_config
   pub trim : reader_trim reader ≡ trim.None
@@ -32,7 +32,7 @@ pub record IsReading (reader : TextReader) : Type 0 where
   pub ready : Ready reader
   pub known : (bytes : List ℕ) × (source_of remaining_of reader ≡ Some bytes)
 
--- the next record's cells, or none where none is left
+-- the next record's cells, or none at the end
 abbrev pub ReadsCells : TextReader → Result (Option Row) NoMemory → TextReader → Type 0
 ReadsCells old (Ok None) new = records_after old ≡ []
 ReadsCells old (Ok (Some cells)) new = (records_after old ≡ fields_of cells ∷ records_after new) × IsReading new

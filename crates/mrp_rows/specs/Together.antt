@@ -10,7 +10,7 @@ use Rattle.mrp_rows.specs.FaultText.{table_name}
 abbrev pub mark : List ℕ
 mark = 239 ∷ 187 ∷ 191 ∷ []
 
--- what stands before the first section line, and then each section line with what follows it
+-- the text before the first section line, and then each section line with what follows it
 abbrev pub together : Parts → List ℕ
 together parts = parts.0 ++ flat_map (λ s. s.line ++ s.text) parts.1
 
@@ -22,12 +22,12 @@ has_section_line bytes = list_any is_section_line (lines_of bytes)
 abbrev pub PartsAreTogether : List ℕ → Type 0
 PartsAreTogether bytes = together (sections_in bytes) ≡ bytes
 
--- no section line stands before the first, nor in what follows one
+-- there is no section line before the first, nor in what follows one
 pub record HasNoOther (bytes : List ℕ) : Type 0 where
   pub before : has_section_line (sections_in bytes).0 ≡ false
   pub sections : list_any (λ s. has_section_line s.text) (sections_in bytes).1 ≡ false
 
--- one mark goes from the front, and nothing else
+-- one leading mark is dropped, and nothing else
 pub record DropsOneMark (bytes : List ℕ) : Type 0 where
   pub marked : without_mark (mark ++ bytes) ≡ bytes
   pub only : (without_mark bytes ≡ bytes) ⊎ (bytes ≡ mark ++ without_mark bytes)
@@ -40,7 +40,7 @@ NamesItsTable table = table ≢ t.Bundle → table_of (codes "[" ++ table_name t
 abbrev pub IsTextOf : List (List ℕ) → Section → Type 0
 IsTextOf texts s = (table : Table) × (table_of (line_text s.line) ≡ Some table) × (text_in texts table ≡ section_text s.text)
 
--- each of the sections so
+-- this holds of each of the sections
 abbrev pub AreTextsOf : List (List ℕ) → List Section → Type 0
 AreTextsOf texts [] = Unit {0}
 AreTextsOf texts (s ∷ sections) = IsTextOf texts s × AreTextsOf texts sections

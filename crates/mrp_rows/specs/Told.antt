@@ -1,4 +1,5 @@
--- What a told reader or writer shows: its inner value and four counts, each up to the greatest `u64` (profile).
+-- What contracts see of a reader or writer that counts its calls: its inner value and four counts, each up to the
+-- greatest `u64` (profile).
 use Rattle.std.specs.Prelude.{ℕ, ◌+◌, ◌-◌, ◌^◌, ◌≤◌, ◌&&◌, ◌==◌, min, nat_lt, not, Bool, true, false, Result, Ok, Err}
 use Rattle.std.specs.IoError.{error_kind}
 use Rattle.std.specs.declared.io.Error.{Error}
@@ -26,7 +27,7 @@ failures_of told = told.counts.failures
 abbrev pub moved_of : {T : Type 0} → Told T → ℕ
 moved_of told = told.counts.moved
 
--- where a count stays
+-- where a count saturates
 abbrev pub greatest_count : ℕ
 greatest_count = 2 ^ 64 - 1
 
@@ -34,11 +35,11 @@ greatest_count = 2 ^ 64 - 1
 abbrev pub counted : ℕ → ℕ → ℕ
 counted n before = min (before + n) greatest_count
 
--- a count has risen by n or more; at its greatest it is taken as risen by any amount
+-- a count has risen by n or more; at its greatest value it counts as risen by any amount
 abbrev pub HasRisenBy : ℕ → ℕ → ℕ → Type 0
 HasRisenBy n old new = counted n old ≤ new
 
--- a count of the calls of which a test says yes, one call later
+-- a count of the calls that pass a test, one call later
 abbrev pub counted_if : Bool → ℕ → ℕ
 counted_if true before = counted 1 before
 counted_if false before = before
@@ -53,12 +54,12 @@ abbrev pub was_interrupted : {X : Type 0} → Result X Error → Bool
 was_interrupted (Ok x) = false
 was_interrupted (Err e) = is_interruption (error_kind e)
 
--- whether a call failed: by a fault that is no interruption
+-- whether a call failed: with an error other than an interruption
 abbrev pub has_failed : {X : Type 0} → Result X Error → Bool
 has_failed (Ok x) = false
 has_failed (Err e) = not (is_interruption (error_kind e))
 
--- whether a write of so many bytes failed: by such a fault, or with none taken of some
+-- whether a write of so many bytes failed: with such an error, or non-empty with no byte taken
 abbrev pub write_has_failed : ℕ → Result ℕ Error → Bool
 write_has_failed len (Ok n) = (n == 0) && nat_lt 0 len
 write_has_failed len (Err e) = not (is_interruption (error_kind e))

@@ -1,7 +1,7 @@
 //! The sections of a bundle.
 //!
-//! A line begins at the front of the bundle and after each line feed or carriage return. A line
-//! whose first byte is `[` is a section line, wherever it stands, also inside a quoted cell.
+//! A line begins at the start of the bundle and after each line feed or carriage return. A line
+//! whose first byte is `[` is a section line, wherever it is, even inside a quoted cell.
 
 ghost use Rattle.std.specs.Prelude.{◌≡◌, ◌≤◌, ◌<◌, ◌∷◌, ◌||◌, ◌==◌, ◌-◌, ◌+◌, IfSome, OnOk, length, take, drop, position, slice_index};
 ghost use Rattle.std.specs.List.{list_all};
@@ -33,9 +33,8 @@ impl<'a> Sections<'a> {
     ghost use Rattle.std.specs.Prelude.{◌≡◌};
     ghost use Rattle.mrp_rows.specs.Bundle.{text_in};
 
-    /// The text of a table's section: what follows its line, without the line ends in front
-    /// and without one byte order mark behind these. The bundle itself has no section, and an
-    /// empty text.
+    /// The text of a table's section: what follows its line, without leading line ends and without
+    /// one byte order mark after them. The bundle itself has no section; its text is empty.
     pub fn text_of(&self, table: Table) -> &'a [u8]
         ensures { result.now ≡ text_in self.now table }
     {
@@ -66,7 +65,7 @@ fn begins_line(bytes: &[u8], at: usize) -> bool
     at == 0 || is_line_end(bytes[at - 1])
 }
 
-// The length of what stands before the first section line.
+// The length of the text before the first section line.
 fn before_section(bytes: &[u8]) -> usize
     ensures within { result ≤ length bytes.now }
     ensures before { (sections_in bytes.now).0 ≡ take result bytes.now }
@@ -139,7 +138,7 @@ fn table_named(name: &[u8]) -> Option<Table>
     }
 }
 
-// The bytes after a byte order mark, if one stands in front.
+// The bytes without a leading byte order mark.
 #[tactic(auto, unfolding(crate::specs::Bundle::without_mark))]
 fn after_mark(bytes: &[u8]) -> &[u8]
     ensures { result.now ≡ without_mark bytes.now }
@@ -150,7 +149,7 @@ fn after_mark(bytes: &[u8]) -> &[u8]
     }
 }
 
-// The bytes from the first that ends no line.
+// The bytes without leading line ends.
 fn after_line_ends(bytes: &[u8]) -> &[u8]
     ensures { result.now ≡ without_line_ends bytes.now }
 {
@@ -170,7 +169,7 @@ fn text_after(following: &[u8]) -> &[u8]
     after_mark(after_line_ends(following))
 }
 
-// Puts a section's text at its table's place; `count` is the number of section lines up to it.
+// Stores a section's text at its table's place; `count` is the number of section lines up to it.
 fn put_section<'a>(
     texts: &mut [Option<&'a [u8]>; 9],
     count: u32,
@@ -207,7 +206,7 @@ struct Texts<'a> {
     places: [Option<&'a [u8]>; 9],
 }
 
-// Puts each section's text at its table's place.
+// Stores each section's text at its table's place.
 fn place_all(sections: &[u8]) -> Result<Texts<'_>, Fault>
     requires { IsAtSection sections.now }
     ensures { PlacesAll (sections_in sections.now).1 (λ t. t.places) result }
@@ -259,14 +258,14 @@ fn sections_at<'a>(texts: &[Option<&'a [u8]>; 9]) -> Result<Sections<'a>, Fault>
     })
 }
 
-/// The sections of a bundle. It borrows from the bundle and takes no memory.
+/// The sections of a bundle. It borrows from the bundle and does not allocate.
 ///
-/// A byte order mark at the very front is dropped. Before the first section line only line ends
-/// may stand; the sections may come in any order, each table's once, and all nine must be there.
+/// A leading byte order mark is dropped. Before the first section line only line ends are allowed;
+/// the sections may come in any order, one for each table, and all nine are required.
 ///
-/// Errors, the first three at the first place from the front where one stands:
+/// Errors, of the first three the one that comes first in the bundle:
 /// 1 text before the first section line; 2 a section line that names no table, with the count of
-/// section lines up to it as row; 3 a second section of a table; 4 the first table with no section.
+/// section lines up to it as row; 3 a second section of a table; 4 the first table without a section.
 #[tactic(auto, unfolding(crate::specs::Bundle::bundle_of))]
 pub fn split_bundle(bundle: &[u8]) -> Result<Sections<'_>, Fault>
     ensures { result ≡ bundle_of bundle.now }

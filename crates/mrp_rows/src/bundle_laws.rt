@@ -5,18 +5,18 @@ ghost use Rattle.mrp_rows.specs.declared.fault.Table.{Table};
 ghost use Rattle.mrp_rows.specs.Joined.{ComeApart, Part};
 ghost use Rattle.mrp_rows.specs.Together.{PartsAreTogether, HasNoOther, DropsOneMark, NamesItsTable, TextsAreSections};
 
-/// What stands before the first section line, and each section line with what follows it, are
-/// the bundle again.
+/// The text before the first section line, and each section line with what follows it, make up the
+/// bundle.
 pub fn parts_are_together()
     ensures { (bytes : List ℕ) → PartsAreTogether bytes }
 {}
 
-/// No section line stands in what follows another, nor before the first.
+/// There is no section line in the text of a section, nor before the first.
 pub fn no_other_section_line()
     ensures { (bytes : List ℕ) → HasNoOther bytes }
 {}
 
-/// One byte order mark is dropped from the front, and nothing else.
+/// One leading byte order mark is dropped, and nothing else.
 pub fn one_mark_is_dropped()
     ensures { (bytes : List ℕ) → DropsOneMark bytes }
 {}
@@ -31,7 +31,7 @@ pub fn texts_are_sections()
     ensures { (bytes : List ℕ) → TextsAreSections bytes }
 {}
 
-/// The sections of joined tables are those tables' own, unless one has a section line in it.
+/// The sections of joined tables are those tables' own, unless one contains a section line.
 pub fn joined_tables_come_apart()
     ensures { (parts : List Part) → ComeApart parts }
 {}

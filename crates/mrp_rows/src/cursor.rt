@@ -1,4 +1,4 @@
-//! A table's records, one after the other.
+//! A table's records, in order.
 
 ghost use Rattle.std.specs.Prelude.{◌≡◌, false, map};
 ghost use Rattle.mrp_rows.specs.Bundle.{text_in};
@@ -17,10 +17,10 @@ use mrp_qty::NoMemory;
 use std::alloc::Global;
 use std::marker::Model;
 
-// Room for a record's bytes: most are shorter, and a longer one makes its own.
+// Initial capacity for a record's bytes: most are shorter, and a longer one grows it.
 const USUAL_LENGTH: usize = 64;
 
-/// The records of a table that are left, behind its header, with the names of its columns.
+/// The remaining records of a table, after its header, with the names of its columns.
 #[derive(Drop)]
 pub struct Cursor<'a> {
     alloc: Global,
@@ -29,7 +29,7 @@ pub struct Cursor<'a> {
     columns: &'static [&'static str],
     number: u32,
     done: bool,
-    // A record that was given back, to read the next one into.
+    // A record that was given back; the next one reuses its memory.
     spare: Option<ByteRecord>,
 }
 
@@ -46,7 +46,7 @@ impl<'a> Model for Cursor<'a> {
 }
 
 impl<'a> Cursor<'a> {
-    // At the front of a table's text, the header included.
+    // At the start of a table's text, the header included.
     fn front(
         alloc: Global,
         text: &'a [u8],
@@ -75,10 +75,10 @@ impl<'a> Cursor<'a> {
         }
     }
 
-    /// The records of a table, behind its header.
+    /// The records of a table, after its header.
     ///
-    /// Errors, at row 0: `HEADER`, where the header's cells are not exactly the names of the table's
-    /// columns, also where there is no record, as in the bundle, which has no section; `NO_MEMORY`.
+    /// Errors, at row 0: `HEADER` if the header's cells are not exactly the names of the table's
+    /// columns, or if there is no record, as for the bundle, which has no section; `NO_MEMORY`.
     pub fn new(alloc: Global, sections: &Sections<'a>, table: Table) -> Result<Cursor<'a>, Fault>
         ensures { GivesUnless (memory_fault table 0) result
             (opened (layout_of table) (text_in sections.now table)) }
@@ -86,7 +86,7 @@ impl<'a> Cursor<'a> {
         Cursor::over(alloc, sections.text_of(table), table)
     }
 
-    // The records of a table's text, behind its header.
+    // The records of a table's text, after its header.
     pub(crate) fn over(alloc: Global, text: &'a [u8], table: Table) -> Result<Cursor<'a>, Fault>
         ensures { GivesUnless (memory_fault table 0) result (opened (layout_of table) text.now) }
     {
@@ -111,12 +111,12 @@ impl<'a> Cursor<'a> {
         self.number
     }
 
-    /// The next record, or None at the end. After a refusal there is none for good. The number goes
-    /// on with each record that was taken, also one that is refused for its cells, and stays
+    /// The next record, or `None` at the end. After a refusal it always returns `None`. The number
+    /// rises with each record that was read, also one that is refused for its cells, and stays
     /// otherwise.
     ///
-    /// Errors, at the record's number: `COLUMNS`, where it has another count of cells than its table
-    /// has columns; `NO_MEMORY`.
+    /// Errors, at the record's number: `COLUMNS` if the count of its cells is not that of the table's
+    /// columns; `NO_MEMORY`.
     pub fn next(&mut self) -> Result<Option<Row>, Fault>
         ensures { NextIs self.old result self.new }
     {
@@ -130,14 +130,14 @@ impl<'a> Cursor<'a> {
         Ok(Some(row))
     }
 
-    /// Takes a record back: the next one is read into its memory. Where none is given back, the next takes memory of its own.
+    /// Takes a record back, to read the next one into its memory. Otherwise the next one allocates.
     pub fn reuse(&mut self, row: Row)
         ensures { self.new ≡ self.old }
     {
         self.spare = Some(row.into_cells());
     }
 
-    // The next record, whatever its cells.
+    // The next record, whatever its count of cells.
     fn take_next(&mut self) -> Result<Option<Row>, Fault>
         ensures { TakesNext self.old result self.new }
     {
@@ -181,7 +181,7 @@ fn headed(table: Table, columns: &[&str], first: &Option<Row>) -> Result<(), Fau
     }
 }
 
-// The cells of a reader's next record, or None at the end, in the memory of a spare one where there is one.
+// The cells of a reader's next record, or `None` at the end. A spare record's memory is reused.
 fn read_cells(
     alloc: Global,
     reader: &mut Reader<&[u8]>,

@@ -2,7 +2,7 @@
 
 ghost use Rattle.std.specs.Prelude.{◌≡◌, ◌<◌};
 
-/// A table of the bundle, in the order in which faults are looked for, or the bundle itself.
+/// A table of the bundle, in the order in which faults are checked, or the bundle itself.
 #[derive(Clone, Copy, Debug, PartialEq, Eq)]
 pub enum Table {
     /// The start of the horizon, its weeks, and the shop's workdays and holidays.
@@ -11,7 +11,7 @@ pub enum Table {
     Items,
     /// The work centres.
     Centres,
-    /// What is on hand.
+    /// The stock on hand.
     Stock,
     /// The open receipts.
     Receipts,
@@ -63,7 +63,7 @@ impl Table {
 pub struct Fault {
     /// The fault's number, one of [`crate::faults`].
     pub code: u8,
-    /// The table that it stands in.
+    /// The table of the fault.
     pub table: Table,
     /// The record, counted from 1; 0 for the header, for a section as a whole and for the bundle.
     pub row: u32,

@@ -8,10 +8,10 @@ use crate::faults::fault_name;
 use mrp_qty::NoMemory;
 use std::alloc::Global;
 
-/// A fault as text: its code, its name, its table and its row, with one space between, as
-/// `13 unknown-item bills 4`. A code of [`crate::faults`] has a name of its own, any other is `fault`.
+/// A fault as text: its code, its name, its table and its row, separated by single spaces, as
+/// `13 unknown-item bills 4`. A code that is not in [`crate::faults`] has the name `fault`.
 ///
-/// Errors: `NoMemory` where the text's memory is refused.
+/// Errors: `NoMemory` if the text cannot be allocated.
 pub fn fault_text(alloc: Global, fault: &Fault) -> Result<String, NoMemory>
     ensures { IfOk result (λ text. string_bytes text ≡ text_of_fault fault.now) }
 {

@@ -18,25 +18,25 @@ pub const MISSING_SECTION: u8 = 4;
 /// A table's first record is not its header.
 pub const HEADER: u8 = 5;
 
-/// A record has another count of cells than its table has columns, or is missing.
+/// The count of a record's cells is not that of its table's columns, or a record is missing.
 pub const COLUMNS: u8 = 6;
 
-/// A cell is no name.
+/// A cell is not a name.
 pub const NAME: u8 = 7;
 
-/// A cell is no number.
+/// A cell is not a number.
 pub const NUMBER: u8 = 8;
 
-/// A cell is no date.
+/// A cell is not a date.
 pub const DATE: u8 = 9;
 
-/// A cell is not one of its words.
+/// A cell is not one of its column's words.
 pub const WORD: u8 = 10;
 
 /// A cell is outside its limits.
 pub const RANGE: u8 = 11;
 
-/// An item, or an item's order, stands in an earlier record.
+/// An item, or an item's order, is already in an earlier record.
 pub const REPEATED: u8 = 12;
 
 /// No item has the name.
@@ -60,13 +60,13 @@ pub const MASTER_RECEIPT: u8 = 18;
 /// A bill line's component is a master item.
 pub const MASTER_COMPONENT: u8 = 19;
 
-/// A record is past its table's limit.
+/// A record is beyond its table's limit.
 pub const TOO_MANY: u8 = 20;
 
 /// An item's bills lead back to it.
 pub const LOOP: u8 = 21;
 
-/// Memory was refused.
+/// Out of memory.
 pub const NO_MEMORY: u8 = 22;
 
 /// A fault's name by its number; `fault` for a number that no fault has.

@@ -1,4 +1,4 @@
-//! A bundle made of tables that are kept apart.
+//! A bundle joined from separate tables.
 
 ghost use Rattle.std.specs.Prelude.{◌≡◌, ◌++◌, IfOk, OnOk, map};
 ghost use Rattle.mrp_rows.specs.Joined.{joined, section_bytes, section_of};
@@ -10,9 +10,9 @@ use std::alloc::Global;
 /// The bundle of some tables' bytes, in the order given: for each its section line, as `[items]`,
 /// its bytes and a line feed.
 ///
-/// A section line among a part's bytes begins a section of its own, as in every bundle.
+/// A section line in a part's bytes begins a section of its own, as in every bundle.
 ///
-/// Errors: `NoMemory` where the bundle's memory is refused.
+/// Errors: `NoMemory` if the bundle cannot be allocated.
 pub fn join_bundle(alloc: Global, parts: &[(Table, &[u8])]) -> Result<Vec<u8>, NoMemory>
     ensures { IfOk result (λ bundle.
         bundle.items ≡ joined (map (λ part. (part.0, part.1.now)) parts.now)) }
@@ -25,7 +25,7 @@ pub fn join_bundle(alloc: Global, parts: &[(Table, &[u8])]) -> Result<Vec<u8>, N
     Ok(bundle)
 }
 
-// Puts a table's section behind a bundle.
+// Appends a table's section to a bundle.
 fn push_section(bundle: &mut Vec<u8>, table: Table, bytes: &[u8]) -> Result<(), NoMemory>
     ensures { OnOk result (bundle.new.items
         ≡ bundle.old.items ++ section_bytes (section_of (table, bytes.now))) }

@@ -81,7 +81,7 @@ impl fmt::Debug for Name {
 }
 
 impl Name {
-    /// A text as a name; None where it is none.
+    /// A text as a name; `None` if it is not one.
     pub fn new(text: &[u8]) -> Option<Name>
         ensures { result ≡ name_in text.now }
     {

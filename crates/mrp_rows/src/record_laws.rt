@@ -19,8 +19,8 @@ pub fn records_are_csv()
         → rows ≡ records_of text }
 {}
 
-/// A number's decimal text reads as the number, where it is within the limits; zeros in front
-/// change nothing; and what reads as a number is digits alone, at least one, of a value within them.
+/// A number's decimal text reads as the number, if it is within the limits; leading zeros change
+/// nothing; and what reads as a number is one or more digits, and its value is within the limits.
 pub fn numbers_in_cells()
     ensures decimal_text { (n least most : ℕ) → n < 2 ^ 64 → least ≤ n → n ≤ most
         → number_cell least most (decimal n) ≡ Ok n }

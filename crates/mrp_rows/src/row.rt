@@ -19,7 +19,7 @@ use std::marker::Model;
 
 /// A record of a table, with its number: records after the header are counted from 1.
 ///
-/// Its cells are read from the record's own text, so reading them takes no memory.
+/// Its cells are slices of the record's own text, so reading them does not allocate.
 #[derive(Drop)]
 pub struct Row {
     table: Table,
@@ -54,7 +54,7 @@ impl Row {
         self.cells
     }
 
-    /// The table that it stands in.
+    /// Its table.
     pub fn table(&self) -> Table
         ensures { result ≡ self.now.table }
     {
@@ -86,7 +86,7 @@ impl Row {
         self.cells.len()
     }
 
-    /// The bytes of a cell. Columns are counted from 0, and the caller owes a column of the record.
+    /// The bytes of a cell. Columns are counted from 0; the record must have the column.
     pub fn cell(&self, column: usize) -> &[u8]
         requires { column < length self.now.cells }
         ensures { result.now ≡ cell_at self.now column }
@@ -96,7 +96,7 @@ impl Row {
 
     /// A cell as a name.
     ///
-    /// Errors: `NAME`, where it is no name.
+    /// Errors: `NAME` if it is not a name.
     pub fn name(&self, column: usize) -> Result<Name, Fault>
         requires { column < length self.now.cells }
         ensures cell { result ≡ blame self.now (name_of (cell_at self.now column)) }
@@ -110,8 +110,8 @@ impl Row {
 
     /// A cell as a number from `least` to `most`; leading zeros are accepted.
     ///
-    /// Errors: `NUMBER`, where it is empty or not digits alone; `RANGE`, where the number is outside
-    /// the limits.
+    /// Errors: `NUMBER` if it is empty or has a byte that is not a digit; `RANGE` if the number is
+    /// outside the limits.
     pub fn number(&self, column: usize, least: u64, most: u64) -> Result<u64, Fault>
         requires { column < length self.now.cells }
         ensures number { result
@@ -134,7 +134,7 @@ impl Row {
 
     /// A cell as a date, `YYYY-MM-DD` in the years 1900 to 2999.
     ///
-    /// Errors: `DATE`, where it is none.
+    /// Errors: `DATE` if it is not a date.
     pub fn date(&self, column: usize) -> Result<Date, Fault>
         requires { column < length self.now.cells }
         ensures date { result ≡ blame self.now (date_cell (cell_at self.now column)) }
@@ -148,7 +148,7 @@ impl Row {
 
     /// A cell as one of these words: its place among them, from 0.
     ///
-    /// Errors: `WORD`, where it is none of them.
+    /// Errors: `WORD` if it is not one of them.
     #[tactic(auto, using(crate::proofs::WordPlaces::position_map))]
     pub fn word(&self, column: usize, words: &[&str]) -> Result<usize, Fault>
         requires { column < length self.now.cells }

@@ -1,4 +1,4 @@
-//! A bundle read whole and a text written whole, through told streams.
+//! A bundle read whole and a text written whole, through streams that count their calls.
 
 ghost use Rattle.std.specs.Prelude.{◌≡◌, ◌≤◌, ◌<◌, ◌+◌, ◌++◌, ◌-◌, ◌⊎◌, ℕ, List, Ok, Err, OnOk, OnErr, IfOk, IfSome, length, nat_lt, vec_len, false};
 ghost use Rattle.std.specs.Io.KnownBytes.{Appends, IsAtEnd};
@@ -13,21 +13,21 @@ use std::marker::Model;
 /// The greatest bundle, in bytes.
 pub const GREATEST_BUNDLE: usize = 67_108_864;
 
-/// How many calls of `read` a bundle may take.
+/// The greatest number of `read` calls for a bundle.
 pub const READ_CALLS: u32 = 100_000_000;
 
-// How many bytes a call of `read` is asked for.
+// How many bytes one `read` call requests.
 const PIECE: usize = 65_536;
 
-/// How often interrupted writes are tried again in one call.
+/// How often interrupted writes are retried in one call.
 pub const WRITE_TRIES: u32 = 1_000_000;
 
-/// Why a bundle could not be read, in the order in which it is looked for.
+/// Why a bundle could not be read, in the order in which it is checked.
 #[derive(Clone, Copy, Debug, PartialEq, Eq)]
 pub enum ReadFault {
-    /// The reader failed, or passed the limit of bytes or of calls.
+    /// The reader failed, or exceeded the limit of bytes or of calls.
     Read,
-    /// A growth of memory was refused.
+    /// An allocation failed.
     NoMemory,
 }
 
@@ -46,7 +46,7 @@ impl From<AllocError> for ReadFault {
 #[derive(Clone, Copy, Debug, PartialEq, Eq)]
 pub struct WriteFault;
 
-/// How often interrupted writes may still be tried again, seen as that number.
+/// The retries of interrupted writes that are left; contracts see it as that number.
 ///
 /// A call that writes several texts makes one and passes it to each.
 #[derive(Drop)]
@@ -65,14 +65,14 @@ impl Model for Tries {
 impl Tries {
     ghost use Rattle.std.specs.Prelude.{◌≡◌, ◌-◌, nat_lt};
 
-    /// The 1,000,000 tries of one call.
+    /// The 1,000,000 retries of one call.
     pub fn new() -> Tries
         ensures { result ≡ WRITE_TRIES }
     {
         Tries { left: WRITE_TRIES }
     }
 
-    // Takes one of the tries; false where none is left.
+    // Takes one of the retries; false if none is left.
     fn take(&mut self) -> bool
         ensures some { result ≡ nat_lt 0 self.old }
         ensures fewer { self.new ≡ self.old - 1 }
@@ -83,10 +83,10 @@ impl Tries {
     }
 }
 
-/// Writes a text, or a front of it.
+/// Writes a text; after an error a prefix of it was written.
 ///
-/// An interrupted write is tried again as long as tries are left, a failed one never. Errors: where
-/// a write failed in this call, or was interrupted with no try left.
+/// An interrupted write is retried while retries are left, a failed one never. Errors: a write
+/// failed in this call, or was interrupted with no retry left.
 pub fn write_text<W: Write>(
     writer: &mut Told<W>,
     text: &[u8],
@@ -121,7 +121,7 @@ pub fn write_text<W: Write>(
     Ok(())
 }
 
-// One call of the reader: what it gave goes behind the bytes. Says whether more may come.
+// One call of the reader: appends what it gave to the bytes. Returns whether more may follow.
 fn read_piece<R: Read>(
     reader: &mut Told<R>,
     piece: &mut [u8],
@@ -160,11 +160,11 @@ fn read_piece<R: Read>(
     }
 }
 
-/// All bytes that a reader has left: at most so many, within so many calls of `read`.
+/// All remaining bytes of a reader: at most so many, within so many calls of `read`.
 ///
-/// An interrupted read is tried again and counts as a call. Errors: `Read` where the reader failed
-/// in this call, gave more bytes or needed more calls; `NoMemory` where a growth was refused, and
-/// no read failed. After an error the reader has been read up to some place.
+/// An interrupted read is retried and counts as a call. Errors: `Read` if the reader failed in this
+/// call, gave more bytes or needed more calls; `NoMemory` if an allocation failed and no read
+/// failed. After an error an unspecified prefix of the reader's bytes has been read.
 pub fn read_within<R: Read>(
     alloc: Global,
     reader: &mut Told<R>,
@@ -200,7 +200,7 @@ pub fn read_within<R: Read>(
     Err(ReadFault::Read)
 }
 
-/// All bytes that a reader has left, as a bundle: at most 67,108,864, within 100,000,000 calls of
+/// All remaining bytes of a reader, as a bundle: at most 67,108,864, within 100,000,000 calls of
 /// `read`.
 ///
 /// Errors: as of [`read_within`].

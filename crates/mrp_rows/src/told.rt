@@ -9,7 +9,7 @@ ghost use Rattle.mrp_rows.specs.Told.{counted, counted_if, is_interruption, was_
 use std::io;
 use std::io::{ErrorKind, Read, Write};
 
-// What came of the calls so far. Each count stays at its greatest value.
+// The outcomes of the calls so far. Each count saturates.
 #[derive(Clone, Copy)]
 struct Counts {
     calls: u64,
@@ -31,7 +31,7 @@ pub(crate) fn is_interrupted(error: &io::Error) -> bool
     matches!(error.kind(), ErrorKind::Interrupted)
 }
 
-// How many bytes a read gave or a write took.
+// The bytes that a read gave or a write took.
 fn moved(outcome: &io::Result<usize>) -> u64
     ensures { result ≡ moved_in outcome.now }
 {
@@ -69,9 +69,9 @@ impl Counts {
 }
 
 /// A reader or a writer that counts the calls of its inner value, those that were interrupted,
-/// and those that failed: a fault that is no interruption, or no byte written of some.
+/// and those that failed: an error other than an interruption, or a non-empty write that took no byte.
 ///
-/// Each count stays at `u64::MAX` once it is there, and is then taken as risen by any amount.
+/// Each count saturates at `u64::MAX`, and there counts as risen by any amount.
 #[derive(Drop)]
 pub struct Told<T> {
     inner: T,

@@ -1,4 +1,4 @@
--- What comes first of a record.
+-- What is checked first of a record.
 use Rattle.std.proofs.Common.{List, refl}
 use Rattle.std.proofs.lemmas.Bool.{eq-eqb, ne_eqb}
 use Rattle.mrp_rows.specs.Columns.{Layout}

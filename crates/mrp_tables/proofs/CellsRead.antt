@@ -1,4 +1,4 @@
--- What a cell keeps that was read.
+-- What holds of a cell that was read.
 use Rattle.std.proofs.Common.{◌≡◌, ◌<◌, ◌≤◌, ◌+◌, ◌*◌, ◌/◌, ℕ, Bool, true, false, List, [], ◌∷◌, Option, Some, None, Result, Ok, Err, ℤ, pos, negsuc, refl, ap, subst, arith, length}
 use Rattle.std.specs.Prelude.{IfOk, if◌then◌else◌, nat_eq, nat_le, nat_lt}
 use Rattle.std.specs.Char.{is_ascii_digit}
@@ -33,12 +33,12 @@ pub uncoded : {X : Type 0} (code : ℕ) (x : Option X) (a : X) → or_code code 
 uncoded code (Some b) a e = let same : b ≡ a = cc in ap (λ c. Some c) same
 uncoded code None a e = absurd cc
 
--- a check that let a value through
+-- a check that a value passed
 pub unless : {X E : Type 0} (b : Bool) (e : E) (y x : X) → (if b then Err e else Ok y) ≡ Ok x → (b ≡ false) × (y ≡ x)
 unless true e y x given = absurd cc
 unless false e y x given = let same : y ≡ x = cc in (refl, same)
 
--- a check that let a reading go on
+-- a check that a reading passed
 pub past_check : {X E : Type 0} (b : Bool) (e : E) (rest : Result X E) (x : X) → (if b then Err e else rest) ≡ Ok x → (b ≡ false) × (rest ≡ Ok x)
 past_check true e rest x given = absurd cc
 past_check false e rest x given = (refl, given)
@@ -80,7 +80,7 @@ least-within least most (Err NotDigits) n few e = absurd cc
 pub in_range : (least most : ℕ) (r : Cells) (cell : List ℕ) (n : ℕ) → blame r (number_cell least most cell) ≡ Ok n → IsInRange least most n
 in_range least most r cell n e = least-within least most (number_of most cell) n (number-within most cell) (unblamed r (number_cell least most cell) n e)
 
--- a name is one
+-- a cell read as a name is a name
 pub named : (r : Cells) (cell name : List ℕ) → blame r (name_of cell) ≡ Ok name → is_name name ≡ true
 named r cell name e = by (is_name cell) refl (uncoded faults.NAME _ name (unblamed r (name_of cell) name e))
   where
@@ -88,21 +88,21 @@ named r cell name e = by (is_name cell) refl (uncoded faults.NAME _ name (unblam
     by true is given = let same : cell ≡ name = cc in subst (λ (text : List ℕ). is_name text ≡ true) same is
     by false is given = absurd cc
 
--- the item of a name is there
+-- the item of a name exists
 pub there : (items : List Item) (r : Cells) (name : List ℕ) (place : ℕ) → blame r (known items name) ≡ Ok place → place < length items
 there items r name place e =
     let found : place_of name items ≡ Some place = uncoded faults.UNKNOWN_ITEM (place_of name items) place (unblamed r (known items name) place e) in
     let within : place < length (names_of items) = (position-Some (pointwise nat_eq name) (names_of items) place [] found).0 in
     rw length-map at within
 
--- the centre of a name is there
+-- the centre of a name exists
 pub centre-there : (centres : List Centre) (r : Cells) (name : List ℕ) (place : ℕ) → blame r (known_centre centres name) ≡ Ok place → place < length centres
 centre-there centres r name place e =
     let found : centre_place name centres ≡ Some place = uncoded faults.UNKNOWN_CENTRE (centre_place name centres) place (unblamed r (known_centre centres name) place e) in
     let within : place < length (centre_names centres) = (position-Some (pointwise nat_eq name) (centre_names centres) place [] found).0 in
     rw length-map at within
 
--- a master item that is there
+-- a master item that exists
 pub master-there : (items : List Item) (r : Cells) (item master : ℕ) → item < length items → blame r (mastered items item) ≡ Ok master → IsMasterItem items master
 master-there items r item master within e =
     let found = where_so (is_master_at items item) faults.NOT_MASTER item master (unblamed r (mastered items item) master e) in

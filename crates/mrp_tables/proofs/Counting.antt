@@ -45,7 +45,7 @@ after_admitted most own limit next rows r go (Err f) is given = absurd cc
 after_admitted most own limit next rows r go (Ok c) is given =
     go (admitted_within most own r c (is_past most r.number) refl is) c given
 
--- the records behind a header are counted from 1
+-- the records after a header are counted from 1
 by_header : (own : Layout) (made all : Left) (same : Bool) → made.number ≡ 1 → (if same then Ok made else Err (header_fault own.table)) ≡ Ok all → 1 ≤ all.number
 by_header own made all true one e = let h : made ≡ all = cc in omega (arith, ap (λ (l : Left). l.number) h)
 by_header own made all false one e = absurd cc

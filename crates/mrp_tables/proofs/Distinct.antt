@@ -1,4 +1,4 @@
--- A list and a set of keys that grow by something new.
+-- A list and a set of keys to which something new is added.
 use Rattle.std.proofs.Common.{◌≡◌, ◌≢◌, ◌-◌, ◌++◌, ℕ, Bool, true, false, List, [], ◌∷◌, Result, Ok, Err, get_or, length, length-append, take, refl, ap, ◌∙◌, arith}
 use Rattle.std.specs.Prelude.{IfOk, OnErr, if◌then◌else◌, is_err, map}
 use Rattle.std.specs.Cmp.{IsEquivalence, and_equiv, nat_eq_equiv, on_equiv}
@@ -38,7 +38,7 @@ pub added_key : {X E : Type 0} (same : X → X → Bool) (added : Result Bool E)
 added_key same (Ok new) before after x ok keys fresh = keys ∙ rw fresh refl
 added_key same (Err refused) before after x ok keys fresh = absurd cc
 
--- what is said of a refusal, where there is one
+-- what holds of a refusal, if there is one
 pub where_refused : {X E P : Type 0} (r : Result X E) → is_err r ≡ true → OnErr r P → P
 where_refused (Ok x) refused h = absurd cc
 where_refused (Err e) refused h = h

@@ -1,4 +1,4 @@
--- A row that has an item and a name or a number that no earlier row has together.
+-- A row whose pair of an item and a name or a number is new.
 use Rattle.std.proofs.Common.{◌≡◌, Bool, true, false, List, Result, Ok, Err, refl}
 use Rattle.std.specs.Prelude.{IfOk, if◌then◌else◌}
 use Rattle.std.specs.List.{list_any}

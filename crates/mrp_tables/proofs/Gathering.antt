@@ -1,4 +1,4 @@
--- Gathering a table's rows, one record after the other.
+-- Gathering a table's rows, record by record.
 use Rattle.std.proofs.Common.{◌≡◌, ◌⊎◌, ℕ, List, [], ◌∷◌, ◌++◌, Some, None, Result, Ok, Err, inl, inr, refl, sym, subst, ap, ◌∙◌, append_assoc}
 use Rattle.mrp_qty.specs.Reading.{◌>>=◌}
 use Rattle.mrp_rows.specs.declared.fault.Fault.{Fault}
@@ -10,7 +10,7 @@ use Rattle.mrp_tables.specs.Laws.{read_one}
 use Rattle.mrp_tables.specs.Reading.{Adds, IsRefusedBehind, NextAdmitted, Reads, admitted, number_behind, rows_from}
 use Rattle.mrp_tables.proofs.RowLaws.{Records, bind_assoc}
 
--- a table is read, but for the records that a cursor has left
+-- a table is read, except for a cursor's remaining records
 pub record IsLeft {X : Type 0} (read : Reads X) (t : Layout) (before : List X) (c : Left) (total : Result (List X) Fault) : Type 0 where
   pub left : rows_from read t before c.number c.left ≡ total
   pub layout : c.layout ≡ t
@@ -18,7 +18,7 @@ pub record IsLeft {X : Type 0} (read : Reads X) (t : Layout) (before : List X) (
 same_cells : (a b : Cells) → a.table ≡ b.table → a.number ≡ b.number → a.cells ≡ b.cells → a ≡ b
 same_cells a b e f g = λ i. record { table = e i; number = f i; cells = g i }
 
--- the first of the records that are left
+-- the first of the remaining records
 begins : {X : Type 0} (read : Reads X) (t : Layout) (before : List X) (old new : Left) (r : Cells) (total : Result (List X) Fault)
     → IsLeft read t before old total → NextAdmitted (read.limit before) old (Ok (Some r)) new
     → (read.row before r >>= λ x. rows_from read t (before ++ (x ∷ [])) new.number new.left) ≡ total
@@ -90,7 +90,7 @@ adds_done read t start first all before after old new r u own h given (x, reads,
       at = given.first.after ∙ ap next_number h.at ∙ sym (number_behind-more h.done first r.cells);
     }
 
--- memory is refused at a cursor's place
+-- out of memory at a cursor's place
 behind : {X : Type 0} (read : Reads X) (t : Layout) (start : List X) (first : ℕ) (all : Records) (before : List X) (c : Left) (f : Fault)
     → IsDone read t start first all before c → c.layout ≡ t → f ≡ memory_fault c.layout.table c.number → IsRefusedBehind read t start first all f
 behind read t start first all before c f h own e = record {

@@ -1,4 +1,4 @@
--- The rows that count, of the open receipts and of the master schedule.
+-- The rows that have pieces, of the open receipts and of the master schedule.
 use Rattle.std.proofs.Common.{◌≡◌, ◌≢◌, ◌<◌, ◌≤◌, ℕ, List, [], ◌∷◌, length, get_or, true, sym, ◌∙◌, arith}
 use Rattle.std.specs.Prelude.{All, AllPairs, map, nat_lt}
 use Rattle.std.proofs.lemmas.Bool.{ltb-true}

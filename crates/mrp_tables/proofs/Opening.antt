@@ -18,7 +18,7 @@ after_header-layout own [] c e = absurd cc
 after_header-layout own (header ∷ records) c e =
     by_header own (record { layout = own; number = 1; left = records; is_over = false }) c (pointwise (pointwise nat_eq) header own.columns) refl e
 
--- what gathering behind the header gives is what reading the table gives
+-- what gathering after the header gives is what reading the table gives
 pub gathered-read : {X Y : Type 0} (view : X → List Y) (reads : Reads Y) (t : Layout) (text : List ℕ) (c : Left) (empty : List Y) (r : Result X Fault)
     → opened t text ≡ Ok c → empty ≡ [] → Gives (IsRefusedBehind reads c.layout empty c.number c.left) view r (rows_from reads c.layout empty c.number c.left)
     → Gives (IsRefusedIn reads t text) view r (rows_of reads t text)

@@ -1,4 +1,4 @@
--- What a record's row keeps that was read.
+-- What holds of a record's row that was read.
 use Rattle.std.proofs.Common.{◌≡◌, ◌≤◌, ℕ, Bool, true, false, List, Result, Ok, refl, subst, arith}
 use Rattle.std.specs.Prelude.{if◌then◌else◌, nat_lt, not, ◌==◌}
 use Rattle.std.specs.Int.{IsInRange}

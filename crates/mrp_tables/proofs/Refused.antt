@@ -1,4 +1,4 @@
--- A fault of a table that is read behind others: that of its reading, or a refusal of memory.
+-- A fault of a table that is read after others: that of its reading, or out of memory.
 use Rattle.std.proofs.Common.{◌≡◌, ◌⊎◌, ℕ, List, [], Err, inl, inr, sym, ap, subst}
 use Rattle.mrp_rows.specs.Bundle.{text_in}
 use Rattle.mrp_rows.specs.Columns.{Layout, layout_of}
@@ -11,7 +11,7 @@ use Rattle.mrp_tables.specs.Reading.{IsRefusedBehind, IsRefusedIn, Reads}
 use Rattle.mrp_tables.specs.Tables.{tables_in}
 use Rattle.mrp_tables.proofs.TableLaws.{refused_behind}
 
--- a refusal of memory, at its table
+-- out of memory, at its table
 record IsMemoryFault (own : Table) (f : Fault) : Type 0 where
   code : f.code ≡ faults.NO_MEMORY
   table : f.table ≡ own
@@ -23,7 +23,7 @@ memory_in : {X : Type 0} (read : Reads X) (own : Layout) (text : List ℕ) (f : 
 memory_in read own text f (inl e) = record { code = ap (λ (g : Fault). g.code) e; table = ap (λ (g : Fault). g.table) e }
 memory_in read own text f (inr (all, opens, behind)) = memory_behind read own [] all.number all.left f behind
 
--- a table's fault, or a refusal of memory at it, is the bundle's behind tables that are read whole
+-- a table's fault, or out of memory at it, is the bundle's after tables that are read whole
 pub refused : (texts : List (List ℕ)) (own : Table) (f : Fault) → AreWholeBefore texts own → IsRefusedAt texts f own ⊎ (table_in texts own ≡ Err f)
     → IsMemoryRefusal texts f ⊎ (tables_in texts ≡ Err f)
 refused texts own f earlier (inr e) = inr (refused_behind texts f own earlier e)

@@ -1,4 +1,4 @@
--- A table's records, read in turn.
+-- A table's records, read in order.
 use Rattle.std.proofs.Common.{◌≡◌, ◌⊎◌, ℕ, ◌<◌, ◌+◌, Bool, true, false, List, [], ◌∷◌, ◌++◌, length, get_or, take, length-append, append_assoc, Result, Ok, Err, inl, inr, refl, sym, ap, ◌∙◌, arith, subst}
 use Rattle.std.specs.Prelude.{nat_eq, if◌then◌else◌}
 use Rattle.std.specs.Cmp.Lexicographic.{pointwise}
@@ -44,7 +44,7 @@ one_more {X} read own done before cells x h reads = record {
 next_number-at : (place : ℕ) → next_number (number_at place) ≡ number_at (place + 1)
 next_number-at place = grind arith
 
--- the record behind those that are read is refused
+-- the record after those that are read is refused
 refused : {X : Type 0} (read : Reads X) (own : Layout) (done : Records) (before : List X) (cells : List (List ℕ)) (rest : Records) (f : Fault)
     → AreReadFrom read own done before → read_one read own before (record { table = own.table; number = number_at (length done); cells = cells }) ≡ Err f
     → IsFirstFault read own (done ++ cells ∷ rest) f
@@ -92,7 +92,7 @@ by_header : (own : Layout) (made all : Left) (same : Bool) → made.number ≡ 1
 by_header own made all true one e = let h : made ≡ all = cc in ap (λ (l : Left). l.number) (sym h) ∙ one
 by_header own made all false one e = absurd cc
 
--- behind the header the records are counted from 1
+-- after the header the records are counted from 1
 from_one : (own : Layout) (records : Records) (all : Left) → after_header own records ≡ Ok all → all.number ≡ 1
 from_one own [] all e = absurd cc
 from_one own (header ∷ records) all e =

@@ -1,4 +1,4 @@
--- The tables of a bundle, read in turn: which one gives the fault.
+-- The tables of a bundle, read in order: which one gives the fault.
 use Rattle.std.proofs.Common.{◌≡◌, ◌⊎◌, ℕ, suc, ◌+◌, List, [], ◌∷◌, ◌++◌, Result, Ok, Err, inl, inr, refl, sym, ap, subst, ◌∙◌, take, map, arith}
 use Rattle.mrp_qty.specs.Reading.{◌>>=◌}
 use Rattle.mrp_rows.specs.declared.fault.Fault.{Fault}
@@ -33,7 +33,7 @@ first_tables_fault texts =
 pub whole_and : {X : Type 0} {x : Result X Fault} {a : X} {rest : Result (Unit {0}) Fault} → x ≡ Ok a → rest ≡ Ok tt → (whole x >>= λ w. rest) ≡ Ok tt
 whole_and e given = rw e given
 
--- tables that stand at their places, from this one on
+-- tables at their places, from this one on
 abbrev pub AreInOrder : ℕ → List Table → Type 0
 AreInOrder place [] = Unit {0}
 AreInOrder place (own ∷ more) = (table_index own ≡ place) × AreInOrder (suc place) more
@@ -41,7 +41,7 @@ AreInOrder place (own ∷ more) = (table_index own ≡ place) × AreInOrder (suc
 in_order : AreInOrder 0 table_order
 in_order = (refl, (refl, (refl, (refl, (refl, (refl, (refl, (refl, (refl, tt)))))))))
 
--- the first table that is not read whole, behind tables that are
+-- the first table that is not read whole, after tables that are
 pub record IsFirstRefused (read : Table → Result (Unit {0}) Fault) (place : ℕ) (tables : List Table) (f : Fault) : Type 0 where
   pub own : Table
   pub behind : ℕ
@@ -67,7 +67,7 @@ first_of_all read place (own ∷ more) f order given = by (read own) refl given 
           earlier = rw is rest.earlier;
         }
 
--- a bundle's fault is that of a table behind others that are read whole
+-- a bundle's fault is that of a table after others that are read whole
 pub record IsRefusedByTable (texts : List (List ℕ)) (f : Fault) : Type 0 where
   pub own : Table
   pub refused : reading_of texts own ≡ Err f

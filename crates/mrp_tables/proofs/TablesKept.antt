@@ -1,4 +1,4 @@
--- What accepted tables keep, by the definitions alone.
+-- What holds of accepted tables, by the definitions alone.
 use Rattle.std.proofs.Common.{◌≡◌, ◌⊎◌, ◌≤◌, ℕ, List, [], ◌∷◌, ◌++◌, Result, Ok, Err, inl, inr, refl, sym, subst, ◌∙◌, arith, length}
 use Rattle.std.specs.Prelude.{All, nat_eq, nat_lt, ◌&&◌}
 use Rattle.std.specs.Cmp.{nat_eq_equiv}
@@ -31,7 +31,7 @@ use Rattle.mrp_tables.specs.Bills.{bill_row}
 use Rattle.mrp_tables.specs.Centres.{centre_cells, centre_names, centre_row}
 use Rattle.mrp_tables.specs.Facts.{AllDiffer, IsBillLine, IsCentre, IsItem, IsMasterRow, IsMasterRowIfAny, IsOperation, IsReceipt, IsReceiptIfAny, IsScriptRow, IsStockRow, NumbersRise}
 use Rattle.mrp_tables.specs.Items.{is_master, item_cells, item_row, names_of}
-use Rattle.mrp_tables.specs.Laws.{HasOneReading, IsToldAtItsTable}
+use Rattle.mrp_tables.specs.Laws.{HasOneReading, IsReportedAtItsTable}
 use Rattle.mrp_tables.specs.Master.{master_row, that_count}
 use Rattle.mrp_tables.specs.Readers.{by_centres, by_dates, by_items, calendar_in, calendar_table_in, centres_in, items_in}
 use Rattle.mrp_tables.specs.Reading.{Reads, admitted, by_itself, reads_of, rows_from, rows_of}
@@ -49,7 +49,7 @@ use Rattle.mrp_tables.proofs.Kept.{kept, kept-count, kept_orders, kept_receipts,
 use Rattle.mrp_tables.proofs.RecordsRead.{is_bill_line, is_centre, is_item, item_lead, is_master_row, is_placed, is_routed, is_script_row, is_stock_row}
 use Rattle.mrp_tables.proofs.Rising.{receipts_rise}
 use Rattle.mrp_tables.proofs.Stocked.{more_items}
-use Rattle.mrp_tables.proofs.TellingTables.{told_at_its_table}
+use Rattle.mrp_tables.proofs.TellingTables.{reported_at_its_table}
 
 -- what holds of no row, and of one row more that is read, holds of all
 kept_from : {X : Type 0} (Are : List X → Type 0) (read : Reads X) → ((before : List X) (r : Cells) (x : X) → Are before → read.row before r ≡ Ok x → Are (before ++ x ∷ []))
@@ -181,7 +181,7 @@ are_receipts calendar items text rows e =
     kept_of (AreReceipts calendar items) (reads_of t.Receipts (receipt_row calendar items)) (one_receipt calendar items) (layout_of t.Receipts) text rows
     (record { within = All-nil (IsReceiptIfAny calendar.weeks items); ordered = none_differ }) e
 
--- a table that is read beside these
+-- a table that refers to these
 beside_items : {X : Type 0} (texts : List (List ℕ)) (own : Table) (reads : List Item → Reads X) (items : List Item) (rows : List X) → items_in texts ≡ Ok items
     → (by_items texts reads >>= λ read. rows_of read (layout_of own) (text_in texts own)) ≡ Ok rows → rows_of (reads items) (layout_of own) (text_in texts own) ≡ Ok rows
 beside_items texts own reads items rows is e = sym (rw is refl) ∙ e
@@ -200,7 +200,7 @@ beside_centres {X} texts own reads items centres rows is_items is_centres e =
     let same : (by_centres texts reads >>= λ read. rows_of read (layout_of own) (text_in texts own)) ≡ rows_of (reads items centres) (layout_of own) (text_in texts own) = rw (is_items, is_centres) refl in
     sym same ∙ e
 
--- the open receipts that count
+-- the open receipts that have pieces
 record AreReceiptsKept (calendar : ShopCalendar) (items : List Item) (rows : List Receipt) : Type 0 where
   within : All (IsReceipt calendar.weeks items) rows
   numbered : NumbersRise rows
@@ -223,7 +223,7 @@ receipts_kept texts calendar items rows is_calendar is_items e =
       count = omega (arith, few, fewer);
     })
 
--- the rows of the master schedule that count
+-- the rows of the master schedule that have pieces
 record AreMasterKept (calendar : ShopCalendar) (items : List Item) (rows : List MasterRow) : Type 0 where
   within : All (IsMasterRow calendar.weeks items) rows
   count : length rows ≤ limits.MOST_ROWS
@@ -301,6 +301,6 @@ one_reading texts = record {
 }
   where
     by : (r : Result Tables Fault) → tables_in texts ≡ r
-        → ((tables : Tables) × (tables_in texts ≡ Ok tables) × AreTables tables) ⊎ ((f : Fault) × (tables_in texts ≡ Err f) × IsToldAtItsTable texts f)
+        → ((tables : Tables) × (tables_in texts ≡ Ok tables) × AreTables tables) ⊎ ((f : Fault) × (tables_in texts ≡ Err f) × IsReportedAtItsTable texts f)
     by (Ok tables) e = inl (tables, e, are_tables texts tables e)
-    by (Err f) e = inr (f, e, told_at_its_table texts f e)
+    by (Err f) e = inr (f, e, reported_at_its_table texts f e)

@@ -1,4 +1,4 @@
--- A bundle's fault, told at its table.
+-- A bundle's fault, reported at its table.
 use Rattle.std.proofs.Common.{◌≡◌, ℕ, List, Result, Ok, Err, refl, sym, subst}
 use Rattle.mrp_qty.specs.Reading.{◌>>=◌}
 use Rattle.mrp_cal.specs.Calendar.{ShopCalendar}
@@ -13,7 +13,7 @@ use Rattle.mrp_tables.specs.declared.rows.Centre.{Centre}
 use Rattle.mrp_tables.specs.Bills.{bill_row}
 use Rattle.mrp_tables.specs.Centres.{centre_row}
 use Rattle.mrp_tables.specs.Items.{item_row}
-use Rattle.mrp_tables.specs.Laws.{AreWholeBefore, FaultsAtItsRecord, IsToldAtItsTable, reading_of, whole}
+use Rattle.mrp_tables.specs.Laws.{AreWholeBefore, FaultsAtItsRecord, IsReportedAtItsTable, reading_of, whole}
 use Rattle.mrp_tables.specs.Master.{master_row, that_count}
 use Rattle.mrp_tables.specs.Readers.{by_centres, by_dates, by_items, calendar_in, calendar_table_in, centres_in, items_in, table_in}
 use Rattle.mrp_tables.specs.Reading.{Reads, by_itself, reads_of, rows_of}
@@ -68,7 +68,7 @@ centres_own texts own reads items centres is_items is_centres at = rw (is_items,
 counted_own : {X : Type 0} (own : Table) (count : List X → List X) (read : Result (List X) Fault) → IsOf own read → IsOf own (read >>= λ rows. Ok (count rows))
 counted_own own count read at = follows own read (λ rows. Ok (count rows)) at (λ rows e. tt)
 
--- behind tables that are read whole, a table's fault is its own
+-- after tables that are read whole, a table's fault is its own
 own_fault : (texts : List (List ℕ)) (own : Table) → AreWholeBefore texts own → IsOf own (table_in texts own)
 own_fault texts t.Calendar earlier = calendar_own (text_in texts t.Calendar)
 own_fault texts t.Items earlier =
@@ -105,8 +105,8 @@ at_own : {X : Type 0} (own : Table) (r : Result X Fault) (f : Fault) → IsOf ow
 at_own own (Ok x) f at given = absurd cc
 at_own own (Err g) f at given = let same : g ≡ f = cc in rw same at at
 
-pub told_at_its_table : (texts : List (List ℕ)) (f : Fault) → tables_in texts ≡ Err f → IsToldAtItsTable texts f
-told_at_its_table texts f given =
+pub reported_at_its_table : (texts : List (List ℕ)) (f : Fault) → tables_in texts ≡ Err f → IsReportedAtItsTable texts f
+reported_at_its_table texts f given =
     let by = refused_by_table texts f given in
     let table : f.table ≡ by.own = at_own by.own (table_in texts by.own) f (own_fault texts by.own by.earlier) by.refused in
     record {

@@ -10,7 +10,7 @@ use Rattle.mrp_tables.specs.declared.item.Item.{Item}
 use Rattle.mrp_tables.specs.declared.rows.BillLine.{BillLine}
 use Rattle.mrp_tables.specs.Items.{known, is_master_at}
 
--- the cells from left to right; then items that are there, and no master item as component
+-- the cells from left to right; then items that exist, and no master item as component
 unfoldable pub bill_row : List Item → Cells → Result BillLine Fault
 bill_row items r = do
   parent_name ← blame r (name_of (cell_at r 0))

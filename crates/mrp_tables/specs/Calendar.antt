@@ -50,14 +50,14 @@ weeks_cells r = do
   _ ← keyed (codes "weeks") r
   blame r (number_cell 1 MOST_WEEKS (cell_at r 1))
 
--- seven of 0 and 1
+-- seven flags, each 0 or 1
 abbrev pub are_flags : List ℕ → Bool
 are_flags cell = (length cell == 7) && list_all (λ byte. (byte == 48) || (byte == 49)) cell
 
 abbrev pub flags_of : List ℕ → List Bool
 flags_of cell = map (λ byte. byte == 49) cell
 
--- seven of 0 and 1 from Monday, or WORD; at least one 1, or RANGE
+-- seven flags, each 0 or 1, from Monday, or WORD; at least one 1, or RANGE
 abbrev pub workdays_cell : List ℕ → Result (List Bool) ℕ
 workdays_cell cell =
     if are_flags cell then (if has_workday (flags_of cell) then Ok (flags_of cell) else Err faults.RANGE) else Err faults.WORD
@@ -145,7 +145,7 @@ IsEntry (Weeks weeks) = IsInRange 1 MOST_WEEKS weeks
 IsEntry (Workdays workdays) = has_workday workdays ≡ true
 IsEntry (Holiday date) = Unit {0}
 
--- what is kept of the entries: each within its limits, and nothing of one without those before it
+-- the fields that hold the entries: each entry is within its limits, and comes with those before it
 abbrev pub AreKept : Option Date → Option ℕ → Option (List Bool) → List Date → Type 0
 AreKept None weeks workdays holidays = (weeks ≡ None) × (workdays ≡ None) × (holidays ≡ [])
 AreKept (Some start) None workdays holidays = IsEntry (Start start) × (workdays ≡ None) × (holidays ≡ [])

@@ -1,4 +1,5 @@
--- What the rows of accepted tables keep: cells within their limits, places of items and centres that are there, weeks of the horizon.
+-- What holds of the rows of accepted tables: cells within their limits, places of items and centres that exist, weeks of
+-- the horizon.
 use Rattle.std.specs.Prelude.{ℕ, ◌≡◌, ◌≢◌, ◌<◌, ◌≤◌, true, false, List, length, AllPairs}
 use Rattle.std.specs.Int.{IsInRange}
 use Rattle.mrp_rows.specs.Name.{is_name}
@@ -23,7 +24,8 @@ use Rattle.mrp_tables.specs.Master.{has_kind}
 abbrev pub AllDiffer : {X : Type 0} → List X → Type 0
 AllDiffer xs = AllPairs (λ x y. x ≢ y) xs
 
--- an item: a name, weeks of lead time, scrap in a thousand, a fixed lot's pieces, a period's weeks, pieces of safety stock, of which a master item has none
+-- an item: a name, weeks of lead time, scrap per thousand, a fixed lot's pieces, a period's weeks, pieces of safety stock,
+-- none for a master item
 pub record IsItem (item : Item) : Type 0 where
   pub name : is_name item.name ≡ true
   pub lead : item.lead ≤ limits.MOST_LEAD
@@ -33,7 +35,7 @@ pub record IsItem (item : Item) : Type 0 where
   pub safety : item.safety ≤ limits.MOST_PIECES
   pub master : is_master item.class ≡ true → item.safety ≡ 0
 
--- what is read of an item before it is looked at whole: an item, unless a master item has safety stock
+-- what is read of an item before it is checked as a whole: an item, unless a master item has safety stock
 abbrev pub IsItemUnlessStocked : Item → Type 0
 IsItemUnlessStocked item = (is_master item.class ≡ true → item.safety ≡ 0) → IsItem item
 
@@ -42,12 +44,12 @@ pub record IsCentre (centre : Centre) : Type 0 where
   pub name : is_name centre.name ≡ true
   pub minutes : centre.minutes ≤ limits.MOST_MINUTES
 
--- what is on hand of an item, in pieces
+-- the stock on hand of an item, in pieces
 pub record IsStockRow (items : List Item) (row : StockRow) : Type 0 where
   pub item : row.item < length items
   pub on_hand : row.on_hand ≤ limits.MOST_PIECES
 
--- an open order of an item that is there, with a name of its own
+-- an open order of an item that exists, with a name of its own
 pub record IsOpenOrder (items : List Item) (order : OpenOrder) : Type 0 where
   pub item : order.item < length items
   pub name : is_name order.order ≡ true
@@ -69,14 +71,14 @@ pub record IsReceipt (weeks : ℕ) (items : List Item) (row : Receipt) : Type 0 
 abbrev pub IsReceiptIfAny : ℕ → List Item → Receipt → Type 0
 IsReceiptIfAny weeks items row = 0 < row.quantity → IsReceipt weeks items row
 
--- a bill line; its component is no master item
+-- a bill line; its component is not a master item
 pub record IsBillLine (items : List Item) (line : BillLine) : Type 0 where
   pub parent : line.parent < length items
   pub component : line.component < length items
   pub part : is_master_at items line.component ≡ false
   pub per : IsInRange 1 limits.MOST_PER line.per
 
--- a line of a routing, of an item that is there
+-- a routing line, of an item that exists
 pub record IsRoutingLine (items : List Item) (line : RoutingLine) : Type 0 where
   pub item : line.item < length items
   pub operation : IsInRange 1 limits.GREATEST_OPERATION line.operation
@@ -84,7 +86,8 @@ pub record IsRoutingLine (items : List Item) (line : RoutingLine) : Type 0 where
   pub run : line.run ≤ limits.MOST_RUN
   pub offset : line.offset ≤ limits.MOST_OFFSET
 
--- an operation of an item in a centre, both there: its number, minutes to set up, thousandths of a minute for a piece, weeks from the release
+-- an operation of an item in a centre, which both exist: its number, minutes of setup, thousandths of a minute for a
+-- piece, weeks from the release
 pub record IsOperation (items : List Item) (centres : List Centre) (row : Operation) : Type 0 where
   pub item : row.item < length items
   pub operation : IsInRange 1 limits.GREATEST_OPERATION row.operation
@@ -104,7 +107,7 @@ pub record IsMasterRow (weeks : ℕ) (items : List Item) (row : MasterRow) : Typ
 abbrev pub IsMasterRowIfAny : ℕ → List Item → MasterRow → Type 0
 IsMasterRowIfAny weeks items row = 0 < row.quantity → IsMasterRow weeks items row
 
--- a master item that is there
+-- a master item that exists
 pub record IsMasterItem (items : List Item) (place : ℕ) : Type 0 where
   pub there : place < length items
   pub master : is_master_at items place ≡ true

@@ -1,4 +1,4 @@
--- The rows of a table so far, beside the items that they name.
+-- The rows of a table so far, with the items that they name.
 use Rattle.std.specs.Prelude.{ℕ, List, []}
 use Rattle.mrp_cal.specs.Calendar.{ShopCalendar}
 use Rattle.mrp_tables.specs.declared.item.Item.{Item}
@@ -20,13 +20,13 @@ pub record GatheredByDate (X : Type 0) : Type 0 where
   pub items : List Item
   pub rows : List X
 
--- operations so far, beside the items and the centres
+-- operations so far, with the items and the centres
 pub record GatheredByCentre (X : Type 0) : Type 0 where
   pub items : List Item
   pub centres : List Centre
   pub rows : List X
 
--- what a table is read beside: the items, the centres, and the weeks of the horizon
+-- what a table's records refer to: the items, the centres, and the weeks of the horizon
 pub record Beside : Type 0 where
   pub items : List Item
   pub centres : List Centre

@@ -36,7 +36,7 @@ least_size place = if place == 0 then 0 else 1
 abbrev pub greatest_size : ℕ → ℕ
 greatest_size place = if nat_lt place 2 then limits.MOST_PIECES else limits.MOST_PERIOD
 
--- a record's cells, from left to right, where lead times are so long at most
+-- a record's cells, from left to right, with lead times up to a given maximum
 unfoldable pub item_cells : ℕ → Cells → Result Item Fault
 item_cells most_lead r = do
   name ← blame r (name_of (cell_at r 0))
@@ -59,7 +59,7 @@ place_of name items = position (pointwise nat_eq name) (names_of items)
 abbrev pub known : List Item → List ℕ → Result ℕ ℕ
 known items name = or_code faults.UNKNOWN_ITEM (place_of name items)
 
--- in place of an item where there is none
+-- a placeholder where there is no item
 abbrev pub no_item : Item
 no_item = record { name = []; class = Part; lead = 0; scrap = 0; lot = LotForLot; safety = 0 }
 

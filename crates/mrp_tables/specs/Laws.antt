@@ -34,7 +34,7 @@ number_at place = next_number place
 abbrev pub record_at : Layout → List (List (List ℕ)) → ℕ → Cells
 record_at own records place = record { table = own.table; number = number_at place; cells = slice_index_or records place [] }
 
--- what a record reads as after these rows: its count of cells comes before what the cells say
+-- what a record reads as after these rows: its count of cells is checked before the cells
 abbrev pub read_one : {X : Type 0} → Reads X → Layout → List X → Cells → Result X Fault
 read_one read own before r = admitted (read.limit before) own r >>= read.row before
 
@@ -56,27 +56,28 @@ abbrev pub AreReadInTurn : {X : Type 0} → Reads X → Layout → List (List (L
 AreReadInTurn read own records (Ok rows) = AreReadFrom read own records rows
 AreReadInTurn read own records (Err f) = IsFirstFault read own records f
 
--- a table's reading: its header first, and then its records in turn
+-- a table's reading: its header first, and then its records in order
 pub record IsReadInTurn {X : Type 0} (read : Reads X) (own : Layout) (text : List ℕ) : Type 0 where
   pub header : (f : Fault) → opened own text ≡ Err f → rows_of read own text ≡ Err f
   pub records : (all : Left) → opened own text ≡ Ok all → AreReadInTurn read own all.left (rows_of read own text)
 
--- a record past its table's limit is refused for that, whatever its cells; one within it that has not a cell for each column, for that; all others are read
+-- a record beyond its table's limit is refused for that, whatever its cells; one within it that has not a cell for each
+-- column, for that; all others are read
 pub record IsAdmittedFirst {X : Type 0} (read : Reads X) (own : Layout) (before : List X) (r : Cells) : Type 0 where
   pub past : is_past (read.limit before) r.number ≡ true → read_one read own before r ≡ Err (fault_at r faults.TOO_MANY)
   pub wide : is_past (read.limit before) r.number ≡ false → length r.cells ≢ width own → read_one read own before r ≡ Err (fault_at r faults.COLUMNS)
   pub admitted : is_past (read.limit before) r.number ≡ false → length r.cells ≡ width own → read_one read own before r ≡ read.row before r
 
--- a fault stands at a record
+-- a fault names a record
 pub record IsAt (r : Cells) (f : Fault) : Type 0 where
   pub table : f.table ≡ r.table
   pub row : f.row ≡ r.number
 
--- each fault of a table's records stands at the record that is read
+-- each fault of a table's records names the record that is read
 abbrev pub FaultsAtItsRecord : {X : Type 0} → Reads X → Type 0
 FaultsAtItsRecord {X} read = (own : Layout) (before : List X) (r : Cells) → IfErr (read_one read own before r) (IsAt r)
 
--- each table's faults stand at their records
+-- each table's faults name their records
 pub record FaultsAtTheirRecords : Type 0 where
   pub calendar : FaultsAtItsRecord calendar_reads
   pub items : (most_lead : ℕ) → FaultsAtItsRecord (reads_of t.Items (item_row most_lead))
@@ -93,11 +94,11 @@ abbrev pub whole : {X : Type 0} → Result X Fault → Result (Unit {0}) Fault
 whole (Ok x) = Ok tt
 whole (Err f) = Err f
 
--- whether a table is read whole, beside the tables that it looks at
+-- whether a table is read whole, given the tables that it refers to
 abbrev pub reading_of : List (List ℕ) → Table → Result (Unit {0}) Fault
 reading_of texts own = whole (table_in texts own)
 
--- each table of a bundle is what its own text reads as, beside the tables that it looks at
+-- each table of a bundle is what its own text reads as, given the tables that it refers to
 pub record AreOfTheirTexts (texts : List (List ℕ)) (tables : Tables) : Type 0 where
   pub calendar : table_in texts t.Calendar ≡ Ok (record { version = tables.version; calendar = tables.calendar })
   pub items : table_in texts t.Items ≡ Ok tables.items
@@ -123,12 +124,13 @@ all_whole (r ∷ rest) = r >>= λ whole. all_whole rest
 abbrev pub AreWholeBefore : List (List ℕ) → Table → Type 0
 AreWholeBefore texts own = all_whole (map (reading_of texts) (take (table_index own) table_order)) ≡ Ok tt
 
--- a fault is told at its table, and the tables before it are all read whole
-pub record IsToldAtItsTable (texts : List (List ℕ)) (f : Fault) : Type 0 where
+-- a fault is reported at its table, and the tables before it are all read whole
+pub record IsReportedAtItsTable (texts : List (List ℕ)) (f : Fault) : Type 0 where
   pub own : reading_of texts f.table ≡ Err f
   pub earlier : AreWholeBefore texts f.table
 
--- memory was refused while a table was read: the records before the fault's are read, and the tables before it are all read whole
+-- out of memory while a table was read: the records before the fault's are read, and the tables before it are all read
+-- whole
 pub record IsMemoryRefusal (texts : List (List ℕ)) (f : Fault) : Type 0 where
   pub code : f.code ≡ faults.NO_MEMORY
   pub at : IsRefusedAt texts f f.table
@@ -138,9 +140,10 @@ pub record IsMemoryRefusal (texts : List (List ℕ)) (f : Fault) : Type 0 where
 abbrev pub IsFirstTablesFault : List (List ℕ) → Type 0
 IsFirstTablesFault texts = whole (tables_in texts) ≡ all_whole (map (reading_of texts) table_order)
 
--- texts have tables, which keep what is said of accepted tables, or a fault, which is told at its table; no two of either, and not both
+-- texts have tables, of which all holds that holds of accepted tables, or a fault, which is reported at its table; no two
+-- of either, and not both
 pub record HasOneReading (texts : List (List ℕ)) : Type 0 where
-  pub either : ((tables : Tables) × (tables_in texts ≡ Ok tables) × AreTables tables) ⊎ ((f : Fault) × (tables_in texts ≡ Err f) × IsToldAtItsTable texts f)
+  pub either : ((tables : Tables) × (tables_in texts ≡ Ok tables) × AreTables tables) ⊎ ((f : Fault) × (tables_in texts ≡ Err f) × IsReportedAtItsTable texts f)
   pub tables : (a b : Tables) → tables_in texts ≡ Ok a → tables_in texts ≡ Ok b → a ≡ b
   pub faults : (f g : Fault) → tables_in texts ≡ Err f → tables_in texts ≡ Err g → f ≡ g
   pub apart : (tables : Tables) (f : Fault) → tables_in texts ≡ Ok tables → tables_in texts ≡ Err f → ⊥

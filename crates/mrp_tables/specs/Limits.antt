@@ -1,10 +1,10 @@
--- What the program takes: the limits of the tables' records, words and numbers (profile).
+-- The limits of the tables' records, words and numbers (profile).
 use Rattle.std.specs.Prelude.{ℕ, List, [], ◌∷◌, codes, Option, Some, None}
 use Rattle.mrp_rows.specs.declared.fault.Table.{Table}
 use Rattle.mrp_rows.specs.declared.fault.Table.TheVariants as t
 use Rattle.mrp_tables.specs.declared.limits.TheConstants as limits
 
--- the most records that a table has, where it has a limit
+-- the most records of a table, if it has a limit
 abbrev pub record_limit : Table → Option ℕ
 record_limit t.Calendar = Some limits.MOST_CALENDAR_RECORDS
 record_limit t.Items = Some limits.MOST_ITEMS

@@ -35,12 +35,12 @@ abbrev pub has_kind : Class → MasterKind → Bool
 has_kind class Firm = is_master class
 has_kind class Forecast = is_master class
 
--- the fault of a row of a kind that items of its item's class do not have
+-- the fault of a row whose item's class has no rows of its kind
 abbrev pub class_fault : MasterKind → ℕ
 class_fault Firm = faults.NOT_MASTER
 class_fault Forecast = faults.NOT_MASTER
 
--- the cells from left to right; then an item that is there, a week of the horizon, and an item of a class that has such rows
+-- the cells from left to right; then an item that exists, a week of the horizon, and an item of a class that has such rows
 unfoldable pub master_row : ShopCalendar → List Item → Cells → Result MasterRow Fault
 master_row calendar items r = do
   name ← blame r (name_of (cell_at r 0))
@@ -51,6 +51,6 @@ master_row calendar items r = do
   week ← blame r (or_code faults.DATE_OUTSIDE (week_of calendar date))
   if not (has_kind (item_at items item).class (kind_at kind)) then Err (fault_at r (class_fault (kind_at kind))) else Ok (record { number = r.number; item = item; kind = kind_at kind; week = week; quantity = quantity })
 
--- a row of quantity 0 is checked like any other, and then counts as no row
+-- a row of quantity 0 is checked like any other, and then dropped
 abbrev pub that_count : List MasterRow → List MasterRow
 that_count rows = filter (λ row. nat_lt 0 row.quantity) rows

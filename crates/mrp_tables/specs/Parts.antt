@@ -1,4 +1,5 @@
--- What is read of a bundle's tables in three parts: the calendar, the items and the centres; from the stock to the routings; and the master schedule with the script.
+-- The three parts in which a bundle's tables are read: the calendar, the items and the centres; from the stock to the
+-- routings; and the master schedule with the script.
 use Rattle.std.specs.Prelude.{ℕ, ◌≡◌, ◌⊎◌, List, Result, Ok, Err}
 use Rattle.mrp_rows.specs.declared.fault.Fault.{Fault}
 use Rattle.mrp_rows.specs.declared.fault.Table.TheVariants as t
@@ -9,7 +10,7 @@ use Rattle.mrp_tables.specs.Laws.{AreWholeBefore, IsMemoryRefusal}
 use Rattle.mrp_tables.specs.Readers.{table_in}
 use Rattle.mrp_tables.specs.Tables.{Tables, tables_in}
 
--- a refusal is the bundle's: its first fault, or memory that was refused at a table behind others that are read whole
+-- a refusal is the bundle's: its first fault, or out of memory at a table after others that are read whole
 abbrev pub IsBundleRefusal : List (List ℕ) → Fault → Type 0
 IsBundleRefusal texts f = IsMemoryRefusal texts f ⊎ (tables_in texts ≡ Err f)
 
@@ -41,7 +42,8 @@ abbrev pub GivesStockToRoutings : List (List ℕ) → Result StockToRoutings Fau
 GivesStockToRoutings texts (Ok rows) = AreStockToRoutings texts rows
 GivesStockToRoutings texts (Err f) = IsBundleRefusal texts f
 
--- a call returned the rows of the master schedule and of the script, or a refusal that is the bundle's where all tables before them are read whole
+-- a call returned the rows of the master schedule and of the script, or a refusal that is the bundle's if all tables
+-- before them are read whole
 abbrev pub GivesMasterAndScript : List (List ℕ) → Result MasterAndScript Fault → Type 0
 GivesMasterAndScript texts (Ok rows) = AreMasterAndScript texts rows
 GivesMasterAndScript texts (Err f) = AreWholeBefore texts t.Master → IsBundleRefusal texts f

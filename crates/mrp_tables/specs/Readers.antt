@@ -25,7 +25,7 @@ use Rattle.mrp_tables.specs.Script.{script_row}
 use Rattle.mrp_tables.specs.Stock.{stock_row}
 use Rattle.mrp_tables.specs.Versions.{most_lead}
 
--- a table's reader: how its records are read, beside the tables that it looks at, and what is made of their rows
+-- a table's reader: how its records are read, given the tables that it refers to, and what is made of their rows
 pub record Reader : Type 1 where
   pub Row : Type 0
   pub Whole : Type 0
@@ -40,7 +40,7 @@ read_by reader own text = reader.made (reader.reads >>= λ read. rows_of read ow
 abbrev pub rows_by : {X : Type 0} → Result (Reads X) Fault → Reader
 rows_by {X} reads = record { Row = X; Whole = List X; reads = reads; made = λ rows. rows }
 
--- a table that is those of its rows that count
+-- a table that is those of its rows that have pieces
 abbrev pub rows_that : {X : Type 0} → (List X → List X) → Result (Reads X) Fault → Reader
 rows_that {X} count reads = record { Row = X; Whole = List X; reads = reads; made = λ read. read >>= λ rows. Ok (count rows) }
 
@@ -69,7 +69,7 @@ centres_reader = rows_by (Ok (reads_of t.Centres centre_row))
 abbrev pub centres_in : List (List ℕ) → Result (List Centre) Fault
 centres_in texts = read_by centres_reader (layout_of t.Centres) (text_in texts t.Centres)
 
--- others look at the items, those with dates at the calendar too, and the routings at the centres
+-- others refer to the items, those with dates also to the calendar, and the routings to the centres
 abbrev pub by_items : {X : Type 0} → List (List ℕ) → (List Item → Reads X) → Result (Reads X) Fault
 by_items texts reads = items_in texts >>= λ items. Ok (reads items)
 
@@ -96,11 +96,11 @@ reader_of texts t.Bundle = record { Row = ⊥; Whole = Unit {0}; reads = Err (he
 abbrev pub table_in : (texts : List (List ℕ)) (own : Table) → Result (reader_of texts own).Whole Fault
 table_in texts own = read_by (reader_of texts own) (layout_of own) (text_in texts own)
 
--- memory was refused while a table was read: for its header, or for a record behind those that are read
+-- out of memory while a table was read: for its header, or for a record after those that are read
 abbrev pub IsRefusedAt : List (List ℕ) → Fault → Table → Type 0
 IsRefusedAt texts f own =
     (read : Reads (reader_of texts own).Row) × ((reader_of texts own).reads ≡ Ok read) × IsRefusedIn read (layout_of own) (text_in texts own) f
 
--- what a call returned, seen by view, is what the table's text reads as, unless memory was refused
+-- what a call returned, seen by view, is what the table's text reads as, unless it was out of memory
 abbrev pub GivesTable : (texts : List (List ℕ)) (own : Table) {X : Type 0} → Result X Fault → (X → (reader_of texts own).Whole) → Type 0
 GivesTable texts own result view = Gives (λ f. IsRefusedAt texts f own) view result (table_in texts own)

@@ -1,4 +1,4 @@
--- Reading a table: its records in turn, each with the rows before it at hand, up to the first fault (profile).
+-- Reading a table: its records in order, each given the rows before it, up to the first fault (profile).
 use Rattle.std.specs.Prelude.{ℕ, ◌≡◌, ◌⊎◌, ◌==◌, Bool, false, nat_lt, if◌then◌else◌, List, [], ◌∷◌, ◌++◌, length, Option, Some, None, Result, Ok, Err}
 use Rattle.mrp_qty.specs.Reading.{◌>>=◌}
 use Rattle.mrp_rows.specs.declared.fault.Fault.{Fault}
@@ -35,7 +35,7 @@ reads_of table row = record { limit = λ before. record_limit table; row = row }
 abbrev pub by_itself : {X : Type 0} → (Cells → Result X Fault) → List X → Cells → Result X Fault
 by_itself read before r = read r
 
--- the rows of the records that are left, after those before them
+-- the rows of the remaining records, after those before them
 unfoldable pub rows_from : {X : Type 0} → Reads X → Layout → List X → ℕ → List (List (List ℕ)) → Result (List X) Fault
 rows_from read own before number [] = Ok before
 rows_from read own before number (cells ∷ rest) =
@@ -46,12 +46,12 @@ rows_from read own before number (cells ∷ rest) =
 abbrev pub rows_of : {X : Type 0} → Reads X → Layout → List ℕ → Result (List X) Fault
 rows_of read own text = opened own text >>= λ all. rows_from read own [] all.number all.left
 
--- the number of the record behind these
+-- the number of the record after these
 abbrev pub number_behind : ℕ → List (List (List ℕ)) → ℕ
 number_behind number [] = number
 number_behind number (cells ∷ done) = number_behind (next_number number) done
 
--- memory was refused for one of the records that are left, or for their end: those before it are read
+-- out of memory for one of the remaining records, or for their end: those before it are read
 pub record IsRefusedBehind {X : Type 0} (read : Reads X) (own : Layout) (before : List X) (number : ℕ) (left : List (List (List ℕ))) (f : Fault) : Type 0 where
   pub done : List (List (List ℕ))
   pub rest : List (List (List ℕ))
@@ -60,23 +60,23 @@ pub record IsRefusedBehind {X : Type 0} (read : Reads X) (own : Layout) (before 
   pub are_read : rows_from read own before number done ≡ Ok rows
   pub fault : f ≡ memory_fault own.table (number_behind number done)
 
--- memory was refused for a table's header, or for a record behind those that are read
+-- out of memory for a table's header, or for a record after those that are read
 abbrev pub IsRefusedIn : {X : Type 0} → Reads X → Layout → List ℕ → Fault → Type 0
 IsRefusedIn read own text f =
     (f ≡ memory_fault own.table 0) ⊎ ((all : Left) × (opened own text ≡ Ok all) × IsRefusedBehind read own [] all.number all.left f)
 
--- what a call returned, seen by view, is what reading gives, unless memory was refused: then its fault is one of these
+-- what a call returned, seen by view, is what reading gives, unless it was out of memory: then its fault is one of these
 abbrev pub Gives : {X Y : Type 0} → (Fault → Type 0) → (X → Y) → Result X Fault → Result Y Fault → Type 0
 Gives IsRefusal view (Ok x) read = read ≡ Ok (view x)
 Gives IsRefusal view (Err f) read = IsRefusal f ⊎ (read ≡ Err f)
 
--- memory was refused for the row of a record that reads as one: a record's own fault comes first
+-- out of memory for the row of a record that reads as one: a record's own fault comes first
 pub record LacksRoom {X : Type 0} (read : Reads X) (old : List X) (r : Cells) (f : Fault) : Type 0 where
   pub row : X
   pub reads : read.row old r ≡ Ok row
   pub fault : f ≡ fault_at r faults.NO_MEMORY
 
--- adding a record's row: the row is what the record reads as, or nothing is added, for its fault or for want of memory
+-- adding a record's row: the row is what the record reads as, or nothing is added, for its fault or out of memory
 abbrev pub Adds : {X : Type 0} → Reads X → List X → Cells → Result (Unit {0}) Fault → List X → Type 0
 Adds {X} read old r (Ok u) new = (x : X) × (read.row old r ≡ Ok x) × (new ≡ old ++ (x ∷ []))
 Adds read old r (Err f) new = (new ≡ old) × (LacksRoom read old r f ⊎ (read.row old r ≡ Err f))

@@ -21,7 +21,7 @@ operations_of rows = map (λ o. (o.item, o.operation)) rows
 abbrev pub same_operation : ℕ × ℕ → ℕ × ℕ → Bool
 same_operation a b = nat_eq a.0 b.0 && nat_eq a.1 b.1
 
--- the cells from left to right; then an item that is there, or UNKNOWN_ITEM
+-- the cells from left to right; then an item that exists, or UNKNOWN_ITEM
 unfoldable pub routing_cells : List Item → Cells → Result RoutingLine Fault
 routing_cells items r = do
   name ← blame r (name_of (cell_at r 0))
@@ -33,21 +33,22 @@ routing_cells items r = do
   item ← blame r (known items name)
   Ok (record { item = item; operation = operation; centre = centre; setup = setup; run = run; offset = offset })
 
--- an item and an operation's number that were not seen before, or REPEATED: an item that is repeated is there, so no record has both faults
+-- an item and an operation's number that are new, or REPEATED: an item that is repeated exists, so no record has both
+-- faults
 abbrev pub routing_checked : List (ℕ × ℕ) → Cells → RoutingLine → Result RoutingLine Fault
 routing_checked seen r line = if list_any (same_operation (line.item, line.operation)) seen then Err (fault_at r faults.REPEATED) else Ok line
 
--- a centre that is there, or UNKNOWN_CENTRE
+-- a centre that exists, or UNKNOWN_CENTRE
 unfoldable pub routing_placed : List Centre → Cells → RoutingLine → Result Operation Fault
 routing_placed centres r line = do
   centre ← blame r (known_centre centres line.centre)
   Ok (record { item = line.item; operation = line.operation; centre = centre; setup = line.setup; run = line.run; offset = line.offset })
 
--- a record, beside the items and operations that were seen
+-- a record, given the items and operations so far
 abbrev pub operation_beside : List Item → List Centre → List (ℕ × ℕ) → Cells → Result Operation Fault
 operation_beside items centres seen r =
     routing_cells items r >>= λ line. routing_checked seen r line >>= routing_placed centres r
 
--- a record, beside the earlier rows
+-- a record, given the earlier rows
 abbrev pub operation_row : List Item → List Centre → List Operation → Cells → Result Operation Fault
 operation_row items centres before r = operation_beside items centres (operations_of before) r

@@ -19,7 +19,7 @@ use Rattle.mrp_tables.specs.Limits.{call_words}
 abbrev pub mastered : List Item → ℕ → Result ℕ ℕ
 mastered items item = if is_master_at items item then Ok item else Err faults.NOT_MASTER
 
--- the master item of a name and the week of a date: an item that is there, a week of the horizon, and a master item
+-- the master item of a name and the week of a date: an item that exists, a week of the horizon, and a master item
 unfoldable pub spot_of : ShopCalendar → List Item → Cells → List ℕ → Date → Result (ℕ × ℕ) Fault
 spot_of calendar items r name date = do
   item ← blame r (known items name)
@@ -42,7 +42,7 @@ cancel_cells r = do
   entry ← blame r (number_cell 1 limits.MOST_ENTRIES (cell_at r 5))
   Ok (call.Cancel entry)
 
--- a question of what is available reads the cells of item and date
+-- a question for what is available to promise reads the cells of item and date
 unfoldable pub ask_cells : ShopCalendar → List Item → Cells → Result ScriptCall Fault
 ask_cells calendar items r = do
   name ← blame r (name_of (cell_at r 2))
@@ -50,7 +50,7 @@ ask_cells calendar items r = do
   spot ← spot_of calendar items r name date
   Ok (call.Ask spot.0 spot.1)
 
--- a question of the first week reads the cells of item and quantity
+-- a question for the first week reads the cells of item and quantity
 unfoldable pub when_cells : List Item → Cells → Result ScriptCall Fault
 when_cells items r = do
   name ← blame r (name_of (cell_at r 2))

@@ -1,4 +1,4 @@
--- What is on hand (profile).
+-- The stock on hand (profile).
 use Rattle.std.specs.Prelude.{ℕ, nat_eq, if◌then◌else◌, List, map, Result, Ok, Err}
 use Rattle.std.specs.List.{list_any}
 use Rattle.mrp_qty.specs.Reading.{◌>>=◌}
@@ -14,7 +14,7 @@ use Rattle.mrp_tables.specs.Items.{known}
 abbrev pub items_in_stock : List StockRow → List ℕ
 items_in_stock rows = map (λ s. s.item) rows
 
--- the cells from left to right; then an item that is there, or UNKNOWN_ITEM
+-- the cells from left to right; then an item that exists, or UNKNOWN_ITEM
 unfoldable pub stock_cells : List Item → Cells → Result StockRow Fault
 stock_cells items r = do
   name ← blame r (name_of (cell_at r 0))
@@ -22,7 +22,7 @@ stock_cells items r = do
   item ← blame r (known items name)
   Ok (record { item = item; on_hand = on_hand })
 
--- no earlier row has the item, or REPEATED: an item that is repeated is there, so no record has both faults
+-- no earlier row has the item, or REPEATED: an item that is repeated exists, so no record has both faults
 abbrev pub stock_checked : List StockRow → Cells → StockRow → Result StockRow Fault
 stock_checked before r row = if list_any (nat_eq row.item) (items_in_stock before) then Err (fault_at r faults.REPEATED) else Ok row
 

@@ -18,7 +18,7 @@ use mrp_rows::{Fault, Row, Sections, Table};
 use std::alloc::Global;
 use std::marker::Model;
 
-/// What a record of the calendar's table says.
+/// The entry of one record of the calendar's table.
 #[derive(Clone, Copy)]
 pub(crate) enum Entry {
     /// Which version the bundle has.
@@ -124,7 +124,7 @@ impl Entries {
         }
     }
 
-    // What a record says behind these entries.
+    // The entry of a record that follows these.
     fn entry(&self, row: &Row) -> Result<Entry, Fault>
         requires { length row.now.cells ≡ 2 }
         ensures cells { result ≡ entry_row self.now row.now }
@@ -290,7 +290,7 @@ fn has_workday(workdays: &[bool; 7]) -> bool
     workdays.iter().any(|worked| *worked)
 }
 
-// Seven of `0` and `1`.
+// Seven flags, each `0` or `1`.
 fn flags(cell: &[u8]) -> Option<[bool; 7]>
     ensures { result ≡ (if are_flags cell.now then Some (flags_of cell.now) else None) }
 {

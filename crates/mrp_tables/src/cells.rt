@@ -1,4 +1,4 @@
-//! Cells that more than one table has.
+//! Cells of more than one table.
 
 ghost use Rattle.std.specs.Prelude.{◌≡◌, ◌<◌, ◌≤◌, length, IfOk};
 ghost use Rattle.std.specs.Int.{IsInRange};

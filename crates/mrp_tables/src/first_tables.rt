@@ -1,4 +1,4 @@
-//! The tables at which the others look: the calendar, the items and the centres.
+//! The tables that the others refer to: the calendar, the items and the centres.
 
 use crate::calendar::{CalendarTable, Entries};
 use crate::centres::Centres;

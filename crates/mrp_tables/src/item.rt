@@ -14,7 +14,7 @@ use mrp_rows::{Fault, Name, Row};
 pub enum Class {
     /// Planned by the master schedule.
     Master,
-    /// Planned by the requirements that its parents' orders cause.
+    /// Planned by dependent demand: the requirements of its parents' orders.
     Part,
 }
 
@@ -33,7 +33,7 @@ impl Class {
     }
 }
 
-/// How net requirements are put together into orders (APICS Dictionary: lot sizing).
+/// How net requirements are combined into orders (APICS Dictionary: lot sizing).
 #[derive(Clone, Copy, Debug, PartialEq, Eq)]
 pub enum LotRule {
     /// Each week's net requirement is an order.
@@ -47,13 +47,13 @@ pub enum LotRule {
 /// An item's master data.
 #[derive(Clone, Copy, Debug)]
 pub struct Item {
-    /// The item's name, no other item's.
+    /// The item's name, unique among items.
     pub name: Name,
     /// Whether the master schedule plans it.
     pub class: Class,
     /// The lead time, in weeks, up to `MOST_LEAD`.
     pub lead: u64,
-    /// The scrap, in pieces of a thousand, up to `MOST_SCRAP`.
+    /// The scrap, in pieces per thousand, up to `MOST_SCRAP`.
     pub scrap: u64,
     /// The lot rule.
     pub lot: LotRule,
@@ -67,7 +67,7 @@ impl Item {
     ghost use Rattle.mrp_tables.specs.declared.limits.TheConstants.{MOST_LEAD};
     ghost use Rattle.mrp_tables.specs.Items.{item_cells};
 
-    // The cells of a record, from left to right, where lead times are so long at most.
+    // The cells of a record, from left to right, with lead times up to a given maximum.
     #[tactic(auto, unfolding(crate::specs::Items::item_cells))]
     pub(crate) fn of(row: &Row, most_lead: u64) -> Result<Item, Fault>
         requires cells { length row.now.cells ≡ 7 }

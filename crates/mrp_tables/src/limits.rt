@@ -1,4 +1,4 @@
-//! What the program takes: each limit stands in one place.
+//! The limits of the program's input, each in one place.
 
 ghost use Rattle.std.specs.Prelude.{◌≡◌, option_map};
 ghost use Rattle.mrp_tables.specs.Limits.{record_limit};
@@ -36,25 +36,25 @@ pub const MOST_LEAD: u64 = 728;
 /// The longest period of a lot rule, in weeks.
 pub const MOST_PERIOD: u64 = 104;
 
-/// The most scrap in a thousand.
+/// The greatest scrap, in pieces per thousand.
 pub const MOST_SCRAP: u64 = mrp_qty::MOST_SCRAP;
 
-/// The most pieces that a cell says.
+/// The most pieces in a cell.
 pub const MOST_PIECES: u64 = 1_000_000_000;
 
-/// The most pieces of a component in a piece of its parent.
+/// The greatest quantity per: pieces of a component in a piece of its parent.
 pub const MOST_PER: u64 = 1_000_000;
 
-/// The most minutes that a work centre works on a shop day.
+/// The most minutes of a work centre on a shop day.
 pub const MOST_MINUTES: u64 = 1_000_000_000;
 
 /// The greatest number of an operation.
 pub const GREATEST_OPERATION: u64 = 1_000_000_000;
 
-/// The most minutes that an operation takes to set up.
+/// The most minutes of an operation's setup.
 pub const MOST_SETUP: u64 = 1_000_000;
 
-/// The most thousandths of a minute that a piece takes in an operation.
+/// The most thousandths of a minute of an operation for a piece.
 pub const MOST_RUN: u64 = 1_000_000_000;
 
 /// The most weeks from an order's release to an operation.
@@ -66,7 +66,7 @@ pub const MOST_DESKS: u64 = 64;
 /// The most entries of the order book.
 pub const MOST_ENTRIES: u64 = 1_000_000;
 
-/// The most records that a table has, where it has a limit.
+/// The most records of a table, if it has a limit.
 pub(crate) fn most_records(table: Table) -> Option<u32>
     ensures { result ≡ record_limit table }
 {

@@ -15,7 +15,7 @@ use mrp_rows::{Fault, Row, Sections, Table};
 use std::alloc::Global;
 use std::marker::Model;
 
-/// The master rows so far, those of quantity 0 among them.
+/// The master rows so far, including those of quantity 0.
 #[derive(Drop)]
 pub(crate) struct Master<'a> {
     calendar: &'a Calendar,
@@ -138,7 +138,7 @@ impl<'a> Master<'a> {
         }
     }
 
-    // The rows that count: a row of quantity 0 counts as none.
+    // The rows of at least one piece: a row of quantity 0 counts as none.
     fn into_rows(self) -> Vec<MasterRow>
         ensures rows { result.items ≡ that_count self.entry.rows }
         ensures count { length result.items ≤ length self.entry.rows }

@@ -17,8 +17,8 @@ pub(crate) struct MasterAndScript {
 impl MasterAndScript {
     ghost use Rattle.mrp_tables.specs.Parts.{AreFirst, GivesMasterAndScript};
 
-    // These tables' rows beside the bundle's first tables, or a refusal, which is the bundle's where
-    // all tables before these are read whole.
+    // These tables' rows, given the bundle's first tables, or a refusal, which is the bundle's if all
+    // tables before these are read whole.
     pub(crate) fn read(
         alloc: Global,
         sections: &Sections<'_>,

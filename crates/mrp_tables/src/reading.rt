@@ -1,4 +1,4 @@
-//! Reading a table's records, one after the other.
+//! Reading a table's records, in order.
 
 ghost use Rattle.std.specs.Prelude.{◌≡◌, ◌==◌, ◌&&◌, ◌<◌, ◌≤◌, if◌then◌else◌, ℕ, [], length, IfOk, IfSome};
 ghost use Rattle.mrp_rows.specs.Bundle.{text_in};
@@ -63,13 +63,13 @@ pub(crate) trait TableRows: Drop {
     ghost use Rattle.mrp_tables.specs.Gathered.{Beside};
     ghost use Rattle.mrp_tables.specs.Reading.{Adds, Reads};
 
-    // which counts of cells it takes
+    // the counts of cells that it accepts
     ghost takes: { ℕ → Type 0 };
     // the rows so far
     ghost rows: { Self → List Self.Line };
     // how its records are read
     ghost reads: { Self → Reads Self.Line };
-    // what it is read beside
+    // the tables that it refers to
     ghost beside: { Self → Beside };
 
     /// The most records that the table has, where it has a limit.
@@ -84,7 +84,7 @@ pub(crate) trait TableRows: Drop {
         ensures beside { beside self.new ≡ beside self.old };
 }
 
-/// The rows of the records that a cursor has left, behind those that are gathered already.
+/// The rows of a cursor's remaining records, after those that are already gathered.
 pub(crate) fn gather<G: TableRows>(cursor: &mut Cursor<'_>, mut gathered: G) -> Result<G, Fault>
     requires { G.takes (width cursor.old.layout) }
     ensures rows { Gives
@@ -102,7 +102,7 @@ pub(crate) fn gather<G: TableRows>(cursor: &mut Cursor<'_>, mut gathered: G) -> 
     Ok(gathered)
 }
 
-/// A table's rows, or its first fault, memory aside.
+/// A table's rows, or its first fault, unless it runs out of memory.
 pub(crate) fn read_table<G: TableRows>(
     alloc: Global,
     sections: &Sections<'_>,

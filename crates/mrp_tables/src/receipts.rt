@@ -19,7 +19,7 @@ use mrp_rows::{Fault, Name, Row, Sections, Table};
 use std::alloc::Global;
 use std::marker::Model;
 
-/// An open order as its record has it, with the place of its item.
+/// An open order as in its record, with the place of its item.
 #[derive(Clone, Copy)]
 pub(crate) struct OpenOrder {
     item: usize,
@@ -28,8 +28,7 @@ pub(crate) struct OpenOrder {
     quantity: Qty,
 }
 
-/// The open receipts so far, those of quantity 0 among them, with the items and orders that they
-/// have.
+/// The open receipts so far, including those of quantity 0, with their items and orders.
 #[derive(Drop)]
 pub(crate) struct Receipts<'a> {
     calendar: &'a Calendar,
@@ -111,7 +110,7 @@ fn order_cells(row: &Row, items: &Items) -> Result<OpenOrder, Fault>
     }
 }
 
-// A record as an open receipt, whose item and order were not seen before.
+// A record as an open receipt whose item and order are new.
 fn receipt_of(
     row: &Row,
     calendar: &Calendar,
@@ -196,7 +195,7 @@ impl<'a> Receipts<'a> {
         }
     }
 
-    // The rows that count: a row of quantity 0 counts as none.
+    // The rows of at least one piece: a row of quantity 0 counts as none.
     fn into_rows(self) -> Vec<Receipt>
         ensures rows { result.items ≡ receipts_that_count self.entry.rows }
         ensures count { length result.items ≤ length self.entry.rows }

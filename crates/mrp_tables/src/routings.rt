@@ -16,7 +16,7 @@ use mrp_rows::{Fault, Name, Row, Sections, Table};
 use std::alloc::Global;
 use std::marker::Model;
 
-/// An operation as its record has it, with the place of its item and the name of its centre.
+/// An operation as in its record, with the place of its item and the name of its centre.
 #[derive(Clone, Copy)]
 pub(crate) struct RoutingLine {
     item: usize,
@@ -27,7 +27,7 @@ pub(crate) struct RoutingLine {
     offset: u64,
 }
 
-/// The operations so far, with the items and numbers that they have.
+/// The operations so far, with their items and numbers.
 #[derive(Drop)]
 pub(crate) struct Routings<'a> {
     items: &'a Items,
@@ -113,7 +113,7 @@ fn routing_cells(row: &Row, items: &Items) -> Result<RoutingLine, Fault>
     }
 }
 
-// A record as an operation, whose item and number were not seen before.
+// A record as an operation whose item and number are new.
 fn operation_of(
     row: &Row,
     items: &Items,
@@ -132,7 +132,7 @@ fn operation_of(
     routing_placed(row, items, centres, &line)
 }
 
-// A line of a routing as an operation of a centre.
+// A routing line as an operation of a centre.
 #[tactic(auto, unfolding(crate::specs::Routings::routing_placed))]
 fn routing_placed(
     row: &Row,

@@ -9,18 +9,18 @@ use mrp_rows::faults::NOT_MASTER;
 /// A work centre.
 #[derive(Clone, Copy, Debug)]
 pub struct Centre {
-    /// The centre's name, no other centre's.
+    /// The centre's name, unique among centres.
     pub name: Name,
-    /// The minutes that it works on a shop day, up to `MOST_MINUTES`.
+    /// Its minutes on a shop day, up to `MOST_MINUTES`.
     pub minutes: u64,
 }
 
-/// What is on hand of an item.
+/// The stock on hand of an item.
 #[derive(Clone, Copy, Debug, PartialEq, Eq)]
 pub struct StockRow {
     /// The item.
     pub item: usize,
-    /// What is on hand, in pieces.
+    /// The pieces on hand.
     pub on_hand: Qty,
 }
 

@@ -74,7 +74,7 @@ impl<'a> TableRows for Script<'a> {
     }
 
     fn add(&mut self, row: &Row) -> Result<(), Fault> {
-        // Taken apart, so that the proof knows the type of the call.
+        // Destructured, so that the proof knows the type of the call.
         let ScriptRow { desk, call } = script_row(row, self.calendar, self.items)?;
         if self.rows.push(ScriptRow { desk, call }).is_err() {
             return Err(row.fault(NO_MEMORY));
@@ -95,7 +95,7 @@ fn script_row(row: &Row, calendar: &Calendar, items: &Items) -> Result<ScriptRow
     Ok(ScriptRow { desk, call })
 }
 
-// The call of a word's place among the words. Cells that it doesn't use are not read.
+// The call of a word, by its place among the words. Cells that the call does not use are not read.
 fn call_at(row: &Row, calendar: &Calendar, items: &Items, place: usize) -> Result<ScriptCall, Fault>
     requires { length row.now.cells ≡ 6 }
     ensures cells { result ≡ call_at calendar.now items.now row.now place }

@@ -15,7 +15,7 @@ use mrp_rows::{Fault, Row, Sections, Table};
 use std::alloc::Global;
 use std::marker::Model;
 
-/// The stock rows so far, with the items that they have.
+/// The stock rows so far, with their items.
 #[derive(Drop)]
 pub(crate) struct Stock<'a> {
     items: &'a Items,

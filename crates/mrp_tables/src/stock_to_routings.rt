@@ -21,7 +21,7 @@ pub(crate) struct StockToRoutings {
 impl StockToRoutings {
     ghost use Rattle.mrp_tables.specs.Parts.{AreFirst, GivesStockToRoutings};
 
-    // These tables' rows beside the bundle's first tables, or the bundle's refusal.
+    // These tables' rows, given the bundle's first tables, or the bundle's refusal.
     pub(crate) fn read(
         alloc: Global,
         sections: &Sections<'_>,

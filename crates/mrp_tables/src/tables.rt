@@ -16,7 +16,7 @@ use std::marker::Model;
 use std::thread;
 use std::thread::Threads;
 
-/// The typed tables of an accepted bundle, in which only a loop in the bills can still be wrong.
+/// The typed tables of an accepted bundle. Only a loop in the bills can still be wrong in them.
 #[derive(Drop)]
 pub struct Tables {
     version: Version,
@@ -94,12 +94,12 @@ impl Tables {
         Ok(Tables::of(first, rows, last))
     }
 
-    /// The same, with the master schedule and the script read beside the tables from the stock to the
-    /// routings: in a thread of their own, or after these where none can be started. Of two refusals
-    /// that of the earlier table is told all the same.
+    /// The same, with the master schedule and the script read in parallel with the tables from the stock
+    /// to the routings: in a thread of their own, or after these if none can be started. Of two refusals
+    /// that of the earlier table is still the one returned.
     ///
     /// Errors: as `read`.
-    pub fn read_beside(
+    pub fn read_parallel(
         rt: &impl Threads,
         alloc: Global,
         sections: &Sections<'_>,
@@ -154,8 +154,8 @@ impl Tables {
         }
     }
 
-    /// What accepted tables keep, all of it at once: each reader tells its own table's part. It does
-    /// nothing.
+    /// What holds of accepted tables, all of it at once; each accessor's contract has its own table's part.
+    /// It does nothing.
     pub fn keep_limits(&self)
         ensures { AreTables self.now }
     {
@@ -211,7 +211,7 @@ impl Tables {
         self.centres.as_slice()
     }
 
-    /// What is on hand, in table order: each item at most once.
+    /// The stock on hand, in table order: each item at most once.
     pub fn stock(&self) -> &[StockRow]
         ensures rows { result.now ≡ self.now.stock }
         ensures within { All (IsStockRow self.now.items) result.now }
@@ -220,8 +220,8 @@ impl Tables {
         self.stock.as_slice()
     }
 
-    /// The open receipts of at least one piece, in table order, so by their records' numbers: an
-    /// item's order at most once.
+    /// The open receipts of at least one piece, in table order, so by their records' numbers: an item's
+    /// order at most once.
     pub fn receipts(&self) -> &[Receipt]
         ensures rows { result.now ≡ self.now.receipts }
         ensures within { All (IsReceipt self.now.calendar.weeks self.now.items) result.now }

@@ -1,4 +1,4 @@
--- The seat that begins, and the seats that are cut off it.
+-- The initial seat, and the seats that are split off it.
 use Rattle.std.proofs.Common.{◌≡◌, ℕ, zero, suc, ◌+◌, ◌-◌, ◌<◌, List, [], ◌∷◌, ◌++◌, length, slice_get, Some, false, refl, ap, ◌∙◌, arith}
 use Rattle.mrp_turn.specs.declared.views.About.{About}
 use Rattle.mrp_turn.specs.declared.views.Account.{Account}
@@ -18,7 +18,7 @@ get_last (y ∷ xs) x zero h = absurd (omega arith)
 get_last (y ∷ xs) x (suc k) h = get_last xs x k (omega arith)
 
 module _ {O : Type 0} (C R : Type 0) where
-  -- the seat that begins, once n seats are cut off
+  -- the initial seat, once n seats are split off
   abbrev pub keeper : About O → ℕ → LiveSeat O C R
   keeper key n = record { about = key; own = account 0 [] []; kept = blanks (n + 1) (key.seats - n); holds = false }
 

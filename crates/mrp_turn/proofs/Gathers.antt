@@ -77,7 +77,7 @@ module _ {O C R : Type 0} where
   last_first [] first x h = h
   last_first (y ∷ ys) first x h = ⊎_elim (λ e. inr (inl e)) (λ k. ⊎_elim inl (λ l. inr (inr l)) (last_first ys first x k)) h
 
--- what a close tells
+-- what the contract of a close says
 pub record Closed {O S C R : Type 0} (opens : S → Type 0) (answers : S → ℕ → C → R → S → Type 0) (count : ℕ) (seats : List (Seated O C R)) (log : List (Entry C R)) (state : S) : Type 0 where
   pub legal : LeadsTo answers opens log state
   pub seen : All (λ s. StartsWith log s.seen) seats
@@ -86,7 +86,7 @@ pub record Closed {O S C R : Type 0} (opens : S → Type 0) (answers : S → ℕ
   pub callers : All (λ e. HasNumber seats e.who) log
 
 module _ {O S C R : Type 0} (opens : O → S → Type 0) (answers : O → S → ℕ → C → R → S → Type 0) where
-  -- the seat that keeps all seats can't lose
+  -- the seat that keeps all seats cannot lose
   pub never_lost : (key : About O) (seats rest : List (Seated O C R)) (first : Seated O C R) (m n : M O S C R) → seats ≡ rest ++ first ∷ [] → StandsFor key (first ∷ rest) m
       → ((n : ℕ) → 1 ≤ n → n ≤ key.seats → (x : Seated O C R) × Has seats x × (x.number ≡ n)) → Lost opens answers m n → ⊥
   never_lost key seats rest first m n e h all lost = lost.1 h.seat h.is (λ k one most.
@@ -95,7 +95,7 @@ module _ {O S C R : Type 0} (opens : O → S → Type 0) (answers : O → S → 
       let kept : Has (h.seat.own ∷ h.seat.kept) (account x.0.number x.0.seen x.0.mine) = Each-Has (λ y. Has (h.seat.own ∷ h.seat.kept) (account y.number y.seen y.mine)) (first ∷ rest) x.0 h.all there in
       named (h.seat.own ∷ h.seat.kept) (account x.0.number x.0.seen x.0.mine) k kept x.2)
 
-  -- what the take then tells, of the log that is given back
+  -- what the contract of the take then says, of the log that is returned
   pub closes : (key : About O) (seats rest : List (Seated O C R)) (first : Seated O C R) (m n : M O S C R) (held : Held S C R) (log : List (Entry C R)) → seats ≡ rest ++ first ∷ [] → log ≡ held.log.items
       → StandsFor key (first ∷ rest) m → Taken opens answers m held n → ((n : ℕ) → 1 ≤ n → n ≤ key.seats → HasNumber seats n)
       → Closed (opens key.object) (answers key.object) key.seats seats log held.state

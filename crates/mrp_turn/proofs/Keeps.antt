@@ -75,12 +75,12 @@ module _ {O S C R : Type 0} (opens : O → S → Type 0) (answers : O → S → 
   not_here st log id v idle at b e = let there : get_elem? st.views id ≡ some (live b.seat) = ap (λ j. get_elem? st.views j) (sym e) ∙ b.there in
       true≢false (sym b.holds ∙ (ap is_holder (some-injective (live b.seat) v (sym there ∙ at)) ∙ idle))
 
-  -- the slot stays at home where the views change, if no seat holds it
+  -- the slot stays at home if the views change and no seat holds it
   still_free : (st : St) (views : List V) {key : About O} {log : List (Entry C R)} {state : S} → (free : Free key log state st) → ((j : ℕ) (v : V) → get_elem? views j ≡ some v → is_holder v ≡ false)
       → Free key log state (record { words = st.words; homes = st.homes; views = views })
   still_free st views free idle = record { held = free.held; at_home = free.at_home; stores = free.stores; idle = idle }
 
-  -- who holds the slot is told by the views alone
+  -- the views alone determine who holds the slot
   still_busy : (st : St) (words : List ℕ) {log : List (Entry C R)} → (b : Busy log st) → Busy log (record { words = words; homes = st.homes; views = st.views })
   still_busy st words b = record { holder = b.holder; seat = b.seat; there = b.there; holds = b.holds; seen = b.seen; numbered = b.numbered; no_other = b.no_other }
 
@@ -96,7 +96,7 @@ module _ {O S C R : Type 0} (opens : O → S → Type 0) (answers : O → S → 
   first_knows key log a [] e h = (tt, tt)
   first_knows key log a (p ∷ ps) e h = (h.1, (e, (h.0, tt)))
 
-  -- The seat takes the slot where the word is 0. The word becomes at least k
+  -- The seat takes the slot if the word is 0. The word becomes at least k
   pub wins : (key : About O) (slots id k : ℕ) (s : LiveSeat O C R) (c : List (ℕ × Home)) → 1 ≤ k → s.holds ≡ false → 1 ≤ s.own.number
       → Allows (Rule key) slots id (live s, c) 0 (λ n. max n k) (took opens answers (step slots 0 k 0 none) (live s, c))
   wins key slots id k s c some_mark idle numbered st r wide at small =
@@ -186,7 +186,7 @@ module _ {O S C R : Type 0} (opens : O → S → Type 0) (answers : O → S → 
       ))
       r.word
 
-  -- The holder gives the slot back, with a log that goes on from what it has seen by entries of its own
+  -- The holder gives the slot back, with a log that continues what it has seen by entries of its own
   pub yields : (key : About O) (id : ℕ) (s : LiveSeat O C R) (held : Held S C R) (new : List (Entry C R)) → s.holds ≡ true → held.log.items ≡ s.own.seen ++ new
       → Each (λ e. e.who ≡ s.own.number) new → Each (λ p. p.number ≡ 0) s.kept → LeadsTo (answers s.about.object) (opens s.about.object) held.log.items held.state → s.about.room ≤ vec_capacity held.log
       → Allows (Rule key) 1 id (live s, (0, Some held) ∷ []) 0 (λ _. 0) (gave (step 1 0 0 0 none) (live s, (0, Some held) ∷ []))
@@ -232,7 +232,7 @@ module _ {O S C R : Type 0} (opens : O → S → Type 0) (answers : O → S → 
         refl,
       )
 
-  -- A view is cut in two, and neither part holds the slot
+  -- A view is split in two, and neither part holds the slot
   cuts : (key : About O) (id : ℕ) (v left right : V) → is_holder v ≡ false → is_holder left ≡ false → is_holder right ≡ false
       → ((n : ℕ) → 1 ≤ n → names n left + names n right ≡ names n v)
       → ((log : List (Entry C R)) → AreFrom key.seats log → Knows key log v → Knows key log left × Knows key log right)
@@ -284,7 +284,7 @@ module _ {O S C R : Type 0} (opens : O → S → Type 0) (answers : O → S → 
       (λ n l. omega (arith, unnamed s.own.seen [] n l))
       (λ log from k. (k, (k.0, ((k.1.0.0, sym (note_none log key.seats from)), tt))))
 
-  -- One seat takes in another, and neither holds the slot
+  -- One seat joins another to itself, and neither holds the slot
   pub joins : (key : About O) (id other : ℕ) (s t : LiveSeat O C R) → s.holds ≡ false → t.holds ≡ false → Joins (Rule key) id (live s) other (live t) (joined (live s) (live t)) Spent
   joins key id other s t idle idle_other st r at apart there =
       let both : V = joined (live s) (live t) in
@@ -328,7 +328,7 @@ module _ {O S C R : Type 0} (opens : O → S → Type 0) (answers : O → S → 
             r.word;
       }
 
-  -- A load, which tells a seat that its view meets the rule
+  -- A load, after which a seat knows that its view meets the rule
   pub looks : (key : About O) (slots id : ℕ) (s : LiveSeat O C R) (c : List (ℕ × Home)) → Allows (Rule key) slots id (live s, c) 0 (λ n. n) (looked opens answers (step slots 0 0 0 none) (live s, c))
   looks key slots id s c st r wide at small = let known : Knows key r.log (live s) = r.knows id (live s) at in (
     live s,

@@ -1,4 +1,4 @@
--- Logs in which what was before decides what may follow, and objects that are seen as their log.
+-- Logs in which the entries before decide what may follow, and objects that are seen as their log.
 use Rattle.std.proofs.Common.{◌≡◌, List, [], ◌∷◌, ◌++◌, refl, sym, ◌∙◌, ap, subst, append_assoc, append-nil}
 use Rattle.mrp_turn.specs.declared.log.Entry.{Entry}
 use Rattle.mrp_turn.specs.Log.{EachFollows, Leads, by_log}
@@ -7,7 +7,7 @@ pub one_more : {E : Type 0} (b : List E) (e : E) (es : List E) → b ++ e ∷ es
 one_more b e es = sym (append_assoc b (e ∷ []) es)
 
 module _ {E : Type 0} (MayFollow : List E → E → Type 0) where
-  -- the entries in turn
+  -- the entries in order
   abbrev pub InTurn : List E → List E → Type 0
   InTurn before [] = Unit {0}
   InTurn before (e ∷ es) = MayFollow before e × InTurn (before ++ e ∷ []) es
@@ -34,7 +34,7 @@ module _ {E : Type 0} (MayFollow : List E → E → Type 0) where
   pub EachFollows-more : (log : List E) (e : E) → EachFollows MayFollow log → MayFollow log e → EachFollows MayFollow (log ++ e ∷ [])
   EachFollows-more log e each m = Each-from_InTurn (log ++ e ∷ []) (turn_more [] log e (InTurn-from_Each [] log each) m)
 
-  -- the front of such a log
+  -- a prefix of such a log
   pub EachFollows-front : (log more : List E) → EachFollows MayFollow (log ++ more) → EachFollows MayFollow log
   EachFollows-front log more each before e after same = each before e (after ++ more) (ap (λ x. x ++ more) same ∙ append_assoc before (e ∷ after) more)
 

@@ -1,10 +1,10 @@
--- For callers of an object's `apply`, which owe a state that answered calls led to.
+-- For callers of an object's `apply`, whose state must be one that answered calls led to.
 use Rattle.std.proofs.Common.{ℕ, [], ◌∷◌, ◌++◌, refl}
 use Rattle.mrp_turn.specs.Log.{IsReached, entry}
 use Rattle.mrp_turn.proofs.Runs.{Leads-snoc}
 
 module _ {S C R : Type 0} (answers : S → ℕ → C → R → S → Type 0) (opens : S → Type 0) where
-  -- a state that the object opens with is one
+  -- a state that the object opens with is such a state
   pub reached-opens : (s : S) → opens s → IsReached answers opens s
   reached-opens s opened = ([], (s, opened, refl))
 

@@ -23,14 +23,14 @@ module _ {S C R : Type 0} (answers : S → ℕ → C → R → S → Type 0) whe
   Leads-snoc s [] t e u h a = (u, subst (λ (x : S). answers x e.who e.call e.reply u) (sym h) a, refl)
   Leads-snoc s (x ∷ xs) t e u h a = (h.0, h.1, Leads-snoc h.0 xs t e u h.2 a)
 
-module _ {O S C R E : Type 0} (opens : O → S → Type 0) (answers : O → S → ℕ → C → R → S → Type 0) (refuses wants_memory : O → S → ℕ → C → E → Type 0) where
+module _ {O S C R E : Type 0} (opens : O → S → Type 0) (answers : O → S → ℕ → C → R → S → Type 0) (refuses out_of_memory : O → S → ℕ → C → E → Type 0) where
   -- what `answer` ensures
   abbrev pub Answered : O → ℕ → C → Held S C R → Result (ℕ × R) (CallFault E) → Held S C R → Type 0
   Answered o who call old result new = MatchResult result
       (λ r. (new.log.items ≡ old.log.items ++ entry who call r.1 ∷ []) × (r.0 ≡ length new.log.items) × answers o old.state who call r.1 new.state)
-      (λ f. (new.log.items ≡ old.log.items) × (new.state ≡ old.state) × Explains (refuses o old.state who call) (wants_memory o old.state who call) (vec_capacity old.log) (length old.log.items) f)
+      (λ f. (new.log.items ≡ old.log.items) × (new.state ≡ old.state) × Explains (refuses o old.state who call) (out_of_memory o old.state who call) (vec_capacity old.log) (length old.log.items) f)
 
-  -- the log is the one that was found, with the entry behind it or not
+  -- the log is the one that was found, with or without the entry after it
   pub ends : (s : LiveSeat O C R) (call : C) (old : Held S C R) (log : List (Entry C R)) (new : Held S C R) (result : Result (ℕ × R) (CallFault E)) → Opens opens answers s old log → vec_capacity old.log ≤ vec_capacity new.log
       → Each (λ p. p.number ≡ 0) s.kept → Answered s.about.object s.own.number call old result new → MayGive opens answers (holding s log) new
   ends s call old log new (Ok r) o cap notes a =
@@ -62,16 +62,16 @@ module _ {O S C R E : Type 0} (opens : O → S → Type 0) (answers : O → S �
 
   -- the cause that `answer` gives, seen from the log
   why : (s : LiveSeat O C R) (call : C) (old : Held S C R) (log : List (Entry C R)) (new : Held S C R) (f : CallFault E) → Opens opens answers s old log → new.log.items ≡ log
-      → Explains (refuses s.about.object old.state s.own.number call) (wants_memory s.about.object old.state s.own.number call) (vec_capacity old.log) (length old.log.items) f
-      → HasCause (opens s.about.object) (answers s.about.object) (refuses s.about.object) (wants_memory s.about.object) s.about.room s.own.number call new.log.items f
+      → Explains (refuses s.about.object old.state s.own.number call) (out_of_memory s.about.object old.state s.own.number call) (vec_capacity old.log) (length old.log.items) f
+      → HasCause (opens s.about.object) (answers s.about.object) (refuses s.about.object) (out_of_memory s.about.object) s.about.room s.own.number call new.log.items f
   why s call old log new NoMemory o same h = omega (arith, h, o.room, ap length o.log_is, ap length same)
   why s call old log new (Refused f) o same h =
       (old.state, subst (λ (l : List (Entry C R)). LeadsTo (answers s.about.object) (opens s.about.object) l old.state) (sym same) o.legal, h)
 
-  -- what the call tells, of the log with or without its entry
+  -- what the call's contract says, of the log with or without its entry
   pub outcome : (s : LiveSeat O C R) (call : C) (old : Held S C R) (log : List (Entry C R)) (new : Held S C R) (result : Result (ℕ × R) (CallFault E)) → Opens opens answers s old log → vec_capacity old.log ≤ vec_capacity new.log
       → Each (λ p. p.number ≡ 0) s.kept → Answered s.about.object s.own.number call old result new
-      → Tells (opens s.about.object) (answers s.about.object) (refuses s.about.object) (wants_memory s.about.object) s.about.room s.own.number call s.own.seen s.own.mine result new.log.items (entries_by s.own.number new.log.items)
+      → Tells (opens s.about.object) (answers s.about.object) (refuses s.about.object) (out_of_memory s.about.object) s.about.room s.own.number call s.own.seen s.own.mine result new.log.items (entries_by s.own.number new.log.items)
   outcome s call old log new (Ok r) o cap notes a = let e : Entry C R = entry s.own.number call r.1 in let n : ℕ = s.own.number in let grows : new.log.items ≡ log ++ e ∷ [] = a.0 ∙ ap (λ l. l ++ e ∷ []) o.log_is in
       let may = ends s call old log new (Ok r) o cap notes a in record {
         legal = (new.state, may.legal);
@@ -95,12 +95,12 @@ module _ {O S C R E : Type 0} (opens : O → S → Type 0) (answers : O → S �
         cause = why s call old log new f o same a.2;
       }
 
-  -- what the call tells, once the value is given back
+  -- what the call's contract says, once the value is given back
   pub tells : (s : LiveSeat O C R) (call : C) (old : Held S C R) (log : List (Entry C R)) (new : Held S C R) (result : Result (ℕ × R) (CallFault E)) → Opens opens answers s old log → vec_capacity old.log ≤ vec_capacity new.log
       → Each (λ p. p.number ≡ 0) s.kept → Answered s.about.object s.own.number call old result new
       → (n : Me (Option (Held S C R)) (View O C R)) → n ≡ (live (given (holding s log) new.log.items), [])
       → (seen : List (Entry C R)) × (mine : List (Entry C R)) × (n ≡ (live (alone s.about (account s.own.number seen mine)), []))
-      × Tells (opens s.about.object) (answers s.about.object) (refuses s.about.object) (wants_memory s.about.object) s.about.room s.own.number call s.own.seen s.own.mine result seen mine × Each (λ p. StartsWith seen p.seen) s.kept
+      × Tells (opens s.about.object) (answers s.about.object) (refuses s.about.object) (out_of_memory s.about.object) s.about.room s.own.number call s.own.seen s.own.mine result seen mine × Each (λ p. StartsWith seen p.seen) s.kept
   tells s call old log new result o cap notes a n is = let may = ends s call old log new result o cap notes a in (
     new.log.items,
     entries_by s.own.number new.log.items,

@@ -24,16 +24,16 @@ module _ {O S C R : Type 0} where
   pub is_seat : (key : About O) (n : ℕ) (m : M O S C R) (seen mine : List (Entry C R)) → m ≡ (live (alone key (account n seen mine)), []) → (key' : About O) → key ≡ key' → IsAt key' n m
   is_seat key n m seen mine e key' k = record { seat = alone key (account n seen mine); is = e; rests = refl; about = k; number = refl; notes = tt }
 
-module _ {O S C R E : Type 0} (opens : O → S → Type 0) (answers : O → S → ℕ → C → R → S → Type 0) (refuses wants_memory : O → S → ℕ → C → E → Type 0) where
+module _ {O S C R E : Type 0} (opens : O → S → Type 0) (answers : O → S → ℕ → C → R → S → Type 0) (refuses out_of_memory : O → S → ℕ → C → E → Type 0) where
   abbrev seated : TurnId O → ℕ → List (Entry C R) → List (Entry C R) → Seated O C R
   seated turn n seen mine = record { turn = turn; number = n; seen = seen; mine = mine }
 
-  -- what the place tells, of the seat over it
+  -- what the contract of the place says, of the seat over it
   pub seat_told : (call : C) (result : Result (ℕ × R) (CallFault E)) (was now : Seated O C R) → was ≡ now → (turn : TurnId O) → now.turn ≡ turn → (n : ℕ) (m : M O S C R) (seen mine : List (Entry C R))
-      → m ≡ (live (alone was.turn.about (account n seen mine)), []) → SeatTells opens answers refuses wants_memory was.turn.about call was result (seated was.turn was.number seen mine)
-      → SeatTells opens answers refuses wants_memory turn.about call now result (seated now.turn now.number (seen_of m.0) (mine_of m.0))
+      → m ≡ (live (alone was.turn.about (account n seen mine)), []) → SeatTells opens answers refuses out_of_memory was.turn.about call was result (seated was.turn was.number seen mine)
+      → SeatTells opens answers refuses out_of_memory turn.about call now result (seated now.turn now.number (seen_of m.0) (mine_of m.0))
   seat_told call result was now e turn at n m seen mine is t = let same : was.turn ≡ turn = ap (λ x. x.turn) e ∙ at in
-      subst (λ (x : Seated O C R × M O S C R × TurnId O). SeatTells opens answers refuses wants_memory x.2.about call x.0 result (seated x.0.turn x.0.number (seen_of x.1.0) (mine_of x.1.0))) (λ i. (e i, sym is i, same i)) t
+      subst (λ (x : Seated O C R × M O S C R × TurnId O). SeatTells opens answers refuses out_of_memory x.2.about call x.0 result (seated x.0.turn x.0.number (seen_of x.1.0) (mine_of x.1.0))) (λ i. (e i, sym is i, same i)) t
 
 -- a seat that keeps a note of what another has seen
 abbrev pub noting : {O C R : Type 0} → About O → Account C R → List (Entry C R) → LiveSeat O C R

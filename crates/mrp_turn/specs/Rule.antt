@@ -31,7 +31,7 @@ abbrev pub accounts : {O C R : Type 0} → View O C R → List (Account C R)
 accounts Spent = []
 accounts (Live s) = s.own ∷ s.kept
 
--- 1 if the account has the number, else 0
+-- 1 if the account has the number, otherwise 0
 abbrev pub is_named : {C R : Type 0} → ℕ → Account C R → ℕ
 is_named n p = cond (p.number == n) 1 0
 
@@ -53,7 +53,7 @@ abbrev pub mine_of : {O C R : Type 0} → View O C R → List (Entry C R)
 mine_of Spent = []
 mine_of (Live s) = s.own.mine
 
--- what was seen is the front of the log, and the own entries are the log's entries under the number
+-- what was seen is a prefix of the log, and the own entries are the log's entries under the number
 abbrev pub IsTrueOf : {C R : Type 0} → List (Entry C R) → Account C R → Type 0
 IsTrueOf log p = StartsWith log p.seen × (p.mine ≡ entries_by p.number log)
 
@@ -62,11 +62,11 @@ abbrev pub Knows : {O C R : Type 0} → About O → List (Entry C R) → View O 
 Knows key log Spent = Unit {0}
 Knows key log (Live s) = (s.about ≡ key) × Each (IsTrueOf log) (s.own ∷ s.kept)
 
--- a seat with this account alone, which does not hold the slot
+-- a seat with only this account, which does not hold the slot
 abbrev pub alone : {O C R : Type 0} → About O → Account C R → LiveSeat O C R
 alone key own = record { about = key; own = own; kept = []; holds = false }
 
--- the seat that begins: it is a note, and keeps the accounts of all numbers
+-- the initial seat: it is a note, and keeps the accounts of all numbers
 abbrev pub starting : {O C R : Type 0} → About O → View O C R
 starting key = live (record { about = key; own = account 0 [] []; kept = blanks 1 key.seats; holds = false })
 
@@ -83,7 +83,7 @@ pub record Free {O S C R : Type 0} (key : About O) (log : List (Entry C R)) (sta
   pub stores : Stores key log state held
   pub idle : (j : ℕ) (v : View O C R) → get_elem? s.views j ≡ some v → is_holder v ≡ false
 
--- one seat alone holds the slot. It is no note, and has seen the whole log
+-- exactly one seat holds the slot. It is not a note, and has seen the whole log
 pub record Busy {O S C R : Type 0} (log : List (Entry C R)) (s : State (Option (Held S C R)) (View O C R)) : Type 0 where
   pub holder : ℕ
   pub seat : LiveSeat O C R
@@ -101,10 +101,10 @@ pub record FollowsRule {O S C R : Type 0} (opens : O → S → Type 0) (answers 
   -- every entry is under a number of the turn's seats
   pub numbered : AreFrom key.seats log
   pub one_word : length s.words ≡ 1
-  -- what every seat has seen is the front of the log, and its own entries are those under its number
+  -- what every seat has seen is a prefix of the log, and its own entries are those under its number
   pub knows : (j : ℕ) (v : View O C R) → get_elem? s.views j ≡ some v → Knows key log v
-  -- each number from 1 to the count of seats stands in one account, and no greater number in any
+  -- each number from 1 to the count of seats is in exactly one account, and no greater number is in any
   pub once : (n : ℕ) → 1 ≤ n → n ≤ key.seats → total (names n) s.views ≡ 1
   pub no_more : (n : ℕ) → key.seats < n → total (names n) s.views ≡ 0
-  -- where the word is 0 the slot is at home with the log and the state; elsewhere one seat holds it
+  -- if the word is 0 the slot is at home with the log and the state; otherwise one seat holds it
   pub word : ((slice_index s.words 0 ≡ 0) × Free key log state s) ⊎ ((slice_index s.words 0 ≢ 0) × Busy log s)

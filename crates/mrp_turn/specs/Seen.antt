@@ -1,10 +1,10 @@
--- What a clause sees of a turn and of a seat. Profile.
+-- What contracts see of a turn and of a seat. Profile.
 use Rattle.std.specs.Prelude.{◌≡◌, ℕ, List, [], Contains}
 use Rattle.atomic_table.specs.Seated.{TableId}
 use Rattle.mrp_turn.specs.declared.log.Entry.{Entry}
 use Rattle.mrp_turn.specs.declared.views.About.{About}
 
--- which turn it is: its table, and what it was told when it was made
+-- which turn it is: its table, and what it was made with
 pub record TurnId (O : Type 0) : Type 0 where
   pub table : TableId
   pub about : About O

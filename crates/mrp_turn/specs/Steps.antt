@@ -1,4 +1,5 @@
--- What each step tells. Profile: of the step, the seat before, the number found and the seat after; and how views are cut and joined.
+-- What each step's contract says. Profile: of the step, the seat before, the number found and the seat after; and how
+-- views are split and joined.
 use Rattle.std.specs.Prelude.{◌≡◌, ◌≢◌, ℕ, ◌≤◌, List, [], ◌∷◌, ◌++◌, Option, Some, None, vec_capacity, true, false}
 use Rattle.atomic_table.specs.Table.{Me, Step}
 use Rattle.mrp_turn.specs.declared.log.Entry.{Entry}
@@ -35,7 +36,7 @@ module _ {O C R : Type 0} where
   first_seat key [] = Spent
   first_seat key (p ∷ ps) = live (alone key p)
 
-  -- the first of the accounts that a seat keeps is cut off, as a seat of its own
+  -- the first of the accounts that a seat keeps is split off, as a seat of its own
   abbrev pub cut_left : View O C R → View O C R
   cut_left Spent = Spent
   cut_left (Live s) = live (record s { kept = behind_first s.kept })
@@ -49,7 +50,7 @@ module _ {O C R : Type 0} where
   noted Spent = Spent
   noted (Live s) = live (alone s.about (account 0 s.own.seen []))
 
-  -- one seat takes in the other, and keeps its accounts
+  -- one seat joins the other to itself, and keeps its accounts
   abbrev pub joined : View O C R → View O C R → View O C R
   joined Spent w = w
   joined (Live s) Spent = live s
@@ -68,7 +69,7 @@ module _ {O S C R : Type 0} (opens : O → S → Type 0) (answers : O → S → 
   abbrev pub Won : LiveSeat O C R → List (ℕ × Option (Held S C R)) → Me (Option (Held S C R)) (View O C R) → Type 0
   Won s c n = (held : Held S C R) × (log : List (Entry C R)) × (n ≡ (live (holding s log), (0, Some held) ∷ c)) × Opens opens answers s held log
 
-  -- a take: it wins where it finds 0; elsewhere the seat is as before, and lacks the holder's number
+  -- a take: it wins if it finds 0; otherwise the seat is unchanged, and lacks the holder's number
   abbrev pub TookFrom : View O C R → List (ℕ × Option (Held S C R)) → ℕ → Me (Option (Held S C R)) (View O C R) → Type 0
   TookFrom Spent c found n = Unit {0}
   TookFrom (Live s) c found n = (found ≡ 0 → Won s c n) × (found ≢ 0 → (n ≡ (live s, c)) × ¬ Covers s)
@@ -90,7 +91,7 @@ module _ {O S C R : Type 0} where
   abbrev pub gave : Step (Option (Held S C R)) → Me (Option (Held S C R)) (View O C R) → ℕ → Me (Option (Held S C R)) (View O C R) → Type 0
   gave st m r n = GaveFrom m.0 m.1 n
 
--- a seat that holds nothing, and is no note
+-- a seat that holds nothing, and is not a note
 pub record IsIdle {O S C R : Type 0} (key : About O) (m : Me (Option (Held S C R)) (View O C R)) : Type 0 where
   pub seat : LiveSeat O C R
   pub is : m ≡ (live seat, [])
@@ -127,11 +128,11 @@ module _ {O S C R : Type 0} where
   GivenFrom m held n = (s : LiveSeat O C R) → m ≡ (live s, (0, None) ∷ []) → n ≡ (live (given s held.log.items), [])
 
 module _ {O S C R : Type 0} (opens : O → S → Type 0) (answers : O → S → ℕ → C → R → S → Type 0) where
-  -- there is a legal log of which all the seat's accounts are true
+  -- there is a legal log that all the seat's accounts are true of
   abbrev pub Looks : View O C R → Type 0
   Looks Spent = Unit {0}
   Looks (Live s) = (log : List (Entry C R)) × IsLegal (answers s.about.object) (opens s.about.object) log × AreFrom s.about.seats log × Each (IsTrueOf log) (s.own ∷ s.kept)
 
-  -- a look: the seat is as before, and its view meets the rule
+  -- a look: the seat is unchanged, and its view meets the rule
   abbrev pub looked : Step (Option (Held S C R)) → Me (Option (Held S C R)) (View O C R) → ℕ → Me (Option (Held S C R)) (View O C R) → Type 0
   looked st m r n = (n ≡ m) × Looks m.0

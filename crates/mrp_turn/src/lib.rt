@@ -1,4 +1,4 @@
-//! A lock that keeps a log. Under it lies an object, and whoever takes a turn calls the object once: the call and its
+//! A lock that keeps a log. It protects an object, and whoever takes a turn calls the object once: the call and its
 //! reply become the next entry of one log, whatever other threads do.
 #![tactic(auto)]
 

@@ -30,7 +30,7 @@ impl<C, R> Model for Log<C, R> {
 }
 
 impl<C, R> Log<C, R> {
-    /// The log of these entries. It takes no memory.
+    /// The log of these entries. It does not allocate.
     pub fn from_entries(entries: Vec<Entry<C, R>>) -> Log<C, R>
         ensures { result ≡ entries.items }
     {
@@ -44,7 +44,7 @@ impl<C, R> Log<C, R> {
         &self.entries
     }
 
-    /// The entries themselves. It takes no memory.
+    /// The entries themselves. It does not allocate.
     pub fn into_entries(self) -> Vec<Entry<C, R>>
         ensures { result.items ≡ self }
     {
@@ -67,7 +67,7 @@ impl<C, R> Log<C, R> {
     }
 }
 
-// What lies under the lock: the state, and the log of the calls that led to it.
+// What the lock protects: the state, and the log of the calls that led to it.
 #[derive(Drop)]
 pub struct Held<S, C, R> {
     pub state: S,

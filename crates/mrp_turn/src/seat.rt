@@ -9,18 +9,18 @@ use crate::views::{About, View};
 use std::marker::Model;
 use std::snapshot::Snapshot;
 
-// What steps at the table. It has no bytes.
+// The seat at the table of words and slots that takes the steps. It has no bytes.
 pub(crate) type Place<O> = atomic_table::Seat<
     Option<Held<<O as Object>::State, <O as Object>::Call, <O as Object>::Reply>>,
     View<O, <O as Object>::Call, <O as Object>::Reply>,
 >;
 
-/// One of a turn's seats, which one thread at a time makes calls with. Contracts see its turn, its number, what it has
+/// One of a turn's seats, with which one thread at a time makes calls. Contracts see its turn, its number, what it has
 /// seen of the log, and its own entries; the last two have no bytes.
 #[derive(Drop)]
 pub struct Seat<O: Object> {
     pub(crate) number: u64,
-    // What its turn was told.
+    // What its turn was made with.
     about: Snapshot<About<O>>,
     pub(crate) place: Place<O>,
 }

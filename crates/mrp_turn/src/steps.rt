@@ -1,7 +1,7 @@
-//! The rule of the table, and the kinds of step that keep it. No value of these types is made.
+//! The rule of the table, and the kinds of step that keep it. No value of these types exists.
 //!
-//! A table is made, and its first seat split into the others (`Cut`). A seat looks (`Look`), and takes the slot where it is
-//! free (`Take`), or leaves it where it is taken. The holder moves the value out and in, which the rule does not see, and
+//! A table is made, and its first seat is split into the others (`Cut`). A seat looks (`Look`), and takes the slot if it is
+//! free (`Take`), or leaves it if it is taken. The holder moves the value out and in, which the rule does not see, and
 //! gives the slot back (`Give`). A seat that meets another joins (`Keep`) a note of it (`Note`), and a close joins all seats.
 ghost use Rattle.mrp_turn.specs.Rule.{FollowsRule, starting};
 ghost use Rattle.mrp_turn.specs.Steps.{took, gave, cut_left, cut_right, noted, joined, looked};
@@ -28,7 +28,7 @@ impl<O: Object> TableRule<
     ghost first = { starting };
 }
 
-// Takes the slot where the word is 0.
+// Takes the slot if the word is 0.
 pub struct Take<O> {
     object: PhantomData<O>,
 }
@@ -38,7 +38,7 @@ impl<O: Object> Play<Option<Held<O::State, O::Call, O::Reply>>, View<O, O::Call,
     ghost then = { took O.opens O.answers };
 }
 
-// Reads the word, and leaves the seat as it is.
+// Reads the word, and leaves the seat unchanged.
 pub struct Look<O> {
     object: PhantomData<O>,
 }
@@ -48,7 +48,7 @@ impl<O: Object> Play<Option<Held<O::State, O::Call, O::Reply>>, View<O, O::Call,
     ghost then = { looked O.opens O.answers };
 }
 
-// Gives the slot back, with the log that the value in it has.
+// Gives the slot back, with the log of the value in it.
 pub struct Give;
 
 impl<O, S, C, R> Play<Option<Held<S, C, R>>, View<O, C, R>> for Give {

@@ -20,7 +20,7 @@ use std::time::Duration;
 /// The most seats of a turn.
 pub const MOST_SEATS: u64 = 64;
 
-// The word of the table while no seat has the slot.
+// The table's word while no seat has the slot.
 const FREE: u64 = 0;
 
 // The word while a seat has the slot.
@@ -29,8 +29,8 @@ const TAKEN: u64 = 1;
 // How often a thread that finds the slot taken looks again before it sleeps.
 const LOOKS: u32 = 10;
 
-// How many microseconds a thread sleeps for that found the slot taken. Nobody wakes it: that takes longer than most
-// calls, and would have a thread switched to at each call.
+// How many microseconds a thread that found the slot taken sleeps. Nobody wakes it: that would take longer than most
+// calls, and would switch threads at each call.
 const PAUSE: u64 = 200;
 
 /// Why a turn was not made.
@@ -38,14 +38,14 @@ const PAUSE: u64 = 200;
 pub enum TurnFault {
     /// The number of seats is 0 or over `MOST_SEATS`.
     Seats,
-    /// Memory for the turn, its seats or the places of its log was refused.
+    /// The turn, its seats or the places of its log could not be allocated.
     NoMemory,
 }
 
 /// Why a call was not answered. It made no entry.
 #[derive(Debug, Drop)]
 pub enum CallFault<E> {
-    /// The log had to grow past the places that it began with, and could not.
+    /// The log had to grow beyond the places that it began with, and could not.
     NoMemory,
     /// The object refused the call.
     Refused(E),
@@ -87,10 +87,10 @@ impl<O: Object> Turn<O> {
     ghost use Rattle.mrp_turn.specs.Steps.{IsIdle, Taken, Lost, MayGiveFrom, GivenFrom};
     ghost use Rattle.mrp_turn.specs.Faults.{HasFault};
 
-    /// A turn over the object, and its seats, numbered from 1. The log has places for `room` entries, and takes no memory
-    /// until it has more. The caller owes a state that the object opens with.
+    /// A turn over the object, and its seats, numbered from 1. The log has places for `room` entries, and does not allocate
+    /// until it has more. The state must be one that the object opens with.
     ///
-    /// Errors, in this order: `Seats` where the number of seats is 0 or over `MOST_SEATS`; `NoMemory` where memory is refused.
+    /// Errors, in this order: `Seats` if the number of seats is 0 or over `MOST_SEATS`; `NoMemory` if an allocation fails.
     pub fn new(
         alloc: Global,
         object: O,
@@ -102,7 +102,7 @@ impl<O: Object> Turn<O> {
         ensures accepted { OnOk result ((1 ≤ seats) × (seats ≤ MOST_SEATS)) }
         ensures about { IfOk result
             (λ r. r.0.about ≡ record { object = object; seats = seats; room = room }) }
-        // As many seats as were asked for; the k-th has the number k, and has seen and called nothing.
+        // As many seats as requested; the k-th has the number k, and has seen and called nothing.
         ensures count { IfOk result (λ r. length r.1.items ≡ seats) }
         ensures seats { IfOk result
             (λ r. (k : ℕ) → k < seats → slice_get r.1.items k ≡ Some (newcomer r.0 (k + 1))) }
@@ -152,7 +152,7 @@ impl<O: Object> Turn<O> {
         }
     }
 
-    // Cuts the seats off the place that keeps them all.
+    // Splits the seats off the place that keeps them all.
     fn deal(&self, alloc: Global, mut place: Place<O>) -> Result<Vec<Seat<O>>, AllocError>
         requires { (place.table_id ≡ self.now.table) × (place.me ≡ (starting self.now.about, [])) }
         ensures { IfOk result (λ v. (length v.items ≡ self.now.about.seats)
@@ -202,7 +202,7 @@ impl<O: Object> Turn<O> {
         unreachable!()
     }
 
-    // Looks for a short while whether the slot was given back. A look leaves the seat as it is.
+    // Looks for a short while whether the slot was given back. A look leaves the seat unchanged.
     fn looks_free(&self, place: &mut Place<O>) -> bool
         requires turn { place.old.table_id ≡ self.now.table }
         requires idle { IsIdle self.now.about place.old.me }
@@ -243,7 +243,7 @@ impl<O: Object> Turn<O> {
         requires call { O.fits self.now.about.object call }
         ensures same { place.new.table_id ≡ place.old.table_id }
         ensures told { RunTells
-            O.opens O.answers O.refuses O.wants_memory call place.old.me result place.new.me }
+            O.opens O.answers O.refuses O.out_of_memory call place.old.me result place.new.me }
     {
         let mut held = self.take(rt, place);
         let result = answer(&self.about.object, &mut held, number, call);
@@ -251,12 +251,12 @@ impl<O: Object> Turn<O> {
         result
     }
 
-    /// Makes the call, once no other seat has the slot. Where it is answered, its entry is in the log, and the number of
-    /// that entry comes with the reply. Where it is refused, no entry is made and the object's state is as before.
-    /// The caller owes a seat of this turn and a call that fits the object.
+    /// Makes the call, once no other seat has the slot. If it is answered, its entry is in the log, and the number of
+    /// that entry is returned with the reply. If it is refused, no entry is made and the object's state is unchanged.
+    /// The seat must be one of this turn, and the call must fit the object.
     ///
-    /// Errors: `NoMemory` where the log has no place left and could not grow, before the object is asked; `Refused` where
-    /// the object refuses the call.
+    /// Errors: `NoMemory` if the log has no place left and could not grow, before the object is called; `Refused` if the
+    /// object refuses the call.
     pub fn call<R: Wait>(
         &self,
         rt: &R,
@@ -266,10 +266,10 @@ impl<O: Object> Turn<O> {
         requires turn { seat.old.turn ≡ self.now }
         requires call { O.fits self.now.about.object call }
         ensures same { (seat.new.turn ≡ seat.old.turn) × (seat.new.number ≡ seat.old.number) }
-        // What the seat has then seen is a legal log that goes on from what it had seen, and its own entries are those of
-        // the log. An answered call is the last entry; a refused one made none, and has its cause.
+        // What the seat has then seen is a legal log that continues what it had seen, and its own entries are those of the
+        // log. An answered call is the last entry; a refused one made none, and has its cause.
         ensures told { SeatTells
-            O.opens O.answers O.refuses O.wants_memory self.now.about call seat.old result seat.new }
+            O.opens O.answers O.refuses O.out_of_memory self.now.about call seat.old result seat.new }
     {
         self.run(rt, seat.number, &mut seat.place, call)
     }
@@ -291,21 +291,20 @@ impl<O: Object> Turn<O> {
         ensures met { StartsWith seat.new.seen other.old.seen }
         // The rest is as for `call`.
         ensures told { SeatTells
-            O.opens O.answers O.refuses O.wants_memory self.now.about call seat.old result seat.new }
+            O.opens O.answers O.refuses O.out_of_memory self.now.about call seat.old result seat.new }
     {
         let note = self.table.shared.split_seat::<Note>(&mut other.place);
         self.table.shared.join_seat::<Keep>(&mut seat.place, note);
         self.run(rt, seat.number, &mut seat.place, call)
     }
 
-    /// Ends the turn, and gives its state and the log that led there. The caller owes every seat that was made. It takes
-    /// no memory.
+    /// Ends the turn, and returns its state and the log that led there. All seats must be given. It does not allocate.
     pub fn close(self, mut seats: Vec<Seat<O>>) -> (O::State, Log<O::Call, O::Reply>)
         requires turn { All (λ s. s.turn ≡ self) seats.items }
         requires all { (n : ℕ) → 1 ≤ n → n ≤ self.about.seats → HasNumber seats.items n }
         ensures legal { LeadsTo
             (O.answers self.about.object) (O.opens self.about.object) result.1 result.0 }
-        // What each seat has seen is the front of the log, and its own entries are all those under its number.
+        // What each seat has seen is a prefix of the log, and its own entries are all those under its number.
         ensures seen { All (λ s. StartsWith result.1 s.seen) seats.items }
         ensures mine { All (λ s. s.mine ≡ entries_by s.number result.1) seats.items }
         // Every entry is under a number of one of the seats, from 1 to their count.
@@ -317,7 +316,7 @@ impl<O: Object> Turn<O> {
             unreachable!()
         };
         let mut place = self.gather(first, seats);
-        // No other seat is left that could have the slot.
+        // There is no other seat that could have the slot.
         let Some(Held { state, log }) = self.try_take(&mut place) else {
             unreachable!()
         };
@@ -328,7 +327,7 @@ impl<O: Object> Turn<O> {
         (state, Log::from_entries(log))
     }
 
-    // One place that stands for all these seats.
+    // One place that keeps all these seats.
     fn gather(&self, first: Seat<O>, mut others: Vec<Seat<O>>) -> Place<O>
         requires turn { (first.turn ≡ self.now) × Each (λ s. s.turn ≡ self.now) others.items }
         ensures same { result.table_id ≡ self.now.table }
@@ -344,7 +343,7 @@ impl<O: Object> Turn<O> {
     }
 }
 
-// Makes room for an entry, makes the call, and adds the entry.
+// Reserves room for an entry, makes the call, and adds the entry.
 fn answer<O: Object>(
     object: &O,
     held: &mut Held<O::State, O::Call, O::Reply>,
@@ -360,7 +359,7 @@ fn answer<O: Object>(
         × (r.0 ≡ length held.new.log.items)
         × O.answers object.now held.old.state who call r.1 held.new.state)
         (λ f. (held.new.log.items ≡ held.old.log.items) × (held.new.state ≡ held.old.state)
-        × Explains (O.refuses object.now held.old.state who call) (O.wants_memory object.now held.old.state who call)
+        × Explains (O.refuses object.now held.old.state who call) (O.out_of_memory object.now held.old.state who call)
         (vec_capacity held.old.log) (length held.old.log.items) f) }
 {
     if held.log.try_reserve(1).is_err() {

@@ -1,15 +1,15 @@
-//! What a seat knows of the table. Of these types code makes values of `About` alone; the others are for the proofs.
+//! What a seat knows of the table. Only `About` has values at run time; the other types are for the proofs.
 use crate::log::Entry;
 use std::collections::LinkedList;
 
-/// What a turn is told once, when it is made.
+/// What a turn is made with.
 #[derive(Drop)]
 pub struct About<O> {
     /// The object under the lock.
     pub object: O,
     /// How many seats were made.
     pub seats: u64,
-    /// How many entries the log has places for from the start.
+    /// The number of log entries that places are reserved for.
     pub room: usize,
 }
 
@@ -29,7 +29,7 @@ pub struct LiveSeat<O, C, R> {
     pub holds: bool,
 }
 
-// What a seat knows: nothing any more, once it was joined to another.
+// What a seat knows: nothing, once it was joined to another.
 pub enum View<O, C, R> {
     Spent,
     Live(LiveSeat<O, C, R>),

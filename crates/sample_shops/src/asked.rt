@@ -1,4 +1,4 @@
-//! Calls of the desks of a sample shop, and what they are answered.
+//! Calls of the desks of a sample shop, and their replies.
 
 ghost use Rattle.std.specs.Prelude.{IfOk};
 ghost use Rattle.mrp_master.specs.Supply.{supply_of};
@@ -9,20 +9,20 @@ use mrp_book::{Call, Line, Reply, Spot, Wish};
 use mrp_qty::Qty;
 use std::test::Fail;
 
-/// What a desk asks of the first item of a shop: weeks, pieces and the numbers of bookings.
+/// A desk's call about the first item of a shop: weeks, pieces and the numbers of bookings.
 #[derive(Clone, Copy)]
 pub enum Asked {
     /// Book these pieces for this week.
     Book(u16, u64),
     /// Cancel this booking.
     Cancel(u64),
-    /// How much is available in this week?
+    /// How much is available to promise in this week?
     Ask(u16),
-    /// In which week are these pieces available?
+    /// In which week are these pieces available to promise?
     When(u64),
-    /// What stands?
+    /// Which bookings stand?
     Snapshot,
-    /// Which number has the entry of this call?
+    /// What is the number of this call's entry?
     Front,
 }
 
@@ -42,10 +42,10 @@ impl Asked {
     }
 }
 
-/// A reply, by its word and its number, or 0. That of a snapshot is its front.
+/// A reply, as its word and its number, or 0. The number of a snapshot is its front.
 pub type Said = (&'static str, u64);
 
-/// What a reply says.
+/// A reply as its word and its number.
 pub fn said(reply: &Reply) -> Said {
     match reply {
         Reply::Booked(number) => ("booked", *number),
@@ -61,7 +61,7 @@ pub fn said(reply: &Reply) -> Said {
     }
 }
 
-/// So many pieces.
+/// A number of pieces as a quantity.
 pub fn pieces(count: u64) -> Result<Qty, Fail> {
     Ok(Qty::new(count).ok_or("a quantity")?)
 }

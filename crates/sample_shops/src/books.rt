@@ -45,7 +45,7 @@ fn make_calls(
     Ok(())
 }
 
-/// What stands after these calls of a shop's desks: desk 1 asks for it.
+/// The snapshot after these calls of a shop's desks: desk 1 calls for it.
 pub fn snapshot_of(alloc: Global, shop: &Shop, calls: &[(u64, Asked)]) -> Result<Snapshot, Fail>
     ensures { IfOk result (λ s. AreBooked (supply_of shop.now.tables) s.standing) }
 {

@@ -1,5 +1,5 @@
-//! Shops for tests, and what is made of them: order books, inputs and plans. Tests of many crates
-//! need them, and they are proved once here.
+//! Shops for tests, with their order books, inputs and plans. Tests of many crates need them, and they
+//! are proved once here.
 #![tactic(auto)]
 
 mod asked;

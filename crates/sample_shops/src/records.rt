@@ -20,7 +20,7 @@ pub struct Records<'a> {
     pub items: &'a str,
     /// The work centres.
     pub centres: &'a str,
-    /// What is on hand.
+    /// The stock on hand.
     pub stock: &'a str,
     /// The open receipts.
     pub receipts: &'a str,
@@ -76,7 +76,7 @@ impl Records<'_> {
         Ok(Bill::of(alloc, self.tables(alloc)?)?)
     }
 
-    /// The shop, with what stands after these calls of its desks.
+    /// The inputs of a plan: the shop, with the bookings that stand after these calls of its desks.
     pub fn inputs(&self, alloc: Global, calls: &[(u64, Asked)]) -> Result<Arc<Inputs>, Fail> {
         let shop = Arc::new(alloc, self.shop(alloc)?)?;
         let snapshot = snapshot_of(alloc, &shop, calls)?;

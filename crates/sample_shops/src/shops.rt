@@ -1,9 +1,9 @@
-//! Sample shops, and calls of their desks. Functions hide these texts from the proofs of tests.
+//! Sample shops, and calls of their desks. They are functions, so that proofs of tests do not see the texts.
 
 use crate::asked::Asked;
 use crate::records::Records;
 
-/// A shop of six weeks that begin on 2025-01-06, without an item.
+/// A shop of six weeks that begin on 2025-01-06, without items.
 pub fn no_records() -> Records<'static> {
     Records {
         calendar: "start,2025-01-06\nweeks,6\nworkdays,1111100\nholiday,2025-01-20\n",
@@ -52,7 +52,7 @@ pub fn bicycles_welded() -> Records<'static> {
     }
 }
 
-/// Six calls of two desks about bicycles: three are booked, as 1, 2 and 5.
+/// Six calls of two desks about bicycles: three bookings are made, by entries 1, 2 and 5.
 pub fn morning() -> &'static [(u64, Asked)] {
     &[
         (1, Asked::Book(3, 12)),
@@ -64,7 +64,7 @@ pub fn morning() -> &'static [(u64, Asked)] {
     ]
 }
 
-/// SCREW is needed at three levels, and stands before its parents in the table.
+/// SCREW is needed at three levels, and comes before its parents in the table.
 pub fn screws() -> Records<'static> {
     Records {
         items: "\
@@ -78,8 +78,8 @@ FRAME,part,0,0,lfl,0,0\n",
     }
 }
 
-/// A product of which a fifth is scrapped, its part, a spare part that nothing requires, and one of
-/// which there is nothing: firm rows in one week, one of them late, safety stock and open receipts.
+/// A product with a fifth of scrap, its part, a spare part without requirements, and an item without
+/// anything: two firm rows in one week, a late one, safety stock and open receipts.
 pub fn products() -> Records<'static> {
     Records {
         calendar: "start,2025-01-06\nweeks,4\nworkdays,1111100\n",
@@ -106,7 +106,7 @@ TOP,forecast,2025-01-27,21\n",
     }
 }
 
-/// Three bookings of the product by one desk, of which two are for one week.
+/// Three bookings of the product by one desk, two of them for the same week.
 pub fn product_bookings() -> &'static [(u64, Asked)] {
     &[
         (1, Asked::Book(3, 10)),
@@ -130,7 +130,7 @@ C,part,0,0,lfl,0,0\n",
     }
 }
 
-/// A part with 1,000,000 of two others, both of which are over.
+/// A part with 1,000,000 of each of two others, which are both over.
 pub fn fork() -> Records<'static> {
     Records {
         items: "\
@@ -144,7 +144,7 @@ Y,part,0,0,lfl,0,0\n",
     }
 }
 
-/// A shop in which 1,000 pieces of TOP need as many of B as a quantity may have.
+/// A shop in which 1,000 pieces of TOP need the greatest quantity of B.
 pub fn tower() -> Records<'static> {
     Records {
         items: "TOP,master,0,0,lfl,0,0\nA,part,0,0,lfl,0,0\nB,part,0,0,lfl,0,0\n",

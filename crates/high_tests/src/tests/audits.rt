@@ -13,7 +13,7 @@ use std::thread::Threads;
 
 const SHAPE: Result<(), AuditFault> = Err(AuditFault::Shape);
 
-// The calls of two desks on the bicycles.
+// The calls of two desks in the bicycle shop.
 pub const SCRIPT: &str = "\
 1,book,BIKE,2025-01-20,12,\n\
 1,book,BIKE,2025-02-03,25,\n\
@@ -33,10 +33,10 @@ pub fn text_of(rt: &impl Abort, alloc: Global, pieces: &[&str]) -> String {
     text
 }
 
-// The day of the bicycles with these calls, whose frames are welded.
+// The day of the bicycle shop with these calls, in which frames are welded.
 pub const DAY: &[&str] = &[LOTS_HISTORY, LOTS_REPORT, WELD_LOADS];
 
-// What is found of the bicycles with these calls and a text of such pieces.
+// What the check finds for the bicycle shop with these calls and a text of these pieces.
 fn found<R: Alloc + Abort + Eprint + Threads + Sync>(
     rt: &R,
     alloc: Global,
@@ -52,7 +52,7 @@ fn found<R: Alloc + Abort + Eprint + Threads + Sync>(
     check(rt, alloc, bundle.as_bytes(), text.as_bytes())
 }
 
-// What is found of the right day with the first place of this text changed.
+// What the check finds for the right day with the first occurrence of this text replaced.
 fn found_changed<R: Alloc + Abort + Eprint + Threads + Sync>(
     rt: &R,
     alloc: Global,
@@ -73,7 +73,8 @@ fn words_of(alloc: Global, fault: AuditFault) -> Result<String, Fail> {
     Ok(format!(in alloc; "{fault}")?)
 }
 
-// Fails unless a text beside the bicycles with the calls of two desks is wrong, by a fault of these words.
+// Fails unless the check of a text against the bicycle shop with the calls of two desks finds a fault with
+// these words.
 fn is_wrong<R: Alloc + Abort + Eprint + Threads + Sync>(
     rt: &R,
     alloc: Global,
@@ -198,7 +199,7 @@ fn what_is_too_much_or_too_little_is_told(rt: HostRuntime) {
     same(&rt, found(&rt, rt.alloc(), SCRIPT, &[]), SHAPE);
 }
 
-// What is told of each digit of the history where the next one stands for it, in order.
+// What the check finds for each digit of the history, in order, if the next digit replaces it.
 const TOLD_OF_DIGITS: &[&str] = &[
     // 1,1,book,BIKE,3,12,,booked,1
     "shape",
@@ -246,7 +247,7 @@ const TOLD_OF_DIGITS: &[&str] = &[
     "history 7",
 ];
 
-// The digit behind a digit, and 8 behind 9.
+// The digit after a digit; for 9 it is 8.
 fn other_digit(letter: char) -> Option<char> {
     match letter {
         '0' => Some('1'),
@@ -288,7 +289,7 @@ fn each_digit_that_is_another_is_told(rt: HostRuntime) {
     drop(day);
 }
 
-// Adds a line so many times.
+// Adds a line `times` times.
 fn put_line(text: &mut String, line: &str, times: usize) -> Result<(), Fail> {
     for _ in 0..times {
         text.push_str(line)?;
@@ -297,7 +298,7 @@ fn put_line(text: &mut String, line: &str, times: usize) -> Result<(), Fail> {
     Ok(())
 }
 
-// A day with the line at a place so many times.
+// A day with the line at a place `times` times.
 fn with_line(alloc: Global, day: &str, place: usize, times: usize) -> Result<String, Fail> {
     let mut text = String::new(alloc);
     for (at, line) in day.lines().enumerate() {
@@ -306,8 +307,9 @@ fn with_line(alloc: Global, day: &str, place: usize, times: usize) -> Result<Str
     Ok(text)
 }
 
-// What is told of a day without the line at a place: a history without its last entry has one of desk 1 too
-// few, and one without another is not numbered; without the line that begins the report it does not end.
+// What the check finds for a day without the line at a place: without its last entry the history has too few
+// of desk 1, without another one it is not numbered, and without the line that begins the report it does not
+// end.
 fn told_without(place: usize) -> &'static str {
     match place {
         0..=7 | 9 => "shape",
@@ -316,8 +318,7 @@ fn told_without(place: usize) -> &'static str {
     }
 }
 
-// What is told of a day with the line at a place twice, where it has so many: behind the last nothing may
-// stand.
+// What the check finds for a day with the line at a place twice: nothing may come after the last line.
 fn told_twice(place: usize, lines: usize) -> &'static str {
     if place < 9 {
         "shape"

@@ -1,4 +1,4 @@
-//! The check of a day beside a folder, over an input, an output and an error stream.
+//! The check of a day against a folder, with an input, an output and an error stream.
 
 use super::audits::{DAY, EXCHANGED, SCRIPT, text_of};
 use super::commands::{Left, Streams, has_ended, left_by};
@@ -25,8 +25,8 @@ fn make_file(files: &impl Files, path: &str, head: &str, rows: &str) -> Result<(
     Ok(())
 }
 
-// The files of a folder of the bicycles whose frames are welded, and whose script has the calls of two desks: each with its
-// header and its records.
+// The files of a folder of the bicycle shop in which frames are welded, and whose script has the calls of
+// two desks: each with its header and its records.
 fn files_of_lots<'a>() -> [(&'a str, &'a str, &'a str); 9] {
     let shop = bicycles_welded();
     [
@@ -62,7 +62,7 @@ fn files_of_lots<'a>() -> [(&'a str, &'a str, &'a str); 9] {
     ]
 }
 
-// Makes that folder, which may be there from an earlier run.
+// Makes that folder, which may exist from an earlier run.
 fn make_folder(files: &impl Files) -> Result<(), Fail> {
     let _ = fs::create_dir(files, "out");
     let _ = fs::create_dir(files, "out/lots");
@@ -85,7 +85,7 @@ fn checked<R: Alloc + Abort + Eprint + Files + Threads + Wait + Sync>(
     left
 }
 
-// What the check of the right day with the first place of this text changed leaves.
+// What the check of the right day leaves with the first occurrence of this text replaced.
 fn checked_changed<R: Alloc + Abort + Eprint + Files + Threads + Wait + Sync>(
     rt: &R,
     alloc: Global,

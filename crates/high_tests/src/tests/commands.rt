@@ -1,4 +1,4 @@
-//! What the program's words do over an input, an output and an error stream.
+//! What the words of the command line do, with an input, an output and an error stream.
 
 use super::streams::{Turn, reader, writer};
 use super::texts::{BICYCLE_HISTORY, BICYCLE_REPORT};
@@ -20,7 +20,7 @@ const PLAN: &[&str] = &["plan"];
 
 const LIVE: &[&str] = &["live"];
 
-// The words that have a day made.
+// The words that make a day.
 const DAYS: [&[&str]; 2] = [PLAN, LIVE];
 
 // What a run is given: the input's text, and the turns of the three streams.
@@ -33,7 +33,7 @@ pub struct Streams<'a> {
 }
 
 impl<'a> Streams<'a> {
-    // Streams that move all.
+    // Streams that move everything.
     pub fn of(input: &'a str) -> Streams<'a> {
         Streams {
             input,
@@ -74,7 +74,7 @@ pub fn left_by<R: Alloc + Abort + Files + Threads + Wait + Sync>(
     }
 }
 
-// Fails unless the bicycles were planned.
+// Fails unless the bicycle shop was planned.
 fn is_planned(rt: &impl Abort, left: &Left) {
     same(rt, left.errors.as_str(), "");
     same(rt, left.status, 0);
@@ -85,7 +85,7 @@ fn is_planned(rt: &impl Abort, left: &Left) {
     );
 }
 
-// Fails unless a run ended so, with these bytes of output.
+// Fails unless a run ended with this status, this output and these errors.
 pub fn has_ended(rt: &impl Abort, left: &Left, status: u8, output: &str, errors: &str) {
     same(rt, left.status, status);
     same(rt, left.output.as_str(), output);
@@ -149,7 +149,7 @@ fn a_reader_that_fails_is_told(rt: HostRuntime) {
     drop(bundle);
 }
 
-// Fails unless a day is written to a writer that fails up to there.
+// Fails unless a day is written up to where its writer fails.
 fn is_written_in_part<R: Alloc + Abort + Files + Threads + Wait + Sync>(
     rt: &R,
     alloc: Global,
@@ -219,7 +219,7 @@ fn is_usage(rt: &impl Abort, left: &Left, line: &str) {
     same(rt, left.errors.as_str().lines().next(), Some(line));
 }
 
-// Wrong words, and the first line that is told of them.
+// Wrong words, and the first line that is reported for them.
 const WRONG: [(&[&str], &str); 20] = [
     (
         &[],
@@ -296,7 +296,7 @@ fn wrong_words_are_usage(rt: HostRuntime) {
     drop(bundle);
 }
 
-// Fails unless a help was written that has this text and lacks that one.
+// Fails unless a help text was written that has one text and lacks the other.
 fn is_help(rt: &impl Abort, left: &Left, has: &str, lacks: &str) {
     let output = left.output.as_str();
     same(rt, output.contains("mrp plan < shop.bundle"), true);
@@ -333,15 +333,15 @@ fn help_is_written_to_the_output(rt: HostRuntime) {
     }
 }
 
-// Makes a file of so many bytes.
+// Makes a file with `length` bytes.
 fn make_long(files: &impl Files, path: &str, length: u64) -> Result<(), Fail> {
     File::create(files, path)?.set_len(length)?;
     Ok(())
 }
 
-// Makes a folder whose calendar is a folder, one whose calendar is a link to itself, one that has an item table
-// too long for a bundle, one whose item table and stock are too long together, and one whose calendar is as long
-// as a bundle may be. They may be there from an earlier run.
+// Makes a folder whose calendar is a folder, one whose calendar is a link to itself, one that has an item
+// table too long for a bundle, one whose item table and stock are too long together, and one whose calendar
+// is as long as a bundle may be. They may exist from an earlier run.
 fn make_folders(files: &impl Files) -> Result<(), Fail> {
     const FOLDERS: [&str; 7] = [
         "out",
@@ -363,7 +363,7 @@ fn make_folders(files: &impl Files) -> Result<(), Fail> {
     make_long(files, "out/file", 1)
 }
 
-// A name that is longer than the system takes: 300 letters.
+// A name that is longer than the system accepts: 300 letters.
 const TOO_LONG: &str = "\
 aaaaaaaaaaaaaaaaaaaaaaaaaaaaaaaaaaaaaaaaaaaaaaaaaaaaaaaaaaaaaaaaaaaaaaaaaaaaaaaaaaaaaaaaaaaaaaaaaaaa\
 aaaaaaaaaaaaaaaaaaaaaaaaaaaaaaaaaaaaaaaaaaaaaaaaaaaaaaaaaaaaaaaaaaaaaaaaaaaaaaaaaaaaaaaaaaaaaaaaaaaa\

@@ -1,4 +1,4 @@
-//! The core: desks and workers, one after the other.
+//! The core, with desks and workers in turn.
 
 ghost use Rattle.std.specs.Prelude.{◌≡◌};
 ghost use Rattle.mrp_engine.specs.event_core.Core.{FitsShop};
@@ -57,7 +57,7 @@ fn answer<R: Alloc + Abort + Threads + Sync>(
     core.step(rt, alloc, event).expect(rt, "memory")
 }
 
-// Fails unless a core answers so to an event.
+// Fails unless a core gives this answer to an event.
 fn is_told<R: Alloc + Abort + Threads + Sync>(
     rt: &R,
     alloc: Global,
@@ -73,7 +73,7 @@ fn is_told<R: Alloc + Abort + Threads + Sync>(
     drop(answer);
 }
 
-// Fails unless a run is written so.
+// Fails unless a run's report is this text.
 fn is_written<R: Alloc + Abort + Threads + Sync>(
     rt: &R,
     alloc: Global,
@@ -107,7 +107,7 @@ fn first_steps<R: Alloc + Abort + Threads + Sync>(
     is_told(rt, alloc, core, Event::Finish(1, 1), ("stored", 0, 0));
 }
 
-// The other items are taken, each once, and finished; before that the run is not written.
+// The other items are taken, each once, and finished; until then the run's report is not written.
 fn last_steps<R: Alloc + Abort + Threads + Sync>(rt: &R, alloc: Global, core: &mut Core) {
     is_told(rt, alloc, core, Event::Take(1, 1), ("item", 1, 0));
     is_told(rt, alloc, core, Event::Take(1, 1), NOTHING);
@@ -118,7 +118,7 @@ fn last_steps<R: Alloc + Abort + Threads + Sync>(rt: &R, alloc: Global, core: &m
     is_told(rt, alloc, core, Event::Finish(1, 2), NOTHING);
 }
 
-// There is no desk 0, and none past the last.
+// There is no desk 0, and none after the last.
 fn steps_of_desks<R: Alloc + Abort + Threads + Sync>(rt: &R, alloc: Global, core: &mut Core) {
     is_told(rt, alloc, core, Event::Call(0, Call::Front), NOTHING);
     is_told(rt, alloc, core, Event::Call(65, Call::Front), NOTHING);
@@ -172,7 +172,7 @@ fn a_run_that_was_given_up_hands_nothing_out(rt: HostRuntime) {
     drop(core);
 }
 
-// One worker takes and finishes so many items of a run, parents before their components.
+// One worker takes and finishes items of a run, parents before their components.
 fn steps_of_one_worker<R: Alloc + Abort + Threads + Sync>(
     rt: &R,
     alloc: Global,
@@ -209,7 +209,7 @@ fn a_run_in_which_an_item_gets_too_large_is_told_by_its_name(rt: HostRuntime) {
     drop(core);
 }
 
-// What the events of the first test are answered, all together.
+// All answers to the events of the first test.
 const WORKED: &[Told] = &[
     ("started", 1, 1),
     ("item", 0, 0),
@@ -225,7 +225,7 @@ const WORKED: &[Told] = &[
     NOTHING,
 ];
 
-// What a core of the shop answers to these events.
+// The answers of a core of the shop to these events.
 fn answers_of_core<R: Alloc + Abort + Threads + Sync>(
     rt: &R,
     alloc: Global,
@@ -251,7 +251,7 @@ fn answers_of_core<R: Alloc + Abort + Threads + Sync>(
     Core::run(rt, alloc, shop, &events).expect(rt, "memory")
 }
 
-// Fails unless an answer is so; bytes are the report of the bicycles.
+// Fails unless an answer is this one; bytes have to be the report of the bicycle shop.
 fn is_answer(rt: &impl Abort, answer: &Answer, want: Told) {
     match answer {
         Answer::Bytes(bytes) => {

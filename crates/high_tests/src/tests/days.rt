@@ -1,4 +1,4 @@
-//! Days, by a call of the library.
+//! Days, made by a call of the library.
 
 use super::audits::SCRIPT;
 use super::texts::{LOTS_HISTORY, LOTS_REPORT};
@@ -10,7 +10,7 @@ use std::alloc::Global;
 use std::process::Abort;
 use std::thread::Threads;
 
-// What the day of a bundle has written, which ended so.
+// What making the day of a bundle wrote. Fails unless it ended like this.
 fn day_of<R: Alloc + Abort + Threads + Sync>(
     rt: &R,
     alloc: Global,

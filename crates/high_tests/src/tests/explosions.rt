@@ -1,4 +1,4 @@
-//! Plans of all items: one worker and a low-level code at a time make the same.
+//! Plans of all items: explosion on one thread and by low-level codes give the same.
 
 use super::reports::has_report;
 use super::texts::{BICYCLE_REPORT, LOTS_REPORT, SCREW_REPORT};
@@ -11,7 +11,7 @@ use std::process::Abort;
 use std::sync::Arc;
 use std::thread::Threads;
 
-// Fails unless both calls make the plan of this report.
+// Fails unless both calls give the plan with this report.
 fn explodes<R: Alloc + Abort + Threads + Sync>(
     rt: &R,
     alloc: Global,
@@ -25,7 +25,7 @@ fn explodes<R: Alloc + Abort + Threads + Sync>(
     drop((serial, levels));
 }
 
-// Fails unless both calls refuse the plan by an item.
+// Fails unless both calls refuse the plan with this item.
 fn is_refused<R: Abort + Threads + Sync>(rt: &R, alloc: Global, inputs: &Arc<Inputs>, item: usize) {
     let over = Some(RunFault::TooLarge { item });
     same(rt, explode_serial(alloc, inputs).err(), over);
@@ -123,7 +123,7 @@ const NO_LOADS: &str = "\
 [loads]\n\
 centre,week,load,capacity,over\n";
 
-// The rows of all parts behind each front.
+// For each heading, the rows of all parts after it.
 fn rows_of_parts(rt: &impl Abort, alloc: Global, rows: &[(&str, &str)]) -> String {
     let mut text = String::new(alloc);
     for (front, row) in rows {

@@ -1,5 +1,5 @@
-//! Live days. With several desks there are many right ones of a bundle, so a day is looked at by what
-//! all of them have.
+//! Live days. With several desks a bundle has many right ones, so tests look at what all of them have in
+//! common.
 
 use super::audits::SCRIPT;
 use super::commands::{Left, Streams, has_ended, left_by};
@@ -17,7 +17,7 @@ use std::sync::atomic::{AtomicU64, Ordering};
 use std::test::Fail;
 use std::thread::Threads;
 
-// A morning at two desks, without the run behind it.
+// A morning at two desks, without the run after it.
 const MORNING: &str = "\
 1,book,BIKE,2025-01-20,12,\n\
 1,book,BIKE,2025-02-03,25,\n\
@@ -26,8 +26,8 @@ const MORNING: &str = "\
 2,book,BIKE,2025-01-06,10,\n\
 1,ask,BIKE,2025-01-20,,\n";
 
-// The calls of the first desk, with its run, and of the second: what stands between a row's desk and
-// its reply.
+// The calls of the first desk, with its run, and of the second: the cells of a row between its desk
+// and its reply.
 const FIRST: &str = "book,BIKE,3,12,,\nbook,BIKE,5,25,,\nask,BIKE,3,,,\nrun,,,,,\n";
 
 const SECOND: &str = "ask,BIKE,1,,,\nbook,BIKE,2,15,,\nbook,BIKE,1,10,,\n";
@@ -39,7 +39,7 @@ const SECTIONS: &str =
 // The cells of a row from its call to before its reply.
 const CALL_CELLS: usize = 5;
 
-// Puts a call's cells behind a text, if a desk made it.
+// Appends a call's cells to a text, if the desk made the call.
 fn put_call(calls: &mut String, row: &str, desk: &str) -> Result<(), Fail> {
     let mut cells = row.split(',').skip(1);
     if cells.next() != Some(desk) {
@@ -77,7 +77,7 @@ fn sections_of(alloc: Global, day: &str) -> Result<String, Fail> {
     Ok(sections)
 }
 
-// Fails unless a day's history has so many entries, numbered from 1.
+// Fails unless a day's history has this number of entries, numbered from 1.
 fn is_numbered(rt: &impl Abort, day: &str, entries: u64) {
     let mut count = 0u64;
     for row in day.lines().skip(2) {
@@ -94,7 +94,7 @@ fn is_numbered(rt: &impl Abort, day: &str, entries: u64) {
     same(rt, count, entries);
 }
 
-// Fails unless a day is right as far as its history can be told beforehand, and has all sections.
+// Fails unless a day is right as far as its history can be predicted, and has all sections.
 fn is_morning<R: Abort + Eprint>(rt: &R, alloc: Global, left: &Left) {
     let day = left.output.as_str();
     same(rt, left.errors.as_str(), "");
@@ -109,7 +109,7 @@ fn is_morning<R: Abort + Eprint>(rt: &R, alloc: Global, left: &Left) {
     drop((first, second, sections));
 }
 
-// What the bicycles leave after these calls, by eight workers; the checker finds it right.
+// What the bicycle shop leaves after these calls, with eight workers; the checker finds it right.
 fn morning_by<R: Alloc + Abort + Eprint + Files + Threads + Wait + Sync>(
     rt: &R,
     alloc: Global,
@@ -165,10 +165,10 @@ fn nothing_is_written_where_a_run_of_a_live_day_gets_too_large(rt: HostRuntime) 
     drop((left, bundle));
 }
 
-// Calls of two desks in turn.
+// The calls of two desks taking turns.
 const IN_TURN: &str = "1,ask,BIKE,2025-01-06,,\n2,ask,BIKE,2025-01-06,,\n";
 
-// A script of so many turns of two desks.
+// A script in which two desks take turns.
 fn turns(alloc: Global, count: usize) -> Result<String, Fail> {
     let mut script = String::new(alloc);
     for _ in 0..count {
@@ -177,7 +177,7 @@ fn turns(alloc: Global, count: usize) -> Result<String, Fail> {
     Ok(script)
 }
 
-// The day of two desks whose records stand in turn, as a command makes it.
+// The day of two desks whose records alternate, as a command makes it.
 fn turns_by<R: Alloc + Abort + Eprint + Files + Threads + Wait + Sync>(
     rt: &R,
     alloc: Global,
@@ -195,7 +195,7 @@ fn turns_by<R: Alloc + Abort + Eprint + Files + Threads + Wait + Sync>(
     left
 }
 
-// Row order needs every one of 800 calls to be made in turn, which no two threads do.
+// In row order each of 800 calls would be made in turn, which no two threads do.
 #[test]
 fn a_live_day_is_not_made_in_row_order(rt: HostRuntime) {
     let plan = turns_by(&rt, rt.alloc(), "plan");
@@ -205,10 +205,10 @@ fn a_live_day_is_not_made_in_row_order(rt: HostRuntime) {
     drop((plan, live));
 }
 
-// A gate at which two desks wait for one another, and that counts who comes. The first desk's first call
-// waits until the second desk comes twice, so that it has made an entry, and the second desk's third call
-// until the first desk does. No order of one desk after the other gets through. Who waits gives up at some
-// time, and then says so.
+// A gate at which two desks wait for each other, and which counts how often each comes. The first desk's
+// first call waits until the second desk has come twice, and so has made an entry; the second desk's third
+// call waits until the first desk has come twice. Desks that run one after the other do not get through. A
+// desk gives up waiting after some time, and that is recorded.
 #[derive(Drop)]
 struct EachWaits {
     first_came: AtomicU64,
@@ -218,7 +218,7 @@ struct EachWaits {
 
 const MOST_TURNS: u64 = 10_000_000;
 
-// Waits for a desk to come twice; whether it did.
+// Waits for a desk to come twice; returns whether it did.
 fn comes_twice(came: &AtomicU64) -> bool {
     for _ in 0..MOST_TURNS {
         if came.load(Ordering::SeqCst) > 1 {
@@ -229,7 +229,7 @@ fn comes_twice(came: &AtomicU64) -> bool {
 }
 
 impl EachWaits {
-    // Counts a desk that comes. The call behind so many of its own waits for the other desk.
+    // Counts a desk that comes. Its call after `behind` of its own waits for the other desk.
     fn come(&self, own: &AtomicU64, behind: u64, other: &AtomicU64) {
         let before = own.fetch_add(1, Ordering::SeqCst);
         if before == behind && !comes_twice(other) {
@@ -248,8 +248,8 @@ impl Gate for EachWaits {
     }
 }
 
-// How many entries desks have made that had to pass a gate, and how many of them in front of the first
-// desk's first.
+// How many entries the desks made that had to pass the gate, and how many of them before the first desk's
+// first one.
 fn entries_behind<R: Abort + Eprint + Threads + Wait + Sync>(
     rt: &R,
     alloc: Global,

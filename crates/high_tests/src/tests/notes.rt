@@ -7,7 +7,7 @@ use sample_shops::{bicycles_in_lots, morning, product_bookings, products};
 use std::alloc::Global;
 use std::process::Abort;
 
-// Fails unless these are the messages of a plan, and of its items one after the other.
+// Fails unless these are the messages of a plan, and those of its items in order.
 fn has_messages(rt: &impl Abort, alloc: Global, plan: &Plan, want: &[Message]) {
     let told = messages(alloc, plan).expect(rt, "messages");
     same(rt, told.as_slice(), want);

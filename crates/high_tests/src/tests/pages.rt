@@ -1,4 +1,4 @@
-//! The page of a day, over an input, an output and an error stream.
+//! The page of a day, with an input, an output and an error stream.
 
 use super::commands::{Left, Streams, has_ended, left_by};
 use super::streams::Turn;
@@ -11,7 +11,7 @@ use std::rt::Files;
 use std::sync::Wait;
 use std::thread::Threads;
 
-// The day of the bicycles.
+// The day of the bicycle shop.
 fn day<R: Alloc + Abort + Eprint + Files + Threads + Wait + Sync>(rt: &R, alloc: Global) -> String {
     let bundle = made(rt, bicycles().bundle(alloc));
     let left = left_by(rt, alloc, &["plan"], Streams::of(&bundle));
@@ -25,7 +25,7 @@ fn day<R: Alloc + Abort + Eprint + Files + Threads + Wait + Sync>(rt: &R, alloc:
     output
 }
 
-// Fails unless a page was written that has this text and lacks that one.
+// Fails unless a page was written that has one text and lacks the other.
 fn is_page(rt: &impl Abort, left: &Left, has: &str, lacks: &str) {
     let page = left.output.as_str();
     same(rt, left.errors.as_str(), "");
@@ -139,7 +139,7 @@ fn streams_that_fail_end_a_page(rt: HostRuntime) {
     drop(text);
 }
 
-// A day of so many items over a week. Its last two items have messages: the last but one has an
+// A day of some items over one week. Its last two items have messages: the last but one has an
 // order to release, the last one a receipt to cancel.
 fn long_day(rt: &impl Abort, alloc: Global, items: u32) -> String {
     let mut text = String::new(alloc);

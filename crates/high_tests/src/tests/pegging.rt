@@ -10,7 +10,7 @@ use std::process::Abort;
 // A peg: the item, the week and the kind of its requirement, the supply, the pieces.
 pub type Cells = (usize, Option<(u16, NeedKind)>, Supplied, u64);
 
-// Fails unless these are the pegs, and their requirements are of the same items.
+// Fails unless these are the pegs, and each requirement has the item of its peg.
 pub fn are_pegs(rt: &impl Abort, got: &[Peg], want: &[Cells]) {
     same(rt, got.len(), want.len());
     for (peg, (item, need, supply, pieces)) in got.iter().zip(want) {
@@ -27,7 +27,7 @@ pub fn are_pegs(rt: &impl Abort, got: &[Peg], want: &[Cells]) {
     }
 }
 
-// Fails unless these are the pegs of a plan, and of its items one after the other.
+// Fails unless these are the pegs of a plan, and those of its items in order.
 fn has_pegs(rt: &impl Abort, alloc: Global, plan: &Plan, want: &[Cells]) {
     let all = pegs(alloc, plan).expect(rt, "pegs");
     are_pegs(rt, all.as_slice(), want);
@@ -43,7 +43,7 @@ fn has_pegs(rt: &impl Abort, alloc: Global, plan: &Plan, want: &[Cells]) {
     drop((all, by_item));
 }
 
-// The pegs of bicycles in lots, where two wheels go into one by two lines.
+// The pegs of bicycles in lots; two bill lines put two wheels into one bicycle.
 const BICYCLE_PEGS: &[Cells] = &[
     (0, Some((1, NeedKind::Booking(5))), Supplied::Stock, 10),
     (0, Some((2, NeedKind::Forecast)), Supplied::Order(1), 8),
@@ -157,7 +157,7 @@ fn two_lines_of_a_pair_are_two_requirements(rt: HostRuntime) {
     drop(plan);
 }
 
-// The pegs of a product that is partly scrapped, and of its parts.
+// The pegs of a product with shrinkage, and of its parts.
 const PRODUCT_PEGS: &[Cells] = &[
     (0, Some((1, NeedKind::Booking(2))), Supplied::Stock, 3),
     (0, Some((1, NeedKind::Forecast)), Supplied::Stock, 2),

@@ -31,7 +31,7 @@ pub fn has_report<R: Alloc + Abort + Threads + Sync>(
     has_text(rt, writer, want);
 }
 
-// Writers that fail, and how many bytes they take before.
+// Writers that fail, and how many bytes they take before they do.
 const FAILING: [(&[Turn], usize); 4] = [
     (&[Turn::Fails], 0),
     (&[Turn::Moves(1), Turn::Fails], 1),
@@ -39,7 +39,7 @@ const FAILING: [(&[Turn], usize); 4] = [
     (&[Turn::Moves(100), Turn::Moves(0)], 100),
 ];
 
-// Fails unless the write failed once, and the writer has taken so many bytes of the text.
+// Fails unless the write failed once, and the writer has taken this number of bytes of the text.
 fn has_front(
     rt: &impl Abort,
     written: Result<(), ReportFault>,
@@ -69,7 +69,7 @@ fn a_failing_writer_has_a_front_of_the_report(rt: HostRuntime) {
     drop(plan);
 }
 
-// Writes the history of these calls of the bicycles' desks.
+// Writes the history of these calls by desks of the bicycle shop.
 fn write_calls<R: Abort + Eprint, W: Write>(
     rt: &R,
     alloc: Global,
@@ -83,7 +83,7 @@ fn write_calls<R: Abort + Eprint, W: Write>(
     written
 }
 
-// Every call of two desks, and the front that a third asks for.
+// Every kind of call by two desks, and a third desk that asks for the front.
 const CALLS: &[(u64, Asked)] = &[
     (1, Asked::Book(3, 12)),
     (1, Asked::Book(5, 25)),
@@ -123,7 +123,7 @@ fn a_failing_writer_has_a_front_of_the_history(rt: HostRuntime) {
     }
 }
 
-// So many calls of desk 64 for the front.
+// Calls in which desk 64 asks for the front.
 fn fronts(rt: &impl Abort, alloc: Global, count: u64) -> Vec<(u64, Asked)> {
     let mut calls = Vec::new(alloc);
     for _ in 0..count {

@@ -5,7 +5,7 @@ use std::alloc::Global;
 use std::io;
 use std::io::{ErrorKind, Read, Write};
 
-// What a reader or a writer does at one call.
+// What a reader or a writer does in one call.
 #[derive(Clone, Copy)]
 pub enum Turn {
     Moves(usize),
@@ -13,7 +13,7 @@ pub enum Turn {
     Fails,
 }
 
-// Takes its turns one after the other, the last one for good. Without any it moves all.
+// Takes its turns in order, and repeats the last one. Without turns it moves everything.
 #[derive(Drop)]
 struct Turns<'a> {
     turns: &'a [Turn],

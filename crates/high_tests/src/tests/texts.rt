@@ -1,12 +1,12 @@
-//! Texts that are wanted.
+//! Expected texts.
 
-// The history of a script without a record: the run that is added to it.
+// The history of a script without a record: only the run that is added.
 pub const BICYCLE_HISTORY: &str = "\
 [history]\n\
 entry,desk,call,item,week,quantity,number,reply,value\n\
 1,1,run,,,,,front,1\n";
 
-// The report of a run over the bicycles, without bookings.
+// The report of a run of the bicycle shop, without bookings.
 pub const BICYCLE_REPORT: &str = "\
 [run]\n\
 front,standing\n\
@@ -79,7 +79,7 @@ entry,desk,call,item,week,quantity,number,reply,value\n\
 6,1,ask,BIKE,3,,,available,3\n\
 7,1,run,,,,,front,7\n";
 
-// The report of the run over the bicycles in lots.
+// The report of the run of the bicycle shop with lots.
 pub const LOTS_REPORT: &str = "\
 [run]\n\
 front,standing\n\
@@ -156,7 +156,7 @@ WHEEL,planned,1,PAST-DUE,1\n\
 [loads]\n\
 centre,week,load,capacity,over\n";
 
-// What the report has besides where the frames are welded: the loads.
+// What the report also has if frames are welded: the loads.
 pub const WELD_LOADS: &str = "\
 WELD,1,175.000,100.000,75.000\n\
 WELD,2,0.000,100.000,0.000\n\
@@ -165,7 +165,7 @@ WELD,4,0.000,100.000,0.000\n\
 WELD,5,0.000,100.000,0.000\n\
 WELD,6,0.000,100.000,0.000\n";
 
-// The report of a run over the bicycles with screws at three levels.
+// The report of a run of the bicycle shop with screws at three levels.
 pub const SCREW_REPORT: &str = "\
 [run]\n\
 front,standing\n\

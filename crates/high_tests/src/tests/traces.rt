@@ -34,7 +34,7 @@ fn booking(week: u16, number: u64) -> Need {
     }
 }
 
-// What an order of a parent asks of an item by a line of the bill.
+// The requirement of an item that an order of a parent makes by a bill line.
 fn asked(item: usize, week: u16, line: usize, order: usize) -> Need {
     let kind = NeedKind::Parent { line, order };
     Need { item, week, kind }
@@ -66,7 +66,7 @@ fn a_booking_is_its_own_cause_and_what_is_not_there_has_none(rt: HostRuntime) {
     drop(plan);
 }
 
-// Towers of three levels: the lot of A is for both firm orders of TOP, and has surplus.
+// Towers of three levels: the lot of A serves both firm orders of TOP, and has surplus.
 fn towers() -> Records<'static> {
     Records {
         items: "TOP,master,1,0,lfl,0,0\nA,part,1,0,fixed,25,0\nB,part,0,0,lfl,0,0\n",
@@ -80,8 +80,8 @@ TOP,forecast,2025-02-03,6\n",
     }
 }
 
-// The sources of what A's lot asks of B, and what it ends in. The forecast of week 5 is served by
-// both firm orders, and is one cause.
+// The sources of the requirement of B that A's lot makes, and its causes. The forecast of week 5 is
+// served by both firm orders, and is one cause.
 const LOT_PEGS: &[Cells] = &[
     (
         1,

@@ -9,10 +9,10 @@ use sample_shops::{Records, no_records};
 use std::alloc::Global;
 use std::process::Abort;
 
-// A line: the places of the item that is made, and of the one that goes into it.
+// A line: the places of the parent and of the component.
 type Line = (usize, usize);
 
-// The records of so many items.
+// The records of a number of items.
 fn items(rt: &impl Abort, alloc: Global, count: usize) -> String {
     let mut items = String::new(alloc);
     for item in 0..count {
@@ -32,7 +32,7 @@ fn bills(rt: &impl Abort, alloc: Global, lines: &[Line]) -> String {
     bills
 }
 
-// The tables of so many items with these lines.
+// The tables of a number of items with these lines.
 fn tables_of(rt: &impl Abort, alloc: Global, count: usize, lines: &[Line]) -> Tables {
     let items = items(rt, alloc, count);
     let bills = bills(rt, alloc, lines);
@@ -46,12 +46,12 @@ fn tables_of(rt: &impl Abort, alloc: Global, count: usize, lines: &[Line]) -> Ta
     made(rt, tables)
 }
 
-// The shop of so many items, where these lines are accepted.
+// The shop of a number of items with these lines, which must be accepted.
 fn accepted(rt: &impl Abort, alloc: Global, count: usize, lines: &[Line]) -> Shop {
     Bill::of(alloc, tables_of(rt, alloc, count, lines)).expect(rt, "a shop")
 }
 
-// The loop's path, where these lines are refused.
+// The loop's path of these lines, which must be refused.
 fn refused(rt: &impl Abort, alloc: Global, count: usize, lines: &[Line]) -> Vec<usize> {
     match Bill::of(alloc, tables_of(rt, alloc, count, lines)) {
         Ok(_) => panic!(rt; "accepted"),
@@ -85,7 +85,7 @@ const ACCEPTED: &[Worked] = &[
         order: &[0, 1, 2, 3],
         depth: 3,
     },
-    // A diamond is no loop.
+    // A diamond is not a loop.
     Worked {
         lines: &[(3, 1), (3, 2), (1, 0), (2, 0)],
         items: &[
@@ -97,7 +97,7 @@ const ACCEPTED: &[Worked] = &[
         order: &[3, 2, 1, 0],
         depth: 2,
     },
-    // Two lines of one pair are one parent.
+    // Two lines with the same parent and component give one parent.
     Worked {
         lines: &[(2, 0), (1, 0), (2, 0), (2, 1), (1, 0)],
         items: &[
@@ -122,7 +122,7 @@ const ACCEPTED: &[Worked] = &[
     },
 ];
 
-// Fails unless an item is so.
+// Fails unless an item has these cells.
 fn is_item(rt: &impl Abort, shop: &Shop, item: usize, want: &ItemCells) {
     let (code, parents, children, lines) = *want;
     assert!(rt; item < shop.tables().items().len());
@@ -156,21 +156,21 @@ const REFUSED: &[(usize, &[Line], &[usize])] = &[
     (3, &[(0, 1), (1, 2), (2, 0)], &[0, 1, 2, 0]),
     (1, &[(0, 0)], &[0, 0]),
     (3, &[(0, 1), (1, 2), (2, 2)], &[2, 2]),
-    // 0 stands above the loop of 2 and 3, and 1 below it.
+    // 0 is above the loop of 2 and 3, and 1 below it.
     (4, &[(0, 2), (2, 3), (3, 2), (3, 1)], &[2, 3, 2]),
-    // 3 and 4 need each other, and 1 and 2; 0 stands between.
+    // 3 and 4 need each other, and 1 and 2; 0 is between them.
     (
         5,
         &[(3, 4), (4, 3), (4, 0), (0, 2), (2, 1), (1, 2)],
         &[1, 2, 1],
     ),
-    // Up from 0 a walk first meets the loop of 4 and 5; the first item on a loop is 1.
+    // A walk up from 0 first finds the loop of 4 and 5; the first item on a loop is 1.
     (
         6,
         &[(4, 0), (5, 4), (4, 5), (1, 4), (2, 1), (1, 2)],
         &[1, 2, 1],
     ),
-    // A loop behind a diamond.
+    // A loop below a diamond.
     (
         5,
         &[(0, 1), (0, 2), (1, 3), (2, 3), (3, 4), (4, 2)],
@@ -199,7 +199,7 @@ fn one_pair(rt: &impl Abort, alloc: Global) -> Vec<Line> {
     lines
 }
 
-// Fails unless the item 0 is the one parent of the item 1, by so many lines.
+// Fails unless the item 0 is the only parent of the item 1, by this number of lines.
 fn is_one_parent(rt: &impl Abort, shop: &Shop, lines: usize) {
     assert!(rt; shop.tables().items().len() == 2);
     same(rt, shop.parents(1), [0].as_slice());
@@ -215,7 +215,7 @@ fn a_hundred_thousand_lines_of_one_pair_are_one_parent(rt: HostRuntime) {
     drop((shop, lines));
 }
 
-// The greatest code of so many items, where these lines are accepted, and how many are in order.
+// The greatest code of items with these lines, which must be accepted, and the length of their order.
 fn depth_and_count(rt: &impl Abort, alloc: Global, count: usize, lines: &[Line]) -> (usize, usize) {
     let shop = accepted(rt, alloc, count, lines);
     let sizes = (shop.depth(), shop.order().len());
@@ -260,7 +260,7 @@ fn random(state: u64, count: usize) -> (usize, u64)
     ((state >> 33) as usize % count, state)
 }
 
-// So many lines, less those from an item to itself, each from an item to a later one, at random.
+// Random lines, each from an item to a later one; those from an item to itself are left out.
 fn random_lines(rt: &impl Abort, alloc: Global, count: usize, many: usize) -> Vec<Line>
     requires { 0 < count }
 {

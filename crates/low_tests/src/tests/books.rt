@@ -11,7 +11,7 @@ use sample_shops::{Asked, Said, bicycles, said};
 use std::alloc::Global;
 use std::process::Abort;
 
-// The order book of the bicycles, of which 10 are on hand and 20 firm in the weeks 3 and 5.
+// The order book of the bicycles: 10 are on hand, and 20 are firm in each of the weeks 3 and 5.
 #[derive(Drop)]
 struct Day {
     shop: Shop,
@@ -26,7 +26,7 @@ impl Day {
         Day { shop, book }
     }
 
-    // What a desk is answered: the entry's number, and the reply.
+    // The answer to a desk's call: the entry's number, and the reply.
     fn call(&mut self, rt: &impl Abort, alloc: Global, desk: u64, asked: Asked) -> (u64, Reply) {
         assert!(rt; 1 <= desk && desk <= 64);
         let call = made(rt, asked.call(&self.shop));
@@ -34,10 +34,10 @@ impl Day {
     }
 }
 
-// A desk, what it asks, and what it is answered.
+// A desk, its call, and the reply.
 type Answered = (u64, Asked, Said);
 
-// Fails unless the calls are answered so, by entries with the numbers from the first on.
+// Fails unless the calls have these replies, in entries numbered from the first on.
 fn are_answered(rt: &impl Abort, alloc: Global, day: &mut Day, first: u64, script: &[Answered]) {
     for (number, (desk, asked, want)) in (first..).zip(script) {
         let (got, reply) = day.call(rt, alloc, *desk, *asked);
@@ -90,7 +90,7 @@ fn stand(rt: &impl Abort, snapshot: &Snapshot, want: &[Booked]) {
     }
 }
 
-// The snapshot that desk 1 asks for by the entry with this number.
+// The snapshot of a call of desk 1, whose entry must have this number.
 fn snapshot_at(rt: &impl Abort, alloc: Global, day: &mut Day, number: u64) -> Snapshot {
     let (got, reply) = day.call(rt, alloc, 1, Asked::Snapshot);
     let snapshot = taken(rt, reply);
@@ -98,7 +98,7 @@ fn snapshot_at(rt: &impl Abort, alloc: Global, day: &mut Day, number: u64) -> Sn
     snapshot
 }
 
-// Fails unless a history has so many entries, and ends with a snapshot in which these bookings stand.
+// Fails unless a history has this number of entries, and ends with a snapshot in which these bookings stand.
 fn ends_with(rt: &impl Abort, history: &History, count: usize, want: &[Booked]) {
     let entries = history.entries();
     same(rt, entries.len(), count);
@@ -144,7 +144,7 @@ fn what_is_available_grows_with_the_firm_rows(rt: HostRuntime) {
     drop(day);
 }
 
-// What stands at an entry, from these bookings.
+// The snapshot at an entry, from these bookings.
 fn snapshot_of(
     rt: &impl Abort,
     alloc: Global,
@@ -183,7 +183,7 @@ fn copies_of_replies_say_the_same(rt: HostRuntime) {
     }
 }
 
-// Fails unless so much of an item is booked in each week.
+// Fails unless these quantities of an item are booked by week.
 fn is_demanded(rt: &impl Abort, alloc: Global, snapshot: &Snapshot, item: usize, want: &[u64]) {
     let demand = snapshot.demand(alloc, item).expect(rt, "memory");
     same(rt, demand.weeks(), want.len());
@@ -193,7 +193,7 @@ fn is_demanded(rt: &impl Abort, alloc: Global, snapshot: &Snapshot, item: usize,
     drop(demand);
 }
 
-// Fails unless what the desks booked in the morning stands, and is demanded in its week.
+// Fails unless the bookings of the morning stand, each as demand in its week.
 fn morning_stands(rt: &impl Abort, alloc: Global, snapshot: &Snapshot) {
     same(rt, snapshot.weeks(), 6);
     stand(rt, snapshot, &[(1, 1, 3, 12), (2, 1, 5, 25), (5, 2, 1, 10)]);
@@ -201,7 +201,7 @@ fn morning_stands(rt: &impl Abort, alloc: Global, snapshot: &Snapshot) {
     is_demanded(rt, alloc, snapshot, 1, &[0; 6]);
 }
 
-// Fails unless a booking that is cancelled after the morning is demanded no more, but still in the
+// Fails unless a booking that is cancelled after the morning is no longer demand, but is still in the
 // snapshot before.
 fn falls_by_a_cancellation(rt: &impl Abort, alloc: Global, day: &mut Day) {
     let before = snapshot_at(rt, alloc, day, 7);
@@ -221,7 +221,7 @@ fn desks_book_until_nothing_is_available_and_what_stands_is_demanded(rt: HostRun
     drop(day);
 }
 
-// What stands at an entry, from a million bookings of as many pieces as one can have, and these.
+// The snapshot at an entry, from a million bookings of the greatest number of pieces, and these.
 fn snapshot_of_a_million(
     rt: &impl Abort,
     alloc: Global,
@@ -264,7 +264,7 @@ impl Between {
         Between { shop, state }
     }
 
-    // What a desk is answered, and the copy.
+    // The reply to a desk's call, and the copy.
     fn apply(&mut self, rt: &impl Abort, alloc: Global, desk: u64, asked: Asked) -> (Said, Said) {
         let call = made(rt, asked.call(&self.shop));
         let (reply, copy) = self.state.apply(alloc, desk, &call).expect(rt, "a reply");
@@ -273,7 +273,7 @@ impl Between {
         answer
     }
 
-    // Fails unless these calls are answered so, by the reply and by its copy.
+    // Fails unless these calls have these replies, and the copies are equal.
     fn applies(&mut self, rt: &impl Abort, alloc: Global, calls: &[Answered]) {
         for (desk, asked, want) in calls {
             same(rt, self.apply(rt, alloc, *desk, *asked), (*want, *want));

@@ -23,7 +23,7 @@ fn date(rt: &impl Abort, text: &[u8]) -> Date
     read_date(text).expect(rt, "a date")
 }
 
-// The calendar that begins on this day, where it is worked from Monday to Friday.
+// The calendar that begins on this day, worked from Monday to Friday.
 fn calendar(rt: &impl Abort, start: &[u8], weeks: u64) -> Calendar {
     Calendar::new(date(rt, start), weeks, MONDAY_TO_FRIDAY, &[]).expect(rt, "a calendar")
 }
@@ -78,7 +78,7 @@ fn a_calendar_has_its_weeks(rt: HostRuntime) {
     }
 }
 
-// A start, weeks and workdays, and the fault that is answered.
+// A start, weeks and workdays, and the expected fault.
 const FAULTS: &[(&[u8], u64, [bool; 7], Option<CalFault>)] = &[
     (b"2025-01-06", 6, MONDAY_TO_FRIDAY, None),
     (b"2025-01-06", 6, SUNDAY, None),
@@ -135,7 +135,7 @@ fn faults_have_texts(rt: HostRuntime) {
     }
 }
 
-// Of six weeks, one in the horizon twice, and days outside it.
+// Holidays of six weeks: one in the horizon listed twice, and days outside it.
 const HOLIDAYS: &[&[u8]] = &[
     b"2025-01-20",
     b"2025-01-20",
@@ -162,7 +162,7 @@ fn has_six_weeks(rt: &impl Abort, calendar: &Calendar)
     assert!(rt; calendar.weeks() == 6);
 }
 
-// Fails unless the weeks of a calendar have so many shop days.
+// Fails unless the weeks of a calendar have these numbers of shop days.
 fn has_shop_days(rt: &impl Abort, calendar: &Calendar, want: &[u8; 6]) {
     has_six_weeks(rt, calendar);
     for week in 1..7 {
@@ -204,7 +204,7 @@ fn weeks_begin_on_mondays(rt: HostRuntime) {
     }
 }
 
-// A text, and the year, month and day that are read.
+// A text, and the expected year, month and day.
 const DATES: &[(&[u8], Option<(i16, i8, i8)>)] = &[
     (b"2024-02-29", Some((2024, 2, 29))),
     (b"2025-01-06", Some((2025, 1, 6))),
@@ -212,7 +212,7 @@ const DATES: &[(&[u8], Option<(i16, i8, i8)>)] = &[
     (b"1900-01-01", Some((1900, 1, 1))),
     (b"2999-12-31", Some((2999, 12, 31))),
     (b"2000-02-29", Some((2000, 2, 29))),
-    // Days that the calendar lacks, and years outside those of planning.
+    // Days that the calendar does not have, and years outside those of a plan.
     (b"2025-02-29", None),
     (b"1900-02-29", None),
     (b"1899-12-31", None),

@@ -68,7 +68,7 @@ const OUT_OF_RANGE: Fault = Fault {
     ..NOT_A_NAME
 };
 
-// What is read of a cell as a number within these limits.
+// A cell read as a number within these limits.
 fn number_in(
     rt: &impl Abort,
     alloc: Global,
@@ -82,7 +82,7 @@ fn number_in(
     number
 }
 
-// A cell, the least and the greatest number, and what is read.
+// A cell, the least and the greatest number, and the expected result.
 const NUMBERS: &[(&[u8], u64, u64, Result<u64, Fault>)] = &[
     (b"7", 0, 10, Ok(7)),
     (b"007", 0, 1_000_000_000, Ok(7)),
@@ -178,7 +178,7 @@ fn names_are_short_printable_texts(rt: HostRuntime) {
     }
 }
 
-// Fails unless a cell is read as this word of the lot rules, and as none of no words.
+// Fails unless a cell is read as this word of the lot rules, and is refused for an empty list of words.
 fn is_word(rt: &impl Abort, row: &Row, cell: &[u8], want: Result<usize, Fault>)
     requires { length row.now.cells ≡ 2 }
 {
@@ -208,7 +208,7 @@ fn words_are_told_by_their_places(rt: HostRuntime) {
     }
 }
 
-// The year, month and day that are read of a cell.
+// A cell read as a date: year, month and day.
 fn date_in(rt: &impl Abort, alloc: Global, cell: &[u8]) -> Result<(i16, i8, i8), Fault> {
     let row = row_of(rt, alloc, cell);
     let read = row.date(1);

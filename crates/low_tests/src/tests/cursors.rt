@@ -1,4 +1,4 @@
-//! Records of a table, one after the other.
+//! Records of a table, in order.
 
 use super::{one_of_nine, same};
 use mrp_rows::{Cursor, Fault, Row, Table, faults, split_bundle};
@@ -15,7 +15,7 @@ pub fn stock_of(rt: &impl Abort, alloc: Global, header: &[u8], records: &[u8]) -
         .expect(rt, "memory")
 }
 
-// The next record, which has to be there.
+// The next record, which must exist.
 pub fn next_row(rt: &impl Abort, cursor: &mut Cursor<'_>) -> Row {
     let next = cursor.next().expect(rt, "no fault");
     next.expect(rt, "a record")
@@ -39,7 +39,7 @@ fn end_of(rt: &impl Abort, cursor: &mut Cursor<'_>) -> Result<(), Fault> {
     }
 }
 
-// Fails unless these records come, and then end so for good.
+// Fails unless these records come, and then this end, for good.
 fn come(rt: &impl Abort, cursor: &mut Cursor<'_>, records: &[&[&[u8]]], end: Result<(), Fault>) {
     for place in 0..records.len() {
         let row = next_row(rt, cursor);
@@ -51,7 +51,7 @@ fn come(rt: &impl Abort, cursor: &mut Cursor<'_>, records: &[&[&[u8]]], end: Res
     same(rt, end_of(rt, cursor), Ok(()));
 }
 
-// Fails unless a table of a bundle has these records, and then ends so for good.
+// Fails unless a table of a bundle has these records, and then this end, for good.
 fn has_records(
     rt: &impl Abort,
     alloc: Global,
@@ -146,7 +146,7 @@ fn other_headers_are_refused(rt: HostRuntime) {
     }
 }
 
-// What stands behind a header, and its records.
+// The text after a header, and its records.
 const RECORDS: &[(&[u8], &[&[&[u8]]])] = &[
     (
         b"BIKE,10\nFRAME,12\nWHEEL,30\n",
@@ -184,8 +184,7 @@ fn records_follow_a_header_behind_a_mark(rt: HostRuntime) {
     has_records(&rt, rt.alloc(), &bundle, Table::Stock, records, Ok(()));
 }
 
-// What stands behind a header, the records before the one with another count of cells, and its
-// number.
+// The text after a header, the records before the one with a wrong count of cells, and its number.
 const UNEVEN: &[(&[u8], &[&[&[u8]]], u32)] = &[
     (b"BIKE\n", &[], 1),
     (b"\"\"\n", &[], 1),
@@ -196,7 +195,7 @@ const UNEVEN: &[(&[u8], &[&[&[u8]]], u32)] = &[
     (b"\"BIKE,1\nFRAME,1\n", &[], 1),
 ];
 
-// The fault of a record with another count of cells.
+// The fault of a record with a wrong count of cells.
 fn uneven(table: Table, row: u32) -> Result<(), Fault> {
     Err(Fault {
         code: faults::COLUMNS,

@@ -1,4 +1,4 @@
-//! Tables that are kept apart, joined to a bundle.
+//! Separate tables, joined to a bundle.
 
 use super::{one_of_nine, same};
 use mrp_rows::{Table, fault_text, join_bundle, split_bundle};
@@ -20,7 +20,7 @@ fn a_part_is_its_section_line_its_bytes_and_a_line_feed(rt: HostRuntime) {
     drop((bundle, nothing));
 }
 
-// The tables of a shop, in their order, as they are kept apart.
+// The tables of a shop, in their order, as separate texts.
 const SHOP: [(Table, &[u8]); 9] = [
     (
         Table::Calendar,
@@ -36,7 +36,7 @@ const SHOP: [(Table, &[u8]); 9] = [
     (Table::Script, b"desk,call,item,date,quantity,number\n"),
 ];
 
-// The texts of the sections that they are joined to.
+// The texts of the sections of the joined bundle.
 const SECTIONS: &[(Table, &[u8])] = &[
     (
         Table::Calendar,
@@ -63,7 +63,7 @@ fn the_joined_tables_of_a_shop_are_split_again(rt: HostRuntime) {
     drop(bundle);
 }
 
-// The fault of a bundle as text, or that there is none.
+// The fault of a bundle as text, or a text that there is none.
 fn told(rt: &impl Abort, alloc: Global, bundle: &[u8]) -> String {
     match split_bundle(bundle) {
         Ok(_) => String::from_str(alloc, "accepted").expect(rt, "memory"),
@@ -71,7 +71,7 @@ fn told(rt: &impl Abort, alloc: Global, bundle: &[u8]) -> String {
     }
 }
 
-// Fails unless the bundle that these parts are joined to is told so.
+// Fails unless the bundle joined from these parts has this fault.
 fn is_told(rt: &impl Abort, alloc: Global, parts: &[(Table, &[u8])], want: &str) {
     let bundle = join_bundle(alloc, parts).expect(rt, "memory");
     let text = told(rt, alloc, &bundle);
@@ -81,7 +81,7 @@ fn is_told(rt: &impl Abort, alloc: Global, parts: &[(Table, &[u8])], want: &str)
 
 #[test]
 fn joined_tables_have_the_faults_of_their_bundle(rt: HostRuntime) {
-    // What stands in the place of the stock, and what the bundle is told.
+    // A part in place of the stock, and the fault of the bundle.
     const PARTS: &[(Table, &[u8], &str)] = &[
         (Table::Stock, b"item,onhand\n", "accepted"),
         (

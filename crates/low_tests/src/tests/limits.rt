@@ -1,4 +1,4 @@
-//! Tables of as many records as their limits, and of one more.
+//! Tables with as many records as their limits, and with one more.
 
 use super::same;
 use super::tables::{are_found, read};
@@ -43,8 +43,8 @@ BIKE,forecast,2025-01-27,6\n\
 desk,call,item,date,quantity,number\n\
 1,run,,,,\n";
 
-// How many items, centres, receipts, bill lines, operations, rows of the master schedule and calls
-// there are.
+// The numbers of items, centres, receipts, bill lines, operations, rows of the master schedule and
+// calls.
 fn counts_of(tables: &Tables) -> [usize; 7] {
     [
         tables.items().len(),
@@ -57,7 +57,7 @@ fn counts_of(tables: &Tables) -> [usize; 7] {
     ]
 }
 
-// How many rows the tables of a bundle have, or their first fault.
+// The numbers of rows of a bundle's tables, or their first fault.
 fn counts(alloc: Global, bundle: &str) -> Result<[usize; 7], Fault> {
     let sections = split_bundle(bundle.as_bytes())?;
     match Tables::read(alloc, &sections) {
@@ -70,14 +70,14 @@ fn counts(alloc: Global, bundle: &str) -> Result<[usize; 7], Fault> {
     }
 }
 
-// The shop, where these records stand in the place of one of its own.
+// The shop, with these records in place of one of its own.
 fn shop_with(rt: &impl Abort, alloc: Global, record: &str, records: &str) -> String {
     let (front, back) = SHOP.split_once(record).expect(rt, "the record");
     [front, records, back].concat(alloc).expect(rt, "memory")
 }
 
-// Fails unless the shop, where these records stand in the place of one of its own, has so many
-// rows, or this fault.
+// Fails unless the shop, with these records in place of one of its own, has these numbers of rows, or
+// this fault.
 fn has_rows(
     rt: &impl Abort,
     alloc: Global,
@@ -97,7 +97,7 @@ fn has_rows(
     }
 }
 
-// So many times the same record.
+// The same record repeated.
 fn repeated(rt: &impl Abort, alloc: Global, record: &str, count: usize) -> String {
     let mut records = String::new(alloc);
     for _ in 0..count {
@@ -108,8 +108,8 @@ fn repeated(rt: &impl Abort, alloc: Global, record: &str, count: usize) -> Strin
 
 #[test]
 fn a_record_past_its_tables_limit_is_refused(rt: HostRuntime) {
-    // A record, how often it stands, and the rows of items, centres, receipts, bills, routings,
-    // master and script.
+    // A record, how often it is repeated, and the numbers of rows of items, centres, receipts, bills,
+    // routings, master and script.
     const REPEATED: &[(&str, usize, Result<[usize; 7], &str>)] = &[
         ("holiday,2025-01-20\n", 1_000, Ok([4, 2, 1, 2, 1, 1, 1])),
         (
@@ -138,7 +138,7 @@ fn a_record_past_its_tables_limit_is_refused(rt: HostRuntime) {
     }
 }
 
-// So many records that differ in a number from 1 on, which stands where they are cut.
+// A number of records that differ in a number, counted from 1, between two fixed texts.
 fn numbered(rt: &impl Abort, alloc: Global, front: &str, back: &str, count: u32) -> String {
     let mut records = String::new(alloc);
     for n in 1..=count {
@@ -148,7 +148,7 @@ fn numbered(rt: &impl Abort, alloc: Global, front: &str, back: &str, count: u32)
     records
 }
 
-// A record, the pieces of those that stand in its place, how many they are, and the rows of items,
+// A record, the two texts of those in its place, their count, and the numbers of rows of items,
 // centres, receipts, bills, routings, master and script.
 type Numbered = (
     &'static str,
@@ -158,7 +158,7 @@ type Numbered = (
     Result<[usize; 7], &'static str>,
 );
 
-// Fails unless the shop with each of these has its rows, or its fault.
+// Fails unless the shop with each of these has its numbers of rows, or its fault.
 fn have_rows(rt: &impl Abort, alloc: Global, lists: &[Numbered]) {
     for (record, front, back, count, want) in lists {
         let records = numbered(rt, alloc, front, back, *count);

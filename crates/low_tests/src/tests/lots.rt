@@ -12,7 +12,7 @@ use mrp_qty::Qty;
 use std::alloc::Global;
 use std::process::Abort;
 
-// The needs of six weeks of gross requirements, with nothing on hand and nothing scheduled.
+// The net requirements of six weeks of gross requirements, with no stock and no scheduled receipts.
 fn needs_of(rt: &impl Abort, alloc: Global, gross: &[u64; 6]) -> NeedRow {
     let gross = row_of(rt, alloc, gross);
     let stock = Stock {
@@ -24,7 +24,7 @@ fn needs_of(rt: &impl Abort, alloc: Global, gross: &[u64; 6]) -> NeedRow {
     need(alloc, &gross, &stock).expect(rt, "needs")
 }
 
-// What any lot rule keeps: its receipts cover the needs, and nothing is ordered where they do.
+// What holds of any lot rule: its receipts cover the net requirements, and nothing is ordered where they do.
 fn lawful<L: Lot>(alloc: Global, needs: &NeedRow, lot: &L) -> Result<Weeks<Qty>, NetFault>
     ensures covers { IfOk result (λ w. (t : ℕ) → 0 < t → t ≤ length needs.now → in_week needs.now t ≤ in_week w t) }
     ensures idle { IfOk result (λ w. (t : ℕ) → t + 1 ≤ length needs.now → in_week needs.now (t + 1) ≤ in_week w t → in_week w (t + 1) ≡ in_week w t) }
@@ -34,7 +34,7 @@ fn lawful<L: Lot>(alloc: Global, needs: &NeedRow, lot: &L) -> Result<Weeks<Qty>,
     Ok(received)
 }
 
-// Fails unless a rule makes these receipts of the needs of gross requirements.
+// Fails unless a rule makes these planned receipts for gross requirements.
 fn comes<L: Lot>(rt: &impl Abort, alloc: Global, gross: &[u64; 6], lot: &L, want: &[u64; 6]) {
     let needs = needs_of(rt, alloc, gross);
     let received = lawful(alloc, &needs, lot).expect(rt, "receipts");

@@ -10,7 +10,7 @@ use std::alloc::Global;
 use std::sync::Arc;
 use std::test::Fail;
 
-// Copies of the outcomes of an item's parents, which stand before it.
+// Copies of the outcomes of an item's parents, which come before it.
 fn parents_of(
     alloc: Global,
     inputs: &Inputs,
@@ -33,7 +33,7 @@ fn parents_of(
     Ok(copies)
 }
 
-// The outcomes of all items of a shop in whose table parents stand before their components.
+// The outcomes of all items of a shop in whose table parents come before their components.
 pub fn outcomes_of(alloc: Global, inputs: &Arc<Inputs>) -> Result<Vec<Outcome>, Fail>
     ensures { IfOk result (λ all. all.items ≡ all_from inputs.now.value) }
 {

@@ -1,4 +1,4 @@
-//! Needs, and balances at the end of each week.
+//! Net requirements, and balances at the end of each week.
 
 use super::weeks::{has_row, of_one_length, row_of};
 use super::{MOST, pieces, same};
@@ -8,8 +8,8 @@ use mrp_qty::Qty;
 use std::alloc::Global;
 use std::process::Abort;
 
-// An item: what is on hand, its safety stock, and six weeks of gross requirements and scheduled
-// receipts, planned receipts up to each week, and the needs and balances that they make.
+// An item: its stock on hand, its safety stock, and six weeks of gross requirements, scheduled
+// receipts, cumulative planned receipts, and the expected net requirements and balances.
 #[derive(Clone, Copy)]
 struct Worked {
     on_hand: u64,
@@ -52,7 +52,7 @@ const WORKED: &[Worked] = &[
     },
 ];
 
-// What is on hand, the safety stock, and the scheduled receipts.
+// Stock on hand, safety stock, and scheduled receipts.
 fn stock_of(rt: &impl Abort, alloc: Global, on_hand: u64, safety: u64, scheduled: &[u64]) -> Stock {
     Stock {
         on_hand: pieces(rt, on_hand),
@@ -61,7 +61,7 @@ fn stock_of(rt: &impl Abort, alloc: Global, on_hand: u64, safety: u64, scheduled
     }
 }
 
-// The balances that receipts leave, which must not fall; fails where the rows don't fit.
+// The balances with cumulative receipts, which must not fall; fails if the rows differ in length.
 fn balances_of(
     rt: &impl Abort,
     alloc: Global,
@@ -75,7 +75,7 @@ fn balances_of(
     balance_row(alloc, gross, stock, receipts)
 }
 
-// Fails unless the needs and balances are those of the item.
+// Fails unless net requirements and balances are those of the item.
 fn is_netted(
     rt: &impl Abort,
     alloc: Global,
@@ -105,7 +105,7 @@ fn bikes_frames_and_wheels_are_netted(rt: HostRuntime) {
     }
 }
 
-// Two weeks of an item, and the faults of its needs and of its balances.
+// Two weeks of an item, and the faults of its net requirements and of its balances.
 #[derive(Clone, Copy)]
 struct Refused {
     on_hand: u64,
@@ -117,7 +117,7 @@ struct Refused {
     balances: Option<NetFault>,
 }
 
-// Fails unless needs and balances are refused so.
+// Fails unless net requirements and balances have these faults.
 fn is_refused(
     rt: &impl Abort,
     alloc: Global,

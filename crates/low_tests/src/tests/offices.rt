@@ -1,4 +1,4 @@
-//! Offices, whose desks share one order book, in threads of their own too.
+//! Offices, whose desks share one order book, also from threads of their own.
 
 ghost use Rattle.std.specs.Prelude.{◌≡◌, ℕ, ◌<◌, All, IfOk, IfSome, slice_index_or, vec_len};
 
@@ -13,7 +13,7 @@ use std::sync::Wait;
 use std::thread;
 use std::thread::Threads;
 
-// How many desks an office of so many has, or why there is none.
+// The number of desks of an office opened with this number, or why it was refused.
 fn desk_count(rt: &impl Abort, alloc: Global, desks: u64) -> Result<usize, OfficeFault> {
     match Office::open(alloc, made(rt, bicycles().shop(alloc)), desks) {
         Ok((office, desks)) => {
@@ -37,7 +37,7 @@ fn an_office_has_1_to_64_desks(rt: HostRuntime) {
     }
 }
 
-// What a desk is answered: the entry's number and the reply, or why there is none.
+// The answer to a desk's call: the entry's number and the reply, or why it was refused.
 fn called<R: Wait + Abort>(
     rt: &R,
     office: &Office,
@@ -67,7 +67,7 @@ fn called<R: Wait + Abort>(
     }
 }
 
-// What a desk is answered: the entry's number, and what the reply says.
+// The answer to a desk's call: the entry's number, and the reply as its word and number.
 fn answer<R: Wait + Abort>(rt: &R, office: &Office, desk: &mut Desk, asked: Asked) -> (u64, Said)
     requires { desk.old.turn ≡ office.now }
     ensures { (desk.new.turn ≡ desk.old.turn) × (desk.new.number ≡ desk.old.number) }
@@ -128,7 +128,7 @@ impl Pair {
         }
     }
 
-    // What the first desk is answered, or the second.
+    // The answer to a call of the first desk, or of the second.
     fn answer<R: Wait + Abort>(&mut self, rt: &R, is_first: bool, asked: Asked) -> (u64, Said) {
         if is_first {
             answer(rt, &self.office, &mut self.first, asked)
@@ -137,15 +137,15 @@ impl Pair {
         }
     }
 
-    // Fails unless the first calls are answered so: whether by the first desk, what it asks, and the
-    // reply.
+    // Fails unless the first calls have these replies. Each is given by whether it is the first desk's, the
+    // call, and the reply.
     fn answers<R: Wait + Abort>(&mut self, rt: &R, calls: &[(bool, Asked, Said)]) {
         for (number, (is_first, asked, want)) in (1..).zip(calls) {
             same(rt, self.answer(rt, *is_first, *asked), (number, *want));
         }
     }
 
-    // What the first desk says once the second has met it: the entry's number, and the reply.
+    // The second desk's answer when it meets the first: the entry's number, and the reply.
     fn meet<R: Wait + Abort>(&mut self, rt: &R) -> (u64, Said) {
         let met = self.office.meet(rt, &mut self.second, &mut self.first);
         let (number, reply) = met.expect(rt, "a reply");
@@ -154,7 +154,7 @@ impl Pair {
         (number, said)
     }
 
-    // A snapshot by the first desk: the number of its entry, its front, and how many bookings stand.
+    // A snapshot by the first desk: the number of its entry, its front, and the number of standing bookings.
     fn snapshot<R: Wait + Abort>(&mut self, rt: &R) -> (u64, u64, usize) {
         let (number, reply) = self
             .office
@@ -205,7 +205,7 @@ fn two_desks_call_on_one_book(rt: HostRuntime) {
     drop(pair);
 }
 
-// The desk, after it asked for the front so many times.
+// The desk, after a number of calls for the front.
 fn after_fronts<R: Wait>(rt: &R, office: &Office, mut desk: Desk, times: u64) -> Desk
     requires { desk.turn ≡ office.now }
     ensures { result.turn ≡ desk.turn }
@@ -255,7 +255,7 @@ fn a_full_book_refuses_every_call(rt: HostRuntime) {
     drop((office, first, second));
 }
 
-// The desk, after it booked 25 pieces in the third call on its book.
+// The desk, after it booked 25 pieces in the third call on the book.
 fn after_booking<R: Wait + Abort>(rt: &R, office: &Office, mut desk: Desk) -> Desk
     requires { desk.turn ≡ office.now }
     ensures { result.turn ≡ desk.turn }

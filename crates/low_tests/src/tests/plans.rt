@@ -17,7 +17,7 @@ use std::alloc::Global;
 use std::process::Abort;
 use std::sync::Arc;
 
-// Fails unless a row has so many pieces in its weeks.
+// Fails unless a row has these pieces by week.
 fn has_row(rt: &impl Abort, row: &Weeks<Qty>, want: &[u64]) {
     same(rt, row.weeks(), want.len());
     for (quantity, count) in row.as_slice().iter().zip(want) {
@@ -48,7 +48,7 @@ fn of_one_length(rt: &impl Abort, left: &Weeks<Qty>, right: &Weeks<Qty>)
     assert!(rt; left.weeks() == right.weeks());
 }
 
-// Fails unless an item is planned so.
+// Fails unless an item has this plan.
 fn is_planned(rt: &impl Abort, alloc: Global, planned: &Planned, want: &Worked) {
     let gross = planned.gross();
     let receipts = planned.receipts();
@@ -65,7 +65,7 @@ fn is_planned(rt: &impl Abort, alloc: Global, planned: &Planned, want: &Worked) 
     drop(balances);
 }
 
-// Fails unless the items of a plan are planned so.
+// Fails unless the items of a plan have these plans.
 fn are_planned(rt: &impl Abort, alloc: Global, plan: &Plan, want: &[Worked]) {
     let items = plan.inputs().shop().tables().items().len();
     assert!(rt; items == want.len());
@@ -157,7 +157,7 @@ fn all_parents_ask(rt: HostRuntime) {
     drop(plan);
 }
 
-// Fails unless these are due: number, week and pieces.
+// Fails unless these quantities are due: number, week and pieces.
 fn are_due(rt: &impl Abort, dues: &[Due], want: &[(u64, u16, u64)]) {
     same(rt, dues.len(), want.len());
     for (due, cells) in dues.iter().zip(want) {
@@ -165,7 +165,7 @@ fn are_due(rt: &impl Abort, dues: &[Due], want: &[(u64, u16, u64)]) {
     }
 }
 
-// Fails unless inputs tell the receipts of the bicycles in lots, and the bookings of the morning.
+// Fails unless inputs have the receipts of the bicycles in lots, and the bookings of the morning.
 fn tell_morning(rt: &impl Abort, inputs: &Inputs) {
     assert!(rt; inputs.shop().tables().items().len() == 3);
     same(rt, inputs.weeks(), 6);
@@ -186,7 +186,7 @@ fn inputs_tell_receipts_and_bookings_by_their_numbers(rt: HostRuntime) {
     drop(inputs);
 }
 
-// Fails unless rows tell what is on hand of the bicycles in lots, and what is supplied.
+// Fails unless rows have the stock on hand of the bicycles in lots, and the supply.
 fn tell_supply(rt: &impl Abort, rows: &ShopRows) {
     assert!(rt; rows.shop().tables().items().len() == 3);
     same(rt, Some(rows.supply().on_hand(1)), Qty::new(12));
@@ -200,7 +200,7 @@ fn inputs_tell_the_rows_of_their_shop(rt: HostRuntime) {
     drop(inputs);
 }
 
-// What planning makes of an item.
+// The outcome of planning an item, without its rows.
 #[derive(Clone, Copy, Debug, PartialEq, Eq)]
 enum Made {
     Planned,
@@ -208,7 +208,7 @@ enum Made {
     Blocked,
 }
 
-// The item, the entry that it is planned from, and what is made of it.
+// The item, the entry that it is planned from, and its outcome.
 fn made_of(outcome: &Outcome) -> (usize, u64, Made) {
     let front = outcome.inputs().snapshot().front();
     match outcome.plan() {
@@ -222,7 +222,7 @@ fn made_of(outcome: &Outcome) -> (usize, u64, Made) {
     }
 }
 
-// Fails unless this is made of an item of a snapshot at the entry 7, and of a copy.
+// Fails unless this is the outcome of an item for a snapshot at entry 7, and so is a copy.
 fn is_made(rt: &impl Abort, outcome: &Outcome, item: usize, want: Made) {
     let copy = outcome.copy().expect(rt, "memory");
     same(rt, made_of(outcome), (item, 7, want));
@@ -234,7 +234,7 @@ fn is_made(rt: &impl Abort, outcome: &Outcome, item: usize, want: Made) {
     drop(copy);
 }
 
-// Fails unless this is made of each item of a shop at the entry 7, whose plan is then refused by an item.
+// Fails unless these are the outcomes of a shop's items at entry 7, and its plan is refused by this item.
 fn is_refused(rt: &impl Abort, alloc: Global, inputs: Arc<Inputs>, want: &[Made], over: usize) {
     let outcomes = made(rt, outcomes_of(alloc, &inputs));
     assert!(rt; outcomes.len() == want.len());

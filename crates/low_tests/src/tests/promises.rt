@@ -1,4 +1,4 @@
-//! Supplies, and what of them can be promised.
+//! Supplies, and what is available to promise.
 
 use super::{made, pieces, same};
 use jiff::civil::Date;
@@ -9,7 +9,7 @@ use sample_shops::{Records, bicycles, no_records};
 use std::alloc::Global;
 use std::process::Abort;
 
-// What is on hand of bicycles, frames and wheels; the table's order is not that of the items.
+// The stock on hand of bicycles, frames and wheels; the table's order is not that of the items.
 const ALL_ITEMS: &str = "WHEEL,30\nBIKE,10\nFRAME,12\n";
 
 // The records of the bicycles with this stock.
@@ -20,7 +20,7 @@ fn with_stock(stock: &str) -> Records<'_> {
     }
 }
 
-// An item, a week and a quantity, and why they are no line.
+// An item, a week and a quantity, and why they are not a line.
 const LINES: &[(usize, u16, u64, Option<LineFault>)] = &[
     (0, 1, 1, None),
     (0, 6, 1_000_000_000, None),
@@ -41,7 +41,7 @@ const LINES: &[(usize, u16, u64, Option<LineFault>)] = &[
     (0, 7, 1_000_000_001, Some(LineFault::BadWeek)),
 ];
 
-// What is wanted of what was made so, or why it is none.
+// The expected result: the value, or the fault.
 fn wanted<T: Copy>(made_of: T, fault: &Option<LineFault>) -> Result<T, LineFault> {
     match fault {
         Some(fault) => Err(*fault),
@@ -49,7 +49,7 @@ fn wanted<T: Copy>(made_of: T, fault: &Option<LineFault>) -> Result<T, LineFault
     }
 }
 
-// Fails unless each line is what it was made of, or its first fault.
+// Fails unless each line has the values that it was made from, or its first fault.
 fn are_lines(rt: &impl Abort, shop: &Shop) {
     for (item, week, count, fault) in LINES {
         let quantity = pieces(rt, *count);
@@ -59,7 +59,7 @@ fn are_lines(rt: &impl Abort, shop: &Shop) {
     }
 }
 
-// An item, a week, and why they are no spot.
+// An item, a week, and why they are not a spot.
 const SPOTS: &[(usize, u16, Option<LineFault>)] = &[
     (0, 1, None),
     (0, 6, None),
@@ -69,7 +69,7 @@ const SPOTS: &[(usize, u16, Option<LineFault>)] = &[
     (0, 0, Some(LineFault::BadWeek)),
 ];
 
-// Fails unless each spot is what it was made of, or its first fault.
+// Fails unless each spot has the values that it was made from, or its first fault.
 fn are_spots(rt: &impl Abort, shop: &Shop) {
     for (item, week, fault) in SPOTS {
         let spot = Spot::new(shop, *item, *week);
@@ -78,7 +78,7 @@ fn are_spots(rt: &impl Abort, shop: &Shop) {
     }
 }
 
-// An item, a quantity, and why they are no wish.
+// An item, a quantity, and why they are not a wish.
 const WISHES: &[(usize, u64, Option<LineFault>)] = &[
     (0, 1_000_000_000, None),
     (3, 0, Some(LineFault::UnknownItem)),
@@ -87,7 +87,7 @@ const WISHES: &[(usize, u64, Option<LineFault>)] = &[
     (0, 1_000_000_001, Some(LineFault::TooLarge)),
 ];
 
-// Fails unless each wish is what it was made of, or its first fault.
+// Fails unless each wish has the values that it was made from, or its first fault.
 fn are_wishes(rt: &impl Abort, shop: &Shop) {
     for (item, count, fault) in WISHES {
         let quantity = pieces(rt, *count);
@@ -106,7 +106,7 @@ fn lines_spots_and_wishes_are_what_they_were_made_of_or_their_first_fault(rt: Ho
     drop(shop);
 }
 
-// What a shop of these records is supplied with.
+// The supply of a shop of these records.
 fn supply_of(rt: &impl Abort, alloc: Global, records: Records<'_>) -> Supply {
     let shop = made(rt, records.shop(alloc));
     let supply = Supply::of(alloc, &shop);
@@ -114,13 +114,13 @@ fn supply_of(rt: &impl Abort, alloc: Global, records: Records<'_>) -> Supply {
     supply.expect(rt, "memory")
 }
 
-// How many pieces of an item are supplied up to a week.
+// The pieces of an item supplied up to a week.
 fn up_to(rt: &impl Abort, supply: &Supply, item: usize, week: u16) -> u64 {
     assert!(rt; 1 <= week && week <= supply.weeks());
     supply.up_to(item, week).value()
 }
 
-// Fails unless so many pieces of an item are supplied up to each week.
+// Fails unless these are the pieces of an item supplied up to each week.
 fn is_supplied(rt: &impl Abort, supply: &Supply, item: usize, by_week: &[u64; 6]) {
     same(rt, supply.weeks(), 6);
     for week in 1..7 {
@@ -171,7 +171,7 @@ fn bike_row(rt: &impl Abort, alloc: Global) -> AtpRow {
     row_of(rt, alloc, bicycles(), 0)
 }
 
-// What a week of a row has in its bucket, available and booked.
+// The pieces in a week's bucket, available and booked.
 fn week_of(rt: &impl Abort, row: &AtpRow, week: u16) -> (u64, u64, u64) {
     assert!(rt; 1 <= week && week <= row.weeks());
     (
@@ -181,7 +181,7 @@ fn week_of(rt: &impl Abort, row: &AtpRow, week: u16) -> (u64, u64, u64) {
     )
 }
 
-// Fails unless the six weeks of a row have so much in their buckets, available and booked.
+// Fails unless the six weeks of a row have these pieces in their buckets, available and booked.
 fn is_row(
     rt: &impl Abort,
     row: &AtpRow,
@@ -198,14 +198,14 @@ fn is_row(
     }
 }
 
-// Fails unless these are the first weeks in which so many pieces are available.
+// Fails unless these are the first weeks in which these pieces are available.
 fn are_earliest(rt: &impl Abort, row: &AtpRow, wishes: &[(u64, Option<u16>)]) {
     for (count, week) in wishes {
         same(rt, row.earliest(pieces(rt, *count)), *week);
     }
 }
 
-// Books so many pieces, which are available in the week.
+// Books pieces, which must be available in the week.
 fn take(rt: &impl Abort, row: &mut AtpRow, week: u16, count: u64) {
     let quantity = pieces(rt, count);
     let weeks = row.weeks();
@@ -216,7 +216,7 @@ fn take(rt: &impl Abort, row: &mut AtpRow, week: u16, count: u64) {
     row.take(week, quantity);
 }
 
-// Gives back so many pieces, which are booked in the week.
+// Releases pieces, which must be booked in the week.
 fn give(rt: &impl Abort, row: &mut AtpRow, week: u16, count: u64) {
     let quantity = pieces(rt, count);
     assert!(rt; 1 <= week && week <= row.weeks());
@@ -338,7 +338,7 @@ fn long_row(rt: &impl Abort, alloc: Global) -> AtpRow {
     row_of(rt, alloc, shop, 0)
 }
 
-// Fails unless one piece is in each week's bucket, and nothing booked.
+// Fails unless one piece is in each week's bucket, and nothing is booked.
 fn is_full(rt: &impl Abort, row: &AtpRow) {
     for week in 1..105 {
         same(rt, week_of(rt, row, week), (1, u64::from(week), 0));
@@ -362,7 +362,7 @@ fn a_horizon_may_be_full_of_buckets(rt: HostRuntime) {
     is_empty(&rt, &row);
 }
 
-// What is available in a week by the nodes of a row's tree, of which few are read.
+// What is available in a week by the nodes of a row's tree; fails unless few are read.
 fn available_by_nodes(rt: &impl Abort, row: &AtpRow, week: u16) -> u64 {
     assert!(rt; 1 <= week && week <= row.weeks());
     let mut nodes = row.nodes();
@@ -371,7 +371,7 @@ fn available_by_nodes(rt: &impl Abort, row: &AtpRow, week: u16) -> u64 {
     available.value()
 }
 
-// The first week for so many pieces by the nodes of a row's tree, of which few are read.
+// The first week for a number of pieces by the nodes of a row's tree; fails unless few are read.
 fn earliest_by_nodes(rt: &impl Abort, row: &AtpRow, count: u64) -> Option<u16> {
     let mut nodes = row.nodes();
     let week = earliest_in(&mut nodes, pieces(rt, count));
@@ -379,7 +379,7 @@ fn earliest_by_nodes(rt: &impl Abort, row: &AtpRow, count: u64) -> Option<u16> {
     week
 }
 
-// Fails unless so much is available in each week of a row's tree as in the row.
+// Fails unless as much is available in each week by a row's tree as by the row.
 fn are_as_available(rt: &impl Abort, row: &AtpRow) {
     for week in 1..105 {
         let (_, want, _) = week_of(rt, row, week);
@@ -404,7 +404,7 @@ fn a_few_nodes_tell_what_is_promised(rt: HostRuntime) {
     are_as_available(&rt, &row);
 }
 
-// What a tree says of its horizon, and of its first and last places.
+// A tree's horizon, and its first and last places.
 fn ends_of<N: Nodes>(nodes: &mut N) -> (u16, i64, i64, u64) {
     let root = nodes.read(1);
     let past = nodes.read(255);

@@ -3,7 +3,7 @@
 use super::{MOST, pieces, same};
 use mrp_qty::{Milli, NumberFault, Qty, minutes_text, number_text, read_number};
 
-// The pieces of a quantity that is there.
+// The pieces of a quantity, if there is one.
 fn value(quantity: Option<Qty>) -> Option<u64> {
     match quantity {
         Some(quantity) => Some(quantity.value()),
@@ -57,7 +57,7 @@ fn a_multiple_is_the_least_that_is_no_less(rt: HostRuntime) {
     same(&rt, pieces(&rt, MOST).up_to_multiple(7), None);
 }
 
-// A text, the greatest number, and what is read.
+// A text, the greatest number, and the expected result.
 const NUMBERS: &[(&[u8], u64, Result<u64, NumberFault>)] = &[
     (b"007", 1_000_000_000, Ok(7)),
     (b"", 1_000_000_000, Err(NumberFault::Empty)),

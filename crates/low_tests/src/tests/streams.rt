@@ -8,7 +8,7 @@ use std::io;
 use std::io::{ErrorKind, Read, Write};
 use std::process::Abort;
 
-// A reader and a writer that never gets through.
+// A reader and a writer of which every call is interrupted.
 #[derive(Drop)]
 struct Interrupted;
 
@@ -73,7 +73,7 @@ fn a_failing_writer_has_a_front_of_the_text(rt: HostRuntime) {
 
 #[test]
 fn interrupted_writes_are_tried_again_a_million_times(rt: HostRuntime) {
-    // A text, what comes of it, and how many writes have then been interrupted.
+    // A text, the expected result, and the number of writes that were then interrupted.
     const WRITES: &[(&[u8], Result<(), WriteFault>, u64)] = &[
         (b"", Ok(()), 0),
         (b"a", Err(WriteFault), 1_000_001),
@@ -87,7 +87,7 @@ fn interrupted_writes_are_tried_again_a_million_times(rt: HostRuntime) {
     }
 }
 
-// What a reader gives as a bundle.
+// A reader's bytes, read as a bundle.
 fn bundle_from<R: Read>(rt: &impl Abort, alloc: Global, reader: &mut Told<R>) -> Vec<u8> {
     read_bundle(alloc, reader).expect(rt, "a bundle")
 }
@@ -156,7 +156,7 @@ fn reads_past_the_limit_of_calls_are_refused(rt: HostRuntime) {
 #[test]
 fn the_end_may_come_at_the_last_call_and_the_last_byte(rt: HostRuntime) {
     const TURNS: &[Turn] = &[Turn::Moves(2), Turn::Moves(1)];
-    // The most bytes and calls, and whether three bytes are read so.
+    // The greatest numbers of bytes and calls, and whether three bytes are read within them.
     const LIMITS: &[(usize, u32, bool)] = &[
         (3, 3, true),
         (2, 3, false),

@@ -1,4 +1,4 @@
-//! What the tables of a shop read as.
+//! The tables of a shop, as they are read.
 
 use super::same;
 use jiff::civil::date;
@@ -11,7 +11,7 @@ use mrp_tables::{
 use std::alloc::Global;
 use std::process::Abort;
 
-// Bicycles in lots, with rows of no pieces and calls of each kind.
+// Bicycles in lots, with rows of quantity 0 and calls of each kind.
 const SHOP: &str = "\
 [calendar]\n\
 key,value\n\
@@ -191,7 +191,7 @@ fn centres_and_operations_are_read_with_their_places(rt: HostRuntime) {
     drop(shop);
 }
 
-// Fails unless so much is on hand of these items.
+// Fails unless this is the stock on hand.
 fn are_on_hand(rt: &impl Abort, stock: &[StockRow], want: &[(usize, u64)]) {
     same(rt, stock.len(), want.len());
     for (row, cells) in stock.iter().zip(want) {
@@ -340,7 +340,7 @@ item,row,date,quantity\n\
 [script]\n\
 desk,call,item,date,quantity,number\n";
 
-// How many rows the eight tables with rows have.
+// The numbers of rows of the eight tables with rows.
 fn counts(shop: &Tables) -> [usize; 8] {
     [
         shop.items().len(),

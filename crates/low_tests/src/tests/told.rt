@@ -1,4 +1,4 @@
-//! Readers and writers that are told, over fakes that move little, are interrupted or fail.
+//! Readers and writers that count their calls, over fakes that move little, are interrupted or fail.
 
 use super::same;
 use mrp_rows::Told;
@@ -15,7 +15,7 @@ pub enum Turn {
     Fails,
 }
 
-// Reads the bytes and takes its turns one after the other; when they are over it reads all.
+// Reads the bytes by its turns in order; after the last it reads all.
 #[derive(Drop)]
 pub struct FakeReader<'a> {
     pub turns: &'a [Turn],
@@ -30,7 +30,7 @@ impl Read for FakeReader<'_> {
     }
 }
 
-// Keeps what it takes, by its turns; when they are over it takes all.
+// Keeps what it takes, by its turns in order; after the last it takes all.
 #[derive(Drop)]
 pub struct FakeWriter<'a> {
     pub turns: &'a [Turn],
@@ -76,7 +76,7 @@ pub fn fake_writer(alloc: Global, turns: &[Turn]) -> Told<FakeWriter<'_>> {
     })
 }
 
-// How many calls a reader or a writer has had, and how many were interrupted and failed.
+// The number of calls of a reader or a writer, and of those that were interrupted and that failed.
 pub fn counts<T>(told: &Told<T>) -> (u64, u64, u64) {
     (told.calls(), told.interrupted(), told.failures())
 }
@@ -89,7 +89,7 @@ fn reads_are_told_by_what_came_of_them(rt: HostRuntime) {
         Turn::Fails,
         Turn::Interrupts,
     ];
-    // What each read moves, and what the buffer then has.
+    // The bytes that each read moves, and the buffer after it.
     const READS: &[(Option<usize>, [u8; 4])] = &[
         (Some(2), [b'a', b'b', 0, 0]),
         (None, [b'a', b'b', 0, 0]),
@@ -124,7 +124,7 @@ fn writes_of_no_byte_of_some_are_failures(rt: HostRuntime) {
         Turn::Fails,
         Turn::Interrupts,
     ];
-    // What is written, what of it is taken, and how many calls have then failed.
+    // The bytes written, how many of them are taken, and the number of calls that have then failed.
     const WRITES: &[(&[u8], Option<usize>, u64)] = &[
         (b"ab", Some(1), 0),
         (b"cd", Some(0), 1),

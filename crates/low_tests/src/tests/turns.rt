@@ -12,7 +12,7 @@ use std::sync::Wait;
 use std::thread;
 use std::thread::Threads;
 
-// Fails unless a new lock has so many seats, with the numbers from 1 on.
+// Fails unless a new lock has this number of seats, numbered from 1 on.
 fn has_seats(rt: &impl Abort, alloc: Global, count: u64) {
     let (turn, seats) = Turn::new(alloc, Tally, 0, 4, count).expect(rt, "a lock");
     same(rt, seats.len() as u64, count);
@@ -32,7 +32,7 @@ fn makes_1_to_64_seats(rt: HostRuntime) {
     has_seats(&rt, rt.alloc(), 64);
 }
 
-// The state and the log of a new lock with so many seats, which are joined again at once.
+// The state and the log of a new lock with a number of seats, closed at once.
 fn joined(alloc: Global, count: u64) -> Result<(u64, Log<Call, Reply>), TurnFault> {
     let (turn, seats) = Turn::new(alloc, Tally, 0, 0, count)?;
     Ok(turn.close(seats))
@@ -47,7 +47,7 @@ fn seats_split_and_joined_leave_an_empty_log(rt: HostRuntime) {
     }
 }
 
-// What a call is answered, its entry's number and the sum; None where the sum would be too high.
+// The answer to a call, its entry's number and the sum; `None` if the sum would be too high.
 fn answer<R: Wait + Abort>(
     rt: &R,
     turn: &Turn<Tally>,
@@ -64,7 +64,7 @@ fn answer<R: Wait + Abort>(
     }
 }
 
-// The first two seats of a lock with so much room.
+// A lock with this room, and its first two seats.
 fn two_seats(rt: &impl Abort, alloc: Global, room: usize) -> (Turn<Tally>, Seat<Tally>, Seat<Tally>)
     ensures { (result.1.turn ≡ result.0) × (result.2.turn ≡ result.0) }
 {
@@ -74,7 +74,7 @@ fn two_seats(rt: &impl Abort, alloc: Global, room: usize) -> (Turn<Tally>, Seat<
     (turn, first, second)
 }
 
-// Fails unless the calls of a seat are answered so.
+// Fails unless the calls of a seat have these answers.
 fn are_answered<R: Wait + Abort>(
     rt: &R,
     turn: &Turn<Tally>,
@@ -124,7 +124,7 @@ fn a_seat_that_meets_another_goes_on_from_its_calls(rt: HostRuntime) {
     drop((turn, first, second));
 }
 
-// Calls Add(1) that often.
+// Calls Add(1) a number of times.
 fn add_ones<R: Wait>(rt: &R, turn: &Turn<Tally>, mut seat: Seat<Tally>, times: u64) -> Seat<Tally>
     requires { seat.turn ≡ turn.now }
     ensures { (result.turn ≡ seat.turn) × (result.number ≡ seat.number) }
@@ -135,7 +135,7 @@ fn add_ones<R: Wait>(rt: &R, turn: &Turn<Tally>, mut seat: Seat<Tally>, times: u
     seat
 }
 
-// Each seat calls Add(1) that often, in a thread of its own.
+// Each seat calls Add(1) a number of times, in a thread of its own.
 fn add_all<R: Threads + Wait + Sync>(
     rt: &R,
     turn: &Turn<Tally>,
@@ -155,7 +155,7 @@ fn add_all<R: Threads + Wait + Sync>(
     )
 }
 
-// The state and the log after so many seats have called Add(1) so often, each in a thread of its own.
+// The state and the log after each seat has called Add(1) a number of times, in a thread of its own.
 fn counted<R: Threads + Wait + Sync>(
     rt: &R,
     alloc: Global,
@@ -184,8 +184,8 @@ fn one_seat_leaves_its_calls_in_order(rt: HostRuntime) {
     drop(log);
 }
 
-// Fails unless so many seats, which call so often in threads of their own, have that many entries
-// each, and the state has all that they added.
+// Fails unless each seat, after its calls in a thread of its own, has as many entries as calls, and the
+// state is the sum of all that they added.
 fn all_stand(rt: &impl Abort, state: u64, log: &Log<Call, Reply>, count: u64, times: u64) {
     same(rt, state, count.saturating_mul(times));
     same(rt, log.len() as u64, count.saturating_mul(times));

@@ -8,7 +8,7 @@ use mrp_qty::Qty;
 use std::alloc::Global;
 use std::process::Abort;
 
-// The row that has so many pieces in its weeks.
+// The row with these pieces by week.
 pub fn row_of(rt: &impl Abort, alloc: Global, counts: &[u64]) -> Weeks<Qty> {
     let mut row = Vec::new(alloc);
     for count in counts {
@@ -17,7 +17,7 @@ pub fn row_of(rt: &impl Abort, alloc: Global, counts: &[u64]) -> Weeks<Qty> {
     Weeks::from_vec(row)
 }
 
-// Fails unless a row has so many pieces in its weeks.
+// Fails unless a row has these pieces by week.
 pub fn has_row(rt: &impl Abort, alloc: Global, row: &Weeks<Qty>, counts: &[u64]) {
     same(rt, row.as_slice(), row_of(rt, alloc, counts).as_slice());
 }
@@ -29,13 +29,13 @@ pub fn of_one_length(rt: &impl Abort, left: &Weeks<Qty>, right: &Weeks<Qty>)
     assert!(rt; left.weeks() == right.weeks());
 }
 
-// What comes of adding so many pieces in the second of three weeks.
+// The result of adding pieces in the second of three weeks.
 fn added(rt: &impl Abort, row: &mut Weeks<Qty>, count: u64) -> Option<()> {
     assert!(rt; row.weeks() == 3);
     row.add_at(2, pieces(rt, count))
 }
 
-// How many pieces the second of three weeks has.
+// The pieces of the second of three weeks.
 fn second(rt: &impl Abort, row: &Weeks<Qty>) -> u64 {
     assert!(rt; row.weeks() == 3);
     row.at(2).value()

@@ -1,8 +1,8 @@
-//! What planning makes of the items of sample shops.
+//! The expected plans of the items of sample shops.
 
 use mrp_item::OrderKind;
 
-// An order: kind, due week, pieces due, pieces that start, release week, weeks late.
+// An order: kind, due week, pieces due, pieces started, release week, weeks late.
 pub type OrderCells = (OrderKind, u16, u64, u64, u16, u16);
 
 // An item's plan, week by week: receipts are cumulative.
@@ -51,7 +51,7 @@ const WHEELS: Worked = Worked {
     ],
 };
 
-// Bicycles and frames as without bookings, and wheels, where each frame takes one too.
+// Bicycles and frames as without bookings, and wheels, when each frame has one too.
 pub const PLANS_WITH_WHEELS_OF_FRAMES: &[Worked; 3] = &[BIKES, FRAMES, WHEELS_OF_FRAMES];
 
 const WHEELS_OF_FRAMES: Worked = Worked {
@@ -143,8 +143,8 @@ const WHEELS_IN_LOTS: Worked = Worked {
     ],
 };
 
-// The same, and tubes, three in a frame, where half of what starts is scrap: the frames' starts ask
-// for them.
+// The same, and tubes, three in a frame, with half of the pieces started scrap: the starts of the
+// frames require them.
 pub const PLANS_WITH_TUBES: &[Worked; 4] = &[
     BOOKED_BIKES,
     FRAMES_IN_LOTS,

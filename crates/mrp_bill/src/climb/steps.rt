@@ -12,7 +12,7 @@ use crate::groups::Grouped;
 use mrp_qty::NoMemory;
 use std::alloc::Global;
 
-// How many parents each item has.
+// The number of each item's parents.
 fn counts(alloc: Global, parents: &Grouped<usize>) -> Result<Vec<usize>, NoMemory>
     ensures size { IfOk result (λ counts. length counts.items ≡ length parents.now) }
     ensures counts { IfOk result (λ counts. (i : ℕ) → i < length parents.now → slice_index counts.items i ≡ length (listed parents.now i)) }
@@ -51,7 +51,7 @@ impl Climb {
         }
     }
 
-    // Puts a new item on the stack.
+    // Pushes a new item onto the stack.
     fn visit(&mut self, item: usize) -> Result<(), NoMemory>
         requires { item < length self.old.stages.items }
         ensures { OnOk result (Opens self.old self.new item) }
@@ -62,7 +62,7 @@ impl Climb {
         Ok(())
     }
 
-    // Moves the item on the top of the stack to the order's end.
+    // Moves the item on top of the stack to the end of the order.
     fn place(&mut self, item: usize) -> Result<(), NoMemory>
         requires { item < length self.old.stages.items }
         ensures { OnOk result (Places self.old self.new item) }
@@ -74,7 +74,7 @@ impl Climb {
         Ok(())
     }
 
-    // Leaves an item so many parents that it hasn't passed.
+    // Sets the number of parents that an item has not passed.
     fn pass(&mut self, item: usize, left: usize, closes: bool)
         requires { item < length self.old.left.items }
         ensures { Passes self.old self.new item left closes }
@@ -83,7 +83,7 @@ impl Climb {
         self.closed = self.closed || closes;
     }
 
-    // Goes on at the item on the top of the stack: up to its next parent, or back down.
+    // One step at the item on top of the stack: up to its next parent, or back down.
     fn step(&mut self, parents: &Grouped<usize>, item: usize) -> Result<(), NoMemory>
         requires within { (p i : ℕ) → IsListed parents.now p i → p < length parents.now }
         requires climb { IsClimb parents.now self.old }
@@ -122,9 +122,9 @@ impl Climb {
     }
 }
 
-// All items, each once, and each behind its parents where there is no loop. Each parent of each item
-// is looked at at most twice, once when it is new and once when the item passes it: this is linear
-// in items and lines.
+// All items, each once, and each after its parents if there is no loop. Each parent of each item is
+// visited at most twice, once when it is new and once when the item passes it: this is linear in
+// items and lines.
 pub fn order_of(alloc: Global, parents: &Grouped<usize>) -> Result<Order, NoMemory>
     requires { (p i : ℕ) → IsListed parents.now p i → p < length parents.now }
     ensures size { IfOk result (λ order. length order.items.items ≡ length parents.now) }

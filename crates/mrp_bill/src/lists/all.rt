@@ -26,8 +26,8 @@ fn numbered_lines(alloc: Global, lines: &[BillLine]) -> Result<Vec<Numbered<usiz
     Ok(rows)
 }
 
-// Numbers an item by each parent in the lines at these places, once: a parent that the item has been
-// numbered by is marked with a number above the item.
+// Numbers an item by each parent in the lines at these places, once: a parent is marked with a number
+// above the item once the item is numbered by it.
 fn number_by_parents(
     rows: &mut Vec<Numbered<usize>>,
     marks: &mut Vec<usize>,
@@ -97,7 +97,7 @@ fn number_by_components(
     Ok(())
 }
 
-// The items, each numbered by each of its components, of which there are at most so many in all.
+// The items, each numbered by each of its components. A maximum for the number of all is given.
 fn numbered_parents(
     alloc: Global,
     most: usize,
@@ -113,8 +113,8 @@ fn numbered_parents(
     Ok(rows)
 }
 
-// For each item the places of the lines to it, its parents and its components. Each of these is
-// counted, and then put in its place: this is linear in items and lines.
+// For each item the places of the lines to it, its parents and its components. They are counted, and
+// then put in their places: this is linear in items and lines.
 pub fn lists_of(alloc: Global, count: usize, bill: &[BillLine]) -> Result<Lists, NoMemory>
     requires { AreWithin count bill.now }
     ensures { IfOk result (AreLists bill.now count) }

@@ -50,8 +50,8 @@ fn never_rise(parents: &Grouped<usize>, ranks: &[usize]) -> bool
     true
 }
 
-// A path from an item down to itself, if there is one. Where the ranks never rise from a parent to
-// its component, an item all of whose parents have another rank, so a greater one, takes no search.
+// A path from an item down to itself, if there is one. If the ranks never rise from a parent to its
+// component, an item all of whose parents have another rank, so a greater one, needs no search.
 fn path_by_ranks(
     alloc: Global,
     parents: &Grouped<usize>,
@@ -71,13 +71,13 @@ fn path_by_ranks(
     path_to_itself(alloc, parents, item)
 }
 
-// A path from the first item that needs itself down to itself, where there is such an item.
+// A path from the first item that needs itself down to itself, if there is such an item.
 //
 // The ranks make this linear in items and lines. An item all of whose parents have a greater rank is
-// above no item of its own rank, so it can't need itself, and takes no search. An item with a parent
-// of its own rank needs itself where the ranks are those of the strong components, so the first
-// search finds a path. That the ranks are these isn't relied on: where a rank rises, every item is
-// searched, and a search that finds nothing goes on to the next item.
+// above no item of its own rank, so it cannot need itself, and no search is made. An item with a parent
+// of its own rank needs itself if the ranks are those of the strong components, so the first search
+// finds a path. Correctness does not depend on the ranks: if a rank rises, every item is searched, and
+// after a search that finds nothing the next item is searched.
 pub fn first_loop(
     alloc: Global,
     parents: &Grouped<usize>,

@@ -26,7 +26,7 @@ impl Search {
         Ok(search)
     }
 
-    // The item that was met at a place.
+    // The item found at a place.
     fn item(&self, place: usize) -> usize
         requires place { place < length self.now.met.items }
         requires seen { IsSeen self.now.seen.items (item_at self.now.met.items place) }
@@ -45,7 +45,7 @@ impl Search {
         Ok(())
     }
 
-    // Meets the parents, where they weren't met, of the item at a place.
+    // Adds the parents of the item at a place that were not found before.
     fn meet_parents(&mut self, parents: &Grouped<usize>, place: usize) -> Result<(), NoMemory>
         requires within { (p i : ℕ) → IsListed parents.now p i → p < length parents.now }
         requires search { IsSearch parents.now self.old }
@@ -63,7 +63,7 @@ impl Search {
         Ok(())
     }
 
-    // From the item that was met first to the one at a place, and from there down again.
+    // From the item that was found first to the one at a place, and from there down again.
     fn path_down(&self, alloc: Global, from: usize) -> Result<Vec<usize>, NoMemory>
         requires some { from < length self.now.met.items }
         requires below { (k : ℕ) → 0 < k → k < length self.now.met.items → (met_at self.now.met.items k).below < k }

@@ -25,12 +25,12 @@ pub record IsAccepted (bundle : List ℕ) (tables : Tables) : Type 0 where
   pub tables_are : tables_of bundle ≡ Ok tables
   pub no_loop : (i : ℕ) → NeedsItself tables.bills i → ⊥
 
--- a bundle whose tables are all right, but for a loop in the bill that begins at this item
+-- a bundle whose tables are right except for a loop in the bill that begins at this item
 pub record IsLoop (bundle : List ℕ) (tables : Tables) (item : ℕ) : Type 0 where
   pub tables_are : tables_of bundle ≡ Ok tables
   pub loop : IsFirstLoop tables.bills item
 
--- a bundle with this first fault, the loop last
+-- a bundle with this first fault, a loop in the bill last
 abbrev pub IsRefused : List ℕ → Fault → Type 0
 IsRefused bundle f = (tables_of bundle ≡ Err f) ⊎ ((tables : Tables) × (item : ℕ) × IsLoop bundle tables item × (f ≡ loop_fault item))
 
@@ -39,16 +39,17 @@ pub record AnswersScript (tables : Tables) (h : History) : Type 0 where
   pub legal : IsLegal (supply_of tables) h
   pub in_order : asked h ≡ with_run (script_of tables)
 
--- how a script may be answered: which histories answer the script of which tables
+-- a way to answer a script: which histories answer the script of which tables
 abbrev pub Answering : Type 1
 Answering = Tables → History → Type 0
 
--- what a reply has planned: a snapshot, what stands at it
+-- the inputs of the run that a reply starts: for a snapshot what stands at it, for other replies
+-- none
 abbrev pub planned_from : Tables → Reply → List Inputs
 planned_from tables (Taken snapshot) = inputs_of tables snapshot ∷ []
 planned_from tables r = []
 
--- what the runs of a history are planned from, in order
+-- the inputs of the runs of a history, in order
 abbrev pub runs_of : Tables → History → List Inputs
 runs_of tables h = flat_map (λ e. planned_from tables e.reply) h
 
@@ -60,18 +61,19 @@ IsPlannable s = (plans : List ItemPlan) × (plan_of s ≡ Ok plans)
 abbrev pub IsRefusedBy : Inputs → List ℕ → Type 0
 IsRefusedBy s name = (item : ℕ) × (plan_of s ≡ Err item) × (name ≡ (item_at s item).name)
 
--- the first run that is refused is refused by the item of this name
+-- the first run that is refused is refused by the item with this name
 abbrev pub IsFirstRefusal : List Inputs → List ℕ → Type 0
 IsFirstRefusal runs name =
     (before : List Inputs) × (s : Inputs) × (after : List Inputs)
     × (runs ≡ before ++ s ∷ after) × All IsPlannable before × IsRefusedBy s name
 
--- a bundle whose script may be answered so that a run is refused, the first of them by the item of this name
+-- a bundle whose script may be answered so that a run is refused, the first of them by the item with this
+-- name
 abbrev pub IsTooLargeBy : Answering → List ℕ → List ℕ → Type 0
 IsTooLargeBy Answers bundle name =
     (tables : Tables) × IsAccepted bundle tables × (h : History) × Answers tables h × IsFirstRefusal (runs_of tables h) name
 
--- a bundle of which a run is refused, the first of them by the item of this name
+-- a bundle of which a run is refused, the first of them by the item with this name
 abbrev pub IsTooLarge : List ℕ → List ℕ → Type 0
 IsTooLarge = IsTooLargeBy AnswersScript
 

@@ -1,4 +1,4 @@
--- Why a day is refused, or a shop not opened, by what refused a part of it.
+-- Why a day is refused, or a shop is not opened, from the fault of a part of it.
 use Rattle.std.specs.Prelude.{slice_index}
 use Rattle.mrp_rows.specs.declared.streams.ReadFault.{ReadFault}
 use Rattle.mrp_rows.specs.declared.streams.ReadFault.TheVariants as read

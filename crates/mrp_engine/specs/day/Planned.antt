@@ -1,4 +1,4 @@
--- What comes of planning runs.
+-- The result of planning runs.
 use Rattle.std.specs.Prelude.{ℕ, ◌≡◌, List, All, map, Result, Ok, Err, ⊤}
 use Rattle.std.specs.Global.{Vec}
 use Rattle.mrp_item.specs.Inputs.{Inputs}
@@ -11,7 +11,7 @@ use Rattle.mrp_book.specs.Standing.{History}
 use Rattle.mrp_engine.specs.declared.day.Day.{Day}
 use Rattle.mrp_engine.specs.day.Day.{Answering, IsFirstRefusal, IsPlannable, IsRefusedBy, day_text, runs_of}
 
--- the plan of a run, or the name of the first item that gets too large; or memory was refused
+-- the plan of a run, or the name of the first item that gets too large; or out of memory
 abbrev pub PlansRun : Inputs → Result WholePlan DayFault → Type 0
 PlansRun s (Ok plan) = (plan.inputs ≡ s) × IsPlannable s
 PlansRun s (Err (TooLarge name)) = IsRefusedBy s name
@@ -20,7 +20,7 @@ PlansRun s (Err (Refused f)) = ⊥
 PlansRun s (Err Read) = ⊥
 PlansRun s (Err Write) = ⊥
 
--- what plans were made from
+-- the inputs of plans
 abbrev pub inputs_of_plans : List WholePlan → List Inputs
 inputs_of_plans plans = map (λ p. p.inputs) plans
 
@@ -34,7 +34,8 @@ pub record IsPlanned (day : Day) : Type 0 where
 abbrev pub text_of : Day → List ℕ
 text_of day = day_text day.rows.value.tables day.history.entries
 
--- the day of a shop of these tables with this history, or the name of the item that its first refused run is refused by; or memory was refused
+-- the day of a shop of these tables with this history, or the name of the item that its first refused run is refused
+-- by; or out of memory
 abbrev pub PlansHistory : Tables → History → Result Day DayFault → Type 0
 PlansHistory tables h (Ok day) = (day.rows.value.tables ≡ tables) × (day.history.entries ≡ h) × IsPlanned day
 PlansHistory tables h (Err (TooLarge name)) = IsFirstRefusal (runs_of tables h) name
@@ -43,7 +44,8 @@ PlansHistory tables h (Err (Refused f)) = ⊥
 PlansHistory tables h (Err Read) = ⊥
 PlansHistory tables h (Err Write) = ⊥
 
--- the day of a shop of these tables, whose script is answered like this, or the name of the item that the first refused run is refused by; or memory was refused
+-- the day of a shop of these tables, whose script is answered like this, or the name of the item that the first refused
+-- run is refused by; or out of memory
 abbrev pub PlansDay : Answering → Tables → Result Day DayFault → Type 0
 PlansDay Answers tables (Ok day) = (day.rows.value.tables ≡ tables) × Answers tables day.history.entries × IsPlanned day
 PlansDay Answers tables (Err (TooLarge name)) = (h : History) × Answers tables h × IsFirstRefusal (runs_of tables h) name
@@ -52,7 +54,7 @@ PlansDay Answers tables (Err (Refused f)) = ⊥
 PlansDay Answers tables (Err Read) = ⊥
 PlansDay Answers tables (Err Write) = ⊥
 
--- the plans of all runs, in order, or why the first that is refused is; or memory was refused
+-- the plans of all runs, in order, or why the first refused run is refused; or out of memory
 abbrev pub PlansRuns : List Inputs → Result (Vec WholePlan) DayFault → Type 0
 PlansRuns runs (Ok plans) = (inputs_of_plans plans.items ≡ runs) × All IsPlannable runs
 PlansRuns runs (Err (TooLarge name)) = IsFirstRefusal runs name

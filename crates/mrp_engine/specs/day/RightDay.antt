@@ -1,4 +1,5 @@
--- The right days of a bundle: each desk's calls stand in the order of its records, and those of several desks in any order (profile).
+-- The right days of a bundle: each desk's calls are in the order of its records, and those of different desks in any
+-- order (profile).
 use Rattle.std.specs.Prelude.{ℕ, ◌≡◌, ◌==◌, ◌++◌, List, [], Result, Ok, Err, filter, flat_map}
 use Rattle.mrp_tables.specs.Tables.{Tables}
 use Rattle.mrp_master.specs.Supply.{supply_of}
@@ -11,11 +12,12 @@ use Rattle.mrp_report.specs.ReportText.{report_text}
 use Rattle.mrp_engine.specs.day.Script.{Script, script_of, with_run}
 use Rattle.mrp_engine.specs.day.Day.{IsAccepted, runs_of}
 
--- what one desk calls, in order
+-- the calls of one desk, in order
 abbrev pub asked_by : ℕ → Script → Script
 asked_by desk script = filter (λ r. r.0 == desk) script
 
--- a history in which each desk's entries are its script records in order; the run that is added to a script without one is the last record of desk 1
+-- a history in which each desk's entries are its script records in order; the run that is added to a script without
+-- one is the last record of desk 1
 abbrev pub FollowsDesks : Tables → History → Type 0
 FollowsDesks tables h = (desk : ℕ) → asked_by desk (asked h) ≡ asked_by desk (with_run (script_of tables))
 
@@ -24,7 +26,7 @@ pub record AnswersDesks (tables : Tables) (h : History) : Type 0 where
   pub legal : IsLegal (supply_of tables) h
   pub by_desk : FollowsDesks tables h
 
--- the report of a run of this plan: where an item gets too large there is none
+-- the report of a run with this plan; empty if an item gets too large
 abbrev pub text_of_plan : Inputs → Result (List ItemPlan) ℕ → List ℕ
 text_of_plan s (Ok plans) = report_text s
 text_of_plan s (Err item) = []

@@ -1,4 +1,4 @@
--- What a day leaves of its reader and its writer.
+-- What making a day leaves of its reader and its writer.
 use Rattle.std.specs.Prelude.{ℕ, ◌≡◌, ◌≢◌, ◌≤◌, ◌+◌, ◌⊎◌, List, Option, IfErr, IfSome, OnErr, OnOk, Result, Ok, Err, length, ⊤}
 use Rattle.std.specs.Io.KnownBytes.{IsAtEnd}
 use Rattle.mrp_rows.specs.Streams.{TakesFront}
@@ -12,11 +12,12 @@ use Rattle.mrp_engine.specs.declared.day.fault.DayFault.TheVariants.{Refused, To
 use Rattle.mrp_engine.specs.day.Day.{Answering, IsDayBy, IsRefused, IsTooLargeBy}
 use Rattle.mrp_rows.specs.declared.faults.TheConstants as faults
 
--- a bundle is what a reader had left, where the reader tells it, and no longer than a bundle may be
+-- a bundle is what a reader had left, if that is known of the reader, and no longer than a bundle
+-- may be
 abbrev pub IsRead : Option (List ℕ) → List ℕ → Type 0
 IsRead given bundle = IfSome given (λ bytes. bundle ≡ bytes) × (length bundle ≤ GREATEST_BUNDLE)
 
--- a reader has not failed, nor was it called more often than it may be
+-- a reader has not failed, and was not called more often than it may be
 abbrev pub IsReadWithin : {R : Type 0} → Told R → Told R → Type 0
 IsReadWithin old new = (failures_of new ≡ failures_of old) × (calls_of new ≤ calls_of old + READ_CALLS)
 
@@ -37,7 +38,7 @@ TellsDayBy Answers given text = (bundle : List ℕ) × IsRead given bundle × Is
 abbrev pub HasTakenAll : {W : Type 0} → (W → Option (List ℕ)) → Told W → Told W → List ℕ → Type 0
 HasTakenAll contents old new text = (retried : ℕ) × HasTaken contents old new text retried
 
--- a writer took a front of the text of a day in which the script is answered like this
+-- a writer took a prefix of the text of a day in which the script is answered like this
 abbrev pub WritesFrontBy : Answering → {W : Type 0} → (W → Option (List ℕ)) → Option (List ℕ) → Told W → Told W → Type 0
 WritesFrontBy Answers contents given old new = (text : List ℕ) × TellsDayBy Answers given text × HasTakenFront contents old new text
 
@@ -66,7 +67,7 @@ IsAfterReading (Err Read) = ⊥
 IsAfterReading (Err Write) = ⊤
 IsAfterReading (Err NoMemory) = ⊥
 
--- a writer took a text whole, or a prefix of it: it gave up, or memory was refused and it did not fail
+-- a writer took a text whole, or a prefix of it: it gave up, or memory ran out and it did not fail
 pub record WritesText {W : Type 0} (contents : W → Option (List ℕ)) (old new : Told W) (text : List ℕ) (result : Result (Unit {0}) DayFault) : Type 0 where
   pub whole : OnOk result (HasTakenAll contents old new text)
   pub front : OnErr result (HasTakenFront contents old new text)
@@ -74,7 +75,9 @@ pub record WritesText {W : Type 0} (contents : W → Option (List ℕ)) (old new
   pub unfailed : result ≡ Err NoMemory → HasNotFailed old new
   pub writing : IfErr result IsWhileWriting
 
--- what is written of the bundle that was given: the text of a day of it, in which its script is answered like this, or a prefix of such a text, or nothing. Where memory was refused a prefix is left only after this end, and a read that failed is one that failed so
+-- what is written of the bundle that was given: the text of a day of it, in which its script is answered like this, or
+-- a prefix of such a text, or nothing. If memory ran out, a prefix is left only if `ended` holds; a failed read means
+-- that `failed` holds
 pub record WritesDay (Answers : Answering) {W : Type 0} (contents : W → Option (List ℕ)) (given : Option (List ℕ)) (ended failed : Type 0) (old new : Told W) (result : Result (Unit {0}) DayFault) : Type 0 where
   -- the text of a day of the bundle was written
   pub day : OnOk result ((text : List ℕ) × TellsDayBy Answers given text × HasTakenAll contents old new text)
@@ -88,7 +91,8 @@ pub record WritesDay (Answers : Answering) {W : Type 0} (contents : W → Option
   -- nothing is written before every run is planned
   pub unwritten : IfErr result (λ fault. IsBeforeWriting fault → new ≡ old)
 
--- what is written of what a reader had left, and what becomes of the reader: it was read to its end, within the limits, and a prefix of it was taken
+-- what is written of what a reader had left, and what becomes of the reader: it was read to its end, within the
+-- limits, and a prefix of it was taken
 pub record MakesDay (Answers : Answering) {R W : Type 0} (remaining : R → Option (List ℕ)) (contents : W → Option (List ℕ)) (reader read : Told R) (writer written : Told W) (result : Result (Unit {0}) DayFault) : Type 0 where
   pub writes : WritesDay Answers contents (remaining (inner_of reader)) (IsAtEnd (remaining (inner_of read))) (HasPassedLimits reader read) writer written result
   pub unfailed : result ≡ Err NoMemory → IsReadWithin reader read

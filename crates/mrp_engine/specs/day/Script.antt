@@ -8,7 +8,7 @@ use Rattle.mrp_tables.specs.Tables.{Tables}
 use Rattle.mrp_book.specs.declared.call.Call.{Call}
 use Rattle.mrp_book.specs.declared.call.Call.TheVariants as call
 
--- a script's call, as the order book takes it: a run plans a snapshot
+-- a script's call as a call on the order book: a run takes a snapshot
 abbrev pub call_of : ScriptCall → Call
 call_of (s.Book item week quantity) = call.Book (record { item = item; week = week; quantity = quantity })
 call_of (s.Cancel entry) = call.Cancel entry
@@ -20,7 +20,7 @@ call_of s.Run = call.Snapshot
 abbrev pub Script : Type 0
 Script = List (ℕ × Call)
 
--- a record of a script: the desk, and what it calls
+-- a record of a script: the desk, and its call
 abbrev pub record_of : ScriptRow → ℕ × Call
 record_of r = (r.desk, call_of r.call)
 
@@ -31,6 +31,6 @@ abbrev pub is_run : Call → Bool
 is_run call.Snapshot = true
 is_run c = false
 
--- a script without a run has one more record at its end, a run of desk 1
+-- a script without a run gets one more record at its end, a run of desk 1
 abbrev pub with_run : Script → Script
 with_run script = if list_any (λ r. is_run r.1) script then script else script ++ (1, call.Snapshot) ∷ []

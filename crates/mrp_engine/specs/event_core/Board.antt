@@ -28,7 +28,7 @@ abbrev pub stops : BoardReply → Bool
 stops reply.Stopped = true
 stops r = false
 
--- an item was handed out, to somebody or to this worker
+-- an item was handed out, to any worker or to this one
 abbrev pub is_out : BoardLog → ℕ → Bool
 is_out log item = list_any (λ e. hands_out item e.reply) log
 
@@ -39,7 +39,7 @@ is_out_to who log item = list_any (λ e. (e.who == who) && hands_out item e.repl
 abbrev pub is_stored : BoardLog → ℕ → Bool
 is_stored log item = list_any (λ e. stores item e.call e.reply) log
 
--- somebody gave up
+-- a worker gave up the run
 abbrev pub has_stopped : BoardLog → Bool
 has_stopped log = list_any (λ e. stops e.reply) log
 
@@ -55,7 +55,7 @@ abbrev pub item_of : Option BoardEntry → Option ℕ
 item_of None = None
 item_of (Some e) = item_in e.reply
 
--- the item that a worker holds: it took it, and neither finished it nor gave up since
+-- the item that a worker holds: it took the item, and has neither finished it nor given up since
 abbrev pub held : ℕ → BoardLog → Option ℕ
 held who log = item_of (last_by who log)
 
@@ -63,7 +63,7 @@ held who log = item_of (last_by who log)
 abbrev pub is_ready : Inputs → BoardLog → ℕ → Bool
 is_ready s log item = not (is_out log item) && list_all (is_stored log) (parents_of s.tables.bills (count s) item)
 
--- every item was handed out, or somebody gave up
+-- every item was handed out, or a worker gave up the run
 abbrev pub is_at_end : Inputs → BoardLog → Bool
 is_at_end s log = has_stopped log || list_all (is_out log) (places s)
 
@@ -71,8 +71,8 @@ is_at_end s log = has_stopped log || list_all (is_out log) (places s)
 abbrev pub is_finished : Inputs → BoardLog → Bool
 is_finished s log = list_all (is_stored log) (places s)
 
--- A worker's reply after a log: of the items that are ready the first in table order is handed out. There is none where the
--- worker is told to come again
+-- the reply to a worker after a log: the first item in table order that is ready is handed out. There is none if the
+-- worker has to come again
 abbrev pub board_reply : Inputs → BoardLog → ℕ → BoardCall → Option BoardReply
 board_reply s log who call.Take = if is_at_end s log then Some reply.AllOut else option_map reply.Item (find (is_ready s log) (places s))
 board_reply s log who (call.Finish item) = if is_out_to who log item && not (is_stored log item) then Some reply.Stored else Some reply.NotOut
@@ -91,7 +91,7 @@ pub record RunLog : Type 0 where
   pub inputs : Inputs
   pub log : BoardLog
 
--- the entry of a worker that takes, if it makes one
+-- the entry of a worker that asks for an item, if it makes one
 abbrev pub taken : ℕ → Option BoardReply → BoardLog
 taken who None = []
 taken who (Some r) = entry who call.Take r ∷ []

@@ -1,4 +1,4 @@
--- A run's board by its state, which its log leaves (profile).
+-- A run's board by the state that its log leaves (profile).
 use Rattle.std.specs.Prelude.{ℕ, ◌==◌, ◌&&◌, ◌||◌, not, Bool, true, false, is_some, if◌then◌else◌, List, map, replicate, set, Option, Some, None, option_map, find}
 use Rattle.std.specs.List.{list_all, slice_index_or}
 use Rattle.mrp_bill.specs.Bill.{parents_of}
@@ -9,7 +9,8 @@ use Rattle.mrp_engine.specs.declared.event_core.board.BoardReply.{BoardReply}
 use Rattle.mrp_engine.specs.declared.event_core.board.BoardReply.TheVariants as reply
 use Rattle.mrp_engine.specs.event_core.Board.{BoardLog, has_stopped, hands_out, is_stored, stops}
 
--- of each item the worker that it was handed out to, if it was, and whether it is stored; and whether somebody gave up
+-- for each item, the worker that it was handed out to, if any, and whether it is stored; and whether a worker gave up
+-- the run
 pub record BoardState : Type 0 where
   pub out : List (Option ℕ)
   pub stored : List Bool
@@ -33,11 +34,11 @@ is_worker who (Some worker) = worker == who
 abbrev pub can_go_out : Inputs → BoardState → ℕ → Bool
 can_go_out s b item = not (is_some (worker_of b item)) && list_all (has_stored b) (parents_of s.tables.bills (count s) item)
 
--- every item was handed out, or somebody gave up
+-- every item was handed out, or a worker gave up the run
 abbrev pub has_ended : Inputs → BoardState → Bool
 has_ended s b = b.stopped || list_all (λ item. is_some (worker_of b item)) (places s)
 
--- a worker's reply in a state; there is none where the worker is told to come again
+-- the reply to a worker in a state; there is none if the worker has to come again
 abbrev pub board_reply_in : Inputs → BoardState → ℕ → BoardCall → Option BoardReply
 board_reply_in s b who call.Take = if has_ended s b then Some reply.AllOut else option_map reply.Item (find (can_go_out s b) (places s))
 board_reply_in s b who (call.Finish item) = if is_worker who (worker_of b item) && not (has_stored b item) then Some reply.Stored else Some reply.NotOut
@@ -55,7 +56,7 @@ stored_after stored c r = stored
 abbrev pub state_after : BoardState → ℕ → BoardCall → BoardReply → BoardState
 state_after b who c r = record { out = out_after b.out who r; stored = stored_after b.stored c r; stopped = b.stopped || stops r }
 
--- the worker that an item was handed out to, if it was
+-- the worker that an item was handed out to, if any
 abbrev pub taker : BoardLog → ℕ → Option ℕ
 taker log item = option_map (λ e. e.who) (find (λ e. hands_out item e.reply) log)
 

@@ -1,4 +1,5 @@
--- The core: which events have meaning, what each is answered, and what its answer adds to the history and to the runs (profile).
+-- The core: which events have meaning, how each is answered, and what its answer adds to the history and to the runs
+-- (profile).
 use Rattle.std.specs.Prelude.{ℕ, ◌≡◌, ◌≤◌, ◌+◌, ◌-◌, ◌⊎◌, true, List, [], ◌∷◌, ◌++◌, Option, Some, None, IsSome, Result, Ok, Err, length, take, set}
 use Rattle.std.specs.List.{slice_index_or}
 use Rattle.std.specs.Global.{Vec}
@@ -39,7 +40,7 @@ pub record Core : Type 0 where
 abbrev pub opened : Tables → Core
 opened tables = record { tables = tables; history = []; runs = [] }
 
--- what a run of front n plans from: the tables, and the bookings that stand after the first n entries
+-- the inputs of a run with front n: the tables, and the bookings that stand after the first n entries
 abbrev pub inputs_at : Tables → History → ℕ → Inputs
 inputs_at tables h front = record { tables = tables; front = front; standing = standing (take front h) }
 
@@ -59,8 +60,8 @@ log_at core run = (run_at core run).log
 abbrev pub run_inputs : Core → ℕ → Inputs
 run_inputs core run = inputs_at core.tables core.history (run_at core run).front
 
--- An event has meaning where its run was started, its desk or worker has a number from 1 to 64, a worker that takes holds no
--- item of the run, one that finishes holds one, and a run that is written is finished
+-- an event has meaning if its run was started, its desk or worker has a number from 1 to 64, a worker that asks for an
+-- item holds none of the run, one that finishes holds one, and a run that is written is finished
 abbrev pub HasMeaning : Core → Event → Type 0
 HasMeaning core (event.Call desk c) = IsSeatNumber desk
 HasMeaning core (event.Start desk) = IsSeatNumber desk
@@ -79,18 +80,18 @@ IsOfDesk e = ⊥
 abbrev pub AsksFullBook : Core → Event → Type 0
 AsksFullBook core e = IsOfDesk e × HasMeaning core e × IsFull core.history
 
--- a worker that takes is told to come again
+-- a worker that asks for an item has to come again
 abbrev pub IsToldLater : Core → Event → Type 0
 IsToldLater core (event.Take run who) = board_reply (run_inputs core run) (log_at core run) who board_call.Take ≡ None
 IsToldLater core e = ⊥
 
--- an event that may be refused for want of memory: one that has meaning, asks no full order book, and is not told to come again
-pub record WantsMemory (core : Core) (e : Event) : Type 0 where
+-- an event that may run out of memory: one that has meaning, asks no full order book, and does not have to come again
+pub record IsOutOfMemory (core : Core) (e : Event) : Type 0 where
   pub meant : HasMeaning core e
   pub not_full : ¬ AsksFullBook core e
   pub not_later : ¬ IsToldLater core e
 
--- a board's reply, as the core tells it; none is NotYet
+-- the core's answer for a board's reply; `NotYet` for none
 abbrev pub told : Option BoardReply → Answer
 told None = answer.NotYet
 told (Some board_reply.AllOut) = answer.AllOut
@@ -103,14 +104,14 @@ told (Some board_reply.Stopped) = answer.Stopped
 abbrev pub IsReport : Inputs → Answer → Type 0
 IsReport s a = ((bytes : Vec ℕ) × (a ≡ answer.Bytes bytes) × IsPlannable s × (bytes.items ≡ report_text s)) ⊎ ((name : List ℕ) × (a ≡ answer.TooLarge name) × IsRefusedBy s name)
 
--- the report of a plan, or why there is none; memory may be refused for the report
+-- the report of a plan, or why there is none; the report may run out of memory
 abbrev pub Reports : Result WholePlan RunFault → Result (Vec ℕ) RunFault → Type 0
 Reports (Ok plan) (Ok bytes) = bytes.items ≡ report_text plan.inputs
 Reports (Ok plan) (Err f) = f ≡ fault.NoMemory
 Reports (Err f) report = report ≡ Err f
 
--- what an event that has meaning is answered: by the order book, which is full at 1,000,000 entries; by the run's board; or by
--- the run's report
+-- how an event that has meaning is answered: by the order book, which is full at 1,000,000 entries; by the run's board;
+-- or by the run's report
 abbrev pub IsAnswered : Core → Event → Answer → Type 0
 IsAnswered core (event.Call desk c) a =
     (IsFull core.history × (a ≡ answer.Full))
@@ -124,7 +125,7 @@ IsAnswered core (event.Finish run who) a =
 IsAnswered core (event.GiveUp run who) a = a ≡ told (board_reply (run_inputs core run) (log_at core run) who board_call.GiveUp)
 IsAnswered core (event.Write run) a = IsReport (run_inputs core run) a
 
--- an event that has meaning is answered so, and any other is answered Nothing
+-- an event that has meaning is answered like this, and any other is answered `Nothing`
 abbrev pub IsAnswer : Core → Event → Answer → Type 0
 IsAnswer core e a = (HasMeaning core e × IsAnswered core e a) ⊎ ((¬ HasMeaning core e) × (a ≡ answer.Nothing))
 
@@ -133,7 +134,7 @@ IsAnswer core e a = (HasMeaning core e × IsAnswered core e a) ⊎ ((¬ HasMeani
 abbrev pub Step : Type 0
 Step = Event × Answer
 
--- what stands of a core's history, as its next entry would take it
+-- the reply to a snapshot of a core's history: the bookings that stand
 abbrev pub snapshot_of : Core → ℕ → Reply
 snapshot_of core front = reply.Taken (record { front = front; weeks = (supply_of core.tables).weeks; standing = standing core.history })
 
@@ -145,8 +146,8 @@ abbrev pub finish_of : ℕ → Option ℕ → BoardLog
 finish_of who None = []
 finish_of who (Some item) = entry who (board_call.Finish item) board_reply.Stored ∷ []
 
--- the core after an event and its answer: a reply is an entry of the history, a start is one and a run, and what a worker is
--- told is an entry of its run's log
+-- the core after an event and its answer: a reply adds an entry to the history, a start adds one and a run, and an
+-- answer to a worker adds an entry to its run's log
 abbrev pub after : Core → Event → Answer → Core
 after core (event.Call desk c) (answer.Replied n r) = record core { history = core.history ++ entry desk c r ∷ [] }
 after core (event.Start desk) (answer.Started run front) = record core { history = core.history ++ entry desk call.Snapshot (snapshot_of core front) ∷ []; runs = core.runs ++ record { front = front; log = [] } ∷ [] }
@@ -164,15 +165,15 @@ core_after core (x ∷ later) = core_after (after core x.0 x.1) later
 abbrev pub core_of : Tables → List Step → Core
 core_of tables steps = core_after (opened tables) steps
 
--- an event whose call, if a desk makes one, is one of the shop
+-- an event whose call, if a desk makes one, fits the shop
 abbrev pub FitsShop : Tables → Event → Type 0
 FitsShop tables (event.Call desk c) = IsSeatNumber desk → Fits (supply_of tables) c
 FitsShop tables e = Unit {0}
 
--- an event of the shop, with its answer after the steps before it
+-- an event that fits the shop, with its answer after the steps before it
 abbrev pub MayFollowSteps : Tables → List Step → Step → Type 0
 MayFollowSteps tables before x = FitsShop tables x.0 × IsAnswer (core_of tables before) x.0 x.1
 
--- a right list of events with their answers: the events are of the shop, and those before an event decide its answer
+-- a right list of events with their answers: the events fit the shop, and those before an event decide its answer
 abbrev pub IsRight : Tables → List Step → Type 0
 IsRight tables steps = EachFollows (MayFollowSteps tables) steps

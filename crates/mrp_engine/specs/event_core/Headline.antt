@@ -1,4 +1,4 @@
--- What every right list of events and answers keeps.
+-- The headline: what holds of every right list of events and answers.
 use Rattle.std.specs.Prelude.{ℕ, ◌≡◌, ◌≢◌, ◌↔◌, ◌<◌, ◌+◌, ◌==◌, ◌&&◌, ◌⊎◌, true, List, [], ◌∷◌, ◌++◌, AllPairs, length, filter, sum_by, zip}
 use Rattle.std.specs.Global.{Vec}
 use Rattle.mrp_tables.specs.Tables.{AreTables, Tables}
@@ -40,7 +40,7 @@ pub record IsEntry (h : History) (number : ℕ) (e : Entry Call Reply) : Type 0 
   pub place : h ≡ before ++ e ∷ after
   pub counted : number ≡ next_number before
 
--- an event was answered so after these steps
+-- an event was given this answer after these steps
 pub record WasAnswered (steps before : List Step) (e : Event) (a : Answer) : Type 0 where
   pub after : List Step
   pub place : steps ≡ before ++ (e, a) ∷ after
@@ -53,7 +53,8 @@ pub record WasWritten (tables : Tables) (steps : List Step) (s : Inputs) : Type 
   pub answered : WasAnswered steps before (event.Write run) (answer.Bytes bytes)
   pub inputs : s ≡ run_inputs (core_of tables before) run
 
--- an entry of the order book is of a call that was replied with its number, or of a start that was told it as the run's front
+-- an entry of the order book is that of a call that was answered with its number, or of a start that was answered with
+-- it as the run's front
 abbrev pub WasEntered : Tables → List Step → ℕ → Entry Call Reply → Type 0
 WasEntered tables steps number e =
     ((before : List Step) × WasAnswered steps before (event.Call e.who e.call) (answer.Replied number e.reply))
@@ -63,17 +64,18 @@ WasEntered tables steps number e =
 abbrev pub WasStarted : List Step → ℕ → Type 0
 WasStarted steps run = (before : List Step) × (desk : ℕ) × (front : ℕ) × WasAnswered steps before (event.Start desk) (answer.Started run front)
 
--- the operations of an item at a work centre at which an order of it stands in a week
+-- the operations of an item at a work centre that an order of it loads there in a week
 abbrev pub operations_in : Inputs → ℕ → ℕ → ℕ → Order → List Operation
 operations_in s centre week item order =
     filter (λ operation. (operation.item == item) && (operation.centre == centre) && (operation_week operation order == week)) s.tables.routings
 
--- what the orders of all items, firm and planned, take of a work centre in a week, each in its operations that stand there (APICS Dictionary: standard time)
+-- the time that the orders of all items, firm and planned, take of a work centre in a week, each for its operations
+-- that load it there (APICS Dictionary: standard time)
 abbrev pub time_of_orders : Inputs → ℕ → ℕ → ℕ
 time_of_orders s centre week =
     sum_by (λ item. sum_by (λ order. sum_by (λ operation. standard_time operation order) (operations_in s centre week item order)) (orders_in s item)) (places s)
 
--- the answers of which nothing is kept
+-- the answers that leave the core as it is
 abbrev pub ChangesNothing : Answer → Type 0
 ChangesNothing answer.Nothing = Unit {0}
 ChangesNothing answer.Full = Unit {0}
@@ -93,13 +95,14 @@ pub record Headline (tables : Tables) (steps : List Step) : Type 0 where
   pub numbered : (before : List Step) (desk n : ℕ) (c : Call) (r : Reply) → WasAnswered steps before (event.Call desk c) (answer.Replied n r) → n ≡ next_number (core_of tables before).history
   pub started : (before : List Step) (desk run front : ℕ) → WasAnswered steps before (event.Start desk) (answer.Started run front)
       → (run ≡ length (core_of tables before).runs + 1) × (front ≡ next_number (core_of tables before).history)
-  -- and each stands there under its number to the end
+  -- and each stays there under its number to the end
   pub entered : (before : List Step) (desk n : ℕ) (c : Call) (r : Reply) → WasAnswered steps before (event.Call desk c) (answer.Replied n r) → IsEntry (core_of tables steps).history n (entry desk c r)
   pub snapped : (before : List Step) (desk run front : ℕ) → WasAnswered steps before (event.Start desk) (answer.Started run front)
       → IsEntry (core_of tables steps).history front (entry desk call.Snapshot (snapshot_of (core_of tables before) front))
-  -- and no other entry stands there
+  -- and there is no other entry
   pub answered : (number : ℕ) (e : Entry Call Reply) → IsEntry (core_of tables steps).history number e → WasEntered tables steps number e
-  -- a run plans from the tables and the first entries up to the front that its start was answered, whatever came between or after
+  -- a run plans from the tables and the entries up to the front in the answer to its start, whatever came between or
+  -- after
   pub fronts : (before : List Step) (desk run front : ℕ) → WasAnswered steps before (event.Start desk) (answer.Started run front)
       → run_inputs (core_of tables steps) run ≡ inputs_at tables (core_of tables steps).history front
   -- and at no point is there a run that no desk started
@@ -112,29 +115,32 @@ pub record Headline (tables : Tables) (steps : List Step) : Type 0 where
   -- and each of its items was stored then
   pub finished : (before : List Step) (run : ℕ) (a : Answer) → WasAnswered steps before (event.Write run) a → a ≢ answer.Nothing
       → (item : ℕ) → item < length tables.items → is_stored (log_at (core_of tables before) run) item ≡ true
-  -- the log of each run's board is legal: an item is handed out where its parents are stored, and stored by the worker that it was handed to
+  -- the log of each run's board is legal: an item is handed out once its parents are stored, and stored by the worker
+  -- that it was handed to
   pub boards : (run : ℕ) → IsStarted (core_of tables steps) run → IsLegalBoard (run_inputs (core_of tables steps) run) (log_at (core_of tables steps) run)
   -- no accepted booking exceeded what was then available to promise
   pub within : (before after : History) (desk number : ℕ) (l : Line)
       → (core_of tables steps).history ≡ before ++ entry desk (call.Book l) (reply.Booked number) ∷ after → CanPromise (supply_of tables) (booked before) l.item l.quantity l.week
   -- and at no point is more promised up to a week than its supply
   pub covered : (before after : History) → (core_of tables steps).history ≡ before ++ after → IsCovered (supply_of tables) (booked before)
-  -- of each run that is written, every requirement's pegs add up to it, and every supply's, with its surplus, to the supply
+  -- in each run that is written, every requirement's pegs add up to it, and every supply's, with its surplus, to the
+  -- supply
   pub pegged : (s : Inputs) → WasWritten tables steps s → (item : ℕ) → item < count s → AddUpToRequirements s item (pegs_of s item) × AddUpToSupplies s item (pegs_of s item)
-  -- and no two requirements are of one need, and no two supplies of one source
+  -- and no two requirements have the same need, and no two supplies the same source
   pub apart : (s : Inputs) → WasWritten tables steps s → (item : ℕ) → AllPairs (λ a b. a.of ≢ b.of) (requirements s item)
   pub sources : (s : Inputs) → WasWritten tables steps s → (item : ℕ) → AllPairs (λ a b. a.of ≢ b.of) (supplies s item)
-  -- and every work centre's load in a week is the standard minutes, in thousandths, of the orders that stand there
+  -- and every work centre's load in a week is the standard minutes, in thousandths, of the orders that load it
   pub loaded : (s : Inputs) → WasWritten tables steps s → (centre week : ℕ) → load s centre week ≡ time_of_orders s centre week
-  -- an event is answered Nothing exactly where it has no meaning, and anything else where it has one
+  -- an event is answered `Nothing` exactly if it has no meaning, and anything else if it has one
   pub meaning : (before : List Step) (e : Event) (a : Answer) → WasAnswered steps before e a → (a ≡ answer.Nothing) ↔ (¬ HasMeaning (core_of tables before) e)
   pub meant : (before : List Step) (e : Event) (a : Answer) → WasAnswered steps before e a → (a ≢ answer.Nothing) ↔ HasMeaning (core_of tables before) e
-  -- it changes nothing where it has none, nor where the book is full, the run is not ready, or a run is written
+  -- an event without meaning changes nothing, nor does one if the book is full, the run is not ready, or a
+  -- run is written
   pub unchanged : (before : List Step) (e : Event) (a : Answer) → WasAnswered steps before e a → ChangesNothing a → core_of tables (before ++ (e, a) ∷ []) ≡ core_of tables before
-  -- a call or a start is answered that the order book is full exactly where it has its limit of entries
+  -- a call or a start is answered `Full` exactly if the order book has its limit of entries
   pub full : (before : List Step) (e : Event) (a : Answer) → WasAnswered steps before e a → (a ≡ answer.Full) ↔ AsksFullBook (core_of tables before) e
 
--- what a run of the core answers to events: one answer each, and right
+-- the answers of a new core to events: one for each, and right
 pub record RunsRight (tables : Tables) (events : List Event) (answers : List Answer) : Type 0 where
   pub each : length answers ≡ length events
   pub right : IsRight tables (zip events answers)

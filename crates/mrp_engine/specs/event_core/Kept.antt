@@ -1,11 +1,11 @@
--- What a board keeps beside what contracts see.
+-- What a board keeps besides what contracts see.
 use Rattle.std.specs.Prelude.{ℕ, ◌≡◌, Bool, true, false, List, [], Option, Some, None, is_some, length}
 use Rattle.std.specs.List.{slice_index_or}
 use Rattle.mrp_item.specs.Inputs.{Inputs, count}
 use Rattle.mrp_explode.specs.Finished.{Progress, IsReady}
 use Rattle.mrp_engine.specs.event_core.Board.{BoardLog, IsLegalBoard, RunLog, has_stopped, held, is_out, is_out_to, is_stored}
 
--- the marks of a board are those of its log; the parents of what is out are stored
+-- the marks of a board are those of its log; the parents of the items that are out are stored
 pub record KeepsLog (finished : Progress) (out : List Bool) (stopped : Bool) (log : BoardLog) : Type 0 where
   pub size : length out ≡ count finished.inputs
   pub out_is : (item : ℕ) → slice_index_or out item false ≡ is_out log item

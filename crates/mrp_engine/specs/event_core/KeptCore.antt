@@ -1,4 +1,4 @@
--- What a core keeps beside what contracts see.
+-- What a core keeps besides what contracts see.
 use Rattle.std.specs.Prelude.{◌≡◌, ◌≤◌, length, map, All}
 use Rattle.mrp_tables.specs.Tables.{Tables}
 use Rattle.mrp_master.specs.Supply.{supply_of}
@@ -14,7 +14,7 @@ pub record FollowsHistory (tables : Tables) (h : History) (run : RunLog) : Type 
   pub before : run.inputs.front ≤ length h
   pub board : KeepsBoard run.inputs run.log
 
--- a run, as a core tells it
+-- a run as a core shows it
 abbrev pub brief : RunLog → Run
 brief r = record { front = r.inputs.front; log = r.log }
 

@@ -1,4 +1,4 @@
--- What a run keeps beside what contracts see.
+-- What a run keeps besides what contracts see.
 use Rattle.mrp_master.specs.Supply.{supply_of}
 use Rattle.mrp_book.specs.Booked.{AreBooked}
 use Rattle.mrp_item.specs.Inputs.{inputs_of}
@@ -9,7 +9,7 @@ use Rattle.mrp_engine.specs.event_core.Kept.{IsBoardOf, log_of}
 abbrev pub run_view : Inside → RunLog
 run_view r = record { inputs = inputs_of r.rows.value.tables r.snapshot; log = log_of r.board }
 
--- what a run plans from is of the shop, and its board plans from that
+-- a run's inputs are of the shop, and its board plans from them
 pub record KeepsRun (r : Inside) : Type 0 where
   pub booked : AreBooked (supply_of r.rows.value.tables) r.snapshot.standing
   pub board : IsBoardOf (inputs_of r.rows.value.tables r.snapshot) r.board

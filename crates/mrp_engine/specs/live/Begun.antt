@@ -1,4 +1,4 @@
--- The work of desks: what it rests on, how it is begun, and how it ends (profile).
+-- The work of desks: what it requires, how it is begun, and how it ends (profile).
 use Rattle.std.specs.Prelude.{◌≡◌, ◌<◌, ◌≤◌, ◌-◌, ℕ, All, List, Result, Ok, Err, length, slice_index_or}
 use Rattle.std.specs.declared.thread.PromisedHandle.{PromisedHandle}
 use Rattle.std.specs.declared.thread.SpawnError.{SpawnError}
@@ -23,7 +23,7 @@ pub record HaveLists (office : TurnId Shop) (lists : List (Vec Call)) (desks : L
 abbrev pub Serves : TurnId Shop → List (Vec Call) → Desk → Served → Type 0
 Serves office lists d s = HasServed (supply_at office) (calls_at lists (d.number - 1)) d {U = Unit {0}} s.end s.desk
 
--- each of some desks has done so
+-- each of these desks has done so
 pub record EachServes (office : TurnId Shop) (lists : List (Vec Call)) (desks : List Desk) (all : List Served) : Type 0 where
   pub count : length all ≡ length desks
   pub each : (k : ℕ) (d : Desk) (s : Served) → k < length desks → Serves office lists (slice_index_or desks k d) (slice_index_or all k s)
@@ -32,13 +32,14 @@ pub record EachServes (office : TurnId Shop) (lists : List (Vec Call)) (desks : 
 abbrev pub IsDone : Duty → Served → Type 0
 IsDone duty s = HasServed (supply_at duty.office.now) duty.calls.now duty.desk.value {U = Unit {0}} s.end s.desk
 
--- how work that was begun stands once no thread is at work: a thread has done its desk's duty, and what was left is left
+-- how work that was begun stands once all threads have finished: a thread has done its desk's duty, and work that was
+-- left over is left over
 abbrev pub EndsAs : {F : Type 0} → Result (PromisedHandle Served Duty) (SpawnError F) → Result Served (SpawnError F) → Type 0
 EndsAs (Ok handle) (Ok s) = IsDone handle.promise s
 EndsAs (Ok handle) (Err left) = ⊥
 EndsAs (Err left) end = end ≡ Err left
 
--- what comes of it: what was done already, or what the work that was left gives
+-- the result of the work: what was done already, or what the work that was left over gives
 abbrev pub GivesWhat : {F : Type 0} → (F → Served → Type 0) → Result Served (SpawnError F) → Served → Type 0
 GivesWhat post (Ok done) s = s ≡ done
 GivesWhat post (Err left) s = post left.value s

@@ -14,11 +14,12 @@ asks desk calls = map (λ c. (desk, c)) calls
 abbrev pub calls_at : List (Vec Call Global) → ℕ → List Call
 calls_at lists place = listed lists place
 
--- how many calls lists have, all together
+-- how many calls the lists have in all
 abbrev pub count_in : List (Vec Call Global) → ℕ
 count_in lists = sum_by (λ list. length list.items) lists
 
--- a list for each desk from 1 on: the calls of its records in order. All together are as many as the records, so a desk without a list has none
+-- a list for each desk from 1 on: the calls of its records in order. There are as many calls as records, so a desk
+-- without a list has none
 pub record AreCallsOf (records : Script) (lists : List (Vec Call Global)) : Type 0 where
   pub each : (place : ℕ) → asks (place + 1) (calls_at lists place) ≡ asked_by (place + 1) records
   pub count : count_in lists ≡ length records

@@ -1,4 +1,4 @@
--- What desks leave that have made their calls (profile).
+-- What desks leave after their calls (profile).
 use Rattle.std.specs.Prelude.{ℕ, ◌≡◌, ◌<◌, ◌≤◌, ◌+◌, ◌++◌, ◌⊎◌, List, ◌∷◌, All, Any, Result, Ok, Err, IfErr, IsOk, OnOk, length, slice_index_or}
 use Rattle.mrp_tables.specs.declared.rows.ScriptRow.{ScriptRow}
 use Rattle.mrp_bill.specs.Shop.{Shop}

@@ -9,20 +9,20 @@ use thiserror::Error;
 /// Why a day was not written whole.
 #[derive(Clone, Copy, Debug, PartialEq, Eq, Error)]
 pub enum DayFault {
-    /// The bundle has this fault; never want of memory. Nothing was written.
+    /// The bundle has this fault, which is never out of memory. Nothing was written.
     #[error("refused")]
     Refused(Fault),
-    /// The plan of this item gets too large in the first run that is refused, and of no item above
-    /// it; it is the first such item in table order. Nothing was written.
+    /// In the first run that is refused, this is the first item in table order whose quantities get
+    /// too large while those of no item above it do. Nothing was written.
     #[error("too large")]
     TooLarge(Name),
     /// The reader failed, or passed a limit. Nothing was written.
     #[error("read failed")]
     Read,
-    /// The writer failed, or was interrupted too often. A front of the text was written.
+    /// The writer failed, or was interrupted too often. A prefix of the text has been written.
     #[error("write failed")]
     Write,
-    /// A growth of memory was refused. Nothing, or a front of the text was written.
+    /// Out of memory. Nothing, or a prefix of the text, has been written.
     #[error("no memory")]
     NoMemory,
 }
@@ -30,10 +30,10 @@ pub enum DayFault {
 /// Why the shop of a bundle was not opened.
 #[derive(Clone, Copy, Debug, PartialEq, Eq, Error)]
 pub enum OpenFault {
-    /// The bundle has this fault; it is never out of memory.
+    /// The bundle has this fault, which is never out of memory.
     #[error("refused")]
     Refused(Fault),
-    /// A growth of memory was refused.
+    /// Out of memory.
     #[error("no memory")]
     NoMemory,
 }

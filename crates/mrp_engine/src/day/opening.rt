@@ -14,7 +14,7 @@ use mrp_tables::limits::MOST_ITEMS;
 use std::alloc::Global;
 use std::thread::Threads;
 
-// Why a shop is not opened: for the bundle's fault, or out of memory.
+// Why a shop is not opened: the bundle's fault, or out of memory.
 fn refusal(fault: Fault) -> OpenFault
     ensures { Closes fault result }
 {
@@ -38,7 +38,7 @@ fn loop_at(path: &[usize]) -> Fault
     }
 }
 
-// Why a shop is not opened, by what refused its bill.
+// Why a shop is not opened, from the fault of its bill.
 fn bill_refusal(fault: BillFault) -> OpenFault
     requires { BeginsWithin fault }
     ensures { result ≡ bill_fault fault }
@@ -60,9 +60,10 @@ fn shop_of(alloc: Global, tables: Tables) -> Result<Shop, OpenFault>
     }
 }
 
-/// The shop of a bundle, whose tables are read in two threads where a second can be started.
+/// Opens the shop of a bundle. Its tables are read in two threads if a second one can be started.
 ///
-/// Errors: `Refused` with the bundle's first fault, the loop last, and `NoMemory`.
+/// Errors: `Refused` with the bundle's first fault, a loop in the bill last; `NoMemory` if an
+/// allocation fails.
 pub fn open_shop(rt: &impl Threads, alloc: Global, bundle: &[u8]) -> Result<Shop, OpenFault>
     ensures { Opens bundle.now result }
 {
@@ -70,7 +71,7 @@ pub fn open_shop(rt: &impl Threads, alloc: Global, bundle: &[u8]) -> Result<Shop
         Ok(sections) => sections,
         Err(fault) => return Err(refusal(fault)),
     };
-    match Tables::read_beside(rt, alloc, &sections) {
+    match Tables::read_parallel(rt, alloc, &sections) {
         Ok(tables) => shop_of(alloc, tables),
         Err(fault) => Err(refusal(fault)),
     }

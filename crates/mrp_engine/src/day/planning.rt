@@ -16,10 +16,10 @@ use std::alloc::Global;
 use std::sync::Arc;
 use std::thread::Threads;
 
-/// What a run is planned from: a shop, by its rows, and a snapshot of its order book, as the caller
-/// owes.
+/// The inputs of a run: the rows of a shop, and a snapshot of its order book. The caller guarantees
+/// that the snapshot is of that shop.
 ///
-/// Errors: `NoMemory` where memory is refused.
+/// Errors: `NoMemory` if an allocation fails.
 pub fn inputs_of(
     alloc: Global,
     rows: &Arc<ShopRows>,
@@ -31,10 +31,12 @@ pub fn inputs_of(
     Inputs::over(alloc, rows.clone()?, snapshot.copy()?)
 }
 
-/// The plan of a run: of a shop, by its rows, and a snapshot of its order book, as the caller owes. The
-/// items of a low-level code are planned side by side where there are enough of them.
+/// The plan of a run, from the rows of a shop and a snapshot of its order book. The caller guarantees that
+/// the snapshot is of that shop. The items of a low-level code are planned in parallel if there are enough of
+/// them.
 ///
-/// Errors: `TooLarge` with the first item in table order that gets too large, and `NoMemory`.
+/// Errors: `NoMemory` if an allocation fails; otherwise `TooLarge` with the first item in table
+/// order whose quantities get too large while those of no item above it do.
 pub fn plan_run(
     rt: &(impl Threads + Sync),
     alloc: Global,
@@ -48,7 +50,7 @@ pub fn plan_run(
     explode_levels(rt, alloc, &inputs)
 }
 
-/// The name of an item that refuses the plan of its inputs.
+/// The name of the item that makes the plan of its inputs too large, by its place in the table.
 pub fn name_of(inputs: &Inputs, item: usize) -> Name
     requires { plan_of inputs.now ≡ Err item }
     ensures { result ≡ (item_at inputs.now item).name }

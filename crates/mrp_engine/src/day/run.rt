@@ -1,4 +1,4 @@
-//! A day: from a bundle, or a reader's, to a writer's history and reports.
+//! Making a day: from a bundle, or a reader of one, to the history and the reports on a writer.
 
 ghost use Rattle.std.specs.Prelude.{◌≡◌, ◌≤◌, IfOk, Some, ⊤, vec_len};
 ghost use Rattle.std.specs.Int.{IsInRange};
@@ -24,12 +24,12 @@ use std::sync::Arc;
 use std::thread;
 use std::thread::Threads;
 
-/// The most workers of a day.
+/// The most workers that make the rows of a report.
 pub const MOST_WORKERS: u64 = mrp_report::MOST_WORKERS;
 
-// Answers a shop's script record by record, and groups its rows beside that, in a thread of their own where one can be
-// started.
-fn answer_beside_rows(
+// Answers a shop's script record by record, and meanwhile groups its rows, in a thread of their own if one
+// can be started.
+fn answer_with_rows(
     rt: &impl Threads,
     alloc: Global,
     shop: &Arc<Shop>,
@@ -51,27 +51,27 @@ fn answer_beside_rows(
     Ok((history, rows))
 }
 
-// Answers a shop's script record by record, and plans the runs of it.
+// Answers a shop's script record by record, and plans its runs.
 fn plan_day(rt: &(impl Alloc + Threads + Sync), alloc: Global, shop: Shop) -> Result<Day, DayFault>
     ensures { PlansDay AnswersScript shop.tables result }
 {
     let shop = Arc::new(alloc, shop)?;
-    let (history, rows) = answer_beside_rows(rt, alloc, &shop)?;
+    let (history, rows) = answer_with_rows(rt, alloc, &shop)?;
     plan_history(rt, alloc, rows, history)
 }
 
-/// Answers the script of a bundle, plans its runs, and writes the history and the report of each run.
-/// Nothing is written before every run is planned. The bundle is of at most 67,108,864 bytes, as the
-/// caller owes, and its bytes are given up once its shop is open.
+/// Answers the script of a bundle, plans its runs, and writes the history and the report of each run. Nothing
+/// is written before every run is planned. The caller guarantees that the bundle has at most 67,108,864
+/// bytes; they are dropped once its shop is open.
 ///
-/// The tables are read in two threads, and the rows of the shop are grouped in one beside that which
-/// answers the script, where a second can be started. The items of a low-level code are planned side by
-/// side, and the work centres' loads are summed side by side, where there are enough of them. So many
-/// workers, 1 to 64 as the caller owes, make the rows of a report. An interrupted write is tried again.
+/// The tables are read in two threads, and one thread groups the rows of the shop while another answers the
+/// script, if a second one can be started. The items of a low-level code are planned in parallel, and the
+/// loads of work centres are summed in parallel, if there are enough of them. `workers` threads (1 to 64, as
+/// the caller guarantees) make the rows of a report. An interrupted write is tried again.
 ///
-/// Errors: `Refused` with the bundle's first fault, the loop last; `TooLarge` with the first item in
-/// table order that gets too large in the first run with such an item; `Write` where the writer failed in
-/// this call or was interrupted more than 1,000,000 times; `NoMemory` where memory was refused, and no
+/// Errors: `Refused` with the bundle's first fault, a loop in the bill last; `TooLarge` with the first item
+/// in table order whose quantities get too large in the first run with such an item; `Write` if the writer
+/// failed in this call or was interrupted more than 1,000,000 times; `NoMemory` if an allocation fails and no
 /// write failed; never `Read`.
 pub fn run_bundle<W: Write>(
     rt: &(impl Alloc + Threads + Sync),
@@ -90,11 +90,11 @@ pub fn run_bundle<W: Write>(
     write_day(rt, alloc, day, writer, workers)
 }
 
-/// Reads a bundle to its end, and makes its day as [`run_bundle`] does. An interrupted read is tried
+/// Reads a bundle to its end, and makes its day like [`run_bundle`]. An interrupted read is tried
 /// again.
 ///
-/// Errors: as of `run_bundle`; also `Read` where the reader failed in this call, needed more than
-/// 100,000,000 calls or gave more than 67,108,864 bytes; `NoMemory` where memory was refused, and no
+/// Errors: those of `run_bundle`; also `Read` if the reader failed in this call, needed more than
+/// 100,000,000 calls or gave more than 67,108,864 bytes; `NoMemory` if an allocation fails and no
 /// read or write failed.
 pub fn run_day<R: Read, W: Write>(
     rt: &(impl Alloc + Threads + Sync),

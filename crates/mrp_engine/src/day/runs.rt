@@ -18,7 +18,7 @@ use std::alloc::Global;
 use std::sync::Arc;
 use std::thread::Threads;
 
-// Why a day is refused, by why a run of its shop has no plan: with the name of the item that gets too large.
+// Why a day is refused, from why a run of its shop has no plan; an item that gets too large is named.
 fn refusal(shop: &Shop, fault: RunFault) -> DayFault
     requires { (item : ℕ) → fault ≡ RunFault.TooLarge item → item < length shop.now.tables.items }
     ensures { (s : Inputs) → s.tables ≡ shop.now.tables → result ≡ run_fault s fault }
@@ -45,11 +45,12 @@ fn plan_or_refuse(
     }
 }
 
-/// The plans of a history's runs, in order of entries, each from the snapshot that its entry was
-/// answered, all over the rows of one shop. The caller owes a history of an equal shop.
+/// The plans of a history's runs, in order of entries, each from the snapshot in its entry's reply,
+/// all over the rows of one shop. The caller guarantees that the history has the supply of the
+/// shop.
 ///
-/// Errors: `TooLarge` with the first item in table order that gets too large in the first run with
-/// such an item, and `NoMemory`.
+/// Errors: `TooLarge` with the first item in table order whose quantities get too large in the
+/// first run with such an item; `NoMemory` if an allocation fails.
 pub fn plan_runs(
     rt: &(impl Threads + Sync),
     alloc: Global,

@@ -18,8 +18,8 @@ use std::alloc::Global;
 /// The desk whose run is added to a script without one.
 pub const ADDED_DESK: u64 = 1;
 
-/// A call of a shop's script, as the order book takes it: a run asks for a snapshot. The caller owes
-/// that it fits the shop.
+/// A call of a shop's script as a call on the order book: a run takes a snapshot. The caller
+/// guarantees that the call fits the shop.
 pub fn call_of(shop: &Shop, call: ScriptCall) -> Call
     requires { Fits (supply_of shop.now.tables) (call_of call) }
     ensures { result ≡ call_of call }
@@ -46,8 +46,8 @@ fn has_run(script: &[ScriptRow]) -> bool
     script.iter().any(|row| matches!(row.call, ScriptCall::Run))
 }
 
-/// The call that is added at the end of a script without a run, and its desk: a run of desk 1. None is
-/// added to a script with a run.
+/// The desk and the call that are added at the end of a script without a run: a run of desk 1. `None` for a
+/// script with a run.
 pub fn added_run(script: &[ScriptRow]) -> Option<(u64, Call)>
     ensures none { result ≡ None → with_run (map record_of script.now) ≡ map record_of script.now }
     ensures run { IfSome result (λ run. run ≡ (ADDED_DESK, Call.Snapshot)) }
@@ -60,9 +60,9 @@ pub fn added_run(script: &[ScriptRow]) -> Option<(u64, Call)>
     }
 }
 
-/// Makes one more entry of a book that is not full.
+/// Answers a call of a desk in a book that is not full, which makes one more entry.
 ///
-/// Errors: `NoMemory` where memory is refused.
+/// Errors: `NoMemory` if an allocation fails.
 pub fn answer(alloc: Global, book: &mut Book, desk: u64, call: Call) -> Result<(), NoMemory>
     requires desk { IsInRange 1 MOST_DESKS desk }
     requires fits { Fits book.old.supply call }
@@ -80,7 +80,7 @@ pub fn answer(alloc: Global, book: &mut Book, desk: u64, call: Call) -> Result<(
 /// The history that answers a shop's script, record by record. A script without a run is taken with
 /// one more record at its end, a run of desk 1.
 ///
-/// Errors: `NoMemory` where memory is refused.
+/// Errors: `NoMemory` if an allocation fails.
 pub fn answer_script(alloc: Global, shop: &Shop) -> Result<History, NoMemory>
     ensures supply { IfOk result (λ h. h.supply ≡ supply_of shop.now.tables) }
     ensures answers { IfOk result (λ h. AnswersScript shop.now.tables h.entries) }

@@ -1,4 +1,4 @@
-//! The text of a day, written.
+//! Writing the text of a day.
 
 ghost use Rattle.std.specs.Prelude.{flat_map};
 ghost use Rattle.std.specs.Int.{IsInRange};
@@ -16,7 +16,7 @@ use std::alloc::Global;
 use std::io::Write;
 use std::thread::Threads;
 
-// Writes the reports of plans, one after the other.
+// Writes the reports of plans in order.
 fn write_reports<W: Write>(
     rt: &(impl Alloc + Threads + Sync),
     alloc: Global,
@@ -49,12 +49,11 @@ fn write_texts<W: Write>(
     write_reports(rt, alloc, &day.plans, writer, workers)
 }
 
-/// Writes a planned day, which is given up: the history, and then the report of each of its runs, whose
-/// rows so many workers make, 1 to 64 as the caller owes.
+/// Writes a planned day, and consumes it: the history, and then the report of each run. `workers` threads (1
+/// to 64, as the caller guarantees) make the rows of a report.
 ///
-/// Errors: `Write` where a write failed in this call, or more than 1,000,000 were interrupted in the
-/// history or in a report, and `NoMemory` where a growth of memory was refused, and no write failed. A
-/// front of the text was written then.
+/// Errors: `Write` if a write failed in this call, or more than 1,000,000 were interrupted in the history or
+/// in one report; otherwise `NoMemory` if an allocation fails. A prefix of the text has been written then.
 pub fn write_day<W: Write>(
     rt: &(impl Alloc + Threads + Sync),
     alloc: Global,

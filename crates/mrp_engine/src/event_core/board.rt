@@ -16,22 +16,22 @@ use std::sync::Arc;
 pub enum BoardCall {
     /// Take an item whose parents are all stored.
     Take,
-    /// Store the outcome of this item.
+    /// Plan this item, and store its outcome.
     Finish(usize),
-    /// Stop the run: no item is handed out after it.
+    /// Stop the run: no item is handed out any more.
     GiveUp,
 }
 
 /// What a board replied.
 #[derive(Clone, Copy, Debug, PartialEq, Eq)]
 pub enum BoardReply {
-    /// Every item was handed out, or somebody gave up.
+    /// Every item was handed out, or a worker gave up the run.
     AllOut,
     /// This item is the worker's.
     Item(usize),
     /// The outcome is stored.
     Stored,
-    /// The item is not out with the worker.
+    /// The worker does not hold the item.
     NotOut,
     /// The run has stopped.
     Stopped,
@@ -47,7 +47,7 @@ fn item_in(reply: BoardReply) -> Option<usize>
     }
 }
 
-/// The board of a run, with its log. Contracts see what the run plans from, and the log.
+/// The board of a run, with its log. Contracts see the inputs of the run, and the log.
 #[derive(Drop)]
 pub struct Board {
     finished: Finished,
@@ -77,9 +77,9 @@ impl Board {
     ghost use Rattle.std.specs.Option.{option_copied};
     ghost use Rattle.mrp_engine.specs.event_core.Board.{board_reply, held, is_at_end, is_finished, is_out, is_ready, last_by, taken};
 
-    /// The board of a run that plans from these inputs, without an entry.
+    /// The board of a run that plans from these inputs, with an empty log.
     ///
-    /// Errors: `NoMemory` where memory is refused.
+    /// Errors: `NoMemory` if an allocation fails.
     pub fn open(alloc: Global, inputs: &Arc<Inputs>) -> Result<Board, NoMemory>
         ensures { IfOk result (λ b. b ≡ record { inputs = inputs.now.value; log = [] }) }
     {
@@ -152,7 +152,7 @@ impl Board {
         (0..self.out.len()).all(|item| self.is_out(item))
     }
 
-    // Whether every item was handed out, or somebody gave up.
+    // Whether every item was handed out, or a worker gave up the run.
     fn is_at_end(&self) -> bool
         ensures { result ≡ is_at_end self.now.inputs self.now.log }
     {
@@ -166,7 +166,7 @@ impl Board {
         (0..self.out.len()).all(|item| self.finished.is_finished(item))
     }
 
-    // Makes the entry of a worker that finds nothing left.
+    // Makes the entry of a worker for which no item is left.
     fn end(&mut self, worker: u64) -> Result<(), NoMemory>
         ensures entry { OnOk result (self.new ≡ record self.old { log = self.old.log ++ entry worker BoardCall.Take BoardReply.AllOut ∷ [] }) }
         ensures refused { OnErr result (self.new ≡ self.old) }
@@ -197,11 +197,11 @@ impl Board {
         Ok(())
     }
 
-    /// Answers a worker that takes, and makes an entry of it; None where it is told to come again,
-    /// and nothing changes.
+    /// Answers a worker that asks for an item, and makes an entry of it. `None` if no item is ready
+    /// yet; nothing changes then.
     ///
-    /// Errors: `NoMemory` where memory is refused, and it is not told to come again. Nothing has
-    /// changed then.
+    /// Errors: `NoMemory` if an allocation fails, never where the result would be `None`. Nothing
+    /// has changed then.
     pub fn take(&mut self, worker: u64) -> Result<Option<BoardReply>, NoMemory>
         ensures reply { IfOk result (λ reply. reply ≡ board_reply self.old.inputs self.old.log worker BoardCall.Take) }
         ensures entry { IfOk result (λ reply. self.new ≡ record self.old { log = self.old.log ++ taken worker reply }) }
@@ -221,7 +221,7 @@ impl Board {
 
     /// Plans the item that a worker holds, and stores its outcome.
     ///
-    /// Errors: `NoMemory` where memory is refused. Nothing has changed then.
+    /// Errors: `NoMemory` if an allocation fails. Nothing has changed then.
     pub fn finish(&mut self, alloc: Global, worker: u64, item: usize) -> Result<(), NoMemory>
         requires { held worker self.old.log ≡ Some item }
         ensures entry { OnOk result (self.new ≡ record self.old { log = self.old.log ++ entry worker (BoardCall.Finish item) BoardReply.Stored ∷ [] }) }
@@ -237,9 +237,9 @@ impl Board {
         Ok(())
     }
 
-    /// A worker gives up.
+    /// A worker gives up the run.
     ///
-    /// Errors: `NoMemory` where memory is refused. Nothing has changed then.
+    /// Errors: `NoMemory` if an allocation fails. Nothing has changed then.
     pub fn give_up(&mut self, worker: u64) -> Result<(), NoMemory>
         ensures entry { OnOk result (self.new ≡ record self.old { log = self.old.log ++ entry worker BoardCall.GiveUp BoardReply.Stopped ∷ [] }) }
         ensures refused { OnErr result (self.new ≡ self.old) }
@@ -256,8 +256,8 @@ impl Board {
 
     /// The plan of all items, each of which is stored.
     ///
-    /// Errors: `NoMemory` where memory is refused, and `TooLarge` with the first item in table order
-    /// that gets too large where none above it does.
+    /// Errors: `NoMemory` if an allocation fails; `TooLarge` with the first item in table order
+    /// whose quantities get too large while those of no item above it do.
     pub fn plan(&self, alloc: Global) -> Result<Plan, RunFault>
         requires { is_finished self.now.inputs self.now.log ≡ true }
         ensures { Explodes self.now.inputs result }

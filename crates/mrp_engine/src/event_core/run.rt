@@ -1,4 +1,4 @@
-//! A run that was started.
+//! A run that has been started.
 
 ghost use Rattle.std.specs.Prelude.{◌≡◌, ℕ, Ok, Err, IfOk, IsErr, OnErr, OnOk, Some, None};
 ghost use Rattle.std.specs.Global.{Vec};
@@ -26,8 +26,8 @@ use std::marker::Model;
 use std::sync::Arc;
 use std::thread::Threads;
 
-/// A run: what it plans from, and its board, which is made where it is first asked for. Contracts
-/// see what the run plans from, and the board's log.
+/// A run: its inputs, and its board, which is made when it is first needed. Contracts see the run's
+/// inputs, and the board's log.
 #[derive(Drop)]
 pub struct Run {
     rows: Arc<ShopRows>,
@@ -93,7 +93,7 @@ fn reported(
     Ok(report_of(rt, alloc, &plan)?)
 }
 
-// What a core answers of a run's report, or of why it has none. It takes no memory.
+// The core's answer for a run's report, or for why it has none. It takes no memory.
 fn answer_of(inputs: &Inputs, report: Result<Vec<u8>, RunFault>) -> Result<Answer, NoMemory>
     requires { (item : ℕ) → report ≡ Err (fault.TooLarge item) → plan_of inputs.now ≡ Err item }
     ensures bytes { (bytes : Vec ℕ) → report ≡ Ok bytes → result ≡ Ok (answer.Bytes bytes) }
@@ -119,7 +119,8 @@ impl Run {
     ghost use Rattle.mrp_engine.specs.event_core.Board.{board_reply, held, is_finished, taken};
     ghost use Rattle.mrp_engine.specs.event_core.Core.{IsReport, finish_of, told};
 
-    /// A run of a shop, by its rows, and a snapshot of its order book, as the caller owes.
+    /// A run over the rows of a shop and a snapshot of its order book. The caller guarantees that
+    /// the snapshot is of that shop.
     pub fn new(rows: Arc<ShopRows>, snapshot: Snapshot) -> Run
         requires { AreBooked (supply_of rows.value.tables) snapshot.standing }
         ensures { result ≡ record { inputs = inputs_of rows.value.tables snapshot; log = [] } }
@@ -141,17 +142,17 @@ impl Run {
         }
     }
 
-    /// Answers a worker that takes.
+    /// Answers a worker that asks for an item.
     ///
-    /// Errors: `NoMemory` where memory is refused, and it is not told to come again. Nothing has
-    /// changed then.
+    /// Errors: `NoMemory` if an allocation fails, never where the answer would be `NotYet`. Nothing
+    /// has changed then.
     pub fn take(&mut self, alloc: Global, worker: u64) -> Result<Answer, NoMemory>
         ensures answer { IfOk result (λ a. a ≡ told (board_reply self.old.inputs self.old.log worker call.Take)) }
         ensures entry { OnOk result (self.new ≡ record self.old { log = self.old.log ++ taken worker (board_reply self.old.inputs self.old.log worker call.Take) }) }
         ensures refused { OnErr result (self.new ≡ self.old) }
         ensures memory { OnErr result (board_reply self.old.inputs self.old.log worker call.Take ≢ None) }
     {
-        // No item needs itself, so of a new board some item can be taken, if there are any.
+        // No item needs itself, so some item of a new board can be taken, if there are any.
         let _shop = self.rows.shop().tables();
         begin(alloc, &self.rows, &self.snapshot, &mut self.board)?;
         match &mut self.board {
@@ -162,7 +163,7 @@ impl Run {
 
     /// Plans and stores the item that a worker holds.
     ///
-    /// Errors: `NoMemory` where memory is refused, and the worker holds an item. Nothing has changed
+    /// Errors: `NoMemory` if the worker holds an item and an allocation fails. Nothing has changed
     /// then.
     pub fn finish(&mut self, alloc: Global, worker: u64) -> Result<Answer, NoMemory>
         ensures held { IfOk result (λ a. IsSome (held worker self.old.log) → a ≡ answer.Stored) }
@@ -181,9 +182,9 @@ impl Run {
         Ok(Answer::Stored)
     }
 
-    /// A worker gives up.
+    /// A worker gives up the run.
     ///
-    /// Errors: `NoMemory` where memory is refused. Nothing has changed then.
+    /// Errors: `NoMemory` if an allocation fails. Nothing has changed then.
     pub fn give_up(&mut self, alloc: Global, worker: u64) -> Result<(), NoMemory>
         ensures entry { OnOk result (self.new ≡ record self.old { log = self.old.log ++ entry worker call.GiveUp reply.Stopped ∷ [] }) }
         ensures refused { OnErr result (self.new ≡ self.old) }
@@ -205,9 +206,10 @@ impl Run {
         }
     }
 
-    /// The report of a run whose items are all stored.
+    /// The report of a run, if all its items are stored.
     ///
-    /// Errors: `NoMemory` where memory is refused, and they are. Nothing has changed then.
+    /// Errors: `NoMemory` if all items are stored and an allocation fails. Nothing has changed
+    /// then.
     pub fn write(
         &mut self,
         rt: &(impl Alloc + Threads + Sync),
@@ -229,7 +231,7 @@ impl Run {
     }
 }
 
-// A board's reply, as a core tells it.
+// The core's answer for a board's reply.
 fn told(reply: Option<BoardReply>) -> Answer
     ensures { result ≡ told reply }
 {

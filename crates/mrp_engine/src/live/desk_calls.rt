@@ -14,7 +14,7 @@ use mrp_qty::NoMemory;
 use mrp_tables::ScriptRow;
 use std::alloc::Global;
 
-// Puts a call at the end of its desk's list.
+// Appends a call to its desk's list.
 fn append_call(lists: &mut Vec<Vec<Call>>, desk: u64, call: Call) -> Result<(), NoMemory>
     requires { (1 ≤ desk) × (desk ≤ length lists.old.items) }
     ensures { OnOk result (Appends lists.old.items lists.new.items (desk - 1) call) }
@@ -22,10 +22,11 @@ fn append_call(lists: &mut Vec<Vec<Call>>, desk: u64, call: Call) -> Result<(), 
     append(lists, desk as usize - 1, call)
 }
 
-/// The calls of a shop's script, put in lists of so many desks in one pass: each desk's are those of
-/// its records, in order.
+/// The calls of a shop's script in a list for each desk, made in one pass: a desk's list has the
+/// calls of its records, in order. The caller guarantees that the desks of the script are numbered
+/// from 1 to `desks`.
 ///
-/// Errors: `NoMemory` where memory is refused.
+/// Errors: `NoMemory` if an allocation fails.
 pub fn calls_by_desk(
     alloc: Global,
     shop: &Shop,

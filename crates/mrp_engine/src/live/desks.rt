@@ -1,4 +1,4 @@
-//! The history that desks make beside one another.
+//! The history that desks make concurrently.
 
 ghost use Rattle.std.specs.Prelude.{◌≡◌, ◌<◌, ◌≤◌, ◌+◌, All, [], Err, IfOk, Ok, OnErr, length, map};
 ghost use Rattle.mrp_book.specs.declared.refused.Refused.TheVariants as refused;
@@ -53,7 +53,8 @@ fn open(alloc: Global, shop: Shop) -> Result<(Office, Vec<Desk>), NoMemory>
     }
 }
 
-// The desks, and how their calls ended: as those of the first that was refused one.
+// The desks, and how their calls ended: with the refusal of the first desk that had one, or without
+// any.
 fn parted(alloc: Global, all: Vec<Served>) -> Result<(Vec<Desk>, Result<(), Refused>), NoMemory>
     ensures desks { IfOk result (λ r. r.0.items ≡ map (λ s. s.desk) all.items) }
     ensures end { IfOk result (λ r. EndAs all.items r.1) }
@@ -70,7 +71,7 @@ fn parted(alloc: Global, all: Vec<Served>) -> Result<(Vec<Desk>, Result<(), Refu
     Ok((desks, end))
 }
 
-// Has the desks of an office, which have made no call yet, make those of their records.
+// Has the desks of an office, which have made no calls yet, make the calls of their records.
 fn serve_script<R: Threads + Wait + Sync, G: Gate + Sync>(
     rt: &R,
     alloc: Global,
@@ -92,7 +93,7 @@ fn serve_script<R: Threads + Wait + Sync, G: Gate + Sync>(
     parted(alloc, all)
 }
 
-// Adds a run to a script without one: the last call of all, by the first desk.
+// Adds a run to a script without one: the last call, by the first desk.
 fn add_run<R: Wait>(
     rt: &R,
     office: &Office,
@@ -112,7 +113,7 @@ fn add_run<R: Wait>(
     Ok(())
 }
 
-// Ends an office whose desks have made the calls of their records, and gives its history.
+// Closes an office whose desks have made the calls of their records, and returns its history.
 fn close(office: Office, desks: Vec<Desk>, end: Result<(), Refused>) -> Result<History, NoMemory>
     requires desks { AreDesksOf office desks.items }
     requires served { HaveServed (with_run (script_of office.about.object.tables)) desks.items end }
@@ -121,7 +122,7 @@ fn close(office: Office, desks: Vec<Desk>, end: Result<(), Refused>) -> Result<H
     requires few { length office.about.object.tables.script + 1 < MOST_ENTRIES }
     ensures supply { IfOk result (λ h. h.supply ≡ supply_at office) }
     ensures answers { IfOk result (λ h. AnswersDesks office.about.object.tables h.entries) }
-    // It is refused memory only where a desk was.
+    // It is out of memory only if a desk was.
     ensures refused { OnErr result (end ≡ Err refused.NoMemory) }
 {
     let history = office.close(desks);
@@ -132,13 +133,13 @@ fn close(office: Office, desks: Vec<Desk>, end: Result<(), Refused>) -> Result<H
     }
 }
 
-/// The history that a shop's desks make, each in a thread of its own where one can be started: it
-/// makes the calls of its records in order and passes the gate before each, by its number. Desks
-/// without a thread make theirs in the caller's, one after the other, once all that have one have
-/// ended. A script without a run is taken with one more call, a run of desk 1, after all others,
-/// which passes no gate.
+/// The history that a shop's desks make, each in a thread of its own if one can be started. A desk
+/// makes the calls of its records in order, and passes the gate with its number before each. Desks
+/// without a thread run one by one in the caller's thread, after all threaded desks have finished.
+/// A script without a run is taken with one more call after all others, a run of desk 1, which
+/// passes no gate.
 ///
-/// Errors: `NoMemory` where memory is refused.
+/// Errors: `NoMemory` if an allocation fails.
 pub fn answer_by_desks<R: Threads + Wait + Sync, G: Gate + Sync>(
     rt: &R,
     alloc: Global,

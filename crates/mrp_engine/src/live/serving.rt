@@ -11,17 +11,18 @@ use mrp_desk::{Desk, Office};
 use mrp_explode::Gate;
 use std::sync::Wait;
 
-/// A desk after its calls, and how they ended: at the first that was refused, or all were answered.
+/// A desk after its calls, and how they ended: all were answered, or they stopped at the first that
+/// was refused.
 #[derive(Drop)]
 pub struct Served {
     pub desk: Desk,
     pub end: Result<(), Refused>,
 }
 
-/// Makes a call of a desk: the entry's number, and the reply. The caller owes a call of the shop and a
-/// desk of the office.
+/// Makes a call of a desk, and returns the entry's number and the reply. The caller guarantees that the call
+/// fits the shop and that the desk is of the office.
 ///
-/// Errors: as of the office's calls. No entry was made then.
+/// Errors: those of the office's calls. No entry has been made then.
 pub fn make<R: Wait>(
     rt: &R,
     office: &Office,
@@ -42,7 +43,7 @@ pub fn make<R: Wait>(
     }
 }
 
-/// Makes calls of a desk, in order, and passes the gate before each.
+/// Makes the calls of a desk in order, and passes the gate before each.
 pub fn serve<R: Wait, G: Gate>(
     rt: &R,
     office: &Office,

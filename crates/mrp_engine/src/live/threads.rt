@@ -1,4 +1,4 @@
-//! Desks that make their calls beside one another, each in a thread of its own where one can be started.
+//! Desks that make their calls concurrently, each in a thread of its own if one can be started.
 
 ghost use Rattle.std.specs.Prelude.{◌≡◌, ◌<◌, ◌≤◌, All, [], ℕ, IfErr, IfOk, length, slice_index_or, vec_capacity};
 ghost use Rattle.mrp_book.specs.History.{Fits};
@@ -17,7 +17,7 @@ use std::sync::Wait;
 use std::thread;
 use std::thread::{Promise, PromisedHandle, Scope, SpawnError, Threads};
 
-// What a desk is there for: calls, at an office.
+// What a desk has to do: make these calls at an office.
 #[derive(Drop)]
 struct Duty<'a> {
     office: &'a Office,
@@ -29,13 +29,14 @@ impl<'a> Promise<Served> for Duty<'a> {
     ghost kept_by = { IsDone };
 }
 
-// The work of a desk that was begun: by its thread, or left where none could be started.
+// The work of a desk once threads are started: begun by its thread, or left over if none could be
+// started.
 type Begun<'a, F> = Result<PromisedHandle<Served, Duty<'a>>, SpawnError<F>>;
 
-// The same once no thread is at work: done, or left.
+// The same once all threads have finished: done, or left over.
 type Ended<F> = Result<Served, SpawnError<F>>;
 
-// Waits for every thread. What is left stays so.
+// Waits for every thread. Work that is left over stays so.
 fn join_all<'a, R: Threads, F: FnOnce() -> Served + Drop>(
     rt: &R,
     begun: Vec<Begun<'a, F>>,
@@ -56,7 +57,7 @@ fn join_all<'a, R: Threads, F: FnOnce() -> Served + Drop>(
     ended
 }
 
-// Does what is left, one after the other.
+// Does the work that is left over, one desk at a time.
 fn do_left<F: FnOnce() -> Served + Drop>(ended: Vec<Ended<F>>, mut all: Vec<Served>) -> Vec<Served>
     requires room { length ended.items ≤ vec_capacity all }
     requires none { all.items ≡ [] }
@@ -73,9 +74,9 @@ fn do_left<F: FnOnce() -> Served + Drop>(ended: Vec<Ended<F>>, mut all: Vec<Serv
     all
 }
 
-// Has each desk make the calls of its list: in a thread of the scope, or here, once all threads have ended,
-// where none can be started. Room for all is made before the first thread is asked for, so no thread is left
-// running for want of memory.
+// Has each desk make the calls of its list, in a thread of the scope, or, if none can be started, here after
+// all threads have finished. Memory is reserved before the first thread is started, so none is left running
+// when memory runs out.
 fn serve_in<'a, E, R: Threads + Wait + Sync, G: Gate + Sync>(
     scope: &Scope<'a, E>,
     rt: &'a R,
@@ -108,10 +109,10 @@ fn serve_in<'a, E, R: Threads + Wait + Sync, G: Gate + Sync>(
     Ok(do_left(join_all(rt, begun, ended), all))
 }
 
-/// Has each desk make the calls of its list, in a thread of its own. Where none can be started for a
-/// desk, this thread makes its calls, once all desks that have a thread have ended.
+/// Has each desk make the calls of its list in a thread of its own. Desks for which none can be
+/// started run in this thread, after all threaded desks have finished.
 ///
-/// Errors: `AllocError` where memory is refused; then no desk has begun.
+/// Errors: `AllocError` if an allocation fails; no desk has begun then.
 pub fn serve_all<'a, R: Threads + Wait + Sync, G: Gate + Sync>(
     rt: &'a R,
     alloc: Global,

@@ -4,7 +4,7 @@ use Rattle.mrp_tables.specs.Items.{item_at}
 use Rattle.mrp_tables.specs.Tables.{Tables}
 use Rattle.mrp_tables.specs.declared.rows.BillLine.{BillLine}
 
--- an item's name; a place that no item has gives an empty cell
+-- an item's name; an empty cell if there is no item at the place
 abbrev pub name_at : Tables → ℕ → List ℕ
 name_at t item = (item_at t.items item).name
 

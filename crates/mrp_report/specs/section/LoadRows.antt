@@ -1,4 +1,4 @@
--- What the loads say of each work centre and week.
+-- The row of each work centre and week in the section `loads`.
 use Rattle.std.specs.Prelude.{ℕ, List}
 use Rattle.mrp_phase.specs.Weeks.{row}
 use Rattle.mrp_item.specs.Inputs.{Inputs, horizon}

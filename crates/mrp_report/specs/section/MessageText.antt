@@ -9,7 +9,7 @@ use Rattle.mrp_report.specs.section.Cells.{number_cell}
 use Rattle.mrp_report.specs.page.Rows.{row}
 use Rattle.mrp_report.specs.section.SourceText.{source_name, source_word}
 
--- what is said of a supply (APICS Dictionary: action message)
+-- the word for what is said of a supply (APICS Dictionary: action message)
 abbrev pub advice_word : Advice → List ℕ
 advice_word advice.Release = codes "RELEASE"
 advice_word (advice.PastDue weeks) = codes "PAST-DUE"
@@ -17,7 +17,7 @@ advice_word (advice.Earlier week) = codes "IN"
 advice_word (advice.Later week) = codes "OUT"
 advice_word advice.Cancel = codes "CANCEL"
 
--- the weeks that it is late, or the week in which it is needed
+-- how many weeks an order is past due, or the week in which a supply is needed
 abbrev pub advice_value : Advice → Option ℕ
 advice_value advice.Release = None
 advice_value (advice.PastDue weeks) = Some weeks

@@ -5,7 +5,7 @@ use Rattle.mrp_item.specs.declared.order.OrderKind.TheVariants.{Firm, Planned}
 use Rattle.mrp_item.specs.declared.order.Order.{Order}
 use Rattle.mrp_report.specs.page.Rows.{row}
 
--- the word for who made an order
+-- the word for an order's kind: firm or planned
 abbrev pub kind_word : OrderKind → List ℕ
 kind_word Firm = codes "firm"
 kind_word Planned = codes "planned"

@@ -10,7 +10,7 @@ rows_left r = flat_map (peg_text r.names.now.tables.now r.name.now r.orders.now)
 abbrev pub count_left : PegRows → ℕ
 count_left r = length (pegs_left r.walk)
 
--- what was to come first stands behind the page now
+-- what was next is now at the end of the page
 pub record IsAdded (old new before after : List ℕ) : Type 0 where
   pub text : List ℕ
   pub put : new ≡ old ++ text

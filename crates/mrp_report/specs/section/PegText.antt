@@ -10,7 +10,8 @@ use Rattle.mrp_report.specs.section.Cells.{parent_name}
 use Rattle.mrp_report.specs.page.Rows.{row}
 use Rattle.mrp_report.specs.section.SourceText.{source_name, source_word}
 
--- what needs: the word, the number of the booking or of the parent's order, the parent, and the bill line
+-- what pieces are needed for: the word, the number of the booking or of the parent's order, the parent, and
+-- the bill line
 abbrev pub kind_cells : Tables → NeedKind → List (List ℕ)
 kind_cells t (kind.Booking number) = codes "booking" ∷ decimal number ∷ [] ∷ [] ∷ []
 kind_cells t kind.Forecast = codes "forecast" ∷ [] ∷ [] ∷ [] ∷ []

@@ -1,4 +1,4 @@
--- What a plan says of each item and week.
+-- The row of each item and week in the section `plan`.
 use Rattle.std.specs.Prelude.{ℕ, ◌-◌, if◌then◌else◌, List}
 use Rattle.mrp_phase.specs.Weeks.{row, in_week}
 use Rattle.mrp_item.specs.Inputs.{Inputs, horizon, is_master}
@@ -7,8 +7,8 @@ use Rattle.mrp_item.specs.Orders.{started_in}
 use Rattle.mrp_item.specs.Plan.{ItemPlan, balance_in}
 use Rattle.mrp_report.specs.declared.section.plan.PlanRow.{PlanRow}
 
--- an item's week: what is required, what comes in, what starts, and what is left at its end. What is scheduled for a
--- master item are its firm rows, and for another its open receipts (profile)
+-- an item's week: gross requirements, receipts, what starts, and the projected available balance at its end. What is
+-- scheduled for a master item are its firm rows, and for a part its open receipts (profile)
 abbrev pub plan_row : Inputs → ℕ → ItemPlan → ℕ → PlanRow
 plan_row s i plan week = record {
   week = week;

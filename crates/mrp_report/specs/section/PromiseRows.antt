@@ -1,4 +1,5 @@
--- What can be promised of each master item and week (APICS Dictionary: available-to-promise; profile: its exact rules).
+-- What is available to promise of each master item in each week (APICS Dictionary: available-to-promise; profile: its
+-- exact rules).
 use Rattle.std.specs.Prelude.{ℕ, List, sum_by}
 use Rattle.mrp_phase.specs.Weeks.{row}
 use Rattle.mrp_master.specs.Supply as promise
@@ -9,7 +10,7 @@ use Rattle.mrp_item.specs.Inputs.{Inputs, horizon}
 use Rattle.mrp_item.specs.Rows.{booked, firm_rows}
 use Rattle.mrp_report.specs.declared.section.promises.PromiseRow.{PromiseRow}
 
--- available to promise beside the standing bookings
+-- available to promise besides the standing bookings
 abbrev pub available : Inputs → ℕ → ℕ → ℕ
 available s i week = promise.available (supply_of s.tables) (lines_of s.standing) i week
 
@@ -17,8 +18,8 @@ available s i week = promise.available (supply_of s.tables) (lines_of s.standing
 abbrev pub promises_of : Inputs → ℕ → AtpRow
 promises_of s i = atp_row (supply_of s.tables) i (lines_of s.standing)
 
--- a week of a master item: the firm quantity that comes in, the standing bookings due, the week's bucket, and what is
--- available to promise
+-- a week of a master item: the firm quantity due, the standing bookings due, the week's bucket, and what is available
+-- to promise
 abbrev pub promise_row : Inputs → ℕ → ℕ → PromiseRow
 promise_row s i week = record {
   week = week;

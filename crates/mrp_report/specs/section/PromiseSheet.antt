@@ -1,4 +1,4 @@
--- A master item's weeks, as its rows of promises are made of them.
+-- The quantities of a master item week by week, from which its rows of promises are made.
 use Rattle.std.specs.Prelude.{ℕ, ◌≡◌, ◌≤◌, ◌*◌, length}
 use Rattle.mrp_cal.specs.declared.calendar.TheConstants.{MOST_WEEKS}
 use Rattle.mrp_qty.specs.Quantity.{greatest_quantity}

@@ -9,7 +9,7 @@ use Rattle.mrp_tables.specs.declared.rows.Receipt.{Receipt}
 abbrev pub order_of : List Receipt → ℕ → Option (List ℕ)
 order_of rows number = option_map (λ r. r.order) (find (λ r. r.number == number) rows)
 
--- that name; nothing where there is none
+-- that name; empty if there is none
 abbrev pub receipt_name : Tables → ℕ → List ℕ
 receipt_name t number = unwrap_or (order_of t.receipts number) []
 

@@ -1,4 +1,4 @@
--- The sections that go over the items or the work centres, as they are written.
+-- The sections with rows for each item or work centre, as they are written.
 use Rattle.std.specs.Prelude.{ℕ, List, ◌++◌, flat_map, length}
 use Rattle.std.specs.List.{range_with_len}
 use Rattle.mrp_day.specs.Sections.{head_of}
@@ -10,7 +10,7 @@ use Rattle.mrp_report.specs.declared.section.Section.{Section}
 use Rattle.mrp_report.specs.declared.section.Section.TheVariants as section
 use Rattle.mrp_report.specs.ReportText.{item_text, loaded_text, ordered_text, pegged_text, promised_text, told_text}
 
--- which section of a day it is
+-- the section of a day that it is
 abbrev pub of_day : Section → DaySection
 of_day section.Promises = day.Promises
 of_day section.Plan = day.Plan
@@ -19,7 +19,7 @@ of_day section.Pegs = day.Pegs
 of_day section.Messages = day.Messages
 of_day section.Loads = day.Loads
 
--- how many items or work centres a section goes over
+-- how many items or work centres a section has rows for
 abbrev pub count_in : Inputs → Section → ℕ
 count_in s section.Promises = count s
 count_in s section.Plan = count s

@@ -1,4 +1,4 @@
--- An item's weeks, as its rows are made of them.
+-- The quantities of an item week by week, from which its rows are made.
 use Rattle.std.specs.Prelude.{ℕ, ◌≡◌, ◌≤◌, ◌+◌, ◌-◌, ◌*◌, if◌then◌else◌, length}
 use Rattle.mrp_cal.specs.declared.calendar.TheConstants.{MOST_WEEKS}
 use Rattle.mrp_qty.specs.Quantity.{greatest_quantity}
@@ -27,7 +27,7 @@ sheet_row s week = record {
   balance = (s.on_hand + sum_to s.scheduled.now week + in_week s.received.now week) - sum_to s.gross.now week;
 }
 
--- what was summed up to a week
+-- the sums up to a week
 pub record AreSums (s : Sheet) (week : ℕ) (sums : Sums) : Type 0 where
   pub supplied : sums.supplied ≡ s.on_hand + sum_to s.scheduled.now week
   pub required : sums.required ≡ sum_to s.gross.now week

@@ -1,4 +1,4 @@
--- The cells that tell which supply a row speaks of (profile).
+-- The cells that identify the supply of a row (profile).
 use Rattle.std.specs.Prelude.{ℕ, ◌-◌, List, [], codes, decimal, Option, Some, None, slice_get}
 use Rattle.mrp_tables.specs.Tables.{Tables}
 use Rattle.mrp_item.specs.declared.order.Order.{Order}
@@ -11,7 +11,7 @@ abbrev pub word_of : Option Order → List ℕ
 word_of None = []
 word_of (Some o) = kind_word o.kind
 
--- the word for a supply of an item with these orders; an order goes by its number from 1
+-- the word for a supply of an item with these orders; orders are numbered from 1
 abbrev pub source_word : List Order → Supplied → List ℕ
 source_word orders supplied.Stock = codes "stock"
 source_word orders (supplied.Receipt number) = codes "open"

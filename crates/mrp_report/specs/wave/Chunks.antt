@@ -5,11 +5,11 @@ use Rattle.mrp_item.specs.Inputs.{Inputs}
 use Rattle.mrp_report.specs.declared.wave.cut.Chunks.{Chunks}
 use Rattle.mrp_report.specs.section.Sections.{all_rows, count_in, rows_of, section_text}
 
--- the texts of the places from one to before another, one after the other
+-- the texts of the places from one up to, and without, another
 abbrev pub between : (ℕ → List ℕ) → ℕ → ℕ → List ℕ
 between text from to = flat_map text (range_with_len from (to - from))
 
--- where so many chunks from a place end: each has so many places, the last what is left
+-- where so many chunks from a place end: each has `size` places, the last what is left
 abbrev pub reach : ℕ → ℕ → ℕ → ℕ → ℕ
 reach count size from chunks = min (from + chunks * size) count
 
@@ -17,7 +17,7 @@ reach count size from chunks = min (from + chunks * size) count
 abbrev pub inputs_of : Chunks → Inputs
 inputs_of c = c.readings.now.plan.now.inputs
 
--- how many places there are
+-- how many places the section has
 abbrev pub count_of : Chunks → ℕ
 count_of c = count_in (inputs_of c) c.section
 
@@ -41,6 +41,6 @@ rows_in c = all_rows (inputs_of c) c.section
 abbrev pub text_of : Chunks → List ℕ
 text_of c = section_text (inputs_of c) c.section
 
--- pages of chunks from a place, in their order; where memory was refused there is no text
+-- pages of the chunks from a place, in order; `None` where memory ran out
 abbrev pub AreChunks : Chunks → ℕ → List (Option (List ℕ)) → Type 0
 AreChunks c from pages = (k : ℕ) → k < length pages → IfSome (slice_index_or pages k None) (λ text. text ≡ rows_from c (end_of c from k) 1)

@@ -11,7 +11,7 @@ use crate::page::put::{put_all, put_byte};
 use crate::page::quoting::{is_quoted_text, put_quoted};
 use itoa::Buffer;
 
-// A cell that rows of a section have empty, or with a number or a name.
+// A cell that may be empty, a number or a name, depending on the row.
 #[derive(Clone, Copy)]
 pub(crate) enum Cell<'a> {
     Empty,
@@ -20,7 +20,7 @@ pub(crate) enum Cell<'a> {
 }
 
 impl Cell<'_> {
-    // Puts the cell behind others.
+    // Puts the cell after others.
     #[inline(always)]
     pub(crate) fn put(self, text: &mut [u8], at: usize) -> usize
         requires { at + 67 ≤ length text.old }

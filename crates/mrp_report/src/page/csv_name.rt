@@ -1,4 +1,4 @@
-//! Names as cells: each knows whether it is written between quotes.
+//! Names as cells, each with whether it is written between quotes.
 
 ghost use Rattle.std.specs.Prelude.{◌≡◌, ◌+◌, ◌≤◌, length};
 ghost use Rattle.mrp_report.specs.page.CsvCells.{cell_text, next_cell};
@@ -9,8 +9,8 @@ use crate::page::quoting::{is_quoted_text, put_quoted};
 use mrp_rows::Name;
 use std::marker::Model;
 
-// A name of at most 32 bytes, seen as its text. Whether it is quoted is found out once, when it is
-// made, and never in a row.
+// A name of at most 32 bytes; contracts see it as its text. Whether it needs quotes is determined
+// once, when it is made, not for each row.
 #[derive(Drop)]
 pub(crate) struct CsvName {
     bytes: [u8; 32],
@@ -75,7 +75,7 @@ impl CsvName {
         }
     }
 
-    // Puts the name behind other cells.
+    // Puts the name after other cells.
     #[inline(always)]
     pub(crate) fn put_next(&self, text: &mut [u8], at: usize) -> usize
         requires { at + 67 ≤ length text.old }

@@ -1,4 +1,4 @@
-//! Times as texts, without memory.
+//! Times as texts, made without allocating.
 
 ghost use Rattle.std.specs.Prelude.{◌≡◌, ◌<◌, ◌≤◌, ◌∷◌, [], ◌/◌, ◌%◌, length};
 ghost use Rattle.mrp_qty.specs.Minutes.{digit_of, minutes_text_of};
@@ -6,10 +6,10 @@ ghost use Rattle.mrp_qty.specs.Minutes.{digit_of, minutes_text_of};
 use itoa::Buffer;
 use mrp_qty::Milli;
 
-// A point and three decimals.
+// The bytes of a point and three decimals.
 const DECIMALS: usize = 4;
 
-// The most bytes that a number's text and these take.
+// The most bytes of a time: of its whole minutes and its decimals.
 const LONGEST: usize = 44;
 
 // The digit of a number below ten.
@@ -20,7 +20,7 @@ fn digit(number: u128) -> u8
     b'0' + number as u8
 }
 
-// The point behind whole minutes, and the three decimals of a time.
+// The point after the whole minutes, and the three decimals of a time.
 fn decimals(thousandths: u128) -> [u8; DECIMALS]
     ensures { result ≡ 46 ∷ digit_of (thousandths / 100 % 10) ∷ digit_of (thousandths / 10 % 10) ∷ digit_of (thousandths % 10) ∷ [] }
 {

@@ -1,12 +1,12 @@
-//! Bytes that are put at a place of a text which has room for them.
+//! Putting bytes at a place of a text that has room for them.
 
 ghost use Rattle.std.specs.Prelude.{◌≡◌, ◌+◌, ◌<◌, ◌≤◌, [], ◌∷◌, length, take};
 ghost use Rattle.mrp_report.specs.page.Put.{IsPut};
 
 use std::simd::Simd;
 
-// The first bytes of a block of N. The block is one load and one store: what stands behind those
-// bytes is overwritten.
+// The first bytes of a block of N. The block is one load and one store: the rest of it is
+// overwritten too.
 #[inline(always)]
 pub(crate) fn put_front<const N: usize>(
     text: &mut [u8],

@@ -12,8 +12,8 @@ fn calls_for_quotes(byte: u8) -> bool
     byte == b',' || byte == b'"' || byte == b'\r' || byte == b'\n'
 }
 
-/// Whether a cell of this text is written between quotes, as csv has it: where it has a comma, a quote, or a
-/// byte that ends a line.
+/// Whether csv writes a cell with this text between quotes: if it contains a comma, a quote, or a byte that
+/// ends a line.
 pub fn is_quoted_text(text: &[u8]) -> bool
     ensures { result ≡ needs_quotes default_writer text.now }
 {

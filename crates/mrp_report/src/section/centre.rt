@@ -16,7 +16,7 @@ use mrp_load::LoadTable;
 use mrp_qty::NoMemory;
 use mrp_tables::Centre;
 
-// What the loads say of a work centre's week.
+// The row of a work centre's week.
 fn row_of(loads: &LoadTable, centre: usize, week: u16) -> LoadRow
     requires centre { centre < length loads.now.tables.centres }
     requires week { IsInRange 1 (horizon loads.now) week }
@@ -30,7 +30,7 @@ fn row_of(loads: &LoadTable, centre: usize, week: u16) -> LoadRow
     }
 }
 
-// Adds the weeks of a work centre.
+// Adds a row for each week of a work centre.
 fn week_rows(
     page: &mut Page,
     name: &CsvName,
@@ -48,7 +48,7 @@ fn week_rows(
     Ok(())
 }
 
-// What the tables say of a work centre.
+// A work centre's record in the tables.
 fn centre_of(plan: &Plan, centre: usize) -> Centre
     requires { centre < length plan.now.inputs.tables.centres }
     ensures { result ≡ centre_at plan.now.inputs centre }

@@ -1,4 +1,4 @@
-//! The section `history`: what the order book was asked, and what it replied.
+//! The section `history`: the calls that the order book answered, and its replies.
 
 ghost use Rattle.std.specs.Prelude.{◌≡◌, ◌++◌, ◌∷◌, OnOk, decimal};
 ghost use Rattle.mrp_master.specs.Supply.{supply_of};
@@ -18,7 +18,7 @@ use mrp_rows::{Told, Tries, WRITE_TRIES};
 use std::alloc::Global;
 use std::io::Write;
 
-// What a row has of a call.
+// The cells of a row that come from the call.
 #[derive(Clone, Copy)]
 struct Called<'a> {
     word: Word,
@@ -28,7 +28,7 @@ struct Called<'a> {
     number: Cell<'a>,
 }
 
-// What a row has of a reply.
+// The cells of a row that come from the reply.
 #[derive(Clone, Copy)]
 struct Replied<'a> {
     word: Word,
@@ -36,7 +36,7 @@ struct Replied<'a> {
 }
 
 impl<'a> Called<'a> {
-    // A call of this word alone.
+    // A call with no cell but its word.
     fn word(word: Word) -> Called<'a>
         ensures { result ≡ record { word = word; item = Cell.Empty; week = Cell.Empty; quantity = Cell.Empty; number = Cell.Empty } }
     {
@@ -125,7 +125,7 @@ impl Line for EntryLine<'_> {
     }
 }
 
-// Adds an entry.
+// Adds the row of an entry.
 fn entry_row(
     page: &mut Page,
     names: &ShopNames<'_>,
@@ -142,11 +142,12 @@ fn entry_row(
     })
 }
 
-/// Writes the section `history`: a row for each entry of the order book of an equal shop.
+/// Writes the section `history`: a row for each entry of the order book. The caller guarantees that
+/// the book's supply is that of the shop.
 ///
-/// An interrupted write is tried again, at most 1,000,000 times. Errors: `Write` where a write failed
-/// in this call or was interrupted more often, and `NoMemory` where a growth of memory was refused
-/// and neither was so. A front of the text was written then.
+/// An interrupted write is tried again, at most 1,000,000 times. Errors: `Write` if a write failed in this
+/// call or was interrupted more often; otherwise `NoMemory` if an allocation fails. A prefix of the text has
+/// been written then.
 pub fn write_history<W: Write>(
     alloc: Global,
     history: &History,

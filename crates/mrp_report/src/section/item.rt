@@ -11,7 +11,7 @@ use mrp_item::Planned;
 use mrp_qty::NoMemory;
 use mrp_tables::Item;
 
-// What the tables say of a planned item.
+// A planned item's record in the tables.
 pub(crate) fn entry_of(planned: &Planned) -> Item
     ensures { result ≡ item_at planned.now.inputs planned.now.item }
 {

@@ -6,20 +6,20 @@ ghost use Rattle.mrp_report.specs.section.LoadText.{load_text};
 use crate::page::{CsvName, Line, Page, TimeBuffer, put_byte, put_number, put_text};
 use mrp_qty::{Milli, NoMemory};
 
-/// What a work centre has to do in a week, and what it can.
+/// The load and the capacity of a work centre in a week.
 #[derive(Clone, Copy)]
 pub(crate) struct LoadRow {
     /// The week, from 1.
     pub week: u16,
-    /// The standard times of the operations there (APICS Dictionary: load).
+    /// The sum of the standard times of the operations there (APICS Dictionary: load).
     pub load: Milli,
-    /// What the centre can do (APICS Dictionary: capacity available).
+    /// The centre's capacity (APICS Dictionary: capacity available).
     pub capacity: Milli,
     /// By how much the load exceeds the capacity (APICS Dictionary: overload).
     pub over: Milli,
 }
 
-// A week of a work centre with this name.
+// The row of a week of the work centre with this name.
 #[derive(Clone, Copy)]
 struct LoadLine<'a> {
     name: &'a CsvName,
@@ -42,9 +42,9 @@ impl Line for LoadLine<'_> {
     }
 }
 
-/// Adds a week of a work centre, its times in minutes.
+/// Adds the row of a week of a work centre, with its times in minutes.
 ///
-/// Errors: where a growth of memory was refused.
+/// Errors: `NoMemory` if an allocation fails.
 pub(crate) fn load_row(page: &mut Page, name: &CsvName, row: &LoadRow) -> Result<(), NoMemory>
     ensures { OnOk result (page.new ≡ page.old ++ load_text name.now row.now) }
 {

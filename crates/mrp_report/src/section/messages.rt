@@ -27,7 +27,7 @@ fn advice_word(advice: Advice) -> Word
     }
 }
 
-// The weeks that a supply is late, or the week in which it is needed.
+// How many weeks an order is past due, or the week in which a supply is needed.
 fn advice_value<'a>(advice: Advice) -> Cell<'a>
     ensures { cell_of result ≡ number_cell (advice_value advice) }
 {
@@ -39,7 +39,7 @@ fn advice_value<'a>(advice: Advice) -> Cell<'a>
     }
 }
 
-// A message about a supply of an item with this name.
+// A message about a supply of the item with this name.
 #[derive(Clone, Copy)]
 struct MessageLine<'a> {
     name: &'a CsvName,

@@ -9,7 +9,7 @@ use crate::page::{CsvName, Line, Page, Word, put_byte, put_number, put_word};
 use mrp_item::{Order, OrderKind};
 use mrp_qty::NoMemory;
 
-// The word for who made an order.
+// The word for an order's kind: firm or planned.
 pub(crate) fn kind_word(kind: OrderKind) -> Word
     ensures { word_text result ≡ kind_word kind }
 {
@@ -19,7 +19,7 @@ pub(crate) fn kind_word(kind: OrderKind) -> Word
     }
 }
 
-// An order of an item with this name, and the order's number.
+// An order of the item with this name, and the order's number.
 #[derive(Clone, Copy)]
 struct OrderLine<'a> {
     name: &'a CsvName,

@@ -19,7 +19,7 @@ use mrp_peg::{Need, NeedKind, Peg, PegWalk};
 use mrp_qty::NoMemory;
 use std::alloc::Global;
 
-// What a row has of a requirement, or of surplus.
+// The cells of a row that come from the requirement, or from surplus.
 #[derive(Clone, Copy)]
 struct Needed<'a> {
     week: Cell<'a>,
@@ -69,7 +69,7 @@ impl<'a> Needed<'a> {
     }
 }
 
-// A peg of an item with this name.
+// A peg of the item with this name.
 #[derive(Clone, Copy)]
 struct PegLine<'a> {
     name: &'a CsvName,
@@ -126,7 +126,7 @@ pub(crate) struct PegRows<'a> {
 }
 
 impl<'a> PegRows<'a> {
-    // All pegs of an item.
+    // All pegs of an item, none of them put yet.
     pub(crate) fn of(
         alloc: Global,
         plan: &'a Plan,
@@ -146,7 +146,7 @@ impl<'a> PegRows<'a> {
         })
     }
 
-    // Adds the next peg; whether there was one.
+    // Adds the next peg; returns whether there was one.
     pub(crate) fn add_next(&mut self, page: &mut Page) -> Result<bool, NoMemory>
         ensures added { IfOk result (λ more. IsTrue more → IsAdded page.old page.new (rows_left self.old) (rows_left self.new)) }
         ensures fewer { IfOk result (λ more. IsTrue more → count_left self.new < count_left self.old) }

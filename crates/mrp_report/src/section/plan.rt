@@ -6,26 +6,26 @@ ghost use Rattle.mrp_report.specs.section.PlanText.{week_text};
 use crate::page::{CsvName, Line, Page, put_byte, put_number};
 use mrp_qty::NoMemory;
 
-/// What an item's plan says of a week, in pieces.
+/// A week of an item's plan, in pieces.
 #[derive(Clone, Copy, Debug, PartialEq, Eq)]
 pub(crate) struct PlanRow {
     /// The week, from 1.
     pub week: u16,
-    /// What is required (Orlicky: gross requirements).
+    /// The gross requirements (Orlicky).
     pub gross: u64,
-    /// The open receipts that come in.
+    /// The open receipts that are due.
     pub receipts: u64,
-    /// The firm rows that come in.
+    /// The firm rows that are due.
     pub firm: u64,
-    /// What planning has come in (Orlicky: planned order receipts).
+    /// The planned order receipts (Orlicky).
     pub planned: u64,
-    /// What starts of the orders released in the week.
+    /// The pieces that start of the orders released in the week (Orlicky: planned order releases).
     pub start: u64,
-    /// What is left at the week's end (APICS Dictionary: projected available balance).
+    /// The projected available balance at the week's end (APICS Dictionary).
     pub balance: u64,
 }
 
-// A week of an item with this name.
+// The row of a week of the item with this name.
 #[derive(Clone, Copy)]
 struct WeekLine<'a> {
     name: &'a CsvName,
@@ -49,9 +49,9 @@ impl Line for WeekLine<'_> {
     }
 }
 
-/// Adds a week of an item.
+/// Adds the row of a week of an item.
 ///
-/// Errors: where a growth of memory was refused.
+/// Errors: `NoMemory` if an allocation fails.
 pub(crate) fn week_row(page: &mut Page, name: &CsvName, row: &PlanRow) -> Result<(), NoMemory>
     ensures { OnOk result (page.new ≡ page.old ++ week_text name.now row.now) }
 {

@@ -16,7 +16,7 @@ use mrp_master::{AtpRow, Supply};
 use mrp_qty::NoMemory;
 use std::alloc::Global;
 
-// What is supplied of a master item, and all its bookings that stand.
+// The supply of a master item, and all its standing bookings.
 fn promises_of(
     alloc: Global,
     supply: &Supply,
@@ -37,7 +37,7 @@ fn promises_of(
     Ok(row)
 }
 
-// Adds an item's rows of the section `promises`; a part has none. The caller owes what promising
+// Adds an item's rows of the section `promises`; a part has none. The caller passes what promising
 // reads of the item's shop.
 pub(crate) fn item_promises(
     alloc: Global,

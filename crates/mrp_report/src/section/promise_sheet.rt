@@ -1,4 +1,4 @@
-//! A master item's weeks, from which its rows of promises are made.
+//! The quantities of a master item week by week, from which its rows of promises are made.
 
 ghost use Rattle.std.specs.Prelude.{◌≡◌, ◌<◌, ◌+◌, ◌++◌, OnOk, flat_map};
 ghost use Rattle.mrp_phase.specs.Weeks.{row};
@@ -10,7 +10,7 @@ use crate::section::promises::{PromiseRow, promise_row};
 use mrp_master::AtpRow;
 use mrp_qty::{NoMemory, Qty};
 
-// A master item's weeks: its firm quantities, and what is supplied and booked.
+// A master item's quantities for each week: firm, supplied and booked.
 #[derive(Clone, Copy)]
 pub(crate) struct PromiseSheet<'a> {
     pub weeks: u16,
@@ -19,7 +19,7 @@ pub(crate) struct PromiseSheet<'a> {
 }
 
 impl PromiseSheet<'_> {
-    // The row of the week behind a place, from what is left in the buckets up to the place.
+    // The row of the week after a place, from what is left in the buckets up to the place.
     fn row_at(&self, place: u16, before: u64) -> PromiseRow
         requires sheet { IsPromiseSheet self.now }
         requires within { place < self.now.weeks }

@@ -6,22 +6,23 @@ ghost use Rattle.mrp_report.specs.section.PromiseText.{promise_text};
 use crate::page::{CsvName, Line, Page, put_byte, put_number};
 use mrp_qty::NoMemory;
 
-/// What can be promised of an item in a week, in pieces.
+/// What is available to promise of an item in a week, in pieces.
 #[derive(Clone, Copy, Debug, PartialEq, Eq)]
 pub(crate) struct PromiseRow {
     /// The week, from 1.
     pub week: u16,
-    /// The firm quantity that comes in.
+    /// The firm quantity that is due.
     pub firm: u64,
-    /// The standing bookings that are due.
+    /// The pieces of the standing bookings that are due.
     pub booked: u64,
-    /// The week's bucket: what is left of what came in; 0 in a week that opens none.
+    /// The week's bucket (APICS Dictionary: discrete available-to-promise): what is left of what
+    /// came in; 0 in a week that opens no bucket.
     pub bucket: u64,
     /// What is available to promise (APICS Dictionary: available-to-promise).
     pub available: u64,
 }
 
-// What can be promised in a week of an item with this name.
+// The row of a week of the item with this name.
 #[derive(Clone, Copy)]
 struct PromiseLine<'a> {
     name: &'a CsvName,
@@ -43,9 +44,9 @@ impl Line for PromiseLine<'_> {
     }
 }
 
-/// Adds a week of an item.
+/// Adds the row of a week of an item.
 ///
-/// Errors: where a growth of memory was refused.
+/// Errors: `NoMemory` if an allocation fails.
 pub(crate) fn promise_row(page: &mut Page, name: &CsvName, row: &PromiseRow) -> Result<(), NoMemory>
     ensures { OnOk result (page.new ≡ page.old ++ promise_text name.now row.now) }
 {

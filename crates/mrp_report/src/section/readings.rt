@@ -1,4 +1,4 @@
-//! What the rows of a report are read from.
+//! What the rows of a report are made from.
 
 ghost use Rattle.std.specs.Prelude.{◌≡◌, IfOk};
 ghost use Rattle.mrp_master.specs.Supply.{supply_of};
@@ -11,8 +11,8 @@ use mrp_qty::NoMemory;
 use std::alloc::Global;
 use std::thread::Threads;
 
-// What rows are read from: the plan, and of it what promising reads of its shop, what the shop's
-// tables call things, and the loads of its work centres.
+// What rows are made from: the plan, what promising reads of its shop, the names in the shop's
+// tables, and the loads of its work centres.
 #[derive(Drop)]
 pub(crate) struct Readings<'a> {
     pub plan: &'a Plan,

@@ -8,10 +8,10 @@ use itoa::Buffer;
 use mrp_day::Section;
 use mrp_qty::NoMemory;
 
-/// Adds the section `run`: the entry of the book that is planned from, and how many bookings stand
-/// there.
+/// Adds the section `run`: the entry of the order book that the run plans from, and how many
+/// bookings stand there.
 ///
-/// Errors: where a growth of memory was refused.
+/// Errors: `NoMemory` if an allocation fails.
 #[tactic(auto, unfolding(csv::specs::Writing::fields_text, csv::specs::Writing::is_blank))]
 pub(crate) fn run_section(page: &mut Page, front: u64, standing: u64) -> Result<(), NoMemory>
     ensures { OnOk result (page.new ≡ page.old ++ run_text front standing) }

@@ -1,4 +1,4 @@
-//! An item's weeks, from which its rows are made.
+//! The quantities of an item week by week, from which its rows are made.
 
 ghost use Rattle.std.specs.Prelude.{◌≡◌, ◌<◌, ◌≤◌, ◌+◌, ◌++◌, OnOk, flat_map};
 ghost use Rattle.mrp_phase.specs.Weeks.{row};
@@ -9,23 +9,22 @@ use crate::page::{CsvName, Page};
 use crate::section::plan::{PlanRow, week_row};
 use mrp_qty::{NoMemory, Qty};
 
-// An item's weeks: a quantity of each kind for each week.
+// An item's quantities of each kind for each week.
 #[derive(Clone, Copy)]
 pub(crate) struct Sheet<'a> {
     pub weeks: u16,
     pub is_master: bool,
     pub on_hand: Qty,
     pub gross: &'a [Qty],
-    // Firm rows of a master item, open receipts of another.
+    // The firm rows of a master item, the open receipts of another item.
     pub scheduled: &'a [Qty],
-    // Planned receipts up to each week.
+    // The planned receipts up to each week.
     pub received: &'a [Qty],
-    // What starts in each week.
+    // The pieces that start in each week.
     pub started: &'a [Qty],
 }
 
-// What was summed up to a week: what is on hand and scheduled, what is required, and the planned
-// receipts.
+// The sums up to a week: on hand and scheduled receipts, gross requirements, and planned receipts.
 #[derive(Clone, Copy)]
 struct Sums {
     supplied: u64,
@@ -34,7 +33,7 @@ struct Sums {
 }
 
 impl Sheet<'_> {
-    // The row of the week behind a place, and the sums up to it.
+    // The row of the week after a place; the sums then include it.
     fn row_at(&self, place: u16, sums: &mut Sums) -> PlanRow
         requires sheet { IsSheet self.now }
         requires within { place < self.now.weeks }

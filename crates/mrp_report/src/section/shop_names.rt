@@ -1,4 +1,4 @@
-//! What a shop's tables call items, open receipts and parents.
+//! The names of items, open receipts and parents in a shop's tables.
 
 ghost use Rattle.std.specs.Prelude.{◌≡◌, ◌<◌, ℕ, [], All, IfOk, None, map, replicate};
 ghost use Rattle.mrp_report.specs.section.Cells.{name_at, parent_name};
@@ -9,8 +9,8 @@ use mrp_qty::NoMemory;
 use mrp_tables::{Item, Receipt, Tables};
 use std::alloc::Global;
 
-// A shop's tables, with the names of the items and of the open receipts' orders as cells, these by
-// the numbers of their records.
+// A shop's tables, with the names of the items and of the open receipts' orders as cells, the
+// latter by the numbers of their records.
 #[derive(Drop)]
 pub(crate) struct ShopNames<'a> {
     pub tables: &'a Tables,
@@ -22,7 +22,7 @@ pub(crate) struct ShopNames<'a> {
     ghost known: { AreNamesOf receipts.items tables.now.receipts },
 }
 
-// A number past those of all records.
+// A number greater than those of all records.
 fn past_all(receipts: &[Receipt]) -> usize
     ensures { All (λ r. r.number < result) receipts.now }
 {
@@ -33,7 +33,7 @@ fn past_all(receipts: &[Receipt]) -> usize
     past
 }
 
-// No name at each of so many numbers.
+// Numbers without a name.
 fn no_names(alloc: Global, count: usize) -> Result<Vec<Option<CsvName>>, NoMemory>
     ensures { IfOk result (λ names. names.items ≡ replicate count None) }
 {
@@ -81,7 +81,7 @@ impl<'a> ShopNames<'a> {
         })
     }
 
-    // The name of the item at a place; no name where there is none.
+    // The name of the item at a place; an empty name if there is none.
     pub(crate) fn item(&self, item: usize) -> &CsvName
         ensures { result.now ≡ name_at self.now.tables.now item }
     {
@@ -91,7 +91,7 @@ impl<'a> ShopNames<'a> {
         }
     }
 
-    // The name of the parent of a bill line, by the line's number from 1; no name where there is
+    // The name of the parent of a bill line, by the line's number from 1; an empty name if there is
     // none.
     pub(crate) fn parent(&self, line: usize) -> &CsvName
         ensures { result.now ≡ parent_name self.now.tables.now line }
@@ -102,8 +102,8 @@ impl<'a> ShopNames<'a> {
         }
     }
 
-    // The name of the order of an open receipt, by the number of its record; no name where there is
-    // none.
+    // The name of the order of an open receipt, by the number of its record; an empty name if there
+    // is none.
     pub(crate) fn receipt(&self, number: u64) -> &CsvName
         ensures { result.now ≡ receipt_name self.now.tables.now number }
     {

@@ -1,4 +1,4 @@
-//! The cells that tell which supply a row speaks of.
+//! The cells that identify the supply of a row.
 
 ghost use Rattle.std.specs.Prelude.{◌≡◌};
 ghost use Rattle.mrp_report.specs.page.CellOf.{cell_of};
@@ -24,7 +24,8 @@ pub(crate) fn source_word(supply: Supplied, orders: &[Order]) -> Word
     }
 }
 
-// The cell that tells which supply it is: the name of a receipt's order, or an order's number.
+// The cell that identifies a supply of its kind: the name of a receipt's order, or an order's
+// number.
 pub(crate) fn source_cell<'a>(supply: Supplied, names: &'a ShopNames<'_>) -> Cell<'a>
     ensures { cell_of result ≡ source_name names.now.tables.now supply }
 {

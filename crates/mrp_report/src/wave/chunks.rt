@@ -9,14 +9,14 @@ use mrp_qty::NoMemory;
 use std::alloc::Global;
 
 impl Chunks<'_> {
-    // How many places there are.
+    // How many places the section has rows for.
     pub(crate) fn count(&self) -> usize
         ensures { result ≡ count_of self.now }
     {
         self.section.count(self.readings.plan)
     }
 
-    // Where so many chunks from a place end.
+    // Where a number of chunks from a place end.
     pub(crate) fn reach(&self, from: usize, chunks: usize) -> usize
         ensures { result ≡ end_of self.now from chunks }
     {
@@ -24,12 +24,12 @@ impl Chunks<'_> {
         from.saturating_add(places).min(self.count())
     }
 
-    // Whether there is more than one, and a page has room for each.
+    // Whether there is more than one chunk, and a page has room for each.
     pub(crate) fn are_many(&self) -> bool {
         self.fits && self.size < self.count()
     }
 
-    // How many chunks there are from a place on. Each has some places.
+    // How many chunks there are from a place on. None is empty.
     pub(crate) fn left(&self, from: usize) -> usize
         requires { from < count_of self.now }
         ensures some { 0 < result }

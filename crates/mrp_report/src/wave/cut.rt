@@ -5,13 +5,14 @@ ghost use Rattle.std.specs.Prelude.{◌≡◌, ◌<◌};
 use crate::section::{Readings, Section};
 use mrp_bill::Shop;
 
-// About how many rows a chunk has: some megabytes of text, beside which starting its thread is nothing.
+// About how many rows a chunk has: some megabytes of text, compared with which starting a thread costs
+// nothing.
 const ROWS: usize = 65_536;
 
-// The most pegs that a chunk may have: some 20 megabytes of text.
+// The most pegs that a chunk may have: about 20 megabytes of text.
 const MOST_PEGS: usize = 524_288;
 
-// The most bill lines that one item is the component of.
+// The greatest number of bill lines to one item.
 fn most_lines(shop: &Shop) -> usize {
     let mut most = 0;
     for item in 0..shop.tables().items().len() {
@@ -20,15 +21,14 @@ fn most_lines(shop: &Shop) -> usize {
     most
 }
 
-// About how many pegs an item has for a week: one for each bill line that it is the component of, on the average, and one
-// more.
+// About how many pegs an item has for a week: the average number of bill lines to an item, and one more.
 fn pegs_of_a_week(shop: &Shop) -> usize {
     let tables = shop.tables();
     tables.bills().len() / tables.items().len().max(1) + 1
 }
 
-// A section's rows, cut into chunks of so many places each. Where even a chunk of one place may have more rows than a
-// page should keep, they do not fit.
+// A section's rows, cut into chunks of `size` places each. They do not fit if even a chunk of one place may
+// have more rows than a page should hold.
 #[derive(Drop)]
 pub(crate) struct Chunks<'a> {
     pub readings: &'a Readings<'a>,

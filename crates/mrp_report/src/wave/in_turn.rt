@@ -1,4 +1,4 @@
-//! Rows of a section, one after the other.
+//! The rows of a section, made in turn on one thread.
 
 ghost use Rattle.std.specs.Prelude.{◌<◌, ◌++◌};
 ghost use Rattle.mrp_item.specs.Inputs.{count};
@@ -15,7 +15,8 @@ use mrp_rows::{Told, Tries};
 use std::alloc::Global;
 use std::io::Write;
 
-// Adds an item's pegs, and hands full pages over: an item may have more of them than memory holds.
+// Adds an item's pegs, and hands full pages over: an item may have more of them than fit into
+// memory.
 fn write_pegged<W: Write>(
     alloc: Global,
     readings: &Readings<'_>,
@@ -53,7 +54,7 @@ fn write_place<W: Write>(
     page.pass_on(writer, tries)
 }
 
-// Adds the rows of a section one after the other, and hands full pages over.
+// Adds the rows of a section in turn, and hands full pages over.
 pub(crate) fn write_in_turn<W: Write>(
     alloc: Global,
     chunks: &Chunks<'_>,

@@ -1,4 +1,4 @@
-//! Pages that are filled side by side.
+//! Pages that are filled in parallel.
 
 ghost use Rattle.std.specs.Prelude.{◌≡◌, ◌≤◌, IfOk, IfSome, None, OnErr, OnOk, Some, length};
 ghost use Rattle.mrp_report.specs.wave.Chunks.{count_of, rows_from};
@@ -10,8 +10,8 @@ use std::alloc::Global;
 use std::marker::Model;
 use std::mem;
 
-// A page for a chunk's rows, which remembers whether memory was refused while it was filled.
-// Contracts see its text, or none where that was so.
+// A page for a chunk's rows, which remembers whether filling it ran out of memory. Contracts see
+// its text, or `None` if it did.
 #[derive(Drop)]
 pub(crate) struct Slot {
     page: Page,
@@ -27,7 +27,7 @@ impl Model for Slot {
 }
 
 impl Slot {
-    // A page on which rows were put, or on which memory for them was refused.
+    // A page on which rows were put, or for which memory ran out.
     fn of(page: Page, added: Result<(), NoMemory>) -> Slot
         ensures added { OnOk added (result ≡ Some page) }
         ensures refused { OnErr added (result ≡ None) }
@@ -43,8 +43,8 @@ impl Slot {
         requires { from ≤ count_of chunks.now }
         ensures { IfSome self.new (λ text. text ≡ rows_from chunks.now from 1) }
     {
-        // The slots stand beside one another, and each row moves its page's end: one that stood there
-        // would be taken from one processor to another with each row.
+        // Slots are neighbours in memory, and each row moves its page's end: a page filled in its slot would
+        // make processors contend for one cache line at every row.
         let mut page = mem::replace(&mut self.page, Page::new(alloc));
         page.clear();
         let added = chunks.add(alloc, &mut page, from);
@@ -53,7 +53,7 @@ impl Slot {
 
     // The page.
     //
-    // Errors: where memory was refused while it was filled.
+    // Errors: `NoMemory` if filling the page ran out of memory.
     pub(crate) fn page(&self) -> Result<&Page, NoMemory>
         ensures page { IfOk result (λ page. self.now ≡ Some page.now) }
         ensures refused { OnErr result (self.now ≡ None) }
@@ -66,7 +66,7 @@ impl Slot {
     }
 }
 
-// So many empty pages.
+// Empty pages.
 pub(crate) fn slots(alloc: Global, count: usize) -> Result<Vec<Slot>, NoMemory>
     ensures { IfOk result (λ slots. length slots.items ≡ count) }
 {

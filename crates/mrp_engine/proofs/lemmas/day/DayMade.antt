@@ -54,7 +54,7 @@ unopened Answers contents bundle w (opening.Refused f) few opens =
 unopened Answers contents bundle w opening.NoMemory few opens =
     nothing-written Answers contents (Some bundle) ⊤ ⊥ w NoMemory (λ (g : Fault) e. (cc)) (λ (name : List ℕ) e. (cc)) (λ e. (cc)) (λ e. (cc))
 
--- nor has one of which a run is refused
+-- nor has one with a refused run
 pub unplanned : {W : Type 0} (Answers : Answering) (contents : W → Option (List ℕ)) (bundle : List ℕ) (tables : Tables) (w : Told W) (f : DayFault) → length bundle ≤ GREATEST_BUNDLE
     → IsAccepted bundle tables → PlansDay Answers tables (Err f) → WritesDay Answers contents (Some bundle) ⊤ ⊥ w w (Err f)
 unplanned Answers contents bundle tables w (TooLarge name) few accepted (h, answers, refused) =

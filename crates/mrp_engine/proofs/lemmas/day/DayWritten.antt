@@ -34,12 +34,12 @@ all-both contents a b c s t (m, p) (n, q) = (m + n, taken-both contents a b c s 
 pub all-of-one : {W : Type 0} (contents : W → Option (List ℕ)) (a b : Told W) (s : List ℕ) → HasTakenWhole contents a b s → HasTakenAll contents a b s
 all-of-one contents a b s (m, few, taken) = (m, taken)
 
--- a text is taken, and then a front of the next
+-- a text is taken, and then a prefix of the next
 pub front-then : {W : Type 0} (contents : W → Option (List ℕ)) (a b c : Told W) (s t : List ℕ) → HasTakenAll contents a b s → HasTakenFront contents b c t → HasTakenFront contents a c (s ++ t)
 front-then contents a b c s t (m, taken) front =
     front-after (contents (inner_of a)) (contents (inner_of b)) (contents (inner_of c)) s t taken.bytes front
 
--- a front of a text is one of a longer text
+-- a prefix of a text is one of a longer text
 pub front-of-more : {W : Type 0} (contents : W → Option (List ℕ)) (a b : Told W) (s t : List ℕ) → HasTakenFront contents a b s → HasTakenFront contents a b (s ++ t)
 front-of-more contents a b s t front = front-longer (contents (inner_of a)) (contents (inner_of b)) s t front
 
@@ -57,7 +57,7 @@ not-failed-later contents a b c s (m, taken) later = later ∙ taken.failures
 pub all-written : {W : Type 0} (contents : W → Option (List ℕ)) (a b : Told W) (s : List ℕ) → HasTakenAll contents a b s → WritesText contents a b s (Ok (tt {0}))
 all-written contents a b s taken = record { whole = taken; front = tt; gave_up = λ e. (cc); unfailed = λ e. (cc); writing = tt }
 
--- a text stops where its writer gives up, or memory is refused
+-- a text stops where its writer gives up, or memory runs out
 pub stopped : {W : Type 0} (contents : W → Option (List ℕ)) (a b : Told W) (s : List ℕ) (f : ReportFault) → HasTakenFront contents a b s
     → (f ≡ report.Write → HasGivenUp a b WRITE_TRIES) → (f ≡ report.NoMemory → HasNotFailed a b) → WritesText contents a b s (Err (writing_fault f))
 stopped contents a b s report.Write front gave_up unfailed = record { whole = tt; front = front; gave_up = λ e. gave_up refl; unfailed = λ e. (cc); writing = tt }

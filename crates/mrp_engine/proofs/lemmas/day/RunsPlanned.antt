@@ -18,7 +18,7 @@ use Rattle.mrp_engine.specs.day.Planned.{PlansRun, PlansRuns, inputs_of_plans}
 use Rattle.mrp_engine.specs.declared.day.fault.DayFault.{DayFault}
 use Rattle.mrp_engine.specs.declared.day.fault.DayFault.TheVariants.{Refused, TooLarge, Read, Write, NoMemory}
 
--- the runs up to an entry, that entry's and those behind it
+-- the runs up to an entry, that entry's and those after it
 pub runs-cut : (t : Tables) (h : History) (k : ℕ) (e : Entry Call Reply) → k < length h → e ≡ get_or h k e → runs_of t h ≡ runs_of t (take k h) ++ (planned_from t e.reply ++ runs_of t (drop (k + 1) h))
 runs-cut t h k e within is =
     let split : h ≡ take k h ++ e ∷ drop (k + 1) h =

@@ -82,7 +82,7 @@ has-run script e = sym (with-run-is (map record_of script) true (any-mapped (λ 
 pub has-no-run : (script : List ScriptRow) → list_any (λ r. is_run (call_of r.call)) script ≡ false → map record_of script ++ (1, call.Snapshot) ∷ [] ≡ with_run (map record_of script)
 has-no-run script e = sym (with-run-is (map record_of script) false (any-mapped (λ r. is_run r.1) record_of script ∙ e))
 
--- no call is added where there is none
+-- no call is added if there is none
 pub none-added : (o : Option (ℕ × Call)) → ((r : ℕ × Call) → o ≡ Some r → ⊥) → o ≡ None
 none-added None other = refl
 none-added (Some r) other = absurd (other r refl)

@@ -56,11 +56,11 @@ closed bundle f (Refused g) (inr e) (same, other) =
     (inl (e ∙ ap (λ (h : Fault). Err h) (sym same)), λ (h : g.code ≡ faults.NO_MEMORY). other (ap (λ (x : Fault). x.code) (sym same) ∙ h))
 closed bundle f NoMemory why is = tt
 
--- the loop's fault is no want of memory
+-- the loop's fault is not out of memory
 loop-code : (item : ℕ) → (loop_fault item).code ≢ faults.NO_MEMORY
 loop-code item h = let bad : faults.LOOP ≡ faults.NO_MEMORY = h in absurd (omega arith)
 
--- the tables of a bundle, and what comes of their bill
+-- the tables of a bundle, and the result for their bill
 pub opened : (bundle : List ℕ) (tables : Tables) (r : Result Shop OpenFault) → tables_of bundle ≡ Ok tables → OpensTables tables r → Opens bundle r
 opened bundle tables (Ok shop) e (same, none) =
     record {

@@ -143,7 +143,7 @@ module _ (s : Inputs) (log : BoardLog) (k : KeepsBoard s log) where
       stored_out = λ i is. stored-is-out i (either (is_stored log i) (stores i e.call e.reply) (sym (stored-more log e i) ∙ is));
     }
 
-  -- what a worker that finishes what it holds is told
+  -- the reply to a worker that finishes what it holds
   pub stored-reply : (who item : ℕ) → held who log ≡ Some item → board_reply s log who (call.Finish item) ≡ Some reply.Stored
   stored-reply who item has =
       ap (λ (b : Bool). if b && not (is_stored log item) then Some reply.Stored else Some reply.NotOut) (k.held_out who item has)
@@ -177,7 +177,7 @@ module _ (s : Inputs) (log : BoardLog) (k : KeepsBoard s log) where
     keeps-stopped =
         keeps-more (entry who call.GiveUp reply.Stopped) (seat, refl) (λ i e. absurd (let n : false ≡ true = e in cc)) (λ i e. absurd (let n : None ≡ Some i = e in cc))
 
-    -- whatever it is told when it takes
+    -- whatever the reply when it takes
     told-taken : (b : Bool) (o : Option ℕ) (r : Option BoardReply) → (if b then Some reply.AllOut else option_map reply.Item o) ≡ r → board_reply s log who call.Take ≡ r → KeepsBoard s (log ++ taken who r)
     told-taken b o None e is = subst (KeepsBoard s) (sym (append-nil log)) k
     told-taken b o (Some reply.AllOut) e is = keeps-end is

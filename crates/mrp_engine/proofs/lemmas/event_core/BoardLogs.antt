@@ -73,7 +73,7 @@ kept-none s outcomes out none marks = record {
   held_out = λ who i e. absurd (let k : None ≡ Some i = e in cc);
 }
 
--- a board without an entry is finished where it has no item
+-- a board without an entry is finished if it has no item
 none-stored : (a n : ℕ) → list_all (is_stored []) (range_with_len a n) ≡ (n == 0)
 none-stored a zero = refl
 none-stored a (suc n) = sym (other-number (suc n) 0 (λ e. absurd (omega (arith, e))))

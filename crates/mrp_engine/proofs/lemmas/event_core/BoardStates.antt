@@ -34,7 +34,7 @@ map-agree : {X Y : Type 0} (f g : X → Y) (xs : List X) → ((x : X) → f x �
 map-agree f g [] same = refl
 map-agree f g (x ∷ xs) same = ap (λ y. y ∷ map f xs) (same x) ∙ ap (λ l. g x ∷ l) (map-agree f g xs same)
 
--- a list of values by place, of which one is another
+-- a list of values by place, with one of them replaced
 one-set : {X : Type 0} (f g : ℕ → X) (n i : ℕ) (x d : X) → g i ≡ x → ((j : ℕ) → j ≢ i → g j ≡ f j) → map g (range_with_len 0 n) ≡ set (map f (range_with_len 0 n)) i x
 one-set f g n i x d here others =
     let old = map f (range_with_len 0 n) in
@@ -81,7 +81,7 @@ some-mapped : {X Y : Type 0} (f : X → Y) (o : Option X) → is_some (option_ma
 some-mapped f None = refl
 some-mapped f (Some x) = refl
 
--- an item is out where it has a taker
+-- an item is out if it has a taker
 pub out-taken : (log : BoardLog) (i : ℕ) → is_out log i ≡ is_some (taker log i)
 out-taken log i = any-found (λ (e : BoardEntry). hands_out i e.reply) log ∙ sym (some-mapped (λ (e : BoardEntry). e.who) (find (λ (e : BoardEntry). hands_out i e.reply) log))
 
@@ -276,7 +276,7 @@ module _ (s : Inputs) (log : BoardLog) where
   stored-more-is who call.Take r = all-stored who call.Take r (λ i. refl)
   stored-more-is who call.GiveUp r = all-stored who call.GiveUp r (λ i. refl)
 
-  -- one more entry changes the state that a log leaves as it changes any
+  -- one more entry changes the state that a log leaves as it changes any state
   pub state-more : (who : ℕ) (c : BoardCall) (r : BoardReply) → board_reply s log who c ≡ Some r → state_of s (log ++ entry who c r ∷ []) ≡ state_after state who c r
   state-more who c r is =
       ap (λ (l : List (Option ℕ)). record { out = l; stored = map (is_stored (log ++ entry who c r ∷ [])) (places s); stopped = has_stopped (log ++ entry who c r ∷ []) }) (out-more-is who c r is)

@@ -1,4 +1,4 @@
--- Entries and runs of a core are what events were answered.
+-- Entries and runs of a core are the answers to events.
 use Rattle.std.proofs.Common.{◌≡◌, ◌⊎◌, ◌∙◌, ◌+◌, ◌-◌, ℕ, List, [], ◌∷◌, ◌++◌, length, inl, inr, refl, sym, ap, subst, arith, append_assoc}
 use Rattle.std.proofs.Math.Seq.{get_or-append_seam}
 use Rattle.std.proofs.lemmas.Bool.{cases_lt}
@@ -48,7 +48,7 @@ last-or-before {X} (z ∷ xs) x (w ∷ before) y after e =
       | inr k ↦ inr (k.0, ap (λ l. z ∷ l) k.1 ∙ ap (λ v. v ∷ (before ++ y ∷ k.0)) same)
     ]
 
--- an entry is what an event was answered in a core
+-- an entry is the answer to an event in a core
 abbrev Makes : Core → Event → Answer → Entry Call Reply → Type 0
 Makes core e a x =
     ((e ≡ event.Call x.who x.call) × (a ≡ answer.Replied (next_number core.history) x.reply))
@@ -180,7 +180,7 @@ module _ (tables : Tables) where
       subst (λ (l : List Step). WasStarted l run) (sym is)
       (started-then before later run (started-from [] before (InTurn-from_Each (MayFollowSteps tables) [] before front) none-started run started))
 
-  -- and keeps the front that it was told
+  -- and keeps the front that it was answered
   front-stays : (core : Core) (desk run front : ℕ) (later : List Step) → run ≡ length core.runs + 1 → (run_at (core_after (after core (event.Start desk) (answer.Started run front)) later) run).front ≡ front
   front-stays core desk run front later number =
       let now : Core = after core (event.Start desk) (answer.Started run front) in

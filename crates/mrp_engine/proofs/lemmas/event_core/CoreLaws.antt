@@ -1,4 +1,4 @@
--- What right lists of events and answers come to.
+-- What follows from right lists of events and answers.
 use Rattle.std.proofs.Common.{◌≡◌, ◌≢◌, ◌⊎◌, ◌∙◌, ◌<◌, ◌≤◌, ◌+◌, ◌-◌, ◌↔◌, ℕ, zero, suc, Bool, true, false, List, [], ◌∷◌, ◌++◌, Option, Some, None, Result, Ok, Err, length, map, set, inl, inr, refl, sym, ap, subst, arith, append_assoc, ◌&&◌, not, if◌then◌else◌}
 use Rattle.std.proofs.Math.Seq.{get_or-append_seam}
 use Rattle.std.proofs.lemmas.Bool.{cases_lt, cases_order}
@@ -175,7 +175,7 @@ unfolding core_after
 steps-grow core [] = grows-same core core (same-core core)
 steps-grow core (x ∷ later) = grows-more core (after core x.0 x.1) (core_after (after core x.0 x.1) later) (step-grows core x.0 x.1) (steps-grow (after core x.0 x.1) later)
 
--- later steps go on from where earlier ones stopped
+-- later steps go on where earlier ones stopped
 pub core-append : (core : Core) (xs ys : List Step) → core_after core (xs ++ ys) ≡ core_after (core_after core xs) ys
 unfolding core_after
 core-append core [] ys = refl
@@ -305,7 +305,7 @@ module _ (tables : Tables) where
       ap (λ (c : Core). run_inputs c run) whole
       ∙ inputs-stay (core_of tables before) (core_after (core_of tables before) rest) run (right-sound before front) (steps-grow (core_of tables before) rest) started
 
-  -- what an event was answered
+  -- the answer to an event
   pub answered : (steps before : List Step) (e : Event) (a : Answer) → IsRight tables steps → WasAnswered steps before e a → IsAnswer (core_of tables before) e a
   answered steps before e a right was = (right before (e, a) was.after was.place).1
 
@@ -314,7 +314,7 @@ module _ (tables : Tables) where
 abbrev pub KeepsBoards : Core → Type 0
 KeepsBoards core = (run : ℕ) → IsStarted core run → KeepsBoard (run_inputs core run) (log_at core run)
 
--- a worker that finishes what it holds is told that it is stored
+-- a worker that finishes what it holds is answered that it is stored
 finished-stored : (core : Core) → KeepsBoards core → (run who : ℕ) (a : Answer) → IsStarted core run → IsAnswered core (event.Finish run who) a → a ≡ answer.Stored
 finished-stored core boards run who a started (item, has, is) = is ∙ ap told (stored-reply (run_inputs core run) (log_at core run) (boards run started) who item has)
 
@@ -509,7 +509,7 @@ name-is core run name (inl (has, inl (given, is, plannable, text))) = absurd (cc
 name-is core run name (inl (has, inr (other, is, refused))) = let same : name ≡ other = cc in (has.0, subst (λ (x : List ℕ). IsRefusedBy (run_inputs core run) x) (sym same) refused)
 name-is core run name (inr (none, is)) = absurd (cc)
 
--- an entry that a step made stands in the history to the end
+-- an entry that a step made stays in the history to the end
 pub core-next : (core : Core) (x : Step) (later : List Step) → core_after core (x ∷ later) ≡ core_after (after core x.0 x.1) later
 unfolding core_after
 core-next core x later = refl

@@ -1,4 +1,4 @@
--- A core's answers to events, one after the other.
+-- A core's answers to events, in order.
 use Rattle.std.proofs.Common.{◌≡◌, ◌∙◌, ◌<◌, ◌≤◌, ◌+◌, ℕ, List, [], ◌∷◌, ◌++◌, length, take, get_or, refl, sym, ap, subst, arith}
 use Rattle.std.proofs.lemmas.List.{take_all, take_more, length-append}
 use Rattle.std.specs.Prelude.{All, zip}

@@ -25,7 +25,7 @@ use Rattle.mrp_engine.specs.declared.event_core.event.Event.TheVariants as event
 use Rattle.mrp_engine.specs.declared.event_core.event.Answer.{Answer}
 use Rattle.mrp_engine.specs.declared.event_core.event.Answer.TheVariants as answer
 use Rattle.mrp_engine.specs.event_core.Board.{BoardLog, RunLog, board_reply, held, is_at_end, is_finished, is_ready, taken}
-use Rattle.mrp_engine.specs.event_core.Core.{Core, HasMeaning, IsAnswer, IsOfDesk, IsReport, IsStarted, IsToldLater, Run, WantsMemory, after, finish_of, inputs_at, log_at, no_run, run_at, run_inputs, snapshot_of, told, with_entries}
+use Rattle.mrp_engine.specs.event_core.Core.{Core, HasMeaning, IsAnswer, IsOfDesk, IsReport, IsStarted, IsToldLater, Run, IsOutOfMemory, after, finish_of, inputs_at, log_at, no_run, run_at, run_inputs, snapshot_of, told, with_entries}
 use Rattle.mrp_engine.specs.event_core.Kept.{KeepsBoard}
 use Rattle.mrp_engine.specs.event_core.KeptCore.{FollowsHistory, brief}
 use Rattle.mrp_engine.proofs.lemmas.event_core.BoardLaws.{keeps-finish, keeps-none, keeps-stopped, keeps-told, stored-reply}
@@ -124,7 +124,7 @@ module _ (tables : Tables) (h : History) where
 
     -- A worker finishes.
 
-    -- it is told that what it holds is stored
+    -- it is answered that what it holds is stored
     told-stored : FollowsHistory tables h r → (who item : ℕ) → held who r.log ≡ Some item
         → told (board_reply (run_inputs (seen runs) run) (log_at (seen runs) run) who (board_call.Finish item)) ≡ answer.Stored
     told-stored f who item has =
@@ -252,9 +252,9 @@ at-err : {X E : Type 0} (P Q : Type 0) (r : Result X E) → OnErr r P → (P →
 at-err P Q (Ok x) p f = p
 at-err P Q (Err e) p f = f p
 
--- a book that is not full may want memory
-pub desk-wants : (core : Core) (e : Event) → IsOfDesk e → HasMeaning core e → (IsFull core.history → ⊥) → WantsMemory core e
-desk-wants core e of has open_ = record { meant = has; not_full = λ asks. open_ asks.2; not_later = never core e of }
+-- a book that is not full may run out of memory
+pub desk-out_of_memory : (core : Core) (e : Event) → IsOfDesk e → HasMeaning core e → (IsFull core.history → ⊥) → IsOutOfMemory core e
+desk-out_of_memory core e of has open_ = record { meant = has; not_full = λ asks. open_ asks.2; not_later = never core e of }
   where
     never : (core : Core) (e : Event) → IsOfDesk e → IsToldLater core e → ⊥
     never core (event.Call desk c) of later = later
@@ -358,44 +358,44 @@ module _ (tables : Tables) (h : History) (runs : List RunLog) (now : Core) (run 
       if-two (λ a. is_finished r.inputs r.log ≡ true → IsReport r.inputs a) (λ a. is_finished r.inputs r.log ≡ false → a ≡ answer.Nothing) (IsAnswer now (event.Write run)) res report nothing (λ a s n.
       subst (λ (c : Core). IsAnswer c (event.Write run) a) x.view (write-answer tables h runs run place r x.at a x.follows s n))
 
-  -- What may be refused for want of memory.
+  -- What may run out of memory.
 
-  pub take-wants : {E : Type 0} (who : ℕ) (o : Option ℕ) (q : RunLog) (res : Result Answer E) → IsSeatNumber who → is_some o ≡ false → o ≡ held who q.log → q ≡ slice_index_or runs place q
-      → OnErr res (board_reply r.inputs r.log who board_call.Take ≢ None) → OnErr res (WantsMemory now (event.Take run who))
-  take-wants who o q res seat none is read memory =
+  pub take-out_of_memory : {E : Type 0} (who : ℕ) (o : Option ℕ) (q : RunLog) (res : Result Answer E) → IsSeatNumber who → is_some o ≡ false → o ≡ held who q.log → q ≡ slice_index_or runs place q
+      → OnErr res (board_reply r.inputs r.log who board_call.Take ≢ None) → OnErr res (IsOutOfMemory now (event.Take run who))
+  take-out_of_memory who o q res seat none is read memory =
       let free : held who r.log ≡ None = ap (λ (y : RunLog). held who y.log) (sym (same-run q read)) ∙ sym is ∙ is-none o none in
       let says : board_reply (run_inputs (seen tables h runs) run) (log_at (seen tables h runs) run) who board_call.Take ≡ board_reply r.inputs r.log who board_call.Take =
       ap (λ (s : Inputs). board_reply s (log_at (seen tables h runs) run) who board_call.Take) (inputs-are tables h runs run place r x.at x.follows)
       ∙ ap (λ (l : BoardLog). board_reply r.inputs l who board_call.Take) (log-is tables h runs run place r x.at) in
-      at-err (board_reply r.inputs r.log who board_call.Take ≢ None) (WantsMemory now (event.Take run who)) res memory (λ now_told.
-      subst (λ (c : Core). WantsMemory c (event.Take run who)) x.view (record {
+      at-err (board_reply r.inputs r.log who board_call.Take ≢ None) (IsOutOfMemory now (event.Take run who)) res memory (λ now_told.
+      subst (λ (c : Core). IsOutOfMemory c (event.Take run who)) x.view (record {
         meant = (started tables h runs run place r x.at, seat, ap (held who) (log-is tables h runs run place r x.at) ∙ free);
         not_full = λ asks. asks.0;
         not_later = λ later. now_told (sym says ∙ later);
       }))
 
-  pub finish-wants : {E : Type 0} (who : ℕ) (res : Result Answer E) → IsSeatNumber who → OnErr res (IsSome (held who r.log)) → OnErr res (WantsMemory now (event.Finish run who))
-  finish-wants who res seat memory =
-      at-err (IsSome (held who r.log)) (WantsMemory now (event.Finish run who)) res memory (λ some.
-      subst (λ (c : Core). WantsMemory c (event.Finish run who)) x.view
+  pub finish-out_of_memory : {E : Type 0} (who : ℕ) (res : Result Answer E) → IsSeatNumber who → OnErr res (IsSome (held who r.log)) → OnErr res (IsOutOfMemory now (event.Finish run who))
+  finish-out_of_memory who res seat memory =
+      at-err (IsSome (held who r.log)) (IsOutOfMemory now (event.Finish run who)) res memory (λ some.
+      subst (λ (c : Core). IsOutOfMemory c (event.Finish run who)) x.view
       (record {
         meant = (started tables h runs run place r x.at, seat, subst (λ (o : Option ℕ). IsSome o) (sym (ap (held who) (log-is tables h runs run place r x.at))) some);
         not_full = λ asks. asks.0;
         not_later = λ later. later;
       }))
 
-  pub give_up-wants : {E : Type 0} (who : ℕ) (res : Result Answer E) → IsSeatNumber who → OnErr res (WantsMemory now (event.GiveUp run who))
-  give_up-wants who res seat =
-      on-err (WantsMemory now (event.GiveUp run who)) res (subst (λ (c : Core). WantsMemory c (event.GiveUp run who)) x.view (record {
+  pub give_up-out_of_memory : {E : Type 0} (who : ℕ) (res : Result Answer E) → IsSeatNumber who → OnErr res (IsOutOfMemory now (event.GiveUp run who))
+  give_up-out_of_memory who res seat =
+      on-err (IsOutOfMemory now (event.GiveUp run who)) res (subst (λ (c : Core). IsOutOfMemory c (event.GiveUp run who)) x.view (record {
         meant = (started tables h runs run place r x.at, seat);
         not_full = λ asks. asks.0;
         not_later = λ later. later;
       }))
 
-  pub write-wants : {E : Type 0} (res : Result Answer E) → OnErr res (is_finished r.inputs r.log ≡ true) → OnErr res (WantsMemory now (event.Write run))
-  write-wants res memory =
-      at-err (is_finished r.inputs r.log ≡ true) (WantsMemory now (event.Write run)) res memory (λ done.
-      subst (λ (c : Core). WantsMemory c (event.Write run)) x.view
+  pub write-out_of_memory : {E : Type 0} (res : Result Answer E) → OnErr res (is_finished r.inputs r.log ≡ true) → OnErr res (IsOutOfMemory now (event.Write run))
+  write-out_of_memory res memory =
+      at-err (is_finished r.inputs r.log ≡ true) (IsOutOfMemory now (event.Write run)) res memory (λ done.
+      subst (λ (c : Core). IsOutOfMemory c (event.Write run)) x.view
       (record {
         meant = (started tables h runs run place r x.at, finished-is tables h runs run place r x.at x.follows ∙ done);
         not_full = λ asks. asks.0;

@@ -65,7 +65,7 @@ module _ (s : Inputs) (code : ℕ → ℕ) (rises : (p i : ℕ) → IsParent s.t
   no-items zero e = refl
   no-items (suc n) e = absurd (omega (arith, e))
 
-  -- a worker that takes first is never told to come again
+  -- a worker that takes first never has to come again
   told-now : (who : ℕ) → board_reply s [] who call.Take ≢ None
   told-now who none = by (is_at_end s []) (find (is_ready s []) (places s)) refl refl none
     where

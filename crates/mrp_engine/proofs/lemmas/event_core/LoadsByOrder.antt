@@ -44,7 +44,8 @@ agree-on f g [] same = refl
 agree-on f g (x ∷ xs) same =
     omega (arith, sum_by-cons f x xs, sum_by-cons g x xs, All-head (λ y. f y ≡ g y) x xs same, agree-on f g xs (All-tail (λ y. f y ≡ g y) x xs same))
 
--- Of things with a key below n and elements for each key, those elements that stand at the things: thing by thing, and key by key.
+-- Of things with a key below n and elements for each key, those elements that stand at the things: thing by thing,
+-- and key by key.
 module _ {X Y : Type 0} (key : Y → ℕ) (elements : ℕ → List X) (keep : Y → Bool) (stands : Y → X → Bool) (share : Y → X → ℕ) where
   abbrev here : Y → X → ℕ
   here y x = cond (stands y x) (share y x) 0

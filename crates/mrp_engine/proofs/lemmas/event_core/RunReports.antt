@@ -1,4 +1,4 @@
--- What a core answers of a run's report.
+-- The core's answer for a run's report.
 use Rattle.std.proofs.Common.{◌≡◌, ◌∙◌, ℕ, Result, Ok, Err, inl, inr, refl, sym, ap, subst}
 use Rattle.std.specs.Prelude.{IfOk, IsErr}
 use Rattle.std.specs.Global.{Vec}

@@ -78,7 +78,7 @@ listed-more rows k row old new h is some most appends before = record {
       omega (arith, a, b, front, next);
 }
 
--- the calls of the lists fit where those of the script do
+-- the calls of the lists fit if those of the script do
 pub lists-fit : (s : Supply) (rows : List ScriptRow) (lists : List (Vec Call Global)) → AreCallsOf (map record_of rows) lists → All (λ r. Fits s (call_of r.call)) rows
     → (place : ℕ) → All (Fits s) (calls_at lists place)
 lists-fit s rows lists are fits place =

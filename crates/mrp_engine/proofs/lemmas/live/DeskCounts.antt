@@ -12,7 +12,7 @@ at-most-one : (b : Bool) → cond b 1 0 ≤ 1
 at-most-one true = omega arith
 at-most-one false = omega arith
 
--- a number is below the next where it is below this one, or is this one
+-- a number is below the next if it is below this one, or is this one
 number-splits : (m n : ℕ) → cond (ltb m (n + 1)) 1 0 ≡ cond (ltb m n) 1 0 + cond (m == n) 1 0
 number-splits m n = elim (cases_lt m n) [
   | inl less ↦
@@ -67,7 +67,7 @@ module _ {X : Type 0} (number : X → ℕ) where
       let rest = below-all n xs (All-tail (λ y. number y < n) x xs all) in
       omega (arith, a, b, rest)
 
-  -- where no element has a number, its part is empty
+  -- if no element has a number, its part is empty
   pub none-numbered : (n : ℕ) (xs : List X) → All (λ x. number x ≢ n) xs → filter (λ x. number x == n) xs ≡ []
   none-numbered n [] all = refl
   none-numbered n (x ∷ xs) all =

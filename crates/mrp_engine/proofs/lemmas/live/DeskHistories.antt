@@ -27,7 +27,7 @@ map-if : {X Y : Type 0} (f : X → Y) (b : Bool) (x : X) (xs : List X) → map f
 map-if f true x xs = refl
 map-if f false x xs = refl
 
--- what is asked under a number is what the entries under it ask
+-- the calls under a number are those of the entries under it
 asked-part : (d : ℕ) (h : History) → asked_by d (asked h) ≡ asked (entries_by d h)
 asked-part d [] = refl
 asked-part d (e ∷ es) =
@@ -66,7 +66,7 @@ module _ (office : TurnId Shop) (desks : List Desk) (h : History) (records : Scr
       let count = are.count in
       (omega (arith, number), omega (arith, number, within, count))
 
-  -- under a number of no desk nothing is asked, and no record stands
+  -- under a number of no desk there is no call and no record
   none-asked : (d : ℕ) → ((1 ≤ d) × (d ≤ office.about.seats) → ⊥) → asked_by d (asked h) ≡ []
   none-asked d out =
       none-numbered (λ (r : ℕ × Call). r.0) d (asked h) (All-map (λ (r : ℕ × Call). r.0 ≢ d) (λ e. (e.who, e.call)) h
@@ -76,7 +76,7 @@ module _ (office : TurnId Shop) (desks : List Desk) (h : History) (records : Scr
   none-recorded d out =
       none-numbered (λ (r : ℕ × Call). r.0) d records (All-weaker (λ (r : ℕ × Call). (1 ≤ r.0) × (r.0 ≤ office.about.seats)) (λ (r : ℕ × Call). r.0 ≢ d) (λ r has is. out (subst (λ (n : ℕ). (1 ≤ n) × (n ≤ office.about.seats)) is has)) records wide)
 
-  -- a desk of a number, and what it asked
+  -- a desk with a number, and its calls
   own : (d : ℕ) → HasNumber desks d → (s : Desk) × (k : ℕ) × (k < length desks) × (get_or desks k s ≡ s) × (s.number ≡ d) × (asked s.mine ≡ asked_by d (asked h))
   own d (s, (k, within, at), is) = (
     s,

@@ -1,4 +1,4 @@
--- The records of a desk, one after the other.
+-- The records of a desk, in order.
 use Rattle.std.proofs.Common.{◌≡◌, ◌∙◌, ◌≢◌, ℕ, ◌+◌, ◌<◌, ◌==◌, ◌++◌, Bool, cond, List, [], ◌∷◌, IfErr, OnErr, OnOk, Result, Ok, Err, drop, get_or, length, map, take, ap, arith, refl, sym}
 use Rattle.std.proofs.lemmas.Bool.{eq-eqb, ne_eqb}
 use Rattle.std.proofs.lemmas.List.{append-nil, append_assoc, length-append, length-map, map-append, take-append-drop, take_more}
@@ -50,13 +50,13 @@ asks-more before old d calls k c is within at =
     ∙ ap (λ (xs : Script). old ++ xs) (sym (map-append (λ (x : Call). (d, x)) (take k calls) (c ∷ [])))
     ∙ ap (λ (xs : List Call). old ++ asks d xs) (ap (λ (x : Call). take k calls ++ x ∷ []) at ∙ sym (take_more calls k c within))
 
--- the calls before one, it, and those behind it
+-- the calls before one, that one, and those after it
 pub parts-at : (calls : List Call) (k : ℕ) (c : Call) → k < length calls → c ≡ get_or calls k c → calls ≡ take k calls ++ c ∷ drop (k + 1) calls
 parts-at calls k c within at =
     sym (take-append-drop (k + 1) calls) ∙ ap (λ (xs : List Call). xs ++ drop (k + 1) calls) (take_more calls k c within ∙ ap (λ (x : Call). take k calls ++ x ∷ []) (sym at))
     ∙ append_assoc (take k calls) (c ∷ []) (drop (k + 1) calls)
 
--- how many entries there are, by what they asked
+-- how many entries there are, from their calls
 pub entries-of : (new old : History) (xs : Script) → asked new ≡ asked old ++ xs → length new ≡ length old + length xs
 entries-of new old xs is =
     let a = length-map {B = ℕ × Call} new (λ e. (e.who, e.call)) in
@@ -69,7 +69,8 @@ pub ok-then : {U E : Type 0} (r : Result U E) (P : Type 0) → OnOk r P → ((e 
 ok-then (Ok u) P p not-refused = p
 ok-then (Err e) P p not-refused = absurd (not-refused e refl)
 
--- a desk has made one call, or was refused: then it made no entry, and the refusal has its cause
+-- a desk has made one call, or the call was refused: then there is no entry, and the refusal has
+-- its cause
 pub record MakesCall (s : Supply) (c : Call) (old : Desk) (end : Result (Unit {0}) Refused) (new : Desk) : Type 0 where
   pub office : new.turn ≡ old.turn
   pub desk : new.number ≡ old.number
@@ -83,12 +84,12 @@ tells-asked s c old new (Ok answer) tells =
     ap asked tells.added ∙ map-append (λ (e : Entry Call Reply). (e.who, e.call)) old.mine (entry old.number c answer.1 ∷ [])
 tells-asked s c old new (Err refused) tells = tt
 
--- how a call ended, whatever it was answered
+-- how a call ended, whatever the answer
 abbrev pub ended : Result (ℕ × Reply) Refused → Result (Unit {0}) Refused
 ended (Ok answer) = Ok (tt {0})
 ended (Err refused) = Err refused
 
--- what a call tells is that it was made, or why not
+-- the result of a call says that it was made, or why not
 pub made : (s : Supply) (c : Call) (old new : Desk) (r : Result (ℕ × Reply) Refused) → Tells s c old r new → MakesCall s c old (ended r) new
 made s c old new (Ok answer) tells = record { office = tells.office; desk = tells.desk; made = tells-asked s c old new (Ok answer) tells; unchanged = tt; cause = tt }
 made s c old new (Err refused) tells = record { office = tells.office; desk = tells.desk; made = tt; unchanged = tells.unchanged; cause = tells.cause }

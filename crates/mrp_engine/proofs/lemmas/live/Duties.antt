@@ -1,4 +1,4 @@
--- The work of desks is begun, ends, and is what they were there for.
+-- The work of desks is begun, ends, and does what they had to do.
 use Rattle.std.proofs.Common.{◌≡◌, ◌<◌, ◌-◌, ℕ, List, ◌∷◌, [], Result, Ok, Err, IfErr, IfOk, length, arith, subst, sym}
 use Rattle.std.specs.declared.thread.PromisedHandle.{PromisedHandle}
 use Rattle.std.specs.declared.thread.SpawnError.{SpawnError}
@@ -29,7 +29,7 @@ module _ (office : TurnId Shop) (lists : List (Vec Call)) where
     IsBegun d (Ok handle) = (s : Served) → IsDone handle.promise s → Serves office lists d s
     IsBegun d (Err left) = IsOf d left.value
 
-    -- it is begun as what was asked for tells
+    -- it is begun as the request says
     pub begun-as : (d : Desk) (b : Result (PromisedHandle Served Duty) (SpawnError F)) (duty : Duty) (work : F) → IfOk b (λ handle. handle.promise ≡ duty) → IfErr b (λ left. left.value ≡ work)
         → ((s : Served) → IsDone duty s → Serves office lists d s) → IsOf d work → IsBegun d b
     begun-as d (Ok handle) duty work promised back does is = λ s done. does s (subst (λ (p : Duty). IsDone p s) promised done)
@@ -42,7 +42,7 @@ module _ (office : TurnId Shop) (lists : List (Vec Call)) where
     left-can Can d (Ok handle) (Err left) begun ends can = absurd ends
     left-can Can d (Err left) e begun ends can = subst (λ x. IfErr x (λ l. Can l.value)) (sym ends) (can left.value begun)
 
-    -- what comes of it serves the desk
+    -- its result serves the desk
     pub serves-all : (Gives : F → Served → Type 0) (d : Desk) (b : Result (PromisedHandle Served Duty) (SpawnError F)) (e : Result Served (SpawnError F)) (s : Served) → IsBegun d b → EndsAs b e
         → GivesWhat Gives e s → ((work : F) → IsOf d work → Gives work s → Serves office lists d s) → Serves office lists d s
     serves-all Gives d (Ok handle) (Ok done) s begun ends gives does = subst (Serves office lists d) (sym gives) (begun done ends)

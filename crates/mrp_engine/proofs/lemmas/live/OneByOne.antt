@@ -1,9 +1,9 @@
--- Work is taken from the front of a list, and what comes of it is put at the end of another.
+-- Work is taken from the beginning of a list, and its result is appended to another.
 use Rattle.std.proofs.Common.{◌≡◌, ◌∙◌, ◌<◌, ◌≤◌, ◌+◌, ◌++◌, ℕ, List, [], ◌∷◌, length, get_or, ap, arith, inl, inr, refl, subst, sym}
 use Rattle.std.proofs.lemmas.Bool.{cases_lt}
 use Rattle.std.proofs.lemmas.List.{append-nil, append_assoc, get_or_append_left, get_or_push, length_push}
 
--- some of the elements are done, the others are left; each that is done stands to what came of it as R says
+-- some of the elements are done, the others are left; each that is done is related by R to its result
 pub record AreDoneInTurn {X Y : Type 0} (R : X → Y → Type 0) (all rest : List X) (ends : List Y) : Type 0 where
   pub done : List X
   pub left : all ≡ done ++ rest
@@ -31,7 +31,7 @@ one-done R all rest left ends now x y before is adds fits = record {
   ];
 }
 
--- what was room for all that is left and done is so with one more done
+-- room for all that is left and done is still enough with one more done
 pub room-left : {X Y : Type 0} (rest left : List X) (ends now : List Y) (x : X) (y : Y) (room more : ℕ) → rest ≡ x ∷ left → now ≡ ends ++ y ∷ [] → more ≡ room → length rest + length ends ≤ room → length left + length now ≤ more
 room-left rest left ends now x y room more is adds same within =
     let less = ap length is in

@@ -32,7 +32,7 @@ more : (done : List Served) (s : Served) (end new : End) → EndAs done end → 
 more done s (Ok u) new ends ok refused = last done s new ends (sym (ok refl))
 more done s (Err e) new ends ok refused = subst (EndAs (done ++ s ∷ [])) (sym (refused e refl)) (kept done s e ends)
 
--- an end that is well is no refusal
+-- an ending without error is no refusal
 pub well-not-refused : {X : Type 0} (end : End) → is_ok end ≡ true → (e : Refused) → end ≡ Err e → X
 well-not-refused (Ok u) well e is = absurd (cc)
 well-not-refused (Err f) well e is = absurd (cc)

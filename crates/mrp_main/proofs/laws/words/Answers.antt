@@ -5,13 +5,13 @@ use Rattle.clap.proofs.OnLiterals.{clap_on_literals}
 use Rattle.mrp_main.specs.Words.{IsRunIn}
 use Rattle.mrp_main.proofs.laws.words.Goals as goal
 
--- where nothing is named, no run is
+-- if nothing is named, no run is
 none-named : (rows : List Row) (number : ℕ) → one_of (codes "run") rows ≡ None → IsRunIn rows number → ⊥
 none-named rows number none p =
     let some : None ≡ Some p.text = sym none ∙ p.given in
     cc
 
--- where 2 is named, the run is 2
+-- if 2 is named, the run is 2
 two-named : (rows : List Row) (number : ℕ) → one_of (codes "run") rows ≡ Some (codes "2") → IsRunIn rows number → Some 2 ≡ Some number
 two-named rows number two p =
     let same : Some (codes "2") ≡ Some p.text = sym two ∙ p.given in

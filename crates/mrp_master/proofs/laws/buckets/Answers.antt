@@ -1,4 +1,4 @@
--- The lemmas say the clauses.
+-- The lemmas state the clauses.
 use Rattle.mrp_master.proofs.Carried.{buckets_available}
 use Rattle.mrp_master.proofs.ItemRows.{buckets_promised, empty_bucket}
 use Rattle.mrp_master.proofs.NextOpening.{opening-bucket, overdrawn-bucket, none-lacking}

@@ -1,4 +1,4 @@
--- The lemmas say the clauses.
+-- The lemmas state the clauses.
 use Rattle.mrp_master.proofs.Promises.{earliest_is, earliest_unique}
 use Rattle.mrp_master.proofs.laws.earliest.Goals as goal
 

@@ -1,4 +1,4 @@
--- The lemmas say the clauses.
+-- The lemmas state the clauses.
 use Rattle.mrp_master.proofs.Available.{least_is_available, available_is_least, available_unique}
 use Rattle.mrp_master.proofs.Promises.{available_is, fits_promise, promise_fits}
 use Rattle.mrp_master.proofs.laws.promising.Goals as goal

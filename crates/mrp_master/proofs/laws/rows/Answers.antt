@@ -1,4 +1,4 @@
--- The lemmas say the clauses.
+-- The lemmas state the clauses.
 use Rattle.mrp_master.specs.Supply.{line}
 use Rattle.std.proofs.Common.{refl, ◌++◌, ◌∷◌}
 use Rattle.mrp_master.proofs.ItemRows.{available_row, booked_to, firm_from_first, fits_row, is_row, parted, row_available, row_fits, row_same_with, row_same_without, row_with, row_without, supplied_to}

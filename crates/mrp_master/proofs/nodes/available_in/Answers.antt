@@ -1,4 +1,4 @@
--- From a week's place to the root, with what the weeks below change and the least from the week on.
+-- From a week's place to the root, with the net change of the weeks below and the least from the week on.
 use Rattle.std.proofs.Common.{ℕ, ◌≡◌, ◌≤◌, ◌<◌, ◌+◌, ◌-◌, ◌*◌, ◌/◌, ap, refl, subst, ◌∙◌, arith}
 use Rattle.std.proofs.lemmas.Int.{ints}
 use Rattle.mrp_master.specs.declared.nodes.Node.{Node}
@@ -73,7 +73,7 @@ loop-node-preserved g c =
           }
     ]
 
--- at the root the weeks are all
+-- at the root these are all weeks
 all_since : (r : AtpRow) (week n : ℕ) (node : Node) → n ≡ 1 → IsSpan r (before n) week (last n) node → IsSpan r 0 week 128 node
 all_since r week n node root x = span_at r (before n) week (last n) 0 week 128 node (ap before root ∙ root_before) refl (ap last root ∙ root_last) x
 

@@ -10,7 +10,7 @@ use Rattle.mrp_master.proofs.NodeReads.{at_most, one_more, one_read}
 use Rattle.mrp_master.proofs.Spans.{covered_to, little_to, span_little}
 use Rattle.mrp_master.proofs.nodes.earliest_in.Goals as goal
 
--- the sums of the walk, by a node that was read of the row, are numbers of the code
+-- the sums of the walk, by a node read from the row, are within the code's integers
 walk_fits : (r read : AtpRow) (quantity node n : ℕ) (end : ℤ) (later : Node) → IsPromiseRow r → IsWalk r quantity node end → read ≡ r → IsNode read n later
     → FitsSigned w64 later.sum × FitsSigned w64 later.least × FitsSigned w64 (end -ℤ later.sum) × FitsSigned w64 (end -ℤ later.sum +ℤ later.least)
 walk_fits r read quantity node n end later kept w same x =

@@ -1,4 +1,4 @@
--- Each item stands in the stock at most once, so its row says all that is on hand of it.
+-- Each item is in the stock table at most once, so its row has all its stock on hand.
 use Rattle.std.proofs.Common.{length}
 use Rattle.std.proofs.lemmas.List.{length-set}
 use Rattle.mrp_master.proofs.OnHand.{on_hand_set, on_hand_of_each}

@@ -1,4 +1,4 @@
--- The two nodes below are what their weeks change, so no sum of them is past a number of the code.
+-- The two nodes below are the net change of their weeks, so the sums of the two are within the code's integers.
 use Rattle.std.proofs.Common.{ℕ, ◌+◌, ◌*◌, ◌≤◌, ◌<◌, FitsSigned, w64, ◌+ℤ◌, List, arith}
 use Rattle.mrp_master.specs.declared.nodes.Node.{Node}
 use Rattle.mrp_master.specs.AtpRow.{AtpRow}

@@ -4,7 +4,7 @@ use Rattle.mrp_phase.specs.Weeks.{in_week, sum_to}
 use Rattle.mrp_phase.proofs.WeekRows.{in_week_next, sum_to_rises, sum_to_next}
 use Rattle.mrp_net.proofs.balances.balances_within.Goals as goal
 
--- what comes in a week is in the sum up to each later one
+-- what is received in a week is in the sum up to each later one
 sum_to_past : (xs : List ℕ) (i weeks : ℕ) → i < weeks → sum_to xs i + in_week xs (i + 1) ≤ sum_to xs weeks
 sum_to_past xs i weeks h = omega (arith, sum_to_next xs i, sum_to_rises xs (i + 1) weeks (omega arith))
 

@@ -31,7 +31,7 @@ split_at-requires c =
     let long = ap length (c.as_slice.ensures.value ∙ c.in_ok-supplies.ensures) in
     omega (arith, long)
 
--- what comes stands behind what is on hand
+-- what comes is after what is on hand
 behind : (x : Supply) (xs : List Supply) → drop 1 (x ∷ xs) ≡ xs
 behind x [] = refl
 behind x (y ∷ xs) = refl

@@ -8,9 +8,9 @@ use Rattle.mrp_item.specs.Inputs.{Inputs, horizon, is_master, item_at}
 use Rattle.mrp_item.specs.Limits.{IsSized}
 use Rattle.mrp_item.specs.Places.{PlannedItem}
 use Rattle.mrp_item.specs.Plan.{outcome_of, plan_in}
-use Rattle.mrp_peg.specs.declared.matching.Wanted.{Wanted}
+use Rattle.mrp_peg.specs.declared.matching.Requirement.{Requirement}
 use Rattle.mrp_peg.specs.Weekly.{AreWithin, by_weeks}
-use Rattle.mrp_peg.specs.Rows.{all_wanted, beyond, booking_wanted, demand_wanted, forecast_wanted, parents_wanted}
+use Rattle.mrp_peg.specs.Rows.{all_requirements, beyond, booking_requirement, independent_requirements, forecast_requirements, parent_requirements}
 use Rattle.mrp_peg.proofs.Listed.{bookings_within}
 use Rattle.mrp_peg.proofs.Own.{gross-length}
 use Rattle.mrp_peg.proofs.pegging.listed_needs.Goals as goal
@@ -51,15 +51,15 @@ returns-then-is_master_item-clause-needs c =
     let size : length c.as_slice.result.now ≡ horizon s = ap length gross ∙ gross-length s i c.requires.own in
     let dues : c.bookings.result.now ≡ booking_dues s.standing i = c.bookings.ensures.dues ∙ ap (λ (y : Inputs). booking_dues y.standing i) e in
     let horizon_is : c.weeks.result ≡ horizon s = c.weeks.ensures.value ∙ ap (λ (y : Inputs). horizon y) e in
-    let F : List Due → List ℕ → ℕ → ℕ → List Wanted = λ b g n m. map (booking_wanted i) b ++ flat_map (forecast_wanted i (row n (beyond g b))) (weeks m) in
+    let F : List Due → List ℕ → ℕ → ℕ → List Requirement = λ b g n m. map (booking_requirement i) b ++ flat_map (forecast_requirements i (row n (beyond g b))) (weeks m) in
     let whole = ap (λ b. F b c.as_slice.result.now (length c.as_slice.result.now) c.weeks.result) dues
     ∙ ap (λ g. F (booking_dues s.standing i) g (length c.as_slice.result.now) c.weeks.result) gross
     ∙ ap (λ n. F (booking_dues s.standing i) (plan_in (outcome_of s i)).gross n c.weeks.result) size
     ∙ ap (λ m. F (booking_dues s.standing i) (plan_in (outcome_of s i)).gross (horizon s) m) horizon_is
-    ∙ sym (ap (λ b. cond b (demand_wanted s i) (parents_wanted s i)) master) in
-    let needs : c.in_ok-needs.needs.items ≡ all_wanted s i = c.in_ok-needs.ensures ∙ whole in
-    let W : List Wanted → Type 0 = λ l. AreWithin (λ (w : Wanted). w.need.week) 1 (horizon s) l in
-    c.in_ok-sort_needs.ensures 1 (horizon s) (subst W (sym needs) c.requires.within) ∙ ap (by_weeks (λ (w : Wanted). w.need.week) (weeks (horizon s))) needs
+    ∙ sym (ap (λ b. cond b (independent_requirements s i) (parent_requirements s i)) master) in
+    let needs : c.in_ok-needs.needs.items ≡ all_requirements s i = c.in_ok-needs.ensures ∙ whole in
+    let W : List Requirement → Type 0 = λ l. AreWithin (λ (w : Requirement). w.need.week) 1 (horizon s) l in
+    c.in_ok-sort_needs.ensures 1 (horizon s) (subst W (sym needs) c.requires.within) ∙ ap (by_weeks (λ (w : Requirement). w.need.week) (weeks (horizon s))) needs
 
 pub returns-clause-needs : goal.returns-clause-needs
 returns-clause-needs c =
@@ -67,8 +67,8 @@ returns-clause-needs c =
     let i = c.args.item in
     let e : c.deref-inputs.result.now ≡ s = c.deref-inputs.ensures ∙ c.inputs.ensures.inputs in
     let part : is_master s i ≡ false = sym (ap (λ (y : Inputs). is_master y i) e) ∙ sym c.is_master_item.ensures.class ∙ c.if-is_master_item.false in
-    let Q : List Wanted → Type 0 = λ l. IfOk c.parents_of.result (λ needs. needs.items ≡ l) in
-    subst Q (ap (by_weeks (λ (w : Wanted). w.need.week) (weeks (horizon s))) (sym (ap (λ b. cond b (demand_wanted s i) (parents_wanted s i)) part))) c.parents_of.ensures
+    let Q : List Requirement → Type 0 = λ l. IfOk c.parents_of.result (λ needs. needs.items ≡ l) in
+    subst Q (ap (by_weeks (λ (w : Requirement). w.need.week) (weeks (horizon s))) (sym (ap (λ b. cond b (independent_requirements s i) (parent_requirements s i)) part))) c.parents_of.ensures
 
 pub returns-then-is_master_item-clause-sized : goal.returns-then-is_master_item-clause-sized
 returns-then-is_master_item-clause-sized c =

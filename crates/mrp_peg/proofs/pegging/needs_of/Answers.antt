@@ -5,10 +5,10 @@ use Rattle.mrp_master.specs.Supply.{supply_of}
 use Rattle.mrp_book.specs.Booked.{AreBooked}
 use Rattle.mrp_item.specs.Inputs.{Inputs}
 use Rattle.mrp_item.specs.Plan.{HasParents, IsRanked}
-use Rattle.mrp_peg.specs.Matching.{amounts_wanted}
+use Rattle.mrp_peg.specs.Matching.{amounts_required}
 use Rattle.mrp_peg.proofs.Covered.{covered_item}
 use Rattle.mrp_peg.proofs.Dropped.{always_ok}
-use Rattle.mrp_peg.proofs.Listed.{requirements_are, wanted_within}
+use Rattle.mrp_peg.proofs.Listed.{requirements_are, requirements_within}
 use Rattle.mrp_peg.proofs.Own.{own-of_all}
 use Rattle.mrp_peg.proofs.pegging.needs_of.Goals as goal
 
@@ -28,7 +28,7 @@ listed_needs-requires-clause-within c =
     let e : c.deref-inputs.result.now ≡ s = c.deref-inputs.ensures ∙ c.inputs.ensures.inputs in
     let R : Inputs → Type 0 = λ x. IsRanked x code in
     let B : Inputs → Type 0 = λ x. AreBooked (supply_of x.tables) x.standing in
-    wanted_within s c.args.item code (subst R e c.shop-ranked.ensures.ranked) (subst B e c.snapshot-booked.ensures.booked)
+    requirements_within s c.args.item code (subst R e c.shop-ranked.ensures.ranked) (subst B e c.snapshot-booked.ensures.booked)
 
 pub returns-clause-needs : goal.returns-clause-needs
 returns-clause-needs c =
@@ -38,7 +38,7 @@ returns-clause-needs c =
     let e : c.deref-inputs.result.now ≡ s = c.deref-inputs.ensures ∙ c.inputs.ensures.inputs in
     let R : Inputs → Type 0 = λ x. IsRanked x code in
     let are = requirements_are s i (own-of_all s i code c.args.plan.now.plans (subst R e c.shop-ranked.ensures.ranked) (subst HasParents e c.shop-ranked.ensures.parents) c.inputs.ensures.plan c.requires) in
-    IfOk-weaker c.listed_needs.result _ _ (λ needs told. ap amounts_wanted told ∙ are) c.listed_needs.ensures.needs
+    IfOk-weaker c.listed_needs.result _ _ (λ needs told. ap amounts_required told ∙ are) c.listed_needs.ensures.needs
 
 pub returns-clause-covered : goal.returns-clause-covered
 returns-clause-covered c =

@@ -42,7 +42,7 @@ pub returns-in-Some-clause-some : goal.returns-in-Some-clause-some
 returns-in-Some-clause-some c =
     IfOk-weaker c.alone.result _ _ (λ (v : Vec Cause Global) e has. omega (arith, ap length e)) c.alone.ensures
 
--- a list that has all causes is not empty where there is one
+-- a list that has all causes is not empty if there is one
 not_empty : (s : Inputs) (n : Need) (causes : List Cause) (x : Cause) → IsTrace s n causes → IsCause s n x → 0 < length causes
 not_empty s n causes x trace why = let (k, within, is) = (trace.each x).1 why in omega (arith, within)
 

@@ -1,4 +1,4 @@
--- There is so much available.
+-- So much is available.
 use Rattle.mrp_master.specs.Supply.{supply_of}
 use Rattle.mrp_master.proofs.Promises.{available_is}
 use Rattle.mrp_book.specs.Bookings.{lines_of}

@@ -7,7 +7,7 @@ use Rattle.std.specs.Prelude.{decimal}
 use Rattle.csv.specs.Writing.{default_writer, needs_byte, needs_quotes}
 use Rattle.mrp_report.specs.page.CsvCells.{cell_text}
 
--- a byte from the digit nought on calls for none
+-- a byte from the digit 0 on needs none
 digit : (b : ℕ) → 48 ≤ b → needs_byte default_writer b ≡ false
 digit b h = rw (ne_eqb b 44 (λ e. omega arith), ne_eqb b 34 (λ e. omega arith), ne_eqb b 13 (λ e. omega arith), ne_eqb b 10 (λ e. omega arith)) refl
 

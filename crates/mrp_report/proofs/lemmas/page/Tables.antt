@@ -11,7 +11,7 @@ abbrev blocks : (ℕ → List ℕ) → ℕ → ℕ → List ℕ
 blocks f zero k = []
 blocks f (suc n) k = f k ++ blocks f n (suc k)
 
--- the block at a place, and what stands behind it
+-- the block at a place, and what follows it
 at : (f : ℕ → List ℕ) → ((k : ℕ) → k < 1000 → length (f k) ≡ 4) → (n k p : ℕ) → p < n → n + k ≤ 1000 → (rest : List ℕ) × (drop (p * 4) (blocks f n k) ≡ f (k + p) ++ rest)
 at f four zero k p lt le = absurd (omega arith)
 at f four (suc n) k zero lt le =
@@ -24,7 +24,7 @@ at f four (suc n) k (suc p) lt le =
     let e2 : k + suc p ≡ suc k + p = omega arith in
     (below.0, rw (e, drop-append-add (f k) (blocks f n (suc k)) (p * 4), e2) below.1)
 
--- a number behind a comma, and spaces
+-- a number after a comma, and spaces
 abbrev cell_in_four : ℕ → List ℕ
 cell_in_four k = take 4 ((44 ∷ decimal k) ++ (32 ∷ 32 ∷ 32 ∷ 32 ∷ []))
 
@@ -44,7 +44,7 @@ short n h = length-decimal-le 3 n (omega arith) (omega arith) (omega arith)
 four_long : (k : ℕ) → k < 1000 → length (cell_in_four k) ≡ 4
 four_long k h = length-take-le 4 ((44 ∷ decimal k) ++ (32 ∷ 32 ∷ 32 ∷ 32 ∷ [])) (omega (arith, length-append (44 ∷ decimal k) (32 ∷ 32 ∷ 32 ∷ 32 ∷ [])))
 
--- the first bytes of a block, where the table goes on
+-- the first bytes of a block, if the table goes on
 front : (cell pad rest : List ℕ) → length cell ≤ 4 → 4 ≤ length (cell ++ pad) → take (length cell) (take 4 (cell ++ pad) ++ rest) ≡ cell
 front cell pad rest few long =
     take-append-le (length cell) (take 4 (cell ++ pad)) rest (omega (arith, length-take-le 4 (cell ++ pad) long))

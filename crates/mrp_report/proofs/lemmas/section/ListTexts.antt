@@ -1,4 +1,4 @@
--- Texts of a list's elements, one after the other.
+-- Texts of a list's elements, in order.
 use Rattle.std.proofs.Common.{◌≡◌, ◌∙◌, ℕ, ◌+◌, ◌<◌, List, [], ◌∷◌, ◌++◌, length, take, drop, get_or, sym, ap, arith, append_assoc}
 use Rattle.std.proofs.Math.Seq.{take-length}
 use Rattle.std.proofs.lemmas.List.{append-nil, flat_map_more, take-append-drop, take_more}
@@ -6,7 +6,7 @@ use Rattle.std.proofs.lemmas.List.Concat.{flat_map-append}
 use Rattle.std.proofs.lemmas.List.FromFn.{get_or-enumerate_from, length-enumerate_from}
 use Rattle.std.specs.List.{enumerate_from, flat_map}
 
--- the text of the first k elements, behind what stands before
+-- the text of the first k elements, after what was there before
 abbrev pub so_far : {A : Type 0} → List ℕ → (A → List ℕ) → List A → ℕ → List ℕ
 so_far before text xs k = before ++ flat_map text (take k xs)
 
@@ -19,7 +19,7 @@ so_far-more {A} before text xs k x d within is =
     ap (λ (ys : List A). before ++ flat_map text ys) (take_more xs k d within ∙ ap (λ (y : A). take k xs ++ y ∷ []) (sym is))
     ∙ sym (flat_map_more text before (take k xs) x)
 
--- one more element was added behind a text
+-- one more element was added after a text
 pub so_far-added : {A : Type 0} (before : List ℕ) (text : A → List ℕ) (xs : List A) (k : ℕ) (x d : A) (page next : List ℕ) → page ≡ so_far before text xs k → k < length xs → x ≡ get_or xs k d → next ≡ page ++ text x
     → next ≡ so_far before text xs (k + 1)
 so_far-added before text xs k x d page next begun within is adds =

@@ -1,4 +1,4 @@
--- Texts of a list's elements are written, one after the other.
+-- Texts of a list's elements are written, in order.
 use Rattle.std.proofs.Common.{◌≡◌, ℕ, ◌+◌, ◌-◌, ◌<◌, ◌≤◌, List, ◌++◌, length, get_or, Option, sym, subst, refl}
 use Rattle.mrp_rows.specs.declared.told.Told.{Told}
 use Rattle.mrp_report.specs.Written.{PassesOn}

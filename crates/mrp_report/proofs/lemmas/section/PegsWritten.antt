@@ -5,7 +5,7 @@ use Rattle.mrp_report.specs.section.PegRows.{IsAdded}
 use Rattle.mrp_report.specs.Written.{PassesOn}
 use Rattle.mrp_report.proofs.Progress.{IsWritten, written-more, written-passed}
 
--- so much of a whole is passed on or on the page, and so much is to come
+-- so much of a whole is passed on or on the page, and so much is still to come
 pub record IsWrittenTo {W : Type 0} (contents : W → Option (List ℕ)) (start now : Told W) (first tries : ℕ) (page left whole : List ℕ) : Type 0 where
   pub text : List ℕ
   pub written : IsWritten contents start now first tries page text

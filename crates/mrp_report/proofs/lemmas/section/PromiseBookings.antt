@@ -77,7 +77,7 @@ sums-rise f g n zero less within = omega arith
 sums-rise f g n (suc t) less within =
     omega (arith, sum_to_suc (row n f) t, sum_to_suc (row n g) t, in_week_row f n (suc t) (omega arith) within, in_week_row g n (suc t) (omega arith) within, less (suc t), sums-rise f g n t less (omega (arith, within)))
 
--- what stands, and each front of an item's part of it, is covered
+-- what stands, and each prefix of an item's part of it, is covered
 pub fronts-covered : (s : Supply) (bookings : List Booking) (item k : ℕ) (dues : List Due) → IsSupply s → AreBooked s bookings → IsMaster s item
     → ((week : ℕ) → due_sum dues week ≡ due_in item week (lines_of bookings)) → k < length dues → IsCoveredRow (row_with s item (take (k + 1) dues))
 fronts-covered s bookings item k dues is are master same within t inside =

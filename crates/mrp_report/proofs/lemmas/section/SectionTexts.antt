@@ -13,7 +13,7 @@ use Rattle.mrp_report.specs.declared.section.Section.TheVariants as section
 abbrev pub in_order : List Section
 in_order = section.Promises ∷ section.Plan ∷ section.Orders ∷ section.Pegs ∷ section.Messages ∷ section.Loads ∷ []
 
--- a text with one more section behind it
+-- a text with one more section after it
 next : (text start : List ℕ) (f : Section → List ℕ) (xs : List Section) (x : Section) → text ≡ start ++ flat_map f xs → text ++ f x ≡ start ++ flat_map f (xs ++ x ∷ [])
 next text start f xs x is = ap (λ (t : List ℕ). t ++ f x) is ∙ flat_map_more f start xs x
 

@@ -8,7 +8,7 @@ use Rattle.mrp_report.specs.declared.section.sheet.Sheet.{Sheet}
 use Rattle.mrp_report.specs.declared.section.sheet.Sums.{Sums}
 use Rattle.mrp_report.specs.section.Sheet.{AreSums, sheet_row}
 
--- what stands in the week behind a place
+-- what is in the week after a place
 pub record IsWeek (s : Sheet) (place gross scheduled received : ℕ) : Type 0 where
   pub gross_is : gross ≡ get_or s.gross.now place 0
   pub scheduled_is : scheduled ≡ get_or s.scheduled.now place 0
@@ -18,7 +18,7 @@ pub record IsWeek (s : Sheet) (place gross scheduled received : ℕ) : Type 0 wh
 pub read-at : (xs : List ℕ) (value at place d : ℕ) → value ≡ get_or xs at d → at ≡ place → place < length xs → value ≡ get_or xs place 0
 read-at xs value at place d read same within = read ∙ ap (λ k. get_or xs k d) same ∙ get_or_default_zero xs place d within
 
--- the row of the week behind a place, from the sums up to the place
+-- the row of the week after a place, from the sums up to the place
 pub row_is : (s : Sheet) (place gross scheduled received start : ℕ) (sums : Sums) → AreSums s place sums → IsWeek s place gross scheduled received → start ≡ get_or s.started.now place 0 → (receipts firm planned balance : ℕ)
     → receipts ≡ (if s.is_master then 0 else scheduled) → firm ≡ (if s.is_master then scheduled else 0)
     → planned ≡ received - sums.received → balance ≡ (sums.supplied + scheduled + received) - (sums.required + gross)

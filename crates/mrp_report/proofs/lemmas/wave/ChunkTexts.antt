@@ -26,7 +26,7 @@ between-none text a =
     let none : a - a ≡ 0 = omega arith in
     ap (λ (n : ℕ). flat_map text (range_with_len a n)) none
 
--- the texts of two stretches of places, one behind the other
+-- the texts of two stretches of places, one after another
 pub between-both : (text : ℕ → List ℕ) (a b c : ℕ) → a ≤ b → b ≤ c → between text a c ≡ between text a b ++ between text b c
 between-both text a b c first second =
     let start : a + (b - a) ≡ b = omega (arith, first) in
@@ -84,22 +84,22 @@ chunk-more c from k within =
     ap (between (row_of c) from) (sym next)
     ∙ between-both (row_of c) from there (end_of c there 1) (reach-from count c.size from k within) (reach-from count c.size there 1 (reach-within count c.size from k))
 
--- what is left of some chunks behind the first of them
+-- what is left of some chunks after the first of them
 pub chunks-rest : (c : Chunks) (from k all : ℕ) → from ≤ count_of c → k ≤ all → rows_from c from all ≡ rows_from c from k ++ between (row_of c) (end_of c from k) (end_of c from all)
 chunks-rest c from k all within less =
     let more : k * c.size ≤ all * c.size = mul-le-mul_right c.size less in
     let on : end_of c from k ≤ end_of c from all = omega (arith, more) in
     between-both (row_of c) from (end_of c from k) (end_of c from all) (reach-from (count_of c) c.size from k within) on
 
--- what is left of all rows behind those before a place
+-- what is left of all rows after those before a place
 pub rows-rest : (c : Chunks) (to : ℕ) → to ≤ count_of c → rows_in c ≡ between (row_of c) 0 to ++ between (row_of c) to (count_of c)
 rows-rest c to within = rows-between c ∙ between-both (row_of c) 0 to (count_of c) (omega arith) within
 
--- no place is told yet
+-- no place is done yet
 pub before-places : (text : ℕ → List ℕ) (a : ℕ) (before : List ℕ) → before ≡ before ++ between text a a
 before-places text a before = sym (ap (λ (t : List ℕ). before ++ t) (between-none text a) ∙ append-nil before)
 
--- one more place is told behind what stands before
+-- one more place is done after what was there before
 pub behind-places : (text : ℕ → List ℕ) (a b : ℕ) (before : List ℕ) → a ≤ b → before ++ between text a (b + 1) ≡ before ++ between text a b ++ text b
 behind-places text a b before within =
     ap (λ (t : List ℕ). before ++ t) (between-more text a b within) ∙ sym (append_assoc before (between text a b) (text b))
@@ -109,7 +109,7 @@ pub place-added : (text : ℕ → List ℕ) (a b : ℕ) (page next before : List
 place-added text a b page next before within is adds =
     adds ∙ ap (λ (t : List ℕ). t ++ text b) is ∙ sym (behind-places text a b before within)
 
--- all rows behind what stands before, of which those before a place are told
+-- all rows after what was there before, when those before a place are done
 pub places-rest : (c : Chunks) (to : ℕ) (before : List ℕ) → to ≤ count_of c → before ++ rows_in c ≡ before ++ between (row_of c) 0 to ++ between (row_of c) to (count_of c)
 places-rest c to before within =
     ap (λ (t : List ℕ). before ++ t) (rows-rest c to within) ∙ sym (append_assoc before (between (row_of c) 0 to) (between (row_of c) to (count_of c)))

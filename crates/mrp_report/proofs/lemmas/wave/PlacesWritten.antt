@@ -1,4 +1,4 @@
--- Rows of places and chunks are written, one after the other.
+-- Rows of places and chunks are written, in order.
 use Rattle.std.proofs.Common.{◌≡◌, ◌∙◌, ℕ, zero, suc, ◌+◌, ◌-◌, ◌<◌, ◌≤◌, List, [], ◌∷◌, ◌++◌, Option, Some, None, IfSome, Result, Err, get_or, length, sym, ap, subst, refl, arith, append_assoc}
 use Rattle.std.proofs.lemmas.List.{get_or_default}
 use Rattle.mrp_rows.specs.declared.told.Told.{Told}
@@ -10,7 +10,7 @@ use Rattle.mrp_report.specs.declared.wave.cut.Chunks.{Chunks}
 use Rattle.mrp_report.proofs.lemmas.wave.ChunkTexts.{behind-places, between-both, between-none, chunk-more, chunks-rest, reach-from, reach-next, reach-none, reach-within, rows-rest}
 use Rattle.mrp_report.proofs.Progress.{IsWritten, ends-failed, ends-refused, written-more, written-next, written-none, written-taken}
 
--- what there is, where there is some
+-- what there is, if there is any
 pub some-is : {A : Type 0} (o : Option A) (x : A) (P : A → Type 0) → IfSome o P → o ≡ Some x → P x
 some-is {A} o x P holds is = subst (λ (p : Option A). IfSome p P) is holds
 
@@ -41,7 +41,7 @@ module _ {W : Type 0} (contents : W → Option (List ℕ)) (start : Told W) (fir
   next-chunk now then tries fewer c from k page within is w less taken =
       written-taken contents start now then first tries fewer page (rows_from c from (k + 1)) (with-chunk now tries c from k page within is w) less taken
 
-  -- memory was refused for the next chunk
+  -- memory ran out for the next chunk
   pub chunk-refused : {T D : Type 0} (now : Told W) (tries : ℕ) (c : Chunks) (from k all : ℕ) (r : Result T ReportFault) → from ≤ count_of c → k ≤ all → IsWritten contents start now first tries [] (rows_from c from k)
       → r ≡ Err NoMemory → Ends contents start now (rows_from c from all) first tries r D
   chunk-refused now tries c from k all r within less w refused =
@@ -54,7 +54,7 @@ module _ {W : Type 0} (contents : W → Option (List ℕ)) (start : Told W) (fir
       ends-failed contents start now then first tries left page (rows_from c from (k + 1)) (between (row_of c) (end_of c from (k + 1)) (end_of c from all)) (rows_from c from all) f r
       (with-chunk now tries c from k page within is w) (chunks-rest c from (k + 1) all within less) part failed
 
-  -- some chunks are to be written behind the places so far
+  -- some chunks have to be written after the places so far
   with-wave : (now : Told W) (tries : ℕ) (c : Chunks) (from k : ℕ) → from ≤ count_of c → IsWritten contents start now first tries [] (between (row_of c) 0 from)
       → IsWritten contents start now first tries (rows_from c from k) (between (row_of c) 0 (end_of c from k))
   with-wave now tries c from k within w =
@@ -81,16 +81,16 @@ pub chunk-of : (c : Chunks) (from k : ℕ) (slots : List (Option (List ℕ))) (s
 chunk-of c from k slots slot page are within is holds =
     some-is (get_or slots k None) page (λ (t : List ℕ). t ≡ rows_from c (end_of c from k) 1) (are k within) (get_or_default slots k None slot within ∙ sym is ∙ holds)
 
--- a page was handed over, and nothing before
+-- a page was handed over, and nothing before it
 pub written-page : {W : Type 0} (contents : W → Option (List ℕ)) (start then : Told W) (first fewer : ℕ) (page : List ℕ) → fewer ≤ first → HasTaken contents start then page (first - fewer) → IsWritten contents start then first fewer [] page
 written-page contents start then first fewer page less taken =
     written-taken contents start start then first first fewer page page (written-none contents start first first page page refl refl) less taken
 
--- rows behind a head that was put on a page
+-- rows after a head that was put on a page
 pub head-behind : (page next head rows : List ℕ) → next ≡ page ++ head → next ++ rows ≡ page ++ (head ++ rows)
 head-behind page next head rows is = ap (λ (t : List ℕ). t ++ rows) is ∙ append_assoc page head rows
 
--- the page of a chunk, and those of the chunks behind it
+-- the page of a chunk, and those of the chunks after it
 pub chunks-joined : (c : Chunks) (from : ℕ) (one rest : List (Option (List ℕ))) → length one ≡ 1 → AreChunks c from one → AreChunks c (end_of c from 1) rest → AreChunks c from (one ++ rest)
 chunks-joined c from [] rest size first behind = absurd (omega (arith, size))
 chunks-joined c from (page ∷ []) rest size first behind = by

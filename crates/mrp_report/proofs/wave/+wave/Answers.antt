@@ -4,4 +4,4 @@ use Rattle.mrp_report.proofs.wave.+wave.Goals as goal
 
 pub fill_wave-returns : goal.fill_wave-returns
 fill_wave-returns g t c =
-    chunks-joined c.args.chunks.now c.args.from c.fill_beside.new.first c.fill_beside.new.rest (search rules) c.fill_beside.ensures.first c.fill_beside.ensures.rest
+    chunks-joined c.args.chunks.now c.args.from c.fill_parallel.new.first c.fill_parallel.new.rest (search rules) c.fill_parallel.ensures.first c.fill_parallel.ensures.rest

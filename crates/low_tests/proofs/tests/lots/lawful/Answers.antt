@@ -6,7 +6,7 @@ use Rattle.mrp_lots.specs.Lots.{receipts}
 use Rattle.mrp_lots.specs.LotLaws.{covers, idle, receipts_none}
 use Rattle.low_tests.proofs.tests.lots.lawful.Goals as goal
 
--- what a row of receipts has in a week, and in week 0
+-- a row of receipts in a week, and in week 0
 in_week_receipts : (f : ℕ → ℕ) (horizon t : ℕ) → f 0 ≡ 0 → t ≤ horizon → in_week (row horizon f) t ≡ f t
 unfolding in_week
 in_week_receipts f horizon zero none h = sym none

@@ -6,7 +6,7 @@ use Rattle.mrp_book.specs.Bookings.{lines_of}
 use Rattle.mrp_book.proofs.state.BookState.reply_to_when.Goals as goal
 use Rattle.mrp_book.proofs.state.BookState.reply_to_when.Goals.{After-earliest}
 
--- what is found for the item and the pieces that the readers tell is found for the wish's
+-- what is found for the item and the pieces that the accessors return is found for the wish's
 of_wish : (c : After-earliest) (found : Option ℕ) → IsEarliest c.args.self.now.supply (lines_of c.args.self.now.standing) c.item.result c.quantity.result found
     → IsEarliest c.args.self.now.supply (lines_of c.args.self.now.standing) c.args.wish.item c.args.wish.quantity found
 of_wish c found is =

@@ -1,4 +1,4 @@
-use Rattle.mrp_engine.proofs.lemmas.event_core.CoreSteps.{finish-wants, finished-after, finished-answer, finished-set, here-of}
+use Rattle.mrp_engine.proofs.lemmas.event_core.CoreSteps.{finish-out_of_memory, finished-after, finished-answer, finished-set, here-of}
 use Rattle.mrp_engine.proofs.event_core.Core.finish.Goals as goal
 
 pub returns-clause-answer : goal.returns-clause-answer
@@ -20,7 +20,7 @@ returns-clause-memory c =
     let i = c.self.inside in
     let r = c.index_mut.result.now in
     let here = here-of i.rows.value.tables i.book.entries i.runs.items c.args.self.now c.args.run c.in-Some.place r c.self.view_is c.self.invariant.runs c.in-Some.ensures.started.0 c.in-Some.ensures.started.1 c.index_mut.ensures.value in
-    finish-wants i.rows.value.tables i.book.entries i.runs.items c.args.self.now c.args.run c.in-Some.place r here c.args.worker c.finish.result (c.is_seat.ensures.0 c.if-not-is_seat.false) c.finish.ensures.memory
+    finish-out_of_memory i.rows.value.tables i.book.entries i.runs.items c.args.self.now c.args.run c.in-Some.place r here c.args.worker c.finish.result (c.is_seat.ensures.0 c.if-not-is_seat.false) c.finish.ensures.memory
 
 pub invariant_of-self : goal.invariant_of-self
 invariant_of-self c =

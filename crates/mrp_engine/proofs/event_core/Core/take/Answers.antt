@@ -1,5 +1,5 @@
 use Rattle.std.proofs.Common.{◌∙◌, sym}
-use Rattle.mrp_engine.proofs.lemmas.event_core.CoreSteps.{held-nothing, here-of, take-wants, taken-after, taken-answer, taken-set}
+use Rattle.mrp_engine.proofs.lemmas.event_core.CoreSteps.{held-nothing, here-of, take-out_of_memory, taken-after, taken-answer, taken-set}
 use Rattle.mrp_engine.proofs.event_core.Core.take.Goals as goal
 
 pub returns-then-is_some-clause-answer : goal.returns-then-is_some-clause-answer
@@ -38,4 +38,4 @@ returns-clause-memory c =
     let i = c.self.inside in
     let r = c.index_mut.result.now in
     let here = here-of i.rows.value.tables i.book.entries i.runs.items c.args.self.now c.args.run c.in-Some.place r c.self.view_is c.self.invariant.runs c.in-Some.ensures.started.0 c.in-Some.ensures.started.1 c.index_mut.ensures.value in
-    take-wants i.rows.value.tables i.book.entries i.runs.items c.args.self.now c.args.run c.in-Some.place r here c.args.worker c.held.result c.index.result.now c.take.result (c.is_seat.ensures.0 c.if-not-is_seat.false) (sym c.is_some.ensures ∙ c.if-is_some.false) c.held.ensures c.index.ensures c.take.ensures.memory
+    take-out_of_memory i.rows.value.tables i.book.entries i.runs.items c.args.self.now c.args.run c.in-Some.place r here c.args.worker c.held.result c.index.result.now c.take.result (c.is_seat.ensures.0 c.if-not-is_seat.false) (sym c.is_some.ensures ∙ c.if-is_some.false) c.held.ensures c.index.ensures c.take.ensures.memory

@@ -1,4 +1,5 @@
--- The row with another quantity in the week is covered, so its quantities are in range, and the nodes over the week are renewed.
+-- The row with the week's quantity replaced is covered, so its quantities are in range, and the nodes over the week are
+-- renewed.
 use Rattle.std.proofs.Common.{ℕ, ◌≡◌, ◌-◌, List, length, set, ap, sym, subst, ◌∙◌}
 use Rattle.std.proofs.lemmas.List.{with_items_is}
 use Rattle.mrp_phase.specs.Weeks.{with_week}
@@ -9,7 +10,7 @@ use Rattle.mrp_master.specs.Tree.{IsKept, IsMade, IsTree, row_of}
 use Rattle.mrp_master.proofs.Rebooked.{changed, others_made, pieces_little, rebooked}
 use Rattle.mrp_master.proofs.atp_row.AtpRow.book.Goals as goal
 
--- what the caller owes of the row, of what is kept of it
+-- the caller's requirement on the row, said of its fields
 as_kept : (kept row : AtpRow) (week pieces : ℕ) → kept ≡ row → IsWeekOf row week → IsCoveredRow (with_booked row week pieces) → IsWeekOf kept week × IsCoveredRow (with_booked kept week pieces)
 as_kept kept row week pieces is inside covered = subst (λ r. IsWeekOf r week × IsCoveredRow (with_booked r week pieces)) (sym is) (inside, covered)
 
@@ -20,7 +21,7 @@ quantity-requires c =
     let (inside, covered) = as_kept (row_of supply booked) c.args.self.now c.args.week c.args.pieces c.self.view_is c.requires.week c.requires.available in
     pieces_little supply booked c.self.inside.nodes.items c.args.week c.args.pieces c.self.invariant inside covered
 
--- the row of what is lent is the row with so much booked
+-- the row of the borrowed fields is the row with the new booking
 lent : (supply booked after d1 d2 : List ℕ) → d1 ≡ supply → d2 ≡ booked → booked ≡ after → row_of supply after ≡ row_of d1 d2
 lent supply booked after d1 d2 e f g = ap (λ xs. row_of xs after) (sym e) ∙ ap (row_of d1) (sym (f ∙ g))
 

@@ -8,13 +8,13 @@ use Rattle.mrp_master.specs.Tree.{IsTree, row_of}
 use Rattle.mrp_master.proofs.Fresh.{fresh_kept, fresh_row}
 use Rattle.mrp_master.proofs.atp_row.AtpRow.of.Goals as goal
 
--- with a vector of zeros, one for each week, it is the row of an item of which nothing is booked
+-- with a vector of zeros, one for each week, it is the row of an item without bookings
 is_fresh : (s : Supply) (item : ℕ) (supply booked : List ℕ) (count zero_is : ℕ) → supply ≡ row s.weeks (opening s item) → count ≡ length supply → zero_is ≡ 0 → booked ≡ replicate count zero_is
     → row_of supply booked ≡ atp_row s item []
 is_fresh s item supply booked count zero_is e g z is =
     fresh_row s item supply booked e (is ∙ ap (λ n. replicate n zero_is) (g ∙ ap length e ∙ length-row (opening s item) s.weeks) ∙ ap (λ (q : ℕ). replicate s.weeks q) z)
 
--- what is lent of a row is that row
+-- the borrowed fields of a row are that row
 lent : (supply booked xs ys : List ℕ) → xs ≡ supply → ys ≡ booked → row_of xs ys ≡ row_of supply booked
 lent supply booked xs ys e f = ap (λ l. row_of l ys) e ∙ ap (row_of supply) f
 

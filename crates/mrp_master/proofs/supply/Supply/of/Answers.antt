@@ -1,4 +1,4 @@
--- The rows of accepted tables are within what a supply keeps.
+-- The rows of accepted tables are within the limits of a supply.
 use Rattle.std.proofs.Common.{refl}
 use Rattle.mrp_master.proofs.ByItem.{firm_count}
 use Rattle.mrp_master.proofs.Supplied.{rows_are_supply}

@@ -1,10 +1,10 @@
 use Rattle.std.proofs.Common.{◌≡◌, ◌-◌, Some}
-use Rattle.mrp_peg.specs.Left.{wanted_left}
+use Rattle.mrp_peg.specs.Left.{required_left}
 use Rattle.mrp_peg.proofs.needs_left.NeedsLeft.fill.Given as goal
 
 abbrev pub invariant-loop-self : goal.invariant-loop-self
 invariant-loop-self l = record {
-  left : wanted_left l.self ≡ wanted_left l.initial.self;
+  left : required_left l.self ≡ required_left l.initial.self;
   part : l.self.part ≡ Some l.part;
 }
 

@@ -3,9 +3,9 @@ use Rattle.std.specs.Prelude.{slice_index}
 use Rattle.mrp_item.specs.Inputs.{Inputs, item_at}
 use Rattle.mrp_item.specs.Limits.{IsSized}
 use Rattle.mrp_item.specs.Plan.{HasParents, IsRanked}
-use Rattle.mrp_peg.specs.declared.matching.Wanted.{Wanted}
+use Rattle.mrp_peg.specs.declared.matching.Requirement.{Requirement}
 use Rattle.mrp_peg.specs.Left.{required_after}
-use Rattle.mrp_peg.specs.Matching.{amounts_wanted}
+use Rattle.mrp_peg.specs.Matching.{amounts_required}
 use Rattle.mrp_peg.proofs.Covered.{covered_item}
 use Rattle.mrp_peg.proofs.Own.{own-of_all}
 use Rattle.mrp_peg.proofs.WeeksLeft.{after_all}
@@ -15,7 +15,7 @@ pub returns-clause-needs : goal.returns-clause-needs
 returns-clause-needs c =
     let s = c.args.plan.now.inputs in
     let i = c.args.item in
-    ap (λ (l : List Wanted). amounts_wanted (drop 0 l) ++ required_after s i 0) c.new.ensures.items ∙ after_all s i
+    ap (λ (l : List Requirement). amounts_required (drop 0 l) ++ required_after s i 0) c.new.ensures.items ∙ after_all s i
 
 pub returns-clause-covered : goal.returns-clause-covered
 returns-clause-covered c =

@@ -6,7 +6,7 @@ use Rattle.mrp_bill.specs.Bill.{line_at, lines_of}
 use Rattle.mrp_item.specs.declared.order.Order.{Order}
 use Rattle.mrp_item.specs.Plan.{outcome_of, plan_in}
 use Rattle.mrp_item.proofs.Parents.{line-parent, to_item}
-use Rattle.mrp_peg.specs.Rows.{line_to, order_wanted, place_to}
+use Rattle.mrp_peg.specs.Rows.{line_to, order_requirement, place_to}
 use Rattle.mrp_peg.proofs.where_used.WhereUsed.line.Goals as goal
 
 pub place_at-place-requires : goal.place_at-place-requires
@@ -49,9 +49,9 @@ returns c =
       line = ap (λ (p : ℕ). p + 1) place;
       per = ap (λ (l : BillLine). l.per) line;
       orders = orders;
-      asked =
-          ap (λ (p : ℕ). map (order_wanted i (p + 1) (line_to s i k).per) (enumerate_from 1 (plan_in (outcome_of s (line_to s i k).parent)).orders)) (sym place)
-          ∙ ap (λ (l : BillLine). map (order_wanted i (c.place_at-place.result + 1) l.per) (enumerate_from 1 (plan_in (outcome_of s (line_to s i k).parent)).orders)) (sym line)
-          ∙ ap (λ (os : List Order). map (order_wanted i (c.place_at-place.result + 1) c.line_of-line.result.per) (enumerate_from 1 os)) (sym orders);
+      required =
+          ap (λ (p : ℕ). map (order_requirement i (p + 1) (line_to s i k).per) (enumerate_from 1 (plan_in (outcome_of s (line_to s i k).parent)).orders)) (sym place)
+          ∙ ap (λ (l : BillLine). map (order_requirement i (c.place_at-place.result + 1) l.per) (enumerate_from 1 (plan_in (outcome_of s (line_to s i k).parent)).orders)) (sym line)
+          ∙ ap (λ (os : List Order). map (order_requirement i (c.place_at-place.result + 1) c.line_of-line.result.per) (enumerate_from 1 os)) (sym orders);
       rising = subst Rising (sym orders) (used.rising (line_to s i k).parent);
     }

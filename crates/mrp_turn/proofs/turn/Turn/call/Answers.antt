@@ -13,4 +13,4 @@ invariant_of-seat g c = let s = c.seat.inside in let m = s.place.me in let told 
 
 pub returns-clause-told : goal.returns-clause-told
 returns-clause-told g c = let ob = g.O.Object in let s = c.seat.inside in let m = s.place.me in let told = c.run.ensures.told (alone s.about.value (account s.number (seen_of m.0) (mine_of m.0))) c.seat.invariant.2 in
-    seat_told ob.opens ob.answers ob.refuses ob.wants_memory c.args.call c.run.result _ c.args.seat.now c.seat.view_is c.args.self.now c.requires.turn s.number c.run.new.place.me told.0 told.1 told.2 told.3
+    seat_told ob.opens ob.answers ob.refuses ob.out_of_memory c.args.call c.run.result _ c.args.seat.now c.seat.view_is c.args.self.now c.requires.turn s.number c.run.new.place.me told.0 told.1 told.2 told.3

@@ -48,7 +48,7 @@ returns-clause-told g c = let ob = g.O.Object in let s = c.seat.inside in let m 
     let note = note_is p c.split_seat-note.result.me o.about.value its c.other.invariant.2 c.split_seat-note.ensures.4 in
     let both = joined_is m c.split_seat-note.result.me c.join_seat.new.seat.me s.about.value o.about.value own its.seen c.seat.invariant.2 note c.join_seat.ensures.2 in
     let told = c.run.ensures.told (noting s.about.value own its.seen) both in
-    seat_told ob.opens ob.answers ob.refuses ob.wants_memory c.args.call c.run.result _ c.args.seat.now c.seat.view_is c.args.self.now c.requires.turn.0 s.number c.run.new.place.me told.0 told.1 told.2 told.3
+    seat_told ob.opens ob.answers ob.refuses ob.out_of_memory c.args.call c.run.result _ c.args.seat.now c.seat.view_is c.args.self.now c.requires.turn.0 s.number c.run.new.place.me told.0 told.1 told.2 told.3
 
 pub returns-clause-met : goal.returns-clause-met
 returns-clause-met g c = let s = c.seat.inside in let m = s.place.me in let o = c.other.inside in let p = o.place.me in
