@@ -19,10 +19,11 @@ use Rattle.mrp_tables.specs.declared.rows.Centre.{Centre}
 use Rattle.mrp_tables.specs.declared.rows.Operation.{Operation}
 use Rattle.mrp_tables.specs.declared.rows.StockRow.{StockRow}
 use Rattle.mrp_tables.specs.declared.calendar.Entry.{Entry}
-use Rattle.mrp_tables.specs.declared.calendar.Entry.TheVariants.{OfVersion, Start, Weeks, Workdays, Holiday}
+use Rattle.mrp_tables.specs.declared.calendar.First.TheVariants as first
+use Rattle.mrp_tables.specs.declared.calendar.Entry.TheVariants.{Start, Weeks, Workdays, Holiday}
 use Rattle.mrp_tables.specs.Bills.{bill_row}
 use Rattle.mrp_tables.specs.declared.version.TheConstants.{MOST_VERSION}
-use Rattle.mrp_tables.specs.Calendar.{entry_row, holiday_cells, start_cells, weeks_cells, workdays_cell, workdays_cells, calendar_reads, dated_of, dated_row, first_cells, start_cell, version_cell}
+use Rattle.mrp_tables.specs.Calendar.{entry_row, holiday_cells, start_cells, weeks_cells, workdays_cell, workdays_cells, calendar_reads, dated_of, dated_row, first_cells, first_entry, start_cell, version_cell}
 use Rattle.mrp_tables.specs.Centres.{centre_cells, centre_checked, centre_names, centre_row, known_centre}
 use Rattle.mrp_tables.specs.Items.{class_words, greatest_size, is_master, is_master_at, item_at, item_cells, item_checked, item_row, known, least_size, names_of}
 use Rattle.mrp_tables.specs.Laws.{FaultsAtItsRecord, FaultsAtTheirRecords, IsAt}
@@ -36,7 +37,7 @@ use Rattle.mrp_tables.specs.Routings.{operation_row, operations_of, routing_cell
 use Rattle.mrp_tables.specs.declared.rows.ScriptCall.{ScriptCall}
 use Rattle.mrp_tables.specs.declared.rows.ScriptCall.TheVariants as call
 use Rattle.mrp_tables.specs.Script.{ask_cells, book_cells, call_at, cancel_cells, mastered, script_row, spot_of, when_cells}
-use Rattle.mrp_tables.specs.Limits.{call_words, lot_words, record_limit}
+use Rattle.mrp_tables.specs.Limits.{call_words, lot_words}
 use Rattle.mrp_tables.specs.Stock.{items_in_stock, stock_cells, stock_checked, stock_row}
 
 own : (r : Cells) (code : ℕ) → IsAt r (fault_at r code)
@@ -109,8 +110,8 @@ first_at : (r : Cells) → IfErr (first_cells r) (IsAt r)
 unfolding first_cells
 first_at r =
     cell r (word_of (codes "version" ∷ codes "start" ∷ []) (cell_at r 0)) _ (λ key.
-    one_of r (key == 0) _ _ (step r (version_cell r) (λ version. Ok (OfVersion version)) (version_at r) (λ version. tt))
-    (step r (start_cell r) (λ date. Ok (Start date)) (date_at r) (λ date. tt)))
+    one_of r (key == 0) _ _ (step r (version_cell r) (λ version. Ok (first.OfVersion version)) (version_at r) (λ version. tt))
+    (step r (start_cell r) (λ date. Ok (first.Start date)) (date_at r) (λ date. tt)))
 
 weeks_at : (r : Cells) → IfErr (weeks_cells r) (IsAt r)
 unfolding weeks_cells
@@ -132,7 +133,7 @@ dated_at (start ∷ weeks ∷ []) r = step r (workdays_cells r) (λ workdays. Ok
 dated_at (start ∷ weeks ∷ workdays ∷ holidays) r = step r (holiday_cells r) (λ date. Ok (Holiday date)) (holiday_at r) (λ date. tt)
 
 entry_at : (before : List Entry) (r : Cells) → IfErr (entry_row before r) (IsAt r)
-entry_at [] r = first_at r
+entry_at [] r = step r (first_cells r) (λ first. Ok (first_entry first)) (first_at r) (λ first. tt)
 entry_at (first ∷ entries) r = dated_at (dated_of (first ∷ entries)) r
 
 bill_at : (items : List Item) (r : Cells) → IfErr (bill_row items r) (IsAt r)

@@ -11,7 +11,7 @@ use Rattle.mrp_rows.specs.Left.{Cells, Left}
 use Rattle.mrp_rows.specs.Next.{after_header, header_fault, next_number, opened}
 use Rattle.mrp_rows.specs.Records.{records_of}
 use Rattle.mrp_tables.specs.declared.calendar.Entry.{Entry}
-use Rattle.mrp_tables.specs.declared.calendar.Entry.TheVariants.{OfVersion, Start, Weeks, Workdays}
+use Rattle.mrp_tables.specs.declared.calendar.Entry.TheVariants.{Start, Weeks, Workdays}
 use Rattle.mrp_tables.specs.declared.version.Version.{Version}
 use Rattle.mrp_tables.specs.Calendar.{calendar_from, calendar_reads, dated_from, dated_of, version_among}
 use Rattle.mrp_tables.specs.Laws.{FaultsAtItsRecord, IsAt, read_one}

@@ -4,7 +4,7 @@ use Rattle.std.specs.Int.{IsInRange}
 use Rattle.std.specs.List.{list_all}
 use Rattle.mrp_qty.specs.Reading.{◌>>=◌}
 use Rattle.jiff.specs.Types.{Date}
-use Rattle.mrp_cal.specs.Calendar.{ShopCalendar, holidays_in, has_workday, is_monday}
+use Rattle.mrp_cal.specs.Calendar.{holidays_in, has_workday, is_monday}
 use Rattle.mrp_cal.specs.DateText.{IsPlanningYear}
 use Rattle.mrp_cal.specs.declared.calendar.TheConstants.{MOST_WEEKS}
 use Rattle.mrp_rows.specs.declared.fault.Fault.{Fault}
@@ -14,12 +14,14 @@ use Rattle.mrp_rows.specs.Left.{Cells}
 use Rattle.mrp_rows.specs.Cell.{cell_at, fault_at, blame, number_cell, word_of, date_cell}
 use Rattle.mrp_tables.specs.declared.calendar.CalendarTable.{CalendarTable}
 use Rattle.mrp_tables.specs.declared.calendar.Entry.{Entry}
+use Rattle.mrp_tables.specs.declared.calendar.First.{First}
+use Rattle.mrp_tables.specs.declared.calendar.First.TheVariants as first
 use Rattle.mrp_tables.specs.declared.calendar.Entry.TheVariants.{OfVersion, Start, Weeks, Workdays, Holiday}
 use Rattle.mrp_tables.specs.declared.limits.TheConstants as limits
 use Rattle.mrp_tables.specs.declared.version.TheConstants.{MOST_VERSION}
 use Rattle.mrp_tables.specs.declared.version.Version.{Version}
 use Rattle.mrp_tables.specs.declared.version.Version.TheVariants.{One}
-use Rattle.mrp_tables.specs.Reading.{Reads}
+use Rattle.mrp_tables.specs.Reading.{Adds, Reads}
 use Rattle.mrp_tables.specs.Versions.{version_of}
 
 -- the key of a record, or WORD
@@ -40,10 +42,15 @@ abbrev pub version_cell : Cells → Result Version Fault
 version_cell r = blame r (number_cell 1 MOST_VERSION (cell_at r 1)) >>= λ number. Ok (version_of number)
 
 -- what the first record says: the version, or the start
-unfoldable pub first_cells : Cells → Result Entry Fault
+unfoldable pub first_cells : Cells → Result First Fault
 first_cells r = do
   key ← blame r (word_of (codes "version" ∷ codes "start" ∷ []) (cell_at r 0))
-  if key == 0 then (version_cell r >>= λ version. Ok (OfVersion version)) else (start_cell r >>= λ date. Ok (Start date))
+  if key == 0 then (version_cell r >>= λ version. Ok (first.OfVersion version)) else (start_cell r >>= λ date. Ok (first.Start date))
+
+-- as an entry
+abbrev pub first_entry : First → Entry
+first_entry (first.OfVersion version) = OfVersion version
+first_entry (first.Start date) = Start date
 
 unfoldable pub weeks_cells : Cells → Result ℕ Fault
 weeks_cells r = do
@@ -86,7 +93,7 @@ dated_of entries = entries
 
 -- what a record says behind the entries of those before it
 abbrev pub entry_row : List Entry → Cells → Result Entry Fault
-entry_row [] r = first_cells r
+entry_row [] r = first_cells r >>= λ first. Ok (first_entry first)
 entry_row (first ∷ entries) r = dated_row (dated_of (first ∷ entries)) r
 
 -- the most records: one more where a version stands in front
@@ -126,16 +133,21 @@ abbrev pub calendar_from : List Entry → Result CalendarTable Fault
 calendar_from entries = dated_from (version_among entries) (length entries + 1) (dated_of entries)
 
 -- the entries of what is kept of them, the version aside
-abbrev pub dated_entries : Option Date → Option ℕ → Option (List Bool) → List Date → List Entry
-dated_entries None weeks workdays holidays = []
-dated_entries (Some start) None workdays holidays = Start start ∷ []
-dated_entries (Some start) (Some weeks) None holidays = Start start ∷ Weeks weeks ∷ []
-dated_entries (Some start) (Some weeks) (Some workdays) holidays = Start start ∷ Weeks weeks ∷ Workdays workdays ∷ map Holiday holidays
+abbrev pub entries_of : Option Date → Option ℕ → Option (List Bool) → List Date → List Entry
+entries_of None weeks workdays holidays = []
+entries_of (Some start) None workdays holidays = Start start ∷ []
+entries_of (Some start) (Some weeks) None holidays = Start start ∷ Weeks weeks ∷ []
+entries_of (Some start) (Some weeks) (Some workdays) holidays = Start start ∷ Weeks weeks ∷ Workdays workdays ∷ map Holiday holidays
 
--- the entries of what is kept of them
-abbrev pub entries_of : Option Version → Option Date → Option ℕ → Option (List Bool) → List Date → List Entry
-entries_of None start weeks workdays holidays = dated_entries start weeks workdays holidays
-entries_of (Some version) start weeks workdays holidays = OfVersion version ∷ dated_entries start weeks workdays holidays
+-- entries, after a version where there is one
+abbrev pub behind : Option Version → List Entry → List Entry
+behind None entries = entries
+behind (Some version) entries = OfVersion version ∷ entries
+
+-- entries without a version in front
+pub record AreDated (entries : List Entry) : Type 0 where
+  pub dated : dated_of entries ≡ entries
+  pub version : version_among entries ≡ One
 
 -- an entry within its limits
 abbrev pub IsEntry : Entry → Type 0
@@ -151,3 +163,7 @@ AreKept None weeks workdays holidays = (weeks ≡ None) × (workdays ≡ None) �
 AreKept (Some start) None workdays holidays = IsEntry (Start start) × (workdays ≡ None) × (holidays ≡ [])
 AreKept (Some start) (Some weeks) None holidays = IsEntry (Start start) × IsEntry (Weeks weeks) × (holidays ≡ [])
 AreKept (Some start) (Some weeks) (Some workdays) holidays = IsEntry (Start start) × IsEntry (Weeks weeks) × IsEntry (Workdays workdays)
+
+-- adding the entry of a record: it is what the record reads as, or nothing is added, for the record's fault or because memory was refused
+abbrev pub AddsEntry : List Entry → Cells → Result (Unit {0}) Fault → List Entry → Type 0
+AddsEntry old r result new = Adds (record { limit = calendar_limit; row = dated_row }) old r result new

@@ -31,6 +31,7 @@ pub record Beside : Type 0 where
   pub items : List Item
   pub centres : List Centre
   pub weeks : ℕ
+  pub most_lead : ℕ
 
 abbrev pub nothing : Beside
-nothing = record { items = []; centres = []; weeks = 0 }
+nothing = record { items = []; centres = []; weeks = 0; most_lead = 0 }

@@ -48,7 +48,7 @@ impl<'a> TableRows for Bills<'a> {
 
     ghost reads = { λ t. reads_of own.Bills (by_itself (bill_row t.items)) };
 
-    ghost beside = { λ t. record { items = t.items; centres = []; weeks = 0 } };
+    ghost beside = { λ t. record { items = t.items; centres = []; weeks = 0; most_lead = 0 } };
 
     fn most_records(&self) -> Option<u32> {
         most_records(Table::Bills)

@@ -6,7 +6,7 @@ ghost use Rattle.std.specs.List.{list_all};
 ghost use Rattle.mrp_cal.specs.Calendar.{has_workday, is_monday};
 ghost use Rattle.mrp_cal.specs.DateText.{IsPlanningYear};
 ghost use Rattle.mrp_rows.specs.Cell.{blame, cell_at};
-ghost use Rattle.mrp_tables.specs.Calendar.{IsEntry, are_flags, first_cells, flags_of, holiday_cells, missing_record, start_cell, start_cells, version_cell, weeks_cells, workdays_cells};
+ghost use Rattle.mrp_tables.specs.Calendar.{IsEntry, are_flags, first_cells, first_entry, flags_of, holiday_cells, missing_record, start_cell, start_cells, version_cell, weeks_cells, workdays_cells};
 
 use crate::limits::MOST_CALENDAR_RECORDS;
 use crate::reading::{TableRows, read_table};
@@ -40,27 +40,23 @@ pub(crate) struct CalendarTable {
     pub(crate) calendar: Calendar,
 }
 
-/// The entries so far: a version, which may be left out, the start, the weeks, the workdays, and then
-/// holidays.
+/// The entries so far: a version, which may be left out, and those that follow it.
 #[derive(Drop)]
 pub(crate) struct Entries {
     version: Option<Version>,
-    start: Option<Date>,
-    weeks: Option<u64>,
-    workdays: Option<[bool; 7]>,
-    holidays: Vec<Date>,
+    dated: Dated,
 }
 
 impl Model for Entries {
     ghost use Rattle.std.specs.Prelude.{List};
     ghost use Rattle.mrp_tables.specs.declared.calendar.Entry.{Entry};
-    ghost use Rattle.mrp_tables.specs.Calendar.{AreKept, entries_of};
+    ghost use Rattle.mrp_tables.specs.Calendar.{AreDated, behind};
 
     ghost Value = { List Entry };
 
-    ghost view = { λ t. entries_of t.version t.start t.weeks t.workdays t.holidays.items };
+    ghost view = { λ t. behind t.version t.dated };
 
-    ghost invariant = { λ t. AreKept t.start t.weeks t.workdays t.holidays.items };
+    ghost invariant = { λ t. AreDated t.dated };
 }
 
 impl TableRows for Entries {
@@ -79,6 +75,7 @@ impl TableRows for Entries {
     ghost beside = { λ t. nothing };
 
     fn most_records(&self) -> Option<u32> {
+        let _dated = self.dated.is_empty();
         match self.version {
             Some(_) => Some(MOST_CALENDAR_RECORDS + 1),
             None => Some(MOST_CALENDAR_RECORDS),
@@ -86,24 +83,20 @@ impl TableRows for Entries {
     }
 
     fn add(&mut self, row: &Row) -> Result<(), Fault> {
-        match self.entry(row)? {
-            Entry::OfVersion(version) => self.version = Some(version),
-            Entry::Start(date) => self.start = Some(date),
-            Entry::Weeks(weeks) => self.weeks = Some(weeks),
-            Entry::Workdays(workdays) => self.workdays = Some(workdays),
-            Entry::Holiday(date) => {
-                if self.holidays.push(date).is_err() {
-                    return Err(row.fault(NO_MEMORY));
-                }
-            }
+        if self.version.is_some() || !self.dated.is_empty() {
+            return self.dated.add(row);
+        }
+        match first_of(row)? {
+            First::OfVersion(version) => self.version = Some(version),
+            First::Start(date) => self.dated.begin(date),
         }
         Ok(())
     }
 }
 
 impl Entries {
-    ghost use Rattle.std.specs.Prelude.{◌≡◌, ◌≤◌, ◌+◌, [], length, IfOk};
-    ghost use Rattle.mrp_tables.specs.Calendar.{IsEntry, calendar_from, dated_of, entry_row, version_among};
+    ghost use Rattle.std.specs.Prelude.{◌≡◌, []};
+    ghost use Rattle.mrp_tables.specs.Calendar.{calendar_from};
     ghost use Rattle.mrp_tables.specs.Readers.{GivesTable};
 
     pub(crate) fn read(alloc: Global, sections: &Sections<'_>) -> Result<CalendarTable, Fault>
@@ -117,6 +110,53 @@ impl Entries {
     {
         Entries {
             version: None,
+            dated: Dated::new(alloc),
+        }
+    }
+
+    // What the entries make.
+    fn into_table(self) -> Result<CalendarTable, Fault>
+        ensures { result ≡ calendar_from self }
+    {
+        let Entries { version, dated } = self;
+        match version {
+            Some(version) => dated.into_table(version, 1),
+            None => dated.into_table(Version::One, 0),
+        }
+    }
+}
+
+/// The entries that follow a version: the start, the weeks, the workdays, and then holidays.
+#[derive(Drop)]
+struct Dated {
+    start: Option<Date>,
+    weeks: Option<u64>,
+    workdays: Option<[bool; 7]>,
+    holidays: Vec<Date>,
+}
+
+impl Model for Dated {
+    ghost use Rattle.std.specs.Prelude.{List};
+    ghost use Rattle.mrp_tables.specs.declared.calendar.Entry.{Entry};
+    ghost use Rattle.mrp_tables.specs.Calendar.{AreKept, entries_of};
+
+    ghost Value = { List Entry };
+
+    ghost view = { λ t. entries_of t.start t.weeks t.workdays t.holidays.items };
+
+    ghost invariant = { λ t. AreKept t.start t.weeks t.workdays t.holidays.items };
+}
+
+impl Dated {
+    ghost use Rattle.std.specs.Prelude.{◌≡◌, ◌≤◌, ◌+◌, ◌∷◌, ◌==◌, [], length, IfOk};
+    ghost use Rattle.mrp_tables.specs.declared.calendar.Entry.TheVariants as entry;
+    ghost use Rattle.mrp_tables.specs.Calendar.{AddsEntry, AreDated, IsEntry, dated_from, dated_row};
+
+    fn new(alloc: Global) -> Dated
+        ensures none { result ≡ [] }
+        ensures dated { AreDated result }
+    {
+        Dated {
             start: None,
             weeks: None,
             workdays: None,
@@ -124,14 +164,52 @@ impl Entries {
         }
     }
 
+    // Whether there are none.
+    fn is_empty(&self) -> bool
+        ensures none { result ≡ (length self.now == 0) }
+        ensures dated { AreDated self.now }
+    {
+        self.start.is_none()
+    }
+
+    // Adds the start, which comes first.
+    fn begin(&mut self, start: Date)
+        requires none { self.old ≡ [] }
+        requires start { IsEntry (entry.Start start) }
+        ensures added { self.new ≡ entry.Start start ∷ [] }
+        ensures dated { AreDated self.new }
+    {
+        self.start = Some(start);
+    }
+
+    // Adds the entry of a record that follows these.
+    fn add(&mut self, row: &Row) -> Result<(), Fault>
+        requires { length row.now.cells ≡ 2 }
+        ensures added { AddsEntry self.old row.now result self.new }
+        ensures dated { AreDated self.new }
+    {
+        match self.entry(row)? {
+            Entry::OfVersion(_) => unreachable!(),
+            Entry::Start(date) => self.start = Some(date),
+            Entry::Weeks(weeks) => self.weeks = Some(weeks),
+            Entry::Workdays(workdays) => self.workdays = Some(workdays),
+            Entry::Holiday(date) => {
+                if self.holidays.push(date).is_err() {
+                    return Err(row.fault(NO_MEMORY));
+                }
+            }
+        }
+        Ok(())
+    }
+
     // The entry of a record that follows these.
     fn entry(&self, row: &Row) -> Result<Entry, Fault>
         requires { length row.now.cells ≡ 2 }
-        ensures cells { result ≡ entry_row self.now row.now }
+        ensures cells { result ≡ dated_row self.now row.now }
         ensures within { IfOk result IsEntry }
     {
         if self.start.is_none() {
-            self.first_entry(row)
+            Ok(Entry::Start(start_of(row)?))
         } else if self.weeks.is_none() {
             Ok(Entry::Weeks(weeks_of(row)?))
         } else if self.workdays.is_none() {
@@ -141,48 +219,13 @@ impl Entries {
         }
     }
 
-    // What the first record says, or the first behind a version.
-    fn first_entry(&self, row: &Row) -> Result<Entry, Fault>
-        requires cells { length row.now.cells ≡ 2 }
-        requires none { dated_of self.now ≡ [] }
-        ensures cells { result ≡ entry_row self.now row.now }
-        ensures within { IfOk result IsEntry }
-    {
-        if self.version.is_some() {
-            Ok(Entry::Start(start_of(row)?))
-        } else {
-            first_of(row)
-        }
-    }
-
-    // The version that stands in front, or the first.
-    fn version_among(&self) -> Version
-        ensures { result ≡ version_among self.now }
-    {
-        match self.version {
-            Some(version) => version,
-            None => Version::One,
-        }
-    }
-
-    // How many records stand in front of the start.
-    fn before(&self) -> u32
-        ensures count { result + length (dated_of self.now) ≡ length self.now }
-        ensures few { result ≤ 1 }
-    {
-        match self.version {
-            Some(_) => 1,
-            None => 0,
-        }
-    }
-
-    // What the entries make.
+    // What the entries make with a version, before which there are so many records.
     #[tactic(auto, unfolding(mrp_cal::specs::Calendar::calendar_of))]
-    fn into_table(self) -> Result<CalendarTable, Fault>
-        ensures { result ≡ calendar_from self }
+    fn into_table(self, version: Version, before: u32) -> Result<CalendarTable, Fault>
+        requires { before ≤ 1 }
+        ensures made { result ≡ dated_from version (before + length self + 1) self }
+        ensures dated { AreDated self }
     {
-        let version = self.version_among();
-        let before = self.before();
         let Some(start) = self.start else {
             return Err(missing_record(before + 1));
         };
@@ -199,6 +242,13 @@ impl Entries {
     }
 }
 
+// What a first record says.
+#[derive(Clone, Copy)]
+enum First {
+    OfVersion(Version),
+    Start(Date),
+}
+
 fn missing_record(number: u32) -> Fault
     ensures { result ≡ missing_record number }
 {
@@ -211,16 +261,16 @@ fn missing_record(number: u32) -> Fault
 
 // The version or the start.
 #[tactic(auto, unfolding(crate::specs::Calendar::first_cells))]
-fn first_of(row: &Row) -> Result<Entry, Fault>
+fn first_of(row: &Row) -> Result<First, Fault>
     requires { length row.now.cells ≡ 2 }
     ensures cells { result ≡ first_cells row.now }
-    ensures within { IfOk result IsEntry }
+    ensures within { IfOk result (λ first. IsEntry (first_entry first)) }
 {
     let key = row.word(0, &["version", "start"])?;
     if key == 0 {
-        Ok(Entry::OfVersion(version_in(row)?))
+        Ok(First::OfVersion(version_in(row)?))
     } else {
-        Ok(Entry::Start(start_date(row)?))
+        Ok(First::Start(start_date(row)?))
     }
 }
 

@@ -59,8 +59,7 @@ impl Model for ItemRows {
 impl TableRows for ItemRows {
     type Line = Item;
 
-    ghost use Rattle.mrp_tables.specs.Gathered.{nothing};
-    ghost use Rattle.std.specs.Prelude.{◌≡◌};
+    ghost use Rattle.std.specs.Prelude.{◌≡◌, []};
     ghost use Rattle.mrp_tables.specs.Items.{item_row};
     ghost use Rattle.mrp_rows.specs.declared.fault.Table.TheVariants as own;
     ghost use Rattle.mrp_tables.specs.Reading.{reads_of};
@@ -72,7 +71,7 @@ impl TableRows for ItemRows {
 
     ghost reads = { λ t. reads_of own.Items (item_row (most_lead t.version)) };
 
-    ghost beside = { λ t. nothing };
+    ghost beside = { λ t. record { items = []; centres = []; weeks = 0; most_lead = most_lead t.version } };
 
     fn most_records(&self) -> Option<u32> {
         most_records(Table::Items)

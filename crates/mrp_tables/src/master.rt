@@ -51,7 +51,7 @@ impl<'a> TableRows for Master<'a> {
 
     ghost reads = { λ t. reads_of own.Master (by_itself (master_row t.calendar t.items)) };
 
-    ghost beside = { λ t. record { items = t.items; centres = []; weeks = t.calendar.weeks } };
+    ghost beside = { λ t. record { items = t.items; centres = []; weeks = t.calendar.weeks; most_lead = 0 } };
 
     fn most_records(&self) -> Option<u32> {
         most_records(Table::Master)

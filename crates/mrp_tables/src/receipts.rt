@@ -69,7 +69,7 @@ impl<'a> TableRows for Receipts<'a> {
 
     ghost reads = { λ t. reads_of own.Receipts (receipt_row t.calendar t.items) };
 
-    ghost beside = { λ t. record { items = t.items; centres = []; weeks = t.calendar.weeks } };
+    ghost beside = { λ t. record { items = t.items; centres = []; weeks = t.calendar.weeks; most_lead = 0 } };
 
     fn most_records(&self) -> Option<u32> {
         most_records(Table::Receipts)

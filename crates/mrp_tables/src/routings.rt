@@ -68,7 +68,7 @@ impl<'a> TableRows for Routings<'a> {
 
     ghost reads = { λ t. reads_of own.Routings (operation_row t.items t.centres) };
 
-    ghost beside = { λ t. record { items = t.items; centres = t.centres; weeks = 0 } };
+    ghost beside = { λ t. record { items = t.items; centres = t.centres; weeks = 0; most_lead = 0 } };
 
     fn most_records(&self) -> Option<u32> {
         most_records(Table::Routings)

@@ -67,7 +67,7 @@ impl<'a> TableRows for Script<'a> {
 
     ghost reads = { λ t. reads_of own.Script (by_itself (script_row t.calendar t.items)) };
 
-    ghost beside = { λ t. record { items = t.items; centres = []; weeks = t.calendar.weeks } };
+    ghost beside = { λ t. record { items = t.items; centres = []; weeks = t.calendar.weeks; most_lead = 0 } };
 
     fn most_records(&self) -> Option<u32> {
         most_records(Table::Script)

@@ -55,7 +55,7 @@ impl<'a> TableRows for Stock<'a> {
 
     ghost reads = { λ t. reads_of own.Stock (stock_row t.items) };
 
-    ghost beside = { λ t. record { items = t.items; centres = []; weeks = 0 } };
+    ghost beside = { λ t. record { items = t.items; centres = []; weeks = 0; most_lead = 0 } };
 
     fn most_records(&self) -> Option<u32> {
         most_records(Table::Stock)

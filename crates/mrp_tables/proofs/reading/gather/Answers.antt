@@ -50,8 +50,7 @@ returns-clause-rows g c =
     let at = c.args.cursor.now in
     let reads = g.G.TableRows.reads c.args.gathered in
     let rows = g.G.TableRows.rows in
-    let limit : c.most_records.result ≡ reads.limit (rows c.loop-gathered.gathered) = rw c.loop-gathered.invariant.same at c.most_records.ensures in
-    let next = rw (c.in_default.is, limit) at c.in_ok-row.ensures.next in
+    let next = rw c.in_default.is at c.in_ok-row.ensures.next in
     ends reads at.layout (rows c.loop-gathered.gathered) c.loop-gathered.cursor c.next_record.new.cursor
     (rows_from reads at.layout (rows c.args.gathered) at.number at.left) c.loop-gathered.invariant.left next
 

@@ -4,7 +4,7 @@ use Rattle.mrp_rows.specs.Columns.{layout_of}
 use Rattle.mrp_rows.specs.declared.fault.Table.TheVariants as t
 use Rattle.mrp_tables.specs.declared.limits.TheConstants as limits
 use Rattle.mrp_tables.specs.Facts.{NumbersRise}
-use Rattle.mrp_tables.specs.Reading.{rows_of}
+use Rattle.mrp_tables.specs.Reading.{reads_of, rows_of}
 use Rattle.mrp_tables.specs.Receipts.{receipt_row}
 use Rattle.mrp_tables.proofs.Rising.{receipts_rise}
 use Rattle.mrp_tables.proofs.receipts.Receipts.read.Goals as goal
@@ -19,5 +19,5 @@ pub returns-clause-numbers : goal.returns-clause-numbers
 returns-clause-numbers c =
     let empty = c.new-empty.result in
     let text = text_in c.args.sections.now t.Receipts in
-    let read : rows_of (receipt_row empty.calendar empty.items) (layout_of t.Receipts) text ≡ Ok c.in_ok-receipts.receipts.rows = c.in_ok-receipts.ensures.rows in
+    let read : rows_of (reads_of t.Receipts (receipt_row empty.calendar empty.items)) (layout_of t.Receipts) text ≡ Ok c.in_ok-receipts.receipts.rows = c.in_ok-receipts.ensures.rows in
     subst NumbersRise (sym c.into_rows.ensures.rows) (receipts_rise empty.calendar empty.items text c.in_ok-receipts.receipts.rows read)
