@@ -17,6 +17,11 @@ pub first_shop_day-first : (c : ShopCalendar) → first_shop_day c 1 ≡ 1
 unfolding first_shop_day
 first_shop_day-first c = refl
 
+-- and so is that of no week
+pub first_shop_day-none : (c : ShopCalendar) → first_shop_day c 0 ≡ 1
+unfolding first_shop_day
+first_shop_day-none c = refl
+
 -- the next week's comes after a week's shop days
 pub first_shop_day-next : (c : ShopCalendar) (week : ℕ) → 1 ≤ week → first_shop_day c (week + 1) ≡ first_shop_day c week + shop_days_in c week
 unfolding first_shop_day

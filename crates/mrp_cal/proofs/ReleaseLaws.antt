@@ -6,7 +6,7 @@ use Rattle.std.proofs.lemmas.Bool.{cases_Bool, le-ltb, lt-ltb, ltb-true, ltb-fal
 use Rattle.mrp_cal.specs.Calendar.{ShopCalendar}
 use Rattle.mrp_cal.specs.ShopDays.{shop_days_in}
 use Rattle.mrp_cal.specs.Releases.{IsOfWeek, first_shop_day, release_of, week_of_shop_day}
-use Rattle.mrp_cal.proofs.FirstDays.{first_shop_day-first, first_shop_day-le, first_shop_day-next, of_its_week, week_of_shop_day-is}
+use Rattle.mrp_cal.proofs.FirstDays.{first_shop_day-first, first_shop_day-le, first_shop_day-none, first_shop_day-next, of_its_week, week_of_shop_day-is}
 
 -- the horizon has the shop day
 released-in : (c : ShopCalendar) (due lead : ℕ) → 0 < lead → lead < first_shop_day c due → release_of c due lead ≡ (week_of_shop_day c due (first_shop_day c due - lead), 0)
@@ -50,9 +50,9 @@ in_order c day later week next le one other =
       | inr not_less ↦ ltb-false _ _ not_less
     ]
 
-pub released-rises : (c : ShopCalendar) (lead due later : ℕ) → 1 ≤ due → due ≤ later → (release_of c due lead).0 ≤ (release_of c later lead).0
-released-rises c zero due later from le = le
-released-rises c (suc less) due later from le =
+rises_from : (c : ShopCalendar) (lead due later : ℕ) → 1 ≤ due → due ≤ later → (release_of c due lead).0 ≤ (release_of c later lead).0
+rises_from c zero due later from le = le
+rises_from c (suc less) due later from le =
     let lead : ℕ = suc less in
     let firsts = first_shop_day-le c due later from le in
     elim (cases_Bool (nat_lt lead (first_shop_day c due))) [
@@ -64,6 +64,13 @@ released-rises c (suc less) due later from le =
           let within = released-within c later lead (omega (arith, from, le)) in
           rw (released-late c due lead (omega arith) (ltb-false _ _ past)) within.0
     ]
+
+pub released-rises : (c : ShopCalendar) (lead due later : ℕ) → due ≤ later → (release_of c due lead).0 ≤ (release_of c later lead).0
+released-rises c zero due later le = le
+released-rises c (suc less) zero zero le = omega arith
+released-rises c (suc less) zero (suc later) le =
+    rw (released-late c 0 (suc less) (omega arith) (omega (arith, first_shop_day-none c))) (released-within c (suc later) (suc less) (omega arith)).0
+released-rises c (suc less) (suc due) later le = rises_from c (suc less) (suc due) later (omega arith) le
 
 -- weeks of equally many shop days
 record AreEven (c : ShopCalendar) (days last : ℕ) : Type 0 where

@@ -22,7 +22,7 @@ pub fn weekdays()
 pub fn releases()
     ensures at_once { (c : ShopCalendar) (due : ℕ) → release_of c due 0 ≡ (due, 0) }
     ensures within { (c : ShopCalendar) (due lead : ℕ) → 1 ≤ due → IsInRange 1 due (release_of c due lead).0 }
-    ensures rises { (c : ShopCalendar) (lead due later : ℕ) → 1 ≤ due → due ≤ later → (release_of c due lead).0 ≤ (release_of c later lead).0 }
+    ensures rises { (c : ShopCalendar) (lead due later : ℕ) → due ≤ later → (release_of c due lead).0 ≤ (release_of c later lead).0 }
     ensures starts { (c : ShopCalendar) (due lead : ℕ) → 1 ≤ due → 0 < lead → lead < first_shop_day c due → IsOfWeek c (first_shop_day c due - lead) (release_of c due lead).0 }
 {}
 

@@ -3,6 +3,7 @@ use Rattle.std.proofs.Common.{◌≡◌, ℕ, [], ◌∷◌, refl, rules, true, 
 use Rattle.std.specs.Prelude.{Ok, pos, codes}
 use Rattle.jiff.specs.Types.{Date}
 use Rattle.mrp_cal.specs.Calendar.{ShopCalendar}
+use Rattle.mrp_tables.specs.declared.version.Version.TheVariants.{One}
 use Rattle.mrp_tables.specs.declared.item.Class.{Class}
 use Rattle.mrp_tables.specs.declared.item.Class.TheVariants.{Master, Part}
 use Rattle.mrp_tables.specs.declared.item.LotRule.{LotRule}
@@ -72,6 +73,7 @@ wheel = 2
 abbrev pub shop : Inputs
 shop = record {
   tables = record {
+    version = One;
     calendar = six_weeks;
     items = item Master 1 0 LotForLot 0 ∷ item Part 1 100 (Fixed 20) 5 ∷ item Part 2 0 (Period 2) 0 ∷ [];
     centres = [];

@@ -1,6 +1,7 @@
 -- Worked numbers of other shops, by computation.
 use Rattle.std.proofs.Common.{◌≡◌, ℕ, List, [], ◌∷◌, refl, map}
 use Rattle.std.specs.Prelude.{Ok, Err, None}
+use Rattle.mrp_tables.specs.declared.version.Version.TheVariants.{One}
 use Rattle.mrp_tables.specs.declared.item.Class.TheVariants.{Master, Part}
 use Rattle.mrp_tables.specs.declared.item.LotRule.TheVariants.{LotForLot, Fixed}
 use Rattle.mrp_tables.specs.declared.item.Item.{Item}
@@ -25,6 +26,7 @@ starts_with_scrap = refl
 abbrev pub shop_of : List Item → List StockRow → List BillLine → List MasterRow → List Booking → Inputs
 shop_of items stock bills master standing = record {
   tables = record {
+    version = One;
     calendar = six_weeks;
     items = items;
     centres = [];

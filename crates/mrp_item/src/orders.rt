@@ -1,6 +1,7 @@
 //! The orders of an item, from its firm rows and its planned receipts.
 
 ghost use Rattle.std.specs.Prelude.{◌≡◌, ◌≤◌, ◌<◌, ◌+◌, ◌-◌, ◌++◌, ◌∷◌, [], length, map, max, sum_by, IfOk, OnOk, IfErr, MatchOption};
+ghost use Rattle.std.specs.Int.{IsInRange};
 ghost use Rattle.mrp_qty.specs.Quantity.{greatest_quantity, start_of};
 ghost use Rattle.mrp_item.specs.Limits.{IsPlannable};
 ghost use Rattle.mrp_item.specs.Inputs.{count, horizon};
@@ -40,7 +41,8 @@ impl Model for OrderList {
 
 // An order for a quantity that is due in a week; `None` if its start overflows.
 fn order(tables: &Tables, item: &Item, kind: OrderKind, due: u16, quantity: Qty) -> Option<Order>
-    requires { IsPlannable item.now }
+    requires item { IsPlannable item.now }
+    requires due { IsInRange 1 tables.now.calendar.weeks due }
     ensures { MatchOption result (greatest_quantity < start_of item.now.scrap quantity) (λ order. order ≡ order_of tables.now item.now kind due quantity) }
 {
     let start = quantity.start_for(item.scrap)?;
@@ -94,7 +96,8 @@ impl OrderList {
         due: u16,
         quantity: Qty,
     ) -> Result<(), PhaseFault>
-        requires { IsPlannable item.now }
+        requires item { IsPlannable item.now }
+        requires due { IsInRange 1 tables.now.calendar.weeks due }
         ensures added { OnOk result (self.new ≡ self.old ++ order_of tables.now item.now kind due quantity ∷ []) }
         ensures over { IfErr result (λ fault. fault ≡ PhaseFault.TooLarge → greatest_quantity < sum_by (λ x. x.start) self.old + start_of item.now.scrap quantity) }
     {
@@ -109,7 +112,8 @@ impl OrderList {
         week: u16,
         dues: &[Due],
     ) -> Result<(), PhaseFault>
-        requires { IsPlannable item.now }
+        requires item { IsPlannable item.now }
+        requires week { IsInRange 1 tables.now.calendar.weeks week }
         ensures added { OnOk result (self.new ≡ self.old ++ map (order_of tables.now item.now Firm week) (due_in week dues.now)) }
         ensures over { IfErr result (λ fault. fault ≡ PhaseFault.TooLarge → greatest_quantity < sum_by (λ x. x.start) (self.old ++ map (order_of tables.now item.now Firm week) (due_in week dues.now))) }
     {
@@ -130,7 +134,8 @@ impl OrderList {
         before: Qty,
         received: Qty,
     ) -> Result<(), PhaseFault>
-        requires { IsPlannable item.now }
+        requires item { IsPlannable item.now }
+        requires week { IsInRange 1 tables.now.calendar.weeks week }
         ensures added { OnOk result (self.new ≡ self.old ++ planned_order tables.now item.now week before received) }
         ensures over { IfErr result (λ fault. fault ≡ PhaseFault.TooLarge → greatest_quantity < sum_by (λ x. x.start) (self.old ++ planned_order tables.now item.now week before received)) }
     {
@@ -152,7 +157,8 @@ impl OrderList {
         before: Qty,
         received: Qty,
     ) -> Result<(), PhaseFault>
-        requires { IsPlannable item.now }
+        requires item { IsPlannable item.now }
+        requires week { IsInRange 1 tables.now.calendar.weeks week }
         ensures added { OnOk result (self.new ≡ self.old ++ (map (order_of tables.now item.now Firm week) (due_in week dues.now) ++ planned_order tables.now item.now week before received)) }
         ensures over { IfErr result (λ fault. fault ≡ PhaseFault.TooLarge → greatest_quantity < sum_by (λ x. x.start) (self.old ++ (map (order_of tables.now item.now Firm week) (due_in week dues.now) ++ planned_order tables.now item.now week before received))) }
     {

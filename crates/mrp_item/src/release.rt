@@ -1,19 +1,21 @@
 //! The release of an order.
 
 ghost use Rattle.std.specs.Prelude.{◌≡◌, ◌≤◌};
+ghost use Rattle.std.specs.Int.{IsInRange};
 ghost use Rattle.mrp_tables.specs.declared.limits.TheConstants.{MOST_LEAD};
-ghost use Rattle.mrp_item.specs.Releases.{release_of, weeks_before};
+ghost use Rattle.mrp_item.specs.Releases.{release_of, shop_days_before, weeks_before};
 
-use mrp_tables::Tables;
+use mrp_cal::Calendar;
+use mrp_tables::{LeadUnit, Tables};
 
-// The week in which an order is released, and the number of weeks by which that is late.
+// The week in which an order is released, and how late that is, in the unit of lead times.
 #[derive(Clone, Copy)]
 pub struct Release {
     pub week: u16,
     pub late: u16,
 }
 
-// A release a lead time before an order is due; in week 1, and late, if there is no such week.
+// A release a lead time in weeks before an order is due; in week 1, and late, if there is no such week.
 fn weeks_before(due: u16, lead: u16) -> Release
     requires { lead ≤ MOST_LEAD }
     ensures { result ≡ weeks_before due lead }
@@ -24,10 +26,26 @@ fn weeks_before(due: u16, lead: u16) -> Release
     }
 }
 
-// The release of an order that is due in a week, by its item's lead time, which the tables have in weeks.
-pub fn release_for(_tables: &Tables, due: u16, lead: u16) -> Release
-    requires { lead ≤ MOST_LEAD }
-    ensures { result ≡ release_of _tables.now due lead }
+// A release a lead time in shop days before an order is due; in week 1, and late, if there is no such
+// day.
+fn shop_days_before(calendar: &Calendar, due: u16, lead: u16) -> Release
+    requires due { IsInRange 1 calendar.now.weeks due }
+    requires lead { lead ≤ MOST_LEAD }
+    ensures { result ≡ shop_days_before calendar.now due lead }
 {
-    weeks_before(due, lead)
+    let (week, late) = calendar.release(due, lead);
+    Release { week, late }
+}
+
+// The release of an order that is due in a week of the horizon, by its item's lead time, as the tables
+// count it.
+pub fn release_for(tables: &Tables, due: u16, lead: u16) -> Release
+    requires due { IsInRange 1 tables.now.calendar.weeks due }
+    requires lead { lead ≤ MOST_LEAD }
+    ensures { result ≡ release_of tables.now due lead }
+{
+    match tables.lead_unit() {
+        LeadUnit::Weeks => weeks_before(due, lead),
+        LeadUnit::ShopDays => shop_days_before(tables.calendar(), due, lead),
+    }
 }
