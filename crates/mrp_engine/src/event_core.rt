@@ -76,8 +76,8 @@ impl Core {
     /// shop.
     ///
     /// Errors: `NoMemory` where memory is refused. Nothing has changed then. An event that has no
-    /// meaning takes no memory, nor does one that a full order book is asked, or one that is answered
-    /// `NotYet`.
+    /// meaning never runs out of memory, nor does one that a full order book is asked, one that is
+    /// answered `NotYet`, or the report of a run in which an item gets too large.
     pub fn step(
         &mut self,
         rt: &(impl Alloc + Threads + Sync),

@@ -11,9 +11,6 @@ use Rattle.mrp_book.specs.declared.reply.Reply.TheVariants as reply
 use Rattle.mrp_book.specs.Standing.{History, standing}
 use Rattle.mrp_book.specs.History.{Fits, IsFull, IsReply, next_number}
 use Rattle.mrp_item.specs.Inputs.{Inputs}
-use Rattle.mrp_item.specs.Places.{WholePlan}
-use Rattle.mrp_explode.specs.declared.fault.RunFault.{RunFault}
-use Rattle.mrp_explode.specs.declared.fault.RunFault.TheVariants as fault
 use Rattle.mrp_report.specs.ReportText.{report_text}
 use Rattle.mrp_engine.specs.declared.event_core.board.BoardCall.TheVariants as board_call
 use Rattle.mrp_engine.specs.declared.event_core.board.BoardReply.{BoardReply}
@@ -84,11 +81,17 @@ abbrev pub IsToldLater : Core → Event → Type 0
 IsToldLater core (event.Take run who) = board_reply (run_inputs core run) (log_at core run) who board_call.Take ≡ None
 IsToldLater core e = ⊥
 
--- an event that may be refused for want of memory: one that has meaning, asks no full order book, and is not told to come again
+-- a run is written in which an item gets too large
+abbrev pub IsToldTooLarge : Core → Event → Type 0
+IsToldTooLarge core (event.Write run) = (name : List ℕ) × IsRefusedBy (run_inputs core run) name
+IsToldTooLarge core e = ⊥
+
+-- an event that may run out of memory: one that has meaning, asks no full order book, is not told to come again, and writes no run in which an item gets too large
 pub record WantsMemory (core : Core) (e : Event) : Type 0 where
   pub meant : HasMeaning core e
   pub not_full : ¬ AsksFullBook core e
   pub not_later : ¬ IsToldLater core e
+  pub not_over : ¬ IsToldTooLarge core e
 
 -- a board's reply, as the core tells it; none is NotYet
 abbrev pub told : Option BoardReply → Answer
@@ -102,12 +105,6 @@ told (Some board_reply.Stopped) = answer.Stopped
 -- the report of a run's plan, or the item that refuses the plan
 abbrev pub IsReport : Inputs → Answer → Type 0
 IsReport s a = ((bytes : Vec ℕ) × (a ≡ answer.Bytes bytes) × IsPlannable s × (bytes.items ≡ report_text s)) ⊎ ((name : List ℕ) × (a ≡ answer.TooLarge name) × IsRefusedBy s name)
-
--- the report of a plan, or why there is none; memory may be refused for the report
-abbrev pub Reports : Result WholePlan RunFault → Result (Vec ℕ) RunFault → Type 0
-Reports (Ok plan) (Ok bytes) = bytes.items ≡ report_text plan.inputs
-Reports (Ok plan) (Err f) = f ≡ fault.NoMemory
-Reports (Err f) report = report ≡ Err f
 
 -- what an event that has meaning is answered: by the order book, which is full at 1,000,000 entries; by the run's board; or by
 -- the run's report

@@ -24,8 +24,9 @@ use Rattle.mrp_engine.specs.declared.event_core.event.Event.{Event}
 use Rattle.mrp_engine.specs.declared.event_core.event.Event.TheVariants as event
 use Rattle.mrp_engine.specs.declared.event_core.event.Answer.{Answer}
 use Rattle.mrp_engine.specs.declared.event_core.event.Answer.TheVariants as answer
+use Rattle.mrp_engine.specs.day.Day.{IsPlannable, IsRefusedBy}
 use Rattle.mrp_engine.specs.event_core.Board.{BoardLog, RunLog, board_reply, held, is_at_end, is_finished, is_ready, taken}
-use Rattle.mrp_engine.specs.event_core.Core.{Core, HasMeaning, IsAnswer, IsOfDesk, IsReport, IsStarted, IsToldLater, Run, WantsMemory, after, finish_of, inputs_at, log_at, no_run, run_at, run_inputs, snapshot_of, told, with_entries}
+use Rattle.mrp_engine.specs.event_core.Core.{Core, HasMeaning, IsAnswer, IsOfDesk, IsReport, IsStarted, IsToldLater, IsToldTooLarge, Run, WantsMemory, after, finish_of, inputs_at, log_at, no_run, run_at, run_inputs, snapshot_of, told, with_entries}
 use Rattle.mrp_engine.specs.event_core.Kept.{KeepsBoard}
 use Rattle.mrp_engine.specs.event_core.KeptCore.{FollowsHistory, brief}
 use Rattle.mrp_engine.proofs.lemmas.event_core.BoardLaws.{keeps-finish, keeps-none, keeps-stopped, keeps-told, stored-reply}
@@ -254,7 +255,7 @@ at-err P Q (Err e) p f = f p
 
 -- a book that is not full may want memory
 pub desk-wants : (core : Core) (e : Event) → IsOfDesk e → HasMeaning core e → (IsFull core.history → ⊥) → WantsMemory core e
-desk-wants core e of has open_ = record { meant = has; not_full = λ asks. open_ asks.2; not_later = never core e of }
+desk-wants core e of has open_ = record { meant = has; not_full = λ asks. open_ asks.2; not_later = never core e of; not_over = no-run core e of }
   where
     never : (core : Core) (e : Event) → IsOfDesk e → IsToldLater core e → ⊥
     never core (event.Call desk c) of later = later
@@ -263,6 +264,14 @@ desk-wants core e of has open_ = record { meant = has; not_full = λ asks. open_
     never core (event.Finish run who) of later = of
     never core (event.GiveUp run who) of later = of
     never core (event.Write run) of later = of
+
+    no-run : (core : Core) (e : Event) → IsOfDesk e → IsToldTooLarge core e → ⊥
+    no-run core (event.Call desk c) of over = over
+    no-run core (event.Start desk) of over = over
+    no-run core (event.Take run who) of over = over
+    no-run core (event.Finish run who) of over = over
+    no-run core (event.GiveUp run who) of over = over
+    no-run core (event.Write run) of over = of
 
 pub is-none : (o : Option ℕ) → is_some o ≡ false → o ≡ None
 is-none None e = refl
@@ -358,7 +367,7 @@ module _ (tables : Tables) (h : History) (runs : List RunLog) (now : Core) (run 
       if-two (λ a. is_finished r.inputs r.log ≡ true → IsReport r.inputs a) (λ a. is_finished r.inputs r.log ≡ false → a ≡ answer.Nothing) (IsAnswer now (event.Write run)) res report nothing (λ a s n.
       subst (λ (c : Core). IsAnswer c (event.Write run) a) x.view (write-answer tables h runs run place r x.at a x.follows s n))
 
-  -- What may be refused for want of memory.
+  -- What may run out of memory.
 
   pub take-wants : {E : Type 0} (who : ℕ) (o : Option ℕ) (q : RunLog) (res : Result Answer E) → IsSeatNumber who → is_some o ≡ false → o ≡ held who q.log → q ≡ slice_index_or runs place q
       → OnErr res (board_reply r.inputs r.log who board_call.Take ≢ None) → OnErr res (WantsMemory now (event.Take run who))
@@ -372,6 +381,7 @@ module _ (tables : Tables) (h : History) (runs : List RunLog) (now : Core) (run 
         meant = (started tables h runs run place r x.at, seat, ap (held who) (log-is tables h runs run place r x.at) ∙ free);
         not_full = λ asks. asks.0;
         not_later = λ later. now_told (sym says ∙ later);
+        not_over = λ over. over;
       }))
 
   pub finish-wants : {E : Type 0} (who : ℕ) (res : Result Answer E) → IsSeatNumber who → OnErr res (IsSome (held who r.log)) → OnErr res (WantsMemory now (event.Finish run who))
@@ -382,6 +392,7 @@ module _ (tables : Tables) (h : History) (runs : List RunLog) (now : Core) (run 
         meant = (started tables h runs run place r x.at, seat, subst (λ (o : Option ℕ). IsSome o) (sym (ap (held who) (log-is tables h runs run place r x.at))) some);
         not_full = λ asks. asks.0;
         not_later = λ later. later;
+        not_over = λ over. over;
       }))
 
   pub give_up-wants : {E : Type 0} (who : ℕ) (res : Result Answer E) → IsSeatNumber who → OnErr res (WantsMemory now (event.GiveUp run who))
@@ -390,14 +401,20 @@ module _ (tables : Tables) (h : History) (runs : List RunLog) (now : Core) (run 
         meant = (started tables h runs run place r x.at, seat);
         not_full = λ asks. asks.0;
         not_later = λ later. later;
+        not_over = λ over. over;
       }))
 
-  pub write-wants : {E : Type 0} (res : Result Answer E) → OnErr res (is_finished r.inputs r.log ≡ true) → OnErr res (WantsMemory now (event.Write run))
-  write-wants res memory =
-      at-err (is_finished r.inputs r.log ≡ true) (WantsMemory now (event.Write run)) res memory (λ done.
+  -- a plan is no refusal
+  not-refused : (s : Inputs) → IsPlannable s → (name : List ℕ) → IsRefusedBy s name → ⊥
+  not-refused s planned name refused = absurd (let e : Ok planned.0 ≡ Err refused.0 = sym planned.1 ∙ refused.1 in cc)
+
+  pub write-wants : {E : Type 0} (res : Result Answer E) → OnErr res (is_finished r.inputs r.log ≡ true) → OnErr res (IsPlannable r.inputs) → OnErr res (WantsMemory now (event.Write run))
+  write-wants (Ok a) memory whole = tt
+  write-wants (Err e) done whole =
       subst (λ (c : Core). WantsMemory c (event.Write run)) x.view
       (record {
         meant = (started tables h runs run place r x.at, finished-is tables h runs run place r x.at x.follows ∙ done);
         not_full = λ asks. asks.0;
         not_later = λ later. later;
-      }))
+        not_over = λ over. not-refused r.inputs whole over.0 (subst (λ (s : Inputs). IsRefusedBy s over.0) (inputs-are tables h runs run place r x.at x.follows) over.1);
+      })
