@@ -1,5 +1,4 @@
-use Rattle.std.proofs.Common.{◌≡◌, ◌∙◌, Result, Err, ap, subst, sym}
-use Rattle.mrp_item.specs.Places.{WholePlan}
+use Rattle.std.proofs.Common.{◌∙◌, Err, ap, sym}
 use Rattle.mrp_explode.specs.declared.fault.RunFault.{RunFault}
 use Rattle.mrp_engine.specs.day.Fault.{plan_or_fault}
 use Rattle.mrp_engine.specs.declared.day.fault.DayFault.{DayFault}
