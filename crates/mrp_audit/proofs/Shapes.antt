@@ -1,12 +1,10 @@
 -- A history, read record by record.
 use Rattle.std.proofs.Common.{◌≡◌, ◌∙◌, ℕ, ◌+◌, ◌<◌, ◌≤◌, ◌^◌, List, [], ◌∷◌, ◌++◌, length, drop, Err, sym, ap, subst, refl, arith, append_assoc, length-append}
-use Rattle.std.specs.Prelude.{All, codes}
+use Rattle.std.specs.Prelude.{All}
 use Rattle.std.proofs.lemmas.List.{append-nil, append_cancel_left, drop-drop, length-drop}
 use Rattle.std.proofs.lemmas.List.Elements.{All-push}
-use Rattle.csv.specs.Writing.{escaped, fields_text, is_blank}
 use Rattle.mrp_tables.specs.Tables.{Tables}
 use Rattle.mrp_report.specs.section.HistoryText.{history_head}
-use Rattle.mrp_day.specs.Sections.{head_of}
 use Rattle.mrp_audit.specs.declared.claim.Claim.{Claim}
 use Rattle.mrp_audit.specs.declared.fault.AuditFault.{AuditFault}
 use Rattle.mrp_audit.specs.declared.fault.AuditFault.TheVariants as fault
@@ -14,14 +12,6 @@ use Rattle.mrp_audit.specs.Claims.{IsClaim, claim_text, claims_from, claims_text
 use Rattle.mrp_audit.specs.Reading.{ReadsHistory, TakesClaim}
 use Rattle.mrp_audit.specs.Shape.{BeginsWith, EndsHistory, HasShape}
 use Rattle.mrp_audit.proofs.ClaimTexts.{claims-push, follows}
-
--- what a history begins with, byte by byte
-abbrev pub head : List ℕ
-head = codes "[history]\nentry,desk,call,item,week,quantity,number,reply,value\n"
-
-pub head-is : history_head ≡ head
-unfolding head_of is_blank fields_text escaped
-head-is = refl
 
 -- a text begins with these claims, which are so many bytes
 pub record HasRead (t : Tables) (text : List ℕ) (claims : List Claim) (number len : ℕ) : Type 0 where
@@ -34,11 +24,11 @@ no-claims : (t : Tables) → All (IsClaim t) []
 no-claims t k d within = absurd (omega (arith, within))
 
 -- none are read yet
-pub read-none : (t : Tables) (text front : List ℕ) (len : ℕ) → front ≡ head → len ≡ length front → length front ≤ length text
-    → text ≡ front ++ drop (length front) text → HasRead t text [] 1 len
-read-none t text front len is size within begins = record {
-  within = omega (arith, size, within);
-  spelled = begins ∙ ap (λ (x : List ℕ). x ++ drop (length front) text) (is ∙ sym head-is ∙ sym (append-nil history_head)) ∙ ap (λ (k : ℕ). (history_head ++ []) ++ drop k text) (sym size);
+pub read-none : (t : Tables) (text front : List ℕ) → front ≡ history_head → length front ≤ length text
+    → text ≡ front ++ drop (length front) text → HasRead t text [] 1 (length front)
+read-none t text front is within begins = record {
+  within = within;
+  spelled = begins ∙ ap (λ (x : List ℕ). x ++ drop (length front) text) (is ∙ sym (append-nil history_head));
   next = omega arith;
   each = no-claims t;
 }
@@ -107,6 +97,6 @@ shape-refused t text left claims number len (fault.DeskRows desk) before fits cu
 shape-refused t text left claims number len (fault.ReportDiffers run) before fits cut goes-on none = none
 
 -- a text that does not begin with the head has no shape
-pub headless : (t : Tables) (text front : List ℕ) → front ≡ head → ((rest : List ℕ) → text ≡ front ++ rest → ⊥) → HasShape t text → ⊥
+pub headless : (t : Tables) (text front : List ℕ) → front ≡ history_head → ((rest : List ℕ) → text ≡ front ++ rest → ⊥) → HasShape t text → ⊥
 headless t text front is none (theirs, rest, begins) =
-    none (claims_from t 1 theirs ++ rest) (begins.spelled ∙ append_assoc history_head (claims_from t 1 theirs) rest ∙ ap (λ (x : List ℕ). x ++ (claims_from t 1 theirs ++ rest)) (head-is ∙ sym is))
+    none (claims_from t 1 theirs ++ rest) (begins.spelled ∙ append_assoc history_head (claims_from t 1 theirs) rest ∙ ap (λ (x : List ℕ). x ++ (claims_from t 1 theirs ++ rest)) (sym is))

@@ -8,11 +8,9 @@ use crate::claim::Claim;
 use crate::fault::AuditFault;
 use crate::record::{claim_in, split_record};
 use mrp_bill::Shop;
+use mrp_day::Section;
 use mrp_tables::limits::MOST_ENTRIES;
 use std::alloc::Global;
-
-// The line and the header that a history begins with.
-const HEAD: &[u8] = b"[history]\nentry,desk,call,item,week,quantity,number,reply,value\n";
 
 /// The claims of the history that a text begins with, and how many bytes it has.
 #[derive(Drop)]
@@ -60,11 +58,12 @@ fn next_claim(
 pub(crate) fn read_history(alloc: Global, shop: &Shop, text: &[u8]) -> Result<Given, AuditFault>
     ensures { ReadsHistory shop.now.tables text.now result }
 {
-    if !text.starts_with(HEAD) {
+    let head = Section::History.head().as_bytes();
+    if !text.starts_with(head) {
         return Err(AuditFault::Shape);
     }
     let mut claims = Vec::new(alloc);
-    let mut len = HEAD.len();
+    let mut len = head.len();
     for number in 1..=MOST_ENTRIES {
         let (_, rest) = text.split_at(len);
         if is_end(rest) {

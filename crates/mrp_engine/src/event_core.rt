@@ -74,8 +74,9 @@ impl Core {
     /// report of a run. An event that has no meaning is answered `Nothing` and changes nothing. The caller
     /// guarantees that a call by a desk with a number from 1 to 64 was made for an equal shop.
     ///
-    /// Errors: `NoMemory` if an allocation fails; nothing has changed then. An event that is answered
-    /// `Nothing`, `Full` or `NotYet` takes no memory.
+    /// Errors: `NoMemory` if an allocation fails; nothing has changed then. An event without meaning
+    /// never runs out of memory, nor does one that a full order book is asked, one that is answered
+    /// `NotYet`, or the report of a run in which an item gets too large.
     pub fn step(
         &mut self,
         rt: &(impl Alloc + Threads + Sync),

@@ -13,9 +13,10 @@ use Rattle.std.proofs.lemmas.Map.Keys.{IsDistinct-from_apart, IsDistinct-push, a
 use Rattle.std.proofs.lemmas.Map.Made.{length-le_from_is_member}
 use Rattle.std.proofs.lemmas.Slice.Eq.{bytes_eq-Decides}
 use Rattle.mrp_page.specs.Row.{Cells, same_text}
-use Rattle.mrp_page.specs.Shown.{each_once, has_name, is_asked, items_in, others, row_names, with_name}
+use Rattle.mrp_page.specs.Shown.{each_once, has_name, is_asked, items_in, items_of_plan, items_to_show, others, row_names, rows_of, with_name}
 use Rattle.mrp_page.specs.Spot.{Names}
 use Rattle.mrp_page.specs.declared.limits.TheConstants.{MOST_ITEMS}
+use Rattle.mrp_day.specs.declared.section.Section.TheVariants as s
 
 pub text-same : (a b : List ℕ) → same_text a b ≡ true → a ≡ b
 text-same a b = (bytes_eq-Decides a b).0
@@ -171,13 +172,37 @@ told-few told names is = length-le_from_is_member nat_list_eq_equiv (filter (has
         let (i, within, at) = place-of (filter (has_name told) names) q has in
         subst (λ (t : List ℕ). has_name told t ≡ true) at (filter_passes (has_name told) names i q within)
 
+-- so some names and the others are no fewer than all
+all-enough : (told names : List (List ℕ)) → IsDistinct same_text names → length names ≤ length (told ++ others told names)
+all-enough told names is =
+    let few = told-few told names is in
+    let both = length-filter_both (has_name told) (λ (name : List ℕ). not (has_name told name)) (λ name. refl) names in
+    let sum = length-append told (others told names) in
+    omega arith
+
+-- 200 items are shown at most
+pub shows-most : (items : Names) (run : ℕ) (records : List Cells) → length (items_to_show items run records) ≤ 200
+unfolding items_to_show
+shows-most items run records =
+    let told = items_in items (rows_of s.Messages run records) in
+    let names = told ++ others told (items_in items (rows_of s.Plan run records)) in
+    let few = length-take MOST_ITEMS names in
+    omega arith
+
+-- and as many where the plan has them
+pub shows-full : (items : Names) (run : ℕ) (records : List Cells) → 200 ≤ length (items_of_plan items run records) → length (items_to_show items run records) ≡ 200
+unfolding items_to_show
+shows-full items run records many =
+    let told = items_in items (rows_of s.Messages run records) in
+    let planned = items_in items (rows_of s.Plan run records) in
+    let enough = all-enough told planned (items-distinct items (rows_of s.Plan run records)) in
+    length-take-le MOST_ITEMS (told ++ others told planned) (omega arith)
+
 -- so the first 200 leave enough others
 others-enough : (told names : List (List ℕ)) → IsDistinct same_text names → MOST_ITEMS ≤ length names → MOST_ITEMS ≤ length (told ++ others told (take MOST_ITEMS names))
 others-enough told names is long =
-    let few = told-few told (take MOST_ITEMS names) (distinct-take MOST_ITEMS names is) in
-    let both = length-filter_both (has_name told) (λ (name : List ℕ). not (has_name told name)) (λ name. refl) (take MOST_ITEMS names) in
+    let all = all-enough told (take MOST_ITEMS names) (distinct-take MOST_ITEMS names is) in
     let first = length-take-le MOST_ITEMS names long in
-    let sum = length-append told (others told (take MOST_ITEMS names)) in
     omega arith
 
 -- the first 200 names are those of all, if the first 200 of each list are kept

@@ -1,5 +1,5 @@
 -- How a day is read, record by record.
-use Rattle.std.specs.Prelude.{ℕ, Bool, ◌≡◌, ◌⊎◌, List, Option, Some, true, false, nat_le, if◌then◌else◌}
+use Rattle.std.specs.Prelude.{ℕ, Bool, ◌≡◌, ◌≤◌, ◌⊎◌, List, Option, Some, true, false, nat_le, if◌then◌else◌}
 use Rattle.csv.specs.Reading.{AreRecords, Reached, Ready, default_config, is_flexible, reader_config, reader_state, reader_trim, source_of, strip_bom}
 use Rattle.csv.specs.declared.error.ErrorKind.{ErrorKind}
 use Rattle.csv.specs.declared.error.ErrorKind.TheVariants as kind
@@ -35,6 +35,10 @@ has_risen_by count before after = nat_le (counted count before) after
 -- a reader failed, or took all calls that a day may take
 abbrev pub HasStopped : {R : Type 0} → Told R → Told R → Type 0
 HasStopped before after = HasRisenBy 1 (failures_of before) (failures_of after) ⊎ HasRisenBy READ_CALLS (calls_of before) (calls_of after)
+
+-- no read of a reader failed
+abbrev pub HasNotFailed : {R : Type 0} → Told R → Told R → Type 0
+HasNotFailed before after = failures_of after ≤ failures_of before
 
 -- no day, a reader that stopped, or out of memory
 abbrev pub is_reading_fault : PageFault → Bool

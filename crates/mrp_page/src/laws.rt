@@ -112,12 +112,14 @@ pub fn links_lead_to_items()
     ensures item { (rows : ItemLists) (missed : ℕ) (leader : RowView) → (rest : List ℕ) × (item_html rows missed leader ≡ codes "<section class=item id=\"i-" ++ (escaped (cell_at leader 0) ++ (codes "\">" ++ rest))) }
 {}
 
-/// Which items a page shows, if the rows of each item stand together in the day: at most 200, those with
-/// messages first, in the order of the messages, and then the others in the order of the plan. If items are
-/// named, only these. They are on the page in this order, followed by how many more items it could have
-/// shown.
+/// Which items a page shows, if the rows of each item stand together in the day: 200, or all where the plan
+/// has fewer, those with messages first, in the order of the messages, and then the others in the order of
+/// the plan. If items are named, only these. They are on the page in this order, followed by how many more
+/// items it could have shown.
 pub fn first_items_with_messages()
     ensures shown { (items : Names) (asked : Option ℕ) (records : List Cells) (notes : Noted) → IsDayOf items asked records notes → IsByItems records → names_shown notes ≡ items_to_show items (run_shown asked records) records }
+    ensures most { (items : Names) (run : ℕ) (records : List Cells) → length (items_to_show items run records) ≤ 200 }
+    ensures full { (items : Names) (run : ℕ) (records : List Cells) → 200 ≤ length (items_of_plan items run records) → length (items_to_show items run records) ≡ 200 }
     ensures count { (items : Names) (asked : Option ℕ) (records : List Cells) (notes : Noted) → IsDayOf items asked records notes → IsByItems records → notes.counts.items ≡ length (items_of_plan items (run_shown asked records) records) }
     ensures page { (title : List ℕ) (notes : Noted) → (front : List ℕ) × (back : List ℕ) × (page_html title notes ≡ front ++ (items_html (item_lists notes.report) notes.counts.promises (shown_items (item_lists notes.report)) ++ (more_html (notes.counts.items - length (shown_items (item_lists notes.report))) (codes "item is") (codes "items are") ++ back))) }
 {}

@@ -1,10 +1,10 @@
 //! Reading a day record by record.
 
-ghost use Rattle.std.specs.Prelude.{◌≡◌, ◌||◌, ℕ, List, Err, IfErr, IfOk, OnOk, Some, false, true};
+ghost use Rattle.std.specs.Prelude.{◌≡◌, ◌≢◌, ◌||◌, ℕ, List, Err, IfErr, IfOk, OnOk, Some, false, true};
 ghost use Rattle.csv.specs.Reading.{ReadRecord};
 ghost use Rattle.csv.specs.Records.{fields_of};
 ghost use Rattle.mrp_page.specs.Notes.{has_run, notes_of};
-ghost use Rattle.mrp_page.specs.Reading.{HasRecords, HasStopped, HasWrongFront, IsKeptOf, IsNoDay, IsReading, LacksRun, has_risen_by, is_reading_fault, is_write_fault};
+ghost use Rattle.mrp_page.specs.Reading.{HasNotFailed, HasRecords, HasStopped, HasWrongFront, IsKeptOf, IsNoDay, IsReading, LacksRun, has_risen_by, is_reading_fault, is_write_fault};
 ghost use Rattle.mrp_rows.specs.Told.{calls_of, failures_of, inner_of};
 
 use crate::fault::{PageFault, read_fault};
@@ -121,6 +121,7 @@ fn read_notes<R: Read>(
     ensures noted { IfOk result (λ notes. (text : List ℕ) → R.remaining (inner_of input.old) ≡ Some text → HasRecords text (λ records. notes ≡ notes_of items.now asked records)) }
     ensures wrong { result ≡ Err PageFault.Shape → (text : List ℕ) → R.remaining (inner_of input.old) ≡ Some text → HasWrongFront text }
     ensures stopped { result ≡ Err PageFault.Read → HasStopped input.old input.new }
+    ensures read { result ≢ Err PageFault.Read → HasNotFailed input.old input.new }
     ensures fault { IfErr result (λ fault. is_reading_fault fault ≡ true) }
 {
     let calls = input.calls();
@@ -129,7 +130,12 @@ fn read_notes<R: Read>(
         reader: &mut *input,
         calls_left: READ_CALLS,
     };
-    match read_records(alloc, steady, items, asked) {
+    let outcome = read_records(alloc, steady, items, asked);
+    // A read that failed is reported as such, whatever the reader of records made of it.
+    if failures < input.failures() {
+        return Err(PageFault::Read);
+    }
+    match outcome {
         Ok(notes) => Ok(notes),
         Err(Unread::Shape) => Err(PageFault::Shape),
         Err(Unread::NoMemory) => Err(PageFault::NoMemory),
@@ -163,6 +169,7 @@ pub(crate) fn read_day<R: Read>(
     ensures wrong { result ≡ Err PageFault.Shape → (text : List ℕ) → R.remaining (inner_of input.old) ≡ Some text → IsNoDay text }
     ensures run { result ≡ Err PageFault.NoRun → (text : List ℕ) → R.remaining (inner_of input.old) ≡ Some text → LacksRun items.now asked text }
     ensures stopped { result ≡ Err PageFault.Read → HasStopped input.old input.new }
+    ensures read { result ≢ Err PageFault.Read → HasNotFailed input.old input.new }
     ensures fault { IfErr result (λ fault. is_write_fault fault ≡ false) }
 {
     let notes = read_notes(alloc, input, items, asked)?;

@@ -1,8 +1,8 @@
 //! The page of a day.
 
-ghost use Rattle.std.specs.Prelude.{◌≡◌, ◌≤◌, ◌+◌, ◌⊎◌, ℕ, List, Err, IfErr, IfOk, OnOk, Some, false};
+ghost use Rattle.std.specs.Prelude.{◌≡◌, ◌≢◌, ◌≤◌, ◌+◌, ◌⊎◌, ℕ, List, Err, IfErr, IfOk, OnOk, Some, false};
 ghost use Rattle.std.specs.Io.KnownBytes.{Appends};
-ghost use Rattle.mrp_page.specs.Reading.{HasStopped, IsNoDay, LacksRun, is_write_fault};
+ghost use Rattle.mrp_page.specs.Reading.{HasNotFailed, HasStopped, IsNoDay, LacksRun, is_write_fault};
 ghost use Rattle.mrp_page.specs.Written.{HasPage, IsPageOf};
 ghost use Rattle.mrp_rows.specs.Streams.{WritesFront};
 ghost use Rattle.mrp_rows.specs.Told.{HasRisenBy, failures_of, inner_of, interrupted_of};
@@ -37,6 +37,7 @@ fn page_of<R: Read>(
     ensures wrong { result ≡ Err PageFault.Shape → (text : List ℕ) → R.remaining (inner_of input.old) ≡ Some text → IsNoDay text }
     ensures run { result ≡ Err PageFault.NoRun → (text : List ℕ) → R.remaining (inner_of input.old) ≡ Some text → LacksRun options.now.items.now options.now.run text }
     ensures stopped { result ≡ Err PageFault.Read → HasStopped input.old input.new }
+    ensures read { result ≢ Err PageFault.Read → HasNotFailed input.old input.new }
     ensures fault { IfErr result (λ fault. is_write_fault fault ≡ false) }
 {
     let notes = read_day(alloc, input, options.items, options.run)?;
@@ -52,8 +53,8 @@ fn page_of<R: Read>(
 ///
 /// Errors, with nothing written: `Shape` if the text is no day; `NoRun` if it has fewer runs than the number
 /// asked for; `Read` if the reader failed in this call or needed more calls; `NoMemory` if an allocation
-/// fails. `Write` if a write failed in this call, or was interrupted more than 1,000,000 times; a prefix of
-/// the page has been written then.
+/// fails, and then no read failed. `Write` if a write failed in this call, or was interrupted more than
+/// 1,000,000 times; a prefix of the page has been written then.
 pub fn write_page<R: Read, W: Write>(
     alloc: Global,
     input: &mut Told<R>,
@@ -66,6 +67,7 @@ pub fn write_page<R: Read, W: Write>(
     ensures wrong { result ≡ Err PageFault.Shape → (text : List ℕ) → R.remaining (inner_of input.old) ≡ Some text → IsNoDay text }
     ensures run { result ≡ Err PageFault.NoRun → (text : List ℕ) → R.remaining (inner_of input.old) ≡ Some text → LacksRun options.now.items.now options.now.run text }
     ensures stopped { result ≡ Err PageFault.Read → HasStopped input.old input.new }
+    ensures read { result ≢ Err PageFault.Read → HasNotFailed input.old input.new }
     ensures untouched { IfErr result (λ fault. is_write_fault fault ≡ false → writer.new ≡ writer.old) }
     ensures refused { result ≡ Err PageFault.Write → HasRisenBy 1 (failures_of writer.old) (failures_of writer.new) ⊎ HasRisenBy (WRITE_TRIES + 1) (interrupted_of writer.old) (interrupted_of writer.new) }
     ensures front { result ≡ Err PageFault.Write → (text : List ℕ) → R.remaining (inner_of input.old) ≡ Some text → IsPageOf options.now.title.now options.now.items.now options.now.run text (λ page. WritesFront (W.contents (inner_of writer.old)) (W.contents (inner_of writer.new)) page) }

@@ -1,5 +1,5 @@
--- Why a day is refused, or a shop is not opened, from the fault of a part of it.
-use Rattle.std.specs.Prelude.{slice_index}
+-- Why a day is refused, or a shop not opened, by what refused a part of it.
+use Rattle.std.specs.Prelude.{slice_index, Result, Ok, Err}
 use Rattle.mrp_rows.specs.declared.streams.ReadFault.{ReadFault}
 use Rattle.mrp_rows.specs.declared.streams.ReadFault.TheVariants as read
 use Rattle.mrp_report.specs.declared.fault.ReportFault.{ReportFault}
@@ -9,6 +9,7 @@ use Rattle.mrp_bill.specs.declared.fault.BillFault.TheVariants as bill
 use Rattle.mrp_explode.specs.declared.fault.RunFault.{RunFault}
 use Rattle.mrp_explode.specs.declared.fault.RunFault.TheVariants as run
 use Rattle.mrp_item.specs.Inputs.{Inputs, item_at}
+use Rattle.mrp_item.specs.Places.{WholePlan}
 use Rattle.mrp_engine.specs.declared.day.fault.DayFault.{DayFault}
 use Rattle.mrp_engine.specs.declared.day.fault.DayFault.TheVariants.{Refused, TooLarge, Read, Write, NoMemory}
 use Rattle.mrp_engine.specs.declared.day.fault.OpenFault.{OpenFault}
@@ -34,3 +35,8 @@ bill_fault bill.NoMemory = opening.NoMemory
 abbrev pub run_fault : Inputs → RunFault → DayFault
 run_fault s (run.TooLarge item) = TooLarge (item_at s item).name
 run_fault s run.NoMemory = NoMemory
+
+-- the plan of a run, or why its day is refused
+abbrev pub plan_or_fault : Inputs → Result WholePlan RunFault → Result WholePlan DayFault
+plan_or_fault s (Ok plan) = Ok plan
+plan_or_fault s (Err f) = Err (run_fault s f)

@@ -5,6 +5,7 @@ use Rattle.mrp_turn.specs.declared.log.Entry.{Entry}
 use Rattle.mrp_turn.specs.Log.{EachFollows, IsSeatNumber, entry}
 use Rattle.mrp_bill.specs.Bill.{parents_of}
 use Rattle.mrp_item.specs.Inputs.{Inputs, count, places}
+use Rattle.mrp_item.specs.Plan.{is_over, outcome_of}
 use Rattle.mrp_engine.specs.declared.event_core.board.BoardCall.{BoardCall}
 use Rattle.mrp_engine.specs.declared.event_core.board.BoardCall.TheVariants as call
 use Rattle.mrp_engine.specs.declared.event_core.board.BoardReply.{BoardReply}
@@ -38,6 +39,10 @@ is_out_to who log item = list_any (λ e. (e.who == who) && hands_out item e.repl
 -- an item's outcome is stored
 abbrev pub is_stored : BoardLog → ℕ → Bool
 is_stored log item = list_any (λ e. stores item e.call e.reply) log
+
+-- an item's outcome is stored, and the item is over
+abbrev pub is_stored_over : Inputs → BoardLog → ℕ → Bool
+is_stored_over s log item = is_stored log item && is_over (outcome_of s item)
 
 -- a worker gave up the run
 abbrev pub has_stopped : BoardLog → Bool

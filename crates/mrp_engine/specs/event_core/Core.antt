@@ -1,6 +1,5 @@
--- The core: which events have meaning, how each is answered, and what its answer adds to the history and to the runs
--- (profile).
-use Rattle.std.specs.Prelude.{ℕ, ◌≡◌, ◌≤◌, ◌+◌, ◌-◌, ◌⊎◌, true, List, [], ◌∷◌, ◌++◌, Option, Some, None, IsSome, Result, Ok, Err, length, take, set}
+-- The core: which events have meaning, how each is answered, and what its answer adds to the history and to the runs (profile).
+use Rattle.std.specs.Prelude.{ℕ, ◌≡◌, ◌≤◌, ◌+◌, ◌-◌, ◌⊎◌, true, List, [], ◌∷◌, ◌++◌, Option, Some, None, IsSome, length, take, set}
 use Rattle.std.specs.List.{slice_index_or}
 use Rattle.std.specs.Global.{Vec}
 use Rattle.mrp_tables.specs.Tables.{Tables}
@@ -12,9 +11,6 @@ use Rattle.mrp_book.specs.declared.reply.Reply.TheVariants as reply
 use Rattle.mrp_book.specs.Standing.{History, standing}
 use Rattle.mrp_book.specs.History.{Fits, IsFull, IsReply, next_number}
 use Rattle.mrp_item.specs.Inputs.{Inputs}
-use Rattle.mrp_item.specs.Places.{WholePlan}
-use Rattle.mrp_explode.specs.declared.fault.RunFault.{RunFault}
-use Rattle.mrp_explode.specs.declared.fault.RunFault.TheVariants as fault
 use Rattle.mrp_report.specs.ReportText.{report_text}
 use Rattle.mrp_engine.specs.declared.event_core.board.BoardCall.TheVariants as board_call
 use Rattle.mrp_engine.specs.declared.event_core.board.BoardReply.{BoardReply}
@@ -85,11 +81,17 @@ abbrev pub IsToldLater : Core → Event → Type 0
 IsToldLater core (event.Take run who) = board_reply (run_inputs core run) (log_at core run) who board_call.Take ≡ None
 IsToldLater core e = ⊥
 
--- an event that may run out of memory: one that has meaning, asks no full order book, and does not have to come again
+-- a run is written in which an item gets too large
+abbrev pub IsToldTooLarge : Core → Event → Type 0
+IsToldTooLarge core (event.Write run) = (name : List ℕ) × IsRefusedBy (run_inputs core run) name
+IsToldTooLarge core e = ⊥
+
+-- an event that may run out of memory: one that has meaning, asks no full order book, does not have to come again, and writes no run in which an item gets too large
 pub record IsOutOfMemory (core : Core) (e : Event) : Type 0 where
   pub meant : HasMeaning core e
   pub not_full : ¬ AsksFullBook core e
   pub not_later : ¬ IsToldLater core e
+  pub not_over : ¬ IsToldTooLarge core e
 
 -- the core's answer for a board's reply; `NotYet` for none
 abbrev pub told : Option BoardReply → Answer
@@ -104,14 +106,8 @@ told (Some board_reply.Stopped) = answer.Stopped
 abbrev pub IsReport : Inputs → Answer → Type 0
 IsReport s a = ((bytes : Vec ℕ) × (a ≡ answer.Bytes bytes) × IsPlannable s × (bytes.items ≡ report_text s)) ⊎ ((name : List ℕ) × (a ≡ answer.TooLarge name) × IsRefusedBy s name)
 
--- the report of a plan, or why there is none; the report may run out of memory
-abbrev pub Reports : Result WholePlan RunFault → Result (Vec ℕ) RunFault → Type 0
-Reports (Ok plan) (Ok bytes) = bytes.items ≡ report_text plan.inputs
-Reports (Ok plan) (Err f) = f ≡ fault.NoMemory
-Reports (Err f) report = report ≡ Err f
-
--- how an event that has meaning is answered: by the order book, which is full at 1,000,000 entries; by the run's board;
--- or by the run's report
+-- how an event that has meaning is answered: by the order book, which is full at 1,000,000 entries; by the run's board; or by
+-- the run's report
 abbrev pub IsAnswered : Core → Event → Answer → Type 0
 IsAnswered core (event.Call desk c) a =
     (IsFull core.history × (a ≡ answer.Full))

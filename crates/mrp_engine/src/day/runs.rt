@@ -1,11 +1,11 @@
 //! The plans of a history's runs.
 
-ghost use Rattle.std.specs.Prelude.{◌≡◌, ◌<◌, ℕ, length};
+ghost use Rattle.std.specs.Prelude.{◌≡◌, ◌<◌, ℕ, Err, length};
 ghost use Rattle.mrp_master.specs.Supply.{supply_of};
 ghost use Rattle.mrp_book.specs.Booked.{AreBooked};
 ghost use Rattle.mrp_item.specs.Inputs.{Inputs, inputs_of};
 ghost use Rattle.mrp_engine.specs.day.Day.{runs_of};
-ghost use Rattle.mrp_engine.specs.day.Fault.{run_fault};
+ghost use Rattle.mrp_engine.specs.day.Fault.{plan_or_fault, run_fault};
 ghost use Rattle.mrp_engine.specs.day.Planned.{PlansRun, PlansRuns};
 
 use crate::day::fault::DayFault;
@@ -29,6 +29,17 @@ fn refusal(shop: &Shop, fault: RunFault) -> DayFault
     }
 }
 
+// A run's plan, or why its day is refused, by what planning the run gave. It takes no memory.
+fn or_refusal(shop: &Shop, planned: Result<Plan, RunFault>) -> Result<Plan, DayFault>
+    requires { (item : ℕ) → planned ≡ Err (RunFault.TooLarge item) → item < length shop.now.tables.items }
+    ensures { (s : Inputs) → s.tables ≡ shop.now.tables → result ≡ plan_or_fault s planned }
+{
+    match planned {
+        Ok(plan) => Ok(plan),
+        Err(fault) => Err(refusal(shop, fault)),
+    }
+}
+
 // The plan of a run, or why its day is refused.
 fn plan_or_refuse(
     rt: &(impl Threads + Sync),
@@ -39,10 +50,7 @@ fn plan_or_refuse(
     requires { AreBooked (supply_of rows.now.value.tables) snapshot.now.standing }
     ensures { PlansRun (inputs_of rows.now.value.tables snapshot.now) result }
 {
-    match plan_run(rt, alloc, rows, snapshot) {
-        Ok(plan) => Ok(plan),
-        Err(fault) => Err(refusal(rows.shop(), fault)),
-    }
+    or_refusal(rows.shop(), plan_run(rt, alloc, rows, snapshot))
 }
 
 /// The plans of a history's runs, in order of entries, each from the snapshot in its entry's reply,

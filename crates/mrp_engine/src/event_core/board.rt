@@ -53,6 +53,8 @@ pub struct Board {
     finished: Finished,
     // Whether each item was handed out.
     out: Vec<bool>,
+    // Whether each item is stored, and is over.
+    over: Vec<bool>,
     stopped: bool,
     log: Vec<Entry<BoardCall, BoardReply>>,
 }
@@ -65,17 +67,17 @@ impl Model for Board {
 
     ghost view = { λ b. record { inputs = b.finished.inputs; log = b.log.items } };
 
-    ghost invariant = { λ b. KeepsLog b.finished b.out.items b.stopped b.log.items };
+    ghost invariant = { λ b. KeepsLog b.finished b.out.items b.over.items b.stopped b.log.items };
 }
 
 impl Board {
-    ghost use Rattle.std.specs.Prelude.{◌≡◌, ◌≢◌, ◌++◌, ◌∷◌, ◌<◌, [], true, Some, None, IfOk, OnOk, OnErr, find};
+    ghost use Rattle.std.specs.Prelude.{◌≡◌, ◌≢◌, ◌++◌, ◌∷◌, ◌<◌, [], true, Some, None, Ok, IfOk, OnOk, OnErr, find};
     ghost use Rattle.mrp_turn.specs.Log.{entry};
     ghost use Rattle.mrp_item.specs.Inputs.{count, places};
-    ghost use Rattle.mrp_explode.specs.Explosion.{Explodes};
+    ghost use Rattle.mrp_item.specs.Plan.{first_over, plan_of};
     ghost use Rattle.std.specs.List.{list_all};
     ghost use Rattle.std.specs.Option.{option_copied};
-    ghost use Rattle.mrp_engine.specs.event_core.Board.{board_reply, held, is_at_end, is_finished, is_out, is_ready, last_by, taken};
+    ghost use Rattle.mrp_engine.specs.event_core.Board.{board_reply, held, is_at_end, is_finished, is_out, is_ready, is_stored_over, last_by, taken};
 
     /// The board of a run that plans from these inputs, with an empty log.
     ///
@@ -86,9 +88,11 @@ impl Board {
         let finished = Finished::new(alloc, inputs)?;
         let count = inputs.shop().tables().items().len();
         let out = vec![in alloc; false; count]?;
+        let over = vec![in alloc; false; count]?;
         Ok(Board {
             finished,
             out,
+            over,
             stopped: false,
             log: Vec::new(alloc),
         })
@@ -228,7 +232,10 @@ impl Board {
         ensures refused { OnErr result (self.new ≡ self.old) }
     {
         self.log.try_reserve(1)?;
-        self.finished.plan(alloc, item)?;
+        let outcome = self.finished.outcome_for(alloc, item)?;
+        let is_over = outcome.is_over();
+        self.finished.put(outcome);
+        self.over[item] = is_over;
         self.log.push_reserved(Entry {
             who: worker,
             call: BoardCall::Finish(item),
@@ -254,14 +261,42 @@ impl Board {
         Ok(())
     }
 
-    /// The plan of all items, each of which is stored.
-    ///
-    /// Errors: `NoMemory` if an allocation fails; `TooLarge` with the first item in table order
-    /// whose quantities get too large while those of no item above it do.
-    pub fn plan(&self, alloc: Global) -> Result<Plan, RunFault>
-        requires { is_finished self.now.inputs self.now.log ≡ true }
-        ensures { Explodes self.now.inputs result }
+    // Whether an item is stored, and is over.
+    fn is_stored_over(&self, item: usize) -> bool
+        ensures { result ≡ is_stored_over self.now.inputs self.now.log item }
     {
-        self.finished.whole(alloc)
+        matches!(self.over.get(item), Some(true))
+    }
+
+    // The first item in table order that is stored, and is over.
+    fn first_stored_over(&self) -> Option<usize>
+        ensures { result ≡ find (is_stored_over self.now.inputs self.now.log) (places self.now.inputs) }
+    {
+        (0..self.over.len()).find(|item| self.is_stored_over(*item))
+    }
+
+    /// The first item in table order that gets too large while none above it does, once all are
+    /// stored. It takes no memory.
+    pub fn first_over(&self) -> Option<usize>
+        requires { is_finished self.now.inputs self.now.log ≡ true }
+        ensures { result ≡ first_over self.now.inputs }
+    {
+        self.first_stored_over()
+    }
+
+    /// The plan of all items, each of which is stored, and none of which gets too large.
+    ///
+    /// Errors: `NoMemory` where memory is refused.
+    pub fn plan(&self, alloc: Global) -> Result<Plan, NoMemory>
+        requires finished { is_finished self.now.inputs self.now.log ≡ true }
+        requires none { first_over self.now.inputs ≡ None }
+        ensures inputs { IfOk result (λ plan. plan.inputs ≡ self.now.inputs) }
+        ensures plans { IfOk result (λ plan. plan_of self.now.inputs ≡ Ok plan.plans) }
+    {
+        match self.finished.whole(alloc) {
+            Ok(plan) => Ok(plan),
+            Err(RunFault::NoMemory) => Err(NoMemory),
+            Err(RunFault::TooLarge { item: _ }) => unreachable!(),
+        }
     }
 }

@@ -1,22 +1,17 @@
 //! A run that has been started.
 
-ghost use Rattle.std.specs.Prelude.{◌≡◌, ℕ, Ok, Err, IfOk, IsErr, OnErr, OnOk, Some, None};
-ghost use Rattle.std.specs.Global.{Vec};
+ghost use Rattle.std.specs.Prelude.{◌≡◌, IfOk, OnErr, OnOk, Some, None};
 ghost use Rattle.mrp_master.specs.Supply.{supply_of};
 ghost use Rattle.mrp_book.specs.Booked.{AreBooked};
-ghost use Rattle.mrp_item.specs.Inputs.{inputs_of, item_at};
-ghost use Rattle.mrp_item.specs.Plan.{plan_of};
-ghost use Rattle.mrp_explode.specs.declared.fault.RunFault.TheVariants as fault;
+ghost use Rattle.mrp_item.specs.Inputs.{inputs_of};
 ghost use Rattle.mrp_report.specs.ReportText.{report_text};
-ghost use Rattle.mrp_engine.specs.declared.event_core.event.Answer.TheVariants as answer;
-ghost use Rattle.mrp_engine.specs.event_core.Core.{IsReport, Reports, told};
+ghost use Rattle.mrp_engine.specs.event_core.Core.{told};
 ghost use Rattle.mrp_engine.specs.event_core.Kept.{IsBoardOf, log_of};
 
 use crate::day::name_of;
 use crate::event_core::board::{Board, BoardReply};
 use crate::event_core::event::Answer;
 use mrp_book::Snapshot;
-use mrp_explode::RunFault;
 use mrp_item::{Inputs, Plan, ShopRows};
 use mrp_qty::NoMemory;
 use mrp_report::write_report;
@@ -81,32 +76,6 @@ fn report_of(
     }
 }
 
-// The report of a run's plan, or why it has none.
-fn reported(
-    rt: &(impl Alloc + Threads + Sync),
-    alloc: Global,
-    planned: Result<Plan, RunFault>,
-) -> Result<Vec<u8>, RunFault>
-    ensures { Reports planned result }
-{
-    let plan = planned?;
-    Ok(report_of(rt, alloc, &plan)?)
-}
-
-// The core's answer for a run's report, or for why it has none. It takes no memory.
-fn answer_of(inputs: &Inputs, report: Result<Vec<u8>, RunFault>) -> Result<Answer, NoMemory>
-    requires { (item : ℕ) → report ≡ Err (fault.TooLarge item) → plan_of inputs.now ≡ Err item }
-    ensures bytes { (bytes : Vec ℕ) → report ≡ Ok bytes → result ≡ Ok (answer.Bytes bytes) }
-    ensures large { (item : ℕ) → report ≡ Err (fault.TooLarge item) → result ≡ Ok (answer.TooLarge (item_at inputs.now item).name) }
-    ensures memory { report ≡ Err fault.NoMemory → IsErr result }
-{
-    match report {
-        Ok(bytes) => Ok(Answer::Bytes(bytes)),
-        Err(RunFault::TooLarge { item }) => Ok(Answer::TooLarge(name_of(inputs, item))),
-        Err(RunFault::NoMemory) => Err(NoMemory),
-    }
-}
-
 impl Run {
     ghost use Rattle.std.specs.Prelude.{◌≡◌, ◌≢◌, ◌++◌, ◌∷◌, [], true, false, Some, None, IfOk, OnErr, OnOk, IsSome};
     ghost use Rattle.mrp_turn.specs.Log.{entry};
@@ -116,6 +85,7 @@ impl Run {
     ghost use Rattle.mrp_engine.specs.declared.event_core.board.BoardCall.TheVariants as call;
     ghost use Rattle.mrp_engine.specs.declared.event_core.board.BoardReply.TheVariants as reply;
     ghost use Rattle.mrp_engine.specs.declared.event_core.event.Answer.TheVariants as answer;
+    ghost use Rattle.mrp_engine.specs.day.Day.{IsPlannable};
     ghost use Rattle.mrp_engine.specs.event_core.Board.{board_reply, held, is_finished, taken};
     ghost use Rattle.mrp_engine.specs.event_core.Core.{IsReport, finish_of, told};
 
@@ -206,10 +176,10 @@ impl Run {
         }
     }
 
-    /// The report of a run, if all its items are stored.
+    /// The report of a run whose items are all stored, or the first of them that gets too large.
     ///
-    /// Errors: `NoMemory` if all items are stored and an allocation fails. Nothing has changed
-    /// then.
+    /// Errors: `NoMemory` if all are stored, none gets too large and an allocation fails. Nothing has
+    /// changed then.
     pub fn write(
         &mut self,
         rt: &(impl Alloc + Threads + Sync),
@@ -219,6 +189,7 @@ impl Run {
         ensures nothing { IfOk result (λ a. is_finished self.old.inputs self.old.log ≡ false → a ≡ answer.Nothing) }
         ensures same { self.new ≡ self.old }
         ensures memory { OnErr result (is_finished self.old.inputs self.old.log ≡ true) }
+        ensures plannable { OnErr result (IsPlannable self.old.inputs) }
     {
         if !self.is_finished() {
             return Ok(Answer::Nothing);
@@ -227,7 +198,11 @@ impl Run {
         let Some(board) = &self.board else {
             unreachable!()
         };
-        answer_of(board.inputs(), reported(rt, alloc, board.plan(alloc)))
+        if let Some(item) = board.first_over() {
+            return Ok(Answer::TooLarge(name_of(board.inputs(), item)));
+        }
+        let plan = board.plan(alloc)?;
+        Ok(Answer::Bytes(report_of(rt, alloc, &plan)?))
     }
 }
 

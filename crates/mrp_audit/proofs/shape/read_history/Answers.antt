@@ -1,25 +1,27 @@
-use Rattle.std.proofs.Common.{◌≡◌, ◌<◌, ◌≤◌, ◌^◌, List, Err, Result, arith, length, refl, rules, subst, sym}
+use Rattle.std.proofs.Common.{◌≡◌, ◌∙◌, ◌<◌, ◌≤◌, ◌^◌, List, Err, Result, arith, length, rules, subst, sym}
 use Rattle.mrp_audit.specs.declared.claim.Claim.{Claim}
 use Rattle.mrp_audit.specs.declared.fault.AuditFault.{AuditFault}
 use Rattle.mrp_audit.specs.declared.shape.Given.{Given}
 use Rattle.mrp_audit.specs.Reading.{ReadsHistory}
 use Rattle.mrp_audit.proofs.ReplyWords.{not-word}
 use Rattle.mrp_audit.proofs.Rows.{begins}
-use Rattle.mrp_audit.proofs.Shapes.{HasRead, head, headless, not-shaped, read-more, read-none, shape-refused}
+use Rattle.mrp_audit.proofs.Shapes.{HasRead, headless, not-shaped, read-more, read-none, shape-refused}
 use Rattle.mrp_audit.proofs.shape.read_history.Goals as goal
 
 pub returns-then-not-starts_with : goal.returns-then-not-starts_with
 returns-then-not-starts_with c =
-    headless c.args.shop.now.tables c.args.text.now head refl
+    let head = c.as_bytes-head.result.now in
+    headless c.args.shop.now.tables c.args.text.now head (c.as_bytes-head.ensures.value ∙ c.head.ensures)
     (λ rest is. not-word c.starts_with.result ((begins c.args.text.now head c.starts_with.result c.starts_with.ensures.value).1 rest) c.if-not-starts_with.true is)
 
 pub loop-number-init : goal.loop-number-init
 loop-number-init c =
     let t = c.args.shop.now.tables in
     let text = c.args.text.now in
+    let head = c.as_bytes-head.result.now in
     let front = (begins text head c.starts_with.result c.starts_with.ensures.value).0 c.if-not-starts_with.false in
     let within : length head ≤ length text = c.starts_with.ensures.bound c.if-not-starts_with.false in
-    subst (λ (claims : List Claim). HasRead t text claims 1 64) (sym c.new-claims.ensures.items) (read-none t text head 64 refl refl within front)
+    subst (λ (claims : List Claim). HasRead t text claims 1 (length head)) (sym c.new-claims.ensures.items) (read-none t text head (c.as_bytes-head.ensures.value ∙ c.head.ensures) within front)
 
 pub returns-in_err-desk : goal.returns-in_err-desk
 returns-in_err-desk c =

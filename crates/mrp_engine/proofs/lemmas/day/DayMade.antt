@@ -1,6 +1,7 @@
 -- A day is made of a bundle: it is refused, one of its runs is, or its texts are written.
-use Rattle.std.proofs.Common.{◌≡◌, ◌≢◌, ◌∙◌, ℕ, ◌≤◌, List, length, Option, Some, None, Result, Ok, Err, IfSome, ap, inl, inr, refl, subst}
-use Rattle.std.specs.Prelude.{All, IfErr, OnErr, ⊤}
+use Rattle.std.proofs.Common.{◌≡◌, ◌≢◌, ◌∙◌, ℕ, ◌≤◌, List, length, Option, Some, None, Result, Ok, Err, IfSome, ap, arith, inl, inr, refl, subst, sym}
+use Rattle.std.specs.Prelude.{All, IfErr, OnErr, ⊤, vec_len}
+use Rattle.std.specs.Global.{Vec}
 use Rattle.std.specs.Io.KnownBytes.{IsAtEnd}
 use Rattle.std.proofs.lemmas.Result.{on_ok_weaker}
 use Rattle.mrp_rows.specs.declared.fault.Fault.{Fault}
@@ -41,31 +42,46 @@ nothing-written Answers contents given ended failed w f refused too_large failin
   unwritten = λ before. refl;
 }
 
--- a shop that is not opened has no day
-pub unopened : {W : Type 0} (Answers : Answering) (contents : W → Option (List ℕ)) (bundle : List ℕ) (w : Told W) (f : OpenFault) → length bundle ≤ GREATEST_BUNDLE → Opens bundle (Err f)
+few-bytes : (bundle : Vec ℕ) → vec_len bundle ≤ GREATEST_BUNDLE → length bundle.items ≤ GREATEST_BUNDLE
+few-bytes bundle few = omega (arith, few, bundle.ok.0)
+
+no-shop : {W : Type 0} (Answers : Answering) (contents : W → Option (List ℕ)) (bundle : List ℕ) (w : Told W) (f : OpenFault) → length bundle ≤ GREATEST_BUNDLE → Opens bundle (Err f)
     → WritesDay Answers contents (Some bundle) ⊤ ⊥ w w (Err (opening_fault f))
-unopened Answers contents bundle w (opening.Refused f) few opens =
+no-shop Answers contents bundle w (opening.Refused f) few opens =
     nothing-written Answers contents (Some bundle) ⊤ ⊥ w (Refused f)
     (λ (g : Fault) e.
     let same : f ≡ g = cc in
     let (refused, other) = subst (λ (x : Fault). IsRefused bundle x × (x.code ≢ faults.NO_MEMORY)) same opens in
     (bundle, (refl, few), refused, other))
     (λ (name : List ℕ) e. (cc)) (λ e. (cc)) (λ e. (cc))
-unopened Answers contents bundle w opening.NoMemory few opens =
+no-shop Answers contents bundle w opening.NoMemory few opens =
     nothing-written Answers contents (Some bundle) ⊤ ⊥ w NoMemory (λ (g : Fault) e. (cc)) (λ (name : List ℕ) e. (cc)) (λ e. (cc)) (λ e. (cc))
 
--- nor has one with a refused run
-pub unplanned : {W : Type 0} (Answers : Answering) (contents : W → Option (List ℕ)) (bundle : List ℕ) (tables : Tables) (w : Told W) (f : DayFault) → length bundle ≤ GREATEST_BUNDLE
+-- a shop that is not opened has no day
+pub unopened : {W : Type 0} (Answers : Answering) (contents : W → Option (List ℕ)) (bundle : Vec ℕ) (bytes : List ℕ) (w : Told W) (f : OpenFault) (r : Result (Unit {0}) DayFault) → vec_len bundle ≤ GREATEST_BUNDLE
+    → bytes ≡ bundle.items → Opens bytes (Err f) → r ≡ Err (opening_fault f) → WritesDay Answers contents (Some bundle.items) ⊤ ⊥ w w r
+unopened Answers contents bundle bytes w f r few is opens fails =
+    subst (λ (x : Result (Unit {0}) DayFault). WritesDay Answers contents (Some bundle.items) ⊤ ⊥ w w x) (sym fails)
+    (no-shop Answers contents bundle.items w f (few-bytes bundle few) (subst (λ (x : List ℕ). Opens x (Err f)) is opens))
+
+no-plan : {W : Type 0} (Answers : Answering) (contents : W → Option (List ℕ)) (bundle : List ℕ) (tables : Tables) (w : Told W) (f : DayFault) → length bundle ≤ GREATEST_BUNDLE
     → IsAccepted bundle tables → PlansDay Answers tables (Err f) → WritesDay Answers contents (Some bundle) ⊤ ⊥ w w (Err f)
-unplanned Answers contents bundle tables w (TooLarge name) few accepted (h, answers, refused) =
+no-plan Answers contents bundle tables w (TooLarge name) few accepted (h, answers, refused) =
     let too_large : IsTooLargeBy Answers bundle name = (tables, accepted, h, answers, refused) in
     nothing-written Answers contents (Some bundle) ⊤ ⊥ w (TooLarge name) (λ (g : Fault) e. (cc))
     (λ (other : List ℕ) e. let same : name ≡ other = cc in (bundle, (refl, few), subst (IsTooLargeBy Answers bundle) same too_large)) (λ e. (cc)) (λ e. (cc))
-unplanned Answers contents bundle tables w NoMemory few accepted plans =
+no-plan Answers contents bundle tables w NoMemory few accepted plans =
     nothing-written Answers contents (Some bundle) ⊤ ⊥ w NoMemory (λ (g : Fault) e. (cc)) (λ (name : List ℕ) e. (cc)) (λ e. (cc)) (λ e. (cc))
-unplanned Answers contents bundle tables w (Refused f) few accepted plans = absurd plans
-unplanned Answers contents bundle tables w Read few accepted plans = absurd plans
-unplanned Answers contents bundle tables w Write few accepted plans = absurd plans
+no-plan Answers contents bundle tables w (Refused f) few accepted plans = absurd plans
+no-plan Answers contents bundle tables w Read few accepted plans = absurd plans
+no-plan Answers contents bundle tables w Write few accepted plans = absurd plans
+
+-- nor has one of which a run is refused
+pub unplanned : {W : Type 0} (Answers : Answering) (contents : W → Option (List ℕ)) (bundle : Vec ℕ) (bytes : List ℕ) (tables : Tables) (w : Told W) (f : DayFault) (r : Result (Unit {0}) DayFault) → vec_len bundle ≤ GREATEST_BUNDLE
+    → bytes ≡ bundle.items → IsAccepted bytes tables → PlansDay Answers tables (Err f) → r ≡ Err f → WritesDay Answers contents (Some bundle.items) ⊤ ⊥ w w r
+unplanned Answers contents bundle bytes tables w f r few is accepted plans fails =
+    subst (λ (x : Result (Unit {0}) DayFault). WritesDay Answers contents (Some bundle.items) ⊤ ⊥ w w x) (sym fails)
+    (no-plan Answers contents bundle.items tables w f (few-bytes bundle few) (subst (λ (x : List ℕ). IsAccepted x tables) is accepted) plans)
 
 -- the text of a planned day is that of its bundle
 tells-planned : (Answers : Answering) (bundle : List ℕ) (tables : Tables) (day : Day) → length bundle ≤ GREATEST_BUNDLE → IsAccepted bundle tables → PlansDay Answers tables (Ok day)
@@ -93,11 +109,11 @@ not-before P (Err Write) writing = λ before. absurd before
 not-before P (Err NoMemory) writing = λ before. absurd before
 
 -- the texts of a planned day are its bundle's
-pub planned : {W : Type 0} (Answers : Answering) (contents : W → Option (List ℕ)) (bundle : List ℕ) (tables : Tables) (day : Day) (old new : Told W) (r : Result (Unit {0}) DayFault) → length bundle ≤ GREATEST_BUNDLE
-    → IsAccepted bundle tables → PlansDay Answers tables (Ok day) → WritesText contents old new (text_of day) r → WritesDay Answers contents (Some bundle) ⊤ ⊥ old new r
-planned Answers contents bundle tables day old new r few accepted plans writes =
-    let tells : TellsDayBy Answers (Some bundle) (text_of day) = tells-planned Answers bundle tables day few accepted plans in
-    let front : (f : DayFault) → r ≡ Err f → WritesFrontBy Answers contents (Some bundle) old new =
+pub planned : {W : Type 0} (Answers : Answering) (contents : W → Option (List ℕ)) (bundle : Vec ℕ) (bytes : List ℕ) (tables : Tables) (day : Day) (old new : Told W) (r : Result (Unit {0}) DayFault) → vec_len bundle ≤ GREATEST_BUNDLE
+    → bytes ≡ bundle.items → IsAccepted bytes tables → PlansDay Answers tables (Ok day) → WritesText contents old new (text_of day) r → WritesDay Answers contents (Some bundle.items) ⊤ ⊥ old new r
+planned Answers contents bundle bytes tables day old new r few is accepted plans writes =
+    let tells : TellsDayBy Answers (Some bundle.items) (text_of day) = tells-planned Answers bundle.items tables day (few-bytes bundle few) (subst (λ (x : List ℕ). IsAccepted x tables) is accepted) plans in
+    let front : (f : DayFault) → r ≡ Err f → WritesFrontBy Answers contents (Some bundle.items) old new =
     λ f e. (text_of day, tells, subst (λ (x : Result (Unit {0}) DayFault). OnErr x (HasTakenFront contents old new (text_of day))) e writes.front) in
     let while : (f : DayFault) → r ≡ Err f → IsWhileWriting f = λ f e. subst (λ (x : Result (Unit {0}) DayFault). IfErr x IsWhileWriting) e writes.writing in
     record {

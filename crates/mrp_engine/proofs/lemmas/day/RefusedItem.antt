@@ -1,14 +1,15 @@
 -- The item that a plan is refused by.
-use Rattle.std.proofs.Common.{◌≡◌, ◌∙◌, ℕ, zero, suc, ◌+◌, ◌<◌, Bool, true, false, cond, List, Option, Some, None, Err, get_or, ap, refl, arith}
+use Rattle.std.proofs.Common.{◌≡◌, ◌∙◌, ℕ, zero, suc, ◌+◌, ◌<◌, Bool, true, false, cond, List, Option, Some, None, Result, Ok, Err, get_or, ap, refl, arith}
 use Rattle.std.proofs.lemmas.List.{get_or_default}
 use Rattle.std.specs.Prelude.{find, map}
 use Rattle.std.specs.List.{range_with_len}
 use Rattle.mrp_tables.specs.declared.item.Item.{Item}
 use Rattle.mrp_item.specs.Inputs.{Inputs, count, item_at, places}
+use Rattle.mrp_item.specs.Places.{WholePlan}
 use Rattle.mrp_explode.specs.Explosion.{Explodes}
 use Rattle.mrp_explode.specs.declared.fault.RunFault.{RunFault}
 use Rattle.mrp_explode.specs.declared.fault.RunFault.TheVariants as run
-use Rattle.mrp_engine.specs.day.Fault.{run_fault}
+use Rattle.mrp_engine.specs.day.Fault.{plan_or_fault, run_fault}
 use Rattle.mrp_engine.specs.day.Planned.{PlansRun}
 use Rattle.mrp_item.specs.Plan.{plan_in, plan_of, plan_unless, first_over, is_over, outcome_of}
 
@@ -40,3 +41,8 @@ entry-is s items i entry d same within read = read ∙ ap (λ (xs : List Item). 
 pub refused-run : (s : Inputs) (fault : RunFault) → Explodes s (Err fault) → PlansRun s (Err (run_fault s fault))
 refused-run s (run.TooLarge item) is = (item, is, refl)
 refused-run s run.NoMemory is = tt
+
+-- a run, planned or refused
+pub planned-run : (s : Inputs) (planned : Result WholePlan RunFault) → Explodes s planned → PlansRun s (plan_or_fault s planned)
+planned-run s (Ok plan) is = (is.0, (plan.plans, is.1))
+planned-run s (Err fault) is = refused-run s fault is

@@ -14,11 +14,12 @@ use Rattle.mrp_bill.specs.Bill.{parents_of}
 use Rattle.mrp_book.proofs.Standings.{any-more}
 use Rattle.mrp_item.specs.Inputs.{Inputs, count, places}
 use Rattle.mrp_item.specs.Places.{ItemOf}
+use Rattle.mrp_item.specs.Plan.{first_over, is_over, outcome_of}
 use Rattle.mrp_explode.specs.Finished.{Finishes, IsFinished, IsReady, Progress}
 use Rattle.mrp_explode.proofs.LevelLists.{apart}
 use Rattle.mrp_engine.specs.declared.event_core.board.BoardCall.TheVariants as call
 use Rattle.mrp_engine.specs.declared.event_core.board.BoardReply.TheVariants as reply
-use Rattle.mrp_engine.specs.event_core.Board.{BoardEntry, BoardLog, hands_out, stores, stops, has_stopped, held, is_finished, is_out, is_ready, is_stored, item_in, item_of}
+use Rattle.mrp_engine.specs.event_core.Board.{BoardEntry, BoardLog, hands_out, stores, stops, has_stopped, held, is_finished, is_out, is_ready, is_stored, is_stored_over, item_in, item_of}
 use Rattle.mrp_engine.specs.event_core.Kept.{KeepsLog}
 
 pub out-more : (log : BoardLog) (e : BoardEntry) (i : ℕ) → is_out (log ++ e ∷ []) i ≡ (is_out log i || hands_out i e.reply)
@@ -62,12 +63,14 @@ all-same (suc n) x zero = refl
 all-same (suc n) x (suc i) = all-same n x i
 
 -- a board without an entry
-pub kept-none : (s : Inputs) (outcomes : List (Option ItemOf)) (out : List Bool) → outcomes ≡ replicate (count s) None → out ≡ replicate (count s) false
-    → KeepsLog (record { inputs = s; outcomes = outcomes }) out false []
-kept-none s outcomes out none marks = record {
+pub kept-none : (s : Inputs) (outcomes : List (Option ItemOf)) (out over : List Bool) → outcomes ≡ replicate (count s) None → out ≡ replicate (count s) false → over ≡ replicate (count s) false
+    → KeepsLog (record { inputs = s; outcomes = outcomes }) out over false []
+kept-none s outcomes out over none marks unmarked = record {
   size = ap (length {A = Bool}) marks ∙ length-replicate (count s) false;
+  over_size = ap (length {A = Bool}) unmarked ∙ length-replicate (count s) false;
   out_is = λ i. ap (λ (l : List Bool). slice_index_or l i false) marks ∙ all-same (count s) false i;
   stored_is = λ i. ap (λ (l : List (Option ItemOf)). is_some (slice_index_or l i None)) none ∙ ap (λ (o : Option ItemOf). is_some o) (all-same {X = Option ItemOf} (count s) None i);
+  over_is = λ i. ap (λ (l : List Bool). slice_index_or l i false) unmarked ∙ all-same (count s) false i;
   stopped_is = refl;
   ready = λ i e. absurd (let k : false ≡ true = e in cc);
   held_out = λ who i e. absurd (let k : None ≡ Some i = e in cc);
@@ -99,7 +102,7 @@ pub found-in : (p : ℕ → Bool) (a n i : ℕ) → find p (range_with_len a n) 
 found-in p a zero i e = absurd (let k : None ≡ Some i = e in cc)
 found-in p a (suc n) i e = found-step p a n i (p a) (find p (range_with_len (a + 1) n)) refl (found-in p (a + 1) n i) e
 
-module _ (f : Progress) (out : List Bool) (stopped : Bool) (log : BoardLog) (k : KeepsLog f out stopped log) where
+module _ (f : Progress) (out over : List Bool) (stopped : Bool) (log : BoardLog) (k : KeepsLog f out over stopped log) where
   -- what is out is within the table
   pub out-within : (i : ℕ) → is_out log i ≡ true → i < count f.inputs
   out-within i is = elim (cases_lt i (length out)) [
@@ -122,11 +125,16 @@ module _ (f : Progress) (out : List Bool) (stopped : Bool) (log : BoardLog) (k :
     more-held who i (inl one) = absurd (let n : None ≡ Some i = sym holds ∙ one in cc)
     more-held who i (inr was) = still-out log e i (k.held_out who i was)
 
-    pub kept-more : (now : Bool) → now ≡ (stopped || stops e.reply) → KeepsLog f out now (log ++ e ∷ [])
+    same-stored : (i : ℕ) → is_stored (log ++ e ∷ []) i ≡ is_stored log i
+    same-stored i = stored-more log e i ∙ ap (λ (b : Bool). is_stored log i || b) (keeps i) ∙ or-false (is_stored log i)
+
+    pub kept-more : (now : Bool) → now ≡ (stopped || stops e.reply) → KeepsLog f out over now (log ++ e ∷ [])
     kept-more now is = record {
       size = k.size;
+      over_size = k.over_size;
       out_is = λ i. k.out_is i ∙ sym (same-out i);
-      stored_is = λ i. k.stored_is i ∙ sym (stored-more log e i ∙ ap (λ (b : Bool). is_stored log i || b) (keeps i) ∙ or-false (is_stored log i));
+      stored_is = λ i. k.stored_is i ∙ sym (same-stored i);
+      over_is = λ i. k.over_is i ∙ ap (λ (b : Bool). b && is_over (outcome_of f.inputs i)) (sym (same-stored i));
       stopped_is = is ∙ ap (λ (b : Bool). b || stops e.reply) k.stopped_is ∙ sym (stopped-more log e);
       ready = λ i was. k.ready i (sym (same-out i) ∙ was);
       held_out = λ who i was. more-held who i (held-after who log e i was);
@@ -150,14 +158,19 @@ module _ (f : Progress) (out : List Bool) (stopped : Bool) (log : BoardLog) (k :
     taken-held w i (inl one) = out-here i (let n : item ≡ i = cc in sym n)
     taken-held w i (inr was) = still-out log take_entry i (k.held_out w i was)
 
-    pub kept-taken : KeepsLog f (set out item true) stopped (log ++ entry who call.Take (reply.Item item) ∷ [])
+    taken-stored : (i : ℕ) → is_stored (log ++ take_entry ∷ []) i ≡ is_stored log i
+    taken-stored i = stored-more log take_entry i ∙ or-false (is_stored log i)
+
+    pub kept-taken : KeepsLog f (set out item true) over stopped (log ++ entry who call.Take (reply.Item item) ∷ [])
     kept-taken = record {
       size = length-set out item true ∙ k.size;
+      over_size = k.over_size;
       out_is = λ i. elim (cases_order i item) [
         | inl same ↦ marked i same ∙ sym (out-here i same)
         | inr other ↦ get_or-set_other out item i true false (apart i item other) ∙ k.out_is i ∙ sym (out-there i (apart i item other))
       ];
-      stored_is = λ i. k.stored_is i ∙ sym (stored-more log take_entry i ∙ or-false (is_stored log i));
+      stored_is = λ i. k.stored_is i ∙ sym (taken-stored i);
+      over_is = λ i. k.over_is i ∙ ap (λ (b : Bool). b && is_over (outcome_of f.inputs i)) (sym (taken-stored i));
       stopped_is = k.stopped_is ∙ sym (stopped-more log take_entry ∙ or-false (has_stopped log));
       ready = λ i was. elim (cases_order i item) [
         | inl same ↦ subst (λ (n : ℕ). IsReady f n) (sym same) ready
@@ -167,7 +180,7 @@ module _ (f : Progress) (out : List Bool) (stopped : Bool) (log : BoardLog) (k :
     }
 
   -- an item is stored
-  module _ (who item : ℕ) (o : ItemOf) (finishes : Finishes f (record f { outcomes = set f.outcomes item (Some o) }) item) where
+  module _ (who item : ℕ) (o : ItemOf) (now : Bool) (within : item < count f.inputs) (is : now ≡ is_over (outcome_of f.inputs item)) (finishes : Finishes f (record f { outcomes = set f.outcomes item (Some o) }) item) where
     abbrev finish_entry : BoardEntry
     finish_entry = entry who (call.Finish item) reply.Stored
 
@@ -187,13 +200,28 @@ module _ (f : Progress) (out : List Bool) (stopped : Bool) (log : BoardLog) (k :
     finish-held w i (inl one) = absurd (let n : None ≡ Some i = one in cc)
     finish-held w i (inr was) = still-out log finish_entry i (k.held_out w i was)
 
-    pub kept-stored : KeepsLog (record f { outcomes = set f.outcomes item (Some o) }) out stopped (log ++ entry who (call.Finish item) reply.Stored ∷ [])
+    noted-here : (i : ℕ) → i ≡ item → slice_index_or (set over item now) i false ≡ is_stored_over f.inputs (log ++ finish_entry ∷ []) i
+    noted-here i same =
+        ap (λ (n : ℕ). slice_index_or (set over item now) n false) same ∙ get_or-set_same over item now false (omega (arith, within, k.over_size)) ∙ is
+        ∙ ap (λ (n : ℕ). is_over (outcome_of f.inputs n)) (sym same)
+        ∙ ap (λ (b : Bool). b && is_over (outcome_of f.inputs i)) (sym (stored-here i same))
+
+    noted-there : (i : ℕ) → i ≢ item → slice_index_or (set over item now) i false ≡ is_stored_over f.inputs (log ++ finish_entry ∷ []) i
+    noted-there i other =
+        get_or-set_other over item i now false other ∙ k.over_is i ∙ ap (λ (b : Bool). b && is_over (outcome_of f.inputs i)) (sym (stored-there i other))
+
+    pub kept-stored : KeepsLog (record f { outcomes = set f.outcomes item (Some o) }) out (set over item now) stopped (log ++ entry who (call.Finish item) reply.Stored ∷ [])
     kept-stored = record {
       size = k.size;
+      over_size = length-set over item now ∙ k.over_size;
       out_is = λ i. k.out_is i ∙ sym (out-kept i);
       stored_is = λ i. elim (cases_order i item) [
         | inl same ↦ placed i same ∙ sym (stored-here i same)
         | inr other ↦ ap (λ (o : Option ItemOf). is_some o) (get_or-set_other f.outcomes item i (Some o) None (apart i item other)) ∙ k.stored_is i ∙ sym (stored-there i (apart i item other))
+      ];
+      over_is = λ i. elim (cases_order i item) [
+        | inl same ↦ noted-here i same
+        | inr other ↦ noted-there i (apart i item other)
       ];
       stopped_is = k.stopped_is ∙ sym (stopped-more log finish_entry ∙ or-false (has_stopped log));
       ready = λ i was. All-weaker (IsFinished f) (IsFinished (record f { outcomes = set f.outcomes item (Some o) })) finishes.others (parents_of f.inputs.tables.bills (count f.inputs) i) (k.ready i (sym (out-kept i) ∙ was));
@@ -225,3 +253,18 @@ module _ (f : Progress) (out : List Bool) (stopped : Bool) (log : BoardLog) (k :
       let here : is_some (slice_index_or f.outcomes (get_or (places f.inputs) i 0) None) ≡ true = passes i 0 (omega (arith, within, length-range_with_len 0 (count f.inputs))) in
       let first : 0 + i ≡ i = omega arith in
       subst (λ (n : ℕ). is_some (slice_index_or f.outcomes n None) ≡ true) (get_or-range_with_len 0 (count f.inputs) i 0 within ∙ first) here
+
+-- of items that are all stored the first that is over is the first of all
+over-all : (s : Inputs) (log : BoardLog) (items : List ℕ) → list_all (is_stored log) items ≡ true → find (is_stored_over s log) items ≡ find (λ i. is_over (outcome_of s i)) items
+over-all s log [] is = refl
+over-all s log (i ∷ items) is = by (is_stored log i) refl is (over-all s log items)
+  where
+    by : (b : Bool) → is_stored log i ≡ b → (b && list_all (is_stored log) items) ≡ true → (list_all (is_stored log) items ≡ true → find (is_stored_over s log) items ≡ find (λ i. is_over (outcome_of s i)) items)
+        → find (is_stored_over s log) (i ∷ items) ≡ find (λ i. is_over (outcome_of s i)) (i ∷ items)
+    by true here rest more =
+        ap (λ (b : Bool). cond (b && is_over (outcome_of s i)) (Some i) (find (is_stored_over s log) items)) here
+        ∙ ap (λ (o : Option ℕ). cond (is_over (outcome_of s i)) (Some i) o) (more rest)
+    by false here rest more = absurd (let n : false ≡ true = rest in cc)
+
+pub finished-over : (s : Inputs) (log : BoardLog) → is_finished s log ≡ true → find (is_stored_over s log) (places s) ≡ first_over s
+finished-over s log is = over-all s log (places s) is

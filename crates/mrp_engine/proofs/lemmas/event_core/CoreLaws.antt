@@ -10,7 +10,6 @@ use Rattle.mrp_turn.specs.declared.log.Entry.{Entry}
 use Rattle.mrp_turn.specs.Log.{IsSeatNumber, entry}
 use Rattle.mrp_turn.proofs.Logs.{EachFollows-front, InTurn, InTurn-from_Each, one_more}
 use Rattle.mrp_tables.specs.Tables.{Tables}
-use Rattle.mrp_tables.specs.declared.item.Item.{Item}
 use Rattle.mrp_master.specs.Supply.{supply_of}
 use Rattle.mrp_book.specs.declared.call.Call.{Call}
 use Rattle.mrp_book.specs.declared.call.Call.TheVariants as call

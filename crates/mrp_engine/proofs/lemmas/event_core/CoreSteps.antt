@@ -24,8 +24,9 @@ use Rattle.mrp_engine.specs.declared.event_core.event.Event.{Event}
 use Rattle.mrp_engine.specs.declared.event_core.event.Event.TheVariants as event
 use Rattle.mrp_engine.specs.declared.event_core.event.Answer.{Answer}
 use Rattle.mrp_engine.specs.declared.event_core.event.Answer.TheVariants as answer
+use Rattle.mrp_engine.specs.day.Day.{IsPlannable, IsRefusedBy}
 use Rattle.mrp_engine.specs.event_core.Board.{BoardLog, RunLog, board_reply, held, is_at_end, is_finished, is_ready, taken}
-use Rattle.mrp_engine.specs.event_core.Core.{Core, HasMeaning, IsAnswer, IsOfDesk, IsReport, IsStarted, IsToldLater, Run, IsOutOfMemory, after, finish_of, inputs_at, log_at, no_run, run_at, run_inputs, snapshot_of, told, with_entries}
+use Rattle.mrp_engine.specs.event_core.Core.{Core, HasMeaning, IsAnswer, IsOfDesk, IsReport, IsStarted, IsToldLater, IsToldTooLarge, Run, IsOutOfMemory, after, finish_of, inputs_at, log_at, no_run, run_at, run_inputs, snapshot_of, told, with_entries}
 use Rattle.mrp_engine.specs.event_core.Kept.{KeepsBoard}
 use Rattle.mrp_engine.specs.event_core.KeptCore.{FollowsHistory, brief}
 use Rattle.mrp_engine.proofs.lemmas.event_core.BoardLaws.{keeps-finish, keeps-none, keeps-stopped, keeps-told, stored-reply}
@@ -252,9 +253,9 @@ at-err : {X E : Type 0} (P Q : Type 0) (r : Result X E) → OnErr r P → (P →
 at-err P Q (Ok x) p f = p
 at-err P Q (Err e) p f = f p
 
--- a book that is not full may run out of memory
+-- a book that is not full may want memory
 pub desk-out_of_memory : (core : Core) (e : Event) → IsOfDesk e → HasMeaning core e → (IsFull core.history → ⊥) → IsOutOfMemory core e
-desk-out_of_memory core e of has open_ = record { meant = has; not_full = λ asks. open_ asks.2; not_later = never core e of }
+desk-out_of_memory core e of has open_ = record { meant = has; not_full = λ asks. open_ asks.2; not_later = never core e of; not_over = no-run core e of }
   where
     never : (core : Core) (e : Event) → IsOfDesk e → IsToldLater core e → ⊥
     never core (event.Call desk c) of later = later
@@ -263,6 +264,14 @@ desk-out_of_memory core e of has open_ = record { meant = has; not_full = λ ask
     never core (event.Finish run who) of later = of
     never core (event.GiveUp run who) of later = of
     never core (event.Write run) of later = of
+
+    no-run : (core : Core) (e : Event) → IsOfDesk e → IsToldTooLarge core e → ⊥
+    no-run core (event.Call desk c) of over = over
+    no-run core (event.Start desk) of over = over
+    no-run core (event.Take run who) of over = over
+    no-run core (event.Finish run who) of over = over
+    no-run core (event.GiveUp run who) of over = over
+    no-run core (event.Write run) of over = of
 
 pub is-none : (o : Option ℕ) → is_some o ≡ false → o ≡ None
 is-none None e = refl
@@ -372,6 +381,7 @@ module _ (tables : Tables) (h : History) (runs : List RunLog) (now : Core) (run 
         meant = (started tables h runs run place r x.at, seat, ap (held who) (log-is tables h runs run place r x.at) ∙ free);
         not_full = λ asks. asks.0;
         not_later = λ later. now_told (sym says ∙ later);
+        not_over = λ over. over;
       }))
 
   pub finish-out_of_memory : {E : Type 0} (who : ℕ) (res : Result Answer E) → IsSeatNumber who → OnErr res (IsSome (held who r.log)) → OnErr res (IsOutOfMemory now (event.Finish run who))
@@ -382,6 +392,7 @@ module _ (tables : Tables) (h : History) (runs : List RunLog) (now : Core) (run 
         meant = (started tables h runs run place r x.at, seat, subst (λ (o : Option ℕ). IsSome o) (sym (ap (held who) (log-is tables h runs run place r x.at))) some);
         not_full = λ asks. asks.0;
         not_later = λ later. later;
+        not_over = λ over. over;
       }))
 
   pub give_up-out_of_memory : {E : Type 0} (who : ℕ) (res : Result Answer E) → IsSeatNumber who → OnErr res (IsOutOfMemory now (event.GiveUp run who))
@@ -390,14 +401,20 @@ module _ (tables : Tables) (h : History) (runs : List RunLog) (now : Core) (run 
         meant = (started tables h runs run place r x.at, seat);
         not_full = λ asks. asks.0;
         not_later = λ later. later;
+        not_over = λ over. over;
       }))
 
-  pub write-out_of_memory : {E : Type 0} (res : Result Answer E) → OnErr res (is_finished r.inputs r.log ≡ true) → OnErr res (IsOutOfMemory now (event.Write run))
-  write-out_of_memory res memory =
-      at-err (is_finished r.inputs r.log ≡ true) (IsOutOfMemory now (event.Write run)) res memory (λ done.
+  -- a plan is no refusal
+  not-refused : (s : Inputs) → IsPlannable s → (name : List ℕ) → IsRefusedBy s name → ⊥
+  not-refused s planned name refused = absurd (let e : Ok planned.0 ≡ Err refused.0 = sym planned.1 ∙ refused.1 in cc)
+
+  pub write-out_of_memory : {E : Type 0} (res : Result Answer E) → OnErr res (is_finished r.inputs r.log ≡ true) → OnErr res (IsPlannable r.inputs) → OnErr res (IsOutOfMemory now (event.Write run))
+  write-out_of_memory (Ok a) memory whole = tt
+  write-out_of_memory (Err e) done whole =
       subst (λ (c : Core). IsOutOfMemory c (event.Write run)) x.view
       (record {
         meant = (started tables h runs run place r x.at, finished-is tables h runs run place r x.at x.follows ∙ done);
         not_full = λ asks. asks.0;
         not_later = λ later. later;
-      }))
+        not_over = λ over. not-refused r.inputs whole over.0 (subst (λ (s : Inputs). IsRefusedBy s over.0) (inputs-are tables h runs run place r x.at x.follows) over.1);
+      })

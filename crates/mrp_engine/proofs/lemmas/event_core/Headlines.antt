@@ -1,5 +1,5 @@
 -- Every right list of events and answers keeps the headline.
-use Rattle.std.proofs.Common.{◌≡◌, ◌≢◌, ◌∙◌, ◌<◌, ◌+◌, ◌-◌, ◌↔◌, ℕ, true, List, ◌∷◌, length, take, drop, inl, inr, refl, sym, ap, subst, arith}
+use Rattle.std.proofs.Common.{◌≡◌, ◌≢◌, ◌∙◌, ◌<◌, ◌+◌, ◌↔◌, ℕ, true, List, ◌∷◌, length, take, drop, inl, inr, refl, sym, ap, subst, arith}
 use Rattle.std.proofs.lemmas.List.FromFn.{get_or-range_with_len, length-range_with_len}
 use Rattle.std.proofs.lemmas.List.Sums.{AllPass-from_list_all}
 use Rattle.std.proofs.lemmas.List.{take-append-drop}
@@ -12,9 +12,8 @@ use Rattle.mrp_tables.specs.Facts.{IsBillLine, IsItem, IsOperation, NumbersRise}
 use Rattle.mrp_tables.specs.Items.{no_item}
 use Rattle.mrp_bill.specs.Shop.{Shop}
 use Rattle.mrp_master.specs.Supply.{supply_of}
-use Rattle.mrp_book.specs.declared.call.Call.{Call}
 use Rattle.mrp_book.specs.declared.call.Call.TheVariants as call
-use Rattle.mrp_book.specs.Standing.{History, standing}
+use Rattle.mrp_book.specs.Standing.{History}
 use Rattle.mrp_book.specs.History.{IsLegal}
 use Rattle.mrp_book.proofs.Histories.{legal-front, prefix-covered}
 use Rattle.mrp_book.proofs.Promised.{booked_within, rising}

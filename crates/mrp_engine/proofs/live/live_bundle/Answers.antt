@@ -1,39 +1,19 @@
-use Rattle.std.proofs.Common.{◌≡◌, ◌≤◌, Err, Result, Some, arith, length, rules, subst, sym}
-use Rattle.std.specs.Prelude.{⊤}
-use Rattle.mrp_rows.specs.declared.streams.TheConstants.{GREATEST_BUNDLE}
-use Rattle.mrp_engine.specs.day.Fault.{opening_fault}
+use Rattle.std.proofs.Common.{rules}
 use Rattle.mrp_engine.specs.day.RightDay.{AnswersDesks}
-use Rattle.mrp_engine.specs.day.Day.{IsAccepted}
-use Rattle.mrp_engine.specs.day.Opened.{Opens}
-use Rattle.mrp_engine.specs.day.Run.{WritesDay}
-use Rattle.mrp_engine.specs.declared.day.fault.DayFault.{DayFault}
 use Rattle.mrp_engine.proofs.lemmas.day.DayMade.{planned, unopened, unplanned}
 use Rattle.mrp_engine.proofs.live.live_bundle.Goals as goal
 
 pub returns-in_err-shop : goal.returns-in_err-shop
 returns-in_err-shop g c =
-    let contents = g.W.Write.contents in
-    let bundle = c.args.bundle.items in
-    let few : length bundle ≤ GREATEST_BUNDLE = omega (arith, c.requires.bundle, c.args.bundle.ok.0) in
-    let w = c.args.writer.now in
-    let opens = subst (λ bytes. Opens bytes (Err c.in_err-shop.field-0.0)) c.deref.ensures.value c.in_err-shop.ensures in
-    let fails : c.from_residual.result ≡ Err (opening_fault c.in_err-shop.field-0.0) = search rules in
-    subst (λ (r : Result (Unit {0}) DayFault). WritesDay AnswersDesks contents (Some bundle) ⊤ ⊥ w w r) (sym fails) (unopened AnswersDesks contents bundle w c.in_err-shop.field-0.0 few opens)
+    unopened AnswersDesks g.W.Write.contents c.args.bundle c.deref.result.now c.args.writer.now c.in_err-shop.field-0.0 c.from_residual.result c.requires.bundle
+    c.deref.ensures.value c.in_err-shop.ensures (search rules)
 
 pub returns-in_err-day : goal.returns-in_err-day
 returns-in_err-day g c =
-    let contents = g.W.Write.contents in
-    let bundle = c.args.bundle.items in
-    let few : length bundle ≤ GREATEST_BUNDLE = omega (arith, c.requires.bundle, c.args.bundle.ok.0) in
-    let w = c.args.writer.now in
-    let accepted = subst (λ bytes. IsAccepted bytes c.in_ok-shop.shop.tables) c.deref.ensures.value c.in_ok-shop.ensures in
-    let fails : c.from_residual-in_err-day.result ≡ Err c.in_err-day.field-0.0 = search rules in
-    subst (λ (r : Result (Unit {0}) DayFault). WritesDay AnswersDesks contents (Some bundle) ⊤ ⊥ w w r) (sym fails)
-    (unplanned AnswersDesks contents bundle c.in_ok-shop.shop.tables w c.in_err-day.field-0.0 few accepted c.in_err-day.ensures)
+    unplanned AnswersDesks g.W.Write.contents c.args.bundle c.deref.result.now c.in_ok-shop.shop.tables c.args.writer.now c.in_err-day.field-0.0 c.from_residual-in_err-day.result c.requires.bundle
+    c.deref.ensures.value c.in_ok-shop.ensures c.in_err-day.ensures (search rules)
 
 pub returns : goal.returns
 returns g c =
-    let bundle = c.args.bundle.items in
-    let few : length bundle ≤ GREATEST_BUNDLE = omega (arith, c.requires.bundle, c.args.bundle.ok.0) in
-    let accepted = subst (λ bytes. IsAccepted bytes c.in_ok-shop.shop.tables) c.deref.ensures.value c.in_ok-shop.ensures in
-    planned AnswersDesks g.W.Write.contents bundle c.in_ok-shop.shop.tables c.in_ok-day.day c.args.writer.now c.write_day.new.writer c.write_day.result few accepted c.in_ok-day.ensures c.write_day.ensures
+    planned AnswersDesks g.W.Write.contents c.args.bundle c.deref.result.now c.in_ok-shop.shop.tables c.in_ok-day.day c.args.writer.now c.write_day.new.writer c.write_day.result c.requires.bundle
+    c.deref.ensures.value c.in_ok-shop.ensures c.in_ok-day.ensures c.write_day.ensures

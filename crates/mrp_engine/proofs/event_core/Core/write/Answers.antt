@@ -13,4 +13,4 @@ returns-clause-memory g c =
     let i = c.self.inside in
     let r = c.index_mut.result.now in
     let here = here-of i.rows.value.tables i.book.entries i.runs.items c.args.self.now c.args.run c.in-Some.place r c.self.view_is c.self.invariant.runs c.in-Some.ensures.started.0 c.in-Some.ensures.started.1 c.index_mut.ensures.value in
-    write-out_of_memory i.rows.value.tables i.book.entries i.runs.items c.args.self.now c.args.run c.in-Some.place r here c.write.result c.write.ensures.memory
+    write-out_of_memory i.rows.value.tables i.book.entries i.runs.items c.args.self.now c.args.run c.in-Some.place r here c.write.result c.write.ensures.memory c.write.ensures.plannable

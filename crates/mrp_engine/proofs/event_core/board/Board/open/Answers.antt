@@ -14,6 +14,7 @@ invariant_of-result c =
     let from : f.inputs ≡ c.args.inputs.now.value = c.in_ok-finished.ensures.inputs in
     let items : c.items-count.result.now ≡ f.inputs.tables.items =
     c.items-count.ensures.rows ∙ ap (λ (t : Tables). t.items) (c.tables.ensures.value ∙ c.shop.ensures.tables) ∙ ap (λ (x : Inputs). x.tables.items) (c.deref.ensures ∙ sym from) in
-    subst (λ (l : BoardLog). KeepsLog f c.in_ok-out.out.items false l) (sym c.new-2.ensures.items)
-    (kept-none f.inputs f.outcomes c.in_ok-out.out.items (c.in_ok-finished.ensures.none ∙ ap (λ (x : Inputs). replicate (count x) None) (sym from))
-    (c.in_ok-out.ensures.items_if_clones_equal (λ y e. e) ∙ ap (λ (l : List Item). replicate (length l) false) items))
+    subst (λ (l : BoardLog). KeepsLog f c.in_ok-out.out.items c.in_ok-over.over.items false l) (sym c.new-2.ensures.items)
+    (kept-none f.inputs f.outcomes c.in_ok-out.out.items c.in_ok-over.over.items (c.in_ok-finished.ensures.none ∙ ap (λ (x : Inputs). replicate (count x) None) (sym from))
+    (c.in_ok-out.ensures.items_if_clones_equal (λ y e. e) ∙ ap (λ (l : List Item). replicate (length l) false) items)
+    (c.in_ok-over.ensures.items_if_clones_equal (λ y e. e) ∙ ap (λ (l : List Item). replicate (length l) false) items))
