@@ -4,6 +4,7 @@ import argparse
 import os
 import re
 import shutil
+import signal
 import subprocess
 import sys
 import threading
@@ -174,6 +175,11 @@ def main(words):
         if why:
             print(why)
         return 0
+    if not shutil.which("rt"):
+        say("prove: the toolchain's command `rt` is not in the path")
+        return 2
+    # (what was started ends with this process)
+    signal.signal(signal.SIGINT, signal.SIG_DFL)
     begun = time.time()
     try:
         try:

@@ -72,10 +72,11 @@ def seconds_left(plan, spent, rate):
 
 
 def rate_seen(proved):
-    """The lines a second and process of crates that were proved, each given as its lines, its seconds and its processes."""
-    lines = FIRST_LINES + sum(it for it, _, _ in proved)
-    seconds = FIRST_LINES / FIRST_RATE + sum(seconds * SPEED[jobs] for _, seconds, jobs in proved)
-    return lines / seconds
+    """The lines a second and process of crates that were proved, each given as its lines, its seconds and its processes. One that
+    took a tenth of what it should was proved before."""
+    worked = [(lines, seconds * SPEED[jobs]) for lines, seconds, jobs in proved]
+    new = [(lines, seconds) for lines, seconds in worked if 10 * FIRST_RATE * seconds > lines]
+    return (FIRST_LINES + sum(it for it, _ in new)) / (FIRST_LINES / FIRST_RATE + sum(it for _, it in new))
 
 
 def told(done, count, seconds):

@@ -53,6 +53,9 @@ class Time(unittest.TestCase):
         self.assertLess(rate_seen([(6000, 600, 1)]), FIRST_RATE / 1.5)
         self.assertGreater(rate_seen([(6000, 100, 1)]), FIRST_RATE)
 
+    def test_what_was_proved_before_says_nothing_of_the_rate(self):
+        self.assertEqual(rate_seen([(6000, 100, 1), (6000, 2, 1)]), rate_seen([(6000, 100, 1)]))
+
 
 class Words(unittest.TestCase):
     def test_the_line(self):
