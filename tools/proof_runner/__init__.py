@@ -5,8 +5,8 @@
   tools/prove --stale      proves nothing: says why bin/mrp is not up to date, and nothing where it is
 
 Crates that do not wait for one another, by crates.txt, are proved in parallel. Those with the longest way up to the program
-come first, and where fewer are ready than there are processors, the first of them gets several. A line on standard error
-says how far it is, as each crate ends and every minute:
+come first, with half of the processes, and with all that no other crate takes. A line on standard error says how far it is, as
+each crate ends and every minute:
 
   crate 7 of 23, about 18 minutes left
 

@@ -34,14 +34,20 @@ class Plan:
     def __post_init__(self):
         self.ways = {name: self.way_up(name) for name in self.below}
 
+    def leads(self, name):
+        """Whether a crate has a longer way up than all that are being proved."""
+        return all(self.ways[name] > self.ways[it] for it in self.running)
+
     def start(self):
-        """Takes those that go next, and returns them with their processes: one each, and all that is idle to the first."""
+        """Takes those that go next, and returns them with their processes: one each, but half of all to the one that all the others
+        wait for, and what no other takes to the first."""
         idle, ready, begun = self.lanes - sum(self.running.values()), self.ready(), {}
         for place, name in enumerate(ready):
             if idle < 1:
                 break
+            least = self.lanes // 2 if place == 0 and self.leads(name) else 1
             waiting = len(ready) - place - 1
-            begun[name] = max(1, min(MOST_JOBS, idle - waiting))
+            begun[name] = min(idle, MOST_JOBS, max(1, least, idle - waiting))
             idle -= begun[name]
         self.running.update(begun)
         return begun

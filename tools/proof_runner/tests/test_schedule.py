@@ -19,6 +19,13 @@ class Order(unittest.TestCase):
         self.assertEqual(plan(4).start(), {"base": 3, "side": 1})
         self.assertEqual(plan(1).start(), {"base": 1})
 
+    def test_half_of_the_processes_are_for_the_longest_way_up(self):
+        many = {"base": [], "top": ["base"], "one": [], "two": [], "three": []}
+        it = Plan(many, {"base": 100, "top": 100, "one": 30, "two": 20, "three": 10}, 4)
+        self.assertEqual(it.start(), {"base": 2, "one": 1, "two": 1})
+        it.end("one")
+        self.assertEqual(it.start(), {"three": 1})
+
     def test_no_crate_starts_before_what_it_stands_on_is_proved(self):
         it = plan(4)
         it.start()
