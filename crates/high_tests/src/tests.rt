@@ -15,6 +15,7 @@ mod commands;
 mod cores;
 mod days;
 mod explosions;
+mod hints;
 mod live_days;
 mod loads;
 mod notes;

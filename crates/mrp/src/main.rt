@@ -1,17 +1,36 @@
 //! The program `mrp`: plans a shop's materials from a bundle of tables.
 #![tactic(auto)]
 
-use mrp_main::run_words;
+use mrp_main::{
+    Hint, QuietErrors, SeenInput, SeenOutput, Sights, begins_utf16, has_stray_word, run_words,
+};
 use mrp_rows::Told;
-use std::io::ErrorKind;
+use std::fs::File;
+use std::io::{ErrorKind, Read};
+use std::path::Path;
 use std::process::ExitCode;
-use std::rt::Env;
-use std::{env, io};
+use std::rt::{Env, Files};
+use std::{env, fs, io};
 
-// The exit statuses if the words of the command line cannot be read.
+// The exit statuses of a run that was done, and for words that are wrong or can't be had.
+const DONE: u8 = 0;
+
 const USAGE: u8 = 2;
 
 const NO_MEMORY: u8 = 3;
+
+// The tables that a folder has as files.
+const TABLES: [&str; 9] = [
+    "calendar.csv",
+    "items.csv",
+    "centres.csv",
+    "stock.csv",
+    "receipts.csv",
+    "bills.csv",
+    "routings.csv",
+    "master.csv",
+    "script.csv",
+];
 
 // The words after the program's name.
 fn words_of(rt: &(impl Env + AllocGlobal)) -> Result<Vec<String>, u8> {
@@ -26,6 +45,65 @@ fn words_of(rt: &(impl Env + AllocGlobal)) -> Result<Vec<String>, u8> {
     }
 }
 
+// The folder that words name.
+fn folder_in(words: &[String]) -> Option<&str> {
+    let mut is_next = false;
+    for word in words {
+        if is_next {
+            return Some(word);
+        }
+        if let Some(folder) = word.strip_prefix("--dir=") {
+            return Some(folder);
+        }
+        is_next = word.as_str() == "--dir";
+    }
+    None
+}
+
+fn is_file(rt: &impl Files, path: &str) -> bool {
+    match fs::metadata(rt, path) {
+        Ok(found) => found.is_file(),
+        Err(_) => false,
+    }
+}
+
+// Whether a file of a folder begins as UTF-16 does.
+fn is_utf16(rt: &(impl Files + AllocGlobal), folder: &str, name: &str) -> bool {
+    let Ok(path) = Path::new(folder).join(rt.alloc(), name) else {
+        return false;
+    };
+    let mut front = [0; 2];
+    match File::open(rt, path.as_str()) {
+        Ok(mut file) => file.read(&mut front).is_ok() && begins_utf16(&front),
+        Err(_) => false,
+    }
+}
+
+// What was probably meant by a folder that did not serve.
+fn hint_of_folder(rt: &(impl Files + AllocGlobal), folder: &str) -> Option<Hint> {
+    if is_file(rt, folder) {
+        Some(Hint::FileAsFolder)
+    } else if TABLES.iter().any(|name| is_utf16(rt, folder, name)) {
+        Some(Hint::Utf16)
+    } else {
+        None
+    }
+}
+
+// What was probably meant by words and an input that did not serve.
+fn hint_of(rt: &(impl Files + AllocGlobal), words: &[String], sights: &Sights) -> Option<Hint> {
+    if sights.is_folder() {
+        return Some(Hint::FolderAsInput);
+    }
+    if sights.is_utf16() {
+        return Some(Hint::Utf16);
+    }
+    if has_stray_word(words) {
+        return Some(Hint::StrayWord);
+    }
+    hint_of_folder(rt, folder_in(words)?)
+}
+
 fn main(rt: HostRuntime) -> ExitCode {
     let words = match words_of(&rt) {
         Ok(words) => words,
@@ -38,13 +116,31 @@ fn main(rt: HostRuntime) -> ExitCode {
             return ExitCode::from(status);
         }
     };
+    let sights = Sights::new();
+    let input = SeenInput {
+        inner: rt.stdin().lock(),
+        sights: &sights,
+    };
+    let output = SeenOutput {
+        inner: io::writer(&rt),
+        sights: &sights,
+    };
+    let errors = QuietErrors {
+        inner: rt.stderr(),
+        sights: &sights,
+    };
     let status = run_words(
         &rt,
         rt.alloc(),
         &words,
-        &mut Told::new(rt.stdin().lock()),
-        &mut Told::new(io::writer(&rt)),
-        &mut Told::new(rt.stderr()),
+        &mut Told::new(input),
+        &mut Told::new(output),
+        &mut Told::new(errors),
     );
+    if status != DONE {
+        if let Some(hint) = hint_of(&rt, &words, &sights) {
+            let _ = rt.eprintln(hint.text());
+        }
+    }
     ExitCode::from(status)
 }

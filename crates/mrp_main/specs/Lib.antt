@@ -6,3 +6,4 @@ pub mod Refusal
 pub mod CheckEnds
 pub mod Ends
 pub mod Help
+pub mod Hints

@@ -100,7 +100,7 @@ mrp_command =
     with_subcommand (
     with_subcommand (
     with_subcommand (
-    with_subcommand (on_top (λ s. record s { no_binary_name = true; subcommand_required = true }) (new_app (codes "mrp")))
+    with_subcommand (on_top (λ s. record s { has_version = true; no_binary_name = true; subcommand_required = true }) (new_app (codes "mrp")))
     (day_app Plan).top)
     (day_app Live).top)
     page_app.top)
@@ -122,7 +122,7 @@ folder_in words = dir_among (subcommand_of mrp_command words)
 abbrev pub IsAnswer : ErrorKind → Type 0
 IsAnswer kind = (kind ≡ DisplayHelp) ⊎ (kind ≡ DisplayVersion)
 
--- help was asked for
+-- help, or the version, was asked for
 abbrev pub AskForHelp : List Text → Type 0
 AskForHelp words = (kind : ErrorKind) × IsAmong kind (refusals words) × IsAnswer kind
 

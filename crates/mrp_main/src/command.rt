@@ -19,6 +19,9 @@ use mrp_engine::MOST_WORKERS;
 use std::alloc::{AllocError, Global};
 use std::convert::AsStr;
 
+// The version, and the toolchain that it was proved with, as `rt version` names it (tools/gate looks).
+const VERSION: &str = "0.1.0 (proved with rattle-kit-13f)";
+
 // The texts of the help: of the program, its commands and their options.
 const ABOUT: &str =
     "Plans a shop's materials: reads the tables of a bundle, answers its desks, and writes what to make and when.";
@@ -164,6 +167,7 @@ fn command<'a>(alloc: Global) -> Result<Command<'a>, AllocError>
 {
     Command::new(alloc, "mrp")
         .about(ABOUT)
+        .version(VERSION)
         .after_help(EXAMPLE)
         .bin_name("mrp")?
         .no_binary_name(true)

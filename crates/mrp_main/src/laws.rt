@@ -41,10 +41,14 @@ pub fn words()
     ensures help_of_live { refusals (codes "live" ∷ codes "--help" ∷ []) ≡ kind.DisplayHelp ∷ [] }
     ensures help_of_page { refusals (codes "page" ∷ codes "--help" ∷ []) ≡ kind.DisplayHelp ∷ [] }
     ensures help_of_check { refusals (codes "check" ∷ codes "--help" ∷ []) ≡ kind.DisplayHelp ∷ [] }
+    // These ask for the version.
+    ensures version { refusals (codes "--version" ∷ []) ≡ kind.DisplayVersion ∷ [] }
+    ensures short_version { refusals (codes "-V" ∷ []) ≡ kind.DisplayVersion ∷ [] }
     // These are wrong.
     ensures none { refusals [] ≡ kind.MissingSubcommand ∷ [] }
     ensures unknown { refusals (codes "explode" ∷ []) ≡ kind.UnknownArgument ∷ kind.InvalidSubcommand ∷ [] }
     ensures both { refusals (codes "plan" ∷ codes "live" ∷ []) ≡ kind.UnknownArgument ∷ [] }
+    ensures version_of_plan { refusals (codes "plan" ∷ codes "--version" ∷ []) ≡ kind.UnknownArgument ∷ [] }
     ensures no_worker { refusals (codes "plan" ∷ codes "--workers=0" ∷ []) ≡ kind.ValueValidation ∷ [] }
     ensures too_many { refusals (codes "plan" ∷ codes "--workers=65" ∷ []) ≡ kind.ValueValidation ∷ [] }
     ensures no_live_worker { refusals (codes "live" ∷ codes "--workers=0" ∷ []) ≡ kind.ValueValidation ∷ [] }

@@ -333,6 +333,16 @@ fn help_is_written_to_the_output(rt: HostRuntime) {
     }
 }
 
+#[test]
+fn the_version_is_written_to_the_output(rt: HostRuntime) {
+    const TOLD: &str = "mrp 0.1.0 (proved with rattle-kit-13f)\n";
+    for word in ["--version", "-V"] {
+        let left = left_by(&rt, rt.alloc(), &[word], Streams::of(""));
+        has_ended(&rt, &left, 0, TOLD, "");
+        drop(left);
+    }
+}
+
 // Makes a file with `length` bytes.
 fn make_long(files: &impl Files, path: &str, length: u64) -> Result<(), Fail> {
     File::create(files, path)?.set_len(length)?;

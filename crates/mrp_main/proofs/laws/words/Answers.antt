@@ -187,3 +187,15 @@ returns-clause-no_folder c = refl
 pub returns-clause-check_by_workers : goal.returns-clause-check_by_workers
 unfolding clap_on_literals
 returns-clause-check_by_workers c = refl
+
+pub returns-clause-version : goal.returns-clause-version
+unfolding clap_on_literals
+returns-clause-version c = refl
+
+pub returns-clause-short_version : goal.returns-clause-short_version
+unfolding clap_on_literals
+returns-clause-short_version c = refl
+
+pub returns-clause-version_of_plan : goal.returns-clause-version_of_plan
+unfolding clap_on_literals
+returns-clause-version_of_plan c = refl

@@ -1,0 +1,92 @@
+"""Which crates are proved next, by how many processes each, and how long all of it takes."""
+
+from dataclasses import dataclass, field
+
+# More processes for one crate seldom help.
+MOST_JOBS = 4
+# How much faster a crate is proved by so many processes: each of them loads what stands below it.
+SPEED = {1: 1.0, 2: 1.4, 3: 1.65, 4: 1.8}
+# What is taken for the rate before much is proved: lines of proof a second, as if so many had been proved at it.
+FIRST_RATE, FIRST_LINES = 30.0, 6000.0
+
+
+@dataclass
+class Plan:
+    """Crates with what each stands on and what it costs, those that are proved, and those that are being proved, each with its
+    processes."""
+
+    below: dict
+    weights: dict
+    lanes: int
+    done: set = field(default_factory=set)
+    running: dict = field(default_factory=dict)
+
+    def way_up(self, name):
+        """What a crate and the dearest way up from it cost."""
+        above = [it for it, below in self.below.items() if name in below]
+        return self.weights[name] + max(map(self.way_up, above), default=0)
+
+    def ready(self):
+        """The crates that can be proved now, those with the longest way up first."""
+        open_ones = [it for it in self.below if it not in self.done and it not in self.running]
+        return sorted((it for it in open_ones if self.done.issuperset(self.below[it])), key=self.ways.get, reverse=True)
+
+    def __post_init__(self):
+        self.ways = {name: self.way_up(name) for name in self.below}
+
+    def leads(self, name):
+        """Whether a crate has a longer way up than all that are being proved."""
+        return all(self.ways[name] > self.ways[it] for it in self.running)
+
+    def start(self):
+        """Takes those that go next, and returns them with their processes: one each, but half of all to the one that all the others
+        wait for, and what no other takes to the first."""
+        idle, ready, begun = self.lanes - sum(self.running.values()), self.ready(), {}
+        for place, name in enumerate(ready):
+            if idle < 1:
+                break
+            least = self.lanes // 2 if place == 0 and self.leads(name) else 1
+            waiting = len(ready) - place - 1
+            begun[name] = min(idle, MOST_JOBS, max(1, least, idle - waiting))
+            idle -= begun[name]
+        self.running.update(begun)
+        return begun
+
+    def end(self, name):
+        """A crate is proved."""
+        del self.running[name]
+        self.done.add(name)
+
+
+def seconds_left(plan, spent, rate):
+    """How long it takes until all is proved, at a rate of lines a second and process. `spent` is how long each crate that is
+    being proved has been at it."""
+    ahead = Plan(plan.below, plan.weights, plan.lanes, set(plan.done), dict(plan.running))
+    # (what takes longer than it should is taken to have a tenth of it left)
+    lines = {name: max(plan.weights[name] - rate * SPEED[jobs] * spent.get(name, 0), plan.weights[name] / 10) for name, jobs in plan.running.items()}
+    clock = 0.0
+    while len(ahead.done) < len(ahead.below):
+        for name in ahead.start():
+            lines[name] = plan.weights[name]
+        ends = {name: lines[name] / (rate * SPEED[jobs]) for name, jobs in ahead.running.items()}
+        first = min(ends, key=ends.get)
+        for name, jobs in ahead.running.items():
+            lines[name] -= ends[first] * rate * SPEED[jobs]
+        clock += ends[first]
+        ahead.end(first)
+    return clock
+
+
+def rate_seen(proved):
+    """The lines a second and process of crates that were proved, each given as its lines, its seconds and its processes. One that
+    took a tenth of what it should was proved before."""
+    worked = [(lines, seconds * SPEED[jobs]) for lines, seconds, jobs in proved]
+    new = [(lines, seconds) for lines, seconds in worked if 10 * FIRST_RATE * seconds > lines]
+    return (FIRST_LINES + sum(it for it, _ in new)) / (FIRST_LINES / FIRST_RATE + sum(it for _, it in new))
+
+
+def told(done, count, seconds):
+    """The line that says how far it is."""
+    minutes = round(seconds / 60)
+    left = f"about {minutes} minutes" if minutes > 1 else "about a minute" if minutes else "less than a minute"
+    return f"crate {min(done + 1, count)} of {count}, {left} left"

@@ -1,0 +1,1 @@
+"""Tests of what is proved next, on made-up crates. No prover has a part in them."""
