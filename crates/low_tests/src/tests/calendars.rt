@@ -5,7 +5,7 @@ ghost use Rattle.mrp_cal.specs.DateText.{IsPlanningYear};
 
 use super::same;
 use jiff::civil::Date;
-use mrp_cal::{CalFault, Calendar, read_date};
+use mrp_cal::{CalFault, Calendar, MOST_LEAD_DAYS, read_date};
 use std::alloc::Global;
 use std::process::Abort;
 
@@ -181,6 +181,33 @@ fn holidays_on_workdays_are_no_shop_days(rt: HostRuntime) {
         let calendar = with_holidays(&rt, rt.alloc(), *workdays);
         has_shop_days(&rt, &calendar, want);
         same(&rt, calendar.week_of(date(&rt, b"2025-01-20")), Some(3));
+    }
+}
+
+// A week in which something is due, a lead time in shop days, and the week of release with how many shop
+// days too late that is.
+const RELEASES: &[(u16, u16, (u16, u16))] = &[
+    (4, 4, (3, 0)),
+    (4, 5, (2, 0)),
+    (4, 14, (1, 0)),
+    (4, 15, (1, 1)),
+    (1, 0, (1, 0)),
+    (1, 6, (1, 6)),
+    (6, 0, (6, 0)),
+    (6, 728, (1, 704)),
+];
+
+// Fails unless what is due in this week is released so, with this lead time.
+fn is_released(rt: &impl Abort, calendar: &Calendar, due: u16, lead: u16, want: (u16, u16)) {
+    assert!(rt; 1 <= due && due <= calendar.weeks() && lead <= MOST_LEAD_DAYS);
+    same(rt, calendar.release(due, lead), want);
+}
+
+#[test]
+fn orders_are_released_by_shop_days(rt: HostRuntime) {
+    let calendar = with_holidays(&rt, rt.alloc(), MONDAY_TO_FRIDAY);
+    for (due, lead, want) in RELEASES {
+        is_released(&rt, &calendar, *due, *lead, *want);
     }
 }
 

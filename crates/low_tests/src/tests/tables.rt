@@ -5,8 +5,8 @@ use jiff::civil::date;
 use mrp_cal::Calendar;
 use mrp_rows::{Name, split_bundle};
 use mrp_tables::{
-    BillLine, Centre, Class, Item, LotRule, MasterKind, MasterRow, Operation, Receipt, ScriptCall,
-    ScriptRow, StockRow, Tables,
+    BillLine, Centre, Class, Item, LeadUnit, LotRule, MasterKind, MasterRow, Operation, Receipt,
+    ScriptCall, ScriptRow, StockRow, Tables,
 };
 use std::alloc::Global;
 use std::process::Abort;
@@ -316,10 +316,8 @@ fn calls_are_read_with_places_and_weeks(rt: HostRuntime) {
     drop(shop);
 }
 
-// A calendar, and no record in any other table.
+// The rest of a calendar from its start on, and no record in any other table.
 const NO_RECORDS: &str = "\
-[calendar]\n\
-key,value\n\
 start,2025-01-06\n\
 weeks,6\n\
 workdays,1111100\n\
@@ -340,6 +338,27 @@ item,row,date,quantity\n\
 [script]\n\
 desk,call,item,date,quantity,number\n";
 
+// The tables without records, with this text before the calendar's start.
+fn headers_alone(rt: &impl Abort, alloc: Global, before: &str) -> Tables {
+    let bundle = format!(in alloc; "[calendar]\nkey,value\n{before}{NO_RECORDS}");
+    read(rt, alloc, &bundle.expect(rt, "memory"))
+}
+
+// Fails unless tables with this text before the calendar's start are of this version.
+fn is_of_version(rt: &impl Abort, alloc: Global, before: &str, version: u8, unit: LeadUnit) {
+    let shop = headers_alone(rt, alloc, before);
+    same(rt, (shop.version(), shop.lead_unit()), (version, unit));
+    same(rt, shop.calendar().weeks(), 6);
+    drop(shop);
+}
+
+#[test]
+fn tables_have_the_version_that_their_calendar_names(rt: HostRuntime) {
+    is_of_version(&rt, rt.alloc(), "", 1, LeadUnit::Weeks);
+    is_of_version(&rt, rt.alloc(), "version,1\n", 1, LeadUnit::Weeks);
+    is_of_version(&rt, rt.alloc(), "version,2\n", 2, LeadUnit::ShopDays);
+}
+
 // The numbers of rows of the eight tables with rows.
 fn counts(shop: &Tables) -> [usize; 8] {
     [
@@ -356,7 +375,7 @@ fn counts(shop: &Tables) -> [usize; 8] {
 
 #[test]
 fn tables_of_headers_alone_have_no_rows(rt: HostRuntime) {
-    let shop = read(&rt, rt.alloc(), NO_RECORDS);
+    let shop = headers_alone(&rt, rt.alloc(), "");
     same(&rt, shop.calendar().weeks(), 6);
     same(&rt, counts(&shop), [0; 8]);
     are_found(&rt, &shop, &[("BIKE", None)]);
