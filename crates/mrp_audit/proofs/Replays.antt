@@ -1,5 +1,5 @@
--- A history that was found at the beginning of a text.
-use Rattle.std.proofs.Common.{◌≡◌, ◌∙◌, ℕ, ◌<◌, ◌≤◌, ◌++◌, Bool, true, false, if◌then◌else◌, Result, List, [], ◌∷◌, drop, length, get_or, ap, refl, arith, subst, sym}
+-- A history that was found at a text's front.
+use Rattle.std.proofs.Common.{◌∙◌, ℕ, ◌<◌, ◌≤◌, ◌++◌, Bool, true, false, if◌then◌else◌, Result, List, [], ◌∷◌, drop, length, get_or, ap, refl, arith}
 use Rattle.std.specs.Prelude.{All, map, ⊤}
 use Rattle.std.specs.List.{list_any}
 use Rattle.std.proofs.lemmas.List.{length-map}
@@ -12,7 +12,6 @@ use Rattle.mrp_book.specs.declared.call.Call.TheVariants as call
 use Rattle.mrp_book.specs.Standing.{History}
 use Rattle.mrp_engine.specs.day.Script.{record_of, is_run, script_of, with_run}
 use Rattle.mrp_engine.specs.day.Day.{runs_of}
-use Rattle.mrp_engine.specs.day.RightDay.{FollowsDesks}
 use Rattle.mrp_engine.proofs.lemmas.live.DeskHistories.{run-adds}
 use Rattle.mrp_engine.proofs.lemmas.day.ScriptCalls.{call-fits}
 use Rattle.mrp_audit.specs.declared.fault.AuditFault.{AuditFault}

@@ -1,4 +1,4 @@
-use Rattle.std.proofs.Common.{◌≡◌, ◌∙◌, Err, Ok, Result, ap, rules, subst, sym}
+use Rattle.std.proofs.Common.{◌≡◌, ◌∙◌, Err, Ok, Result, rules, subst, sym}
 use Rattle.std.specs.Prelude.{All, ⊤}
 use Rattle.mrp_tables.specs.Facts.{IsScriptRow}
 use Rattle.mrp_tables.specs.Tables.{Tables}

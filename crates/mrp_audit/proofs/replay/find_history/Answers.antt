@@ -1,4 +1,4 @@
-use Rattle.std.proofs.Common.{◌≡◌, ◌∙◌, ◌<◌, ◌≤◌, ℕ, Ok, Option, Some, ap, length, subst, sym}
+use Rattle.std.proofs.Common.{◌≡◌, ◌∙◌, ◌<◌, ◌≤◌, ℕ, Ok, Option, Some, length, subst, sym}
 use Rattle.std.specs.Prelude.{All}
 use Rattle.mrp_tables.specs.Facts.{IsScriptRow}
 use Rattle.mrp_tables.specs.Tables.{Tables}
