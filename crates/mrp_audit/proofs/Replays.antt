@@ -1,4 +1,4 @@
--- A history that was found at a text's front.
+-- A history that was found at the beginning of a text.
 use Rattle.std.proofs.Common.{◌∙◌, ℕ, ◌<◌, ◌≤◌, ◌++◌, Bool, true, false, if◌then◌else◌, Result, List, [], ◌∷◌, drop, length, get_or, ap, refl, arith}
 use Rattle.std.specs.Prelude.{All, map, ⊤}
 use Rattle.std.specs.List.{list_any}
