@@ -14,7 +14,7 @@ import os
 import shutil
 import subprocess
 
-# The first word of what `rt version` prints, of each toolchain that the runner was tried with (13f before it was a package).
+# The first word of what `rt version` prints, of each toolchain that the runner was tried with.
 KNOWN = ("rattle-kit-13b", "rattle-kit-13f")
 
 

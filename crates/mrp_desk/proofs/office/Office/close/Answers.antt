@@ -44,3 +44,6 @@ pub returns-clause-callers : goal.returns-clause-callers
 returns-clause-callers c =
     let entries : c.in-Some.history.entries ≡ c.close-state.result.1 = ap (λ (b : OrderBook). b.entries) c.in-Some.ensures.value ∙ c.into_entries-entries.ensures in
     subst (λ (log : History). All (λ e. HasNumber c.args.desks.items e.who) log) (sym entries) c.close-state.ensures.callers
+
+pub close-state-requires-clause-all : goal.close-state-requires-clause-all
+close-state-requires-clause-all c = rw c.self.view_is c.requires.all
