@@ -115,7 +115,7 @@ impl Calendar {
     ///
     /// An order without lead time is released in its due week. Another is released in the week of the
     /// shop day that lies so many before the due week's first. Where the horizon has no such day, the
-    /// release stands in week 1, and is late by the shop days that lack.
+    /// release stands in week 1, and is late by the shop days that the horizon lacks.
     pub fn release(&self, due: u16, lead: u16) -> (u16, u16)
         requires due { IsInRange 1 self.now.weeks due }
         requires lead { lead ≤ MOST_LEAD_DAYS }
@@ -141,7 +141,7 @@ impl Calendar {
     }
 }
 
-// The number of each week's first shop day; behind the horizon's weeks 0.
+// The number of each week's first shop day; 0 after the weeks of the horizon.
 fn first_shop_days(horizon: &Horizon) -> [u16; MOST_WEEKS as usize]
     ensures { take horizon.now.weeks result ≡ first_days horizon.now horizon.now.weeks }
 {

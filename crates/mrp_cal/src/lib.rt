@@ -1,5 +1,6 @@
 //! The shop calendar: which week of the planning horizon a date falls in, which days of a week are
-//! worked, and which texts are dates. Nothing here allocates.
+//! worked, when an order is released by a lead time in shop days, and which texts are dates. Nothing here
+//! allocates.
 #![tactic(auto)]
 
 mod calendar;

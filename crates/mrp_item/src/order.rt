@@ -24,6 +24,6 @@ pub struct Order {
     pub start: Qty,
     /// The week of its release: week 1 for a late order.
     pub release: u16,
-    /// The number of weeks by which its release is late.
+    /// By how much its release is late, in the unit of lead times: weeks, or shop days in version 2.
     pub late: u16,
 }

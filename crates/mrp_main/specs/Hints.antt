@@ -35,7 +35,7 @@ abbrev pub two_in_a_row : List (List ℕ) → Bool
 two_in_a_row [] = false
 two_in_a_row (word ∷ rest) = (not (is_option word) && begins_plain rest) || two_in_a_row rest
 
--- a word follows a command that is no option, and no value of one
+-- a command stands first, and two words in a row are no options: the second of them is no value of an option
 abbrev pub has_stray_word : List (List ℕ) → Bool
 has_stray_word [] = false
 has_stray_word (command ∷ rest) = is_command command && two_in_a_row (command ∷ rest)

@@ -73,7 +73,8 @@ fn has_two_in_a_row<S: AsStr>(words: &[S]) -> bool
     false
 }
 
-/// Whether a word follows a command that is no option, and no value of one.
+/// Whether a command stands first, and two words in a row are no options: the second of them is no value of
+/// an option.
 pub fn has_stray_word<S: AsStr>(words: &[S]) -> bool
     ensures { result ≡ has_stray_word (map S.text words.now) }
 {

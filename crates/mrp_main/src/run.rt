@@ -161,7 +161,7 @@ fn carry_out<F: FileStore, R: Read, W: Write>(
 /// `right` has been written, and it is a right day; at 1 the line of its first fault, or nothing if the
 /// bundle was refused; if writing failed, a prefix of a line; otherwise nothing.
 ///
-/// Words that ask for help have it written; wrong words have nothing written. Only days, pages and checks
+/// Words that ask for help or the version have it written; wrong words have nothing written. Only days, pages and checks
 /// that take the input read it.
 pub fn run_words<S: AsStr, R: Read, W: Write, E: Write>(
     rt: &(impl Alloc + Files + Threads + Wait + Sync),

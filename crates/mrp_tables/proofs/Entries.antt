@@ -12,7 +12,7 @@ use Rattle.mrp_tables.specs.declared.calendar.Entry.{Entry}
 use Rattle.mrp_tables.specs.declared.calendar.First.{First}
 use Rattle.mrp_tables.specs.declared.calendar.Entry.TheVariants.{Holiday}
 use Rattle.mrp_tables.specs.declared.version.Version.{Version}
-use Rattle.mrp_tables.specs.Calendar.{AreDated, AreKept, behind, dated_from, entry_row, first_cells, first_entry, dates_of, entries_of}
+use Rattle.mrp_tables.specs.Calendar.{AreDated, AreKept, after_version, dated_from, entry_row, first_cells, first_entry, dates_of, entries_of}
 
 -- the dates of holidays alone
 dates_of-holidays : (dates : List Date) → dates_of (map (λ date. Holiday date) dates) ≡ dates
@@ -53,7 +53,7 @@ pub record IsFirst (version : Option Version) (dated own : List Entry) (r : Cell
   pub own_none : own ≡ []
   pub reads : entry_row own r ≡ Ok (first_entry first)
 
-pub first_added : (version : Option Version) (dated own : List Entry) (r : Cells) (first : First) → is_some version ≡ false → (length dated == 0) ≡ true → behind version dated ≡ own
+pub first_added : (version : Option Version) (dated own : List Entry) (r : Cells) (first : First) → is_some version ≡ false → (length dated == 0) ≡ true → after_version version dated ≡ own
     → first_cells r ≡ Ok first → IsFirst version dated own r first
 first_added None [] own r first none empty view reads =
     let nothing : own ≡ [] = sym view in

@@ -79,24 +79,24 @@ holiday_cells r = do
   _ ← keyed (codes "holiday") r
   blame r (date_cell (cell_at r 1))
 
--- what a record says behind the entries of those before it, the version aside
+-- what a record says after the entries of the records before it, without the version
 abbrev pub dated_row : List Entry → Cells → Result Entry Fault
 dated_row [] r = start_cells r >>= λ date. Ok (Start date)
 dated_row (start ∷ []) r = weeks_cells r >>= λ weeks. Ok (Weeks weeks)
 dated_row (start ∷ weeks ∷ []) r = workdays_cells r >>= λ workdays. Ok (Workdays workdays)
 dated_row (start ∷ weeks ∷ workdays ∷ holidays) r = holiday_cells r >>= λ date. Ok (Holiday date)
 
--- the entries behind a version, where one stands in front
+-- the entries after a version, where there is one
 abbrev pub dated_of : List Entry → List Entry
 dated_of (OfVersion version ∷ entries) = entries
 dated_of entries = entries
 
--- what a record says behind the entries of those before it
+-- what a record says after the entries of the records before it
 abbrev pub entry_row : List Entry → Cells → Result Entry Fault
 entry_row [] r = first_cells r >>= λ first. Ok (first_entry first)
 entry_row (first ∷ entries) r = dated_row (dated_of (first ∷ entries)) r
 
--- the most records: one more where a version stands in front
+-- the most records: a version adds one to the table's own limit
 abbrev pub calendar_limit : List Entry → Option ℕ
 calendar_limit (OfVersion version ∷ entries) = Some (limits.MOST_CALENDAR_RECORDS + 1)
 calendar_limit entries = Some limits.MOST_CALENDAR_RECORDS
@@ -117,12 +117,12 @@ dates_of (Holiday date ∷ entries) = date ∷ dates_of entries
 abbrev pub missing_record : ℕ → Fault
 missing_record number = record { code = faults.COLUMNS; table = t.Calendar; row = number }
 
--- the version that stands in front, or the first
+-- the version that comes first, or version 1
 abbrev pub version_among : List Entry → Version
 version_among (OfVersion version ∷ entries) = version
 version_among entries = One
 
--- the calendar that the entries behind a version make, with it; or this record is missing
+-- the calendar that the entries after a version make, with it; or this record is missing
 abbrev pub dated_from : Version → ℕ → List Entry → Result CalendarTable Fault
 dated_from version missing (Start start ∷ Weeks weeks ∷ Workdays workdays ∷ holidays) =
     Ok (record { version = version; calendar = record { start = start; weeks = weeks; workdays = workdays; holidays = holidays_in start weeks (dates_of holidays) } })
@@ -140,11 +140,11 @@ entries_of (Some start) (Some weeks) None holidays = Start start ∷ Weeks weeks
 entries_of (Some start) (Some weeks) (Some workdays) holidays = Start start ∷ Weeks weeks ∷ Workdays workdays ∷ map Holiday holidays
 
 -- entries, after a version where there is one
-abbrev pub behind : Option Version → List Entry → List Entry
-behind None entries = entries
-behind (Some version) entries = OfVersion version ∷ entries
+abbrev pub after_version : Option Version → List Entry → List Entry
+after_version None entries = entries
+after_version (Some version) entries = OfVersion version ∷ entries
 
--- entries without a version in front
+-- entries that do not begin with a version
 pub record AreDated (entries : List Entry) : Type 0 where
   pub dated : dated_of entries ≡ entries
   pub version : version_among entries ≡ One

@@ -24,7 +24,7 @@ use Rattle.mrp_tables.specs.Master.{has_kind}
 abbrev pub AllDiffer : {X : Type 0} → List X → Type 0
 AllDiffer xs = AllPairs (λ x y. x ≢ y) xs
 
--- an item: a name, weeks of lead time, scrap per thousand, a fixed lot's pieces, a period's weeks, pieces of safety stock,
+-- an item: a name, a lead time no longer than that of any version, scrap per thousand, a fixed lot's pieces, a period's weeks, pieces of safety stock,
 -- none for a master item
 pub record IsItem (item : Item) : Type 0 where
   pub name : is_name item.name ≡ true

@@ -26,7 +26,7 @@ pub record GatheredByCentre (X : Type 0) : Type 0 where
   pub centres : List Centre
   pub rows : List X
 
--- what a table's records refer to: the items, the centres, and the weeks of the horizon
+-- what a table's records refer to: the items, the centres, the weeks of the horizon, and the longest lead time
 pub record Beside : Type 0 where
   pub items : List Item
   pub centres : List Centre

@@ -50,11 +50,11 @@ pub(crate) struct Entries {
 impl Model for Entries {
     ghost use Rattle.std.specs.Prelude.{List};
     ghost use Rattle.mrp_tables.specs.declared.calendar.Entry.{Entry};
-    ghost use Rattle.mrp_tables.specs.Calendar.{AreDated, behind};
+    ghost use Rattle.mrp_tables.specs.Calendar.{AreDated, after_version};
 
     ghost Value = { List Entry };
 
-    ghost view = { λ t. behind t.version t.dated };
+    ghost view = { λ t. after_version t.version t.dated };
 
     ghost invariant = { λ t. AreDated t.dated };
 }
@@ -75,6 +75,7 @@ impl TableRows for Entries {
     ghost beside = { λ t. nothing };
 
     fn most_records(&self) -> Option<u32> {
+        // (what `is_empty` ensures: these entries do not begin with a version)
         let _dated = self.dated.is_empty();
         match self.version {
             Some(_) => Some(MOST_CALENDAR_RECORDS + 1),

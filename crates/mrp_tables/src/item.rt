@@ -51,7 +51,7 @@ pub struct Item {
     pub name: Name,
     /// Whether the master schedule plans it.
     pub class: Class,
-    /// The lead time, in weeks, up to `MOST_LEAD`.
+    /// The lead time, in weeks, or in shop days in version 2: up to the longest of the bundle's version.
     pub lead: u64,
     /// The scrap, in pieces per thousand, up to `MOST_SCRAP`.
     pub scrap: u64,

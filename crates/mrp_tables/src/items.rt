@@ -37,7 +37,7 @@ impl Model for Items {
     } };
 }
 
-/// The items so far, with how long lead times may be.
+/// The items so far, with the version of the bundle, which limits lead times.
 #[derive(Drop)]
 struct ItemRows {
     version: Version,

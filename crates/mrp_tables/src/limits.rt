@@ -12,7 +12,7 @@ pub(crate) const LOT_WORDS: &[&str] = &["lfl", "fixed", "period"];
 pub(crate) const CALL_WORDS: &[&str] = &["book", "cancel", "ask", "when", "run"];
 
 /// The most records of the calendar: its start, its weeks, its workdays and 1,000 holidays; where a version
-/// stands in front, one more.
+/// comes first, one more.
 pub const MOST_CALENDAR_RECORDS: u32 = 1_003;
 
 /// The most items.

@@ -76,11 +76,11 @@ impl Tables {
     ghost use Rattle.mrp_tables.specs.Reading.{Gives};
     ghost use Rattle.mrp_tables.specs.Tables.{AreTables, tables_in};
     ghost use Rattle.mrp_tables.specs.Versions as spec;
-    ghost use Rattle.mrp_tables.specs.Versions.{version_number};
+    ghost use Rattle.mrp_tables.specs.Versions.{most_lead, version_number};
 
     /// The tables of a bundle's sections, or their first fault: table by table, first the header,
     /// then record by record that there are too many, their count of cells, their cells from left to
-    /// right and what these name. A calendar of fewer than three records behind its version has `COLUMNS` at the
+    /// right and what these name. A calendar of fewer than three records after its version has `COLUMNS` at the
     /// first that is missing.
     ///
     /// Errors: a fault, at its table and record, the header's at row 0; `NO_MEMORY` at the table and
@@ -187,6 +187,7 @@ impl Tables {
     pub fn items(&self) -> &[Item]
         ensures rows { result.now ≡ self.now.items }
         ensures within { All IsItem result.now }
+        ensures leads { All (λ item. item.lead ≤ most_lead self.now.version) result.now }
         ensures names { AllDiffer (names_of result.now) }
         ensures count { length result.now ≤ MOST_ITEMS }
     {

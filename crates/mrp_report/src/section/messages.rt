@@ -27,7 +27,7 @@ fn advice_word(advice: Advice) -> Word
     }
 }
 
-// How many weeks an order is past due, or the week in which a supply is needed.
+// By how much an order is past due, in the unit of lead times, or the week in which a supply is needed.
 fn advice_value<'a>(advice: Advice) -> Cell<'a>
     ensures { cell_of result ≡ number_cell (advice_value advice) }
 {
