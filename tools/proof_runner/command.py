@@ -54,8 +54,9 @@ class Libraries:
     def __init__(self):
         script = toolchain.script()
         self.script = script.rtlib
-        # (so that a library that was proved in another checkout on this machine is not proved again)
-        script.share_work(True)
+        # (so that a library that was proved in another checkout on this machine is not proved again; some versions keep nothing)
+        if hasattr(script, "share_work"):
+            script.share_work(True)
         program = next(it for it in toolchain.crates_below(TOP) if it.name == PROGRAM)
         self.crates = {it.name: it for it in program.below()}
         self.held = []
