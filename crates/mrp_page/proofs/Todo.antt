@@ -224,7 +224,7 @@ page-messages title notes =
 
 -- the text of a message, word by word
 module _ (message : RowView) where
-  pub said-late : word_of message ≡ codes "PAST-DUE" → row_html task_words message ≡ said (codes "Past due, start now: ") (codes ", weeks late (shop days in version 2): ") message
+  pub said-late : word_of message ≡ codes "PAST-DUE" → row_html task_words message ≡ said (codes "Past due, start now: ") (codes ", weeks late (shop days from version 2 on): ") message
   unfolding row_html task_words
   said-late e = rw e refl
 

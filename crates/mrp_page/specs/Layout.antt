@@ -56,7 +56,7 @@ task_words =
     Text 2 ∷
     Where 3 (codes "IN") (codes " to week ") ∷
     Where 3 (codes "OUT") (codes " to week ") ∷
-    Where 3 (codes "PAST-DUE") (codes ", weeks late (shop days in version 2): ") ∷
+    Where 3 (codes "PAST-DUE") (codes ", weeks late (shop days from version 2 on): ") ∷
     Text 4 ∷
     Mark (codes "</td></tr>\n") ∷ []
 
@@ -136,6 +136,7 @@ peg =
     Mark (codes "<th scope=row>") ∷
     Where 2 (codes "booking") (codes "booking ") ∷
     Where 2 (codes "forecast") (codes "forecast") ∷
+    Where 2 (codes "service") (codes "service part demand, master record ") ∷
     Where 2 (codes "parent") (codes "order ") ∷
     Where 2 (codes "surplus") (codes "surplus") ∷
     Text 3 ∷
@@ -323,7 +324,7 @@ balance_label = codes "<tr class=strong><th scope=row>Projected available balanc
 
 -- what the orders of an item begin with
 unfoldable pub orders_open : List ℕ
-orders_open = codes "<details><summary>Orders</summary><div class=scroll tabindex=0 role=region aria-label=Orders><table class=list>\n<caption><span>Firm and planned orders</span></caption>\n<thead><tr><th class=t scope=col>Order</th><th class=t scope=col>Kind</th><th scope=col>Due week</th><th scope=col>Quantity</th><th scope=col>Starts</th><th scope=col>Release week</th><th scope=col>Weeks late (shop days in version 2)</th></tr></thead>\n<tbody>"
+orders_open = codes "<details><summary>Orders</summary><div class=scroll tabindex=0 role=region aria-label=Orders><table class=list>\n<caption><span>Firm and planned orders</span></caption>\n<thead><tr><th class=t scope=col>Order</th><th class=t scope=col>Kind</th><th scope=col>Due week</th><th scope=col>Quantity</th><th scope=col>Starts</th><th scope=col>Release week</th><th scope=col>Weeks late (shop days from version 2 on)</th></tr></thead>\n<tbody>"
 
 -- what the pegs of an item begin with
 unfoldable pub pegs_open : List ℕ

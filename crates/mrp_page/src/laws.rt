@@ -98,7 +98,7 @@ pub fn messages_stand_once()
 /// What the page says of a message comes from the message's word, its supply, and its value if that has a
 /// meaning: a week, or how many weeks the order is past due.
 pub fn messages_stand_under_their_words()
-    ensures past_due { (message : RowView) → word_of message ≡ codes "PAST-DUE" → row_html task_words message ≡ said (codes "Past due, start now: ") (codes ", weeks late (shop days in version 2): ") message }
+    ensures past_due { (message : RowView) → word_of message ≡ codes "PAST-DUE" → row_html task_words message ≡ said (codes "Past due, start now: ") (codes ", weeks late (shop days from version 2 on): ") message }
     ensures release { (message : RowView) → word_of message ≡ codes "RELEASE" → row_html task_words message ≡ said (codes "Release now: ") [] message }
     ensures earlier { (message : RowView) → word_of message ≡ codes "IN" → row_html task_words message ≡ said (codes "Bring in: ") (codes " to week ") message }
     ensures later { (message : RowView) → word_of message ≡ codes "OUT" → row_html task_words message ≡ said (codes "Put off: ") (codes " to week ") message }

@@ -85,7 +85,7 @@ pub(crate) fn task_words() -> &'static [Part]
         Part::Cell(2),
         Part::If(3, b"IN", b" to week "),
         Part::If(3, b"OUT", b" to week "),
-        Part::If(3, b"PAST-DUE", b", weeks late (shop days in version 2): "),
+        Part::If(3, b"PAST-DUE", b", weeks late (shop days from version 2 on): "),
         Part::Cell(4),
         Part::Markup(b"</td></tr>\n"),
     ]
@@ -202,6 +202,7 @@ pub(crate) fn peg() -> &'static [Part]
         Part::Markup(b"<th scope=row>"),
         Part::If(2, b"booking", b"booking "),
         Part::If(2, b"forecast", b"forecast"),
+        Part::If(2, b"service", b"service part demand, master record "),
         Part::If(2, b"parent", b"order "),
         Part::If(2, b"surplus", b"surplus"),
         Part::Cell(3),
@@ -517,7 +518,7 @@ pub(crate) fn balance_label() -> &'static [u8]
 pub(crate) fn orders_open() -> &'static [u8]
     ensures { result.now ≡ orders_open }
 {
-    b"<details><summary>Orders</summary><div class=scroll tabindex=0 role=region aria-label=Orders><table class=list>\n<caption><span>Firm and planned orders</span></caption>\n<thead><tr><th class=t scope=col>Order</th><th class=t scope=col>Kind</th><th scope=col>Due week</th><th scope=col>Quantity</th><th scope=col>Starts</th><th scope=col>Release week</th><th scope=col>Weeks late (shop days in version 2)</th></tr></thead>\n<tbody>"
+    b"<details><summary>Orders</summary><div class=scroll tabindex=0 role=region aria-label=Orders><table class=list>\n<caption><span>Firm and planned orders</span></caption>\n<thead><tr><th class=t scope=col>Order</th><th class=t scope=col>Kind</th><th scope=col>Due week</th><th scope=col>Quantity</th><th scope=col>Starts</th><th scope=col>Release week</th><th scope=col>Weeks late (shop days from version 2 on)</th></tr></thead>\n<tbody>"
 }
 
 // What the pegs of an item begin with.

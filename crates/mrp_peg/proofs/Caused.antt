@@ -132,12 +132,19 @@ order_peg s i n some inside =
 one_kind : (k l : NeedKind) → same_kind k l ≡ true → k ≡ l
 one_kind (kind.Booking m) (kind.Booking n) e = let same = eqb-true m n e in λ k. kind.Booking (same k)
 one_kind (kind.Booking m) kind.Forecast e = let f : false ≡ true = e in absurd (cc)
+one_kind (kind.Booking m) (kind.Service n) e = let f : false ≡ true = e in absurd (cc)
 one_kind (kind.Booking m) (kind.Parent other n) e = let f : false ≡ true = e in absurd (cc)
 one_kind kind.Forecast (kind.Booking n) e = let f : false ≡ true = e in absurd (cc)
 one_kind kind.Forecast kind.Forecast e = refl
+one_kind kind.Forecast (kind.Service n) e = let f : false ≡ true = e in absurd (cc)
 one_kind kind.Forecast (kind.Parent other n) e = let f : false ≡ true = e in absurd (cc)
+one_kind (kind.Service m) (kind.Booking n) e = let f : false ≡ true = e in absurd (cc)
+one_kind (kind.Service m) kind.Forecast e = let f : false ≡ true = e in absurd (cc)
+one_kind (kind.Service m) (kind.Service n) e = let same = eqb-true m n e in λ k. kind.Service (same k)
+one_kind (kind.Service m) (kind.Parent other n) e = let f : false ≡ true = e in absurd (cc)
 one_kind (kind.Parent line m) (kind.Booking n) e = let f : false ≡ true = e in absurd (cc)
 one_kind (kind.Parent line m) kind.Forecast e = let f : false ≡ true = e in absurd (cc)
+one_kind (kind.Parent line m) (kind.Service n) e = let f : false ≡ true = e in absurd (cc)
 one_kind (kind.Parent line m) (kind.Parent other n) e =
     let parts = and_parts (line == other) (m == n) e in
     let first = eqb-true line other parts.0 in

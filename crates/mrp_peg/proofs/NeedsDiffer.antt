@@ -6,15 +6,18 @@ use Rattle.std.proofs.lemmas.List.Elements.{All-nil, All-cons, All-append, All-m
 use Rattle.std.proofs.lemmas.List.Kept.{AllPairs-cons, AllPairs-filter}
 use Rattle.mrp_bill.specs.Bill.{line_at, lines_of}
 use Rattle.mrp_book.specs.declared.booking.Booking.{Booking}
+use Rattle.mrp_tables.specs.Master.{is_service}
+use Rattle.mrp_tables.specs.declared.rows.MasterRow.{MasterRow}
 use Rattle.mrp_phase.specs.Weeks.{weeks}
 use Rattle.mrp_item.specs.declared.order.Order.{Order}
 use Rattle.mrp_item.specs.Inputs.{Inputs, horizon, is_master}
-use Rattle.mrp_item.specs.Rows.{booked, bookings_due, forecast}
+use Rattle.mrp_item.specs.Rows.{booked, bookings_due, forecast, service_rows}
 use Rattle.mrp_peg.specs.declared.peg.Need.{Need}
 use Rattle.mrp_peg.specs.declared.peg.NeedKind.{NeedKind}
-use Rattle.mrp_peg.specs.declared.peg.NeedKind.TheVariants.{Booking as for_booking, Forecast, Parent}
-use Rattle.mrp_peg.specs.Pegging.{booking_needs, forecast_needs, line_needs, needed, needs_in, orders_in, parent_needs, requirements}
+use Rattle.mrp_peg.specs.declared.peg.NeedKind.TheVariants.{Booking as for_booking, Forecast, Parent, Service}
+use Rattle.mrp_peg.specs.Pegging.{booking_needs, forecast_needs, line_needs, needed, needs_in, orders_in, parent_needs, part_needs, requirements, service_needs}
 use Rattle.mrp_peg.specs.Units.{Amount}
+use Rattle.mrp_peg.proofs.Lists.{All-flat}
 use Rattle.mrp_peg.proofs.Pairs.{append-pairs, flat-pairs, map-pairs, none-pairs, number-pairs, range-pairs}
 
 -- two requirements have different needs
@@ -29,6 +32,9 @@ kinds-differ a b apart same = apart (ap (λ n. n.kind) same)
 
 bookings-differ : (m n : ℕ) → m < n → for_booking m ≢ for_booking n
 bookings-differ m n low same = let e : m ≡ n = cc in absurd (omega (arith, e, low))
+
+services-differ : (m n : ℕ) → m < n → Service m ≢ Service n
+services-differ m n low same = let e : m ≡ n = cc in absurd (omega (arith, e, low))
 
 lines-differ : (k l a b : ℕ) → k < l → Parent (k + 1) a ≢ Parent (l + 1) b
 lines-differ k l a b low same = let e : k + 1 ≡ l + 1 = cc in absurd (omega (arith, e, low))
@@ -80,15 +86,41 @@ lines-apart s i w k l low =
     (λ a d h. All-map (Differ (need (get_or ours a d))) next theirs
     (λ b e g. kinds-differ (need (get_or ours a d)) (next (get_or theirs b e)) (lines-differ k l (get_or ours a d).0 (get_or theirs b e).0 low)))
 
+-- the needs that the orders of all parents make
+parent-pairs : (s : Inputs) (i w : ℕ) → AllPairs Differ (parent_needs s i w)
+parent-pairs s i w =
+    flat-pairs Differ (line_needs s i w) (λ k l. k < l) (lines-apart s i w) (lines_of s.tables.bills i) (line-pairs s i w)
+    (AllPairs-filter (λ k l. k < l) (λ place. (line_at s.tables.bills place).component == i) (range_with_len 0 (length s.tables.bills)) (range-pairs 0 (length s.tables.bills)))
+
+-- the need of a service row
+abbrev service_need : ℕ → ℕ → MasterRow → Amount Need
+service_need i w r = needed i w (Service r.number) r.quantity
+
+-- the service rows of a week
+service-pairs : (s : Inputs) (i w : ℕ) → AllPairs (λ a b. a.number < b.number) s.tables.master → AllPairs Differ (service_needs s i w)
+service-pairs s i w rising =
+    map-pairs (λ (a b : MasterRow). a.number < b.number) Differ (service_need i w)
+    (λ a b low. kinds-differ (service_need i w a) (service_need i w b) (services-differ a.number b.number low))
+    (service_rows s i w) (AllPairs-filter (λ (a b : MasterRow). a.number < b.number) (λ (r : MasterRow). (r.item == i) && (r.week == w) && is_service r.kind) s.tables.master rising)
+
+-- no service row makes the need of a parent's order
+services-apart : (s : Inputs) (i w : ℕ) → All (λ x. All (Differ x) (parent_needs s i w)) (service_needs s i w)
+services-apart s i w =
+    All-map (λ x. All (Differ x) (parent_needs s i w)) (service_need i w) (service_rows s i w)
+    (λ k d h. let x : Amount Need = service_need i w (get_or (service_rows s i w) k d) in
+    All-flat (Differ x) (line_needs s i w) (lines_of s.tables.bills i)
+    (λ place. let line = line_at s.tables.bills place in
+    let need : ℕ × Order → Amount Need = λ n. needed i w (Parent (place + 1) n.0) (n.1.start * line.per) in
+    let orders = filter (λ n. n.1.release == w) (orders_in s line.parent) in
+    All-map (Differ x) need orders (λ b e g. kinds-differ x (need (get_or orders b e)) (λ same. cc))))
+
 -- the needs of a week
-week-pairs : (s : Inputs) (i w : ℕ) → AllPairs (λ a b. a.number < b.number) s.standing → AllPairs Differ (needs_in s i w)
-week-pairs s i w rising = by (is_master s i)
+week-pairs : (s : Inputs) (i w : ℕ) → AllPairs (λ a b. a.number < b.number) s.standing → AllPairs (λ a b. a.number < b.number) s.tables.master → AllPairs Differ (needs_in s i w)
+week-pairs s i w rising numbered = by (is_master s i)
   where
-    by : (b : Bool) → AllPairs Differ (cond b (booking_needs s i w ++ forecast_needs s i w) (parent_needs s i w))
+    by : (b : Bool) → AllPairs Differ (cond b (booking_needs s i w ++ forecast_needs s i w) (part_needs s i w))
     by true = master-pairs s i w rising
-    by false =
-        flat-pairs Differ (line_needs s i w) (λ k l. k < l) (lines-apart s i w) (lines_of s.tables.bills i) (line-pairs s i w)
-        (AllPairs-filter (λ k l. k < l) (λ place. (line_at s.tables.bills place).component == i) (range_with_len 0 (length s.tables.bills)) (range-pairs 0 (length s.tables.bills)))
+    by false = append-pairs Differ (service_needs s i w) (parent_needs s i w) (service-pairs s i w numbered) (parent-pairs s i w) (services-apart s i w)
 
 abbrev IsOfWeek : ℕ → Amount Need → Type 0
 IsOfWeek w a = a.of.week ≡ w
@@ -108,11 +140,13 @@ of-week s i w = by (is_master s i)
     left true = All-cons (IsOfWeek w) (needed i w Forecast (forecast s i w - booked s i w)) [] refl (All-nil (IsOfWeek w))
     left false = All-nil (IsOfWeek w)
 
-    by : (b : Bool) → All (IsOfWeek w) (cond b (booking_needs s i w ++ forecast_needs s i w) (parent_needs s i w))
+    by : (b : Bool) → All (IsOfWeek w) (cond b (booking_needs s i w ++ forecast_needs s i w) (part_needs s i w))
     by true =
         All-append (IsOfWeek w) (booking_needs s i w) (forecast_needs s i w)
         (All-map (IsOfWeek w) (λ (b : Booking). needed i w (for_booking b.number) b.line.quantity) (bookings_due s i w) (λ k d h. refl)) (left (nat_lt (booked s i w) (forecast s i w)))
-    by false = lines (lines_of s.tables.bills i)
+    by false =
+        All-append (IsOfWeek w) (service_needs s i w) (parent_needs s i w)
+        (All-map (IsOfWeek w) (service_need i w) (service_rows s i w) (λ k d h. refl)) (lines (lines_of s.tables.bills i))
 
 -- the needs of two weeks
 weeks-apart : (s : Inputs) (i v w : ℕ) → v < w → All (λ x. All (Differ x) (needs_in s i w)) (needs_in s i v)
@@ -122,6 +156,6 @@ weeks-apart s i v w low = λ a d h b e g.
     λ same. absurd (omega (arith, one, other, low, ap (λ n. n.week) same))
 
 -- all needs of an item
-pub needs-differ : (s : Inputs) (i : ℕ) → AllPairs (λ a b. a.number < b.number) s.standing → AllPairs (λ a b. a.of ≢ b.of) (requirements s i)
+pub needs-differ : (s : Inputs) (i : ℕ) → AllPairs (λ a b. a.number < b.number) s.standing → AllPairs (λ a b. a.number < b.number) s.tables.master → AllPairs (λ a b. a.of ≢ b.of) (requirements s i)
 unfolding requirements
-needs-differ s i rising = flat-pairs Differ (needs_in s i) (λ v w. v < w) (weeks-apart s i) (weeks (horizon s)) (λ w. week-pairs s i w rising) (range-pairs 1 (horizon s))
+needs-differ s i rising numbered = flat-pairs Differ (needs_in s i) (λ v w. v < w) (weeks-apart s i) (weeks (horizon s)) (λ w. week-pairs s i w rising numbered) (range-pairs 1 (horizon s))

@@ -28,6 +28,7 @@ one_cause (cause.Booking i m) (cause.Booking j n) e =
     let second = eqb-true m n parts.1 in
     λ k. cause.Booking (first k) (second k)
 one_cause (cause.Booking i m) (cause.Forecast j n) e = let f : false ≡ true = e in absurd (cc)
+one_cause (cause.Booking i m) (cause.Service j n) e = let f : false ≡ true = e in absurd (cc)
 one_cause (cause.Booking i m) (cause.Surplus j n) e = let f : false ≡ true = e in absurd (cc)
 one_cause (cause.Forecast i m) (cause.Booking j n) e = let f : false ≡ true = e in absurd (cc)
 one_cause (cause.Forecast i m) (cause.Forecast j n) e =
@@ -35,9 +36,19 @@ one_cause (cause.Forecast i m) (cause.Forecast j n) e =
     let first = eqb-true i j parts.0 in
     let second = eqb-true m n parts.1 in
     λ k. cause.Forecast (first k) (second k)
+one_cause (cause.Forecast i m) (cause.Service j n) e = let f : false ≡ true = e in absurd (cc)
 one_cause (cause.Forecast i m) (cause.Surplus j n) e = let f : false ≡ true = e in absurd (cc)
+one_cause (cause.Service i m) (cause.Booking j n) e = let f : false ≡ true = e in absurd (cc)
+one_cause (cause.Service i m) (cause.Forecast j n) e = let f : false ≡ true = e in absurd (cc)
+one_cause (cause.Service i m) (cause.Service j n) e =
+    let parts = and_parts (i == j) (m == n) e in
+    let first = eqb-true i j parts.0 in
+    let second = eqb-true m n parts.1 in
+    λ k. cause.Service (first k) (second k)
+one_cause (cause.Service i m) (cause.Surplus j n) e = let f : false ≡ true = e in absurd (cc)
 one_cause (cause.Surplus i m) (cause.Booking j n) e = let f : false ≡ true = e in absurd (cc)
 one_cause (cause.Surplus i m) (cause.Forecast j n) e = let f : false ≡ true = e in absurd (cc)
+one_cause (cause.Surplus i m) (cause.Service j n) e = let f : false ≡ true = e in absurd (cc)
 one_cause (cause.Surplus i m) (cause.Surplus j n) e =
     let parts = and_parts (i == j) (m == n) e in
     let first = eqb-true i j parts.0 in
@@ -47,6 +58,7 @@ one_cause (cause.Surplus i m) (cause.Surplus j n) e =
 pub own_cause_is : (c : Cause) → same_cause c c ≡ true
 own_cause_is (cause.Booking i m) = and_from (i == i) (m == m) (eq-eqb i i refl) (eq-eqb m m refl)
 own_cause_is (cause.Forecast i m) = and_from (i == i) (m == m) (eq-eqb i i refl) (eq-eqb m m refl)
+own_cause_is (cause.Service i m) = and_from (i == i) (m == m) (eq-eqb i i refl) (eq-eqb m m refl)
 own_cause_is (cause.Surplus i m) = and_from (i == i) (m == m) (eq-eqb i i refl) (eq-eqb m m refl)
 
 -- an order that was reached is one of the orders

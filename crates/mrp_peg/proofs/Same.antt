@@ -10,12 +10,19 @@ use Rattle.mrp_peg.specs.Causes.{same_cause}
 pub equal_causes : (c d : Cause) → (derived.ghosts).eq c d ≡ same_cause c d
 equal_causes (cause.Booking i m) (cause.Booking j n) = refl
 equal_causes (cause.Booking i m) (cause.Forecast j n) = refl
+equal_causes (cause.Booking i m) (cause.Service j n) = refl
 equal_causes (cause.Booking i m) (cause.Surplus j n) = refl
 equal_causes (cause.Forecast i m) (cause.Booking j n) = refl
 equal_causes (cause.Forecast i m) (cause.Forecast j n) = refl
+equal_causes (cause.Forecast i m) (cause.Service j n) = refl
 equal_causes (cause.Forecast i m) (cause.Surplus j n) = refl
+equal_causes (cause.Service i m) (cause.Booking j n) = refl
+equal_causes (cause.Service i m) (cause.Forecast j n) = refl
+equal_causes (cause.Service i m) (cause.Service j n) = refl
+equal_causes (cause.Service i m) (cause.Surplus j n) = refl
 equal_causes (cause.Surplus i m) (cause.Booking j n) = refl
 equal_causes (cause.Surplus i m) (cause.Forecast j n) = refl
+equal_causes (cause.Surplus i m) (cause.Service j n) = refl
 equal_causes (cause.Surplus i m) (cause.Surplus j n) = refl
 
 -- so a set of causes grows by its definition

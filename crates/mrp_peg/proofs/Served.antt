@@ -10,9 +10,10 @@ use Rattle.mrp_tables.specs.declared.rows.BillLine.{BillLine}
 use Rattle.mrp_bill.specs.Bill.{IsOrder, IsParent, line_at, lines_of}
 use Rattle.mrp_phase.specs.Weeks.{weeks}
 use Rattle.mrp_book.specs.declared.booking.Booking.{Booking}
+use Rattle.mrp_tables.specs.declared.rows.MasterRow.{MasterRow}
 use Rattle.mrp_item.specs.Inputs.{Inputs, count, horizon, is_master}
 use Rattle.mrp_item.specs.Plan.{HasParents}
-use Rattle.mrp_item.specs.Rows.{booked, bookings_due, forecast}
+use Rattle.mrp_item.specs.Rows.{booked, bookings_due, forecast, service_rows}
 use Rattle.mrp_peg.specs.declared.peg.Need.{Need}
 use Rattle.mrp_peg.specs.declared.peg.NeedKind.{NeedKind}
 use Rattle.mrp_peg.specs.declared.peg.NeedKind.TheVariants as kind
@@ -25,7 +26,7 @@ use Rattle.mrp_peg.specs.declared.peg.Cause.TheVariants as cause
 use Rattle.mrp_peg.specs.Walk.{item_told}
 use Rattle.mrp_peg.specs.Units.{Amount, Match, Span, is_positive, match_of, matches, pairs, spans, spans_from, surplus_of, total}
 use Rattle.mrp_peg.specs.Matching.{peg_of}
-use Rattle.mrp_peg.specs.Pegging.{booking_needs, forecast_needs, line_needs, needed, needs_in, orders_in, parent_needs, pegs_of, requirements, supplies}
+use Rattle.mrp_peg.specs.Pegging.{booking_needs, forecast_needs, line_needs, needed, needs_in, orders_in, parent_needs, part_needs, pegs_of, requirements, service_needs, supplies}
 use Rattle.mrp_peg.specs.Causes.{ends_in, need_or_surplus_cause, order_for, own_cause, same_kind, same_need, surplus_cause}
 use Rattle.mrp_peg.proofs.Sourced.{some_value}
 use Rattle.mrp_peg.proofs.Members.{any_at, here, in_filter, in_flat_map, in_map, nothing, split, there}
@@ -99,11 +100,17 @@ own_need s i a inside =
         lone s i a.of (cause.Booking i b.number) (sym (ap (λ (x : Amount Need). x.of.item) is)) (sym (ap (λ (x : Amount Need). order_for s.tables.bills x.of.kind) is)) (sym (ap (λ (x : Amount Need). own_cause x.of x.of.kind) is))
     demanded week (inr has) = forecasted week (nat_lt (booked s i week) (forecast s i week)) has
 
-    by : (week : ℕ) (b : Bool) → Contains (if b then booking_needs s i week ++ forecast_needs s i week else parent_needs s i week) a → IsOwnNeed s i a.of
-    by week true has = demanded week (Contains-append_cases (booking_needs s i week) (forecast_needs s i week) a has)
-    by week false has =
+    used : (week : ℕ) → Contains (service_needs s i week) a ⊎ Contains (parent_needs s i week) a → IsOwnNeed s i a.of
+    used week (inl has) =
+        let (r, there, is) = in_map (λ (r : MasterRow). needed i week (kind.Service r.number) r.quantity) (service_rows s i week) a has in
+        lone s i a.of (cause.Service i r.number) (sym (ap (λ (x : Amount Need). x.of.item) is)) (sym (ap (λ (x : Amount Need). order_for s.tables.bills x.of.kind) is)) (sym (ap (λ (x : Amount Need). own_cause x.of x.of.kind) is))
+    used week (inr has) =
         let (place, listed, line) = in_flat_map (line_needs s i week) (lines_of s.tables.bills i) a has in
         own_line s i week place a listed line
+
+    by : (week : ℕ) (b : Bool) → Contains (if b then booking_needs s i week ++ forecast_needs s i week else part_needs s i week) a → IsOwnNeed s i a.of
+    by week true has = demanded week (Contains-append_cases (booking_needs s i week) (forecast_needs s i week) a has)
+    by week false has = used week (Contains-append_cases (service_needs s i week) (parent_needs s i week) a has)
 
 -- a span of a row is of something in it
 span_of : {A : Type 0} (n : ℕ) (row : List (Amount A)) (span : Span A) → Contains (spans_from n row) span → (a : Amount A) × Contains row a × (a.of ≡ span.of)
@@ -148,6 +155,7 @@ pegged_need s i g via inside is =
 own_item : (n : Need) (k : NeedKind) (c : Cause) → own_cause n k ≡ Some c → item_told c ≡ n.item
 own_item n (kind.Booking m) c is = sym (ap item_told (some_value (cause.Booking n.item m) c is))
 own_item n kind.Forecast c is = sym (ap item_told (some_value (cause.Forecast n.item n.week) c is))
+own_item n (kind.Service m) c is = sym (ap item_told (some_value (cause.Service n.item m) c is))
 own_item n (kind.Parent line m) c is = let none : Option Cause = None in let e : none ≡ Some c = is in absurd (cc)
 
 surplus_item : (i : ℕ) (x : Supplied) (c : Cause) → surplus_cause i x ≡ Some c → item_told c ≡ i
@@ -179,6 +187,7 @@ ends_here s i g c inside is = by g.need refl is
 own_kind : (k : NeedKind) → same_kind k k ≡ true
 own_kind (kind.Booking m) = eq-eqb m m refl
 own_kind kind.Forecast = refl
+own_kind (kind.Service m) = eq-eqb m m refl
 own_kind (kind.Parent line m) = and_from (line == line) (m == m) (eq-eqb line line refl) (eq-eqb m m refl)
 
 same_self : (n : Need) → same_need n n ≡ true

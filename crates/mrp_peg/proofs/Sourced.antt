@@ -20,6 +20,7 @@ some_value x y e = cc
 pub order_within : (lines : List BillLine) (n : ℕ) → All (λ (l : BillLine). l.parent < n) lines → (k : NeedKind) (e : ℕ × ℕ) → order_for lines k ≡ Some e → e.0 < n
 order_within lines n within (kind.Booking m) e is = let none : Option (ℕ × ℕ) = None in let f : none ≡ Some e = is in absurd (cc)
 order_within lines n within kind.Forecast e is = let none : Option (ℕ × ℕ) = None in let f : none ≡ Some e = is in absurd (cc)
+order_within lines n within (kind.Service m) e is = let none : Option (ℕ × ℕ) = None in let f : none ≡ Some e = is in absurd (cc)
 order_within lines n within (kind.Parent line number) e is = by (nat_lt 0 line && nat_le line (length lines)) refl is
   where
     by : (b : Bool) → (nat_lt 0 line && nat_le line (length lines)) ≡ b → (if b then Some ((line_at lines (line - 1)).parent, number) else None) ≡ Some e → e.0 < n

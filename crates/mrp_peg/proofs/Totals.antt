@@ -7,17 +7,18 @@ use Rattle.std.proofs.lemmas.List.Sums.{sum_by-cons, sum_by-append, get_or-le-su
 use Rattle.mrp_qty.specs.Quantity.{greatest_quantity}
 use Rattle.mrp_bill.specs.Bill.{line_at, lines_of}
 use Rattle.mrp_book.specs.declared.booking.Booking.{Booking}
+use Rattle.mrp_tables.specs.declared.rows.MasterRow.{MasterRow}
 use Rattle.mrp_phase.specs.Weeks.{row, weeks}
 use Rattle.mrp_item.specs.declared.order.Order.{Order}
 use Rattle.mrp_item.specs.Inputs.{Inputs, horizon, is_master}
-use Rattle.mrp_item.specs.Plan.{line_demand, gross_in, outcome_of, plan_in}
-use Rattle.mrp_item.specs.Rows.{booked, bookings_due, independent_demand, forecast, lines_to}
+use Rattle.mrp_item.specs.Plan.{line_demand, gross_in, outcome_of, part_gross, plan_in}
+use Rattle.mrp_item.specs.Rows.{booked, bookings_due, independent_demand, forecast, lines_to, service, service_rows}
 use Rattle.mrp_item.proofs.Parents.{lines-at}
-use Rattle.mrp_peg.specs.declared.peg.NeedKind.TheVariants.{Booking as for_booking, Forecast, Parent}
+use Rattle.mrp_peg.specs.declared.peg.NeedKind.TheVariants.{Booking as for_booking, Forecast, Parent, Service}
 use Rattle.mrp_peg.specs.declared.matching.Requirement.{Requirement}
 use Rattle.mrp_peg.specs.Matching.{amount_required}
-use Rattle.mrp_peg.specs.Pegging.{booking_needs, forecast_needs, line_needs, needed, needs_in, orders_in, parent_needs, requirements}
-use Rattle.mrp_peg.specs.Rows.{all_requirements, independent_requirements, line_to, line_requirements, order_requirement, parent_requirements, place_to}
+use Rattle.mrp_peg.specs.Pegging.{booking_needs, forecast_needs, line_needs, needed, needs_in, orders_in, parent_needs, part_needs, requirements, service_needs}
+use Rattle.mrp_peg.specs.Rows.{all_requirements, independent_requirements, line_to, line_requirements, order_requirement, parent_requirements, part_requirements, place_to, service_requirements}
 use Rattle.mrp_peg.specs.Units.{Amount, total}
 use Rattle.mrp_peg.specs.Weekly.{AreWithin, by_weeks}
 use Rattle.mrp_item.specs.Own.{own_gross}
@@ -72,11 +73,13 @@ forecast_total s i w = by (nat_lt (booked s i w) (forecast s i w)) refl
 week_total : (s : Inputs) (i w : ℕ) → total (needs_in s i w) ≡ gross_in s i (outcome_of s) w
 week_total s i w = by (is_master s i)
   where
-    by : (b : Bool) → total (cond b (booking_needs s i w ++ forecast_needs s i w) (parent_needs s i w)) ≡ cond b (independent_demand s i w) (sum_by (line_demand (outcome_of s) w) (lines_to s i))
+    by : (b : Bool) → total (cond b (booking_needs s i w ++ forecast_needs s i w) (part_needs s i w)) ≡ cond b (independent_demand s i w) (part_gross s i (outcome_of s) w)
     by true =
         let bookings : total (booking_needs s i w) ≡ booked s i w = sum_by-map units (λ (b : Booking). needed i w (for_booking b.number) b.line.quantity) (bookings_due s i w) in
         sum_by-append units (booking_needs s i w) (forecast_needs s i w) ∙ omega (arith, bookings, forecast_total s i w)
-    by false = parents_total s i w
+    by false =
+        let services : total (service_needs s i w) ≡ service s i w = sum_by-map units (λ (r : MasterRow). needed i w (Service r.number) r.quantity) (service_rows s i w) in
+        sum_by-append units (service_needs s i w) (parent_needs s i w) ∙ omega (arith, services, parents_total s i w)
 
 -- requirements are gross requirements
 pub requirements_total : (s : Inputs) (i : ℕ) → total (requirements s i) ≡ sum (own_gross s i)
@@ -106,13 +109,15 @@ required_within s i is part within k h j d g =
     let orders = (plan_in (outcome_of s line.parent)).orders in
     let one : sum_by (λ (o : Order). o.start * line.per) orders ≡ sum_by pieces (line_requirements s i place) =
     sym (sum_by-map pieces (order_requirement i (place + 1) line.per) (orders_in s line.parent) ∙ numbered_sum (λ (o : Order). o.start * line.per) 1 orders) in
-    let all : sum_by (λ p. sum_by pieces (line_requirements s i p)) places ≡ sum_by pieces (all_requirements s i) =
-    sym (sum_by-flat_map pieces (line_requirements s i) places) ∙ ap (λ b. sum_by pieces (cond b (independent_requirements s i) (parent_requirements s i))) (sym part) in
+    let parents : sum_by (λ p. sum_by pieces (line_requirements s i p)) places ≡ sum_by pieces (parent_requirements s i) = sym (sum_by-flat_map pieces (line_requirements s i) places) in
+    let all : sum_by pieces (all_requirements s i) ≡ sum_by pieces (service_requirements s i) + sum_by pieces (parent_requirements s i) =
+    ap (λ b. sum_by pieces (cond b (independent_requirements s i) (part_requirements s i))) part ∙ sum_by-append pieces (service_requirements s i) (parent_requirements s i) in
     omega (
       arith,
       get_or-le-sum_by (λ (o : Order). o.start * line.per) orders j d g,
       one,
       get_or-le-sum_by (λ p. sum_by pieces (line_requirements s i p)) places k 0 h,
+      parents,
       all,
       required_total s i is within,
       gross-within s i is,

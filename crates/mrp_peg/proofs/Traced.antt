@@ -106,7 +106,7 @@ stays s n none (suc steps) m (via, g, leads, inside, serves) =
     let same = stays s n none steps via leads in
     absurd (nothing g (subst (λ l. Contains l g) (sym (ap (sources_of s) same) ∙ none) inside))
 
--- a booking or a forecast of the plan is its own trace
+-- a booking, a forecast or a service row of the plan is its own trace
 pub own_trace : (s : Inputs) (n : Need) (c : Cause) → is_need_of s n ≡ true → own_cause n n.kind ≡ Some c → IsTrace s n (c ∷ [])
 own_trace s n c has own = record {
   each = λ d. (cause d, found d);
@@ -116,6 +116,7 @@ own_trace s n c has own = record {
     lone : (k : NeedKind) → own_cause n k ≡ Some c → order_for s.tables.bills k ≡ None
     lone (kind.Booking number) is = refl
     lone kind.Forecast is = refl
+    lone (kind.Service number) is = refl
     lone (kind.Parent line number) is = let none : Option Cause = None in let e : none ≡ Some c = is in absurd (cc)
 
     none : sources_of s n ≡ []

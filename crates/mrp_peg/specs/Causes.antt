@@ -17,6 +17,7 @@ use Rattle.mrp_peg.specs.Pegging.{pegs_of, plan_pegs, requirements}
 abbrev pub same_kind : NeedKind → NeedKind → Bool
 same_kind (kind.Booking m) (kind.Booking n) = m == n
 same_kind kind.Forecast kind.Forecast = true
+same_kind (kind.Service m) (kind.Service n) = m == n
 same_kind (kind.Parent line m) (kind.Parent other n) = (line == other) && (m == n)
 same_kind _ _ = false
 
@@ -38,6 +39,7 @@ order_for lines (kind.Parent line number) =
     if nat_lt 0 line && nat_le line (length lines) then Some ((line_at lines (line - 1)).parent, number) else None
 order_for lines (kind.Booking number) = None
 order_for lines kind.Forecast = None
+order_for lines (kind.Service number) = None
 
 -- the pegs of an item's order, with its surplus
 abbrev pub order_pegs : Inputs → Option (ℕ × ℕ) → List Peg
@@ -49,10 +51,11 @@ order_pegs s (Some order) = filter (λ g. is_order order.1 g.supply) (pegs_of s 
 unfoldable pub sources_of : Inputs → Need → List Peg
 sources_of s need = if is_need_of s need then order_pegs s (order_for s.tables.bills need.kind) else []
 
--- a booking or a forecast is its own cause
+-- a booking, a forecast or a service row is its own cause
 abbrev pub own_cause : Need → NeedKind → Option Cause
 own_cause need (kind.Booking number) = Some (cause.Booking need.item number)
 own_cause need kind.Forecast = Some (cause.Forecast need.item need.week)
+own_cause need (kind.Service number) = Some (cause.Service need.item number)
 own_cause need (kind.Parent line number) = None
 
 abbrev pub surplus_cause : ℕ → Supplied → Option Cause
@@ -64,7 +67,7 @@ abbrev pub need_or_surplus_cause : Peg → Option Need → Option Cause
 need_or_surplus_cause g (Some need) = own_cause need need.kind
 need_or_surplus_cause g None = surplus_cause g.item g.supply
 
--- the cause that a peg ends in, if any: the booking or the forecast that it serves, or its order's surplus
+-- the cause that a peg ends in, if any: the booking, the forecast or the service row that it serves, or its order's surplus
 abbrev pub ends_in : Peg → Option Cause
 ends_in g = need_or_surplus_cause g g.need
 
@@ -84,6 +87,7 @@ IsCause s n c = (is_need_of s n ≡ true) × ((own_cause n n.kind ≡ Some c) �
 abbrev pub same_cause : Cause → Cause → Bool
 same_cause (cause.Booking i m) (cause.Booking j n) = (i == j) && (m == n)
 same_cause (cause.Forecast i m) (cause.Forecast j n) = (i == j) && (m == n)
+same_cause (cause.Service i m) (cause.Service j n) = (i == j) && (m == n)
 same_cause (cause.Surplus i m) (cause.Surplus j n) = (i == j) && (m == n)
 same_cause _ _ = false
 

@@ -46,9 +46,10 @@ SuppliesArePegged = (s : Inputs) (i : ℕ) → AddUpToSupplies s i (pegs_of s i)
 abbrev pub RequirementsAreCovered : Type 0
 RequirementsAreCovered = (s : Inputs) (i : ℕ) (code : ℕ → ℕ) (plan : ItemPlan) → IsRanked s code → outcome_of s i ≡ Planned plan → IsSized (item_at s i) → total (requirements s i) ≤ total (supplies s i)
 
--- if the numbers of the bookings rise, the needs of an item differ
+-- if the numbers of the bookings and of the master schedule's rows rise, the needs of an item differ
 abbrev pub NeedsDiffer : Type 0
-NeedsDiffer = (s : Inputs) (i : ℕ) → AllPairs (λ a b. a.number < b.number) s.standing → AllPairs (λ a b. a.of ≢ b.of) (requirements s i)
+NeedsDiffer = (s : Inputs) (i : ℕ) → AllPairs (λ a b. a.number < b.number) s.standing → AllPairs (λ a b. a.number < b.number) s.tables.master
+    → AllPairs (λ a b. a.of ≢ b.of) (requirements s i)
 
 -- if the numbers of the open receipts rise, the supplies of an item are of different sources
 abbrev pub SuppliesDiffer : Type 0
@@ -60,7 +61,7 @@ IsTestOf {A} test x = (test x ≡ true) × ((y : A) → test y ≡ true → y �
 
 -- so the pegs of one requirement that supplies cover add up to it
 abbrev pub NeedIsPegged : Type 0
-NeedIsPegged = (s : Inputs) (i : ℕ) (test : Need → Bool) (a : Amount Need) → AllPairs (λ a b. a.number < b.number) s.standing → total (requirements s i) ≤ total (supplies s i)
+NeedIsPegged = (s : Inputs) (i : ℕ) (test : Need → Bool) (a : Amount Need) → AllPairs (λ a b. a.number < b.number) s.standing → AllPairs (λ a b. a.number < b.number) s.tables.master → total (requirements s i) ≤ total (supplies s i)
     → Contains (requirements s i) a → IsTestOf test a.of → sum_by (λ g. g.quantity) (filter (λ g. is_for test g.need) (pegs_of s i)) ≡ a.quantity
 
 -- and the pegs of one supply, with its surplus, add up to that supply

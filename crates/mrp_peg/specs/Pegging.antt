@@ -6,12 +6,12 @@ use Rattle.mrp_phase.specs.Weeks.{weeks}
 use Rattle.mrp_item.specs.declared.order.Order.{Order}
 use Rattle.mrp_item.specs.Inputs.{Inputs, horizon, is_master, places}
 use Rattle.mrp_item.specs.Plan.{outcome_of, plan_in}
-use Rattle.mrp_item.specs.Rows.{booked, bookings_due, forecast}
+use Rattle.mrp_item.specs.Rows.{booked, bookings_due, forecast, service_rows}
 use Rattle.mrp_item.specs.Supplies.{supplies_of}
 use Rattle.mrp_item.specs.declared.supplies.Supplied.{Supplied}
 use Rattle.mrp_peg.specs.declared.peg.Need.{Need}
 use Rattle.mrp_peg.specs.declared.peg.NeedKind.{NeedKind}
-use Rattle.mrp_peg.specs.declared.peg.NeedKind.TheVariants.{Booking, Forecast, Parent}
+use Rattle.mrp_peg.specs.declared.peg.NeedKind.TheVariants.{Booking, Forecast, Parent, Service}
 use Rattle.mrp_peg.specs.declared.peg.Peg.{Peg}
 use Rattle.mrp_peg.specs.Matching.{amounts_offered, peg_of}
 use Rattle.mrp_peg.specs.Units.{Amount, matches}
@@ -32,6 +32,10 @@ abbrev pub forecast_needs : Inputs → ℕ → ℕ → List (Amount Need)
 forecast_needs s i week =
     if nat_lt (booked s i week) (forecast s i week) then needed i week Forecast (forecast s i week - booked s i week) ∷ [] else []
 
+-- the requirements of a part's service rows of a week, in table order
+abbrev pub service_needs : Inputs → ℕ → ℕ → List (Amount Need)
+service_needs s i week = map (λ r. needed i week (Service r.number) r.quantity) (service_rows s i week)
+
 -- the requirements of a component, by the line at a place of the bill, from the parent's orders that are released in a
 -- week, by order
 abbrev pub line_needs : Inputs → ℕ → ℕ → ℕ → List (Amount Need)
@@ -43,9 +47,9 @@ line_needs s i week place =
 abbrev pub parent_needs : Inputs → ℕ → ℕ → List (Amount Need)
 parent_needs s i week = flat_map (line_needs s i week) (lines_of s.tables.bills i)
 
--- the requirements of a part in a week: those from its parents' orders
+-- the requirements of a part in a week: those of its service rows, and then those from its parents' orders
 abbrev pub part_needs : Inputs → ℕ → ℕ → List (Amount Need)
-part_needs s i week = parent_needs s i week
+part_needs s i week = service_needs s i week ++ parent_needs s i week
 
 -- the requirements of an item in a week: for a master item bookings and forecast, otherwise those
 -- of a part

@@ -5,15 +5,18 @@ use Rattle.mrp_bill.specs.Bill.{line_at, lines_of}
 use Rattle.mrp_phase.specs.Weeks.{in_week, row, weeks}
 use Rattle.mrp_item.specs.declared.due.Due.{Due}
 use Rattle.mrp_item.specs.declared.order.Order.{Order}
-use Rattle.mrp_item.specs.Dues.{booking_dues, due_sum}
+use Rattle.mrp_item.specs.Dues.{booking_dues, due_sum, service_dues}
 use Rattle.mrp_item.specs.Inputs.{Inputs, horizon, is_master}
 use Rattle.mrp_item.specs.Plan.{outcome_of, plan_in}
-use Rattle.mrp_peg.specs.declared.peg.NeedKind.TheVariants.{Booking, Forecast, Parent}
+use Rattle.mrp_peg.specs.declared.peg.NeedKind.TheVariants.{Booking, Forecast, Parent, Service}
 use Rattle.mrp_peg.specs.declared.matching.Requirement.{Requirement}
 use Rattle.mrp_peg.specs.Pegging.{orders_in}
 
 abbrev pub booking_requirement : ℕ → Due → Requirement
 booking_requirement i due = record { need = record { item = i; week = due.week; kind = Booking due.number }; quantity = due.quantity }
+
+abbrev pub service_requirement : ℕ → Due → Requirement
+service_requirement i due = record { need = record { item = i; week = due.week; kind = Service due.number }; quantity = due.quantity }
 
 -- what is left of a week's demand, if anything is
 abbrev pub forecast_requirements : ℕ → List ℕ → ℕ → List Requirement
@@ -42,12 +45,15 @@ independent_requirements s i =
     map (booking_requirement i) (booking_dues s.standing i)
     ++ flat_map (forecast_requirements i (row (horizon s) (beyond (plan_in (outcome_of s i)).gross (booking_dues s.standing i)))) (weeks (horizon s))
 
+abbrev pub service_requirements : Inputs → ℕ → List Requirement
+service_requirements s i = map (service_requirement i) (service_dues s.tables.master i)
+
 abbrev pub parent_requirements : Inputs → ℕ → List Requirement
 parent_requirements s i = flat_map (line_requirements s i) (lines_of s.tables.bills i)
 
--- the requirements of a part: those from its parents' orders
+-- the requirements of a part: those of its service rows, and then those from its parents' orders
 abbrev pub part_requirements : Inputs → ℕ → List Requirement
-part_requirements s i = parent_requirements s i
+part_requirements s i = service_requirements s i ++ parent_requirements s i
 
 abbrev pub all_requirements : Inputs → ℕ → List Requirement
 all_requirements s i = if is_master s i then independent_requirements s i else part_requirements s i

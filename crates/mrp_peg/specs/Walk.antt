@@ -73,6 +73,7 @@ with_known causes found g = with_any same_cause found (known causes (ends_in g))
 abbrev pub item_told : Cause → ℕ
 item_told (cause.Booking i number) = i
 item_told (cause.Forecast i week) = i
+item_told (cause.Service i row) = i
 item_told (cause.Surplus i number) = i
 
 -- the items whose pegs end in these causes are among these items

@@ -24,9 +24,10 @@ pub fn cover()
     ensures { RequirementsAreCovered }
 {}
 
-/// No two requirements of an item have the same need, if the numbers of its bookings rise: a booking is known
-/// by its number, a parent's order by the bill line and the order's number. So the pegs of one requirement
-/// add up to it, if the item's supplies cover what is required.
+/// No two requirements of an item have the same need, if the numbers of the bookings and of the master
+/// schedule's rows rise: a booking is known by its number, a service row by that of its record, a parent's
+/// order by the bill line and the order's number. So the pegs of one requirement add up to it, if the item's
+/// supplies cover what is required.
 pub fn needs()
     ensures differ { NeedsDiffer }
     ensures pegged { NeedIsPegged }

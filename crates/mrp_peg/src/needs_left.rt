@@ -32,12 +32,14 @@ pub struct NeedsLeft<'a> {
 // The most requirements of a part that are listed at once: about three megabytes.
 const AT_ONCE: usize = 32_768;
 
-// Whether a part has at most that many requirements even if each parent has an order every week.
-fn are_few(used: &WhereUsed<'_>, weeks: u16) -> bool {
-    if used.len().saturating_mul(usize::from(weeks)) > AT_ONCE {
+// Whether a part with so many service rows has at most that many requirements even if each parent has an
+// order every week.
+fn are_few(used: &WhereUsed<'_>, services: usize, weeks: u16) -> bool {
+    let weekly = used.len().saturating_mul(usize::from(weeks));
+    if weekly.saturating_add(services) > AT_ONCE {
         return false;
     }
-    let mut left = AT_ONCE;
+    let mut left = AT_ONCE.saturating_sub(services);
     for at in 0..used.len() {
         let orders = used.line(at).orders.len();
         if left < orders {
@@ -78,7 +80,7 @@ impl<'a> NeedsLeft<'a> {
             return NeedsLeft::listed(alloc, plan, item);
         }
         let used = WhereUsed::of(plan, item);
-        if are_few(&used, inputs.weeks()) {
+        if are_few(&used, inputs.services(item).len(), inputs.weeks()) {
             return NeedsLeft::listed(alloc, plan, item);
         }
         let part = Part { plan, item, used };

@@ -10,6 +10,9 @@ pub enum NeedKind {
     Booking(u64),
     /// The forecast, as far as it exceeds the bookings.
     Forecast,
+    /// The service row of the master schedule with this record number, from 1: demand for a part by
+    /// itself (APICS Dictionary: service parts demand).
+    Service(u64),
     /// An order of a parent.
     Parent {
         /// The record number of the bill line, from 1.
@@ -60,6 +63,13 @@ pub enum Cause {
         item: usize,
         /// The week, from 1.
         week: u16,
+    },
+    /// A service row of the master schedule.
+    Service {
+        /// The item, by its place in the table.
+        item: usize,
+        /// The row, by its record's number from 1.
+        row: u64,
     },
     /// Pieces of an order that no requirement takes.
     Surplus {

@@ -15,9 +15,9 @@ ghost use Rattle.mrp_peg.specs.Rows.{all_requirements};
 use crate::demand::demand_of;
 use crate::matching::Requirement;
 use crate::ordering::sort_needs;
+use crate::part::part_needs;
 use crate::peg::Peg;
 use crate::peg_walk::PegWalk;
-use crate::where_used::parents_of;
 use mrp_item::{Inputs, Plan};
 use mrp_qty::NoMemory;
 use std::alloc::Global;
@@ -52,7 +52,7 @@ fn listed_needs(alloc: Global, plan: &Plan, item: usize) -> Result<Vec<Requireme
         sort_needs(&mut needs)?;
         return Ok(needs);
     }
-    parents_of(alloc, plan, item)
+    part_needs(alloc, plan, item)
 }
 
 // The requirements of an item, in order. The item's supplies cover them.
@@ -62,9 +62,10 @@ pub fn needs_of(alloc: Global, plan: &Plan, item: usize) -> Result<Vec<Requireme
     ensures covered { OnOk result (total (requirements plan.now.inputs item) ≤ total (supplies plan.now.inputs item)) }
 {
     let inputs: &Inputs = plan.inputs();
-    // Codes rank the items, and what is booked is due in weeks of the horizon.
+    // Codes rank the items, and what is booked and the service rows are due in weeks of the horizon.
     let _ranked = inputs.shop();
     let _booked = inputs.snapshot();
+    let _services = inputs.services(item);
     listed_needs(alloc, plan, item)
 }
 

@@ -99,8 +99,8 @@ fn pegs_for(alloc: Global, plan: &Plan, order: Option<(usize, usize)>) -> Result
 }
 
 /// The sources of a requirement: the pegs of the parent's order that caused it, with its surplus,
-/// in their order (Orlicky: pegging). A booking or a forecast has none, and neither has a
-/// requirement that is not one of the plan's.
+/// in their order (Orlicky: pegging). A booking, a forecast or a service row has none, and neither
+/// has a requirement that is not one of the plan's.
 ///
 /// Errors: `NoMemory` if an allocation fails.
 pub fn sources(alloc: Global, plan: &Plan, need: &Need) -> Result<Vec<Peg>, NoMemory>

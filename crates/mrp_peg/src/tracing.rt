@@ -93,10 +93,11 @@ fn alone(alloc: Global, cause: Cause) -> Result<Vec<Cause>, NoMemory>
     Ok(trace)
 }
 
-/// The causes of a requirement: the bookings, the forecasts and the surplus of orders that its
-/// sources, followed upwards, end in, each once, in order of item and peg (Orlicky: full pegging;
-/// profile: surplus). A booking or a forecast of the plan is its own cause. Each requirement of the
-/// plan has at least one cause; a requirement that is not one of the plan's has none.
+/// The causes of a requirement: the bookings, the forecasts, the service rows and the surplus of
+/// orders that its sources, followed upwards, end in, each once, in order of item and peg (Orlicky:
+/// full pegging; profile: surplus). A booking, a forecast or a service row of the plan is its own
+/// cause. Each requirement of the plan has at least one cause; a requirement that is not one of the
+/// plan's has none.
 ///
 /// Errors: `NoMemory` if an allocation fails.
 pub fn trace(alloc: Global, plan: &Plan, need: &Need) -> Result<Vec<Cause>, NoMemory>

@@ -24,7 +24,7 @@ pub struct Ends {
     pub items: IndexSet<usize>,
 }
 
-// A booking or a forecast is its own cause.
+// A booking, a forecast or a service row is its own cause.
 pub fn own_cause(need: &Need) -> Option<Cause>
     ensures { result ≡ causes.own_cause need.now need.now.kind }
 {
@@ -35,6 +35,7 @@ pub fn own_cause(need: &Need) -> Option<Cause>
             item,
             week: need.week,
         }),
+        NeedKind::Service(row) => Some(Cause::Service { item, row }),
         NeedKind::Parent { .. } => None,
     }
 }

@@ -1,6 +1,6 @@
 //! The where-used list of an item: the bill lines to it, each with the orders of its parent.
 
-ghost use Rattle.std.specs.Prelude.{◌≡◌, ◌==◌, ◌+◌, ◌<◌, ◌≤◌, ◌++◌, ℕ, false, filter, length, map, slice_index, IfOk, OnOk};
+ghost use Rattle.std.specs.Prelude.{◌≡◌, ◌==◌, ◌+◌, ◌<◌, ◌≤◌, ◌++◌, ℕ, false, filter, length, map, slice_index, OnOk};
 ghost use Rattle.std.specs.List.{enumerate_from};
 ghost use Rattle.std.specs.List.Sorted.{IsNonDecreasingBy};
 ghost use Rattle.mrp_tables.specs.declared.limits.TheConstants.{MOST_ROWS};
@@ -9,18 +9,15 @@ ghost use Rattle.mrp_item.specs.Inputs.{count, horizon, is_master};
 ghost use Rattle.mrp_item.specs.Plan.{HasParents, outcome_of, plan_in};
 ghost use Rattle.mrp_peg.specs.Own.{IsOwn};
 ghost use Rattle.mrp_peg.specs.Rows.{all_requirements, line_to, line_requirements, order_requirement, parent_requirements, place_to};
-ghost use Rattle.mrp_peg.specs.Weekly.{AreWithin, by_weeks, of_week};
-ghost use Rattle.mrp_phase.specs.Weeks.{weeks};
+ghost use Rattle.mrp_peg.specs.Weekly.{AreWithin, of_week};
 
 use crate::matching::Requirement;
 use crate::next_orders::NextOrders;
-use crate::ordering::in_order;
 use crate::parents::{UsedBy, add_all, add_released};
 use mrp_bill::Numbered;
 use mrp_item::{Inputs, Plan};
 use mrp_qty::NoMemory;
 use mrp_tables::BillLine;
-use std::alloc::Global;
 
 // The bill lines to an item of a plan, in the order of the bill table.
 #[derive(Clone, Copy)]
@@ -98,8 +95,8 @@ impl<'a> WhereUsed<'a> {
         }
     }
 
-    // Adds the requirements in a week of an item that is no master item, by bill record and then by
-    // order. It is faster if the weeks are asked for in order.
+    // Adds what parents' orders require in a week of an item that is no master item, by bill record and
+    // then by order. It is faster if the weeks are asked for in order.
     pub fn required_in(
         &self,
         week: u16,
@@ -120,32 +117,18 @@ impl<'a> WhereUsed<'a> {
         Ok(())
     }
 
-    // The requirements of an item that is no master item, by bill record and then by order, each with its
-    // week.
-    pub fn required(&self, alloc: Global) -> Result<Vec<Numbered<Requirement>>, NoMemory>
+    // Adds what parents' orders require of an item that is no master item, by bill record and then by
+    // order, each with its week.
+    pub fn add_required(&self, rows: &mut Vec<Numbered<Requirement>>) -> Result<(), NoMemory>
         requires part { is_master self.now.plan.now.inputs self.now.item ≡ false }
         requires own { IsOwn self.now.plan.now.inputs self.now.item }
         requires within { AreWithin (λ requirement. requirement.need.week) 1 (horizon self.now.plan.now.inputs) (all_requirements self.now.plan.now.inputs self.now.item) }
-        ensures { IfOk result (λ rows. rows.items ≡ map of_week (parent_requirements self.now.plan.now.inputs self.now.item)) }
+        ensures { OnOk result (rows.new.items ≡ rows.old.items ++ map of_week (parent_requirements self.now.plan.now.inputs self.now.item)) }
     {
-        let mut rows = Vec::new(alloc);
         for at in 0..self.len() {
             let by = self.line(at);
-            add_all(&mut rows, self.item, &by)?;
+            add_all(rows, self.item, &by)?;
         }
-        Ok(rows)
+        Ok(())
     }
-}
-
-// The requirements of an item that is no master item, week by week.
-pub fn parents_of(alloc: Global, plan: &Plan, item: usize) -> Result<Vec<Requirement>, NoMemory>
-    requires item { item < count plan.now.inputs }
-    requires part { is_master plan.now.inputs item ≡ false }
-    requires own { IsOwn plan.now.inputs item }
-    requires within { AreWithin (λ requirement. requirement.need.week) 1 (horizon plan.now.inputs) (all_requirements plan.now.inputs item) }
-    ensures { IfOk result (λ needs. needs.items ≡ by_weeks (λ requirement. requirement.need.week) (weeks (horizon plan.now.inputs)) (parent_requirements plan.now.inputs item)) }
-{
-    let rows = WhereUsed::of(plan, item).required(alloc)?;
-    let inputs: &Inputs = plan.inputs();
-    in_order(alloc, inputs.weeks(), &rows)
 }

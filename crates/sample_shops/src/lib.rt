@@ -12,5 +12,5 @@ pub use books::{book_of, snapshot_of};
 pub use records::Records;
 pub use shops::{
     bicycles, bicycles_in_lots, bicycles_welded, chain, fork, morning, no_records,
-    product_bookings, products, screws, tower,
+    product_bookings, products, screws, service_wheels, tower,
 };

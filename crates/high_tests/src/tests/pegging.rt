@@ -3,7 +3,9 @@
 use super::{made, same};
 use mrp_item::Plan;
 use mrp_peg::{Need, NeedKind, Peg, Supplied, item_pegs, pegs};
-use sample_shops::{Records, bicycles_in_lots, morning, product_bookings, products};
+use sample_shops::{
+    Records, bicycles_in_lots, morning, product_bookings, products, service_wheels,
+};
 use std::alloc::Global;
 use std::process::Abort;
 
@@ -230,4 +232,54 @@ fn what_starts_is_required_and_what_is_left_is_surplus(rt: HostRuntime) {
     let plan = made(&rt, products().plan(rt.alloc(), product_bookings()));
     has_pegs(&rt, rt.alloc(), &plan, PRODUCT_PEGS);
     drop(plan);
+}
+
+// The pegs of wheels: row 5 of the master schedule needs 7 of them in week 3, besides what bicycles need.
+const WHEEL_PEGS: &[Cells] = &[
+    (
+        2,
+        Some((1, NeedKind::Parent { line: 2, order: 1 })),
+        Supplied::Stock,
+        16,
+    ),
+    (
+        2,
+        Some((2, NeedKind::Parent { line: 2, order: 2 })),
+        Supplied::Stock,
+        14,
+    ),
+    (
+        2,
+        Some((2, NeedKind::Parent { line: 2, order: 2 })),
+        Supplied::Order(1),
+        26,
+    ),
+    (2, Some((3, NeedKind::Service(5))), Supplied::Order(1), 7),
+    (
+        2,
+        Some((4, NeedKind::Parent { line: 2, order: 3 })),
+        Supplied::Order(1),
+        27,
+    ),
+    (
+        2,
+        Some((4, NeedKind::Parent { line: 2, order: 3 })),
+        Supplied::Order(2),
+        13,
+    ),
+    (
+        2,
+        Some((4, NeedKind::Parent { line: 2, order: 4 })),
+        Supplied::Order(2),
+        6,
+    ),
+    (2, None, Supplied::Order(2), 41),
+];
+
+#[test]
+fn service_part_demand_is_a_requirement(rt: HostRuntime) {
+    let plan = made(&rt, service_wheels().plan(rt.alloc(), morning()));
+    let wheels = item_pegs(rt.alloc(), &plan, 2).expect(&rt, "pegs");
+    are_pegs(&rt, wheels.as_slice(), WHEEL_PEGS);
+    drop((plan, wheels));
 }

@@ -4,7 +4,9 @@ use super::pegging::{Cells, are_pegs};
 use super::{made, same};
 use mrp_item::Plan;
 use mrp_peg::{Cause, Need, NeedKind, Supplied, sources, trace};
-use sample_shops::{Asked, Records, bicycles, bicycles_in_lots, morning, no_records};
+use sample_shops::{
+    Asked, Records, bicycles, bicycles_in_lots, morning, no_records, service_wheels,
+};
 use std::alloc::Global;
 use std::process::Abort;
 
@@ -29,6 +31,16 @@ fn booking(week: u16, number: u64) -> Need {
     let kind = NeedKind::Booking(number);
     Need {
         item: 0,
+        week,
+        kind,
+    }
+}
+
+// The requirement of a service row of the wheels.
+fn service(week: u16, row: u64) -> Need {
+    let kind = NeedKind::Service(row);
+    Need {
+        item: 2,
         week,
         kind,
     }
@@ -63,6 +75,16 @@ fn a_booking_is_its_own_cause_and_what_is_not_there_has_none(rt: HostRuntime) {
     goes_back(&rt, rt.alloc(), &plan, &booking(5, 4), &[], &[]);
     goes_back(&rt, rt.alloc(), &plan, &asked(1, 3, 1, 1), &[], &[]);
     goes_back(&rt, rt.alloc(), &plan, &asked(9, 1, 1, 1), &[], &[]);
+    drop(plan);
+}
+
+#[test]
+fn service_part_demand_is_its_own_cause(rt: HostRuntime) {
+    let plan = made(&rt, service_wheels().plan(rt.alloc(), morning()));
+    let itself = &[Cause::Service { item: 2, row: 5 }];
+    goes_back(&rt, rt.alloc(), &plan, &service(3, 5), &[], itself);
+    goes_back(&rt, rt.alloc(), &plan, &service(4, 5), &[], &[]);
+    goes_back(&rt, rt.alloc(), &plan, &service(3, 4), &[], &[]);
     drop(plan);
 }
 

@@ -7,6 +7,7 @@ abbrev pub word_text : Word → List ℕ
 word_text word.Nothing = []
 word_text word.Booking = codes "booking"
 word_text word.Forecast = codes "forecast"
+word_text word.Service = codes "service"
 word_text word.Parent = codes "parent"
 word_text word.Surplus = codes "surplus"
 word_text word.Stock = codes "stock"

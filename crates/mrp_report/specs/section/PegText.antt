@@ -10,11 +10,12 @@ use Rattle.mrp_report.specs.section.Cells.{parent_name}
 use Rattle.mrp_report.specs.page.Rows.{row}
 use Rattle.mrp_report.specs.section.SourceText.{source_name, source_word}
 
--- what pieces are needed for: the word, the number of the booking or of the parent's order, the parent, and
--- the bill line
+-- what pieces are needed for: the word, the number of the booking, of the service row or of the parent's order, the
+-- parent, and the bill line
 abbrev pub kind_cells : Tables → NeedKind → List (List ℕ)
 kind_cells t (kind.Booking number) = codes "booking" ∷ decimal number ∷ [] ∷ [] ∷ []
 kind_cells t kind.Forecast = codes "forecast" ∷ [] ∷ [] ∷ [] ∷ []
+kind_cells t (kind.Service number) = codes "service" ∷ decimal number ∷ [] ∷ [] ∷ []
 kind_cells t (kind.Parent line order) = codes "parent" ∷ decimal order ∷ parent_name t line ∷ decimal line ∷ []
 
 -- a requirement with its week, or surplus

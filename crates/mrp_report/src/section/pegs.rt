@@ -58,6 +58,13 @@ impl<'a> Needed<'a> {
                 parent: Cell::Empty,
                 line: Cell::Empty,
             },
+            NeedKind::Service(number) => Needed {
+                week,
+                need: Word::Service,
+                number: Cell::Number(number),
+                parent: Cell::Empty,
+                line: Cell::Empty,
+            },
             NeedKind::Parent { line, order } => Needed {
                 week,
                 need: Word::Parent,

@@ -10,7 +10,7 @@ use Rattle.mrp_item.specs.Places.{PlannedItem}
 use Rattle.mrp_item.specs.Plan.{outcome_of, plan_in}
 use Rattle.mrp_peg.specs.declared.matching.Requirement.{Requirement}
 use Rattle.mrp_peg.specs.Weekly.{AreWithin, by_weeks}
-use Rattle.mrp_peg.specs.Rows.{all_requirements, beyond, booking_requirement, independent_requirements, forecast_requirements, parent_requirements}
+use Rattle.mrp_peg.specs.Rows.{all_requirements, beyond, booking_requirement, independent_requirements, forecast_requirements, part_requirements}
 use Rattle.mrp_peg.proofs.Listed.{bookings_within}
 use Rattle.mrp_peg.proofs.Own.{gross-length}
 use Rattle.mrp_peg.proofs.pegging.listed_needs.Goals as goal
@@ -31,8 +31,8 @@ demand_of-requires c =
       within = λ k d h. let r = all k d h in (r.0, omega (arith, r.1, size, same));
     }
 
-pub parents_of-requires : goal.parents_of-requires
-parents_of-requires c =
+pub part_needs-requires : goal.part_needs-requires
+part_needs-requires c =
     let e = c.deref-inputs.ensures ∙ c.inputs.ensures.inputs in
     record {
       item = c.requires.item;
@@ -56,7 +56,7 @@ returns-then-is_master_item-clause-needs c =
     ∙ ap (λ g. F (booking_dues s.standing i) g (length c.as_slice.result.now) c.weeks.result) gross
     ∙ ap (λ n. F (booking_dues s.standing i) (plan_in (outcome_of s i)).gross n c.weeks.result) size
     ∙ ap (λ m. F (booking_dues s.standing i) (plan_in (outcome_of s i)).gross (horizon s) m) horizon_is
-    ∙ sym (ap (λ b. cond b (independent_requirements s i) (parent_requirements s i)) master) in
+    ∙ sym (ap (λ b. cond b (independent_requirements s i) (part_requirements s i)) master) in
     let needs : c.in_ok-needs.needs.items ≡ all_requirements s i = c.in_ok-needs.ensures ∙ whole in
     let W : List Requirement → Type 0 = λ l. AreWithin (λ (w : Requirement). w.need.week) 1 (horizon s) l in
     c.in_ok-sort_needs.ensures 1 (horizon s) (subst W (sym needs) c.requires.within) ∙ ap (by_weeks (λ (w : Requirement). w.need.week) (weeks (horizon s))) needs
@@ -67,8 +67,8 @@ returns-clause-needs c =
     let i = c.args.item in
     let e : c.deref-inputs.result.now ≡ s = c.deref-inputs.ensures ∙ c.inputs.ensures.inputs in
     let part : is_master s i ≡ false = sym (ap (λ (y : Inputs). is_master y i) e) ∙ sym c.is_master_item.ensures.class ∙ c.if-is_master_item.false in
-    let Q : List Requirement → Type 0 = λ l. IfOk c.parents_of.result (λ needs. needs.items ≡ l) in
-    subst Q (ap (by_weeks (λ (w : Requirement). w.need.week) (weeks (horizon s))) (sym (ap (λ b. cond b (independent_requirements s i) (parent_requirements s i)) part))) c.parents_of.ensures
+    let Q : List Requirement → Type 0 = λ l. IfOk c.part_needs.result (λ needs. needs.items ≡ l) in
+    subst Q (ap (by_weeks (λ (w : Requirement). w.need.week) (weeks (horizon s))) (sym (ap (λ b. cond b (independent_requirements s i) (part_requirements s i)) part))) c.part_needs.ensures
 
 pub returns-then-is_master_item-clause-sized : goal.returns-then-is_master_item-clause-sized
 returns-then-is_master_item-clause-sized c =

@@ -8,7 +8,7 @@ use Rattle.mrp_item.specs.Plan.{HasParents, IsRanked}
 use Rattle.mrp_peg.specs.Matching.{amounts_required}
 use Rattle.mrp_peg.proofs.Covered.{covered_item}
 use Rattle.mrp_peg.proofs.Dropped.{always_ok}
-use Rattle.mrp_peg.proofs.Listed.{requirements_are, requirements_within}
+use Rattle.mrp_peg.proofs.Listed.{requirements_are, requirements_within, services_within}
 use Rattle.mrp_peg.proofs.Own.{own-of_all}
 use Rattle.mrp_peg.proofs.pegging.needs_of.Goals as goal
 
@@ -29,6 +29,7 @@ listed_needs-requires-clause-within c =
     let R : Inputs → Type 0 = λ x. IsRanked x code in
     let B : Inputs → Type 0 = λ x. AreBooked (supply_of x.tables) x.standing in
     requirements_within s c.args.item code (subst R e c.shop-ranked.ensures.ranked) (subst B e c.snapshot-booked.ensures.booked)
+    (services_within s c.deref-inputs.result.now c.args.item c.services-services.result.now e c.services-services.ensures.dues c.services-services.ensures.within)
 
 pub returns-clause-needs : goal.returns-clause-needs
 returns-clause-needs c =

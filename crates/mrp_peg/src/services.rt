@@ -1,0 +1,56 @@
+//! What the service rows of the master schedule require of a part.
+
+ghost use Rattle.std.specs.Prelude.{◌≡◌, ◌==◌, ◌++◌, filter, map, OnOk};
+ghost use Rattle.mrp_peg.specs.Rows.{service_requirement};
+ghost use Rattle.mrp_peg.specs.Weekly.{of_week};
+
+use crate::matching::Requirement;
+use crate::ordering::with_week;
+use crate::peg::{Need, NeedKind};
+use mrp_bill::Numbered;
+use mrp_item::Due;
+use mrp_qty::NoMemory;
+
+// The requirement of a service row.
+fn requirement_of(item: usize, service: &Due) -> Requirement
+    ensures { result ≡ service_requirement item service.now }
+{
+    let need = Need {
+        item,
+        week: service.week,
+        kind: NeedKind::Service(service.number),
+    };
+    let quantity = service.quantity;
+    Requirement { need, quantity }
+}
+
+// Adds the requirements of the service rows of a week.
+pub fn add_services_in(
+    needs: &mut Vec<Requirement>,
+    item: usize,
+    week: u16,
+    services: &[Due],
+) -> Result<(), NoMemory>
+    ensures { OnOk result (needs.new.items ≡ needs.old.items ++ filter (λ requirement. requirement.need.week == week) (map (service_requirement item) services.now)) }
+{
+    for service in services {
+        if service.week == week {
+            needs.push(requirement_of(item, service))?;
+        }
+    }
+    Ok(())
+}
+
+// Adds the requirements of all service rows, each with its week.
+pub fn add_services(
+    rows: &mut Vec<Numbered<Requirement>>,
+    item: usize,
+    services: &[Due],
+) -> Result<(), NoMemory>
+    ensures { OnOk result (rows.new.items ≡ rows.old.items ++ map of_week (map (service_requirement item) services.now)) }
+{
+    for service in services {
+        rows.push(with_week(requirement_of(item, service)))?;
+    }
+    Ok(())
+}
