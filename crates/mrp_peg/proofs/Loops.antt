@@ -1,10 +1,11 @@
 -- One more step of the loops that list requirements and supplies.
-use Rattle.std.proofs.Common.{◌≡◌, ◌∙◌, ℕ, zero, suc, ◌+◌, ◌-◌, ◌<◌, List, [], ◌∷◌, ◌++◌, cond, length, take, set, get_or, refl, sym, ap, arith, append_assoc}
-use Rattle.std.specs.Prelude.{flat_map}
+use Rattle.std.proofs.Common.{◌≡◌, ◌∙◌, ℕ, zero, suc, ◌+◌, ◌-◌, ◌<◌, Bool, List, [], ◌∷◌, ◌++◌, cond, length, map, take, set, get_or, refl, sym, ap, arith, append_assoc}
+use Rattle.std.specs.Prelude.{filter, flat_map}
 use Rattle.std.specs.Int.{IsInRange}
 use Rattle.std.specs.List.{enumerate_from}
 use Rattle.std.proofs.lemmas.Bool.{eq-eqb, ne_eqb}
-use Rattle.std.proofs.lemmas.List.{append-nil, take_more}
+use Rattle.std.proofs.lemmas.List.{append-nil, map-append, take_more}
+use Rattle.std.proofs.lemmas.List.Elements.{filter-append}
 use Rattle.std.proofs.lemmas.List.Concat.{flat_map-append}
 use Rattle.mrp_phase.specs.Weeks.{in_week, row, weeks, with_week}
 use Rattle.mrp_phase.proofs.WeekRows.{flat_map-weeks_next, in_week_at, in_week_next, in_week_row, length-row, row_is, with_week-row, with_week_at}
@@ -35,6 +36,17 @@ one_line f old places k so_far now h is told =
     ∙ ap (λ l. old ++ (flat_map f (take k places) ++ l)) (sym (append-nil (f (get_or places k 0))))
     ∙ ap (λ l. old ++ l) (sym (flat_map-append f (take k places) (get_or places k 0 ∷ [])))
     ∙ ap (λ l. old ++ flat_map f l) (sym (take_more places k 0 h))
+
+-- what is made of one more element, if it is kept
+pub one_kept : {X Y : Type 0} (f : X → Y) (keep : Y → Bool) (old so_far now : List Y) (xs : List X) (k : ℕ) (x : X) → k < length xs → x ≡ get_or xs k x
+    → so_far ≡ old ++ filter keep (map f (take k xs)) → now ≡ so_far ++ cond (keep (f x)) (f x ∷ []) [] → now ≡ old ++ filter keep (map f (take (k + 1) xs))
+one_kept f keep old so_far now xs k x h at is told =
+    told ∙ ap (λ l. l ++ cond (keep (f x)) (f x ∷ []) []) is
+    ∙ append_assoc old (filter keep (map f (take k xs))) (cond (keep (f x)) (f x ∷ []) [])
+    ∙ ap (λ l. old ++ l) (sym (filter-append keep (map f (take k xs)) (f x ∷ [])))
+    ∙ ap (λ l. old ++ filter keep l) (sym (map-append f (take k xs) (x ∷ [])))
+    ∙ ap (λ y. old ++ filter keep (map f (take k xs ++ y ∷ []))) at
+    ∙ ap (λ l. old ++ filter keep (map f l)) (sym (take_more xs k x h))
 
 -- the rows of one more week
 pub pushed_week : {Y : Type 0} (f : ℕ → List Y) (old so_far now : List Y) (k : ℕ) → so_far ≡ old ++ flat_map f (weeks k) → now ≡ so_far ++ f (k + 1) → now ≡ old ++ flat_map f (weeks (k + 1))

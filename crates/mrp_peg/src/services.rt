@@ -1,6 +1,6 @@
 //! What the service rows of the master schedule require of a part.
 
-ghost use Rattle.std.specs.Prelude.{◌≡◌, ◌==◌, ◌++◌, filter, map, OnOk};
+ghost use Rattle.std.specs.Prelude.{◌≡◌, ◌==◌, ◌∷◌, ◌++◌, [], filter, if◌then◌else◌, map, OnOk};
 ghost use Rattle.mrp_peg.specs.Rows.{service_requirement};
 ghost use Rattle.mrp_peg.specs.Weekly.{of_week};
 
@@ -24,6 +24,21 @@ fn requirement_of(item: usize, service: &Due) -> Requirement
     Requirement { need, quantity }
 }
 
+// Adds the requirement of a service row, if it is of the week.
+fn add_service_in(
+    needs: &mut Vec<Requirement>,
+    item: usize,
+    week: u16,
+    service: &Due,
+) -> Result<(), NoMemory>
+    ensures { OnOk result (needs.new.items ≡ needs.old.items ++ (if service.now.week == week then service_requirement item service.now ∷ [] else [])) }
+{
+    if service.week == week {
+        needs.push(requirement_of(item, service))?;
+    }
+    Ok(())
+}
+
 // Adds the requirements of the service rows of a week.
 pub fn add_services_in(
     needs: &mut Vec<Requirement>,
@@ -34,9 +49,7 @@ pub fn add_services_in(
     ensures { OnOk result (needs.new.items ≡ needs.old.items ++ filter (λ requirement. requirement.need.week == week) (map (service_requirement item) services.now)) }
 {
     for service in services {
-        if service.week == week {
-            needs.push(requirement_of(item, service))?;
-        }
+        add_service_in(needs, item, week, service)?;
     }
     Ok(())
 }
