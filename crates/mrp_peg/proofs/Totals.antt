@@ -63,6 +63,12 @@ parents_total s i w =
     ∙ sym (sum_by-map (line_demand (outcome_of s) w) (line_at bills) (lines_of bills i))
     ∙ ap (sum_by (line_demand (outcome_of s) w)) (lines-at bills i)
 
+services_total : (s : Inputs) (i w : ℕ) → total (service_needs s i w) ≡ service s i w
+services_total s i w = sum_by-map units (λ (r : MasterRow). needed i w (Service r.number) r.quantity) (service_rows s i w)
+
+parts_total : (s : Inputs) (i w : ℕ) → total (part_needs s i w) ≡ part_gross s i (outcome_of s) w
+parts_total s i w = sum_by-append units (service_needs s i w) (parent_needs s i w) ∙ omega (arith, services_total s i w, parents_total s i w)
+
 forecast_total : (s : Inputs) (i w : ℕ) → total (forecast_needs s i w) ≡ forecast s i w - booked s i w
 forecast_total s i w = by (nat_lt (booked s i w) (forecast s i w)) refl
   where
@@ -77,9 +83,7 @@ week_total s i w = by (is_master s i)
     by true =
         let bookings : total (booking_needs s i w) ≡ booked s i w = sum_by-map units (λ (b : Booking). needed i w (for_booking b.number) b.line.quantity) (bookings_due s i w) in
         sum_by-append units (booking_needs s i w) (forecast_needs s i w) ∙ omega (arith, bookings, forecast_total s i w)
-    by false =
-        let services : total (service_needs s i w) ≡ service s i w = sum_by-map units (λ (r : MasterRow). needed i w (Service r.number) r.quantity) (service_rows s i w) in
-        sum_by-append units (service_needs s i w) (parent_needs s i w) ∙ omega (arith, services, parents_total s i w)
+    by false = parts_total s i w
 
 -- requirements are gross requirements
 pub requirements_total : (s : Inputs) (i : ℕ) → total (requirements s i) ≡ sum (own_gross s i)
