@@ -8,7 +8,7 @@ pub enum Advice {
     /// Release the order: its release is due in week 1.
     Release,
     /// The order should have been released so much before week 1, in the unit of lead times: weeks, or shop
-    /// days in version 2.
+    /// days from version 2 on.
     PastDue(u16),
     /// Reschedule in: the supply is needed earlier, in this week (APICS Dictionary: expedite).
     Earlier(u16),

@@ -85,7 +85,11 @@ pub(crate) fn task_words() -> &'static [Part]
         Part::Cell(2),
         Part::If(3, b"IN", b" to week "),
         Part::If(3, b"OUT", b" to week "),
-        Part::If(3, b"PAST-DUE", b", weeks late (shop days from version 2 on): "),
+        Part::If(
+            3,
+            b"PAST-DUE",
+            b", weeks late (shop days from version 2 on): ",
+        ),
         Part::Cell(4),
         Part::Markup(b"</td></tr>\n"),
     ]
