@@ -1,5 +1,5 @@
 -- What holds of a record's row that was read.
-use Rattle.std.proofs.Common.{◌≡◌, ◌≤◌, ℕ, Bool, true, false, List, Result, Ok, refl, subst, arith}
+use Rattle.std.proofs.Common.{◌≡◌, ◌≤◌, ℕ, Bool, true, false, List, Result, Ok, refl, sym, subst, ap, arith}
 use Rattle.std.specs.Prelude.{if◌then◌else◌, nat_lt, not, ◌==◌}
 use Rattle.std.specs.Int.{IsInRange}
 use Rattle.std.specs.List.{list_any}
@@ -187,6 +187,20 @@ is_master_row version calendar items r row e =
     not-not : (b : Bool) → not b ≡ false → b ≡ true
     not-not true h = refl
     not-not false h = absurd cc
+
+-- a row of the master schedule has its record's number
+pub master_row-number : (version : Version) (calendar : ShopCalendar) (items : List Item) (r : Cells) (row : MasterRow) → master_row version calendar items r ≡ Ok row → row.number ≡ r.number
+unfolding master_row
+master_row-number version calendar items r row e =
+    let name = whole_step (blame r (name_of (cell_at r 0))) _ row e in
+    let kind = whole_step (blame r (word_of (kind_words version) (cell_at r 1))) _ row name.2 in
+    let date = whole_step (blame r (date_cell (cell_at r 2))) _ row kind.2 in
+    let quantity = whole_step (blame r (number_cell 0 limits.MOST_PIECES (cell_at r 3))) _ row date.2 in
+    let item = whole_step (blame r (known items name.0)) _ row quantity.2 in
+    let week = whole_step (blame r (or_code faults.DATE_OUTSIDE (week_of calendar date.0))) _ row item.2 in
+    let made : MasterRow = record { number = r.number; item = item.0; kind = kind_at kind.0; week = week.0; quantity = quantity.0 } in
+    let last = unless (not (has_kind (item_at items item.0).class (kind_at kind.0))) (fault_at r (class_fault (kind_at kind.0))) made row week.2 in
+    sym (ap (λ (x : MasterRow). x.number) last.1)
 
 -- a master item and a week
 pub record IsSpot (calendar : ShopCalendar) (items : List Item) (spot : ℕ × ℕ) : Type 0 where

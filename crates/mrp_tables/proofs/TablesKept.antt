@@ -28,7 +28,7 @@ use Rattle.mrp_tables.specs.declared.rows.Receipt.{Receipt}
 use Rattle.mrp_tables.specs.declared.rows.StockRow.{StockRow}
 use Rattle.mrp_tables.specs.Bills.{bill_row}
 use Rattle.mrp_tables.specs.Centres.{centre_cells, centre_names, centre_row}
-use Rattle.mrp_tables.specs.Facts.{AllDiffer, IsBillLine, IsCentre, IsItem, IsMasterRow, IsMasterRowIfAny, IsOperation, IsReceipt, IsReceiptIfAny, IsScriptRow, IsStockRow, NumbersRise}
+use Rattle.mrp_tables.specs.Facts.{AllDiffer, IsBillLine, IsCentre, IsItem, IsMasterRow, IsMasterRowIfAny, IsOperation, IsReceipt, IsReceiptIfAny, IsScriptRow, IsStockRow, NumbersRise, RowsRise}
 use Rattle.mrp_tables.specs.Items.{is_master, item_cells, item_row, names_of}
 use Rattle.mrp_tables.specs.Laws.{HasOneReading, IsReportedAtItsTable}
 use Rattle.mrp_tables.specs.Master.{master_row, that_count}
@@ -46,7 +46,7 @@ use Rattle.mrp_tables.proofs.Counting.{counted}
 use Rattle.mrp_tables.proofs.Distinct.{grown_field, same_operation_equiv, same_order_equiv}
 use Rattle.mrp_tables.proofs.Kept.{kept, kept-count, kept_orders, kept_receipts, kept_receipts-count}
 use Rattle.mrp_tables.proofs.RecordsRead.{is_bill_line, is_centre, is_item, item_lead, is_master_row, is_placed, is_routed, is_script_row, is_stock_row}
-use Rattle.mrp_tables.proofs.Rising.{receipts_rise}
+use Rattle.mrp_tables.proofs.Rising.{master_rises, receipts_rise}
 use Rattle.mrp_tables.proofs.Stocked.{more_items}
 use Rattle.mrp_tables.proofs.TellingTables.{reported_at_its_table}
 
@@ -227,6 +227,7 @@ receipts_kept texts calendar items rows is_calendar is_items e =
 -- the rows of the master schedule that have pieces
 record AreMasterKept (calendar : ShopCalendar) (items : List Item) (rows : List MasterRow) : Type 0 where
   within : All (IsMasterRow calendar.weeks items) rows
+  numbered : RowsRise rows
   count : length rows ≤ limits.MOST_ROWS
 
 master_kept : (texts : List (List ℕ)) (version : Version) (calendar : ShopCalendar) (items : List Item) (rows : List MasterRow)
@@ -241,6 +242,7 @@ master_kept texts version calendar items rows is_version is_calendar is_items e 
     let fewer = kept-count all.0 in
     subst (AreMasterKept calendar items) (same_value (that_count all.0) rows (Ok (that_count all.0)) refl all.2) (record {
       within = kept calendar.weeks items all.0 are;
+      numbered = master_rises version calendar items text all.0 read;
       count = omega (arith, few, fewer);
     })
 
@@ -282,6 +284,7 @@ are_tables texts tables e =
       routed = operations.differ;
       operation_count = counted (reads_of t.Routings (operation_row items tables.centres)) (layout_of t.Routings) (text_in texts t.Routings) tables.routings limits.MOST_OPERATIONS (omega arith) (λ before. refl) routed;
       master = master.within;
+      scheduled = master.numbered;
       master_count = master.count;
       script = each_kept (IsScriptRow calendar.weeks items) (reads_of t.Script (by_itself (script_row calendar items))) (λ before. is_script_row calendar items) (layout_of t.Script) (text_in texts t.Script) tables.script calls;
       script_count = counted (reads_of t.Script (by_itself (script_row calendar items))) (layout_of t.Script) (text_in texts t.Script) tables.script limits.MOST_ROWS (omega arith) (λ before. refl) calls;

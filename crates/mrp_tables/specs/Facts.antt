@@ -61,6 +61,10 @@ pub record IsOpenOrder (items : List Item) (order : OpenOrder) : Type 0 where
 abbrev pub NumbersRise : List Receipt → Type 0
 NumbersRise rows = AllPairs (λ a b. a.number < b.number) rows
 
+-- the numbers of the master schedule's records rise from row to row
+abbrev pub RowsRise : List MasterRow → Type 0
+RowsRise rows = AllPairs (λ a b. a.number < b.number) rows
+
 -- an open receipt of a part, with its order's name, due in a week of the horizon, of at least one piece
 pub record IsReceipt (weeks : ℕ) (items : List Item) (row : Receipt) : Type 0 where
   pub item : row.item < length items
