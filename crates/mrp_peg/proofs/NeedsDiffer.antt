@@ -6,6 +6,7 @@ use Rattle.std.proofs.lemmas.List.Elements.{All-nil, All-cons, All-append, All-m
 use Rattle.std.proofs.lemmas.List.Kept.{AllPairs-cons, AllPairs-filter}
 use Rattle.mrp_bill.specs.Bill.{line_at, lines_of}
 use Rattle.mrp_book.specs.declared.booking.Booking.{Booking}
+use Rattle.mrp_tables.specs.Facts.{RowsRise}
 use Rattle.mrp_tables.specs.Master.{is_service}
 use Rattle.mrp_tables.specs.declared.rows.MasterRow.{MasterRow}
 use Rattle.mrp_phase.specs.Weeks.{weeks}
@@ -97,7 +98,7 @@ abbrev service_need : ℕ → ℕ → MasterRow → Amount Need
 service_need i w r = needed i w (Service r.number) r.quantity
 
 -- the service rows of a week
-service-pairs : (s : Inputs) (i w : ℕ) → AllPairs (λ a b. a.number < b.number) s.tables.master → AllPairs Differ (service_needs s i w)
+service-pairs : (s : Inputs) (i w : ℕ) → RowsRise s.tables.master → AllPairs Differ (service_needs s i w)
 service-pairs s i w rising =
     map-pairs (λ (a b : MasterRow). a.number < b.number) Differ (service_need i w)
     (λ a b low. kinds-differ (service_need i w a) (service_need i w b) (services-differ a.number b.number low))
@@ -115,7 +116,7 @@ services-apart s i w =
     All-map (Differ x) need orders (λ b e g. kinds-differ x (need (get_or orders b e)) (λ same. cc))))
 
 -- the needs of a week
-week-pairs : (s : Inputs) (i w : ℕ) → AllPairs (λ a b. a.number < b.number) s.standing → AllPairs (λ a b. a.number < b.number) s.tables.master → AllPairs Differ (needs_in s i w)
+week-pairs : (s : Inputs) (i w : ℕ) → AllPairs (λ a b. a.number < b.number) s.standing → RowsRise s.tables.master → AllPairs Differ (needs_in s i w)
 week-pairs s i w rising numbered = by (is_master s i)
   where
     by : (b : Bool) → AllPairs Differ (cond b (booking_needs s i w ++ forecast_needs s i w) (part_needs s i w))
@@ -156,6 +157,6 @@ weeks-apart s i v w low = λ a d h b e g.
     λ same. absurd (omega (arith, one, other, low, ap (λ n. n.week) same))
 
 -- all needs of an item
-pub needs-differ : (s : Inputs) (i : ℕ) → AllPairs (λ a b. a.number < b.number) s.standing → AllPairs (λ a b. a.number < b.number) s.tables.master → AllPairs (λ a b. a.of ≢ b.of) (requirements s i)
+pub needs-differ : (s : Inputs) (i : ℕ) → AllPairs (λ a b. a.number < b.number) s.standing → RowsRise s.tables.master → AllPairs (λ a b. a.of ≢ b.of) (requirements s i)
 unfolding requirements
 needs-differ s i rising numbered = flat-pairs Differ (needs_in s i) (λ v w. v < w) (weeks-apart s i) (weeks (horizon s)) (λ w. week-pairs s i w rising numbered) (range-pairs 1 (horizon s))

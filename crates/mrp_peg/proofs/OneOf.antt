@@ -1,7 +1,7 @@
 -- The pegs of one requirement add up to it, and those of one supply.
 use Rattle.std.proofs.Common.{◌≡◌, ◌≢◌, ◌∙◌, ◌⊎◌, ℕ, suc, ◌<◌, ◌≤◌, Bool, true, false, cond, List, [], ◌∷◌, inl, inr, refl, sym, ap, arith}
 use Rattle.std.specs.Prelude.{All, AllPairs, Contains, filter, sum_by}
-use Rattle.mrp_tables.specs.Facts.{NumbersRise}
+use Rattle.mrp_tables.specs.Facts.{NumbersRise, RowsRise}
 use Rattle.mrp_item.specs.declared.supplies.Supplied.{Supplied}
 use Rattle.mrp_item.specs.Inputs.{Inputs}
 use Rattle.mrp_peg.specs.declared.peg.Need.{Need}
@@ -45,6 +45,6 @@ pub one-supply : (s : Inputs) (i : ℕ) (test : Supplied → Bool) (a : Amount S
     → sum_by (λ g. g.quantity) (filter (λ g. test g.supply) (pegs_of s i)) ≡ a.quantity
 one-supply s i test a rising inside is = to-supplies s i test ∙ one-sum test (supplies s i) a (supplies-differ s i rising) inside is
 
-pub one-requirement : (s : Inputs) (i : ℕ) (test : Need → Bool) (a : Amount Need) → AllPairs (λ a b. a.number < b.number) s.standing → AllPairs (λ a b. a.number < b.number) s.tables.master → total (requirements s i) ≤ total (supplies s i)
+pub one-requirement : (s : Inputs) (i : ℕ) (test : Need → Bool) (a : Amount Need) → AllPairs (λ a b. a.number < b.number) s.standing → RowsRise s.tables.master → total (requirements s i) ≤ total (supplies s i)
     → Contains (requirements s i) a → IsTestOf test a.of → sum_by (λ g. g.quantity) (filter (λ g. is_for test g.need) (pegs_of s i)) ≡ a.quantity
 one-requirement s i test a rising numbered covered inside is = to-requirements s i covered test ∙ one-sum test (requirements s i) a (needs-differ s i rising numbered) inside is

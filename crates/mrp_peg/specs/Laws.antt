@@ -1,7 +1,7 @@
 -- What holds of requirements and supplies that are matched piece by piece, and of the pegs of an item.
 use Rattle.std.specs.Prelude.{ℕ, ◌≡◌, ◌≢◌, ◌≤◌, ◌<◌, ◌-◌, ◌&&◌, Bool, true, min, List, AllPairs, Contains, filter, sum_by, count_by}
 use Rattle.std.specs.List.{range_with_len}
-use Rattle.mrp_tables.specs.Facts.{NumbersRise}
+use Rattle.mrp_tables.specs.Facts.{NumbersRise, RowsRise}
 use Rattle.mrp_item.specs.Inputs.{Inputs, item_at}
 use Rattle.mrp_item.specs.Limits.{IsSized}
 use Rattle.mrp_item.specs.Plan.{IsRanked, ItemPlan, Planned, outcome_of}
@@ -48,7 +48,7 @@ RequirementsAreCovered = (s : Inputs) (i : ℕ) (code : ℕ → ℕ) (plan : Ite
 
 -- if the numbers of the bookings and of the master schedule's rows rise, the needs of an item differ
 abbrev pub NeedsDiffer : Type 0
-NeedsDiffer = (s : Inputs) (i : ℕ) → AllPairs (λ a b. a.number < b.number) s.standing → AllPairs (λ a b. a.number < b.number) s.tables.master
+NeedsDiffer = (s : Inputs) (i : ℕ) → AllPairs (λ a b. a.number < b.number) s.standing → RowsRise s.tables.master
     → AllPairs (λ a b. a.of ≢ b.of) (requirements s i)
 
 -- if the numbers of the open receipts rise, the supplies of an item are of different sources
@@ -61,7 +61,7 @@ IsTestOf {A} test x = (test x ≡ true) × ((y : A) → test y ≡ true → y �
 
 -- so the pegs of one requirement that supplies cover add up to it
 abbrev pub NeedIsPegged : Type 0
-NeedIsPegged = (s : Inputs) (i : ℕ) (test : Need → Bool) (a : Amount Need) → AllPairs (λ a b. a.number < b.number) s.standing → AllPairs (λ a b. a.number < b.number) s.tables.master → total (requirements s i) ≤ total (supplies s i)
+NeedIsPegged = (s : Inputs) (i : ℕ) (test : Need → Bool) (a : Amount Need) → AllPairs (λ a b. a.number < b.number) s.standing → RowsRise s.tables.master → total (requirements s i) ≤ total (supplies s i)
     → Contains (requirements s i) a → IsTestOf test a.of → sum_by (λ g. g.quantity) (filter (λ g. is_for test g.need) (pegs_of s i)) ≡ a.quantity
 
 -- and the pegs of one supply, with its surplus, add up to that supply
