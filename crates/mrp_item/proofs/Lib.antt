@@ -6,6 +6,7 @@ pub mod OrderWeeks
 pub mod DependentDemand
 pub mod Parents
 pub mod StartedRows
+pub mod PlannedStock
 pub mod PlannedRows
 pub mod ByKeys
 pub mod SupplyOrder
