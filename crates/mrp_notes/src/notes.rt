@@ -18,11 +18,11 @@ pub fn item_messages(alloc: Global, planned: &Planned) -> Result<Vec<Message>, N
     ensures { IfOk result (λ messages. messages.items ≡ messages_of planned.now.inputs planned.now.item planned.now.plan) }
 {
     let horizon = planned.inputs().weeks();
-    let stock = planned.stock();
+    let stock = planned.stock(alloc)?;
     let supplies = planned.supplies(alloc)?;
     let (_, to_come) = supplies.as_slice().split_at(1);
     let gross = planned.gross().as_slice();
-    told(alloc, planned.item(), horizon, gross, stock, to_come)
+    told(alloc, planned.item(), horizon, gross, &stock, to_come)
 }
 
 /// The messages of a plan: those of each item, in table order.

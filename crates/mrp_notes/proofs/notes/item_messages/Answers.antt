@@ -24,7 +24,7 @@ told-requires-clause-within c =
     let planned = c.args.planned.now in
     let rows = planned_rows planned.inputs planned.item planned.plan c.gross.ensures.outcome in
     let gross : c.as_slice-gross.result.now ≡ planned.plan.gross = c.as_slice-gross.ensures ∙ c.gross.ensures.gross in
-    omega (arith, ap sum gross, ap (λ (stock : Stock). stock.safety) c.stock-stock.ensures, rows.within)
+    omega (arith, ap sum gross, ap (λ (stock : Stock). stock.safety) c.in_ok-stock.ensures, rows.within)
 
 pub split_at-requires : goal.split_at-requires
 split_at-requires c =
@@ -45,7 +45,7 @@ returns c =
     c.split_at.ensures.back ∙ ap (drop 1) (c.as_slice.ensures.value ∙ c.in_ok-supplies.ensures) ∙ behind (stock_supply (on_hand s i)) (supplies_to_come s i planned.plan.orders) in
     let gross : c.as_slice-gross.result.now ≡ planned.plan.gross = c.as_slice-gross.ensures ∙ c.gross.ensures.gross in
     let item : c.item.result ≡ i = c.item.ensures.item in
-    let stock : c.stock-stock.result.now ≡ stock_of s i = c.stock-stock.ensures in
+    let stock : c.in_ok-stock.stock ≡ stock_of s i = c.in_ok-stock.ensures in
     let Q : List Message → Type 0 = λ l. IfOk c.told.result (λ messages. messages.items ≡ l) in
-    let whole : told c.item.result c.as_slice-gross.result.now c.stock-stock.result.now c.split_at.result.1.now ≡ messages_of s i planned.plan = λ k. told (item k) (gross k) (stock k) (to_come k) in
+    let whole : told c.item.result c.as_slice-gross.result.now c.in_ok-stock.stock c.split_at.result.1.now ≡ messages_of s i planned.plan = λ k. told (item k) (gross k) (stock k) (to_come k) in
     subst Q whole c.told.ensures
