@@ -139,7 +139,7 @@ impl Section {
             Section::Promises => {
                 item_promises(alloc, page, names, readings.supply, plan.item(place))
             }
-            Section::Plan => item_rows(page, names, plan.item(place)),
+            Section::Plan => item_rows(alloc, page, names, plan.item(place)),
             Section::Orders => ordered_rows(page, names, plan.item(place)),
             Section::Pegs => pegged_rows(alloc, page, plan, names, place),
             Section::Messages => told_rows(alloc, page, names, plan.item(place)),

@@ -10,6 +10,7 @@ use crate::section::shop_names::ShopNames;
 use mrp_item::Planned;
 use mrp_qty::NoMemory;
 use mrp_tables::Item;
+use std::alloc::Global;
 
 // A planned item's record in the tables.
 pub(crate) fn entry_of(planned: &Planned) -> Item
@@ -20,6 +21,7 @@ pub(crate) fn entry_of(planned: &Planned) -> Item
 
 // Adds an item's rows of the section `plan`.
 pub(crate) fn item_rows(
+    alloc: Global,
     page: &mut Page,
     names: &ShopNames<'_>,
     planned: &Planned,
@@ -28,7 +30,7 @@ pub(crate) fn item_rows(
     ensures { OnOk result (page.new ≡ page.old ++ item_text planned.now.inputs planned.now.item planned.now.plan) }
 {
     let entry = entry_of(planned);
-    let stock = planned.stock();
+    let stock = planned.stock(alloc)?;
     let sheet = Sheet {
         weeks: planned.inputs().shop().tables().calendar().weeks(),
         is_master: entry.class.is_master(),

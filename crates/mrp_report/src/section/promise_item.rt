@@ -56,7 +56,7 @@ pub(crate) fn item_promises(
     }
     let weeks = supply.weeks();
     let row = promises_of(alloc, supply, planned.inputs(), planned.item())?;
-    let stock = planned.stock();
+    let stock = planned.stock(alloc)?;
     let sheet = PromiseSheet {
         weeks,
         firm: stock.scheduled.as_slice(),

@@ -45,7 +45,7 @@ write-requires c =
     let inputs : c.deref.result.now ≡ s = c.deref.ensures ∙ c.inputs.ensures.inputs in
     is-promise-sheet _ s i (record {
       weeks_are = c.weeks-weeks.ensures.value ∙ ap (λ (x : Supply). x.weeks) c.requires.supply;
-      firm_is = c.as_slice.ensures ∙ ap (λ (k : Stock). k.scheduled) c.stock-stock.ensures;
+      firm_is = c.as_slice.ensures ∙ ap (λ (k : Stock). k.scheduled) c.in_ok-stock.ensures;
       row_is = c.in_ok-row.ensures.row ∙ ap (λ (x : Inputs). promises_of x c.item.result) inputs ∙ ap (promises_of s) c.item.ensures.item;
       within = omega (arith, ap count inputs, c.item.ensures.within, c.item.ensures.item);
       master = sym class ∙ c.if-not-is_master.false;
@@ -67,7 +67,7 @@ returns c =
     } in
     let of : IsPromiseSheetOf sheet s i = record {
       weeks_are = c.weeks-weeks.ensures.value ∙ ap (λ (x : Supply). x.weeks) c.requires.supply;
-      firm_is = c.as_slice.ensures ∙ ap (λ (k : Stock). k.scheduled) c.stock-stock.ensures;
+      firm_is = c.as_slice.ensures ∙ ap (λ (k : Stock). k.scheduled) c.in_ok-stock.ensures;
       row_is = c.in_ok-row.ensures.row ∙ ap (λ (x : Inputs). promises_of x c.item.result) inputs ∙ ap (promises_of s) c.item.ensures.item;
       within = omega (arith, ap count inputs, c.item.ensures.within, c.item.ensures.item);
       master = sym class ∙ c.if-not-is_master.false;
