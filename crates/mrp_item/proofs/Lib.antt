@@ -19,6 +19,7 @@ pub mod PlannedItems
 pub mod Fuel
 pub mod ShopLemmas
 pub mod Rules
+pub mod SinglePieces
 pub mod Steps
 pub mod Outcomes
 pub mod OrderLaws

@@ -28,19 +28,28 @@ pub struct Records<'a> {
     pub bills: &'a str,
     /// The operations of the routings.
     pub routings: &'a str,
-    /// The firm rows and forecasts of the master schedule.
+    /// The firm rows, forecasts and service rows of the master schedule.
     pub master: &'a str,
     /// The calls of the desks.
     pub script: &'a str,
 }
 
 impl Records<'_> {
+    // The columns of the items: from version 3 on with a minimum order quantity and an order multiple.
+    fn items_header(&self) -> &'static str {
+        if self.calendar.starts_with("version,3\n") {
+            "[items]\nitem,class,lead,scrap,lot,size,safety,least,step\n"
+        } else {
+            "[items]\nitem,class,lead,scrap,lot,size,safety\n"
+        }
+    }
+
     /// The bundle of the tables.
     pub fn bundle(&self, alloc: Global) -> Result<String, Fail> {
         let pieces = [
             "[calendar]\nkey,value\n",
             self.calendar,
-            "[items]\nitem,class,lead,scrap,lot,size,safety\n",
+            self.items_header(),
             self.items,
             "[centres]\ncentre,minutes\n",
             self.centres,

@@ -52,6 +52,25 @@ pub fn bicycles_welded() -> Records<'static> {
     }
 }
 
+/// The same by the rules of version 3: lead times are in shop days; wheels come by the dozen, 50 or more
+/// at a time, and 7 of them are for service.
+pub fn bicycles_with_service() -> Records<'static> {
+    Records {
+        calendar: "version,3\nstart,2025-01-06\nweeks,6\nworkdays,1111100\nholiday,2025-01-20\n",
+        items: "\
+BIKE,master,3,0,lfl,0,0,0,1\n\
+FRAME,part,6,100,fixed,20,5,0,1\n\
+WHEEL,part,10,0,period,2,0,50,12\n",
+        master: "\
+BIKE,firm,2025-01-20,20\n\
+BIKE,firm,2025-02-03,20\n\
+BIKE,forecast,2025-01-13,8\n\
+BIKE,forecast,2025-01-27,6\n\
+WHEEL,service,2025-01-22,7\n",
+        ..bicycles_welded()
+    }
+}
+
 /// Six calls of two desks about bicycles: three bookings are made, by entries 1, 2 and 5.
 pub fn morning() -> &'static [(u64, Asked)] {
     &[
