@@ -1,5 +1,9 @@
 -- Lots without a minimum order quantity and an order multiple, whose orders are of single pieces.
-use Rattle.std.proofs.Common.{◌≡◌, ◌∙◌, ℕ, ◌<◌, ◌≤◌, sym, ap}
+use Rattle.std.proofs.Common.{◌≡◌, ◌∙◌, ℕ, ◌<◌, ◌≤◌, Result, Ok, Err, sym, ap, arith}
+use Rattle.std.specs.Prelude.{IfErr, IsErrOf}
+use Rattle.mrp_qty.specs.Quantity.{greatest_quantity}
+use Rattle.mrp_phase.specs.declared.fault.PhaseFault.{PhaseFault}
+use Rattle.mrp_phase.specs.declared.fault.PhaseFault.TheVariants.{TooLarge}
 use Rattle.mrp_phase.specs.Weeks.{row}
 use Rattle.mrp_phase.proofs.WeekRows.{row_same}
 use Rattle.mrp_net.specs.Need.{IsNeed}
@@ -39,3 +43,8 @@ pub period-row : (item : Item) (n horizon : ℕ) (need : ℕ → ℕ) → item.l
     → row horizon (receipts (period n) horizon need) ≡ row horizon (receipts (rule_of item) horizon need)
 period-row item n horizon need lot some least step rises =
     row_same (receipts (period n) horizon need) (receipts (rule_of item) horizon need) horizon (λ t a b. period-is item n horizon need lot some least step rises t b)
+
+-- where one of two equal numbers is past the greatest quantity, the other is
+pub past-same : {X : Type 0} (r : Result X PhaseFault) (a b : ℕ) → a ≡ b → (IsErrOf r TooLarge → greatest_quantity < a) → IfErr r (λ fault. fault ≡ TooLarge → greatest_quantity < b)
+past-same (Ok x) a b same h = tt
+past-same (Err e) a b same h = λ over. let past : greatest_quantity < a = h (ap Err over) in omega arith

@@ -71,6 +71,13 @@ fn stepped_receipts(
     }
 }
 
+// Whether an item has no minimum order quantity and no order multiple.
+fn orders_pieces(item: &Item) -> bool
+    ensures { IsTrue result ↔ ((item.now.least ≡ 0) × (item.now.step ≡ 1)) }
+{
+    item.least == 0 && item.step == 1
+}
+
 // The planned receipts, by an item's lot rule, from net requirements. Orders of single pieces have rules
 // of their own, which divide nothing.
 fn lot_receipts(alloc: Global, needs: &NeedRow, item: &Item) -> Result<Weeks<Qty>, PhaseFault>
@@ -80,7 +87,7 @@ fn lot_receipts(alloc: Global, needs: &NeedRow, item: &Item) -> Result<Weeks<Qty
 {
     // Net requirements do not fall.
     let _rises = needs.as_slice();
-    let by_piece = item.least == 0 && item.step == 1;
+    let by_piece = orders_pieces(item);
     match item.lot {
         LotRule::LotForLot if by_piece => receipts(alloc, needs, &LotForLot),
         LotRule::LotForLot => stepped_receipts(alloc, needs, 1, item),
