@@ -134,12 +134,7 @@ impl OrderList {
     }
 
     // Appends the firm orders of a week.
-    fn add_firm(
-        &mut self,
-        terms: &Terms<'_>,
-        week: u16,
-        dues: &[Due],
-    ) -> Result<(), PhaseFault>
+    fn add_firm(&mut self, terms: &Terms<'_>, week: u16, dues: &[Due]) -> Result<(), PhaseFault>
         requires { IsInRange 1 terms.now.tables.now.calendar.weeks week }
         ensures added { OnOk result (self.new ≡ self.old ++ map (order_of terms.now.tables.now terms.now.item.now Firm week) (due_in week dues.now)) }
         ensures over { IfErr result (λ fault. fault ≡ PhaseFault.TooLarge → greatest_quantity < sum_by (λ x. x.start) (self.old ++ map (order_of terms.now.tables.now terms.now.item.now Firm week) (due_in week dues.now))) }
