@@ -27,7 +27,7 @@ use Rattle.mrp_item.specs.Plan as plan
 use Rattle.mrp_item.specs.Plan.{ItemPlan, outcome_of, plan_of, balance_in}
 
 abbrev pub item : Class → ℕ → ℕ → LotRule → ℕ → Item
-item class lead scrap lot safety = record { name = []; class = class; lead = lead; scrap = scrap; lot = lot; safety = safety }
+item class lead scrap lot safety = record { name = []; class = class; lead = lead; scrap = scrap; lot = lot; safety = safety; least = 0; step = 1 }
 
 abbrev pub line : ℕ → ℕ → ℕ → BillLine
 line parent component per = record { parent = parent; component = component; per = per }
@@ -40,6 +40,9 @@ firm i week quantity = record { number = 1; item = i; kind = kind.Firm; week = w
 
 abbrev pub forecast : ℕ → ℕ → ℕ → MasterRow
 forecast i week quantity = record { number = 1; item = i; kind = kind.Forecast; week = week; quantity = quantity }
+
+abbrev pub service : ℕ → ℕ → ℕ → MasterRow
+service i week quantity = record { number = 1; item = i; kind = kind.Service; week = week; quantity = quantity }
 
 abbrev pub booking : ℕ → ℕ → ℕ → ℕ → Booking
 booking number i week quantity = record { number = number; desk = 1; line = record { item = i; week = week; quantity = quantity } }

@@ -10,13 +10,13 @@ use Rattle.mrp_phase.proofs.WeekRows.{row_same, sum-row_above}
 use Rattle.mrp_tables.specs.declared.rows.MasterRow.{MasterRow}
 use Rattle.mrp_tables.specs.declared.rows.Receipt.{Receipt}
 use Rattle.mrp_tables.specs.Tables.{Tables}
-use Rattle.mrp_tables.specs.Facts.{IsReceipt}
+use Rattle.mrp_tables.specs.Facts.{IsMasterRow, IsReceipt}
 use Rattle.mrp_book.specs.declared.booking.Booking.{Booking}
 use Rattle.mrp_item.specs.declared.due.Due.{Due}
 use Rattle.mrp_item.specs.Inputs.{Inputs}
-use Rattle.mrp_tables.specs.Master.{is_firm, is_forecast}
-use Rattle.mrp_item.specs.Rows.{firm_rows, forecast_rows, open_receipts, bookings_due, forecast, booked}
-use Rattle.mrp_item.specs.Dues.{due_in, due_sum, dues_of, master_due, receipt_due, booking_due, firm_dues, forecast_dues, receipt_dues, booking_dues}
+use Rattle.mrp_tables.specs.Master.{is_firm, is_forecast, is_service}
+use Rattle.mrp_item.specs.Rows.{firm_rows, forecast_rows, service_rows, open_receipts, bookings_due, forecast, service, booked}
+use Rattle.mrp_item.specs.Dues.{due_in, due_sum, dues_of, master_due, receipt_due, booking_due, firm_dues, forecast_dues, receipt_dues, booking_dues, service_dues}
 
 -- the rows of a week, of the rows of an item
 pub due_in-dues : {R : Type 0} (keep test : R → Bool) (due : R → Due) (week : ℕ) → ((r : R) → test r ≡ (keep r && eqb (due r).week week))
@@ -56,6 +56,12 @@ due_sum-forecast s i week =
     (λ r. and_swap (eqb r.item i) (eqb r.week week) (is_forecast r.kind)) s.tables.master)
     ∙ sum-map (λ (r : MasterRow). r.quantity) (forecast_rows s i week)
 
+pub due_sum-service : (s : Inputs) (i week : ℕ) → due_sum (service_dues s.tables.master i) week ≡ service s i week
+due_sum-service s i week =
+    ap sum (due_in-dues (λ (r : MasterRow). eqb r.item i && is_service r.kind) (λ r. (eqb r.item i && eqb r.week week) && is_service r.kind) master_due week
+    (λ r. and_swap (eqb r.item i) (eqb r.week week) (is_service r.kind)) s.tables.master)
+    ∙ sum-map (λ (r : MasterRow). r.quantity) (service_rows s i week)
+
 pub due_sum-receipts : (s : Inputs) (i week : ℕ) → due_sum (receipt_dues s.tables.receipts i) week ≡ sum_by (λ r. r.quantity) (open_receipts s i week)
 due_sum-receipts s i week =
     ap sum (due_in-dues (λ (r : Receipt). eqb r.item i) (λ r. eqb r.item i && eqb r.week week) receipt_due week (λ r. refl) s.tables.receipts)
@@ -84,6 +90,13 @@ quantity-is q n h = by (nat_le n greatest_quantity) h
     by : (b : Bool) → Some q ≡ cond b (Some n) None → q ≡ n
     by true k = cc
     by false k = absurd (cc)
+
+-- each service row of an item is due in a week of the horizon
+pub services-within : (t : Tables) (i : ℕ) → All (IsMasterRow t.calendar.weeks t.items) t.master → All (λ (d : Due). IsInRange 1 t.calendar.weeks d.week) (service_dues t.master i)
+services-within t i all =
+    All-map (λ (d : Due). IsInRange 1 t.calendar.weeks d.week) master_due (filter (λ (r : MasterRow). eqb r.item i && is_service r.kind) t.master)
+    (All-filter (λ (r : MasterRow). eqb r.item i && is_service r.kind) (λ (r : MasterRow). IsInRange 1 t.calendar.weeks r.week) t.master
+    (All-weaker (IsMasterRow t.calendar.weeks t.items) (λ (r : MasterRow). IsInRange 1 t.calendar.weeks r.week) (λ r is. is.week) t.master all))
 
 -- each open receipt of an item is due in a week of the horizon
 pub receipts-within : (t : Tables) (i : ℕ) → All (IsReceipt t.calendar.weeks t.items) t.receipts → All (λ (d : Due). IsInRange 1 t.calendar.weeks d.week) (receipt_dues t.receipts i)

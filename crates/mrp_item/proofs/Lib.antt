@@ -6,6 +6,7 @@ pub mod OrderWeeks
 pub mod DependentDemand
 pub mod Parents
 pub mod StartedRows
+pub mod PlannedStock
 pub mod PlannedRows
 pub mod ByKeys
 pub mod SupplyOrder
@@ -18,6 +19,7 @@ pub mod PlannedItems
 pub mod Fuel
 pub mod ShopLemmas
 pub mod Rules
+pub mod SinglePieces
 pub mod Steps
 pub mod Outcomes
 pub mod OrderLaws

@@ -3,7 +3,7 @@ use Rattle.std.proofs.Common.{◌≡◌, ℕ, List, [], ◌∷◌, refl, map}
 use Rattle.std.specs.Prelude.{Ok, Err, None}
 use Rattle.mrp_tables.specs.declared.version.Version.TheVariants.{One}
 use Rattle.mrp_tables.specs.declared.item.Class.TheVariants.{Master, Part}
-use Rattle.mrp_tables.specs.declared.item.LotRule.TheVariants.{LotForLot, Fixed}
+use Rattle.mrp_tables.specs.declared.item.LotRule.TheVariants.{LotForLot, Fixed, Period}
 use Rattle.mrp_tables.specs.declared.item.Item.{Item}
 use Rattle.mrp_tables.specs.declared.rows.BillLine.{BillLine}
 use Rattle.mrp_tables.specs.declared.rows.MasterRow.{MasterRow}
@@ -16,8 +16,8 @@ use Rattle.mrp_qty.specs.Quantity.{start_of}
 use Rattle.mrp_item.specs.Orders.{started_in}
 use Rattle.mrp_item.specs.Recursion.{value_to}
 use Rattle.mrp_item.specs.Plan as plan
-use Rattle.mrp_item.specs.Plan.{plan_in, outcome_of, plan_of, balance_in}
-use Rattle.mrp_item.proofs.BicycleShop.{shop, six_weeks, item, line, firm, forecast, booking, bike, frame, wheel, bike_plan, frame_plan, wheel_plan}
+use Rattle.mrp_item.specs.Plan.{plan_in, outcome_of, plan_of, balance_in, needs_of}
+use Rattle.mrp_item.proofs.BicycleShop.{shop, six_weeks, item, line, firm, forecast, service, booking, bike, frame, wheel, bike_plan, frame_plan, wheel_plan}
 
 -- scrap
 pub starts_with_scrap : map (start_of 100) (20 ∷ 9 ∷ 0 ∷ []) ≡ 23 ∷ 10 ∷ 0 ∷ []
@@ -101,6 +101,36 @@ tubes = record shop {
 pub tube_gross : (plan_in (outcome_of tubes 2)).gross ≡ 138 ∷ 0 ∷ 0 ∷ 0 ∷ 0 ∷ 0 ∷ []
 unfolding outcome_of value_to row in_week greatest_to receipts
 tube_gross = refl
+
+-- wheels by the dozen, 50 or more at a time, and 7 of them for service
+abbrev pub serviced : Inputs
+serviced = record shop {
+  tables = record (shop.tables) {
+    items = item Master 1 0 LotForLot 0 ∷ item Part 1 100 (Fixed 20) 5 ∷ record (item Part 2 0 (Period 2) 0) { least = 50; step = 12 } ∷ [];
+    master = service wheel 3 7 ∷ shop.tables.master;
+  };
+}
+
+pub serviced_gross : (plan_in (outcome_of serviced wheel)).gross ≡ 16 ∷ 40 ∷ 7 ∷ 46 ∷ 0 ∷ 0 ∷ []
+unfolding outcome_of value_to row in_week greatest_to receipts
+serviced_gross = refl
+
+pub serviced_needs : needs_of serviced wheel (plan_in (outcome_of serviced wheel)).gross ≡ 0 ∷ 26 ∷ 33 ∷ 79 ∷ 79 ∷ 79 ∷ []
+unfolding outcome_of value_to row in_week greatest_to receipts
+serviced_needs = refl
+
+pub serviced_receipts : (plan_in (outcome_of serviced wheel)).receipts ≡ 0 ∷ 60 ∷ 60 ∷ 120 ∷ 120 ∷ 120 ∷ []
+unfolding outcome_of value_to row in_week greatest_to receipts
+serviced_receipts = refl
+
+pub serviced_balance : row 6 (balance_in serviced wheel (plan_in (outcome_of serviced wheel))) ≡ 14 ∷ 34 ∷ 27 ∷ 41 ∷ 41 ∷ 41 ∷ []
+unfolding outcome_of value_to row in_week greatest_to receipts
+serviced_balance = refl
+
+-- service parts demand of a part changes no other item's plan
+pub serviced_others : map (outcome_of serviced) (bike ∷ frame ∷ []) ≡ plan.Planned bike_plan ∷ plan.Planned frame_plan ∷ []
+unfolding outcome_of value_to row in_week greatest_to receipts
+serviced_others = refl
 
 -- a tall bill, in which quantities grow past the greatest
 abbrev pub plain_part : Item

@@ -41,11 +41,18 @@ is_ranked s shop same kept = record {
   within = λ i. omega (arith, code_within shop.codes (length shop.tables.items) kept.low i, ap (λ t. length t.items) same);
 }
 
-sized : (lot : LotRule) (item : Item) → item.lot ≡ lot → IsItem item → HasSize lot
-sized LotForLot item same kept = tt
+sized : (lot : LotRule) (item : Item) → item.lot ≡ lot → IsItem item → HasSize lot item.step
+sized LotForLot item same kept = omega (arith, kept.step.0)
 sized (Fixed size) item same kept = let range = kept.fixed size same in omega (arith, range.0)
-sized (Period n) item same kept = let range = kept.period n same in omega (arith, range.0)
+sized (Period n) item same kept = let range = kept.period n same in (omega (arith, range.0), omega (arith, kept.step.0))
 
 -- an accepted item can be planned
 pub is_plannable : (item : Item) → IsItem item → IsPlannable item
-is_plannable item kept = record { scrap = omega (arith, kept.scrap); lead = kept.lead; sized = sized item.lot item refl kept }
+is_plannable item kept = record {
+  scrap = omega (arith, kept.scrap);
+  lead = kept.lead;
+  sized = sized item.lot item refl kept;
+  period = λ n same. (kept.period n same).1;
+  least = kept.least;
+  step = kept.step.1;
+}

@@ -1,5 +1,5 @@
 -- An item's step depends on the tables, its own bookings and its parents' orders alone.
-use Rattle.std.proofs.Common.{◌≡◌, ◌∙◌, ℕ, ◌<◌, ◌≤◌, Bool, true, false, cond, eqb, List, [], ◌∷◌, refl, sym, ap, subst, arith}
+use Rattle.std.proofs.Common.{◌≡◌, ◌∙◌, ℕ, ◌+◌, ◌<◌, ◌≤◌, Bool, true, false, cond, eqb, List, [], ◌∷◌, refl, sym, ap, subst, arith}
 use Rattle.std.specs.Prelude.{filter, max, sum_by, ◌==◌, ◌&&◌, ◌||◌, IsTrue}
 use Rattle.std.specs.List.{list_all, range_with_len}
 use Rattle.std.proofs.lemmas.Bool.{eq-eqb}
@@ -12,7 +12,7 @@ use Rattle.mrp_phase.specs.Weeks.{row}
 use Rattle.mrp_phase.proofs.WeekRows.{row_same}
 use Rattle.mrp_item.specs.Inputs.{Inputs, count, horizon, is_master}
 use Rattle.mrp_item.specs.NetChange.{IsUntouched}
-use Rattle.mrp_item.specs.Rows.{booked, independent_demand, forecast}
+use Rattle.mrp_item.specs.Rows.{booked, independent_demand, forecast, service}
 use Rattle.mrp_item.specs.Plan.{Blocked, IsRanked, Outcome, line_demand, gross_in, is_planned, item_plan, judged, outcome_step, part_gross, plan_in}
 use Rattle.mrp_item.specs.Recursion.{IsLocal}
 
@@ -75,7 +75,7 @@ gross-same t a b xs ys i f g same = row_same (gross_in old i f) (gross_in new i 
 
     by : (week : ℕ) → 0 < week → week ≤ horizon old → (m : Bool) → is_master old i ≡ m → cond m (independent_demand old i week) (part_gross old i f week) ≡ cond m (independent_demand new i week) (part_gross new i g week)
     by week low high true e = ap (max (forecast old i week)) (same.booked e week (omega (arith, low), high))
-    by week low high false e = demand-same f g i week t.bills (λ p k. (same.parents p k).orders)
+    by week low high false e = ap (λ n. service old i week + n) (demand-same f g i week t.bills (λ p k. (same.parents p k).orders))
 
 step-same : (t : Tables) (a b : ℕ) (xs ys : List Booking) (i : ℕ) (f g : ℕ → Outcome) → IsUntouched (from t a xs) (from t b ys) i f g
     → outcome_step (from t a xs) i f ≡ outcome_step (from t b ys) i g

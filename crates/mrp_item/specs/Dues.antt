@@ -5,7 +5,7 @@ use Rattle.mrp_tables.specs.declared.rows.MasterRow.{MasterRow}
 use Rattle.mrp_tables.specs.declared.rows.Receipt.{Receipt}
 use Rattle.mrp_book.specs.declared.booking.Booking.{Booking}
 use Rattle.mrp_item.specs.declared.due.Due.{Due}
-use Rattle.mrp_tables.specs.Master.{is_firm, is_forecast}
+use Rattle.mrp_tables.specs.Master.{is_firm, is_forecast, is_service}
 
 -- the quantities that are due in a week, in order
 abbrev pub due_in : ℕ → List Due → List ℕ
@@ -31,12 +31,15 @@ receipt_due r = record { number = r.number; week = r.week; quantity = r.quantity
 abbrev pub booking_due : Booking → Due
 booking_due b = record { number = b.number; week = b.line.week; quantity = b.line.quantity }
 
--- the quantities due of an item: its firm rows, its forecasts, its open receipts, its bookings
+-- the quantities due of an item: its firm rows, its forecasts, its service rows, its open receipts, its bookings
 abbrev pub firm_dues : List MasterRow → ℕ → List Due
 firm_dues rows i = dues_of (λ r. (r.item == i) && is_firm r.kind) master_due rows
 
 abbrev pub forecast_dues : List MasterRow → ℕ → List Due
 forecast_dues rows i = dues_of (λ r. (r.item == i) && is_forecast r.kind) master_due rows
+
+abbrev pub service_dues : List MasterRow → ℕ → List Due
+service_dues rows i = dues_of (λ r. (r.item == i) && is_service r.kind) master_due rows
 
 abbrev pub receipt_dues : List Receipt → ℕ → List Due
 receipt_dues rows i = dues_of (λ r. r.item == i) receipt_due rows

@@ -9,7 +9,7 @@ use Rattle.mrp_net.specs.Need.{need, balance}
 use Rattle.mrp_lots.specs.Lots.{receipts}
 use Rattle.mrp_item.specs.declared.order.Order.{Order}
 use Rattle.mrp_item.specs.Inputs.{Inputs, count, horizon, places, item_at, is_master}
-use Rattle.mrp_item.specs.Rows.{lines_to, independent_demand, stock_of}
+use Rattle.mrp_item.specs.Rows.{lines_to, independent_demand, service, stock_of}
 use Rattle.mrp_item.specs.Lot.{rule_of}
 use Rattle.mrp_item.specs.Orders.{orders_of, released_in}
 use Rattle.mrp_item.specs.Recursion.{value_to}
@@ -49,12 +49,16 @@ is_over Blocked = false
 abbrev pub line_demand : (ℕ → Outcome) → ℕ → BillLine → ℕ
 line_demand above week line = sum_by (λ order. order.start * line.per) (released_in week (plan_in (above line.parent)).orders)
 
--- the gross requirement of a part in a week: its dependent demand, by the lines to it
+-- the dependent demand of a part in a week: the requirements of the lines to it
+abbrev pub dependent_demand : Inputs → ℕ → (ℕ → Outcome) → ℕ → ℕ
+dependent_demand s i above week = sum_by (line_demand above week) (lines_to s i)
+
+-- the gross requirement of a part in a week: its service parts demand and its dependent demand
 abbrev pub part_gross : Inputs → ℕ → (ℕ → Outcome) → ℕ → ℕ
-part_gross s i above week = sum_by (line_demand above week) (lines_to s i)
+part_gross s i above week = service s i week + dependent_demand s i above week
 
 -- the gross requirement of an item in a week (Orlicky: gross requirements): the independent demand of a master item
--- (profile), the dependent demand of a part
+-- (profile), the service parts demand and the dependent demand of a part
 abbrev pub gross_in : Inputs → ℕ → (ℕ → Outcome) → ℕ → ℕ
 gross_in s i above week = if is_master s i then independent_demand s i week else part_gross s i above week
 

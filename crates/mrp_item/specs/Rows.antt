@@ -3,7 +3,7 @@ use Rattle.std.specs.Prelude.{ℕ, ◌==◌, ◌&&◌, if◌then◌else◌, List
 use Rattle.mrp_tables.specs.declared.rows.BillLine.{BillLine}
 use Rattle.mrp_tables.specs.declared.rows.Receipt.{Receipt}
 use Rattle.mrp_tables.specs.declared.rows.MasterRow.{MasterRow}
-use Rattle.mrp_tables.specs.Master.{is_firm, is_forecast}
+use Rattle.mrp_tables.specs.Master.{is_firm, is_forecast, is_service}
 use Rattle.mrp_master.specs.Supply.{on_hand_of}
 use Rattle.mrp_book.specs.declared.booking.Booking.{Booking}
 use Rattle.mrp_phase.specs.Weeks.{row}
@@ -16,6 +16,10 @@ firm_rows s i week = filter (λ r. (r.item == i) && (r.week == week) && is_firm 
 
 abbrev pub forecast_rows : Inputs → ℕ → ℕ → List MasterRow
 forecast_rows s i week = filter (λ r. (r.item == i) && (r.week == week) && is_forecast r.kind) s.tables.master
+
+-- the service rows of an item that are due in a week, in table order (APICS Dictionary: service parts demand)
+abbrev pub service_rows : Inputs → ℕ → ℕ → List MasterRow
+service_rows s i week = filter (λ r. (r.item == i) && (r.week == week) && is_service r.kind) s.tables.master
 
 -- the open receipts of an item that are due in a week, in table order (Orlicky: scheduled receipts)
 abbrev pub open_receipts : Inputs → ℕ → ℕ → List Receipt
@@ -32,6 +36,10 @@ lines_to s i = filter (λ line. line.component == i) s.tables.bills
 -- the forecast of an item in a week: the rows of one week add up
 abbrev pub forecast : Inputs → ℕ → ℕ → ℕ
 forecast s i week = sum_by (λ r. r.quantity) (forecast_rows s i week)
+
+-- the service parts demand of an item in a week: the rows of one week add up
+abbrev pub service : Inputs → ℕ → ℕ → ℕ
+service s i week = sum_by (λ r. r.quantity) (service_rows s i week)
 
 -- the booked quantity of an item due in a week
 abbrev pub booked : Inputs → ℕ → ℕ → ℕ

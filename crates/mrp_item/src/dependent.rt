@@ -1,17 +1,17 @@
-//! Dependent demand: what the parents' orders require of an item.
+//! The gross requirements of a part: its service parts demand, and what its parents' orders require.
 
 ghost use Rattle.std.specs.Prelude.{◌≡◌, ◌≤◌, ◌<◌, ◌+◌, ◌*◌, ℕ, true, length, sum, sum_by, slice_index, IfOk, IfErr, OnSome, IfNone};
 ghost use Rattle.mrp_qty.specs.Quantity.{greatest_quantity};
 ghost use Rattle.mrp_phase.specs.Weeks.{in_week, row};
-ghost use Rattle.mrp_item.specs.DependentDemand.{dependent_demand, with_line_demand};
+ghost use Rattle.mrp_item.specs.DependentDemand.{with_line_demand};
 ghost use Rattle.mrp_item.specs.Inputs.{count, horizon};
 ghost use Rattle.mrp_bill.specs.Bill.{IsParent, line_at};
 ghost use Rattle.mrp_item.specs.Orders.{started_in};
-ghost use Rattle.mrp_item.specs.Plan.{is_planned, outcome_of, plan_in};
+ghost use Rattle.mrp_item.specs.Plan.{is_planned, outcome_of, part_gross, plan_in};
 ghost use Rattle.mrp_item.specs.Made.{parents_from};
 ghost use Rattle.mrp_item.specs.Own.{IsReady};
 
-use crate::due::zero_weeks;
+use crate::due::dated;
 use crate::inputs::Inputs;
 use crate::outcome::Outcome;
 use crate::over::or_over;
@@ -85,8 +85,8 @@ fn line_of(bills: &[BillLine], place: usize) -> BillLine
     bills[place]
 }
 
-// The dependent demand of an item in each week, from its parents' outcomes.
-pub fn dependent_demand(
+// The gross requirements of a part in each week, from its parents' outcomes.
+pub fn part_gross(
     alloc: Global,
     inputs: &Inputs,
     item: usize,
@@ -95,12 +95,12 @@ pub fn dependent_demand(
     requires item { item < count inputs.now }
     requires parents { parents.now ≡ parents_from inputs.now item }
     requires ready { IsReady inputs.now item }
-    ensures value { IfOk result (λ w. w ≡ row (horizon inputs.now) (dependent_demand inputs.now item)) }
-    ensures over { IfErr result (λ fault. fault ≡ PhaseFault.TooLarge → greatest_quantity < sum (row (horizon inputs.now) (dependent_demand inputs.now item))) }
+    ensures value { IfOk result (λ w. w ≡ row (horizon inputs.now) (part_gross inputs.now item (outcome_of inputs.now))) }
+    ensures over { IfErr result (λ fault. fault ≡ PhaseFault.TooLarge → greatest_quantity < sum (row (horizon inputs.now) (part_gross inputs.now item (outcome_of inputs.now)))) }
 {
     let bills = inputs.shop().tables().bills();
     let weeks = inputs.weeks();
-    let mut demand = zero_weeks(alloc, weeks)?.into_vec();
+    let mut demand = dated(alloc, weeks, inputs.services(item))?.into_vec();
     for place in inputs.shop().lines_to(item) {
         let line = line_of(bills, *place);
         let started = started_of(inputs, item, parents, line.parent);

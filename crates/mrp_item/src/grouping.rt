@@ -1,9 +1,9 @@
 //! The rows of the tables and the bookings, grouped by their items.
 
 ghost use Rattle.std.specs.Prelude.{◌≡◌, ◌<◌, ℕ, All, length, filter, map, IfOk};
-ghost use Rattle.mrp_tables.specs.Master.{is_firm, is_forecast};
+ghost use Rattle.mrp_tables.specs.Master.{is_firm, is_forecast, is_service};
 ghost use Rattle.mrp_bill.specs.Grouped.{listed};
-ghost use Rattle.mrp_item.specs.Dues.{booking_dues, firm_dues, forecast_dues, receipt_dues};
+ghost use Rattle.mrp_item.specs.Dues.{booking_dues, firm_dues, forecast_dues, receipt_dues, service_dues};
 ghost use Rattle.mrp_item.specs.Numbered.{of_booking, of_master, of_receipt};
 
 use crate::due::Due;
@@ -80,6 +80,18 @@ fn forecasts(alloc: Global, rows: &[MasterRow]) -> Result<Vec<Numbered<Due>>, No
     Ok(dues)
 }
 
+// The quantities due by the service rows.
+fn services(alloc: Global, rows: &[MasterRow]) -> Result<Vec<Numbered<Due>>, NoMemory>
+    ensures { IfOk result (λ dues. dues.items ≡ map of_master (filter (λ r. is_service r.kind) rows.now)) }
+{
+    let dues = rows
+        .iter()
+        .filter(|row| row.kind.is_service())
+        .map(|row| due_of_master(row))
+        .collect(alloc)?;
+    Ok(dues)
+}
+
 // The quantities due by the open receipts.
 fn receipts(alloc: Global, rows: &[Receipt]) -> Result<Vec<Numbered<Due>>, NoMemory>
     ensures { IfOk result (λ dues. dues.items ≡ map of_receipt rows.now) }
@@ -121,6 +133,20 @@ pub fn forecasts_by_item(
     ensures lists { IfOk result (λ d. (i : ℕ) → i < count → listed d i ≡ forecast_dues rows.now i) }
 {
     let dues = forecasts(alloc, rows)?;
+    Grouped::of(alloc, count, &dues)
+}
+
+// The service rows of each item.
+pub fn services_by_item(
+    alloc: Global,
+    count: usize,
+    rows: &[MasterRow],
+) -> Result<Grouped<Due>, NoMemory>
+    requires { All (λ r. r.item < count) rows.now }
+    ensures size { IfOk result (λ d. length d ≡ count) }
+    ensures lists { IfOk result (λ d. (i : ℕ) → i < count → listed d i ≡ service_dues rows.now i) }
+{
+    let dues = services(alloc, rows)?;
     Grouped::of(alloc, count, &dues)
 }
 

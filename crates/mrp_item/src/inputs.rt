@@ -40,7 +40,7 @@ impl Inputs {
     ghost use Rattle.mrp_item.specs.Inputs.{count, horizon, inputs_of, item_at};
     ghost use Rattle.mrp_item.specs.Limits.{IsPlannable};
     ghost use Rattle.mrp_item.specs.Rows.{on_hand};
-    ghost use Rattle.mrp_item.specs.Dues.{firm_dues, forecast_dues, receipt_dues, booking_dues};
+    ghost use Rattle.mrp_item.specs.Dues.{firm_dues, forecast_dues, receipt_dues, booking_dues, service_dues};
     ghost use Rattle.mrp_item.specs.Plan.{IsRanked, HasParents};
 
     /// The inputs of a shop and a snapshot of its order book. The book must be that of an equal shop: its
@@ -137,6 +137,16 @@ impl Inputs {
         ensures { result.now ≡ forecast_dues self.now.tables.master item }
     {
         self.rows.forecasts(item)
+    }
+
+    /// The service rows of an item, in table order, each with its record's number (APICS Dictionary:
+    /// service parts demand). The shop must have the item.
+    pub fn services(&self, item: usize) -> &[Due]
+        requires { item < count self.now }
+        ensures dues { result.now ≡ service_dues self.now.tables.master item }
+        ensures within { All (λ due. IsInRange 1 (horizon self.now) due.week) result.now }
+    {
+        self.rows.services(item)
     }
 
     /// The open receipts of an item, in table order, each with its record's number. The shop must have the

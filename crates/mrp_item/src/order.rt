@@ -24,6 +24,7 @@ pub struct Order {
     pub start: Qty,
     /// The week of its release: week 1 for a late order.
     pub release: u16,
-    /// By how much its release is late, in the unit of lead times: weeks, or shop days in version 2.
+    /// By how much its release is late, in the unit of lead times: weeks, or shop days from version 2
+    /// on.
     pub late: u16,
 }

@@ -3,6 +3,8 @@
 ghost use Rattle.std.specs.Prelude.{◌≡◌, ◌≤◌, ◌<◌, ◌+◌, ◌-◌, ◌++◌, ◌∷◌, [], length, map, max, sum_by, IfOk, OnOk, IfErr, MatchOption};
 ghost use Rattle.std.specs.Int.{IsInRange};
 ghost use Rattle.mrp_qty.specs.Quantity.{greatest_quantity, start_of};
+ghost use Rattle.mrp_tables.specs.declared.limits.TheConstants.{MOST_LEAD, MOST_SCRAP};
+ghost use Rattle.mrp_tables.specs.Versions.{lead_unit};
 ghost use Rattle.mrp_item.specs.Limits.{IsPlannable};
 ghost use Rattle.mrp_item.specs.Inputs.{count, horizon};
 ghost use Rattle.mrp_item.specs.Dues.{due_in};
@@ -16,7 +18,7 @@ use crate::over::or_over;
 use crate::release::release_for;
 use mrp_phase::{PhaseFault, Weeks};
 use mrp_qty::{NoMemory, Qty};
-use mrp_tables::{Item, Tables};
+use mrp_tables::{Item, LeadUnit, Tables};
 use std::alloc::Global;
 use std::marker::Model;
 
@@ -39,22 +41,50 @@ impl Model for OrderList {
     ghost invariant = { λ o. (o.started ≡ sum_by (λ x. x.start) o.orders.items) × (o.started ≤ greatest_quantity) };
 }
 
-// An order for a quantity that is due in a week; `None` if its start overflows.
-fn order(tables: &Tables, item: &Item, kind: OrderKind, due: u16, quantity: Qty) -> Option<Order>
-    requires item { IsPlannable item.now }
-    requires due { IsInRange 1 tables.now.calendar.weeks due }
-    ensures { MatchOption result (greatest_quantity < start_of item.now.scrap quantity) (λ order. order ≡ order_of tables.now item.now kind due quantity) }
-{
-    let start = quantity.start_for(item.scrap)?;
-    let release = release_for(tables, due, item.lead as u16);
-    Some(Order {
-        kind,
-        due,
-        quantity,
-        start,
-        release: release.week,
-        late: release.late,
-    })
+// What an item's orders are made by: its record, and the unit of its lead time, which is asked once for
+// all of them.
+#[derive(Clone, Copy)]
+pub struct Terms<'a> {
+    tables: &'a Tables,
+    item: &'a Item,
+    unit: LeadUnit,
+    ghost counted: { unit ≡ lead_unit tables.now.version },
+    ghost scrap: { item.now.scrap ≤ MOST_SCRAP },
+    ghost lead: { item.now.lead ≤ MOST_LEAD },
+}
+
+impl<'a> Terms<'a> {
+    // The terms of an item of the tables.
+    fn of(tables: &'a Tables, item: &'a Item) -> Terms<'a>
+        requires { IsPlannable item.now }
+        ensures tables { result.tables.now ≡ tables.now }
+        ensures item { result.item.now ≡ item.now }
+    {
+        Terms {
+            tables,
+            item,
+            unit: tables.lead_unit(),
+        }
+    }
+
+    // An order for a quantity that is due in a week; `None` if its start overflows.
+    #[inline(always)]
+    fn order(&self, kind: OrderKind, due: u16, quantity: Qty) -> Option<Order>
+        requires { IsInRange 1 self.now.tables.now.calendar.weeks due }
+        ensures { MatchOption result (greatest_quantity < start_of self.now.item.now.scrap quantity) (λ order. order ≡ order_of self.now.tables.now self.now.item.now kind due quantity) }
+    {
+        let start = quantity.start_for(self.item.scrap)?;
+        let calendar = self.tables.calendar();
+        let release = release_for(calendar, self.unit, due, self.item.lead as u16);
+        Some(Order {
+            kind,
+            due,
+            quantity,
+            start,
+            release: release.week,
+            late: release.late,
+        })
+    }
 }
 
 impl OrderList {
@@ -88,38 +118,30 @@ impl OrderList {
     }
 
     // Appends an order of an item.
+    #[inline(always)]
     fn add(
         &mut self,
-        tables: &Tables,
-        item: &Item,
+        terms: &Terms<'_>,
         kind: OrderKind,
         due: u16,
         quantity: Qty,
     ) -> Result<(), PhaseFault>
-        requires item { IsPlannable item.now }
-        requires due { IsInRange 1 tables.now.calendar.weeks due }
-        ensures added { OnOk result (self.new ≡ self.old ++ order_of tables.now item.now kind due quantity ∷ []) }
-        ensures over { IfErr result (λ fault. fault ≡ PhaseFault.TooLarge → greatest_quantity < sum_by (λ x. x.start) self.old + start_of item.now.scrap quantity) }
+        requires { IsInRange 1 terms.now.tables.now.calendar.weeks due }
+        ensures added { OnOk result (self.new ≡ self.old ++ order_of terms.now.tables.now terms.now.item.now kind due quantity ∷ []) }
+        ensures over { IfErr result (λ fault. fault ≡ PhaseFault.TooLarge → greatest_quantity < sum_by (λ x. x.start) self.old + start_of terms.now.item.now.scrap quantity) }
     {
-        self.push(or_over(order(tables, item, kind, due, quantity))?)
+        self.push(or_over(terms.order(kind, due, quantity))?)
     }
 
     // Appends the firm orders of a week.
-    fn add_firm(
-        &mut self,
-        tables: &Tables,
-        item: &Item,
-        week: u16,
-        dues: &[Due],
-    ) -> Result<(), PhaseFault>
-        requires item { IsPlannable item.now }
-        requires week { IsInRange 1 tables.now.calendar.weeks week }
-        ensures added { OnOk result (self.new ≡ self.old ++ map (order_of tables.now item.now Firm week) (due_in week dues.now)) }
-        ensures over { IfErr result (λ fault. fault ≡ PhaseFault.TooLarge → greatest_quantity < sum_by (λ x. x.start) (self.old ++ map (order_of tables.now item.now Firm week) (due_in week dues.now))) }
+    fn add_firm(&mut self, terms: &Terms<'_>, week: u16, dues: &[Due]) -> Result<(), PhaseFault>
+        requires { IsInRange 1 terms.now.tables.now.calendar.weeks week }
+        ensures added { OnOk result (self.new ≡ self.old ++ map (order_of terms.now.tables.now terms.now.item.now Firm week) (due_in week dues.now)) }
+        ensures over { IfErr result (λ fault. fault ≡ PhaseFault.TooLarge → greatest_quantity < sum_by (λ x. x.start) (self.old ++ map (order_of terms.now.tables.now terms.now.item.now Firm week) (due_in week dues.now))) }
     {
         for due in dues {
             if due.week == week {
-                self.add(tables, item, OrderKind::Firm, week, due.quantity)?;
+                self.add(terms, OrderKind::Firm, week, due.quantity)?;
             }
         }
         Ok(())
@@ -128,42 +150,38 @@ impl OrderList {
     // Appends the planned order of a week, if there is one.
     fn add_planned(
         &mut self,
-        tables: &Tables,
-        item: &Item,
+        terms: &Terms<'_>,
         week: u16,
         before: Qty,
         received: Qty,
     ) -> Result<(), PhaseFault>
-        requires item { IsPlannable item.now }
-        requires week { IsInRange 1 tables.now.calendar.weeks week }
-        ensures added { OnOk result (self.new ≡ self.old ++ planned_order tables.now item.now week before received) }
-        ensures over { IfErr result (λ fault. fault ≡ PhaseFault.TooLarge → greatest_quantity < sum_by (λ x. x.start) (self.old ++ planned_order tables.now item.now week before received)) }
+        requires { IsInRange 1 terms.now.tables.now.calendar.weeks week }
+        ensures added { OnOk result (self.new ≡ self.old ++ planned_order terms.now.tables.now terms.now.item.now week before received) }
+        ensures over { IfErr result (λ fault. fault ≡ PhaseFault.TooLarge → greatest_quantity < sum_by (λ x. x.start) (self.old ++ planned_order terms.now.tables.now terms.now.item.now week before received)) }
     {
         let more = received.value().saturating_sub(before.value());
         if more == 0 {
             return Ok(());
         }
         let quantity = Qty::new(more).unwrap();
-        self.add(tables, item, OrderKind::Planned, week, quantity)
+        self.add(terms, OrderKind::Planned, week, quantity)
     }
 
     // Appends the orders of a week: the firm ones, then the planned one.
     fn add_week(
         &mut self,
-        tables: &Tables,
-        item: &Item,
+        terms: &Terms<'_>,
         week: u16,
         dues: &[Due],
         before: Qty,
         received: Qty,
     ) -> Result<(), PhaseFault>
-        requires item { IsPlannable item.now }
-        requires week { IsInRange 1 tables.now.calendar.weeks week }
-        ensures added { OnOk result (self.new ≡ self.old ++ (map (order_of tables.now item.now Firm week) (due_in week dues.now) ++ planned_order tables.now item.now week before received)) }
-        ensures over { IfErr result (λ fault. fault ≡ PhaseFault.TooLarge → greatest_quantity < sum_by (λ x. x.start) (self.old ++ (map (order_of tables.now item.now Firm week) (due_in week dues.now) ++ planned_order tables.now item.now week before received))) }
+        requires { IsInRange 1 terms.now.tables.now.calendar.weeks week }
+        ensures added { OnOk result (self.new ≡ self.old ++ (map (order_of terms.now.tables.now terms.now.item.now Firm week) (due_in week dues.now) ++ planned_order terms.now.tables.now terms.now.item.now week before received)) }
+        ensures over { IfErr result (λ fault. fault ≡ PhaseFault.TooLarge → greatest_quantity < sum_by (λ x. x.start) (self.old ++ (map (order_of terms.now.tables.now terms.now.item.now Firm week) (due_in week dues.now) ++ planned_order terms.now.tables.now terms.now.item.now week before received))) }
     {
-        self.add_firm(tables, item, week, dues)?;
-        self.add_planned(tables, item, week, before, received)
+        self.add_firm(terms, week, dues)?;
+        self.add_planned(terms, week, before, received)
     }
 }
 
@@ -188,14 +206,14 @@ pub fn orders_for(
     ensures value { IfOk result (λ list. list ≡ orders_of inputs.now item receipts.now) }
     ensures over { IfErr result (λ fault. fault ≡ PhaseFault.TooLarge → greatest_quantity < sum_by (λ order. order.start) (orders_of inputs.now item receipts.now)) }
 {
-    let tables = inputs.shop().tables();
     let entry = inputs.entry(item);
+    let terms = Terms::of(inputs.shop().tables(), &entry);
     let dues = inputs.firm(item);
     let mut list = OrderList::with_room(alloc, dues.len().saturating_add(rises(receipts)))?;
     let mut before = Qty::new(0).unwrap();
     for place in 0..inputs.weeks() {
         let received = receipts[usize::from(place)];
-        list.add_week(tables, &entry, place + 1, dues, before, received)?;
+        list.add_week(&terms, place + 1, dues, before, received)?;
         before = received;
     }
     Ok(list)

@@ -2,7 +2,6 @@
 
 use crate::inputs::Inputs;
 use crate::order::Order;
-use mrp_net::Stock;
 use mrp_phase::Weeks;
 use mrp_qty::{NoMemory, Qty};
 use std::marker::Model;
@@ -15,7 +14,6 @@ pub struct PlanRows {
     pub receipts: Weeks<Qty>,
     pub orders: Vec<Order>,
     pub started: Weeks<Qty>,
-    pub stock: Stock,
 }
 
 /// An item's plan, for the inputs that it holds. Its copies share its rows.
@@ -45,7 +43,6 @@ impl Planned {
     ghost use Rattle.mrp_item.specs.Orders.{started_in};
     ghost use Rattle.mrp_item.specs.Plan as plan;
     ghost use Rattle.mrp_item.specs.Plan.{outcome_of};
-    ghost use Rattle.mrp_item.specs.Rows.{stock_of};
     ghost use Rattle.mrp_item.specs.Kept.{AreRowsOf, plan_in_rows};
 
     // The plan of an item, from its rows.
@@ -103,13 +100,6 @@ impl Planned {
         ensures outcome { outcome_of self.now.inputs self.now.item ≡ plan.Planned self.now.plan }
     {
         &self.rows.started
-    }
-
-    /// The item's stock and scheduled receipts, before planning.
-    pub fn stock(&self) -> &Stock
-        ensures { result.now ≡ stock_of self.now.inputs self.now.item }
-    {
-        &self.rows.stock
     }
 
     /// An equal plan, which shares the rows.

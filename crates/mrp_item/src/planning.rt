@@ -4,8 +4,8 @@ ghost use Rattle.std.specs.Prelude.{◌≡◌, ◌≤◌, ◌<◌, ◌+◌, ◌�
 ghost use Rattle.std.specs.List.{list_all};
 ghost use Rattle.mrp_qty.specs.Quantity.{greatest_quantity, quantity_of};
 ghost use Rattle.mrp_phase.specs.Weeks.{in_week, row};
-ghost use Rattle.mrp_lots.specs.Lots.{receipts};
-ghost use Rattle.mrp_item.specs.Limits.{IsSized};
+ghost use Rattle.mrp_lots.specs.Lots.{IsStepped, receipts, stepped};
+ghost use Rattle.mrp_item.specs.Limits.{IsPlannable};
 ghost use Rattle.mrp_item.specs.Inputs.{count, horizon};
 ghost use Rattle.mrp_item.specs.Lot.{rule_of};
 ghost use Rattle.mrp_item.specs.Kept.{AreRowsOf};
@@ -16,7 +16,7 @@ ghost use Rattle.mrp_item.specs.Rows.{stock_of};
 ghost use Rattle.mrp_item.specs.Plan as plan;
 ghost use Rattle.mrp_item.specs.Plan.{is_planned, outcome_of, receipts_of};
 
-use crate::dependent::dependent_demand;
+use crate::dependent::part_gross;
 use crate::due::{add_in, zero_weeks};
 use crate::inputs::Inputs;
 use crate::order::Order;
@@ -25,7 +25,7 @@ use crate::outcome::Outcome;
 use crate::over::or_over;
 use crate::planned::{PlanRows, Planned};
 use crate::supply::{independent_demand, stock_for};
-use mrp_lots::{Fixed, LotForLot, Period, receipts};
+use mrp_lots::{Fixed, LotForLot, Period, Stepped, receipts};
 use mrp_net::{NeedRow, Stock, need};
 use mrp_phase::{PhaseFault, Weeks};
 use mrp_qty::{NoMemory, Qty};
@@ -49,20 +49,51 @@ fn gross_row(
     if inputs.entry(item).class.is_master() {
         independent_demand(alloc, inputs, item)
     } else {
-        dependent_demand(alloc, inputs, item, parents)
+        part_gross(alloc, inputs, item, parents)
     }
 }
 
-// The planned receipts, by an item's lot rule, from net requirements.
+// The planned receipts of orders for a number of weeks, with an item's minimum order quantity and order
+// multiple.
+fn stepped_receipts(
+    alloc: Global,
+    needs: &NeedRow,
+    weeks: u64,
+    item: &Item,
+) -> Result<Weeks<Qty>, PhaseFault>
+    requires { IsStepped weeks item.now.least item.now.step }
+    ensures value { IfOk result (λ w. w ≡ row (length needs.now) (receipts (stepped weeks item.now.least item.now.step) (length needs.now) (in_week needs.now))) }
+    ensures too_large { IfErr result (λ fault. fault ≡ PhaseFault.TooLarge → greatest_quantity < receipts (stepped weeks item.now.least item.now.step) (length needs.now) (in_week needs.now) (length needs.now)) }
+{
+    match Stepped::new(weeks, item.least, item.step) {
+        Some(lot) => receipts(alloc, needs, &lot),
+        None => unreachable!(),
+    }
+}
+
+// Whether an item has no minimum order quantity and no order multiple.
+fn orders_pieces(item: &Item) -> bool
+    ensures { IsTrue result ↔ ((item.now.least ≡ 0) × (item.now.step ≡ 1)) }
+{
+    item.least == 0 && item.step == 1
+}
+
+// The planned receipts, by an item's lot rule, from net requirements. Orders of single pieces have rules
+// of their own, which divide nothing.
 fn lot_receipts(alloc: Global, needs: &NeedRow, item: &Item) -> Result<Weeks<Qty>, PhaseFault>
-    requires { IsSized item.now }
+    requires { IsPlannable item.now }
     ensures value { IfOk result (λ w. w ≡ row (length needs.now) (receipts (rule_of item.now) (length needs.now) (in_week needs.now))) }
     ensures too_large { IfErr result (λ fault. fault ≡ PhaseFault.TooLarge → greatest_quantity < receipts (rule_of item.now) (length needs.now) (in_week needs.now) (length needs.now)) }
 {
+    // Net requirements do not fall.
+    let _rises = needs.as_slice();
+    let by_piece = orders_pieces(item);
     match item.lot {
-        LotRule::LotForLot => receipts(alloc, needs, &LotForLot),
+        LotRule::LotForLot if by_piece => receipts(alloc, needs, &LotForLot),
+        LotRule::LotForLot => stepped_receipts(alloc, needs, 1, item),
         LotRule::Fixed(size) => receipts(alloc, needs, &Fixed::new(size)),
-        LotRule::Period(weeks) => receipts(alloc, needs, &Period::new(weeks)),
+        LotRule::Period(weeks) if by_piece => receipts(alloc, needs, &Period::new(weeks)),
+        LotRule::Period(weeks) => stepped_receipts(alloc, needs, weeks, item),
     }
 }
 
@@ -107,6 +138,23 @@ fn receipts_row(
     Ok(received)
 }
 
+// The same, from the gross requirements alone. The stock is given back before orders are made.
+fn own_receipts(
+    alloc: Global,
+    inputs: &Inputs,
+    item: usize,
+    gross: &Weeks<Qty>,
+) -> Result<Weeks<Qty>, PhaseFault>
+    requires item { item < count inputs.now }
+    requires weeks { length gross.now ≡ horizon inputs.now }
+    ensures value { IfOk result (λ w. w ≡ receipts_of inputs.now item gross.now) }
+    ensures within { OnOk result (AreWithin inputs.now item gross.now) }
+    ensures over { IfErr result (λ fault. fault ≡ PhaseFault.TooLarge → ArePast inputs.now item gross.now) }
+{
+    let stock = stock_for(alloc, inputs, item)?;
+    receipts_row(alloc, inputs, item, gross, &stock)
+}
+
 // Whether all parents are planned.
 fn are_planned(parents: &[Outcome]) -> bool
     ensures { result ≡ list_all (λ o. is_planned (outcome_of o.inputs o.item)) parents.now }
@@ -130,8 +178,7 @@ fn own_rows(
     // Its codes rank the items, parents above their components.
     let _ranked = inputs.shop();
     let gross = gross_row(alloc, inputs, item, parents)?;
-    let stock = stock_for(alloc, inputs, item)?;
-    let receipts = receipts_row(alloc, inputs, item, &gross, &stock)?;
+    let receipts = own_receipts(alloc, inputs, item, &gross)?;
     let orders = orders_for(alloc, inputs, item, receipts.as_slice())?.into_vec();
     let started = started_row(alloc, inputs.weeks(), orders.as_slice())?;
     let rows = PlanRows {
@@ -139,7 +186,6 @@ fn own_rows(
         receipts,
         orders,
         started,
-        stock,
     };
     Ok(Arc::new(alloc, rows)?)
 }

@@ -3,10 +3,10 @@
 ghost use Rattle.std.specs.Prelude.{◌≡◌, ◌≤◌};
 ghost use Rattle.std.specs.Int.{IsInRange};
 ghost use Rattle.mrp_tables.specs.declared.limits.TheConstants.{MOST_LEAD};
-ghost use Rattle.mrp_item.specs.Releases.{release_of, shop_days_before, weeks_before};
+ghost use Rattle.mrp_item.specs.Releases.{release_in, shop_days_before, weeks_before};
 
 use mrp_cal::Calendar;
-use mrp_tables::{LeadUnit, Tables};
+use mrp_tables::LeadUnit;
 
 // The week in which an order is released, and how late that is, in the unit of lead times.
 #[derive(Clone, Copy)]
@@ -16,6 +16,7 @@ pub struct Release {
 }
 
 // A release a lead time in weeks before an order is due; in week 1, and late, if there is no such week.
+#[inline(always)]
 fn weeks_before(due: u16, lead: u16) -> Release
     requires { lead ≤ MOST_LEAD }
     ensures { result ≡ weeks_before due lead }
@@ -28,6 +29,7 @@ fn weeks_before(due: u16, lead: u16) -> Release
 
 // A release a lead time in shop days before an order is due; in week 1, and late, if there is no such
 // day.
+#[inline(never)]
 fn shop_days_before(calendar: &Calendar, due: u16, lead: u16) -> Release
     requires due { IsInRange 1 calendar.now.weeks due }
     requires lead { lead ≤ MOST_LEAD }
@@ -37,15 +39,15 @@ fn shop_days_before(calendar: &Calendar, due: u16, lead: u16) -> Release
     Release { week, late }
 }
 
-// The release of an order that is due in a week of the horizon, by its item's lead time, as the tables
-// count it.
-pub fn release_for(tables: &Tables, due: u16, lead: u16) -> Release
-    requires due { IsInRange 1 tables.now.calendar.weeks due }
+// The release of an order that is due in a week of the horizon, by its item's lead time.
+#[inline(always)]
+pub fn release_for(calendar: &Calendar, unit: LeadUnit, due: u16, lead: u16) -> Release
+    requires due { IsInRange 1 calendar.now.weeks due }
     requires lead { lead ≤ MOST_LEAD }
-    ensures { result ≡ release_of tables.now due lead }
+    ensures { result ≡ release_in unit calendar.now due lead }
 {
-    match tables.lead_unit() {
+    match unit {
         LeadUnit::Weeks => weeks_before(due, lead),
-        LeadUnit::ShopDays => shop_days_before(tables.calendar(), due, lead),
+        LeadUnit::ShopDays => shop_days_before(calendar, due, lead),
     }
 }

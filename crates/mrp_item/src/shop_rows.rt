@@ -1,7 +1,7 @@
 //! A shop's rows, grouped by their items.
 
 use crate::due::Due;
-use crate::grouping::{firm_by_item, forecasts_by_item, receipts_by_item};
+use crate::grouping::{firm_by_item, forecasts_by_item, receipts_by_item, services_by_item};
 use mrp_bill::{Grouped, Shop};
 use mrp_master::Supply;
 use mrp_qty::{NoMemory, Qty};
@@ -10,13 +10,15 @@ use std::marker::Model;
 use std::sync::Arc;
 
 /// A shop with its rows grouped by item: the supply for available to promise, and for each item the
-/// firm rows, the forecasts and the open receipts. All inputs of plans for the shop can share it.
+/// firm rows, the forecasts, the service rows and the open receipts. All inputs of plans for the shop
+/// can share it.
 #[derive(Drop)]
 pub struct ShopRows {
     shop: Arc<Shop>,
     supply: Supply,
     firm: Grouped<Due>,
     forecasts: Grouped<Due>,
+    services: Grouped<Due>,
     receipts: Grouped<Due>,
 }
 
@@ -36,7 +38,7 @@ impl ShopRows {
     ghost use Rattle.std.specs.Prelude.{◌≡◌, ◌<◌, All, IfOk, length};
     ghost use Rattle.std.specs.Int.{IsInRange};
     ghost use Rattle.mrp_master.specs.Supply.{on_hand_of, supply_of};
-    ghost use Rattle.mrp_item.specs.Dues.{firm_dues, forecast_dues, receipt_dues};
+    ghost use Rattle.mrp_item.specs.Dues.{firm_dues, forecast_dues, receipt_dues, service_dues};
 
     /// The rows of a shop.
     ///
@@ -49,12 +51,14 @@ impl ShopRows {
         let count = tables.items().len();
         let firm = firm_by_item(alloc, count, tables.master())?;
         let forecasts = forecasts_by_item(alloc, count, tables.master())?;
+        let services = services_by_item(alloc, count, tables.master())?;
         let receipts = receipts_by_item(alloc, count, tables.receipts())?;
         let rows = ShopRows {
             shop,
             supply,
             firm,
             forecasts,
+            services,
             receipts,
         };
         Ok(Arc::new(alloc, rows)?)
@@ -96,6 +100,15 @@ impl ShopRows {
         ensures { result.now ≡ forecast_dues self.now.tables.master item }
     {
         self.forecasts.group(item)
+    }
+
+    // The service rows of an item.
+    pub(crate) fn services(&self, item: usize) -> &[Due]
+        requires { item < length self.now.tables.items }
+        ensures dues { result.now ≡ service_dues self.now.tables.master item }
+        ensures within { All (λ due. IsInRange 1 self.now.tables.calendar.weeks due.week) result.now }
+    {
+        self.services.group(item)
     }
 
     // The open receipts of an item.

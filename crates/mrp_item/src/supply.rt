@@ -9,6 +9,7 @@ ghost use Rattle.mrp_item.specs.Dues.{due_sum};
 
 use crate::due::{Due, dated};
 use crate::inputs::Inputs;
+use crate::planned::Planned;
 use mrp_net::Stock;
 use mrp_phase::{PhaseFault, Weeks};
 use mrp_qty::{NoMemory, Qty};
@@ -69,4 +70,23 @@ pub fn independent_demand(
     let forecast = dated(alloc, weeks, inputs.forecasts(item))?;
     let booked = dated(alloc, weeks, inputs.bookings(item))?;
     Ok(higher(alloc, forecast.as_slice(), booked.as_slice())?)
+}
+
+impl Planned {
+    ghost use Rattle.std.specs.Prelude.{◌≡◌, IfOk};
+    ghost use Rattle.mrp_item.specs.Rows.{stock_of};
+
+    /// The item's stock and scheduled receipts, before planning. No plan keeps them: few items have
+    /// scheduled receipts, and theirs are quickly added up.
+    ///
+    /// Errors: `NoMemory` if an allocation fails.
+    pub fn stock(&self, alloc: Global) -> Result<Stock, NoMemory>
+        ensures { IfOk result (λ stock. stock ≡ stock_of self.now.inputs self.now.item) }
+    {
+        match stock_for(alloc, self.inputs(), self.item()) {
+            Ok(stock) => Ok(stock),
+            Err(PhaseFault::NoMemory) => Err(NoMemory),
+            Err(PhaseFault::TooLarge) => unreachable!(),
+        }
+    }
 }

@@ -1,7 +1,8 @@
 -- Lot sizing: the planned receipts up to each week, from the net requirements up to each.
-use Rattle.std.specs.Prelude.{ℕ, zero, suc, ◌≡◌, ◌<◌, ◌≤◌, ◌+◌, ◌-◌, min, nat_le, if◌then◌else◌}
+use Rattle.std.specs.Prelude.{ℕ, zero, suc, ◌≡◌, ◌<◌, ◌≤◌, ◌+◌, ◌-◌, max, min, nat_le, if◌then◌else◌}
 use Rattle.mrp_qty.specs.Quantity.{multiple_of}
 use Rattle.mrp_net.specs.Need.{IsNeed}
+use Rattle.mrp_lots.specs.declared.lot.TheConstants.{MOST_LEAST, MOST_PERIOD, MOST_STEP}
 
 -- a lot rule: the receipts up to a week, from the horizon, the net requirements up to each week, the week, and the
 -- receipts before it (APICS Dictionary: lot sizing)
@@ -23,6 +24,25 @@ last_of horizon n week = min (week + n - 1) horizon
 -- where net requirements are not covered, those of n weeks from there on (Orlicky: fixed period requirements)
 abbrev pub period : ℕ → Rule
 period n horizon need week before = if nat_le (need week) before then before else need (last_of horizon n week)
+
+-- the order for a quantity that is lacking: raised to a minimum, and then up to a whole multiple of a step (APICS
+-- Dictionary: minimum order quantity, order multiple)
+abbrev pub order_of : ℕ → ℕ → ℕ → ℕ
+order_of least step lacking = multiple_of step (max lacking least)
+
+-- where net requirements are not covered, one order for those of n weeks from there on that are not (Orlicky: fixed
+-- period requirements; APICS Dictionary: minimum order quantity, order multiple)
+abbrev pub stepped : ℕ → ℕ → ℕ → Rule
+stepped n least step horizon need week before =
+    if nat_le (need week) before then before else before + order_of least step (need (last_of horizon n week) - before)
+
+-- the limits of a period, a minimum order quantity and an order multiple
+pub record IsStepped (weeks least step : ℕ) : Type 0 where
+  pub some_weeks : 0 < weeks
+  pub most_weeks : weeks ≤ MOST_PERIOD
+  pub most_least : least ≤ MOST_LEAST
+  pub some_step : 0 < step
+  pub most_step : step ≤ MOST_STEP
 
 -- the planned receipts up to a week (APICS Dictionary: planned order receipts)
 unfoldable pub receipts : Rule → ℕ → (ℕ → ℕ) → ℕ → ℕ

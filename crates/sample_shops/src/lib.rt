@@ -11,6 +11,6 @@ pub use asked::{Asked, Said, pieces, said};
 pub use books::{book_of, snapshot_of};
 pub use records::Records;
 pub use shops::{
-    bicycles, bicycles_in_lots, bicycles_welded, chain, fork, morning, no_records,
-    product_bookings, products, screws, service_wheels, tower,
+    bicycles, bicycles_in_lots, bicycles_welded, bicycles_with_service, chain, fork, morning,
+    no_records, product_bookings, products, screws, tower,
 };

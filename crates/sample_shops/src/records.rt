@@ -35,8 +35,8 @@ pub struct Records<'a> {
 }
 
 impl Records<'_> {
-    // What the items begin with: in version 3 they have two columns more.
-    fn items_head(&self) -> &'static str {
+    // The columns of the items: from version 3 on with a minimum order quantity and an order multiple.
+    fn items_header(&self) -> &'static str {
         if self.calendar.starts_with("version,3\n") {
             "[items]\nitem,class,lead,scrap,lot,size,safety,least,step\n"
         } else {
@@ -49,7 +49,7 @@ impl Records<'_> {
         let pieces = [
             "[calendar]\nkey,value\n",
             self.calendar,
-            self.items_head(),
+            self.items_header(),
             self.items,
             "[centres]\ncentre,minutes\n",
             self.centres,

@@ -52,9 +52,9 @@ pub fn bicycles_welded() -> Records<'static> {
     }
 }
 
-/// Bicycles in lots, with lead times in shop days. Wheels are service parts too: 7 are needed in week 3. They
-/// are ordered by the dozen, at least 50 at a time.
-pub fn service_wheels() -> Records<'static> {
+/// The same by the rules of version 3: lead times are in shop days; wheels come by the dozen, 50 or more
+/// at a time, and 7 of them are for service.
+pub fn bicycles_with_service() -> Records<'static> {
     Records {
         calendar: "version,3\nstart,2025-01-06\nweeks,6\nworkdays,1111100\nholiday,2025-01-20\n",
         items: "\
@@ -67,7 +67,7 @@ BIKE,firm,2025-02-03,20\n\
 BIKE,forecast,2025-01-13,8\n\
 BIKE,forecast,2025-01-27,6\n\
 WHEEL,service,2025-01-22,7\n",
-        ..bicycles_in_lots()
+        ..bicycles_welded()
     }
 }
 

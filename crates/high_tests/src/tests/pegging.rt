@@ -4,7 +4,7 @@ use super::{made, same};
 use mrp_item::Plan;
 use mrp_peg::{Need, NeedKind, Peg, Supplied, item_pegs, pegs};
 use sample_shops::{
-    Records, bicycles_in_lots, morning, product_bookings, products, service_wheels,
+    Records, bicycles_in_lots, bicycles_with_service, morning, product_bookings, products,
 };
 use std::alloc::Global;
 use std::process::Abort;
@@ -278,7 +278,7 @@ const WHEEL_PEGS: &[Cells] = &[
 
 #[test]
 fn service_part_demand_is_a_requirement(rt: HostRuntime) {
-    let plan = made(&rt, service_wheels().plan(rt.alloc(), morning()));
+    let plan = made(&rt, bicycles_with_service().plan(rt.alloc(), morning()));
     let wheels = item_pegs(rt.alloc(), &plan, 2).expect(&rt, "pegs");
     are_pegs(&rt, wheels.as_slice(), WHEEL_PEGS);
     drop((plan, wheels));

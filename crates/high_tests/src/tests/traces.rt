@@ -5,7 +5,7 @@ use super::{made, same};
 use mrp_item::Plan;
 use mrp_peg::{Cause, Need, NeedKind, Supplied, sources, trace};
 use sample_shops::{
-    Asked, Records, bicycles, bicycles_in_lots, morning, no_records, service_wheels,
+    Asked, Records, bicycles, bicycles_in_lots, bicycles_with_service, morning, no_records,
 };
 use std::alloc::Global;
 use std::process::Abort;
@@ -80,7 +80,7 @@ fn a_booking_is_its_own_cause_and_what_is_not_there_has_none(rt: HostRuntime) {
 
 #[test]
 fn service_part_demand_is_its_own_cause(rt: HostRuntime) {
-    let plan = made(&rt, service_wheels().plan(rt.alloc(), morning()));
+    let plan = made(&rt, bicycles_with_service().plan(rt.alloc(), morning()));
     let itself = &[Cause::Service { item: 2, row: 5 }];
     goes_back(&rt, rt.alloc(), &plan, &service(3, 5), &[], itself);
     goes_back(&rt, rt.alloc(), &plan, &service(4, 5), &[], &[]);

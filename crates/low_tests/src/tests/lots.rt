@@ -5,7 +5,7 @@ ghost use Rattle.mrp_phase.specs.Weeks.{in_week};
 
 use super::weeks::{has_row, of_one_length, row_of};
 use super::{MOST, pieces, same};
-use mrp_lots::{Fixed, Lot, LotForLot, Period, receipts};
+use mrp_lots::{Fixed, Lot, LotForLot, Period, Stepped, receipts};
 use mrp_net::{NeedRow, NetFault, Stock, need};
 use mrp_phase::Weeks;
 use mrp_qty::Qty;
@@ -85,6 +85,35 @@ fn a_period_ends_with_the_horizon(rt: HostRuntime) {
     comes(&rt, rt.alloc(), &gross, &Period::new(104), &[12; 6]);
 }
 
+// Orders for a number of weeks with a minimum order quantity and an order multiple.
+fn stepped(rt: &impl Abort, weeks: u64, least: u64, step: u64) -> Stepped {
+    Stepped::new(weeks, least, step).expect(rt, "a lot rule")
+}
+
+#[test]
+fn bikes_come_5_or_more_in_fours(rt: HostRuntime) {
+    let gross = [0, 8, 0, 0, 3, 0];
+    comes(
+        &rt,
+        rt.alloc(),
+        &gross,
+        &stepped(&rt, 1, 5, 4),
+        &[0, 8, 8, 8, 16, 16],
+    );
+}
+
+#[test]
+fn wheels_come_50_or_more_in_dozens(rt: HostRuntime) {
+    let gross = [0, 26, 7, 46, 0, 0];
+    comes(
+        &rt,
+        rt.alloc(),
+        &gross,
+        &stepped(&rt, 2, 50, 12),
+        &[0, 60, 60, 120, 120, 120],
+    );
+}
+
 #[test]
 fn lots_past_the_greatest_quantity_are_too_large(rt: HostRuntime) {
     let needs = needs_of(&rt, rt.alloc(), &[1, 0, 0, 0, 0, MOST - 1]);
@@ -96,4 +125,30 @@ fn lots_past_the_greatest_quantity_are_too_large(rt: HostRuntime) {
     );
     let whole = Fixed::new(MOST);
     comes(&rt, rt.alloc(), &[1, 0, 0, 0, 0, 0], &whole, &[MOST; 6]);
+}
+
+#[test]
+fn an_order_multiple_past_the_greatest_quantity_is_too_large(rt: HostRuntime) {
+    let needs = needs_of(&rt, rt.alloc(), &[0, 0, 0, 0, 0, MOST]);
+    let thirds = stepped(&rt, 1, 0, 3);
+    same(
+        &rt,
+        receipts(rt.alloc(), &needs, &thirds).err(),
+        Some(NetFault::TooLarge),
+    );
+    let pairs = stepped(&rt, 1, 0, 2);
+    let gross = [0, 0, 0, 0, 0, MOST];
+    comes(&rt, rt.alloc(), &gross, &pairs, &gross);
+}
+
+#[test]
+fn lots_have_a_period_and_a_multiple_within_limits(rt: HostRuntime) {
+    let most = 1_000_000_000;
+    assert!(rt; Stepped::new(1, 0, 1).is_some());
+    assert!(rt; Stepped::new(104, most, most).is_some());
+    assert!(rt; Stepped::new(0, 0, 1).is_none());
+    assert!(rt; Stepped::new(105, 0, 1).is_none());
+    assert!(rt; Stepped::new(1, most + 1, 1).is_none());
+    assert!(rt; Stepped::new(1, 0, 0).is_none());
+    assert!(rt; Stepped::new(1, 0, most + 1).is_none());
 }

@@ -4,7 +4,7 @@ ghost use Rattle.std.specs.Prelude.{◌≡◌, length};
 
 use super::making::outcomes_of;
 use super::worked::{
-    BICYCLE_PLANS, BOOKED_PLANS, OrderCells, PLANS_IN_LOTS, PLANS_WITH_TUBES,
+    BICYCLE_PLANS, BOOKED_PLANS, OrderCells, PLANS_IN_LOTS, PLANS_WITH_SERVICE, PLANS_WITH_TUBES,
     PLANS_WITH_WHEELS_OF_FRAMES, Worked,
 };
 use super::{made, same};
@@ -12,7 +12,9 @@ use mrp_item::{Due, Inputs, Order, Outcome, Plan, Planned, ShopRows};
 use mrp_net::{balance_row, never_fall};
 use mrp_phase::Weeks;
 use mrp_qty::Qty;
-use sample_shops::{Asked, Records, bicycles, bicycles_in_lots, chain, fork, morning};
+use sample_shops::{
+    Asked, Records, bicycles, bicycles_in_lots, bicycles_with_service, chain, fork, morning,
+};
 use std::alloc::Global;
 use std::process::Abort;
 use std::sync::Arc;
@@ -52,7 +54,7 @@ fn of_one_length(rt: &impl Abort, left: &Weeks<Qty>, right: &Weeks<Qty>)
 fn is_planned(rt: &impl Abort, alloc: Global, planned: &Planned, want: &Worked) {
     let gross = planned.gross();
     let receipts = planned.receipts();
-    let stock = planned.stock();
+    let stock = planned.stock(alloc).expect(rt, "memory");
     has_row(rt, gross, &want.gross);
     has_row(rt, receipts, &want.receipts);
     has_row(rt, planned.started(), &want.started);
@@ -60,9 +62,9 @@ fn is_planned(rt: &impl Abort, alloc: Global, planned: &Planned, want: &Worked) 
     of_one_length(rt, &stock.scheduled, gross);
     of_one_length(rt, receipts, gross);
     assert!(rt; never_fall(receipts.as_slice()));
-    let balances = balance_row(alloc, gross, stock, receipts).expect(rt, "balances");
+    let balances = balance_row(alloc, gross, &stock, receipts).expect(rt, "balances");
     has_row(rt, &balances, &want.balances);
-    drop(balances);
+    drop((balances, stock));
 }
 
 // Fails unless the items of a plan have these plans.
@@ -126,6 +128,23 @@ fn parts_are_planned_in_lots_beside_open_receipts(rt: HostRuntime) {
         are_planned(&rt, rt.alloc(), &plan, PLANS_IN_LOTS);
         drop(plan);
     }
+}
+
+// Fails unless the wheels alone have service parts demand.
+fn tell_service(rt: &impl Abort, inputs: &Inputs) {
+    assert!(rt; inputs.shop().tables().items().len() == 3);
+    are_due(rt, inputs.services(0), &[]);
+    are_due(rt, inputs.services(1), &[]);
+    are_due(rt, inputs.services(2), &[(5, 3, 7)]);
+}
+
+#[test]
+fn service_parts_are_planned_beside_components(rt: HostRuntime) {
+    let inputs = made(&rt, bicycles_with_service().inputs(rt.alloc(), morning()));
+    tell_service(&rt, &inputs);
+    let plan = plan_of(&rt, rt.alloc(), inputs);
+    are_planned(&rt, rt.alloc(), &plan, PLANS_WITH_SERVICE);
+    drop(plan);
 }
 
 #[test]

@@ -2,7 +2,7 @@
 
 use mrp_item::OrderKind;
 
-// An order: kind, due week, pieces due, pieces started, release week, weeks late.
+// An order: kind, due week, pieces due, pieces started, release week, weeks or shop days late.
 pub type OrderCells = (OrderKind, u16, u64, u64, u16, u16);
 
 // An item's plan, week by week: receipts are cumulative.
@@ -143,8 +143,33 @@ const WHEELS_IN_LOTS: Worked = Worked {
     ],
 };
 
-// The same, and tubes, three in a frame, with half of the pieces started scrap: the starts of the
-// frames require them.
+// The same with lead times in shop days, and wheels with service parts demand, by the dozen.
+pub const PLANS_WITH_SERVICE: &[Worked; 3] = &[BOOKED_BIKES, FRAMES_BY_DAYS, WHEELS_BY_DOZENS];
+
+const FRAMES_BY_DAYS: Worked = Worked {
+    gross: [8, 20, 0, 23, 0, 0],
+    receipts: [20, 40, 40, 40, 40, 40],
+    started: [46, 0, 0, 0, 0, 0],
+    balances: [24, 24, 39, 16, 16, 16],
+    orders: &[
+        (OrderKind::Planned, 1, 20, 23, 1, 6),
+        (OrderKind::Planned, 2, 20, 23, 1, 1),
+    ],
+};
+
+const WHEELS_BY_DOZENS: Worked = Worked {
+    gross: [16, 40, 7, 46, 0, 0],
+    receipts: [0, 60, 60, 120, 120, 120],
+    started: [120, 0, 0, 0, 0, 0],
+    balances: [14, 34, 27, 41, 41, 41],
+    orders: &[
+        (OrderKind::Planned, 2, 60, 60, 1, 5),
+        (OrderKind::Planned, 4, 60, 60, 1, 0),
+    ],
+};
+
+// Bicycles and parts in lots, and tubes, three in a frame, with half of the pieces started scrap: the
+// starts of the frames require them.
 pub const PLANS_WITH_TUBES: &[Worked; 4] = &[
     BOOKED_BIKES,
     FRAMES_IN_LOTS,

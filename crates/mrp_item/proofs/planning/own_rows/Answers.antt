@@ -1,4 +1,4 @@
-use Rattle.std.proofs.Common.{◌≡◌, ◌∙◌, ◌≤◌, List, inr, length, subst, sym, ap, arith, rules}
+use Rattle.std.proofs.Common.{◌≡◌, ◌∙◌, ◌≤◌, List, length, subst, sym, ap, arith, rules}
 use Rattle.std.specs.Prelude.{slice_index, sum_by}
 use Rattle.std.proofs.lemmas.Result.{err_from_is_err_and}
 use Rattle.mrp_qty.specs.Quantity.{greatest_quantity}
@@ -23,15 +23,8 @@ returns-in_err-gross-clause-over c =
     let s = c.args.inputs.now in
     rw (p.1, p.2) (λ over. gross-over s (slice_index c.shop-ranked.result.now.codes) c.args.item c.shop-ranked.ensures.ranked c.requires.ready (c.in_err-gross.ensures.over over))
 
-pub returns-in_err-stock-clause-over : goal.returns-in_err-stock-clause-over
-returns-in_err-stock-clause-over c =
-    let p = err_from_is_err_and c.from_residual-in_err-stock.result c.from_residual-in_err-stock.ensures.1 in
-    let s = c.args.inputs.now in
-    let i = c.args.item in
-    rw (p.1, p.2) (λ over. past-over s (slice_index c.shop-ranked.result.now.codes) i c.shop-ranked.ensures.ranked c.requires.ready (inr (omega (arith, c.in_err-stock.ensures.over over))))
-
-pub receipts_row-requires-clause-weeks : goal.receipts_row-requires-clause-weeks
-receipts_row-requires-clause-weeks c =
+pub own_receipts-requires-clause-weeks : goal.own_receipts-requires-clause-weeks
+own_receipts-requires-clause-weeks c =
     let s = c.args.inputs.now in
     ap length c.in_ok-gross.ensures.value ∙ length-row (gross_in s c.args.item (outcome_of s)) (horizon s)
 
@@ -68,12 +61,11 @@ returns-clause-rows c =
     c.into_vec-orders.ensures.orders ∙ c.in_ok-orders_for.ensures.value ∙ ap (orders_of s i) (c.as_slice.ensures ∙ received) in
     let starts : sum_by (λ (o : Order). o.start) (orders_of s i (receipts_of s i (own_gross s i))) ≤ greatest_quantity = omega (arith, c.into_vec-orders.ensures.within, ap (sum_by (λ (o : Order). o.start)) (sym c.into_vec-orders.ensures.orders ∙ orders)) in
     let within : AreWithin s i (own_gross s i) = (let P : List _ → Type 0 = λ xs. AreWithin s i xs in subst P gross c.in_ok-receipts.ensures.within) in
-    let rows : PlanRows = record { gross = c.in_ok-gross.gross; receipts = c.in_ok-receipts.receipts; orders = c.into_vec-orders.result; started = c.in_ok-started.started; stock = c.in_ok-stock.stock } in
+    let rows : PlanRows = record { gross = c.in_ok-gross.gross; receipts = c.in_ok-receipts.receipts; orders = c.into_vec-orders.result; started = c.in_ok-started.started } in
     let own : AreRowsOf s i rows = record {
       outcome =
           within-planned s (slice_index c.shop-ranked.result.now.codes) i c.shop-ranked.ensures.ranked c.requires.ready within starts
           ∙ sym (λ k. plan.Planned (record { gross = gross k; receipts = received k; orders = orders k }));
       started = search rules;
-      stock = c.in_ok-stock.ensures.value;
     } in
     subst (λ (r : PlanRows). AreRowsOf s i r) (sym c.in_ok-new.ensures.ok) own

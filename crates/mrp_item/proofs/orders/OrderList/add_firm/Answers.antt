@@ -8,5 +8,5 @@ pub returns-in_err-add-clause-over : goal.returns-in_err-add-clause-over
 returns-in_err-add-clause-over c =
     let p = err_from_is_err_and c.from_residual.result c.from_residual.ensures.1 in
     rw (p.1, p.2) (λ over.
-    firm_past (order_of c.args.tables.now c.args.item.now Firm c.args.week) c.args.week c.args.dues.now c.loop-due.due-index c.due-item.result c.args.self.now
+    firm_past (order_of c.args.terms.now.tables.now c.args.terms.now.item.now Firm c.args.week) c.args.week c.args.dues.now c.loop-due.due-index c.due-item.result c.args.self.now
     c.loop-due-test.true c.due-item.is c.if-due-week.true (rw c.loop-due.invariant at (c.in_err-add.ensures.over over)))

@@ -5,4 +5,4 @@ use Rattle.mrp_item.specs.Orders.{order_of}
 use Rattle.mrp_item.proofs.orders.OrderList.add_firm.Given as goal
 
 abbrev pub invariant-loop-due : goal.invariant-loop-due
-invariant-loop-due l = l.self ≡ l.initial.self ++ map (order_of l.tables l.item Firm l.week) (due_in l.week (take l.due-index l.dues))
+invariant-loop-due l = l.self ≡ l.initial.self ++ map (order_of l.terms.tables.now l.terms.item.now Firm l.week) (due_in l.week (take l.due-index l.dues))
