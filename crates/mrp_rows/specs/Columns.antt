@@ -21,9 +21,17 @@ pub record Layout : Type 0 where
   pub table : Table
   pub columns : List (List ℕ)
 
--- the layout that a table has in every bundle
+-- a table's own layout
 abbrev pub layout_of : Table → Layout
 layout_of table = record { table = table; columns = columns_of table }
+
+-- the columns of items that also have a minimum order quantity and an order multiple
+abbrev pub stepped_columns : List (List ℕ)
+stepped_columns = codes "item" ∷ codes "class" ∷ codes "lead" ∷ codes "scrap" ∷ codes "lot" ∷ codes "size" ∷ codes "safety" ∷ codes "least" ∷ codes "step" ∷ []
+
+-- the layout of such items
+abbrev pub stepped_layout : Layout
+stepped_layout = record { table = t.Items; columns = stepped_columns }
 
 -- how many cells each record has
 abbrev pub width : Layout → ℕ

@@ -44,6 +44,7 @@ fault_names =
     ∷ codes "too-many"
     ∷ codes "loop"
     ∷ codes "no-memory"
+    ∷ codes "service-master"
     ∷ []
 
 -- a fault's name; a code that no fault has is named `fault`

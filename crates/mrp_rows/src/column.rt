@@ -2,7 +2,7 @@
 
 ghost use Rattle.std.specs.Prelude.{◌≡◌, length, map, nat_eq};
 ghost use Rattle.std.specs.Cmp.Lexicographic.{pointwise};
-ghost use Rattle.mrp_rows.specs.Columns.{columns_of};
+ghost use Rattle.mrp_rows.specs.Columns.{columns_of, stepped_columns};
 
 use crate::fault::Table;
 use crate::row::Row;
@@ -23,6 +23,16 @@ pub(crate) fn columns(table: Table) -> &'static [&'static str]
         Table::Script => &["desk", "call", "item", "date", "quantity", "number"],
         Table::Bundle => &[],
     }
+}
+
+/// The names of the items' columns where they also have a minimum order quantity and an order
+/// multiple, in order.
+pub(crate) fn stepped_columns() -> &'static [&'static str]
+    ensures { map (λ c. c.now) result.now ≡ stepped_columns }
+{
+    &[
+        "item", "class", "lead", "scrap", "lot", "size", "safety", "least", "step",
+    ]
 }
 
 // Whether a record's cells are these names, in order.

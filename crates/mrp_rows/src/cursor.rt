@@ -2,13 +2,13 @@
 
 ghost use Rattle.std.specs.Prelude.{◌≡◌, false, map};
 ghost use Rattle.mrp_rows.specs.Bundle.{text_in};
-ghost use Rattle.mrp_rows.specs.Columns.{layout_of};
+ghost use Rattle.mrp_rows.specs.Columns.{layout_of, stepped_layout};
 ghost use Rattle.mrp_rows.specs.Next.{GivesUnless, NextIs, TakesNext, headed, memory_fault, opened};
 ghost use Rattle.mrp_rows.specs.Reading.{IsReading, ReadsCells};
 ghost use Rattle.mrp_rows.specs.Records.{records_of};
 
 use crate::bundle::Sections;
-use crate::column::{columns, is_header};
+use crate::column::{columns, is_header, stepped_columns};
 use crate::fault::{Fault, Table};
 use crate::faults::{COLUMNS, HEADER, NO_MEMORY};
 use crate::row::Row;
@@ -83,14 +83,36 @@ impl<'a> Cursor<'a> {
         ensures { GivesUnless (memory_fault table 0) result
             (opened (layout_of table) (text_in sections.now table)) }
     {
-        Cursor::over(alloc, sections.text_of(table), table)
+        Cursor::over(alloc, sections.text_of(table), table, columns(table))
     }
 
-    // The records of a table's text, after its header.
-    pub(crate) fn over(alloc: Global, text: &'a [u8], table: Table) -> Result<Cursor<'a>, Fault>
-        ensures { GivesUnless (memory_fault table 0) result (opened (layout_of table) text.now) }
+    /// The records of the items' table, after its header, where the items also have a minimum order
+    /// quantity and an order multiple: each record has nine cells.
+    ///
+    /// Errors, at row 0: `HEADER` if the header's cells are not exactly `item`, `class`, `lead`,
+    /// `scrap`, `lot`, `size`, `safety`, `least` and `step`, or if there is no record; `NO_MEMORY`.
+    pub fn stepped_items(alloc: Global, sections: &Sections<'a>) -> Result<Cursor<'a>, Fault>
+        ensures { GivesUnless (memory_fault Table.Items 0) result
+            (opened stepped_layout (text_in sections.now Table.Items)) }
     {
-        let columns = columns(table);
+        Cursor::over(
+            alloc,
+            sections.text_of(Table::Items),
+            Table::Items,
+            stepped_columns(),
+        )
+    }
+
+    // The records of a table's text, after its header, which has these columns.
+    fn over(
+        alloc: Global,
+        text: &'a [u8],
+        table: Table,
+        columns: &'static [&'static str],
+    ) -> Result<Cursor<'a>, Fault>
+        ensures { GivesUnless (memory_fault table 0) result
+            (opened (record { table = table; columns = map (λ name. name.now) columns.now }) text.now) }
+    {
         let mut cursor = Cursor::front(alloc, text, table, columns);
         let first = cursor.take_next()?;
         headed(table, columns, &first)?;

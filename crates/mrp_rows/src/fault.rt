@@ -7,7 +7,8 @@ ghost use Rattle.std.specs.Prelude.{◌≡◌, ◌<◌};
 pub enum Table {
     /// The start of the horizon, its weeks, and the shop's workdays and holidays.
     Calendar,
-    /// Master items and parts, with lead time, scrap, lot rule and safety stock.
+    /// Master items and parts, with lead time, scrap, lot rule and safety stock, and where the
+    /// bundle's version has them a minimum order quantity and an order multiple.
     Items,
     /// The work centres.
     Centres,
@@ -19,7 +20,7 @@ pub enum Table {
     Bills,
     /// The routings, a line for each operation.
     Routings,
-    /// The master schedule: firm and forecast rows.
+    /// The master schedule: firm, forecast and service rows.
     Master,
     /// The desks' calls.
     Script,

@@ -69,6 +69,10 @@ pub const LOOP: u8 = 21;
 /// Out of memory.
 pub const NO_MEMORY: u8 = 22;
 
+/// A service row of the master schedule is of a master item. It comes after the faults up to
+/// `MASTER_COMPONENT`.
+pub const SERVICE_MASTER: u8 = 23;
+
 /// A fault's name by its number; `fault` for a number that no fault has.
 pub(crate) fn fault_name(code: u8) -> &'static str
     ensures { result.now ≡ fault_name code }
@@ -96,6 +100,7 @@ pub(crate) fn fault_name(code: u8) -> &'static str
         TOO_MANY => "too-many",
         LOOP => "loop",
         NO_MEMORY => "no-memory",
+        SERVICE_MASTER => "service-master",
         _ => "fault",
     }
 }

@@ -23,11 +23,12 @@ use Rattle.mrp_tables.specs.declared.calendar.First.TheVariants as first
 use Rattle.mrp_tables.specs.declared.calendar.Entry.TheVariants.{Start, Weeks, Workdays, Holiday}
 use Rattle.mrp_tables.specs.Bills.{bill_row}
 use Rattle.mrp_tables.specs.declared.version.TheConstants.{MOST_VERSION}
+use Rattle.mrp_tables.specs.declared.version.Version.{Version}
 use Rattle.mrp_tables.specs.Calendar.{entry_row, holiday_cells, start_cells, weeks_cells, workdays_cell, workdays_cells, calendar_reads, dated_of, dated_row, first_cells, first_entry, start_cell, version_cell}
 use Rattle.mrp_tables.specs.Centres.{centre_cells, centre_checked, centre_names, centre_row, known_centre}
-use Rattle.mrp_tables.specs.Items.{class_words, greatest_size, is_master, is_master_at, item_at, item_cells, item_checked, item_row, known, least_size, names_of}
+use Rattle.mrp_tables.specs.Items.{class_words, greatest_size, is_master, is_master_at, item_at, item_cells, item_checked, item_row, known, least_cell, least_size, names_of, step_cell}
 use Rattle.mrp_tables.specs.Laws.{FaultsAtItsRecord, FaultsAtTheirRecords, IsAt}
-use Rattle.mrp_tables.specs.Master.{class_fault, has_kind, kind_at, kind_words, master_row}
+use Rattle.mrp_tables.specs.Master.{class_fault, has_kind, kind_at, master_row}
 use Rattle.mrp_tables.specs.declared.receipts.OpenOrder.{OpenOrder}
 use Rattle.mrp_tables.specs.declared.rows.Receipt.{Receipt}
 use Rattle.mrp_tables.specs.Reading.{Reads, admitted, by_itself, is_past, reads_of}
@@ -39,6 +40,7 @@ use Rattle.mrp_tables.specs.declared.rows.ScriptCall.TheVariants as call
 use Rattle.mrp_tables.specs.Script.{ask_cells, book_cells, call_at, cancel_cells, mastered, script_row, spot_of, when_cells}
 use Rattle.mrp_tables.specs.Limits.{call_words, lot_words}
 use Rattle.mrp_tables.specs.Stock.{items_in_stock, stock_cells, stock_checked, stock_row}
+use Rattle.mrp_tables.specs.Versions.{has_steps, kind_words, most_lead}
 
 own : (r : Cells) (code : ℕ) → IsAt r (fault_at r code)
 own r code = record { table = refl; row = refl }
@@ -146,11 +148,11 @@ bill_at items r =
     cell r (known items component_name) _ (λ component.
     last r faults.MASTER_COMPONENT (is_master_at items component) _)))))
 
-master_at : (calendar : ShopCalendar) (items : List Item) (r : Cells) → IfErr (master_row calendar items r) (IsAt r)
+master_at : (version : Version) (calendar : ShopCalendar) (items : List Item) (r : Cells) → IfErr (master_row version calendar items r) (IsAt r)
 unfolding master_row
-master_at calendar items r =
+master_at version calendar items r =
     cell r (name_of (cell_at r 0)) _ (λ name.
-    cell r (word_of kind_words (cell_at r 1)) _ (λ kind.
+    cell r (word_of (kind_words version) (cell_at r 1)) _ (λ kind.
     cell r (date_cell (cell_at r 2)) _ (λ date.
     cell r (number_cell 0 limits.MOST_PIECES (cell_at r 3)) _ (λ quantity.
     cell r (known items name) _ (λ item.
@@ -212,16 +214,24 @@ checked_at : (before : List Item) (r : Cells) (item : Item) (repeated : Bool) �
 checked_at before r item true e = rw e (own r faults.REPEATED)
 checked_at before r item false e = rw e (last r faults.MASTER_SAFETY (is_master item.class && nat_lt 0 item.safety) item)
 
-item_at_record : (most_lead : ℕ) (before : List Item) (r : Cells) → IfErr (item_row most_lead before r) (IsAt r)
+least_at : (version : Version) (r : Cells) → IfErr (least_cell version r) (IsAt r)
+least_at version r = one_of {X = ℕ} r (has_steps version) (blame r (number_cell 0 limits.MOST_LEAST (cell_at r 7))) (Ok 0) (blamed r (number_cell 0 limits.MOST_LEAST (cell_at r 7))) tt
+
+multiple_at : (version : Version) (r : Cells) → IfErr (step_cell version r) (IsAt r)
+multiple_at version r = one_of {X = ℕ} r (has_steps version) (blame r (number_cell 1 limits.MOST_STEP (cell_at r 8))) (Ok 1) (blamed r (number_cell 1 limits.MOST_STEP (cell_at r 8))) tt
+
+item_at_record : (version : Version) (before : List Item) (r : Cells) → IfErr (item_row version before r) (IsAt r)
 unfolding item_cells
-item_at_record most_lead before r = step r (item_cells most_lead r) (item_checked before r)
+item_at_record version before r = step r (item_cells version r) (item_checked before r)
     (cell r (name_of (cell_at r 0)) _ (λ name.
     cell r (word_of class_words (cell_at r 1)) _ (λ class.
-    cell r (number_cell 0 most_lead (cell_at r 2)) _ (λ lead.
+    cell r (number_cell 0 (most_lead version) (cell_at r 2)) _ (λ lead.
     cell r (number_cell 0 limits.MOST_SCRAP (cell_at r 3)) _ (λ scrap.
     cell r (word_of lot_words (cell_at r 4)) _ (λ lot.
     cell r (number_cell (least_size lot) (greatest_size lot) (cell_at r 5)) _ (λ size.
-    cell r (number_cell 0 limits.MOST_PIECES (cell_at r 6)) _ (λ safety. tt))))))))
+    cell r (number_cell 0 limits.MOST_PIECES (cell_at r 6)) _ (λ safety.
+    step r (least_cell version r) _ (least_at version r) (λ least.
+    step r (step_cell version r) _ (multiple_at version r) (λ multiple. tt))))))))))
     (λ item. checked_at before r item (list_any (pointwise nat_eq item.name) (names_of before)) refl)
 
 spot_at : (calendar : ShopCalendar) (items : List Item) (r : Cells) (name : List ℕ) (date : Date) → IfErr (spot_of calendar items r name date) (IsAt r)
@@ -275,12 +285,12 @@ script_at calendar items r =
 pub at_their_records : FaultsAtTheirRecords
 at_their_records = record {
   calendar = reads calendar_reads entry_at;
-  items = λ most_lead. reads (reads_of t.Items (item_row most_lead)) (item_at_record most_lead);
+  items = λ version. reads (reads_of t.Items (item_row version)) (item_at_record version);
   centres = reads (reads_of t.Centres centre_row) centre_at;
   stock = λ items. reads (reads_of t.Stock (stock_row items)) (stock_at items);
   receipts = λ calendar items. reads (reads_of t.Receipts (receipt_row calendar items)) (receipt_at calendar items);
   bills = λ items. reads (reads_of t.Bills (by_itself (bill_row items))) (λ before r. bill_at items r);
   routings = λ items centres. reads (reads_of t.Routings (operation_row items centres)) (operation_at items centres);
-  master = λ calendar items. reads (reads_of t.Master (by_itself (master_row calendar items))) (λ before r. master_at calendar items r);
+  master = λ version calendar items. reads (reads_of t.Master (by_itself (master_row version calendar items))) (λ before r. master_at version calendar items r);
   script = λ calendar items. reads (reads_of t.Script (by_itself (script_row calendar items))) (λ before r. script_at calendar items r);
 }

@@ -1,5 +1,5 @@
 -- What holds of a record's row that was read.
-use Rattle.std.proofs.Common.{◌≡◌, ◌≤◌, ℕ, Bool, true, false, List, Result, Ok, refl, subst, arith}
+use Rattle.std.proofs.Common.{◌≡◌, ◌≤◌, ℕ, Bool, true, false, List, Result, Ok, refl, sym, subst, ap, arith}
 use Rattle.std.specs.Prelude.{if◌then◌else◌, nat_lt, not, ◌==◌}
 use Rattle.std.specs.Int.{IsInRange}
 use Rattle.std.specs.List.{list_any}
@@ -26,16 +26,19 @@ use Rattle.mrp_tables.specs.declared.rows.ScriptCall.{ScriptCall}
 use Rattle.mrp_tables.specs.declared.rows.ScriptCall.TheVariants as call
 use Rattle.mrp_tables.specs.declared.rows.ScriptRow.{ScriptRow}
 use Rattle.mrp_tables.specs.declared.rows.StockRow.{StockRow}
+use Rattle.mrp_tables.specs.declared.version.Version.{Version}
+use Rattle.mrp_tables.specs.declared.version.Version.TheVariants.{One, Two, Three}
 use Rattle.mrp_tables.specs.Bills.{bill_row}
 use Rattle.mrp_tables.specs.Centres.{centre_cells, known_centre}
 use Rattle.mrp_tables.specs.Facts.{IsBillLine, IsCentre, IsItemUnlessStocked, IsMasterItem, IsMasterRowIfAny, IsOpenOrder, IsOperation, IsReceiptIfAny, IsRoutingLine, IsScriptCall, IsScriptRow, IsStockRow}
-use Rattle.mrp_tables.specs.Items.{class_at, class_words, greatest_size, is_master_at, item_at, item_cells, known, least_size, lot_at}
+use Rattle.mrp_tables.specs.Items.{class_at, class_words, greatest_size, is_master_at, item_at, item_cells, known, least_cell, least_size, lot_at, step_cell}
 use Rattle.mrp_tables.specs.Limits.{call_words, lot_words}
-use Rattle.mrp_tables.specs.Master.{class_fault, has_kind, kind_at, kind_words, master_row}
+use Rattle.mrp_tables.specs.Master.{class_fault, has_kind, kind_at, master_row}
 use Rattle.mrp_tables.specs.Receipts.{order_cells, order_checked, receipt_beside, receipt_placed, same_order}
 use Rattle.mrp_tables.specs.Routings.{operation_beside, routing_cells, routing_checked, routing_placed, same_operation}
 use Rattle.mrp_tables.specs.Script.{ask_cells, book_cells, call_at, cancel_cells, mastered, script_row, spot_of, when_cells}
 use Rattle.mrp_tables.specs.Stock.{stock_cells}
+use Rattle.mrp_tables.specs.Versions.{has_steps, kind_words, most_lead}
 use Rattle.mrp_tables.proofs.CellsRead.{centre-there, in_range, in_week, master-there, named, same_value, there, unless}
 
 pub is_bill_line : (items : List Item) (r : Cells) (line : BillLine) → bill_row items r ≡ Ok line → IsBillLine items line
@@ -163,11 +166,11 @@ is_routed items centres seen r row e =
     let is = is_routing_line items r read.0 read.1 in
     routed items centres seen r read.0 row is last.0 (rw last.1 checked.2)
 
-pub is_master_row : (calendar : ShopCalendar) (items : List Item) (r : Cells) (row : MasterRow) → master_row calendar items r ≡ Ok row → IsMasterRowIfAny calendar.weeks items row
+pub is_master_row : (version : Version) (calendar : ShopCalendar) (items : List Item) (r : Cells) (row : MasterRow) → master_row version calendar items r ≡ Ok row → IsMasterRowIfAny calendar.weeks items row
 unfolding master_row
-is_master_row calendar items r row e =
+is_master_row version calendar items r row e =
     let name = whole_step (blame r (name_of (cell_at r 0))) _ row e in
-    let kind = whole_step (blame r (word_of kind_words (cell_at r 1))) _ row name.2 in
+    let kind = whole_step (blame r (word_of (kind_words version) (cell_at r 1))) _ row name.2 in
     let date = whole_step (blame r (date_cell (cell_at r 2))) _ row kind.2 in
     let quantity = whole_step (blame r (number_cell 0 limits.MOST_PIECES (cell_at r 3))) _ row date.2 in
     let item = whole_step (blame r (known items name.0)) _ row quantity.2 in
@@ -184,6 +187,20 @@ is_master_row calendar items r row e =
     not-not : (b : Bool) → not b ≡ false → b ≡ true
     not-not true h = refl
     not-not false h = absurd cc
+
+-- a row of the master schedule has its record's number
+pub master_row-number : (version : Version) (calendar : ShopCalendar) (items : List Item) (r : Cells) (row : MasterRow) → master_row version calendar items r ≡ Ok row → row.number ≡ r.number
+unfolding master_row
+master_row-number version calendar items r row e =
+    let name = whole_step (blame r (name_of (cell_at r 0))) _ row e in
+    let kind = whole_step (blame r (word_of (kind_words version) (cell_at r 1))) _ row name.2 in
+    let date = whole_step (blame r (date_cell (cell_at r 2))) _ row kind.2 in
+    let quantity = whole_step (blame r (number_cell 0 limits.MOST_PIECES (cell_at r 3))) _ row date.2 in
+    let item = whole_step (blame r (known items name.0)) _ row quantity.2 in
+    let week = whole_step (blame r (or_code faults.DATE_OUTSIDE (week_of calendar date.0))) _ row item.2 in
+    let made : MasterRow = record { number = r.number; item = item.0; kind = kind_at kind.0; week = week.0; quantity = quantity.0 } in
+    let last = unless (not (has_kind (item_at items item.0).class (kind_at kind.0))) (fault_at r (class_fault (kind_at kind.0))) made row week.2 in
+    sym (ap (λ (x : MasterRow). x.number) last.1)
 
 -- a master item and a week
 pub record IsSpot (calendar : ShopCalendar) (items : List Item) (spot : ℕ × ℕ) : Type 0 where
@@ -342,38 +359,63 @@ sized place size within = by (place == 0) refl (place == 1) refl
           period = λ weeks e. let same : size ≡ weeks = cc in subst (IsInRange 1 limits.MOST_PERIOD) same own;
         }
 
-pub is_item : (most_lead : ℕ) (r : Cells) (item : Item) → most_lead ≤ limits.MOST_LEAD → item_cells most_lead r ≡ Ok item → IsItemUnlessStocked item
+-- no version has longer lead times
+short_lead : (version : Version) (lead : ℕ) → lead ≤ most_lead version → lead ≤ limits.MOST_LEAD
+short_lead One lead within = omega (arith, within)
+short_lead Two lead within = within
+short_lead Three lead within = within
+
+-- the minimum order quantity and the order multiple, read or not
+few_least : (version : Version) (r : Cells) (least : ℕ) → least_cell version r ≡ Ok least → least ≤ limits.MOST_LEAST
+few_least version r least e =
+    either (has_steps version) (blame r (number_cell 0 limits.MOST_LEAST (cell_at r 7))) (Ok 0) least
+    (λ given. (in_range 0 limits.MOST_LEAST r (cell_at r 7) least given).1)
+    (λ none. let same : 0 ≡ least = cc in omega (arith, same)) e
+
+some_step : (version : Version) (r : Cells) (step : ℕ) → step_cell version r ≡ Ok step → IsInRange 1 limits.MOST_STEP step
+some_step version r step e =
+    either (has_steps version) (blame r (number_cell 1 limits.MOST_STEP (cell_at r 8))) (Ok 1) step
+    (in_range 1 limits.MOST_STEP r (cell_at r 8) step)
+    (λ one. let same : 1 ≡ step = cc in (omega (arith, same), omega (arith, same))) e
+
+pub is_item : (version : Version) (r : Cells) (item : Item) → item_cells version r ≡ Ok item → IsItemUnlessStocked item
 unfolding item_cells
-is_item most_lead r item few e =
+is_item version r item e =
     let name = whole_step (blame r (name_of (cell_at r 0))) _ item e in
     let class = whole_step (blame r (word_of class_words (cell_at r 1))) _ item name.2 in
-    let lead = whole_step (blame r (number_cell 0 most_lead (cell_at r 2))) _ item class.2 in
+    let lead = whole_step (blame r (number_cell 0 (most_lead version) (cell_at r 2))) _ item class.2 in
     let scrap = whole_step (blame r (number_cell 0 limits.MOST_SCRAP (cell_at r 3))) _ item lead.2 in
     let lot = whole_step (blame r (word_of lot_words (cell_at r 4))) _ item scrap.2 in
     let size = whole_step (blame r (number_cell (least_size lot.0) (greatest_size lot.0) (cell_at r 5))) _ item lot.2 in
     let safety = whole_step (blame r (number_cell 0 limits.MOST_PIECES (cell_at r 6))) _ item size.2 in
-    let made : Item = record { name = name.0; class = class_at class.0; lead = lead.0; scrap = scrap.0; lot = lot_at lot.0 size.0; safety = safety.0 } in
+    let least = whole_step (least_cell version r) _ item safety.2 in
+    let step = whole_step (step_cell version r) _ item least.2 in
+    let made : Item = record { name = name.0; class = class_at class.0; lead = lead.0; scrap = scrap.0; lot = lot_at lot.0 size.0; safety = safety.0; least = least.0; step = step.0 } in
     let rule = sized lot.0 size.0 (in_range (least_size lot.0) (greatest_size lot.0) r (cell_at r 5) size.0 size.1) in
-    subst IsItemUnlessStocked (same_value made item (Ok made) refl safety.2) (λ unstocked. record {
+    subst IsItemUnlessStocked (same_value made item (Ok made) refl step.2) (λ unstocked. record {
       name = named r (cell_at r 0) name.0 name.1;
-      lead = omega (arith, few, (in_range 0 most_lead r (cell_at r 2) lead.0 lead.1).1);
+      lead = short_lead version lead.0 (in_range 0 (most_lead version) r (cell_at r 2) lead.0 lead.1).1;
       scrap = (in_range 0 limits.MOST_SCRAP r (cell_at r 3) scrap.0 scrap.1).1;
       fixed = rule.fixed;
       period = rule.period;
       safety = (in_range 0 limits.MOST_PIECES r (cell_at r 6) safety.0 safety.1).1;
       master = unstocked;
+      least = few_least version r least.0 least.1;
+      step = some_step version r step.0 step.1;
     })
 
--- an item's lead time is no longer than that
-pub item_lead : (most_lead : ℕ) (r : Cells) (item : Item) → item_cells most_lead r ≡ Ok item → item.lead ≤ most_lead
+-- an item's lead time is no longer than its version's
+pub item_lead : (version : Version) (r : Cells) (item : Item) → item_cells version r ≡ Ok item → item.lead ≤ most_lead version
 unfolding item_cells
-item_lead most_lead r item e =
+item_lead version r item e =
     let name = whole_step (blame r (name_of (cell_at r 0))) _ item e in
     let class = whole_step (blame r (word_of class_words (cell_at r 1))) _ item name.2 in
-    let lead = whole_step (blame r (number_cell 0 most_lead (cell_at r 2))) _ item class.2 in
+    let lead = whole_step (blame r (number_cell 0 (most_lead version) (cell_at r 2))) _ item class.2 in
     let scrap = whole_step (blame r (number_cell 0 limits.MOST_SCRAP (cell_at r 3))) _ item lead.2 in
     let lot = whole_step (blame r (word_of lot_words (cell_at r 4))) _ item scrap.2 in
     let size = whole_step (blame r (number_cell (least_size lot.0) (greatest_size lot.0) (cell_at r 5))) _ item lot.2 in
     let safety = whole_step (blame r (number_cell 0 limits.MOST_PIECES (cell_at r 6))) _ item size.2 in
-    let made : Item = record { name = name.0; class = class_at class.0; lead = lead.0; scrap = scrap.0; lot = lot_at lot.0 size.0; safety = safety.0 } in
-    subst (λ (x : Item). x.lead ≤ most_lead) (same_value made item (Ok made) refl safety.2) (in_range 0 most_lead r (cell_at r 2) lead.0 lead.1).1
+    let least = whole_step (least_cell version r) _ item safety.2 in
+    let step = whole_step (step_cell version r) _ item least.2 in
+    let made : Item = record { name = name.0; class = class_at class.0; lead = lead.0; scrap = scrap.0; lot = lot_at lot.0 size.0; safety = safety.0; least = least.0; step = step.0 } in
+    subst (λ (x : Item). x.lead ≤ most_lead version) (same_value made item (Ok made) refl step.2) (in_range 0 (most_lead version) r (cell_at r 2) lead.0 lead.1).1

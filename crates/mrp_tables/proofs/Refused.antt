@@ -1,12 +1,12 @@
 -- A fault of a table that is read after others: that of its reading, or out of memory.
 use Rattle.std.proofs.Common.{◌≡◌, ◌⊎◌, ℕ, List, [], Err, inl, inr, sym, ap, subst}
 use Rattle.mrp_rows.specs.Bundle.{text_in}
-use Rattle.mrp_rows.specs.Columns.{Layout, layout_of}
+use Rattle.mrp_rows.specs.Columns.{Layout}
 use Rattle.mrp_rows.specs.declared.fault.Fault.{Fault}
 use Rattle.mrp_rows.specs.declared.faults.TheConstants as faults
 use Rattle.mrp_rows.specs.declared.fault.Table.{Table}
 use Rattle.mrp_tables.specs.Laws.{AreWholeBefore, IsMemoryRefusal}
-use Rattle.mrp_tables.specs.Readers.{IsRefusedAt, table_in}
+use Rattle.mrp_tables.specs.Readers.{IsRefusedAt, layout_in, table_in}
 use Rattle.mrp_tables.specs.Reading.{IsRefusedBehind, IsRefusedIn, Reads}
 use Rattle.mrp_tables.specs.Tables.{tables_in}
 use Rattle.mrp_tables.proofs.TableLaws.{refused_behind}
@@ -28,7 +28,7 @@ pub refused : (texts : List (List ℕ)) (own : Table) (f : Fault) → AreWholeBe
     → IsMemoryRefusal texts f ⊎ (tables_in texts ≡ Err f)
 refused texts own f earlier (inr e) = inr (refused_behind texts f own earlier e)
 refused texts own f earlier (inl (read, is, memory)) =
-    let at : IsMemoryFault own f = memory_in read (layout_of own) (text_in texts own) f memory in
+    let at : IsMemoryFault own f = memory_in read (layout_in texts own) (text_in texts own) f memory in
     inl (record {
       code = at.code;
       at = subst (IsRefusedAt texts f) (sym at.table) (read, is, memory);

@@ -15,12 +15,15 @@ use Rattle.mrp_rows.specs.Next.{next_number, opened}
 use Rattle.mrp_rows.proofs.TextLaws.{whole_step}
 use Rattle.mrp_tables.specs.declared.limits.TheConstants as limits
 use Rattle.mrp_tables.specs.declared.item.Item.{Item}
+use Rattle.mrp_tables.specs.declared.rows.MasterRow.{MasterRow}
 use Rattle.mrp_tables.specs.declared.rows.Receipt.{Receipt}
-use Rattle.mrp_tables.specs.Facts.{NumbersRise}
-use Rattle.mrp_tables.specs.Reading.{Reads, admitted, is_past, reads_of, rows_from, rows_of}
+use Rattle.mrp_tables.specs.declared.version.Version.{Version}
+use Rattle.mrp_tables.specs.Facts.{NumbersRise, RowsRise}
+use Rattle.mrp_tables.specs.Master.{master_row, that_count}
+use Rattle.mrp_tables.specs.Reading.{Reads, admitted, by_itself, is_past, reads_of, rows_from, rows_of}
 use Rattle.mrp_tables.specs.Receipts.{orders_of, receipt_row, receipts_that_count}
 use Rattle.mrp_tables.proofs.CellsRead.{past_check, same_value, where_so}
-use Rattle.mrp_tables.proofs.RecordsRead.{is_placed}
+use Rattle.mrp_tables.proofs.RecordsRead.{is_placed, master_row-number}
 
 -- a record is admitted as it is, within its table's limit
 admitted_as : (limit : Option ℕ) (own : Layout) (r c : Cells) → admitted limit own r ≡ Ok c → (is_past limit r.number ≡ false) × (r ≡ c)
@@ -79,3 +82,12 @@ receipts_rise calendar items text rows given =
     AllPairs-filter Rises (λ row. nat_lt 0 row.quantity) rows
     (rising (λ (row : Receipt). row.number) (reads_of t.Receipts (receipt_row calendar items)) (layout_of t.Receipts) text rows limits.MOST_ROWS (omega arith) (λ before. refl)
     (λ before r row e. (is_placed calendar items (orders_of before) r row e).number) given)
+
+-- the rows of the master schedule that count
+pub master_rises : (version : Version) (calendar : ShopCalendar) (items : List Item) (text : List ℕ) (rows : List MasterRow)
+    → rows_of (reads_of t.Master (by_itself (master_row version calendar items))) (layout_of t.Master) text ≡ Ok rows → RowsRise (that_count rows)
+master_rises version calendar items text rows given =
+    let Rises : MasterRow → MasterRow → Type 0 = λ a b. a.number < b.number in
+    AllPairs-filter Rises (λ row. nat_lt 0 row.quantity) rows
+    (rising (λ (row : MasterRow). row.number) (reads_of t.Master (by_itself (master_row version calendar items))) (layout_of t.Master) text rows limits.MOST_ROWS (omega arith) (λ before. refl)
+    (λ before r row e. master_row-number version calendar items r row e) given)

@@ -21,7 +21,6 @@ use Rattle.mrp_tables.specs.declared.limits.TheConstants as limits
 use Rattle.mrp_tables.specs.declared.calendar.CalendarTable.{CalendarTable}
 use Rattle.mrp_tables.specs.declared.item.Item.{Item}
 use Rattle.mrp_tables.specs.declared.version.Version.{Version}
-use Rattle.mrp_tables.specs.declared.version.Version.TheVariants.{One, Two}
 use Rattle.mrp_tables.specs.declared.rows.Centre.{Centre}
 use Rattle.mrp_tables.specs.declared.rows.MasterRow.{MasterRow}
 use Rattle.mrp_tables.specs.declared.rows.Operation.{Operation}
@@ -29,17 +28,17 @@ use Rattle.mrp_tables.specs.declared.rows.Receipt.{Receipt}
 use Rattle.mrp_tables.specs.declared.rows.StockRow.{StockRow}
 use Rattle.mrp_tables.specs.Bills.{bill_row}
 use Rattle.mrp_tables.specs.Centres.{centre_cells, centre_names, centre_row}
-use Rattle.mrp_tables.specs.Facts.{AllDiffer, IsBillLine, IsCentre, IsItem, IsMasterRow, IsMasterRowIfAny, IsOperation, IsReceipt, IsReceiptIfAny, IsScriptRow, IsStockRow, NumbersRise}
+use Rattle.mrp_tables.specs.Facts.{AllDiffer, IsBillLine, IsCentre, IsItem, IsMasterRow, IsMasterRowIfAny, IsOperation, IsReceipt, IsReceiptIfAny, IsScriptRow, IsStockRow, NumbersRise, RowsRise}
 use Rattle.mrp_tables.specs.Items.{is_master, item_cells, item_row, names_of}
 use Rattle.mrp_tables.specs.Laws.{HasOneReading, IsReportedAtItsTable}
 use Rattle.mrp_tables.specs.Master.{master_row, that_count}
-use Rattle.mrp_tables.specs.Readers.{by_centres, by_dates, by_items, calendar_in, calendar_table_in, centres_in, items_in}
+use Rattle.mrp_tables.specs.Readers.{by_centres, by_dates, by_items, by_version, calendar_in, calendar_table_in, centres_in, items_in, version_in}
 use Rattle.mrp_tables.specs.Reading.{Reads, admitted, by_itself, reads_of, rows_from, rows_of}
 use Rattle.mrp_tables.specs.Receipts.{orders_of, receipt_row, receipts_that_count}
 use Rattle.mrp_tables.specs.Routings.{operation_row, operations_of}
 use Rattle.mrp_tables.specs.Script.{script_row}
 use Rattle.mrp_tables.specs.Stock.{items_in_stock, stock_cells, stock_row}
-use Rattle.mrp_tables.specs.Versions.{most_lead}
+use Rattle.mrp_tables.specs.Versions.{items_layout, most_lead}
 use Rattle.mrp_tables.specs.Tables.{AreTables, Tables, tables_in}
 use Rattle.mrp_tables.proofs.AcceptedTables.{of_their_texts}
 use Rattle.mrp_tables.proofs.CellsRead.{past_check, same_value, unless}
@@ -47,7 +46,7 @@ use Rattle.mrp_tables.proofs.Counting.{counted}
 use Rattle.mrp_tables.proofs.Distinct.{grown_field, same_operation_equiv, same_order_equiv}
 use Rattle.mrp_tables.proofs.Kept.{kept, kept-count, kept_orders, kept_receipts, kept_receipts-count}
 use Rattle.mrp_tables.proofs.RecordsRead.{is_bill_line, is_centre, is_item, item_lead, is_master_row, is_placed, is_routed, is_script_row, is_stock_row}
-use Rattle.mrp_tables.proofs.Rising.{receipts_rise}
+use Rattle.mrp_tables.proofs.Rising.{master_rises, receipts_rise}
 use Rattle.mrp_tables.proofs.Stocked.{more_items}
 use Rattle.mrp_tables.proofs.TellingTables.{reported_at_its_table}
 
@@ -77,36 +76,31 @@ each_kept Is read one own text rows e = kept_of (All Is) read (λ before r x all
 none_differ : {X : Type 0} → AllDiffer {X = X} []
 none_differ = λ i j d less within same. absurd (omega (arith, within))
 
--- no version has longer lead times
-pub most_lead-few : (version : Version) → most_lead version ≤ limits.MOST_LEAD
-most_lead-few One = omega arith
-most_lead-few Two = omega arith
-
 -- the items, with names that differ and lead times of their version
-record AreItems (most : ℕ) (items : List Item) : Type 0 where
+record AreItems (version : Version) (items : List Item) : Type 0 where
   within : All IsItem items
-  leads : All (λ item. item.lead ≤ most) items
+  leads : All (λ item. item.lead ≤ most_lead version) items
   names : AllDiffer (names_of items)
 
-one_item : (most : ℕ) → most ≤ limits.MOST_LEAD → (before : List Item) (r : Cells) (item : Item) → AreItems most before → item_row most before r ≡ Ok item → AreItems most (before ++ item ∷ [])
-one_item most few before r item are e =
-    let read = whole_step (item_cells most r) _ item e in
+one_item : (version : Version) (before : List Item) (r : Cells) (item : Item) → AreItems version before → item_row version before r ≡ Ok item → AreItems version (before ++ item ∷ [])
+one_item version before r item are e =
+    let read = whole_step (item_cells version r) _ item e in
     let new = past_check (list_any (pointwise nat_eq read.0.name) (names_of before)) (fault_at r faults.REPEATED) _ item read.2 in
     let last = unless (is_master read.0.class && nat_lt 0 read.0.safety) (fault_at r faults.MASTER_SAFETY) read.0 item new.1 in
-    subst (λ (x : Item). AreItems most (before ++ x ∷ [])) last.1 (record {
-      within = more_items before read.0 are.within (is_item most r read.0 few read.1) last.0;
-      leads = with_one (λ (x : Item). x.lead ≤ most) before read.0 are.leads (item_lead most r read.0 read.1);
+    subst (λ (x : Item). AreItems version (before ++ x ∷ [])) last.1 (record {
+      within = more_items before read.0 are.within (is_item version r read.0 read.1) last.0;
+      leads = with_one (λ (x : Item). x.lead ≤ most_lead version) before read.0 are.leads (item_lead version r read.0 read.1);
       names = grown_field nat_list_eq_equiv (λ (i : Item). i.name) before (before ++ read.0 ∷ []) read.0 refl are.names new.0;
     })
 
-are_items : (most : ℕ) → most ≤ limits.MOST_LEAD → (text : List ℕ) (items : List Item) → rows_of (reads_of t.Items (item_row most)) (layout_of t.Items) text ≡ Ok items → AreItems most items
-are_items most few text items e =
-    kept_of (AreItems most) (reads_of t.Items (item_row most)) (one_item most few) (layout_of t.Items) text items
-    (record { within = All-nil IsItem; leads = All-nil (λ (x : Item). x.lead ≤ most); names = none_differ }) e
+are_items : (version : Version) (text : List ℕ) (items : List Item) → rows_of (reads_of t.Items (item_row version)) (items_layout version) text ≡ Ok items → AreItems version items
+are_items version text items e =
+    kept_of (AreItems version) (reads_of t.Items (item_row version)) (one_item version) (items_layout version) text items
+    (record { within = All-nil IsItem; leads = All-nil (λ (x : Item). x.lead ≤ most_lead version); names = none_differ }) e
 
 -- those of a bundle, by its version
 beside_version : (texts : List (List ℕ)) (table : CalendarTable) (items : List Item) → calendar_table_in texts ≡ Ok table → items_in texts ≡ Ok items
-    → rows_of (reads_of t.Items (item_row (most_lead table.version))) (layout_of t.Items) (text_in texts t.Items) ≡ Ok items
+    → rows_of (reads_of t.Items (item_row table.version)) (items_layout table.version) (text_in texts t.Items) ≡ Ok items
 beside_version texts table items is e = sym (rw is refl) ∙ e
 
 -- the centres, with names that differ
@@ -193,6 +187,13 @@ beside_dates {X} texts own reads calendar items rows is_calendar is_items e =
     let same : (by_dates texts reads >>= λ read. rows_of read (layout_of own) (text_in texts own)) ≡ rows_of (reads calendar items) (layout_of own) (text_in texts own) = rw (is_calendar, is_items) refl in
     sym same ∙ e
 
+beside_version_dates : {X : Type 0} (texts : List (List ℕ)) (own : Table) (reads : Version → ShopCalendar → List Item → Reads X) (version : Version) (calendar : ShopCalendar) (items : List Item) (rows : List X)
+    → version_in texts ≡ Ok version → calendar_in texts ≡ Ok calendar → items_in texts ≡ Ok items
+    → (by_version texts reads >>= λ read. rows_of read (layout_of own) (text_in texts own)) ≡ Ok rows → rows_of (reads version calendar items) (layout_of own) (text_in texts own) ≡ Ok rows
+beside_version_dates {X} texts own reads version calendar items rows is_version is_calendar is_items e =
+    let same : (by_version texts reads >>= λ read. rows_of read (layout_of own) (text_in texts own)) ≡ rows_of (reads version calendar items) (layout_of own) (text_in texts own) = rw (is_items, is_calendar, is_version) refl in
+    sym same ∙ e
+
 beside_centres : {X : Type 0} (texts : List (List ℕ)) (own : Table) (reads : List Item → List Centre → Reads X) (items : List Item) (centres : List Centre) (rows : List X)
     → items_in texts ≡ Ok items → centres_in texts ≡ Ok centres
     → (by_centres texts reads >>= λ read. rows_of read (layout_of own) (text_in texts own)) ≡ Ok rows → rows_of (reads items centres) (layout_of own) (text_in texts own) ≡ Ok rows
@@ -226,19 +227,22 @@ receipts_kept texts calendar items rows is_calendar is_items e =
 -- the rows of the master schedule that have pieces
 record AreMasterKept (calendar : ShopCalendar) (items : List Item) (rows : List MasterRow) : Type 0 where
   within : All (IsMasterRow calendar.weeks items) rows
+  numbered : RowsRise rows
   count : length rows ≤ limits.MOST_ROWS
 
-master_kept : (texts : List (List ℕ)) (calendar : ShopCalendar) (items : List Item) (rows : List MasterRow) → calendar_in texts ≡ Ok calendar → items_in texts ≡ Ok items
-    → ((by_dates texts (λ calendar items. reads_of t.Master (by_itself (master_row calendar items))) >>= λ read. rows_of read (layout_of t.Master) (text_in texts t.Master)) >>= λ rows. Ok (that_count rows)) ≡ Ok rows → AreMasterKept calendar items rows
-master_kept texts calendar items rows is_calendar is_items e =
+master_kept : (texts : List (List ℕ)) (version : Version) (calendar : ShopCalendar) (items : List Item) (rows : List MasterRow)
+    → version_in texts ≡ Ok version → calendar_in texts ≡ Ok calendar → items_in texts ≡ Ok items
+    → ((by_version texts (λ version calendar items. reads_of t.Master (by_itself (master_row version calendar items))) >>= λ read. rows_of read (layout_of t.Master) (text_in texts t.Master)) >>= λ rows. Ok (that_count rows)) ≡ Ok rows → AreMasterKept calendar items rows
+master_kept texts version calendar items rows is_version is_calendar is_items e =
     let text = text_in texts t.Master in
-    let all = whole_step (by_dates texts (λ calendar items. reads_of t.Master (by_itself (master_row calendar items))) >>= λ read. rows_of read (layout_of t.Master) (text_in texts t.Master)) _ rows e in
-    let read = beside_dates texts t.Master (λ calendar items. reads_of t.Master (by_itself (master_row calendar items))) calendar items all.0 is_calendar is_items all.1 in
-    let are = each_kept (IsMasterRowIfAny calendar.weeks items) (reads_of t.Master (by_itself (master_row calendar items))) (λ before. is_master_row calendar items) (layout_of t.Master) text all.0 read in
-    let few = counted (reads_of t.Master (by_itself (master_row calendar items))) (layout_of t.Master) text all.0 limits.MOST_ROWS (omega arith) (λ before. refl) read in
+    let all = whole_step (by_version texts (λ version calendar items. reads_of t.Master (by_itself (master_row version calendar items))) >>= λ read. rows_of read (layout_of t.Master) (text_in texts t.Master)) _ rows e in
+    let read = beside_version_dates texts t.Master (λ version calendar items. reads_of t.Master (by_itself (master_row version calendar items))) version calendar items all.0 is_version is_calendar is_items all.1 in
+    let are = each_kept (IsMasterRowIfAny calendar.weeks items) (reads_of t.Master (by_itself (master_row version calendar items))) (λ before. is_master_row version calendar items) (layout_of t.Master) text all.0 read in
+    let few = counted (reads_of t.Master (by_itself (master_row version calendar items))) (layout_of t.Master) text all.0 limits.MOST_ROWS (omega arith) (λ before. refl) read in
     let fewer = kept-count all.0 in
     subst (AreMasterKept calendar items) (same_value (that_count all.0) rows (Ok (that_count all.0)) refl all.2) (record {
       within = kept calendar.weeks items all.0 are;
+      numbered = master_rises version calendar items text all.0 read;
       count = omega (arith, few, fewer);
     })
 
@@ -248,23 +252,23 @@ are_tables texts tables e =
     let calendar = tables.calendar in
     let items = tables.items in
     let table : CalendarTable = record { version = tables.version; calendar = calendar } in
-    let few : most_lead tables.version ≤ limits.MOST_LEAD = most_lead-few tables.version in
+    let own_version : version_in texts ≡ Ok tables.version = rw own.calendar refl in
     let own_calendar : calendar_in texts ≡ Ok calendar = rw own.calendar refl in
     let own_items = beside_version texts table items own.calendar own.items in
-    let item_facts = are_items (most_lead tables.version) few (text_in texts t.Items) items own_items in
+    let item_facts = are_items tables.version (text_in texts t.Items) items own_items in
     let centres = are_centres (text_in texts t.Centres) tables.centres own.centres in
     let routed = beside_centres texts t.Routings (λ items centres. reads_of t.Routings (operation_row items centres)) items tables.centres tables.routings own.items own.centres own.routings in
     let operations = are_operations items tables.centres (text_in texts t.Routings) tables.routings routed in
     let stock = are_stock items (text_in texts t.Stock) tables.stock (beside_items texts t.Stock (λ items. reads_of t.Stock (stock_row items)) items tables.stock own.items own.stock) in
     let receipts = receipts_kept texts calendar items tables.receipts own_calendar own.items own.receipts in
     let lines = beside_items texts t.Bills (λ items. reads_of t.Bills (by_itself (bill_row items))) items tables.bills own.items own.bills in
-    let master = master_kept texts calendar items tables.master own_calendar own.items own.master in
+    let master = master_kept texts tables.version calendar items tables.master own_version own_calendar own.items own.master in
     let calls = beside_dates texts t.Script (λ calendar items. reads_of t.Script (by_itself (script_row calendar items))) calendar items tables.script own_calendar own.items own.script in
     record {
       items = item_facts.within;
       leads = item_facts.leads;
       names = item_facts.names;
-      item_count = counted (reads_of t.Items (item_row (most_lead tables.version))) (layout_of t.Items) (text_in texts t.Items) items limits.MOST_ITEMS (omega arith) (λ before. refl) own_items;
+      item_count = counted (reads_of t.Items (item_row tables.version)) (items_layout tables.version) (text_in texts t.Items) items limits.MOST_ITEMS (omega arith) (λ before. refl) own_items;
       centres = centres.within;
       centres_differ = centres.differ;
       centre_count = counted (reads_of t.Centres centre_row) (layout_of t.Centres) (text_in texts t.Centres) tables.centres limits.MOST_CENTRES (omega arith) (λ before. refl) own.centres;
@@ -280,6 +284,7 @@ are_tables texts tables e =
       routed = operations.differ;
       operation_count = counted (reads_of t.Routings (operation_row items tables.centres)) (layout_of t.Routings) (text_in texts t.Routings) tables.routings limits.MOST_OPERATIONS (omega arith) (λ before. refl) routed;
       master = master.within;
+      scheduled = master.numbered;
       master_count = master.count;
       script = each_kept (IsScriptRow calendar.weeks items) (reads_of t.Script (by_itself (script_row calendar items))) (λ before. is_script_row calendar items) (layout_of t.Script) (text_in texts t.Script) tables.script calls;
       script_count = counted (reads_of t.Script (by_itself (script_row calendar items))) (layout_of t.Script) (text_in texts t.Script) tables.script limits.MOST_ROWS (omega arith) (λ before. refl) calls;

@@ -10,19 +10,20 @@ use Rattle.mrp_rows.specs.declared.fault.Table.TheVariants as t
 use Rattle.mrp_tables.specs.declared.calendar.CalendarTable.{CalendarTable}
 use Rattle.mrp_tables.specs.declared.item.Item.{Item}
 use Rattle.mrp_tables.specs.declared.rows.Centre.{Centre}
+use Rattle.mrp_tables.specs.declared.version.Version.{Version}
 use Rattle.mrp_tables.specs.Bills.{bill_row}
 use Rattle.mrp_tables.specs.Centres.{centre_row}
 use Rattle.mrp_tables.specs.Items.{item_row}
 use Rattle.mrp_tables.specs.Laws.{AreWholeBefore, FaultsAtItsRecord, IsReportedAtItsTable, reading_of, whole}
 use Rattle.mrp_tables.specs.Master.{master_row, that_count}
-use Rattle.mrp_tables.specs.Readers.{by_centres, by_dates, by_items, calendar_in, calendar_table_in, centres_in, items_in, table_in}
+use Rattle.mrp_tables.specs.Readers.{by_centres, by_dates, by_items, by_version, calendar_in, calendar_table_in, centres_in, items_in, table_in, version_in}
 use Rattle.mrp_tables.specs.Reading.{Reads, by_itself, reads_of, rows_of}
 use Rattle.mrp_tables.specs.Receipts.{receipt_row, receipts_that_count}
 use Rattle.mrp_tables.specs.Routings.{operation_row}
 use Rattle.mrp_tables.specs.Script.{script_row}
 use Rattle.mrp_tables.specs.Stock.{stock_row}
 use Rattle.mrp_tables.specs.Tables.{tables_in}
-use Rattle.mrp_tables.specs.Versions.{most_lead}
+use Rattle.mrp_tables.specs.Versions.{items_layout}
 use Rattle.mrp_tables.proofs.Blaming.{at_their_records}
 use Rattle.mrp_tables.proofs.OwnTable.{IsOf, calendar_own, follows, rows_own}
 use Rattle.mrp_tables.proofs.TableLaws.{refused_by_table}
@@ -50,6 +51,9 @@ looked_at_centres (Err f) y z rest given = absurd cc
 calendar_of : (texts : List (List ℕ)) (table : CalendarTable) → calendar_table_in texts ≡ Ok table → calendar_in texts ≡ Ok table.calendar
 calendar_of texts table is = rw is refl
 
+version_of_table : (texts : List (List ℕ)) (table : CalendarTable) → calendar_table_in texts ≡ Ok table → version_in texts ≡ Ok table.version
+version_of_table texts table is = rw is refl
+
 -- the faults of a table that is read beside these are its own
 items_own : {X : Type 0} (texts : List (List ℕ)) (own : Table) (reads : List Item → Reads X) (items : List Item) → items_in texts ≡ Ok items
     → FaultsAtItsRecord (reads items) → IsOf own (by_items texts reads >>= λ read. rows_of read (layout_of own) (text_in texts own))
@@ -59,6 +63,11 @@ dates_own : {X : Type 0} (texts : List (List ℕ)) (own : Table) (reads : ShopCa
     → calendar_in texts ≡ Ok calendar → items_in texts ≡ Ok items
     → FaultsAtItsRecord (reads calendar items) → IsOf own (by_dates texts reads >>= λ read. rows_of read (layout_of own) (text_in texts own))
 dates_own texts own reads calendar items is_calendar is_items at = rw (is_calendar, is_items) (rows_own (reads calendar items) at (layout_of own) (text_in texts own))
+
+version_own : {X : Type 0} (texts : List (List ℕ)) (own : Table) (reads : Version → ShopCalendar → List Item → Reads X) (version : Version) (calendar : ShopCalendar) (items : List Item)
+    → version_in texts ≡ Ok version → calendar_in texts ≡ Ok calendar → items_in texts ≡ Ok items
+    → FaultsAtItsRecord (reads version calendar items) → IsOf own (by_version texts reads >>= λ read. rows_of read (layout_of own) (text_in texts own))
+version_own texts own reads version calendar items is_version is_calendar is_items at = rw (is_items, is_calendar, is_version) (rows_own (reads version calendar items) at (layout_of own) (text_in texts own))
 
 centres_own : {X : Type 0} (texts : List (List ℕ)) (own : Table) (reads : List Item → List Centre → Reads X) (items : List Item) (centres : List Centre)
     → items_in texts ≡ Ok items → centres_in texts ≡ Ok centres
@@ -73,7 +82,7 @@ own_fault : (texts : List (List ℕ)) (own : Table) → AreWholeBefore texts own
 own_fault texts t.Calendar earlier = calendar_own (text_in texts t.Calendar)
 own_fault texts t.Items earlier =
     let (table, is_table) = looked_at_first (calendar_table_in texts) _ earlier in
-    rw is_table (rows_own (reads_of t.Items (item_row (most_lead table.version))) (at_their_records.items (most_lead table.version)) (layout_of t.Items) (text_in texts t.Items))
+    rw is_table (rows_own (reads_of t.Items (item_row table.version)) (at_their_records.items table.version) (items_layout table.version) (text_in texts t.Items))
 own_fault texts t.Centres earlier = rows_own (reads_of t.Centres centre_row) at_their_records.centres (layout_of t.Centres) (text_in texts t.Centres)
 own_fault texts t.Stock earlier =
     let (table, is_table, items, is_items) = looked_at (calendar_table_in texts) (items_in texts) _ earlier in
@@ -93,7 +102,8 @@ own_fault texts t.Master earlier =
     let (table, is_table, items, is_items) = looked_at (calendar_table_in texts) (items_in texts) _ earlier in
     let calendar = table.calendar in
     let is_calendar = calendar_of texts table is_table in
-    counted_own t.Master that_count _ (dates_own texts t.Master (λ calendar items. reads_of t.Master (by_itself (master_row calendar items))) calendar items is_calendar is_items (at_their_records.master calendar items))
+    let is_version = version_of_table texts table is_table in
+    counted_own t.Master that_count _ (version_own texts t.Master (λ version calendar items. reads_of t.Master (by_itself (master_row version calendar items))) table.version calendar items is_version is_calendar is_items (at_their_records.master table.version calendar items))
 own_fault texts t.Script earlier =
     let (table, is_table, items, is_items) = looked_at (calendar_table_in texts) (items_in texts) _ earlier in
     let calendar = table.calendar in

@@ -25,7 +25,7 @@ abbrev pub AllDiffer : {X : Type 0} → List X → Type 0
 AllDiffer xs = AllPairs (λ x y. x ≢ y) xs
 
 -- an item: a name, a lead time no longer than that of any version, scrap per thousand, a fixed lot's pieces, a period's weeks, pieces of safety stock,
--- none for a master item
+-- none for a master item, a minimum order quantity and an order multiple
 pub record IsItem (item : Item) : Type 0 where
   pub name : is_name item.name ≡ true
   pub lead : item.lead ≤ limits.MOST_LEAD
@@ -34,6 +34,8 @@ pub record IsItem (item : Item) : Type 0 where
   pub period : (weeks : ℕ) → item.lot ≡ Period weeks → IsInRange 1 limits.MOST_PERIOD weeks
   pub safety : item.safety ≤ limits.MOST_PIECES
   pub master : is_master item.class ≡ true → item.safety ≡ 0
+  pub least : item.least ≤ limits.MOST_LEAST
+  pub step : IsInRange 1 limits.MOST_STEP item.step
 
 -- what is read of an item before it is checked as a whole: an item, unless a master item has safety stock
 abbrev pub IsItemUnlessStocked : Item → Type 0
@@ -58,6 +60,10 @@ pub record IsOpenOrder (items : List Item) (order : OpenOrder) : Type 0 where
 -- the numbers of open receipts' records rise from row to row
 abbrev pub NumbersRise : List Receipt → Type 0
 NumbersRise rows = AllPairs (λ a b. a.number < b.number) rows
+
+-- the numbers of the master schedule's records rise from row to row
+abbrev pub RowsRise : List MasterRow → Type 0
+RowsRise rows = AllPairs (λ a b. a.number < b.number) rows
 
 -- an open receipt of a part, with its order's name, due in a week of the horizon, of at least one piece
 pub record IsReceipt (weeks : ℕ) (items : List Item) (row : Receipt) : Type 0 where

@@ -1,5 +1,5 @@
 -- The items (profile).
-use Rattle.std.specs.Prelude.{ℕ, ◌≡◌, ◌⊎◌, ◌==◌, ◌&&◌, Bool, true, false, nat_lt, nat_eq, if◌then◌else◌, List, [], ◌∷◌, ◌++◌, codes, map, position, slice_index_or, Option, Result, Ok, Err}
+use Rattle.std.specs.Prelude.{ℕ, ◌≡◌, ◌≤◌, ◌⊎◌, ◌==◌, ◌&&◌, Bool, true, false, nat_lt, nat_eq, if◌then◌else◌, List, [], ◌∷◌, ◌++◌, codes, map, position, slice_index_or, Option, Result, Ok, Err}
 use Rattle.std.specs.List.{list_any}
 use Rattle.std.specs.Cmp.Lexicographic.{pointwise}
 use Rattle.mrp_qty.specs.Reading.{◌>>=◌}
@@ -13,7 +13,9 @@ use Rattle.mrp_tables.specs.declared.item.Class.TheVariants.{Master, Part}
 use Rattle.mrp_tables.specs.declared.item.LotRule.{LotRule}
 use Rattle.mrp_tables.specs.declared.item.LotRule.TheVariants.{LotForLot, Fixed, Period}
 use Rattle.mrp_tables.specs.declared.item.Item.{Item}
+use Rattle.mrp_tables.specs.declared.version.Version.{Version}
 use Rattle.mrp_tables.specs.Limits.{lot_words}
+use Rattle.mrp_tables.specs.Versions.{has_steps, most_lead}
 
 abbrev pub class_words : List (List ℕ)
 class_words = codes "master" ∷ codes "part" ∷ []
@@ -36,17 +38,32 @@ least_size place = if place == 0 then 0 else 1
 abbrev pub greatest_size : ℕ → ℕ
 greatest_size place = if nat_lt place 2 then limits.MOST_PIECES else limits.MOST_PERIOD
 
--- a record's cells, from left to right, with lead times up to a given maximum
-unfoldable pub item_cells : ℕ → Cells → Result Item Fault
-item_cells most_lead r = do
+-- how many cells an item's record has: seven, and two more where items have a minimum order quantity and an order multiple
+pub record AreItemCells (version : Version) (count : ℕ) : Type 0 where
+  pub seven : 7 ≤ count
+  pub steps : has_steps version ≡ true → 9 ≤ count
+
+-- the minimum order quantity, or 0 in a version whose items have none
+abbrev pub least_cell : Version → Cells → Result ℕ Fault
+least_cell version r = if has_steps version then blame r (number_cell 0 limits.MOST_LEAST (cell_at r 7)) else Ok 0
+
+-- the order multiple, or 1 in a version whose items have none
+abbrev pub step_cell : Version → Cells → Result ℕ Fault
+step_cell version r = if has_steps version then blame r (number_cell 1 limits.MOST_STEP (cell_at r 8)) else Ok 1
+
+-- a record's cells in a version, from left to right
+unfoldable pub item_cells : Version → Cells → Result Item Fault
+item_cells version r = do
   name ← blame r (name_of (cell_at r 0))
   class ← blame r (word_of class_words (cell_at r 1))
-  lead ← blame r (number_cell 0 most_lead (cell_at r 2))
+  lead ← blame r (number_cell 0 (most_lead version) (cell_at r 2))
   scrap ← blame r (number_cell 0 limits.MOST_SCRAP (cell_at r 3))
   lot ← blame r (word_of lot_words (cell_at r 4))
   size ← blame r (number_cell (least_size lot) (greatest_size lot) (cell_at r 5))
   safety ← blame r (number_cell 0 limits.MOST_PIECES (cell_at r 6))
-  Ok (record { name = name; class = class_at class; lead = lead; scrap = scrap; lot = lot_at lot size; safety = safety })
+  least ← least_cell version r
+  step ← step_cell version r
+  Ok (record { name = name; class = class_at class; lead = lead; scrap = scrap; lot = lot_at lot size; safety = safety; least = least; step = step })
 
 abbrev pub names_of : List Item → List (List ℕ)
 names_of items = map (λ i. i.name) items
@@ -61,7 +78,7 @@ known items name = or_code faults.UNKNOWN_ITEM (place_of name items)
 
 -- a placeholder where there is no item
 abbrev pub no_item : Item
-no_item = record { name = []; class = Part; lead = 0; scrap = 0; lot = LotForLot; safety = 0 }
+no_item = record { name = []; class = Part; lead = 0; scrap = 0; lot = LotForLot; safety = 0; least = 0; step = 1 }
 
 -- the item at a place
 abbrev pub item_at : List Item → ℕ → Item
@@ -77,8 +94,8 @@ item_checked before r item =
     else if is_master item.class && nat_lt 0 item.safety then Err (fault_at r faults.MASTER_SAFETY)
     else Ok item
 
-abbrev pub item_row : ℕ → List Item → Cells → Result Item Fault
-item_row most_lead before r = item_cells most_lead r >>= item_checked before r
+abbrev pub item_row : Version → List Item → Cells → Result Item Fault
+item_row version before r = item_cells version r >>= item_checked before r
 
 -- adding an item of a record: it is added where it is checked, or nothing is, for its fault or because memory was refused
 abbrev pub AddsItem : List Item → Item → Cells → Result (Unit {0}) Fault → List Item → Type 0

@@ -13,6 +13,7 @@ use Rattle.mrp_rows.specs.Next.{next_number, opened}
 use Rattle.mrp_rows.specs.Tables.{table_index}
 use Rattle.mrp_tables.specs.declared.item.Item.{Item}
 use Rattle.mrp_tables.specs.declared.rows.Centre.{Centre}
+use Rattle.mrp_tables.specs.declared.version.Version.{Version}
 use Rattle.mrp_tables.specs.Bills.{bill_row}
 use Rattle.mrp_tables.specs.Calendar.{calendar_reads}
 use Rattle.mrp_tables.specs.Centres.{centre_row}
@@ -80,13 +81,13 @@ FaultsAtItsRecord {X} read = (own : Layout) (before : List X) (r : Cells) → If
 -- each table's faults name their records
 pub record FaultsAtTheirRecords : Type 0 where
   pub calendar : FaultsAtItsRecord calendar_reads
-  pub items : (most_lead : ℕ) → FaultsAtItsRecord (reads_of t.Items (item_row most_lead))
+  pub items : (version : Version) → FaultsAtItsRecord (reads_of t.Items (item_row version))
   pub centres : FaultsAtItsRecord (reads_of t.Centres centre_row)
   pub stock : (items : List Item) → FaultsAtItsRecord (reads_of t.Stock (stock_row items))
   pub receipts : (calendar : ShopCalendar) (items : List Item) → FaultsAtItsRecord (reads_of t.Receipts (receipt_row calendar items))
   pub bills : (items : List Item) → FaultsAtItsRecord (reads_of t.Bills (by_itself (bill_row items)))
   pub routings : (items : List Item) (centres : List Centre) → FaultsAtItsRecord (reads_of t.Routings (operation_row items centres))
-  pub master : (calendar : ShopCalendar) (items : List Item) → FaultsAtItsRecord (reads_of t.Master (by_itself (master_row calendar items)))
+  pub master : (version : Version) (calendar : ShopCalendar) (items : List Item) → FaultsAtItsRecord (reads_of t.Master (by_itself (master_row version calendar items)))
   pub script : (calendar : ShopCalendar) (items : List Item) → FaultsAtItsRecord (reads_of t.Script (by_itself (script_row calendar items)))
 
 -- that a table is read whole, or its fault

@@ -16,7 +16,7 @@ use Rattle.mrp_tables.specs.declared.rows.Operation.{Operation}
 use Rattle.mrp_tables.specs.declared.rows.MasterRow.{MasterRow}
 use Rattle.mrp_tables.specs.declared.rows.ScriptRow.{ScriptRow}
 use Rattle.mrp_tables.specs.Centres.{centre_names}
-use Rattle.mrp_tables.specs.Facts.{AllDiffer, IsBillLine, IsCentre, IsItem, IsMasterRow, IsOperation, IsReceipt, IsScriptRow, IsStockRow, NumbersRise}
+use Rattle.mrp_tables.specs.Facts.{AllDiffer, IsBillLine, IsCentre, IsItem, IsMasterRow, IsOperation, IsReceipt, IsScriptRow, IsStockRow, NumbersRise, RowsRise}
 use Rattle.mrp_tables.specs.Items.{names_of}
 use Rattle.mrp_tables.specs.Readers.{table_in}
 use Rattle.mrp_tables.specs.Receipts.{orders_of}
@@ -37,7 +37,7 @@ pub record Tables : Type 0 where
   pub master : List MasterRow
   pub script : List ScriptRow
 
--- what accepted tables keep: rows within their limits, lead times within those of their version, of items and centres that are there and weeks of the horizon; open receipts whose records' numbers rise; names that differ, items that stand in the stock at most once, and orders and operations of an item that stand in the receipts and in the routings at most once; no more rows than the limits
+-- what accepted tables keep: rows within their limits, lead times within those of their version, of items and centres that are there and weeks of the horizon; open receipts and a master schedule whose records' numbers rise; names that differ, items that stand in the stock at most once, and orders and operations of an item that stand in the receipts and in the routings at most once; no more rows than the limits
 pub record AreTables (t : Tables) : Type 0 where
   pub items : All IsItem t.items
   pub leads : All (λ item. item.lead ≤ most_lead t.version) t.items
@@ -58,6 +58,7 @@ pub record AreTables (t : Tables) : Type 0 where
   pub routed : AllDiffer (operations_of t.routings)
   pub operation_count : length t.routings ≤ limits.MOST_OPERATIONS
   pub master : All (IsMasterRow t.calendar.weeks t.items) t.master
+  pub scheduled : RowsRise t.master
   pub master_count : length t.master ≤ limits.MOST_ROWS
   pub script : All (IsScriptRow t.calendar.weeks t.items) t.script
   pub script_count : length t.script ≤ limits.MOST_ROWS

@@ -37,18 +37,19 @@ impl<'a> Model for Bills<'a> {
 impl<'a> TableRows for Bills<'a> {
     type Line = BillLine;
 
-    ghost use Rattle.std.specs.Prelude.{◌≡◌, []};
+    ghost use Rattle.std.specs.Prelude.{◌≡◌};
     ghost use Rattle.mrp_tables.specs.Bills.{bill_row};
     ghost use Rattle.mrp_rows.specs.declared.fault.Table.TheVariants as own;
+    ghost use Rattle.mrp_tables.specs.Gathered.{beside_items};
     ghost use Rattle.mrp_tables.specs.Reading.{by_itself, reads_of};
 
-    ghost takes = { λ count. count ≡ 3 };
+    ghost takes = { λ given count. count ≡ 3 };
 
     ghost rows = { λ t. t.rows };
 
     ghost reads = { λ t. reads_of own.Bills (by_itself (bill_row t.items)) };
 
-    ghost beside = { λ t. record { items = t.items; centres = []; weeks = 0; most_lead = 0 } };
+    ghost beside = { λ t. beside_items t.items };
 
     fn most_records(&self) -> Option<u32> {
         most_records(Table::Bills)

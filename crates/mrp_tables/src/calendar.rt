@@ -66,7 +66,7 @@ impl TableRows for Entries {
     ghost use Rattle.mrp_tables.specs.Calendar.{calendar_reads};
     ghost use Rattle.mrp_tables.specs.Gathered.{nothing};
 
-    ghost takes = { λ count. count ≡ 2 };
+    ghost takes = { λ given count. count ≡ 2 };
 
     ghost rows = { λ t. t };
 

@@ -46,7 +46,7 @@ impl TableRows for Centres {
     ghost use Rattle.mrp_tables.specs.Reading.{reads_of};
     ghost use Rattle.mrp_tables.specs.Centres.{centre_row};
 
-    ghost takes = { λ count. count ≡ 2 };
+    ghost takes = { λ given count. count ≡ 2 };
 
     ghost rows = { λ t. t };
 

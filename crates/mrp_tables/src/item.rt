@@ -1,11 +1,12 @@
 //! An item's record.
 
-ghost use Rattle.std.specs.Prelude.{◌≡◌, ◌==◌, if◌then◌else◌, ℕ, length};
+ghost use Rattle.std.specs.Prelude.{◌≡◌, ◌==◌, ◌≤◌, if◌then◌else◌, ℕ, length, IfOk};
 ghost use Rattle.std.specs.Int.{IsInRange};
-ghost use Rattle.mrp_tables.specs.Items.{class_at, greatest_size, least_size, lot_at};
+ghost use Rattle.mrp_tables.specs.Items.{AreItemCells, class_at, greatest_size, least_cell, least_size, lot_at, step_cell};
 
 use crate::cells::quantity;
-use crate::limits::{LOT_WORDS, MOST_PERIOD, MOST_PIECES, MOST_SCRAP};
+use crate::limits::{LOT_WORDS, MOST_LEAST, MOST_PERIOD, MOST_PIECES, MOST_SCRAP, MOST_STEP};
+use crate::version::Version;
 use mrp_qty::Qty;
 use mrp_rows::{Fault, Name, Row};
 
@@ -51,7 +52,8 @@ pub struct Item {
     pub name: Name,
     /// Whether the master schedule plans it.
     pub class: Class,
-    /// The lead time, in weeks, or in shop days in version 2: up to the longest of the bundle's version.
+    /// The lead time, in weeks, or in shop days from version 2 on: up to the longest of the bundle's
+    /// version.
     pub lead: u64,
     /// The scrap, in pieces per thousand, up to `MOST_SCRAP`.
     pub scrap: u64,
@@ -59,29 +61,34 @@ pub struct Item {
     pub lot: LotRule,
     /// The safety stock, up to 10^9 pieces; 0 for a master item.
     pub safety: Qty,
+    /// The minimum order quantity, up to `MOST_LEAST` pieces; 0 in versions 1 and 2. It has no effect on
+    /// fixed lots.
+    pub least: u64,
+    /// The order multiple, 1 to `MOST_STEP` pieces; 1 in versions 1 and 2. It has no effect on fixed lots.
+    pub step: u64,
 }
 
 impl Item {
-    ghost use Rattle.std.specs.Prelude.{◌≡◌, ◌≤◌, length, IfOk};
+    ghost use Rattle.std.specs.Prelude.{◌≡◌, length, IfOk};
     ghost use Rattle.mrp_tables.specs.Facts.{IsItemUnlessStocked};
-    ghost use Rattle.mrp_tables.specs.declared.limits.TheConstants.{MOST_LEAD};
-    ghost use Rattle.mrp_tables.specs.Items.{item_cells};
+    ghost use Rattle.mrp_tables.specs.Items.{AreItemCells, item_cells};
 
-    // The cells of a record, from left to right, with lead times up to a given maximum.
+    // The cells of a record in a version, from left to right.
     #[tactic(auto, unfolding(crate::specs::Items::item_cells))]
-    pub(crate) fn of(row: &Row, most_lead: u64) -> Result<Item, Fault>
-        requires cells { length row.now.cells ≡ 7 }
-        requires lead { most_lead ≤ MOST_LEAD }
-        ensures cells { result ≡ item_cells most_lead row.now }
+    pub(crate) fn of(row: &Row, version: Version) -> Result<Item, Fault>
+        requires { AreItemCells version (length row.now.cells) }
+        ensures cells { result ≡ item_cells version row.now }
         ensures within { IfOk result IsItemUnlessStocked }
     {
         let name = row.name(0)?;
         let class = row.word(1, &["master", "part"])?;
-        let lead = row.number(2, 0, most_lead)?;
+        let lead = row.number(2, 0, version.most_lead())?;
         let scrap = row.number(3, 0, MOST_SCRAP)?;
         let lot = row.word(4, LOT_WORDS)?;
         let size = row.number(5, least_size(lot), greatest_size(lot))?;
         let safety = quantity(row, 6, 0, MOST_PIECES)?;
+        let least = least_of(row, version)?;
+        let step = step_of(row, version)?;
         Ok(Item {
             name,
             class: class_at(class),
@@ -89,7 +96,35 @@ impl Item {
             scrap,
             lot: lot_at(lot, size),
             safety,
+            least,
+            step,
         })
+    }
+}
+
+// The minimum order quantity, where the version's items have one.
+fn least_of(row: &Row, version: Version) -> Result<u64, Fault>
+    requires { AreItemCells version (length row.now.cells) }
+    ensures cell { result ≡ least_cell version row.now }
+    ensures within { IfOk result (λ least. least ≤ MOST_LEAST) }
+{
+    if version.has_steps() {
+        row.number(7, 0, MOST_LEAST)
+    } else {
+        Ok(0)
+    }
+}
+
+// The order multiple, where the version's items have one.
+fn step_of(row: &Row, version: Version) -> Result<u64, Fault>
+    requires { AreItemCells version (length row.now.cells) }
+    ensures cell { result ≡ step_cell version row.now }
+    ensures within { IfOk result (IsInRange 1 MOST_STEP) }
+{
+    if version.has_steps() {
+        row.number(8, 1, MOST_STEP)
+    } else {
+        Ok(1)
     }
 }
 

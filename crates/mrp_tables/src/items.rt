@@ -1,15 +1,18 @@
 //! The items' table.
 
 ghost use Rattle.std.specs.Prelude.{◌≡◌, ◌&&◌, nat_lt};
+ghost use Rattle.mrp_rows.specs.Bundle.{text_in};
+ghost use Rattle.mrp_rows.specs.Next.{GivesUnless, memory_fault, opened};
 ghost use Rattle.mrp_tables.specs.Items.{is_master};
+ghost use Rattle.mrp_tables.specs.Versions.{items_layout};
 
 use crate::item::{Class, Item};
 use crate::limits::most_records;
-use crate::reading::{TableRows, read_table};
+use crate::reading::{TableRows, read_records};
 use crate::version::Version;
 use indexmap::IndexSet;
 use mrp_rows::faults::{MASTER_SAFETY, NO_MEMORY, REPEATED};
-use mrp_rows::{Fault, Name, Row, Sections, Table};
+use mrp_rows::{Cursor, Fault, Name, Row, Sections, Table};
 use std::alloc::Global;
 use std::marker::Model;
 
@@ -37,7 +40,7 @@ impl Model for Items {
     } };
 }
 
-/// The items so far, with the version of the bundle, which limits lead times.
+/// The items so far, with the version of the bundle, which their records follow.
 #[derive(Drop)]
 struct ItemRows {
     version: Version,
@@ -60,26 +63,40 @@ impl TableRows for ItemRows {
     type Line = Item;
 
     ghost use Rattle.std.specs.Prelude.{◌≡◌, []};
-    ghost use Rattle.mrp_tables.specs.Items.{item_row};
+    ghost use Rattle.mrp_tables.specs.Items.{AreItemCells, item_row};
     ghost use Rattle.mrp_rows.specs.declared.fault.Table.TheVariants as own;
     ghost use Rattle.mrp_tables.specs.Reading.{reads_of};
-    ghost use Rattle.mrp_tables.specs.Versions.{most_lead};
 
-    ghost takes = { λ count. count ≡ 7 };
+    ghost takes = { λ given count. AreItemCells given.version count };
 
     ghost rows = { λ t. t.rows };
 
-    ghost reads = { λ t. reads_of own.Items (item_row (most_lead t.version)) };
+    ghost reads = { λ t. reads_of own.Items (item_row t.version) };
 
-    ghost beside = { λ t. record { items = []; centres = []; weeks = 0; most_lead = most_lead t.version } };
+    ghost beside = { λ t. record { items = []; centres = []; weeks = 0; version = t.version } };
 
     fn most_records(&self) -> Option<u32> {
         most_records(Table::Items)
     }
 
     fn add(&mut self, row: &Row) -> Result<(), Fault> {
-        let item = Item::of(row, self.version.most_lead())?;
+        let item = Item::of(row, self.version)?;
         self.items.add(row, item)
+    }
+}
+
+// The records of the table, which has more columns in some versions.
+fn item_records<'a>(
+    alloc: Global,
+    sections: &Sections<'a>,
+    version: Version,
+) -> Result<Cursor<'a>, Fault>
+    ensures { GivesUnless (memory_fault Table.Items 0) result (opened (items_layout version) (text_in sections.now Table.Items)) }
+{
+    if version.has_steps() {
+        Cursor::stepped_items(alloc, sections)
+    } else {
+        Cursor::new(alloc, sections, Table::Items)
     }
 }
 
@@ -130,7 +147,8 @@ impl Items {
         ensures count { IfOk result (λ items. length items ≤ MOST_ITEMS) }
         ensures leads { IfOk result (λ items. All (λ item. item.lead ≤ most_lead version) items) }
     {
-        let rows = read_table(alloc, sections, Table::Items, ItemRows::new(alloc, version))?;
+        let cursor = item_records(alloc, sections, version)?;
+        let rows = read_records(cursor, ItemRows::new(alloc, version))?;
         Ok(rows.into_items())
     }
 

@@ -42,6 +42,12 @@ pub const MOST_SCRAP: u64 = mrp_qty::MOST_SCRAP;
 /// The most pieces in a cell.
 pub const MOST_PIECES: u64 = 1_000_000_000;
 
+/// The greatest minimum order quantity, in pieces.
+pub const MOST_LEAST: u64 = 1_000_000_000;
+
+/// The greatest order multiple, in pieces.
+pub const MOST_STEP: u64 = 1_000_000_000;
+
 /// The greatest quantity per: pieces of a component in a piece of its parent.
 pub const MOST_PER: u64 = 1_000_000;
 

@@ -9,6 +9,7 @@ use crate::items::Items;
 use crate::limits::{MOST_PIECES, most_records};
 use crate::reading::{TableRows, read_table};
 use crate::rows::{MasterKind, MasterRow};
+use crate::version::Version;
 use mrp_cal::Calendar;
 use mrp_rows::faults::{DATE_OUTSIDE, NO_MEMORY, UNKNOWN_ITEM};
 use mrp_rows::{Fault, Row, Sections, Table};
@@ -18,18 +19,18 @@ use std::marker::Model;
 /// The master rows so far, including those of quantity 0.
 #[derive(Drop)]
 pub(crate) struct Master<'a> {
+    version: Version,
     calendar: &'a Calendar,
     items: &'a Items,
     rows: Vec<MasterRow>,
 }
 
 impl<'a> Model for Master<'a> {
-    ghost use Rattle.mrp_tables.specs.Gathered.{GatheredByDate};
-    ghost use Rattle.mrp_tables.specs.declared.rows.MasterRow.{MasterRow};
+    ghost use Rattle.mrp_tables.specs.Gathered.{GatheredMaster};
 
-    ghost Value = { GatheredByDate MasterRow };
+    ghost Value = { GatheredMaster };
 
-    ghost view = { λ t. record { calendar = t.calendar.now; items = t.items.now; rows = t.rows.items } };
+    ghost view = { λ t. record { version = t.version; calendar = t.calendar.now; items = t.items.now; rows = t.rows.items } };
 
     ghost use Rattle.std.specs.Prelude.{All};
     ghost use Rattle.mrp_tables.specs.Facts.{IsMasterRowIfAny};
@@ -45,20 +46,20 @@ impl<'a> TableRows for Master<'a> {
     ghost use Rattle.mrp_rows.specs.declared.fault.Table.TheVariants as own;
     ghost use Rattle.mrp_tables.specs.Reading.{by_itself, reads_of};
 
-    ghost takes = { λ count. count ≡ 4 };
+    ghost takes = { λ given count. count ≡ 4 };
 
     ghost rows = { λ t. t.rows };
 
-    ghost reads = { λ t. reads_of own.Master (by_itself (master_row t.calendar t.items)) };
+    ghost reads = { λ t. reads_of own.Master (by_itself (master_row t.version t.calendar t.items)) };
 
-    ghost beside = { λ t. record { items = t.items; centres = []; weeks = t.calendar.weeks; most_lead = 0 } };
+    ghost beside = { λ t. record { items = t.items; centres = []; weeks = t.calendar.weeks; version = t.version } };
 
     fn most_records(&self) -> Option<u32> {
         most_records(Table::Master)
     }
 
     fn add(&mut self, row: &Row) -> Result<(), Fault> {
-        let master = master_row(row, self.calendar, self.items)?;
+        let master = master_row(row, self.version, self.calendar, self.items)?;
         if self.rows.push(master).is_err() {
             return Err(row.fault(NO_MEMORY));
         }
@@ -69,21 +70,26 @@ impl<'a> TableRows for Master<'a> {
 fn kind_at(place: usize) -> MasterKind
     ensures { result ≡ kind_at place }
 {
-    if place == 0 {
-        MasterKind::Firm
-    } else {
-        MasterKind::Forecast
+    match place {
+        0 => MasterKind::Firm,
+        1 => MasterKind::Forecast,
+        _ => MasterKind::Service,
     }
 }
 
 #[tactic(auto, unfolding(crate::specs::Master::master_row))]
-fn master_row(row: &Row, calendar: &Calendar, items: &Items) -> Result<MasterRow, Fault>
+fn master_row(
+    row: &Row,
+    version: Version,
+    calendar: &Calendar,
+    items: &Items,
+) -> Result<MasterRow, Fault>
     requires { length row.now.cells ≡ 4 }
-    ensures cells { result ≡ master_row calendar.now items.now row.now }
+    ensures cells { result ≡ master_row version calendar.now items.now row.now }
     ensures within { IfOk result (IsMasterRowIfAny calendar.now.weeks items.now) }
 {
     let name = row.name(0)?;
-    let kind = kind_at(row.word(1, &["firm", "forecast"])?);
+    let kind = kind_at(row.word(1, version.kind_words())?);
     let date = row.date(2)?;
     let quantity = quantity(row, 3, 0, MOST_PIECES)?;
     let Some(item) = items.find(&name) else {
@@ -109,29 +115,32 @@ impl<'a> Master<'a> {
     ghost use Rattle.mrp_tables.specs.declared.limits.TheConstants.{MOST_ROWS};
     ghost use Rattle.mrp_tables.specs.Facts.{IsMasterRow};
     ghost use Rattle.mrp_tables.specs.Master.{that_count};
-    ghost use Rattle.mrp_tables.specs.Readers.{GivesTable, calendar_in, items_in};
+    ghost use Rattle.mrp_tables.specs.Readers.{GivesTable, calendar_in, items_in, version_in};
 
     pub(crate) fn read(
         alloc: Global,
         sections: &Sections<'_>,
+        version: Version,
         calendar: &'a Calendar,
         items: &'a Items,
     ) -> Result<Vec<MasterRow>, Fault>
+        requires version { version_in sections.now ≡ Ok version }
         requires calendar { calendar_in sections.now ≡ Ok calendar.now }
         requires items { items_in sections.now ≡ Ok items.now }
         ensures table { GivesTable sections.now Table.Master result (λ rows. rows.items) }
         ensures within { IfOk result (λ rows. All (IsMasterRow calendar.now.weeks items.now) rows.items) }
         ensures count { IfOk result (λ rows. length rows.items ≤ MOST_ROWS) }
     {
-        let empty = Master::new(alloc, calendar, items);
+        let empty = Master::new(alloc, version, calendar, items);
         let master = read_table(alloc, sections, Table::Master, empty)?;
         Ok(master.into_rows())
     }
 
-    fn new(alloc: Global, calendar: &'a Calendar, items: &'a Items) -> Master<'a>
-        ensures { result ≡ record { calendar = calendar.now; items = items.now; rows = [] } }
+    fn new(alloc: Global, version: Version, calendar: &'a Calendar, items: &'a Items) -> Master<'a>
+        ensures { result ≡ record { version = version; calendar = calendar.now; items = items.now; rows = [] } }
     {
         Master {
+            version,
             calendar,
             items,
             rows: Vec::new(alloc),
@@ -145,6 +154,7 @@ impl<'a> Master<'a> {
         ensures within { All (IsMasterRow self.entry.calendar.weeks self.entry.items) result.items }
     {
         let Master {
+            version: _,
             calendar: _,
             items: _,
             rows,

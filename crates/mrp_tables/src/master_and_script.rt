@@ -27,7 +27,13 @@ impl MasterAndScript {
         requires { AreFirst sections.now first.now }
         ensures { GivesMasterAndScript sections.now result }
     {
-        let master = Master::read(alloc, sections, &first.calendar, &first.items)?;
+        let master = Master::read(
+            alloc,
+            sections,
+            first.version,
+            &first.calendar,
+            &first.items,
+        )?;
         let script = Script::read(alloc, sections, &first.calendar, &first.items)?;
         Ok(MasterAndScript { master, script })
     }

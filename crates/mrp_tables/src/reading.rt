@@ -1,8 +1,9 @@
 //! Reading a table's records, in order.
 
-ghost use Rattle.std.specs.Prelude.{◌≡◌, ◌==◌, ◌&&◌, ◌<◌, ◌≤◌, if◌then◌else◌, ℕ, [], length, IfOk, IfSome};
+ghost use Rattle.std.specs.Prelude.{◌≡◌, ◌==◌, ◌&&◌, ◌<◌, ◌≤◌, if◌then◌else◌, ℕ, List, [], length, IfOk, IfSome, Ok};
 ghost use Rattle.mrp_rows.specs.Bundle.{text_in};
-ghost use Rattle.mrp_rows.specs.Columns.{layout_of, width};
+ghost use Rattle.mrp_rows.specs.Columns.{Layout, layout_of, width};
+ghost use Rattle.mrp_rows.specs.Next.{opened};
 ghost use Rattle.mrp_tables.specs.Reading.{Adds, Gives, IsRefusedBehind, IsRefusedIn, NextAdmitted, is_past, rows_from, rows_of};
 
 use mrp_rows::faults::{COLUMNS, TOO_MANY};
@@ -63,13 +64,13 @@ pub(crate) trait TableRows: Drop {
     ghost use Rattle.mrp_tables.specs.Gathered.{Beside};
     ghost use Rattle.mrp_tables.specs.Reading.{Adds, Reads};
 
-    // the counts of cells that it accepts
-    ghost takes: { ℕ → Type 0 };
+    // the counts of cells that it accepts, by what it refers to
+    ghost takes: { Beside → ℕ → Type 0 };
     // the rows so far
     ghost rows: { Self → List Self.Line };
     // how its records are read
     ghost reads: { Self → Reads Self.Line };
-    // the tables that it refers to
+    // what it refers to
     ghost beside: { Self → Beside };
 
     /// The most records that the table has, where it has a limit.
@@ -78,7 +79,7 @@ pub(crate) trait TableRows: Drop {
 
     /// Adds the row of a record.
     fn add(&mut self, row: &Row) -> Result<(), Fault>
-        requires { takes (length row.now.cells) }
+        requires { takes (beside self.old) (length row.now.cells) }
         ensures added { Adds (reads self.old) (rows self.old) row.now result (rows self.new) }
         ensures same { reads self.new ≡ reads self.old }
         ensures beside { beside self.new ≡ beside self.old };
@@ -86,7 +87,7 @@ pub(crate) trait TableRows: Drop {
 
 /// The rows of a cursor's remaining records, after those that are already gathered.
 pub(crate) fn gather<G: TableRows>(cursor: &mut Cursor<'_>, mut gathered: G) -> Result<G, Fault>
-    requires { G.takes (width cursor.old.layout) }
+    requires { G.takes (G.beside gathered) (width cursor.old.layout) }
     ensures rows { Gives
         (IsRefusedBehind (G.reads gathered) cursor.old.layout (G.rows gathered)
         cursor.old.number cursor.old.left)
@@ -109,13 +110,26 @@ pub(crate) fn read_table<G: TableRows>(
     table: Table,
     empty: G,
 ) -> Result<G, Fault>
-    requires takes { G.takes (width (layout_of table)) }
+    requires takes { G.takes (G.beside empty) (width (layout_of table)) }
     requires empty { G.rows empty ≡ [] }
     ensures rows { Gives (IsRefusedIn (G.reads empty) (layout_of table) (text_in sections.now table))
         (λ g. G.rows g) result (rows_of (G.reads empty) (layout_of table) (text_in sections.now table)) }
     ensures count { (limit : ℕ) → limit < 4294967294 → ((before : _) → (G.reads empty).limit before ≡ Some limit) → IfOk result (λ g. length (G.rows g) ≤ limit) }
     ensures beside { IfOk result (λ g. G.beside g ≡ G.beside empty) }
 {
-    let mut cursor = Cursor::new(alloc, sections, table)?;
+    let cursor = Cursor::new(alloc, sections, table)?;
+    read_records(cursor, empty)
+}
+
+/// The rows of a text that was opened, or its first fault, unless it runs out of memory.
+pub(crate) fn read_records<G: TableRows>(mut cursor: Cursor<'_>, empty: G) -> Result<G, Fault>
+    requires takes { G.takes (G.beside empty) (width cursor.layout) }
+    requires empty { G.rows empty ≡ [] }
+    ensures rows { (own : Layout) (text : List ℕ) → opened own text ≡ Ok cursor.entry → Gives (IsRefusedIn (G.reads empty) own text)
+        (λ g. G.rows g) result (rows_of (G.reads empty) own text) }
+    ensures count { (own : Layout) (text : List ℕ) → opened own text ≡ Ok cursor.entry
+        → (limit : ℕ) → limit < 4294967294 → ((before : _) → (G.reads empty).limit before ≡ Some limit) → IfOk result (λ g. length (G.rows g) ≤ limit) }
+    ensures beside { IfOk result (λ g. G.beside g ≡ G.beside empty) }
+{
     gather(&mut cursor, empty)
 }

@@ -58,18 +58,19 @@ impl<'a> Model for Receipts<'a> {
 impl<'a> TableRows for Receipts<'a> {
     type Line = Receipt;
 
-    ghost use Rattle.std.specs.Prelude.{◌≡◌, []};
+    ghost use Rattle.std.specs.Prelude.{◌≡◌};
     ghost use Rattle.mrp_rows.specs.declared.fault.Table.TheVariants as own;
+    ghost use Rattle.mrp_tables.specs.Gathered.{beside_dates};
     ghost use Rattle.mrp_tables.specs.Reading.{reads_of};
     ghost use Rattle.mrp_tables.specs.Receipts.{receipt_row};
 
-    ghost takes = { λ count. count ≡ 4 };
+    ghost takes = { λ given count. count ≡ 4 };
 
     ghost rows = { λ t. t.rows };
 
     ghost reads = { λ t. reads_of own.Receipts (receipt_row t.calendar t.items) };
 
-    ghost beside = { λ t. record { items = t.items; centres = []; weeks = t.calendar.weeks; most_lead = 0 } };
+    ghost beside = { λ t. beside_dates t.calendar t.items };
 
     fn most_records(&self) -> Option<u32> {
         most_records(Table::Receipts)

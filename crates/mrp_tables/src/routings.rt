@@ -59,16 +59,17 @@ impl<'a> TableRows for Routings<'a> {
 
     ghost use Rattle.std.specs.Prelude.{◌≡◌};
     ghost use Rattle.mrp_rows.specs.declared.fault.Table.TheVariants as own;
+    ghost use Rattle.mrp_tables.specs.Gathered.{beside_centres};
     ghost use Rattle.mrp_tables.specs.Reading.{reads_of};
     ghost use Rattle.mrp_tables.specs.Routings.{operation_row};
 
-    ghost takes = { λ count. count ≡ 6 };
+    ghost takes = { λ given count. count ≡ 6 };
 
     ghost rows = { λ t. t.rows };
 
     ghost reads = { λ t. reads_of own.Routings (operation_row t.items t.centres) };
 
-    ghost beside = { λ t. record { items = t.items; centres = t.centres; weeks = 0; most_lead = 0 } };
+    ghost beside = { λ t. beside_centres t.items t.centres };
 
     fn most_records(&self) -> Option<u32> {
         most_records(Table::Routings)

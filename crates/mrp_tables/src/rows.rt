@@ -4,7 +4,7 @@
 use crate::item::Class;
 use mrp_qty::Qty;
 use mrp_rows::Name;
-use mrp_rows::faults::NOT_MASTER;
+use mrp_rows::faults::{NOT_MASTER, SERVICE_MASTER};
 
 /// A work centre.
 #[derive(Clone, Copy, Debug)]
@@ -74,11 +74,14 @@ pub enum MasterKind {
     Firm,
     /// A forecast of demand.
     Forecast,
+    /// Demand for a part by itself, as a service part (APICS Dictionary: service parts demand), in
+    /// version 3.
+    Service,
 }
 
 impl MasterKind {
     ghost use Rattle.std.specs.Prelude.{◌≡◌};
-    ghost use Rattle.mrp_tables.specs.Master.{class_fault, has_kind, is_firm, is_forecast};
+    ghost use Rattle.mrp_tables.specs.Master.{class_fault, has_kind, is_firm, is_forecast, is_service};
 
     /// Whether it is an order.
     pub fn is_firm(self) -> bool
@@ -86,7 +89,7 @@ impl MasterKind {
     {
         match self {
             MasterKind::Firm => true,
-            MasterKind::Forecast => false,
+            MasterKind::Forecast | MasterKind::Service => false,
         }
     }
 
@@ -95,8 +98,18 @@ impl MasterKind {
         ensures { result ≡ is_forecast self }
     {
         match self {
-            MasterKind::Firm => false,
+            MasterKind::Firm | MasterKind::Service => false,
             MasterKind::Forecast => true,
+        }
+    }
+
+    /// Whether it is demand for a service part.
+    pub fn is_service(self) -> bool
+        ensures { result ≡ is_service self }
+    {
+        match self {
+            MasterKind::Firm | MasterKind::Forecast => false,
+            MasterKind::Service => true,
         }
     }
 
@@ -106,6 +119,7 @@ impl MasterKind {
     {
         match self {
             MasterKind::Firm | MasterKind::Forecast => class.is_master(),
+            MasterKind::Service => !class.is_master(),
         }
     }
 
@@ -115,6 +129,7 @@ impl MasterKind {
     {
         match self {
             MasterKind::Firm | MasterKind::Forecast => NOT_MASTER,
+            MasterKind::Service => SERVICE_MASTER,
         }
     }
 }
@@ -126,7 +141,7 @@ pub struct MasterRow {
     pub number: u32,
     /// The item, of a class that has rows of this kind.
     pub item: usize,
-    /// Whether it is an order or a forecast.
+    /// Whether it is an order, a forecast or demand for a service part.
     pub kind: MasterKind,
     /// The week.
     pub week: u16,

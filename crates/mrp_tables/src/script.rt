@@ -56,18 +56,19 @@ impl<'a> Model for Script<'a> {
 impl<'a> TableRows for Script<'a> {
     type Line = ScriptRow;
 
-    ghost use Rattle.std.specs.Prelude.{◌≡◌, []};
+    ghost use Rattle.std.specs.Prelude.{◌≡◌};
     ghost use Rattle.mrp_rows.specs.declared.fault.Table.TheVariants as own;
+    ghost use Rattle.mrp_tables.specs.Gathered.{beside_dates};
     ghost use Rattle.mrp_tables.specs.Reading.{by_itself, reads_of};
     ghost use Rattle.mrp_tables.specs.Script.{script_row};
 
-    ghost takes = { λ count. count ≡ 6 };
+    ghost takes = { λ given count. count ≡ 6 };
 
     ghost rows = { λ t. t.rows };
 
     ghost reads = { λ t. reads_of own.Script (by_itself (script_row t.calendar t.items)) };
 
-    ghost beside = { λ t. record { items = t.items; centres = []; weeks = t.calendar.weeks; most_lead = 0 } };
+    ghost beside = { λ t. beside_dates t.calendar t.items };
 
     fn most_records(&self) -> Option<u32> {
         most_records(Table::Script)

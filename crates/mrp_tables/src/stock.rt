@@ -44,18 +44,19 @@ impl<'a> Model for Stock<'a> {
 impl<'a> TableRows for Stock<'a> {
     type Line = StockRow;
 
-    ghost use Rattle.std.specs.Prelude.{◌≡◌, []};
+    ghost use Rattle.std.specs.Prelude.{◌≡◌};
     ghost use Rattle.mrp_rows.specs.declared.fault.Table.TheVariants as own;
+    ghost use Rattle.mrp_tables.specs.Gathered.{beside_items};
     ghost use Rattle.mrp_tables.specs.Reading.{reads_of};
     ghost use Rattle.mrp_tables.specs.Stock.{stock_row};
 
-    ghost takes = { λ count. count ≡ 2 };
+    ghost takes = { λ given count. count ≡ 2 };
 
     ghost rows = { λ t. t.rows };
 
     ghost reads = { λ t. reads_of own.Stock (stock_row t.items) };
 
-    ghost beside = { λ t. record { items = t.items; centres = []; weeks = 0; most_lead = 0 } };
+    ghost beside = { λ t. beside_items t.items };
 
     fn most_records(&self) -> Option<u32> {
         most_records(Table::Stock)

@@ -66,7 +66,7 @@ impl Model for Tables {
 impl Tables {
     ghost use Rattle.std.specs.Prelude.{◌≡◌, ◌<◌, ◌≤◌, ℕ, List, All, IfSome, length};
     ghost use Rattle.mrp_tables.specs.Centres.{centre_names};
-    ghost use Rattle.mrp_tables.specs.Facts.{AllDiffer, IsBillLine, IsCentre, IsItem, IsMasterRow, IsOperation, IsReceipt, IsScriptRow, IsStockRow, NumbersRise};
+    ghost use Rattle.mrp_tables.specs.Facts.{AllDiffer, IsBillLine, IsCentre, IsItem, IsMasterRow, IsOperation, IsReceipt, IsScriptRow, IsStockRow, NumbersRise, RowsRise};
     ghost use Rattle.mrp_tables.specs.Items.{names_of, place_of};
     ghost use Rattle.mrp_tables.specs.Parts.{AreFirst, AreMasterAndScript, AreStockToRoutings, GivesMasterAndScript, GivesStockToRoutings, tables_from};
     ghost use Rattle.mrp_tables.specs.Receipts.{orders_of};
@@ -252,10 +252,11 @@ impl Tables {
         self.routings.as_slice()
     }
 
-    /// The rows of the master schedule of at least one piece, in table order.
+    /// The rows of the master schedule of at least one piece, in table order, so by their records' numbers.
     pub fn master(&self) -> &[MasterRow]
         ensures rows { result.now ≡ self.now.master }
         ensures within { All (IsMasterRow self.now.calendar.weeks self.now.items) result.now }
+        ensures numbers { RowsRise result.now }
         ensures count { length result.now ≤ MOST_ROWS }
     {
         self.master.as_slice()

@@ -5,7 +5,7 @@ ghost use Rattle.std.specs.Prelude.{◌≡◌};
 use crate::limits::{MOST_LEAD, MOST_LEAD_WEEKS};
 
 /// The greatest version.
-pub const MOST_VERSION: u64 = 2;
+pub const MOST_VERSION: u64 = 3;
 
 /// Which rules a bundle is written for (profile).
 #[derive(Clone, Copy, Debug, PartialEq, Eq)]
@@ -14,6 +14,9 @@ pub enum Version {
     One,
     /// Lead times in shop days.
     Two,
+    /// The same, with a minimum order quantity and an order multiple of each item, and service rows in
+    /// the master schedule.
+    Three,
 }
 
 /// What lead times are counted in.
@@ -26,20 +29,20 @@ pub enum LeadUnit {
 }
 
 impl Version {
-    ghost use Rattle.std.specs.Prelude.{◌≡◌, ◌≤◌};
+    ghost use Rattle.std.specs.Prelude.{◌≡◌, ◌≤◌, map};
     ghost use Rattle.std.specs.Int.{IsInRange};
     ghost use Rattle.mrp_tables.specs.Versions as spec;
-    ghost use Rattle.mrp_tables.specs.Versions.{version_number, version_of};
+    ghost use Rattle.mrp_tables.specs.Versions.{has_steps, kind_words, version_number, version_of};
 
     // The version of a number.
     pub(crate) fn of(number: u64) -> Version
         requires { IsInRange 1 MOST_VERSION number }
         ensures { result ≡ version_of number }
     {
-        if number == 1 {
-            Version::One
-        } else {
-            Version::Two
+        match number {
+            1 => Version::One,
+            2 => Version::Two,
+            _ => Version::Three,
         }
     }
 
@@ -50,6 +53,7 @@ impl Version {
         match self {
             Version::One => 1,
             Version::Two => 2,
+            Version::Three => 3,
         }
     }
 
@@ -59,7 +63,7 @@ impl Version {
     {
         match self {
             Version::One => LeadUnit::Weeks,
-            Version::Two => LeadUnit::ShopDays,
+            Version::Two | Version::Three => LeadUnit::ShopDays,
         }
     }
 
@@ -70,7 +74,27 @@ impl Version {
     {
         match self {
             Version::One => MOST_LEAD_WEEKS,
-            Version::Two => MOST_LEAD,
+            Version::Two | Version::Three => MOST_LEAD,
+        }
+    }
+
+    // Whether its items have a minimum order quantity and an order multiple.
+    pub(crate) fn has_steps(self) -> bool
+        ensures { result ≡ has_steps self }
+    {
+        match self {
+            Version::One | Version::Two => false,
+            Version::Three => true,
+        }
+    }
+
+    // The words for the kinds of rows of the master schedule, in the order of their places.
+    pub(crate) fn kind_words(self) -> &'static [&'static str]
+        ensures { map (λ word. word.now) result.now ≡ kind_words self }
+    {
+        match self {
+            Version::One | Version::Two => &["firm", "forecast"],
+            Version::Three => &["firm", "forecast", "service"],
         }
     }
 }

@@ -14,7 +14,7 @@ invariant-loop-gathered g l =
       beside : g.G.TableRows.beside l.gathered ≡ g.G.TableRows.beside l.initial.gathered;
       left : IsLeft (reads l.initial.gathered) at.layout (rows l.gathered) l.cursor (rows_from (reads l.initial.gathered) at.layout (rows l.initial.gathered) at.number at.left);
       done : IsDone (reads l.initial.gathered) at.layout (rows l.initial.gathered) at.number at.left (rows l.gathered) l.cursor;
-      takes : g.G.TableRows.takes (width at.layout);
+      takes : g.G.TableRows.takes (g.G.TableRows.beside l.initial.gathered) (width at.layout);
     }
 
 abbrev pub decreases-loop-gathered : goal.decreases-loop-gathered

@@ -6,6 +6,5 @@ use Rattle.mrp_tables.proofs.items.ItemRowsTableRows.add.Goals as goal
 
 pub invariant_of-self : goal.invariant_of-self
 invariant_of-self c =
-    let read = rw c.most_lead.ensures.value at c.in_ok-item.ensures.cells in
     leads_kept (most_lead c.self.inside.version) c.self.inside.items c.add.new.self c.in_ok-item.item c.args.row.now c.add.result
-    c.self.invariant (item_lead (most_lead c.self.inside.version) c.args.row.now c.in_ok-item.item (sym read)) c.add.ensures
+    c.self.invariant (item_lead c.self.inside.version c.args.row.now c.in_ok-item.item (sym c.in_ok-item.ensures.cells)) c.add.ensures
