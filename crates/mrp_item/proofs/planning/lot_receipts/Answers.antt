@@ -1,4 +1,4 @@
-use Rattle.std.proofs.Common.{◌≡◌, ◌∙◌, ◌<◌, List, ℕ, length, subst, sym, ap, arith}
+use Rattle.std.proofs.Common.{◌≡◌, List, ℕ, length, subst, arith}
 use Rattle.std.specs.Prelude.{IfOk}
 use Rattle.mrp_phase.specs.Weeks.{in_week}
 use Rattle.mrp_tables.specs.declared.item.LotRule.{LotRule}

@@ -1,7 +1,6 @@
-use Rattle.std.proofs.Common.{◌≡◌, ◌∙◌, ◌<◌, length, subst, sym, ap, arith}
+use Rattle.std.proofs.Common.{◌∙◌, ◌<◌, length, subst, sym, ap, arith}
 use Rattle.mrp_tables.specs.Facts.{IsItem}
 use Rattle.mrp_tables.specs.Tables.{Tables}
-use Rattle.mrp_tables.specs.declared.item.Item.{Item}
 use Rattle.mrp_item.proofs.ShopLemmas.{is_plannable}
 use Rattle.mrp_item.proofs.inputs.Inputs.entry.Goals as goal
 
