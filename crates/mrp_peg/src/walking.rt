@@ -189,6 +189,7 @@ pub fn ends_of(alloc: Global, plan: &Plan, need: &Need) -> Result<Ends, NoMemory
     let mut causes = IndexSet::new(alloc);
     let tables = shop.tables();
     let bills = tables.bills();
+    // Each row of the master schedule has pieces, so each order has.
     let _rows = tables.master();
     add_order(&mut orders, &mut items, order_for(bills, need.kind))?;
     let mut left = order.len();
