@@ -7,11 +7,11 @@ from dataclasses import dataclass
 
 from . import faults, shown
 from .dice import Dice
-from .shop import FACTORY, SMALL, Shop, shop_of
+from .shop import FACTORY, SERVICE, SMALL, Shop, shop_of
 from .spelling import plain, varied
 
-COUNT = 60
-FAMILIES = {"random-shop": SMALL, "random-factory": FACTORY}
+FAMILIES = {"random-shop": SMALL, "random-factory": FACTORY, "random-service-shop": SERVICE}
+COUNTS = {"random-shop": 60, "random-factory": 60, "random-service-shop": 40}
 # A name has so many words of what its shop shows, the rarest first.
 WORDS = 3
 COMMON = {"one-run"}
@@ -23,6 +23,9 @@ WANTED = {
         "two-lines-of-one-pair", "short-answers", "cancelled-bookings", "others-bookings", "no-week", "what-does-not-stand",
         "late-orders", "reschedules", "overloads", "no-centres", "open-receipts", "firm-orders", "surplus", "scrap", "fixed-lots",
         "periods", "safety-stock", "two-runs", "three-runs", "many-runs"),
+    "random-service-shop": (
+        "service-parts", "minimum-order-quantities", "order-multiples", "rows-of-no-pieces", "late-orders", "reschedules", "overloads",
+        "open-receipts", "firm-orders", "surplus", "scrap", "fixed-lots", "periods", "safety-stock", "bookings"),
 }
 
 
@@ -45,7 +48,7 @@ def made(family, number):
 
 
 def all_made():
-    return [made(family, number) for family in FAMILIES for number in range(1, COUNT + 1)]
+    return [made(family, number) for family, count in COUNTS.items() for number in range(1, count + 1)]
 
 
 def refused():

@@ -1,5 +1,6 @@
 """One fault in a shop that is accepted otherwise: for each fault the tables that can have it, and how it is made."""
 import datetime
+from dataclasses import replace
 
 from .shop import COLUMNS, TABLES, Scale, shop_of
 from .dice import Dice
@@ -7,6 +8,8 @@ from .spelling import bundle, sections
 
 # Every table has records, so that there is one to spoil.
 FULL = Scale(items=(6, 9), weeks=(3, 8), centres=(2, 3), desks=3, calls=(9, 12), great=4)
+# Faults that version 3 alone has.
+STEPPED = {"service-master"}
 NUMBERS = {
     "calendar": [], "items": ["lead", "scrap", "size", "safety"], "centres": ["minutes"], "stock": ["onhand"],
     "receipts": ["quantity"], "bills": ["per"], "routings": ["op", "setup", "run", "offset"], "master": ["quantity"], "script": ["desk"],
@@ -119,6 +122,11 @@ def master_component(shop, dice, table):
     spoil(shop, dice, table, "component", dice.pick(shop.masters))
 
 
+def service_master(shop, dice, table):
+    row = dice.pick([row for row in shop.records[table] if row[1] == "service"])
+    row[place(table, "item")] = dice.pick(shop.masters)
+
+
 def loop(shop, dice, table):
     part = dice.pick(shop.parts)
     below = dice.pick([row[1] for row in shop.records["bills"] if row[0] == part] or [part])
@@ -159,6 +167,7 @@ RECORD_FAULTS = {
     "master-receipt": (master_receipt, ("receipts",)),
     "master-component": (master_component, ("bills",)),
     "loop": (loop, ("items",)),
+    "service-master": (service_master, ("master",)),
 }
 SECTION_FAULTS = {"header": header, "section-twice": section_twice, "missing-section": missing_section}
 
@@ -173,7 +182,7 @@ def kinds():
 def spoiled_bundle(table, fault):
     """A bundle with this one fault."""
     dice = Dice(sum(ord(letter) * 257**at for at, letter in enumerate(f"{table} {fault}")))
-    shop = full_shop(dice)
+    shop = full_shop(dice, replace(FULL, version=3) if fault in STEPPED else FULL)
     if fault in RECORD_FAULTS:
         RECORD_FAULTS[fault][0](shop, dice, table)
         return bundle(sections(shop))
@@ -187,9 +196,15 @@ def spoiled_bundle(table, fault):
     return bundle(parts)
 
 
-def full_shop(dice):
-    """A shop of which every table has a record, and the script one with an item and a date."""
+def full_shop(dice, scale):
+    """A shop of which every table has a record, the script one with an item and a date, and in version 3 the master schedule one of service."""
     while True:
-        shop = shop_of(dice, FULL)
-        if all(shop.records[table] for table in TABLES) and shop.parts and any(row[1] in ("book", "ask") for row in shop.records["script"]):
+        shop = shop_of(dice, scale)
+        if all(shop.records[table] for table in TABLES) and shop.parts and has_what_is_spoiled(shop):
             return shop
+
+
+def has_what_is_spoiled(shop):
+    dated = any(row[1] in ("book", "ask") for row in shop.records["script"])
+    service = any(row[1] == "service" for row in shop.records["master"])
+    return dated and (service or shop.version < 3)

@@ -15,6 +15,8 @@ COLUMNS = {
     "script": "desk,call,item,date,quantity,number",
 }
 TABLES = tuple(COLUMNS)
+# In version 3 the items have a minimum order quantity and an order multiple too.
+STEPPED_ITEMS = COLUMNS["items"] + ",least,step"
 NAMES = ("BIKE", "FRAME", "WHEEL", "TUBE", "SEAT", "FORK", "RIM", "HUB", "BOLT", "CHAIN", "PEDAL", "CRANK")
 ODD_NAMES = ('A,B', '"', "two words", "#1", ",,", "run", "'", "item")
 
@@ -28,14 +30,20 @@ class Scale:
     desks: int
     calls: tuple
     great: int
+    version: int = 1
 
 
 SMALL = Scale(items=(1, 6), weeks=(1, 6), centres=(0, 0), desks=2, calls=(0, 8), great=10)
 FACTORY = Scale(items=(3, 12), weeks=(3, 10), centres=(0, 3), desks=3, calls=(2, 16), great=4)
+SERVICE = Scale(items=(3, 9), weeks=(3, 10), centres=(0, 2), desks=2, calls=(0, 10), great=4, version=3)
+# Lead times in weeks, and in shop days.
+WEEKS = (0, 0, 1, 1, 2, 3, 104)
+SHOP_DAYS = (0, 1, 2, 5, 8, 13, 728)
 
 
 @dataclass
 class Shop:
+    version: int = 1
     records: dict = field(default_factory=lambda: {table: [] for table in TABLES})
     start: datetime.date = None
     weeks: int = 1
@@ -45,10 +53,14 @@ class Shop:
     def add(self, table, *cells):
         self.records[table].append([str(cell) for cell in cells])
 
+    def columns(self, table):
+        stepped = table == "items" and self.version == 3
+        return (STEPPED_ITEMS if stepped else COLUMNS[table]).split(",")
+
 
 def shop_of(dice, scale):
     """A shop whose tables are accepted; a plan of it may still be too large."""
-    shop = Shop()
+    shop = Shop(scale.version)
     add_calendar(shop, dice, scale)
     add_items(shop, dice, scale)
     add_bills(shop, dice)
@@ -65,6 +77,8 @@ def add_calendar(shop, dice, scale):
     shop.start = monday + datetime.timedelta(weeks=dice.between(0, 57300))
     shop.weeks = dice.between(*scale.weeks)
     workdays = dice.pick(("1111100", "1111100", "1111110", "1111111", "1010100", "0000011"))
+    if shop.version > 1:
+        shop.add("calendar", "version", shop.version)
     shop.add("calendar", "start", shop.start)
     shop.add("calendar", "weeks", shop.weeks)
     shop.add("calendar", "workdays", workdays)
@@ -105,11 +119,17 @@ def add_items(shop, dice, scale):
     for name in every:
         lot = dice.pick(("lfl", "lfl", "fixed", "period"))
         size = {"lfl": dice.pick((0, 0, 10**9)), "fixed": dice.between(1, 40), "period": dice.between(1, 4)}[lot]
-        lead = dice.pick((0, 0, 1, 1, 2, 3, 104))
+        lead = dice.pick(WEEKS if shop.version == 1 else SHOP_DAYS)
         scrap = dice.pick((0, 0, 0, 100, 333, dice.between(1, 900)))
         master = name in shop.masters
         safety = 0 if master or dice.chance(60) else dice.between(1, 30)
-        shop.add("items", name, "master" if master else "part", lead, scrap, lot, size, safety)
+        stepped = least_and_step(dice) if shop.version == 3 else ()
+        shop.add("items", name, "master" if master else "part", lead, scrap, lot, size, safety, *stepped)
+
+
+def least_and_step(dice):
+    """A minimum order quantity and an order multiple, each often without effect."""
+    return dice.pick((0, 0, 1, dice.between(2, 60))), dice.pick((1, 1, dice.between(2, 12), 24))
 
 
 def add_bills(shop, dice):
@@ -153,7 +173,15 @@ def add_master(shop, dice, scale):
     for item in shop.masters:
         for _ in range(dice.between(0, 5)):
             shop.add("master", item, dice.pick(("firm", "forecast")), day_within(shop, dice), quantity(dice, scale))
+    if shop.version == 3:
+        add_service(shop, dice, scale)
     shop.records["master"] = dice.shuffled(shop.records["master"])
+
+
+def add_service(shop, dice, scale):
+    for part in shop.parts:
+        for _ in range(dice.pick((0, 1, 1, 3))):
+            shop.add("master", part, "service", day_within(shop, dice), quantity(dice, scale))
 
 
 def add_script(shop, dice, scale):

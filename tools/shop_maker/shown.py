@@ -19,6 +19,11 @@ def runs_words(runs):
     return ({1: "one-run", 2: "two-runs", 3: "three-runs"}.get(runs, "many-runs"),)
 
 
+def least_and_steps(shop):
+    """The minimum order quantity and the order multiple of each item for which they have effect."""
+    return [(int(row[7]), int(row[8])) for row in shop.records["items"] if shop.version == 3 and row[4] != "fixed"]
+
+
 def of_tables(shop, spelled):
     """What the tables and their spelling have."""
     records = shop.records
@@ -29,6 +34,8 @@ def of_tables(shop, spelled):
         "fixed-lots": any(row[4] == "fixed" for row in records["items"]),
         "periods": any(row[4] == "period" for row in records["items"]),
         "safety-stock": any(row[6] != "0" for row in records["items"]),
+        "minimum-order-quantities": any(least > 1 for least, _ in least_and_steps(shop)),
+        "order-multiples": any(step > 1 for _, step in least_and_steps(shop)),
         "open-receipts": any(row[3] != "0" for row in records["receipts"]),
         "two-lines-of-one-pair": len(set(pairs)) < len(pairs),
         "rows-of-no-pieces": any(row[3] == "0" for row in records["receipts"] + records["master"]),
@@ -59,6 +66,7 @@ def of_day(text):
         "firm-orders": any(row[2] == "firm" for row in orders),
         "reschedules": any(row[3] in ("IN", "OUT", "CANCEL") for row in day["messages"]),
         "surplus": any(row[2] == "surplus" for row in day["pegs"]),
+        "service-parts": any(row[2] == "service" for row in day["pegs"]),
         "loads": any(row[2] != "0.000" for row in day["loads"]),
         "overloads": any(row[4] != "0.000" for row in day["loads"]),
     }

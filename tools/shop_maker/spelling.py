@@ -1,5 +1,5 @@
 """How a shop's tables are spelled as a bundle: plainly, or in one of the other forms that mean the same."""
-from .shop import COLUMNS, TABLES
+from .shop import TABLES
 
 MARK = "\ufeff"
 
@@ -14,7 +14,7 @@ def sections(shop):
 
 
 def table_text(shop, table):
-    rows = [COLUMNS[table].split(",")] + shop.records[table]
+    rows = [shop.columns(table)] + shop.records[table]
     return "".join(",".join(cell_text(cell) for cell in row) + "\n" for row in rows)
 
 
@@ -38,7 +38,7 @@ def varied(shop, dice):
     for table in dice.shuffled(TABLES):
         text += f"[{table}]{end}"
         text += MARK if dice.chance(10) else ""
-        for row in [COLUMNS[table].split(",")] + shop.records[table]:
+        for row in [shop.columns(table)] + shop.records[table]:
             text += end if dice.chance(6) else ""
             text += ",".join(varied_cell(cell, dice, quotes, zeros) for cell in row) + end
     return text.encode()

@@ -2,9 +2,11 @@ import contextlib
 import io
 import threading
 import unittest
-from unittest.mock import patch
+from types import SimpleNamespace
+from unittest.mock import Mock, patch
 
-from ..command import NotProved, Proving, main, words_given
+from ..command import Libraries, NotProved, Proving, main, words_given
+from ..crates import PROGRAM
 from ..schedule import Plan
 
 BELOW = {"low": [], "side": [], "top": ["low", "side"]}
@@ -36,6 +38,23 @@ class Words(unittest.TestCase):
         for why, said in ((None, ""), ("bin/mrp is not built", "bin/mrp is not built\n")):
             with patch("proof_runner.command.why_stale", return_value=why):
                 self.assertEqual(said_by(main, ["--stale"]), (said, 0))
+
+
+class Shared(unittest.TestCase):
+    def libraries_of(self, **names):
+        """The libraries below the program, by a toolchain whose script has these names."""
+        program = SimpleNamespace(name=PROGRAM, below=lambda: [SimpleNamespace(name="low"), SimpleNamespace(name="top")])
+        toolchain = {"script": lambda: SimpleNamespace(rtlib=None, **names), "crates_below": lambda top: [program]}
+        with patch.multiple("proof_runner.command.toolchain", **toolchain):
+            return [*Libraries().crates]
+
+    def test_what_another_checkout_proved_is_shared(self):
+        share = Mock()
+        self.assertEqual(self.libraries_of(share_work=share), ["low", "top"])
+        share.assert_called_once_with(True)
+
+    def test_a_toolchain_that_keeps_no_shared_work_has_the_libraries_too(self):
+        self.assertEqual(self.libraries_of(), ["low", "top"])
 
 
 class Run(unittest.TestCase):
