@@ -103,6 +103,7 @@ module _ (shop : Shop) (kept : IsAcceptedShop shop) (steps : List Step) (right :
       let legal : IsLegal (supply_of shop.tables) (take front end.history) =
       legal-front (supply_of shop.tables) (take front end.history) (drop front end.history) (subst (λ (h : History). IsLegal (supply_of shop.tables) h) (sym (take-append-drop front end.history)) end-legal) in
       needs-differ s item (subst (λ (x : Inputs). AllPairs (λ a b. a.number < b.number) x.standing) (same ∙ sym was.inputs) (rising (supply_of shop.tables) (take front end.history) legal).0)
+      (subst (λ (t : Tables). AllPairs (λ a b. a.number < b.number) t.master) (sym (written-tables s was)) kept.tables.scheduled)
 
   end-sources : (s : Inputs) → WasWritten shop.tables steps s → (item : ℕ) → AllPairs (λ a b. a.of ≢ b.of) (supplies s item)
   end-sources s was item = supplies-differ s item (subst (λ (t : Tables). NumbersRise t.receipts) (sym (written-tables s was)) kept.tables.numbered)
