@@ -50,9 +50,10 @@ impl BoardState {
     {
         let inputs = inputs.clone()?;
         let count = inputs.shop().tables().items().len();
-        let out = vec![in alloc; None; count]?;
+        let mut out = Vec::with_capacity(alloc, count)?;
         let mut outcomes = Vec::with_capacity(alloc, count)?;
         for _ in 0..count {
+            out.push(None)?;
             outcomes.push(None)?;
         }
         let queue = Queue::open(alloc, inputs.shop())?;
