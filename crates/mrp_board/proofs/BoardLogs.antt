@@ -25,11 +25,8 @@ pub outcome-more : (log : BoardLog) (e : BoardEntry) (i : ℕ) → outcome_in (l
 outcome-more [] e i = refl
 outcome-more (x ∷ log) e i = by (stores i x.call x.reply) (outcome-more log e i)
   where
-    abbrev new : Option ItemOf
-    new = if stores i e.call e.reply then outcome_by e.call else None
-
-    by : (b : Bool) → outcome_in (log ++ e ∷ []) i ≡ (if is_stored log i then outcome_in log i else new)
-        → (if b then outcome_by x.call else outcome_in (log ++ e ∷ []) i) ≡ (if b || is_stored log i then (if b then outcome_by x.call else outcome_in log i) else new)
+    by : (b : Bool) → outcome_in (log ++ e ∷ []) i ≡ (if is_stored log i then outcome_in log i else (if stores i e.call e.reply then outcome_by e.call else None))
+        → (if b then outcome_by x.call else outcome_in (log ++ e ∷ []) i) ≡ (if b || is_stored log i then (if b then outcome_by x.call else outcome_in log i) else (if stores i e.call e.reply then outcome_by e.call else None))
     by true later = refl
     by false later = later
 

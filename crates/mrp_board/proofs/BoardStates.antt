@@ -197,10 +197,8 @@ module _ (s : Inputs) (log : BoardLog) where
   take-is : (who : ℕ) → board_reply s log who call.Take ≡ board_reply_in state who call.Take
   take-is who =
       ap (λ (b : Bool). if b then Some reply.AllOut else option_map (handed s log) (find (is_ready s log) (places s))) ended-is
-      ∙ ap (λ (o : Option BoardReply). if has_ended state then Some reply.AllOut else o) (
-        handed-same (find (is_ready s log) (places s))
-            ∙ ap (option_map (handed_at state)) (find-agree (is_ready s log) (can_go_out state) (places s) (each-place (count s) (λ i. is_ready s log i ≡ can_go_out state i) ready-is)),
-      )
+      ∙ ap (λ (o : Option BoardReply). if has_ended state then Some reply.AllOut else o)
+      (handed-same (find (is_ready s log) (places s)) ∙ ap (option_map (handed_at state)) (find-agree (is_ready s log) (can_go_out state) (places s) (each-place (count s) (λ i. is_ready s log i ≡ can_go_out state i) ready-is)))
 
   finish-is : HasTakers s log → (who item : ℕ) → (item < count s) ⊎ (count s ≤ item)
       → (is_out_to who log item && not (is_stored log item)) ≡ (is_worker who (worker_of state item) && not (has_stored state item))
@@ -263,11 +261,9 @@ module _ (s : Inputs) (log : BoardLog) where
   outcomes-more-is : (who : ℕ) (c : BoardCall) (r : BoardReply) → board_reply s log who c ≡ Some r → map (outcome_in (log ++ entry who c r ∷ [])) (places s) ≡ outcomes_after (map (outcome_in log) (places s)) c r
   outcomes-more-is who (call.Finish o) reply.Stored is =
       one-set (outcome_in log) (outcome_in (log ++ entry who (call.Finish o) reply.Stored ∷ [])) (count s) o.item (Some o) None
-      (
-        outcome-more log (entry who (call.Finish o) reply.Stored) o.item
-            ∙ ap (λ (b : Bool). if b then outcome_in log o.item else (if o.item == o.item then Some o else None)) (new-stored s log who o is)
-            ∙ ap (λ (b : Bool). if b then Some o else None) (same-number o.item o.item refl),
-      )
+      (outcome-more log (entry who (call.Finish o) reply.Stored) o.item
+      ∙ ap (λ (b : Bool). if b then outcome_in log o.item else (if o.item == o.item then Some o else None)) (new-stored s log who o is)
+      ∙ ap (λ (b : Bool). if b then Some o else None) (same-number o.item o.item refl))
       (λ j other. same-outcome who (call.Finish o) reply.Stored j (other-number o.item j (λ e. other (sym e))))
   outcomes-more-is who (call.Finish o) reply.AllOut is = all-outcomes who (call.Finish o) reply.AllOut (λ i. refl)
   outcomes-more-is who (call.Finish o) (reply.Item j parents) is = all-outcomes who (call.Finish o) (reply.Item j parents) (λ i. refl)

@@ -10,14 +10,14 @@ use Rattle.std.specs.BinaryHeap.{IsUpperBound}
 use Rattle.std.specs.declared.cmp.Reverse.{Reverse}
 use Rattle.std.specs.List.{range_with_len}
 use Rattle.std.specs.Ordering.{is_lt, nat_cmp}
-use Rattle.mrp_board.specs.Queue.{in_heap, one_at}
+use Rattle.mrp_board.specs.Queue.{in_heap, one_at, one_if}
 use Rattle.mrp_board.proofs.Tests.{other-number, same-number}
 
 pub one-here : (item i : ℕ) → i ≡ item → one_at item i ≡ 1
-one-here item i same = ap (λ (b : Bool). cond b 1 0) (same-number i item same)
+one-here item i same = ap one_if (same-number i item same)
 
 pub one-there : (item i : ℕ) → i ≢ item → one_at item i ≡ 0
-one-there item i other = ap (λ (b : Bool). cond b 1 0) (other-number i item other)
+one-there item i other = ap one_if (other-number i item other)
 
 pub heap-cons : (item : ℕ) (x : Reverse ℕ) (due : List (Reverse ℕ)) → in_heap item (x ∷ due) ≡ one_at item x.0 + in_heap item due
 heap-cons item x due = sum_by-cons (λ (r : Reverse ℕ). one_at item r.0) x due

@@ -12,27 +12,27 @@ use Rattle.std.specs.declared.cmp.Reverse.{Reverse}
 use Rattle.std.specs.List.{list_all, range_with_len}
 use Rattle.std.specs.List.Sorted.{IsPermutation}
 use Rattle.std.specs.Ordering.{nat_cmp}
-use Rattle.mrp_board.specs.Queue.{KeepsQueue, in_heap, is_due, less, occurrences, one_at, queue_places, waits_for, waits_for_none}
+use Rattle.mrp_board.specs.Queue.{KeepsQueue, in_heap, is_due, less, occurrences, one_at, one_if, queue_places, waits_for, waits_for_none}
 use Rattle.mrp_board.proofs.Heaps.{heap-cons, none-below, one-here, one-there, room-left, top-in}
 use Rattle.mrp_board.proofs.Tests.{all-same, find-first, find-none, no, other-number}
 
 -- 1 for an item that was not handed out
 abbrev pub is_left : Option ℕ → ℕ
-is_left w = cond (is_some w) 1 0
+is_left w = one_if (is_some w)
 
 left-none : (w : Option ℕ) → (is_left w == 0) ≡ not (is_some w)
 left-none None = refl
 left-none (Some n) = refl
 
-due-one : (b : Bool) → 1 ≤ cond b 1 0 → b ≡ true
+due-one : (b : Bool) → 1 ≤ one_if b → b ≡ true
 due-one true h = refl
 due-one false h = absurd (omega (arith, h))
 
-due-none : (b : Bool) → cond b 1 0 ≡ 0 → b ≡ false
+due-none : (b : Bool) → one_if b ≡ 0 → b ≡ false
 due-none true h = absurd (omega (arith, h))
 due-none false h = refl
 
-due-most : (b : Bool) → cond b 1 0 ≤ 1
+due-most : (b : Bool) → one_if b ≤ 1
 due-most true = omega arith
 due-most false = omega arith
 
@@ -55,6 +55,13 @@ module _ (waits : List (Option ℕ)) (due : List (Reverse ℕ)) (room left : ℕ
     | inl low ↦ low
     | inr past ↦ no (sym (not-past item past) ∙ is)
   ]
+
+  pub top-within : (x : Reverse ℕ) → 1 ≤ in_heap x.0 due → x.0 < length waits
+  top-within x some = within x.0 (in-due x.0 some)
+
+  -- there may be more room
+  pub kept-roomier : (more : ℕ) → room ≤ more → KeepsQueue waits due more left
+  kept-roomier more h = record { ordered = k.ordered; once = k.once; roomy = omega (arith, k.roomy, h); counted = k.counted }
 
   -- what is on top is the first item that is due
   pub first-is : (x : Reverse ℕ) → 0 < length due → x ≡ get_or due 0 x → IsUpperBound (λ a b. nat_cmp b.0 a.0) x due → find (is_due waits) (queue_places waits) ≡ Some x.0
@@ -80,15 +87,15 @@ module _ (waits : List (Option ℕ)) (due : List (Reverse ℕ)) (room left : ℕ
     due-there : (i : ℕ) → i ≢ item → is_due now i ≡ is_due waits i
     due-there i other = ap waits_for_none (get_or-set_other waits item i w None other)
 
-    pub kept-set : (new : List (Reverse ℕ)) (count : ℕ) → IsHeap (λ x y. nat_cmp y.0 x.0) new → in_heap item new ≡ cond (waits_for_none w) 1 0 → ((i : ℕ) → i ≢ item → in_heap i new ≡ in_heap i due)
+    pub kept-set : (new : List (Reverse ℕ)) (count : ℕ) → IsHeap (λ x y. nat_cmp y.0 x.0) new → in_heap item new ≡ one_if (waits_for_none w) → ((i : ℕ) → i ≢ item → in_heap i new ≡ in_heap i due)
         → count + is_left (waits_for waits item) ≡ left + is_left w → KeepsQueue now new room count
     kept-set new count heap here others counts = record {
       ordered = heap;
       once = λ i. elim (cases_eq i item) [
-        | inl same ↦ subst (λ (j : ℕ). in_heap j new ≡ cond (is_due now j) 1 0) (sym same) (here ∙ ap (λ (b : Bool). cond b 1 0) (sym due-here))
-        | inr other ↦ others i other ∙ k.once i ∙ ap (λ (b : Bool). cond b 1 0) (sym (due-there i other))
+        | inl same ↦ subst (λ (j : ℕ). in_heap j new ≡ one_if (is_due now j)) (sym same) (here ∙ ap one_if (sym due-here))
+        | inr other ↦ others i other ∙ k.once i ∙ ap one_if (sym (due-there i other))
       ];
-      room = omega (arith, length-set waits item w, k.room);
+      roomy = omega (arith, length-set waits item w, k.roomy);
       counted = omega (arith, counts, k.counted, sum_by-set is_left waits item w None there);
     }
 
@@ -98,12 +105,12 @@ module _ (waits : List (Option ℕ)) (due : List (Reverse ℕ)) (room left : ℕ
       let here : is_due waits x.0 ≡ true = in-due x.0 some in
       let there : x.0 < length waits = within x.0 here in
       let one : is_left (waits_for waits x.0) ≡ 1 = waits-one (waits_for waits x.0) here in
-      let less : (i : ℕ) → in_heap i rest + one_at i x.0 ≡ in_heap i due = (λ i. sum_by_popped (λ (r : Reverse ℕ). one_at i r.0) x due rest moved) in
+      let gone : (i : ℕ) → in_heap i rest + one_at i x.0 ≡ in_heap i due = (λ i. sum_by_popped (λ (r : Reverse ℕ). one_at i r.0) x due rest moved) in
       let some-left : 1 ≤ left = omega (arith, k.counted, one, sum_by-set is_left waits x.0 None None there) in (
         some-left,
         kept-set x.0 None there rest (left - 1) heap
-            (omega (arith, less x.0, one-here x.0 x.0 refl, k.once x.0 ∙ ap (λ (b : Bool). cond b 1 0) here))
-            (λ i other. omega (arith, less i, one-there i x.0 (λ (e : x.0 ≡ i). other (sym e))))
+            (omega (arith, gone x.0, one-here x.0 x.0 refl, k.once x.0 ∙ ap one_if here))
+            (λ i other. omega (arith, gone i, one-there i x.0 (λ (e : x.0 ≡ i). other (sym e))))
             (omega (arith, some-left, one)),
       )
     where
@@ -120,7 +127,7 @@ module _ (waits : List (Option ℕ)) (due : List (Reverse ℕ)) (room left : ℕ
     ]
 
     not-due : in_heap item due ≡ 0
-    not-due = k.once item ∙ ap (λ (w : Option ℕ). cond (waits_for_none w) 1 0) is ∙ ap (λ (b : Bool). cond b 1 0) (other-number (suc n) 0 (λ (e : suc n ≡ 0). absurd (omega (arith, e))))
+    not-due = k.once item ∙ ap (λ (w : Option ℕ). one_if (waits_for_none w)) is ∙ ap one_if (other-number (suc n) 0 (λ (e : suc n ≡ 0). absurd (omega (arith, e))))
 
     one-left : is_left (waits_for waits item) ≡ 1
     one-left = ap is_left is
@@ -129,7 +136,7 @@ module _ (waits : List (Option ℕ)) (due : List (Reverse ℕ)) (room left : ℕ
     pub kept-waiting : (p : ℕ) → p ≢ 0 → KeepsQueue (set waits item (Some p)) due room left
     kept-waiting p some =
         kept-set item (Some p) waits-within due left k.ordered
-        (not-due ∙ sym (ap (λ (b : Bool). cond b 1 0) (other-number p 0 some)))
+        (not-due ∙ sym (ap one_if (other-number p 0 some)))
         (λ i other. refl)
         (omega (arith, one-left))
 
@@ -147,9 +154,9 @@ module _ (waits : List (Option ℕ)) (due : List (Reverse ℕ)) (room left : ℕ
     has-room =
         omega (
           arith,
-          k.room,
+          k.roomy,
           room-left (length waits) item due (λ i. subst (λ (m : ℕ). m ≤ 1) (sym (k.once i)) (due-most (is_due waits i)))
-              (λ i past. k.once i ∙ ap (λ (b : Bool). cond b 1 0) (not-past i past)) waits-within not-due,
+              (λ i past. k.once i ∙ ap one_if (not-past i past)) waits-within not-due,
         )
 
 -- A queue that is filled item by item.
@@ -160,7 +167,7 @@ left-all f a (suc n) = omega (arith, sum_by-cons is_left (Some (f a)) (map (λ i
 
 -- the heap has each item that is due once
 abbrev pub HasDue : List (Option ℕ) → List (Reverse ℕ) → Type 0
-HasDue waits due = (item : ℕ) → in_heap item due ≡ cond (is_due waits item) 1 0
+HasDue waits due = (item : ℕ) → in_heap item due ≡ one_if (is_due waits item)
 
 pub due-nil : HasDue [] []
 due-nil item = refl
@@ -180,34 +187,34 @@ module _ (waits : List (Option ℕ)) (due : List (Reverse ℕ)) (has : HasDue wa
         ap waits_for_none (get_or_past grown item None beyond) ∙ sym (ap waits_for_none (get_or_past waits item None past))
   ]
 
-  grown-by : (new : List (Reverse ℕ)) → in_heap (length waits) new ≡ cond (waits_for_none w) 1 0 → ((item : ℕ) → item ≢ length waits → in_heap item new ≡ in_heap item due) → HasDue grown new
+  grown-by : (new : List (Reverse ℕ)) → in_heap (length waits) new ≡ one_if (waits_for_none w) → ((item : ℕ) → item ≢ length waits → in_heap item new ≡ in_heap item due) → HasDue grown new
   grown-by new here others item = elim (cases_eq item (length waits)) [
-    | inl same ↦ subst (λ (j : ℕ). in_heap j new ≡ cond (is_due grown j) 1 0) (sym same) (here ∙ ap (λ (b : Bool). cond b 1 0) (sym grown-last))
-    | inr other ↦ others item other ∙ has item ∙ ap (λ (b : Bool). cond b 1 0) (sym (grown-other item other))
+    | inl same ↦ subst (λ (j : ℕ). in_heap j new ≡ one_if (is_due grown j)) (sym same) (here ∙ ap one_if (sym grown-last))
+    | inr other ↦ others item other ∙ has item ∙ ap one_if (sym (grown-other item other))
   ]
 
   lacks : in_heap (length waits) due ≡ 0
-  lacks = has (length waits) ∙ ap (λ (v : Option ℕ). cond (waits_for_none v) 1 0) (get_or_past waits (length waits) None (omega arith))
+  lacks = has (length waits) ∙ ap (λ (v : Option ℕ). one_if (waits_for_none v)) (get_or_past waits (length waits) None (omega arith))
 
   -- one more item, which waits for parents
   pub due-waiting : waits_for_none w ≡ false → HasDue grown due
-  due-waiting is = grown-by due (lacks ∙ ap (λ (b : Bool). cond b 1 0) (sym is)) (λ item other. refl)
+  due-waiting is = grown-by due (lacks ∙ ap one_if (sym is)) (λ item other. refl)
 
   -- or for none
   pub due-pushed : (x : Reverse ℕ) (new : List (Reverse ℕ)) → waits_for_none w ≡ true → x.0 ≡ length waits → IsPermutation (x ∷ due) new → HasDue grown new
   due-pushed x new is same moved =
       let more : (i : ℕ) → in_heap i new ≡ one_at i x.0 + in_heap i due = (λ i. sum_by_pushed (λ (r : Reverse ℕ). one_at i r.0) x due new moved) in
       grown-by new
-      (omega (arith, more (length waits), one-here (length waits) x.0 same, lacks) ∙ ap (λ (b : Bool). cond b 1 0) (sym is))
+      (omega (arith, more (length waits), one-here (length waits) x.0 same, lacks) ∙ ap one_if (sym is))
       (λ item other. omega (arith, more item, one-there item x.0 (λ (e : x.0 ≡ item). other (sym e ∙ same))))
 
 -- the queue with all its items
 pub kept-filled : (f : ℕ → ℕ) (n room : ℕ) (waits : List (Option ℕ)) (due : List (Reverse ℕ)) → waits ≡ map (λ i. Some (f i)) (range_with_len 0 n) → length waits ≤ room → IsHeap (λ x y. nat_cmp y.0 x.0) due → HasDue waits due
     → KeepsQueue waits due room n
-kept-filled f n room waits due is roomy heap has = record {
+kept-filled f n room waits due is enough heap has = record {
   ordered = heap;
   once = has;
-  room = roomy;
+  roomy = enough;
   counted = sym (ap (sum_by is_left) is ∙ left-all f 0 n);
 }
 

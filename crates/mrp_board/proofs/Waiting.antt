@@ -1,7 +1,7 @@
 -- What the state of a board keeps over its calls.
-use Rattle.std.proofs.Common.{◌≡◌, ◌≢◌, ◌∙◌, ◌<◌, ◌≤◌, ◌+◌, ◌==◌, ◌||◌, ◌&&◌, ℕ, zero, suc, Bool, true, false, cond, not, inl, inr, List, [], ◌∷◌, Option, Some, None, length, length-set, get_or, map, set, replicate, refl, sym, ap, subst, arith, get_or-set_same, get_or-set_other, length-replicate}
+use Rattle.std.proofs.Common.{◌≡◌, ◌≢◌, ◌∙◌, ◌<◌, ◌≤◌, ◌+◌, ◌==◌, ◌||◌, ◌&&◌, ℕ, zero, suc, Bool, true, false, cond, not, inl, inr, List, [], ◌∷◌, Option, Some, None, length, length-set, get_or, map, set, replicate, refl, sym, ap, subst, arith, get_or-set_same, get_or-set_other}
 use Rattle.std.proofs.lemmas.Bool.{cases_eq, cases_lt}
-use Rattle.std.proofs.lemmas.List.{get_or_past}
+use Rattle.std.proofs.lemmas.List.{get_or_past, length-replicate}
 use Rattle.std.proofs.lemmas.List.Folds.{sum_by-zero}
 use Rattle.std.proofs.lemmas.List.FromFn.{get_or-map-range_with_len, length-map-range_with_len, length-range_with_len}
 use Rattle.std.proofs.lemmas.List.Sums.{sum_by-cons}
@@ -14,7 +14,7 @@ use Rattle.mrp_item.specs.Made.{item_from}
 use Rattle.mrp_item.specs.Places.{ItemOf}
 use Rattle.mrp_board.specs.BoardState.{AreOwn, BoardState, can_go_out, has_ended, has_stored, new_board, outcome_at, parents_at, worker_of}
 use Rattle.mrp_board.specs.Kept.{KeepsBoard, unfinished}
-use Rattle.mrp_board.specs.Queue.{is_due, less, occurrences, one_at, queue_places, waits_for, waits_for_none}
+use Rattle.mrp_board.specs.Queue.{is_due, less, occurrences, one_at, one_if, queue_places, waits_for, waits_for_none}
 use Rattle.mrp_board.proofs.Heaps.{one-here, one-there}
 use Rattle.mrp_board.proofs.Queues.{CanSettle}
 use Rattle.mrp_board.proofs.Tests.{all-by_place, all-same, each-place, equal, find-agree, no}
@@ -38,7 +38,7 @@ passed-before p item a (suc n) low =
     none false = refl
 
 -- an item is in such a list once if it passes
-passed-once : (p : ℕ → Bool) (item a n : ℕ) → a ≤ item → item < a + n → occurrences item (filter p (range_with_len a n)) ≡ cond (p item) 1 0
+passed-once : (p : ℕ → Bool) (item a n : ℕ) → a ≤ item → item < a + n → occurrences item (filter p (range_with_len a n)) ≡ one_if (p item)
 passed-once p item a zero low high = absurd (omega (arith, low, high))
 passed-once p item a (suc n) low high = elim (cases_eq item a) [
   | inl same ↦
@@ -46,20 +46,20 @@ passed-once p item a (suc n) low high = elim (cases_eq item a) [
         arith,
         occurs-if item a (filter p (range_with_len (a + 1) n)) (p a),
         passed-before p item (a + 1) n (omega (arith, same)),
-        ap (λ (m : ℕ). cond (p a) m 0) (one-here item a (sym same)) ∙ ap (λ (j : ℕ). cond (p j) 1 0) (sym same),
+        ap (λ (m : ℕ). cond (p a) m 0) (one-here item a (sym same)) ∙ ap (λ (j : ℕ). one_if (p j)) (sym same),
       )
   | inr other ↦
       omega (
         arith,
         occurs-if item a (filter p (range_with_len (a + 1) n)) (p a),
-        ap (λ (m : ℕ). cond (p a) m 0) (one-there item a (λ (e : a ≡ item). other (sym e))) ∙ zero-either (p a),
+        none-either (p a) (one_at item a) (one-there item a (λ (e : a ≡ item). other (sym e))),
         passed-once p item (a + 1) n (omega (arith, low, other)) (omega (arith, high)),
       )
 ]
   where
-    zero-either : (b : Bool) → cond b 0 0 ≡ 0
-    zero-either true = refl
-    zero-either false = refl
+    none-either : (b : Bool) (n : ℕ) → n ≡ 0 → cond b n 0 ≡ 0
+    none-either true n e = e
+    none-either false n e = refl
 
 -- a sum that falls by one at each place of an item
 sum-less : (f g : ℕ → ℕ) (item : ℕ) (items : List ℕ) → ((i : ℕ) → f i ≡ g i + one_at item i) → sum_by f items ≡ sum_by g items + occurrences item items
@@ -86,14 +86,14 @@ of-none (suc n) x (suc i) = of-none n x i
 
 -- What is not stored.
 
-unstored-none : (b : Bool) → (cond b 0 1 == 0) ≡ b
+unstored-none : (b : Bool) → (one_if (not b) == 0) ≡ b
 unstored-none true = refl
 unstored-none false = refl
 
 stored-all : (b : BoardState) (i : ℕ) → (unfinished b i == 0) ≡ list_all (has_stored b) (parents_at b i)
 stored-all b i =
-    sum_by-zero (λ (p : ℕ). cond (has_stored b p) 0 1) (parents_at b i)
-    ∙ all-same (λ (p : ℕ). cond (has_stored b p) 0 1 == 0) (has_stored b) (parents_at b i) (λ p. unstored-none (has_stored b p))
+    sum_by-zero (λ (p : ℕ). one_if (not (has_stored b p))) (parents_at b i)
+    ∙ all-same (λ (p : ℕ). one_if (not (has_stored b p)) == 0) (has_stored b) (parents_at b i) (λ p. unstored-none (has_stored b p))
 
 -- the waits of the items that no worker took
 abbrev pub first-waits : Inputs → List (Option ℕ)
@@ -109,13 +109,13 @@ kept-new s = record {
   size = length-map-range_with_len (λ i. Some (length (parents_of s.tables.bills (count s) i))) 0 (count s);
   waiting = λ i h.
       get_or-map-range_with_len (λ j. Some (length (parents_of s.tables.bills (count s) j))) 0 (count s) i i None h (omega arith)
-      ∙ ap (λ (n : ℕ). Some n) (sym (sum-ones (λ (p : ℕ). cond (has_stored (new_board s) p) 0 1) (parents_of s.tables.bills (count s) i) none-stored))
+      ∙ ap (λ (n : ℕ). Some n) (sym (sum-ones (λ (p : ℕ). one_if (not (has_stored (new_board s) p))) (parents_of s.tables.bills (count s) i) none-stored))
       ∙ ap (λ (w : Option ℕ). cond (is_some w) None (Some (unfinished (new_board s) i))) (sym (of-none (count s) None i));
   fed = λ i is. no (ap (λ (w : Option ℕ). is_some w) (sym (of-none (count s) None i)) ∙ is);
 }
   where
-    none-stored : (p : ℕ) → cond (has_stored (new_board s) p) 0 1 ≡ 1
-    none-stored p = ap (λ (o : Option ItemOf). cond (is_some o) 0 1) (of-none (count s) None p)
+    none-stored : (p : ℕ) → one_if (not (has_stored (new_board s) p)) ≡ 1
+    none-stored p = ap (λ (o : Option ItemOf). one_if (not (is_some o))) (of-none (count s) None p)
 
 module _ (b : BoardState) (waits : List (Option ℕ)) (k : KeepsBoard b waits) where
   due-is : (i : ℕ) → i < count b.inputs → is_due waits i ≡ can_go_out b i
@@ -184,10 +184,7 @@ module _ (b : BoardState) (waits : List (Option ℕ)) (k : KeepsBoard b waits) w
       waiting = λ i h. elim (cases_eq i item) [
         | inl same ↦
             subst (λ (j : ℕ). waits_for (set waits item None) j ≡ cond (is_some (worker_of taken j)) None (Some (unfinished b j))) (sym same)
-            (
-              get_or-set_same waits item None None (omega (arith, within, k.size))
-                  ∙ ap (λ (w : Option ℕ). cond (is_some w) None (Some (unfinished b item))) (sym worker-here),
-            )
+            (get_or-set_same waits item None None (omega (arith, within, k.size)) ∙ ap (λ (w : Option ℕ). cond (is_some w) None (Some (unfinished b item))) (sym worker-here))
         | inr other ↦
             get_or-set_other waits item i None None other ∙ k.waiting i h
             ∙ ap (λ (w : Option ℕ). cond (is_some w) None (Some (unfinished b i))) (sym (worker-other i other))
@@ -221,16 +218,16 @@ module _ (b : BoardState) (waits : List (Option ℕ)) (k : KeepsBoard b waits) w
     stored-other : (i : ℕ) → i ≢ item → outcome_at stored i ≡ outcome_at b i
     stored-other i other = get_or-set_other b.outcomes item i (Some o) None other
 
-    one-stored : (p : ℕ) → cond (has_stored b p) 0 1 ≡ cond (has_stored stored p) 0 1 + one_at item p
+    one-stored : (p : ℕ) → one_if (not (has_stored b p)) ≡ one_if (not (has_stored stored p)) + one_at item p
     one-stored p = elim (cases_eq p item) [
       | inl same ↦
-          subst (λ (j : ℕ). cond (has_stored b j) 0 1 ≡ cond (has_stored stored j) 0 1 + one_at item j) (sym same)
-          (omega (arith, ap (λ (v : Bool). cond v 0 1) new, ap (λ (x : Option ItemOf). cond (is_some x) 0 1) stored-here, one-here item item refl))
-      | inr other ↦ omega (arith, ap (λ (x : Option ItemOf). cond (is_some x) 0 1) (stored-other p other), one-there item p other)
+          subst (λ (j : ℕ). one_if (not (has_stored b j)) ≡ one_if (not (has_stored stored j)) + one_at item j) (sym same)
+          (omega (arith, ap (λ (v : Bool). one_if (not v)) new, ap (λ (x : Option ItemOf). one_if (not (is_some x))) stored-here, one-here item item refl))
+      | inr other ↦ omega (arith, ap (λ (x : Option ItemOf). one_if (not (is_some x))) (stored-other p other), one-there item p other)
     ]
 
     fewer : (i : ℕ) → unfinished b i ≡ unfinished stored i + occurrences item (parents_at b i)
-    fewer i = sum-less (λ (p : ℕ). cond (has_stored b p) 0 1) (λ (p : ℕ). cond (has_stored stored p) 0 1) item (parents_at b i) one-stored
+    fewer i = sum-less (λ (p : ℕ). one_if (not (has_stored b p))) (λ (p : ℕ). one_if (not (has_stored stored p))) item (parents_at b i) one-stored
 
     fewer-child : (i : ℕ) → i < count b.inputs → unfinished b i ≡ unfinished stored i + occurrences i children
     fewer-child i h =

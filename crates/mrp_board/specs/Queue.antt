@@ -25,9 +25,13 @@ abbrev pub less : ℕ → Option ℕ → Option ℕ
 less n None = None
 less n (Some parents) = Some (parents - n)
 
+-- 1 where a test holds, and 0 elsewhere
+abbrev pub one_if : Bool → ℕ
+one_if b = cond b 1 0
+
 -- 1 for an item, and 0 for each other
 abbrev pub one_at : ℕ → ℕ → ℕ
-one_at item i = cond (i == item) 1 0
+one_at item i = one_if (i == item)
 
 -- how often an item is in a list
 abbrev pub occurrences : ℕ → List ℕ → ℕ
@@ -40,6 +44,6 @@ in_heap item due = sum_by (λ r. one_at item r.0) due
 -- the heap has each item that is due once, and room for all items; and the items that were not handed out are counted
 pub record KeepsQueue (waits : List (Option ℕ)) (due : List (Reverse ℕ)) (room left : ℕ) : Type 0 where
   pub ordered : IsHeap (λ x y. nat_cmp y.0 x.0) due
-  pub once : (item : ℕ) → in_heap item due ≡ cond (is_due waits item) 1 0
-  pub room : length waits ≤ room
-  pub counted : left ≡ sum_by (λ w. cond (is_some w) 1 0) waits
+  pub once : (item : ℕ) → in_heap item due ≡ one_if (is_due waits item)
+  pub roomy : length waits ≤ room
+  pub counted : left ≡ sum_by (λ w. one_if (is_some w)) waits
