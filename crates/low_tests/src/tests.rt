@@ -11,7 +11,6 @@ use std::process::Abort;
 use std::test::Fail;
 
 mod bills;
-mod boards;
 mod books;
 mod bundles;
 mod calendars;

@@ -1,11 +1,9 @@
 -- Logs of a board with one more entry.
-use Rattle.std.proofs.Common.{◌≡◌, ◌∙◌, ◌==◌, ◌||◌, ◌&&◌, ℕ, Bool, true, false, if◌then◌else◌, List, [], ◌∷◌, ◌++◌, Option, Some, None, refl, sym, ap}
+use Rattle.std.proofs.Common.{◌≡◌, ◌==◌, ◌||◌, ◌&&◌, ℕ, Bool, true, false, if◌then◌else◌, [], ◌∷◌, ◌++◌, None, refl, sym}
 use Rattle.std.specs.Prelude.{is_some}
-use Rattle.mrp_item.specs.Places.{ItemOf}
 use Rattle.mrp_board.specs.declared.call.BoardCall.{BoardCall}
 use Rattle.mrp_board.specs.declared.call.BoardCall.TheVariants as call
 use Rattle.mrp_board.specs.declared.reply.BoardReply.{BoardReply}
-use Rattle.mrp_board.specs.declared.reply.BoardReply.TheVariants as reply
 use Rattle.mrp_board.specs.Board.{BoardEntry, BoardLog, hands_out, has_stopped, is_out, is_out_to, is_stored, outcome_by, outcome_in, stops, stores}
 use Rattle.mrp_board.proofs.Tests.{any-more, no}
 

@@ -1,5 +1,5 @@
 -- In a legal log each outcome that is stored is its item's, and each item that is handed out comes with its parents' outcomes.
-use Rattle.std.proofs.Common.{◌≡◌, ◌∙◌, ◌||◌, ◌<◌, ℕ, Bool, true, false, not, if◌then◌else◌, List, [], ◌∷◌, ◌++◌, Option, Some, None, map, refl, sym, ap, subst, arith}
+use Rattle.std.proofs.Common.{◌≡◌, ◌∙◌, ◌||◌, ◌<◌, ℕ, Bool, true, false, not, if◌then◌else◌, List, [], ◌∷◌, ◌++◌, Option, Some, map, refl, sym, ap, subst, arith}
 use Rattle.std.specs.Prelude.{filter_map, find}
 use Rattle.std.specs.List.{cons_option, list_all}
 use Rattle.mrp_turn.specs.Log.{entry}
@@ -12,7 +12,7 @@ use Rattle.mrp_board.specs.declared.call.BoardCall.{BoardCall}
 use Rattle.mrp_board.specs.declared.call.BoardCall.TheVariants as call
 use Rattle.mrp_board.specs.declared.reply.BoardReply.{BoardReply}
 use Rattle.mrp_board.specs.declared.reply.BoardReply.TheVariants as reply
-use Rattle.mrp_board.specs.Board.{BoardLog, FitsInputs, HandsOn, IsLegalBoard, MayFollowOnBoard, board_reply, handed, is_at_end, is_out, is_ready, is_stored, outcome_by, outcome_in, parents_in, stores}
+use Rattle.mrp_board.specs.Board.{BoardLog, FitsInputs, HandsOn, IsLegalBoard, MayFollowOnBoard, board_reply, is_at_end, is_out, is_ready, is_stored, outcome_by, outcome_in, parents_in, stores}
 use Rattle.mrp_board.proofs.BoardStates.{found-ready}
 use Rattle.mrp_board.proofs.Tests.{and-first, and-second, equal, found-in, no}
 

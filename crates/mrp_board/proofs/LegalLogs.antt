@@ -1,13 +1,10 @@
 -- What a turn lock calls legal of a board's log is a legal log of the board, and its state is the one that the log leaves.
-use Rattle.std.proofs.Common.{◌≡◌, ◌∙◌, ℕ, [], ◌∷◌, ◌++◌, Some, refl, sym, ap, subst, append-nil}
-use Rattle.mrp_turn.specs.declared.log.Entry.{Entry}
+use Rattle.std.proofs.Common.{◌≡◌, ◌∙◌, [], ◌∷◌, ◌++◌, sym, ap, subst, append-nil}
 use Rattle.mrp_turn.specs.Log.{IsLegal, IsReached, Leads, LeadsTo}
 use Rattle.mrp_turn.proofs.Logs.{EachFollows-more, EachFollows-nil, InTurn, InTurn-from_Each, one_more}
 use Rattle.mrp_item.specs.Inputs.{Inputs}
-use Rattle.mrp_board.specs.declared.call.BoardCall.{BoardCall}
-use Rattle.mrp_board.specs.declared.reply.BoardReply.{BoardReply}
 use Rattle.mrp_board.specs.Board.{BoardEntry, BoardLog, IsLegalBoard, MayFollowOnBoard}
-use Rattle.mrp_board.specs.BoardState.{BoardState, board_reply_in, state_after, state_of}
+use Rattle.mrp_board.specs.BoardState.{BoardState, state_of}
 use Rattle.mrp_board.specs.Object.{Answers, Opens}
 use Rattle.mrp_board.proofs.BoardStates.{reply-is, state-more, state-none}
 

@@ -1,28 +1,23 @@
 -- What a queue keeps over its calls.
-use Rattle.std.proofs.Common.{◌≡◌, ◌≢◌, ◌∙◌, ◌<◌, ◌≤◌, ◌+◌, ◌-◌, ◌==◌, ℕ, zero, suc, Bool, true, false, cond, not, inl, inr, List, [], ◌∷◌, ◌++◌, Option, Some, None, length, length-set, get_or, map, set, take, refl, sym, ap, subst, arith, get_or-set_same, get_or-set_other}
-use Rattle.std.proofs.lemmas.Bool.{cases_eq, cases_lt, false_from_ne_true}
+use Rattle.std.proofs.Common.{◌≡◌, ◌≢◌, ◌∙◌, ◌<◌, ◌≤◌, ◌+◌, ◌-◌, ℕ, zero, suc, Bool, true, false, inl, inr, List, [], ◌∷◌, ◌++◌, Option, Some, None, length, length-set, get_or, map, set, take, refl, sym, ap, subst, arith, get_or-set_same, get_or-set_other}
+use Rattle.std.proofs.lemmas.Bool.{cases_eq, cases_lt}
 use Rattle.std.proofs.lemmas.List.{get_or_append_left, get_or_past, length_push}
-use Rattle.std.proofs.lemmas.List.Folds.{sum_by-zero}
 use Rattle.std.proofs.lemmas.List.Sorted.{sum_by_popped, sum_by_pushed}
-use Rattle.std.proofs.lemmas.List.Sums.{sum_by-cons, sum_by-set, sum_by_more, sum_by_more_le}
+use Rattle.std.proofs.lemmas.List.Sums.{sum_by-cons, sum_by-set, sum_by_more_le}
 use Rattle.std.proofs.Math.Seq.{get_or-append_seam}
 use Rattle.std.specs.Prelude.{find, is_some, sum_by}
 use Rattle.std.specs.BinaryHeap.{IsHeap, IsUpperBound}
 use Rattle.std.specs.declared.cmp.Reverse.{Reverse}
-use Rattle.std.specs.List.{list_all, range_with_len}
+use Rattle.std.specs.List.{range_with_len}
 use Rattle.std.specs.List.Sorted.{IsPermutation}
 use Rattle.std.specs.Ordering.{nat_cmp}
 use Rattle.mrp_board.specs.Queue.{KeepsQueue, in_heap, is_due, less, occurrences, one_at, one_if, queue_places, waits_for, waits_for_none}
-use Rattle.mrp_board.proofs.Heaps.{heap-cons, none-below, one-here, one-there, room-left, top-in}
-use Rattle.mrp_board.proofs.Tests.{all-same, find-first, find-none, no, other-number}
+use Rattle.mrp_board.proofs.Heaps.{none-below, one-here, one-there, room-left, top-in}
+use Rattle.mrp_board.proofs.Tests.{find-first, find-none, no, other-number}
 
 -- 1 for an item that was not handed out
 abbrev pub is_left : Option ℕ → ℕ
 is_left w = one_if (is_some w)
-
-left-none : (w : Option ℕ) → (is_left w == 0) ≡ not (is_some w)
-left-none None = refl
-left-none (Some n) = refl
 
 due-one : (b : Bool) → 1 ≤ one_if b → b ≡ true
 due-one true h = refl
@@ -37,9 +32,6 @@ due-most true = omega arith
 due-most false = omega arith
 
 module _ (waits : List (Option ℕ)) (due : List (Reverse ℕ)) (room left : ℕ) (k : KeepsQueue waits due room left) where
-  pub empty-is : (left == 0) ≡ list_all (λ w. not (is_some w)) waits
-  empty-is = ap (λ (n : ℕ). n == 0) k.counted ∙ sum_by-zero is_left waits ∙ all-same (λ w. is_left w == 0) (λ w. not (is_some w)) waits left-none
-
   not-past : (item : ℕ) → length waits ≤ item → is_due waits item ≡ false
   not-past item past = ap waits_for_none (get_or_past waits item None past)
 
@@ -132,15 +124,7 @@ module _ (waits : List (Option ℕ)) (due : List (Reverse ℕ)) (room left : ℕ
     one-left : is_left (waits_for waits item) ≡ 1
     one-left = ap is_left is
 
-    -- for some still
-    pub kept-waiting : (p : ℕ) → p ≢ 0 → KeepsQueue (set waits item (Some p)) due room left
-    kept-waiting p some =
-        kept-set item (Some p) waits-within due left k.ordered
-        (not-due ∙ sym (ap one_if (other-number p 0 some)))
-        (λ i other. refl)
-        (omega (arith, one-left))
-
-    -- or for none, so that it is due
+    -- and may then be due
     pub kept-pushed : (x : Reverse ℕ) (new : List (Reverse ℕ)) → x.0 ≡ item → IsPermutation (x ∷ due) new → IsHeap (λ x y. nat_cmp y.0 x.0) new → KeepsQueue (set waits item (Some 0)) new room left
     kept-pushed x new same moved heap =
         let more : (i : ℕ) → in_heap i new ≡ one_at i x.0 + in_heap i due = (λ i. sum_by_pushed (λ (r : Reverse ℕ). one_at i r.0) x due new moved) in
@@ -168,9 +152,6 @@ left-all f a (suc n) = omega (arith, sum_by-cons is_left (Some (f a)) (map (λ i
 -- the heap has each item that is due once
 abbrev pub HasDue : List (Option ℕ) → List (Reverse ℕ) → Type 0
 HasDue waits due = (item : ℕ) → in_heap item due ≡ one_if (is_due waits item)
-
-pub due-nil : HasDue [] []
-due-nil item = refl
 
 module _ (waits : List (Option ℕ)) (due : List (Reverse ℕ)) (has : HasDue waits due) (w : Option ℕ) where
   abbrev grown : List (Option ℕ)
@@ -218,16 +199,6 @@ kept-filled f n room waits due is enough heap has = record {
   counted = sym (ap (sum_by is_left) is ∙ left-all f 0 n);
 }
 
--- Items that wait for less.
-
-pub less-zero : (w : Option ℕ) → less 0 w ≡ w
-less-zero None = refl
-less-zero (Some p) = ap (λ (n : ℕ). Some n) (omega arith)
-
-less-more : (n : ℕ) (w : Option ℕ) → less 1 (less n w) ≡ less (n + 1) w
-less-more n None = refl
-less-more n (Some p) = ap (λ (m : ℕ). Some m) (omega arith)
-
 -- each of these items waits for as many parents as it is listed
 abbrev pub CanSettle : List ℕ → List (Option ℕ) → Type 0
 CanSettle items waits = (i : ℕ) → 1 ≤ occurrences i items → (n : ℕ) × (waits_for waits i ≡ Some n) × (occurrences i items ≤ n)
@@ -241,9 +212,6 @@ module _ (items : List ℕ) (k : ℕ) (old now : List (Option ℕ)) (h : IsSettl
   abbrev item : ℕ
   item = get_or items k 0
 
-  taken-more : (i : ℕ) → occurrences i (take (k + 1) items) ≡ occurrences i (take k items) + one_at i item
-  taken-more i = sum_by_more (one_at i) items k 0 low
-
   pub can-settle : CanSettle items old → (n : ℕ) × (waits_for now item ≡ Some (suc n))
   can-settle can =
       let here : occurrences item (take k items) + one_at item item ≤ occurrences item items = sum_by_more_le (one_at item) items k 0 low in
@@ -254,24 +222,3 @@ module _ (items : List ℕ) (k : ℕ) (old now : List (Option ℕ)) (h : IsSettl
         waits.0 - done - 1,
         h.settled item ∙ ap (less done) waits.1 ∙ ap (λ (n : ℕ). Some n) (omega (arith, enough)),
       )
-
-  pub settled-more : item < length now → IsSettled items (k + 1) old (set now item (less 1 (waits_for now item)))
-  settled-more there = record {
-    size = length-set now item (less 1 (waits_for now item)) ∙ h.size;
-    settled = λ i. elim (cases_eq i item) [
-      | inl same ↦
-          ap (λ (j : ℕ). waits_for (set now item (less 1 (waits_for now item))) j) same
-          ∙ get_or-set_same now item (less 1 (waits_for now item)) None there
-          ∙ ap (less 1) (h.settled item)
-          ∙ less-more (occurrences item (take k items)) (waits_for old item)
-          ∙ ap (λ (n : ℕ). less n (waits_for old item)) (omega (arith, taken-more item, one-here item item refl))
-          ∙ ap (λ (j : ℕ). less (occurrences j (take (k + 1) items)) (waits_for old j)) (sym same)
-      | inr other ↦
-          get_or-set_other now item i (less 1 (waits_for now item)) None other
-          ∙ h.settled i
-          ∙ ap (λ (n : ℕ). less n (waits_for old i)) (omega (arith, taken-more i, one-there i item (λ (e : item ≡ i). other (sym e))))
-    ];
-  }
-
-pub settled-none : (items : List ℕ) (old : List (Option ℕ)) → IsSettled items 0 old old
-settled-none items old = record { size = refl; settled = λ i. sym (less-zero (waits_for old i)) }

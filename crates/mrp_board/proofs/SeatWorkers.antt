@@ -6,7 +6,7 @@ use Rattle.mrp_turn.specs.Log.{AreFrom, entries_by, entry}
 use Rattle.mrp_item.specs.Inputs.{Inputs}
 use Rattle.mrp_board.specs.declared.call.BoardCall.TheVariants as call
 use Rattle.mrp_board.specs.declared.reply.BoardReply.TheVariants as reply
-use Rattle.mrp_board.specs.Board.{BoardEntry, BoardLog}
+use Rattle.mrp_board.specs.Board.{BoardLog}
 use Rattle.mrp_board.specs.Orderly.{IsComplete, IsCourse, IsOrderly}
 
 outside : (i j n : ℕ) → 1 ≤ i → i ≤ n → (j < 1) ⊎ (n < j) → (i == j) ≡ false

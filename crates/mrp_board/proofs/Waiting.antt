@@ -1,9 +1,9 @@
 -- What the state of a board keeps over its calls.
-use Rattle.std.proofs.Common.{◌≡◌, ◌≢◌, ◌∙◌, ◌<◌, ◌≤◌, ◌+◌, ◌==◌, ◌||◌, ◌&&◌, ℕ, zero, suc, Bool, true, false, cond, not, inl, inr, List, [], ◌∷◌, Option, Some, None, length, length-set, get_or, map, set, replicate, refl, sym, ap, subst, arith, get_or-set_same, get_or-set_other}
+use Rattle.std.proofs.Common.{◌≡◌, ◌≢◌, ◌∙◌, ◌<◌, ◌≤◌, ◌+◌, ◌==◌, ◌&&◌, ℕ, zero, suc, Bool, true, false, cond, not, inl, inr, List, [], ◌∷◌, Option, Some, None, length, length-set, get_or, map, set, replicate, refl, sym, ap, subst, arith, get_or-set_same, get_or-set_other}
 use Rattle.std.proofs.lemmas.Bool.{cases_eq, cases_lt}
 use Rattle.std.proofs.lemmas.List.{get_or_past, length-replicate}
 use Rattle.std.proofs.lemmas.List.Folds.{sum_by-zero}
-use Rattle.std.proofs.lemmas.List.FromFn.{get_or-map-range_with_len, length-map-range_with_len, length-range_with_len}
+use Rattle.std.proofs.lemmas.List.FromFn.{get_or-map-range_with_len, length-map-range_with_len}
 use Rattle.std.proofs.lemmas.List.Sums.{sum_by-cons}
 use Rattle.std.specs.Prelude.{filter, find, is_some, sum_by}
 use Rattle.std.specs.List.{list_all, range_with_len}
@@ -12,7 +12,7 @@ use Rattle.mrp_bill.specs.Bill.{children_of, is_parent, parents_of}
 use Rattle.mrp_item.specs.Inputs.{Inputs, count, places}
 use Rattle.mrp_item.specs.Made.{item_from}
 use Rattle.mrp_item.specs.Places.{ItemOf}
-use Rattle.mrp_board.specs.BoardState.{AreOwn, BoardState, can_go_out, has_ended, has_stored, new_board, outcome_at, parents_at, worker_of}
+use Rattle.mrp_board.specs.BoardState.{BoardState, can_go_out, has_stored, new_board, outcome_at, parents_at, worker_of}
 use Rattle.mrp_board.specs.Kept.{KeepsBoard, unfinished}
 use Rattle.mrp_board.specs.Queue.{is_due, less, occurrences, one_at, one_if, queue_places, waits_for, waits_for_none}
 use Rattle.mrp_board.proofs.Heaps.{one-here, one-there}
@@ -136,18 +136,14 @@ module _ (b : BoardState) (waits : List (Option ℕ)) (k : KeepsBoard b waits) w
   empty-out =
       all-by_place (λ w. not (is_some w)) (λ i. is_some (worker_of b i)) None 0 waits
       (λ i h.
-          ap (λ (w : Option ℕ). not (is_some w)) (k.waiting i (omega (arith, h, k.size)))
-          ∙ by (is_some (worker_of b i)) (unfinished b i)
-          ∙ ap (λ (j : ℕ). is_some (worker_of b j)) (omega arith))
+      ap (λ (w : Option ℕ). not (is_some w)) (k.waiting i (omega (arith, h, k.size)))
+      ∙ by (is_some (worker_of b i)) (unfinished b i)
+      ∙ ap (λ (j : ℕ). is_some (worker_of b j)) (omega arith))
       ∙ ap (λ (n : ℕ). list_all (λ i. is_some (worker_of b i)) (range_with_len 0 n)) k.size
     where
       by : (out : Bool) (n : ℕ) → not (is_some (cond out None (Some n))) ≡ out
       by true n = refl
       by false n = refl
-
-  -- a worker gives up
-  pub kept-stopped : (now : Bool) → KeepsBoard (record b { stopped = now }) waits
-  kept-stopped now = record { out_size = k.out_size; own = k.own; size = k.size; waiting = k.waiting; fed = k.fed }
 
   out-within : (i : ℕ) → is_some (worker_of b i) ≡ true → i < count b.inputs
   out-within i is = elim (cases_lt i (count b.inputs)) [

@@ -1,5 +1,5 @@
 -- A run's board by the state that its log leaves (profile).
-use Rattle.std.specs.Prelude.{ℕ, ◌≡◌, ◌==◌, ◌&&◌, ◌||◌, not, Bool, true, false, is_some, if◌then◌else◌, List, length, map, replicate, set, Option, Some, None, option_map, find, filter_map}
+use Rattle.std.specs.Prelude.{ℕ, ◌≡◌, ◌==◌, ◌&&◌, ◌||◌, not, Bool, false, is_some, if◌then◌else◌, List, length, map, replicate, set, Option, Some, None, option_map, find, filter_map}
 use Rattle.std.specs.List.{list_all, slice_index_or}
 use Rattle.mrp_bill.specs.Bill.{parents_of}
 use Rattle.mrp_item.specs.Inputs.{Inputs, count, places}

@@ -161,11 +161,7 @@ impl BoardState {
         Parents::new(alloc, outcomes)
     }
 
-    fn take(
-        &mut self,
-        alloc: Global,
-        who: u64,
-    ) -> Result<(BoardReply, BoardReply), BoardRefused>
+    fn take(&mut self, alloc: Global, who: u64) -> Result<(BoardReply, BoardReply), BoardRefused>
         ensures { Tells self.old who BoardCall.Take result self.new }
     {
         if self.is_at_end() {

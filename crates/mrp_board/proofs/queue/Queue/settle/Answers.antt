@@ -1,8 +1,8 @@
-use Rattle.std.proofs.Common.{◌≡◌, ◌∙◌, ◌<◌, ◌-◌, ℕ, suc, Bool, true, false, List, Option, Some, Result, Ok, Err, length, set, refl, sym, ap, subst, arith}
+use Rattle.std.proofs.Common.{◌≡◌, ◌∙◌, ◌<◌, ◌-◌, ℕ, suc, true, false, List, Option, Some, Result, Ok, Err, length, set, refl, sym, ap, subst, arith}
 use Rattle.std.specs.Prelude.{IsOk, OnOk, is_err}
 use Rattle.std.specs.BinaryHeap.{heap_capacity, heap_items}
 use Rattle.mrp_board.specs.Queue.{KeepsQueue, waits_for}
-use Rattle.mrp_board.proofs.Queues.{has-room, kept-pushed, kept-roomier, waits-within}
+use Rattle.mrp_board.proofs.Queues.{has-room, kept-pushed, kept-roomier}
 use Rattle.mrp_board.proofs.Tests.{no}
 use Rattle.mrp_board.proofs.queue.Queue.settle.Goals as goal
 

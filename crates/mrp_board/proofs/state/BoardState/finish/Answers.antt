@@ -1,4 +1,4 @@
-use Rattle.std.proofs.Common.{◌≡◌, ◌∙◌, ◌&&◌, ℕ, true, not, sym, ap, subst, rules}
+use Rattle.std.proofs.Common.{◌≡◌, ◌∙◌, ◌&&◌, ℕ, true, not, sym, ap, rules}
 use Rattle.std.specs.Prelude.{is_some}
 use Rattle.mrp_item.specs.Places.{ItemOf}
 use Rattle.mrp_board.specs.BoardState.{has_stored, is_worker, worker_of}

@@ -1,4 +1,4 @@
-use Rattle.std.proofs.Common.{◌≡◌, ◌∙◌, ap}
+use Rattle.std.proofs.Common.{◌∙◌, ap}
 use Rattle.std.specs.Prelude.{find}
 use Rattle.mrp_item.specs.Inputs.{places}
 use Rattle.mrp_board.specs.BoardState.{BoardState, can_go_out}

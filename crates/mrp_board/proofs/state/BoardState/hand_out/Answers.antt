@@ -6,7 +6,7 @@ use Rattle.mrp_board.specs.BoardState.{BoardState, can_go_out}
 use Rattle.mrp_board.specs.Kept.{KeepsBoard}
 use Rattle.mrp_board.specs.Queue.{is_due, queue_places}
 use Rattle.mrp_board.proofs.Tests.{found-in}
-use Rattle.mrp_board.proofs.Waiting.{first-out, kept-out, out-there}
+use Rattle.mrp_board.proofs.Waiting.{first-out, kept-out}
 use Rattle.mrp_board.proofs.state.BoardState.hand_out.Goals as goal
 
 pub index_mut-requires : goal.index_mut-requires

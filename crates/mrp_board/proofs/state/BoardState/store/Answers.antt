@@ -1,4 +1,4 @@
-use Rattle.std.proofs.Common.{◌≡◌, ◌∙◌, ℕ, true, false, List, Option, Some, length, set, sym, ap, subst}
+use Rattle.std.proofs.Common.{◌≡◌, ◌∙◌, ℕ, true, false, List, length, sym, ap, subst}
 use Rattle.std.specs.Prelude.{is_some}
 use Rattle.mrp_tables.specs.Tables.{Tables}
 use Rattle.mrp_bill.specs.Bill.{children_of}
