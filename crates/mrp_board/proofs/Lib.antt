@@ -1,0 +1,11 @@
+pub mod Tests
+pub mod BoardLogs
+pub mod BoardStates
+pub mod HandsOn
+pub mod Ends
+pub mod SeatWorkers
+pub mod LegalLogs
+pub mod Heaps
+pub mod Queues
+pub mod Waiting
+pub mod Replies

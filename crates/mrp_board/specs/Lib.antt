@@ -1,0 +1,6 @@
+pub mod Board
+pub mod Orderly
+pub mod BoardState
+pub mod Object
+pub mod Queue
+pub mod Kept
