@@ -31,6 +31,7 @@ mod streams;
 mod tables;
 mod told;
 mod turns;
+mod versions;
 mod weeks;
 mod worked;
 

@@ -46,10 +46,11 @@ impl Records<'_> {
 
     /// The bundle of the tables.
     pub fn bundle(&self, alloc: Global) -> Result<String, Fail> {
+        let mut bundle = String::new(alloc);
+        bundle.push_str("[calendar]\nkey,value\n")?;
+        bundle.push_str(self.calendar)?;
+        bundle.push_str(self.items_header())?;
         let pieces = [
-            "[calendar]\nkey,value\n",
-            self.calendar,
-            self.items_header(),
             self.items,
             "[centres]\ncentre,minutes\n",
             self.centres,
@@ -66,7 +67,6 @@ impl Records<'_> {
             "[script]\ndesk,call,item,date,quantity,number\n",
             self.script,
         ];
-        let mut bundle = String::new(alloc);
         for piece in pieces {
             bundle.push_str(piece)?;
         }

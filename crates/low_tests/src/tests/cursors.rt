@@ -146,6 +146,73 @@ fn other_headers_are_refused(rt: HostRuntime) {
     }
 }
 
+// Fails unless the items of a bundle have these records of nine cells, and then this end, for good.
+fn has_stepped_items(
+    rt: &impl Abort,
+    alloc: Global,
+    bundle: &[u8],
+    records: &[&[&[u8]]],
+    end: Result<(), Fault>,
+) {
+    let sections = split_bundle(bundle).expect(rt, "sections");
+    let mut cursor = Cursor::stepped_items(alloc, &sections).expect(rt, "a header");
+    come(rt, &mut cursor, records, end);
+    drop(cursor);
+}
+
+const BEFORE_ITEMS: &[u8] =
+    b"[calendar]\n[centres]\n[stock]\n[receipts]\n[bills]\n[routings]\n[master]\n[script]\n[items]\n";
+
+// A bundle whose items have this text.
+fn items_of(rt: &impl Abort, alloc: Global, text: &[u8]) -> Vec<u8> {
+    [BEFORE_ITEMS, text].concat(alloc).expect(rt, "memory")
+}
+
+#[test]
+fn items_with_order_multiples_have_nine_cells(rt: HostRuntime) {
+    const TEXT: &[u8] =
+        b"item,class,lead,scrap,lot,size,safety,least,step\nWHEEL,part,2,0,period,2,0,50,12\nBIKE,master,1,0,lfl,0,0\n";
+    let bundle = items_of(&rt, rt.alloc(), TEXT);
+    let records: &[&[&[u8]]] = &[&[
+        b"WHEEL", b"part", b"2", b"0", b"period", b"2", b"0", b"50", b"12",
+    ]];
+    let end = uneven(Table::Items, 2);
+    has_stepped_items(&rt, rt.alloc(), &bundle, records, end);
+}
+
+// The fault of a bundle's items with order multiples before their first record.
+fn stepped_fault(rt: &impl Abort, alloc: Global, bundle: &[u8]) -> Option<Fault> {
+    let sections = split_bundle(bundle).expect(rt, "sections");
+    match Cursor::stepped_items(alloc, &sections) {
+        Ok(cursor) => {
+            drop(cursor);
+            None
+        }
+        Err(fault) => Some(fault),
+    }
+}
+
+#[test]
+fn items_with_order_multiples_have_their_own_header(rt: HostRuntime) {
+    const WRONG: &[&[u8]] = &[
+        b"",
+        b"item,class,lead,scrap,lot,size,safety\n",
+        b"item,class,lead,scrap,lot,size,safety,least\n",
+        b"item,class,lead,scrap,lot,size,safety,step,least\n",
+        b"item,class,lead,scrap,lot,size,safety,least,step,\n",
+    ];
+    const FAULT: Fault = Fault {
+        code: faults::HEADER,
+        table: Table::Items,
+        row: 0,
+    };
+    for text in WRONG {
+        let bundle = items_of(&rt, rt.alloc(), text);
+        let fault = stepped_fault(&rt, rt.alloc(), &bundle);
+        same(&rt, (*text, fault), (*text, Some(FAULT)));
+    }
+}
+
 // The text after a header, and its records.
 const RECORDS: &[(&[u8], &[&[&[u8]]])] = &[
     (

@@ -31,7 +31,8 @@ const TEXTS: &[(u8, Table, u32, &str)] = &[
         4_294_967_295,
         "22 no-memory master 4294967295",
     ),
-    (23, Table::Items, 1, "23 fault items 1"),
+    (23, Table::Master, 5, "23 service-master master 5"),
+    (24, Table::Items, 1, "24 fault items 1"),
     (0, Table::Items, 1, "0 fault items 1"),
 ];
 

@@ -90,10 +90,10 @@ fn dates_are_read_as_weeks_of_the_calendar(rt: HostRuntime) {
 }
 
 // An item: name, class, lead, scrap, lot rule and safety stock.
-type ItemCells = (&'static str, Class, u64, u64, LotRule, u64);
+pub type ItemCells = (&'static str, Class, u64, u64, LotRule, u64);
 
 // Fails unless these are the items.
-fn are_items(rt: &impl Abort, items: &[Item], want: &[ItemCells]) {
+pub fn are_items(rt: &impl Abort, items: &[Item], want: &[ItemCells]) {
     same(rt, items.len(), want.len());
     for (item, cells) in items.iter().zip(want) {
         let (word, class, lead, scrap, lot, safety) = *cells;
@@ -121,6 +121,21 @@ fn items_are_read_with_scrap_lots_and_safety_stock(rt: HostRuntime) {
     ];
     let shop = read(&rt, rt.alloc(), SHOP);
     are_items(&rt, shop.items(), ITEMS);
+    drop(shop);
+}
+
+// Fails unless the items have these minimum order quantities and order multiples.
+pub fn are_steps(rt: &impl Abort, items: &[Item], want: &[(u64, u64)]) {
+    same(rt, items.len(), want.len());
+    for (item, steps) in items.iter().zip(want) {
+        same(rt, (item.least, item.step), *steps);
+    }
+}
+
+#[test]
+fn items_of_version_1_are_ordered_in_single_pieces(rt: HostRuntime) {
+    let shop = read(&rt, rt.alloc(), SHOP);
+    are_steps(&rt, shop.items(), &[(0, 1), (0, 1), (0, 1), (0, 1)]);
     drop(shop);
 }
 
@@ -247,10 +262,10 @@ fn receipts_of_some_pieces_stand_in_table_order(rt: HostRuntime) {
 }
 
 // A row of the master schedule: record, item, kind, week and pieces.
-type MasterCells = (u32, usize, MasterKind, u16, u64);
+pub type MasterCells = (u32, usize, MasterKind, u16, u64);
 
 // Fails unless these are the rows of the master schedule.
-fn are_master_rows(rt: &impl Abort, rows: &[MasterRow], want: &[MasterCells]) {
+pub fn are_master_rows(rt: &impl Abort, rows: &[MasterRow], want: &[MasterCells]) {
     same(rt, rows.len(), want.len());
     for (row, cells) in rows.iter().zip(want) {
         let pieces = row.quantity.value();
