@@ -1,5 +1,4 @@
 pub mod Board
-pub mod BoardState
 pub mod Core
 pub mod Headline
 pub mod Kept

@@ -1,6 +1,6 @@
 //! What follows from the definitions alone, each law the contract of a function that does nothing.
 
-ghost use Rattle.std.specs.Prelude.{◌≡◌, ◌++◌, ◌∷◌, [], List, Some, ℕ};
+ghost use Rattle.std.specs.Prelude.{◌≡◌, ◌++◌, ◌∷◌, [], List, ℕ};
 ghost use Rattle.mrp_rows.specs.declared.fault.Fault.{Fault};
 ghost use Rattle.mrp_tables.specs.Tables.{AreTables, Tables};
 ghost use Rattle.mrp_book.specs.Standing.{History};
@@ -8,11 +8,6 @@ ghost use Rattle.mrp_item.specs.Inputs.{Inputs};
 ghost use Rattle.mrp_engine.specs.day.Day.{AnswersScript, IsDay, IsDayBy, IsRefused, IsTooLarge};
 ghost use Rattle.mrp_engine.specs.day.RightDay.{AnswersDesks, IsRightDay};
 ghost use Rattle.mrp_bill.specs.Shop.{Shop};
-ghost use Rattle.mrp_turn.specs.Log.{entry};
-ghost use Rattle.mrp_engine.specs.declared.event_core.board.BoardCall.{BoardCall};
-ghost use Rattle.mrp_engine.specs.declared.event_core.board.BoardReply.{BoardReply};
-ghost use Rattle.mrp_engine.specs.event_core.Board.{BoardLog, IsLegalBoard, board_reply};
-ghost use Rattle.mrp_engine.specs.event_core.BoardState.{board_reply_in, new_board, state_after, state_of};
 ghost use Rattle.mrp_engine.specs.declared.event_core.event.Event.{Event};
 ghost use Rattle.mrp_engine.specs.declared.event_core.event.Answer.{Answer};
 ghost use Rattle.mrp_engine.specs.event_core.Core.{FitsShop, IsAnswer, IsRight, Step, after, core_of, opened};
@@ -85,17 +80,6 @@ pub fn right_days()
     ensures what_stood { (tables : Tables) (h : History) → AnswersDesks tables h → PlansWhatStood tables h }
     ensures within { (tables : Tables) (h : History) → AnswersDesks tables h → BooksWithin tables h }
     ensures covered { (tables : Tables) (h : History) → AnswersDesks tables h → StaysCovered tables h }
-{}
-
-/// The state of a run's board: for every item, the worker that it was handed out to, if any, and whether it
-/// is stored.
-pub fn boards()
-    // A board answers by its legal log as it does by the state that the log leaves.
-    ensures reply { (s : Inputs) (log : BoardLog) (who : ℕ) (c : BoardCall) → IsLegalBoard s log → board_reply s log who c ≡ board_reply_in s (state_of s log) who c }
-    // An empty log leaves the state in which a board opens.
-    ensures none { (s : Inputs) → state_of s [] ≡ new_board s }
-    // One more entry changes the state that a log leaves as it changes any state.
-    ensures more { (s : Inputs) (log : BoardLog) (who : ℕ) (c : BoardCall) (r : BoardReply) → board_reply s log who c ≡ Some r → state_of s (log ++ entry who c r ∷ []) ≡ state_after (state_of s log) who c r }
 {}
 
 /// Events passed to `Core::step` one by one. By these laws the events passed so far, with their answers, are
