@@ -140,7 +140,7 @@ pub record Headline (tables : Tables) (steps : List Step) : Type 0 where
   -- what is stored is its item's outcome for the run's inputs, and an item is handed out with those of its distinct parents
   pub outcomes : (run : ℕ) → IsStarted (core_of tables steps) run → HandsOn (run_inputs (core_of tables steps) run) (log_at (core_of tables steps) run)
   -- each answer to a worker is an entry of its run's board: an item that is handed out, with the stored outcomes of its
-  -- distinct parents; an outcome that is stored, of the item that the worker held; and the run's end
+  -- distinct parents; an outcome that is stored, of the item that the worker held; that all is out; that the run is given up
   pub handed : (before : List Step) (run who item : ℕ) → WasAnswered steps before (event.Take run who) (answer.Item item)
       → IsLogged tables steps before run (entry who board_call.Take (board_reply.Item item (parents_in (run_inputs (core_of tables steps) run) (log_at (core_of tables before) run) item)))
   pub stored : (before : List Step) (run who : ℕ) → WasAnswered steps before (event.Finish run who) answer.Stored

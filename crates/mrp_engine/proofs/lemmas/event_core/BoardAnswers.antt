@@ -203,9 +203,9 @@ leaves-begun core desk number front run started =
     let begun : Run = record { front = front; log = [] } in
     elim (cases_lt (length core.runs) run) [
       | inl past ↦ inr (
-        ap (λ (n : ℕ). (slice_index_or (core.runs ++ begun ∷ []) n no_run).log) (omega (arith, past, started.1, length-append core.runs (begun ∷ [])))
-        ∙ ap (λ (r : Run). r.log) (get_or-append_seam core.runs begun [] no_run)
-        )
+          ap (λ (n : ℕ). (slice_index_or (core.runs ++ begun ∷ []) n no_run).log) (omega (arith, past, started.1, length-append core.runs (begun ∷ [])))
+          ∙ ap (λ (r : Run). r.log) (get_or-append_seam core.runs begun [] no_run)
+          )
       | inr inside ↦ inl ((started.0, inside), ap (λ (r : Run). r.log) (get_or_append_left core.runs (begun ∷ []) no_run (run - 1) (omega (arith, started.0, inside))))
     ]
 

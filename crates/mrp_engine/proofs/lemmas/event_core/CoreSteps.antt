@@ -111,7 +111,7 @@ module _ (tables : Tables) (h : History) where
 
     took : FollowsHistory tables h r → (who : ℕ) (b : Bool) (o : Option ℕ)
         → with_entries (seen runs) run (made who board_call.Take (if b then Some board_reply.AllOut else option_map (handed r.inputs r.log) o))
-            ≡ after (seen runs) (event.Take run who) (told (if b then Some board_reply.AllOut else option_map (handed r.inputs r.log) o))
+        ≡ after (seen runs) (event.Take run who) (told (if b then Some board_reply.AllOut else option_map (handed r.inputs r.log) o))
     took f who true o = refl
     took f who false None = unlogged
     took f who false (Some i) =
