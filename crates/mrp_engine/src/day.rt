@@ -2,6 +2,7 @@
 //! written. This file has a day before it is written.
 
 ghost use Rattle.std.specs.Prelude.{◌≡◌};
+ghost use Rattle.std.specs.Int.{IsInRange};
 ghost use Rattle.mrp_master.specs.Supply.{supply_of};
 ghost use Rattle.mrp_engine.specs.day.Planned.{PlansHistory};
 
@@ -24,7 +25,7 @@ use runs::plan_runs;
 pub(crate) use script::ADDED_DESK;
 pub use script::{added_run, answer, call_of};
 use std::alloc::Global;
-use std::sync::Arc;
+use std::sync::{Arc, Wait};
 use std::thread::Threads;
 pub(crate) use writing::write_day;
 
@@ -37,21 +38,23 @@ pub struct Day {
     pub plans: Vec<Plan>,
 }
 
-/// Plans each run of a history over the shop's rows. The caller guarantees that the history has the
-/// supply of the shop.
+/// Plans each run of a history over the shop's rows, by `workers` workers (1 to 64, as the caller
+/// guarantees). The caller guarantees that the history has the supply of the shop.
 ///
 /// Errors: `TooLarge` with the first item in table order whose quantities get too large in the
 /// first run with such an item; `NoMemory` if an allocation fails.
 pub fn plan_history(
-    rt: &(impl Threads + Sync),
+    rt: &(impl Threads + Wait + Sync),
     alloc: Global,
     rows: Arc<ShopRows>,
     history: History,
+    workers: usize,
 ) -> Result<Day, DayFault>
-    requires { history.supply ≡ supply_of rows.value.tables }
+    requires supply { history.supply ≡ supply_of rows.value.tables }
+    requires workers { IsInRange 1 MOST_WORKERS workers }
     ensures { PlansHistory rows.value.tables history.entries result }
 {
-    let plans = plan_runs(rt, alloc, &rows, &history)?;
+    let plans = plan_runs(rt, alloc, &rows, &history, workers)?;
     Ok(Day {
         rows,
         history,

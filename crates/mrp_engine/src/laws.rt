@@ -1,22 +1,23 @@
 //! What follows from the definitions alone, each law the contract of a function that does nothing.
 
-ghost use Rattle.std.specs.Prelude.{◌≡◌, ◌++◌, ◌∷◌, [], List, Some, ℕ};
+ghost use Rattle.std.specs.Prelude.{◌≡◌, ◌++◌, ◌∷◌, [], List, ℕ, All};
 ghost use Rattle.mrp_rows.specs.declared.fault.Fault.{Fault};
 ghost use Rattle.mrp_tables.specs.Tables.{AreTables, Tables};
+ghost use Rattle.mrp_master.specs.Supply.{supply_of};
+ghost use Rattle.mrp_book.specs.History.{IsLegal};
 ghost use Rattle.mrp_book.specs.Standing.{History};
 ghost use Rattle.mrp_item.specs.Inputs.{Inputs};
 ghost use Rattle.mrp_engine.specs.day.Day.{AnswersScript, IsDay, IsDayBy, IsRefused, IsTooLarge};
 ghost use Rattle.mrp_engine.specs.day.RightDay.{AnswersDesks, IsRightDay};
 ghost use Rattle.mrp_bill.specs.Shop.{Shop};
-ghost use Rattle.mrp_turn.specs.Log.{entry};
-ghost use Rattle.mrp_engine.specs.declared.event_core.board.BoardCall.{BoardCall};
-ghost use Rattle.mrp_engine.specs.declared.event_core.board.BoardReply.{BoardReply};
-ghost use Rattle.mrp_engine.specs.event_core.Board.{BoardLog, IsLegalBoard, board_reply};
-ghost use Rattle.mrp_engine.specs.event_core.BoardState.{board_reply_in, new_board, state_after, state_of};
 ghost use Rattle.mrp_engine.specs.declared.event_core.event.Event.{Event};
+ghost use Rattle.mrp_engine.specs.declared.event_core.event.Event.TheVariants as event;
 ghost use Rattle.mrp_engine.specs.declared.event_core.event.Answer.{Answer};
-ghost use Rattle.mrp_engine.specs.event_core.Core.{FitsShop, IsAnswer, IsRight, Step, after, core_of, opened};
+ghost use Rattle.mrp_engine.specs.declared.event_core.event.Answer.TheVariants as answer;
+ghost use Rattle.mrp_engine.specs.event_core.Core.{FitsShop, IsAnswer, IsRight, Run, Step, after, core_of, opened};
 ghost use Rattle.mrp_engine.specs.event_core.Headline.{Headline, IsAcceptedShop};
+ghost use Rattle.mrp_engine.specs.event_core.OneRun.{one_history, one_run};
+ghost use Rattle.mrp_engine.specs.event_core.Threads.{AreLeft, AreOfSnapshots, AreReported, AreTold, IsReportOf, steps_of};
 ghost use Rattle.mrp_engine.specs.Laws.{ArePlannedOrRefused, BooksWithin, CallsByWords, CallsFromScript, HasDay, HasLoopOrNone, HasReading, PlansWhatStood, StaysCovered};
 
 use mrp_bill::laws::loops;
@@ -87,17 +88,6 @@ pub fn right_days()
     ensures covered { (tables : Tables) (h : History) → AnswersDesks tables h → StaysCovered tables h }
 {}
 
-/// The state of a run's board: for every item, the worker that it was handed out to, if any, and whether it
-/// is stored.
-pub fn boards()
-    // A board answers by its legal log as it does by the state that the log leaves.
-    ensures reply { (s : Inputs) (log : BoardLog) (who : ℕ) (c : BoardCall) → IsLegalBoard s log → board_reply s log who c ≡ board_reply_in s (state_of s log) who c }
-    // An empty log leaves the state in which a board opens.
-    ensures none { (s : Inputs) → state_of s [] ≡ new_board s }
-    // One more entry changes the state that a log leaves as it changes any state.
-    ensures more { (s : Inputs) (log : BoardLog) (who : ℕ) (c : BoardCall) (r : BoardReply) → board_reply s log who c ≡ Some r → state_of s (log ++ entry who c r ∷ []) ≡ state_after (state_of s log) who c r }
-{}
-
 /// Events passed to `Core::step` one by one. By these laws the events passed so far, with their answers, are
 /// right, so the headline holds of them.
 pub fn steps()
@@ -117,4 +107,31 @@ pub fn steps()
 /// centre is the standard minutes of its orders. `Headline` has a clause for each.
 pub fn headline()
     ensures { (shop : Shop) (steps : List Step) → IsAcceptedShop shop → IsRight shop.tables steps → Headline shop.tables steps }
+{}
+
+/// What running threads leave behind is a right list of events of the core with their answers: a legal
+/// history of the order book within its limit, and for each of some of its snapshots a legal and orderly log
+/// of a board. The history comes first, a snapshot that a run plans from being the run's start, and then log
+/// after log; a board answers by its own log and by what stood at its snapshot alone, so no order in time
+/// between the office and the boards is claimed.
+pub fn running_threads()
+    ensures { (tables : Tables) (h : History) (runs : List Run) → AreLeft tables h runs → AreTold tables h runs }
+{}
+
+/// So the headline speaks of what running threads did: the reports of their finished runs may be written
+/// after it, and `Headline` holds of the whole.
+pub fn threads_keep_the_headline()
+    ensures { (shop : Shop) (h : History) (runs : List Run) (reports : List (ℕ × Answer)) → IsAcceptedShop shop → AreLeft shop.tables h runs → All (IsReportOf shop.tables h runs) reports → AreReported shop h runs reports }
+{}
+
+/// The premises can be met: a shop without items, one snapshot, and a worker that is told the end.
+pub fn one_run_is_left()
+    ensures left { (tables : Tables) → tables.items ≡ [] → AreLeft tables (one_history tables) (one_run ∷ []) }
+    ensures steps { (tables : Tables) → steps_of (one_history tables) (one_run ∷ []) ≡ (event.Start 1, answer.Started 1 1) ∷ (event.Take 1 1, answer.AllOut) ∷ [] }
+{}
+
+/// What the runs of a day are planned from are what runs of its history's snapshots plan from, in their
+/// order.
+pub fn days_are_of_snapshots()
+    ensures { (tables : Tables) (h : History) → IsLegal (supply_of tables) h → AreOfSnapshots tables h }
 {}

@@ -23,17 +23,19 @@ use std::io::{Read, Write};
 use std::sync::Wait;
 use std::thread::Threads;
 
-// Has a shop's desks make the calls of its script concurrently, and plans the runs.
+// Has a shop's desks make the calls of its script concurrently, and plans the runs by workers.
 fn plan_live(
     rt: &(impl Alloc + Threads + Wait + Sync),
     alloc: Global,
     shop: Shop,
+    workers: usize,
 ) -> Result<Day, DayFault>
+    requires workers { IsInRange 1 MOST_WORKERS workers }
     ensures { PlansDay AnswersDesks shop.tables result }
 {
     let (shop, history) = answer_by_desks(rt, alloc, shop, &OpenGate)?;
     let rows = ShopRows::of(alloc, shop)?;
-    plan_history(rt, alloc, rows, history)
+    plan_history(rt, alloc, rows, history, workers)
 }
 
 /// Has the desks of a bundle's script make their calls concurrently, plans the runs that they started, and
@@ -43,7 +45,8 @@ fn plan_live(
 /// There are as many desks as the script's greatest desk number. Each has a thread, if one can be started,
 /// and makes the calls of its records in order; the order between desks is not specified. A script without a
 /// run is taken with one more record, a run of desk 1 after all others. What is written is a right day
-/// (`laws::right_days`). `workers` threads (1 to 64, as the caller guarantees) make the rows of a report.
+/// (`laws::right_days`). Once all desks have ended, `workers` threads (1 to 64, as the caller guarantees) plan
+/// the items of each run, and then make the rows of its report.
 ///
 /// Errors: those of [`run_bundle`](crate::run_bundle), for a history that answers the script desk by desk.
 pub fn live_bundle<W: Write>(
@@ -59,7 +62,7 @@ pub fn live_bundle<W: Write>(
 {
     let shop = open_shop(rt, alloc, &bundle)?;
     drop(bundle);
-    let day = plan_live(rt, alloc, shop)?;
+    let day = plan_live(rt, alloc, shop, workers)?;
     write_day(rt, alloc, day, writer, workers)
 }
 

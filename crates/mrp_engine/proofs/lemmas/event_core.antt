@@ -1,9 +1,10 @@
 pub mod BoardLogs
 pub mod BoardLaws
-pub mod BoardStates
+pub mod RunBoards
 pub mod FirstTakes
 pub mod CoreLaws
 pub mod CoreAnswers
+pub mod BoardAnswers
 pub mod LoadsByOrder
 pub mod Headlines
 pub mod CoreSteps

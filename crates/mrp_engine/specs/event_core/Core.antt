@@ -11,16 +11,18 @@ use Rattle.mrp_book.specs.declared.reply.Reply.TheVariants as reply
 use Rattle.mrp_book.specs.Standing.{History, standing}
 use Rattle.mrp_book.specs.History.{Fits, IsFull, IsReply, next_number}
 use Rattle.mrp_item.specs.Inputs.{Inputs}
+use Rattle.mrp_item.specs.Made.{item_from}
+use Rattle.mrp_board.specs.declared.call.BoardCall.TheVariants as board_call
+use Rattle.mrp_board.specs.declared.reply.BoardReply.{BoardReply}
+use Rattle.mrp_board.specs.declared.reply.BoardReply.TheVariants as board_reply
+use Rattle.mrp_board.specs.Board.{BoardLog, board_reply, held, is_finished}
 use Rattle.mrp_report.specs.ReportText.{report_text}
-use Rattle.mrp_engine.specs.declared.event_core.board.BoardCall.TheVariants as board_call
-use Rattle.mrp_engine.specs.declared.event_core.board.BoardReply.{BoardReply}
-use Rattle.mrp_engine.specs.declared.event_core.board.BoardReply.TheVariants as board_reply
 use Rattle.mrp_engine.specs.declared.event_core.event.Event.{Event}
 use Rattle.mrp_engine.specs.declared.event_core.event.Event.TheVariants as event
 use Rattle.mrp_engine.specs.declared.event_core.event.Answer.{Answer}
 use Rattle.mrp_engine.specs.declared.event_core.event.Answer.TheVariants as answer
 use Rattle.mrp_engine.specs.day.Day.{IsPlannable, IsRefusedBy}
-use Rattle.mrp_engine.specs.event_core.Board.{BoardLog, board_reply, held, is_finished}
+use Rattle.mrp_engine.specs.event_core.Board.{finish_entry, take_entry}
 
 -- a run: the front that it plans from, and the log of its board
 pub record Run : Type 0 where
@@ -97,7 +99,7 @@ pub record IsOutOfMemory (core : Core) (e : Event) : Type 0 where
 abbrev pub told : Option BoardReply → Answer
 told None = answer.NotYet
 told (Some board_reply.AllOut) = answer.AllOut
-told (Some (board_reply.Item item)) = answer.Item item
+told (Some (board_reply.Item item parents)) = answer.Item item
 told (Some board_reply.Stored) = answer.Stored
 told (Some board_reply.NotOut) = answer.Nothing
 told (Some board_reply.Stopped) = answer.Stopped
@@ -117,7 +119,7 @@ IsAnswered core (event.Start desk) a =
     ⊎ ((¬ IsFull core.history) × (a ≡ answer.Started (length core.runs + 1) (next_number core.history)))
 IsAnswered core (event.Take run who) a = a ≡ told (board_reply (run_inputs core run) (log_at core run) who board_call.Take)
 IsAnswered core (event.Finish run who) a =
-    (item : ℕ) × (held who (log_at core run) ≡ Some item) × (a ≡ told (board_reply (run_inputs core run) (log_at core run) who (board_call.Finish item)))
+    (item : ℕ) × (held who (log_at core run) ≡ Some item) × (a ≡ told (board_reply (run_inputs core run) (log_at core run) who (board_call.Finish (item_from (run_inputs core run) item))))
 IsAnswered core (event.GiveUp run who) a = a ≡ told (board_reply (run_inputs core run) (log_at core run) who board_call.GiveUp)
 IsAnswered core (event.Write run) a = IsReport (run_inputs core run) a
 
@@ -138,18 +140,14 @@ snapshot_of core front = reply.Taken (record { front = front; weeks = (supply_of
 abbrev pub with_entries : Core → ℕ → BoardLog → Core
 with_entries core run entries = record core { runs = set core.runs (run - 1) (record { front = (run_at core run).front; log = log_at core run ++ entries }) }
 
-abbrev pub finish_of : ℕ → Option ℕ → BoardLog
-finish_of who None = []
-finish_of who (Some item) = entry who (board_call.Finish item) board_reply.Stored ∷ []
-
 -- the core after an event and its answer: a reply adds an entry to the history, a start adds one and a run, and an
 -- answer to a worker adds an entry to its run's log
 abbrev pub after : Core → Event → Answer → Core
 after core (event.Call desk c) (answer.Replied n r) = record core { history = core.history ++ entry desk c r ∷ [] }
 after core (event.Start desk) (answer.Started run front) = record core { history = core.history ++ entry desk call.Snapshot (snapshot_of core front) ∷ []; runs = core.runs ++ record { front = front; log = [] } ∷ [] }
-after core (event.Take run who) (answer.Item item) = with_entries core run (entry who board_call.Take (board_reply.Item item) ∷ [])
+after core (event.Take run who) (answer.Item item) = with_entries core run (take_entry (run_inputs core run) (log_at core run) who item)
 after core (event.Take run who) answer.AllOut = with_entries core run (entry who board_call.Take board_reply.AllOut ∷ [])
-after core (event.Finish run who) answer.Stored = with_entries core run (finish_of who (held who (log_at core run)))
+after core (event.Finish run who) answer.Stored = with_entries core run (finish_entry (run_inputs core run) who (held who (log_at core run)))
 after core (event.GiveUp run who) answer.Stopped = with_entries core run (entry who board_call.GiveUp board_reply.Stopped ∷ [])
 after core e a = core
 

@@ -1,5 +1,5 @@
 -- The headline: what holds of every right list of events and answers.
-use Rattle.std.specs.Prelude.{ℕ, ◌≡◌, ◌≢◌, ◌↔◌, ◌<◌, ◌+◌, ◌==◌, ◌&&◌, ◌⊎◌, true, List, [], ◌∷◌, ◌++◌, AllPairs, length, filter, sum_by, zip}
+use Rattle.std.specs.Prelude.{ℕ, ◌≡◌, ◌≢◌, ◌↔◌, ◌<◌, ◌+◌, ◌==◌, ◌&&◌, ◌⊎◌, true, List, [], ◌∷◌, ◌++◌, Some, AllPairs, length, filter, sum_by, zip}
 use Rattle.std.specs.Global.{Vec}
 use Rattle.mrp_tables.specs.Tables.{AreTables, Tables}
 use Rattle.mrp_tables.specs.declared.rows.Operation.{Operation}
@@ -16,17 +16,21 @@ use Rattle.mrp_book.specs.Standing.{History, booked}
 use Rattle.mrp_book.specs.History.{IsLegal, next_number}
 use Rattle.mrp_item.specs.declared.order.Order.{Order}
 use Rattle.mrp_item.specs.Inputs.{Inputs, count, places}
+use Rattle.mrp_item.specs.Made.{item_from}
 use Rattle.mrp_peg.specs.Laws.{AddUpToRequirements, AddUpToSupplies}
 use Rattle.mrp_peg.specs.Pegging.{pegs_of, requirements, supplies}
 use Rattle.mrp_load.specs.Loads.{load, operation_week, orders_in, standard_time}
+use Rattle.mrp_board.specs.declared.call.BoardCall.{BoardCall}
+use Rattle.mrp_board.specs.declared.call.BoardCall.TheVariants as board_call
+use Rattle.mrp_board.specs.declared.reply.BoardReply.TheVariants as board_reply
+use Rattle.mrp_board.specs.Board.{BoardEntry, BoardLog, HandsOn, IsLegalBoard, held, is_stored, parents_in}
 use Rattle.mrp_report.specs.ReportText.{report_text}
 use Rattle.mrp_engine.specs.declared.event_core.event.Event.{Event}
 use Rattle.mrp_engine.specs.declared.event_core.event.Event.TheVariants as event
 use Rattle.mrp_engine.specs.declared.event_core.event.Answer.{Answer}
 use Rattle.mrp_engine.specs.declared.event_core.event.Answer.TheVariants as answer
 use Rattle.mrp_engine.specs.day.Day.{IsPlannable, IsRefusedBy}
-use Rattle.mrp_engine.specs.event_core.Board.{IsLegalBoard, is_stored}
-use Rattle.mrp_engine.specs.event_core.Core.{AsksFullBook, HasMeaning, IsRight, IsStarted, Step, core_of, inputs_at, log_at, run_inputs, snapshot_of}
+use Rattle.mrp_engine.specs.event_core.Core.{AsksFullBook, HasMeaning, IsRight, IsStarted, Step, core_of, inputs_at, log_at, run_inputs, snapshot_of, told}
 
 -- a shop whose tables keep their limits, and in which no item needs itself
 pub record IsAcceptedShop (shop : Shop) : Type 0 where
@@ -63,6 +67,21 @@ WasEntered tables steps number e =
 -- a desk started the run
 abbrev pub WasStarted : List Step → ℕ → Type 0
 WasStarted steps run = (before : List Step) × (desk : ℕ) × (front : ℕ) × WasAnswered steps before (event.Start desk) (answer.Started run front)
+
+-- an entry stands in the log of a run's board to the end, behind those of the steps before
+abbrev pub IsLogged : Tables → List Step → List Step → ℕ → BoardEntry → Type 0
+IsLogged tables steps before run e = (later : BoardLog) × (log_at (core_of tables steps) run ≡ log_at (core_of tables before) run ++ e ∷ later)
+
+-- the event of a worker that makes a call on a run's board
+abbrev pub board_event : ℕ → ℕ → BoardCall → Event
+board_event run who board_call.Take = event.Take run who
+board_event run who (board_call.Finish outcome) = event.Finish run who
+board_event run who board_call.GiveUp = event.GiveUp run who
+
+-- an entry of a run's board is that of a worker's event, when the log had these entries
+abbrev pub WasLogged : Tables → List Step → ℕ → BoardLog → BoardEntry → Type 0
+WasLogged tables steps run logged e =
+    (before : List Step) × WasAnswered steps before (board_event run e.who e.call) (told (Some e.reply)) × (log_at (core_of tables before) run ≡ logged)
 
 -- the operations of an item at a work centre that an order of it loads there in a week
 abbrev pub operations_in : Inputs → ℕ → ℕ → ℕ → Order → List Operation
@@ -118,6 +137,18 @@ pub record Headline (tables : Tables) (steps : List Step) : Type 0 where
   -- the log of each run's board is legal: an item is handed out once its parents are stored, and stored by the worker
   -- that it was handed to
   pub boards : (run : ℕ) → IsStarted (core_of tables steps) run → IsLegalBoard (run_inputs (core_of tables steps) run) (log_at (core_of tables steps) run)
+  -- what is stored is its item's outcome for the run's inputs, and an item is handed out with those of its distinct parents
+  pub outcomes : (run : ℕ) → IsStarted (core_of tables steps) run → HandsOn (run_inputs (core_of tables steps) run) (log_at (core_of tables steps) run)
+  -- each answer to a worker is an entry of its run's board: an item that is handed out, with the stored outcomes of its
+  -- distinct parents; an outcome that is stored, of the item that the worker held; that all is out; that the run is given up
+  pub handed : (before : List Step) (run who item : ℕ) → WasAnswered steps before (event.Take run who) (answer.Item item)
+      → IsLogged tables steps before run (entry who board_call.Take (board_reply.Item item (parents_in (run_inputs (core_of tables steps) run) (log_at (core_of tables before) run) item)))
+  pub stored : (before : List Step) (run who : ℕ) → WasAnswered steps before (event.Finish run who) answer.Stored
+      → (item : ℕ) × (held who (log_at (core_of tables before) run) ≡ Some item) × IsLogged tables steps before run (entry who (board_call.Finish (item_from (run_inputs (core_of tables steps) run) item)) board_reply.Stored)
+  pub ended : (before : List Step) (run who : ℕ) → WasAnswered steps before (event.Take run who) answer.AllOut → IsLogged tables steps before run (entry who board_call.Take board_reply.AllOut)
+  pub stopped : (before : List Step) (run who : ℕ) → WasAnswered steps before (event.GiveUp run who) answer.Stopped → IsLogged tables steps before run (entry who board_call.GiveUp board_reply.Stopped)
+  -- and there is no other entry
+  pub logged : (run : ℕ) (before after : BoardLog) (e : BoardEntry) → IsStarted (core_of tables steps) run → log_at (core_of tables steps) run ≡ before ++ e ∷ after → WasLogged tables steps run before e
   -- no accepted booking exceeded what was then available to promise
   pub within : (before after : History) (desk number : ℕ) (l : Line)
       → (core_of tables steps).history ≡ before ++ entry desk (call.Book l) (reply.Booked number) ∷ after → CanPromise (supply_of tables) (booked before) l.item l.quantity l.week

@@ -1,20 +1,14 @@
--- What a board keeps besides what contracts see.
-use Rattle.std.specs.Prelude.{ℕ, ◌≡◌, Bool, true, false, List, [], Option, Some, None, is_some, length}
-use Rattle.std.specs.List.{slice_index_or}
-use Rattle.mrp_item.specs.Inputs.{Inputs, count}
-use Rattle.mrp_explode.specs.Finished.{Progress, IsReady}
-use Rattle.mrp_engine.specs.event_core.Board.{BoardLog, IsLegalBoard, RunLog, has_stopped, held, is_out, is_out_to, is_stored, is_stored_over}
+-- What a board with its log keeps besides what contracts see.
+use Rattle.std.specs.Prelude.{ℕ, ◌≡◌, true, false, [], Option, Some, None}
+use Rattle.mrp_item.specs.Inputs.{Inputs}
+use Rattle.mrp_board.specs.Board.{BoardLog, IsLegalBoard, held, is_out, is_out_to, is_stored}
+use Rattle.mrp_board.specs.BoardState.{BoardState, state_of}
+use Rattle.mrp_engine.specs.event_core.Board.{RunLog}
 
--- the marks of a board are those of its log; the parents of the items that are out are stored
-pub record KeepsLog (finished : Progress) (out over : List Bool) (stopped : Bool) (log : BoardLog) : Type 0 where
-  pub size : length out ≡ count finished.inputs
-  pub over_size : length over ≡ count finished.inputs
-  pub out_is : (item : ℕ) → slice_index_or out item false ≡ is_out log item
-  pub stored_is : (item : ℕ) → is_some (slice_index_or finished.outcomes item None) ≡ is_stored log item
-  pub over_is : (item : ℕ) → slice_index_or over item false ≡ is_stored_over finished.inputs log item
-  pub stopped_is : stopped ≡ has_stopped log
-  pub ready : (item : ℕ) → is_out log item ≡ true → IsReady finished item
-  pub held_out : (who item : ℕ) → held who log ≡ Some item → is_out log item ≡ true
+-- a legal log, and the state that it leaves
+pub record KeepsLog (s : Inputs) (state : BoardState) (log : BoardLog) : Type 0 where
+  pub legal : IsLegalBoard s log
+  pub left : state ≡ state_of s log
 
 -- a legal log whose workers finish what they hold
 pub record KeepsBoard (s : Inputs) (log : BoardLog) : Type 0 where

@@ -1,19 +1,21 @@
 //! The plan of a run.
 
 ghost use Rattle.std.specs.Prelude.{◌≡◌, Err, IfOk};
+ghost use Rattle.std.specs.Int.{IsInRange};
 ghost use Rattle.mrp_master.specs.Supply.{supply_of};
 ghost use Rattle.mrp_book.specs.Booked.{AreBooked};
 ghost use Rattle.mrp_item.specs.Inputs.{inputs_of, item_at};
 ghost use Rattle.mrp_item.specs.Plan.{plan_of};
 ghost use Rattle.mrp_explode.specs.Explosion.{Explodes};
 
+use crate::day::run::MOST_WORKERS;
 use mrp_book::Snapshot;
-use mrp_explode::{RunFault, explode_levels};
+use mrp_explode::{OpenGate, RunFault, explode, explode_levels};
 use mrp_item::{Inputs, Plan, ShopRows};
 use mrp_qty::NoMemory;
 use mrp_rows::Name;
 use std::alloc::Global;
-use std::sync::Arc;
+use std::sync::{Arc, Wait};
 use std::thread::Threads;
 
 /// The inputs of a run: the rows of a shop, and a snapshot of its order book. The caller guarantees
@@ -48,6 +50,25 @@ pub fn plan_run(
 {
     let inputs = inputs_of(alloc, rows, snapshot)?;
     explode_levels(rt, alloc, &inputs)
+}
+
+/// The plan of a run, like [`plan_run`], by `workers` workers (1 to 64, as the caller guarantees): each
+/// plans the next item whose parents are planned, until all are. A worker may wait for the others.
+///
+/// Errors: those of [`plan_run`].
+pub fn plan_run_by(
+    rt: &(impl Threads + Wait + Sync),
+    alloc: Global,
+    rows: &Arc<ShopRows>,
+    snapshot: &Snapshot,
+    workers: usize,
+) -> Result<Plan, RunFault>
+    requires booked { AreBooked (supply_of rows.now.value.tables) snapshot.now.standing }
+    requires workers { IsInRange 1 MOST_WORKERS workers }
+    ensures { Explodes (inputs_of rows.now.value.tables snapshot.now) result }
+{
+    let planned_from = inputs_of(alloc, rows, snapshot)?;
+    explode(rt, alloc, &planned_from, workers, &OpenGate)
 }
 
 /// The name of the item that makes the plan of its inputs too large, by its place in the table.

@@ -20,11 +20,11 @@ use mrp_qty::NoMemory;
 use mrp_rows::{Told, read_bundle};
 use std::alloc::Global;
 use std::io::{Read, Write};
-use std::sync::Arc;
+use std::sync::{Arc, Wait};
 use std::thread;
 use std::thread::Threads;
 
-/// The most workers that make the rows of a report.
+/// The most workers that plan a run and make the rows of its report.
 pub const MOST_WORKERS: u64 = mrp_report::MOST_WORKERS;
 
 // Answers a shop's script record by record, and meanwhile groups its rows, in a thread of their own if one
@@ -51,13 +51,19 @@ fn answer_with_rows(
     Ok((history, rows))
 }
 
-// Answers a shop's script record by record, and plans its runs.
-fn plan_day(rt: &(impl Alloc + Threads + Sync), alloc: Global, shop: Shop) -> Result<Day, DayFault>
+// Answers a shop's script record by record, and plans its runs by workers.
+fn plan_day(
+    rt: &(impl Alloc + Threads + Wait + Sync),
+    alloc: Global,
+    shop: Shop,
+    workers: usize,
+) -> Result<Day, DayFault>
+    requires workers { IsInRange 1 MOST_WORKERS workers }
     ensures { PlansDay AnswersScript shop.tables result }
 {
     let shop = Arc::new(alloc, shop)?;
     let (history, rows) = answer_with_rows(rt, alloc, &shop)?;
-    plan_history(rt, alloc, rows, history)
+    plan_history(rt, alloc, rows, history, workers)
 }
 
 /// Answers the script of a bundle, plans its runs, and writes the history and the report of each run. Nothing
@@ -65,16 +71,16 @@ fn plan_day(rt: &(impl Alloc + Threads + Sync), alloc: Global, shop: Shop) -> Re
 /// bytes; they are dropped once its shop is open.
 ///
 /// The tables are read in two threads, and one thread groups the rows of the shop while another answers the
-/// script, if a second one can be started. The items of a low-level code are planned in parallel, and the
-/// loads of work centres are summed in parallel, if there are enough of them. `workers` threads (1 to 64, as
-/// the caller guarantees) make the rows of a report. An interrupted write is tried again.
+/// script, if a second one can be started. `workers` threads (1 to 64, as the caller guarantees) plan the
+/// items of a run and make the rows of its report; the loads of work centres are summed in parallel if there
+/// are enough of them. An interrupted write is tried again.
 ///
 /// Errors: `Refused` with the bundle's first fault, a loop in the bill last; `TooLarge` with the first item
 /// in table order whose quantities get too large in the first run with such an item; `Write` if the writer
 /// failed in this call or was interrupted more than 1,000,000 times; `NoMemory` if an allocation fails and no
 /// write failed; never `Read`.
 pub fn run_bundle<W: Write>(
-    rt: &(impl Alloc + Threads + Sync),
+    rt: &(impl Alloc + Threads + Wait + Sync),
     alloc: Global,
     bundle: Vec<u8>,
     writer: &mut Told<W>,
@@ -86,7 +92,7 @@ pub fn run_bundle<W: Write>(
 {
     let shop = open_shop(rt, alloc, &bundle)?;
     drop(bundle);
-    let day = plan_day(rt, alloc, shop)?;
+    let day = plan_day(rt, alloc, shop, workers)?;
     write_day(rt, alloc, day, writer, workers)
 }
 
@@ -97,7 +103,7 @@ pub fn run_bundle<W: Write>(
 /// 100,000,000 calls or gave more than 67,108,864 bytes; `NoMemory` if an allocation fails and no
 /// read or write failed.
 pub fn run_day<R: Read, W: Write>(
-    rt: &(impl Alloc + Threads + Sync),
+    rt: &(impl Alloc + Threads + Wait + Sync),
     alloc: Global,
     reader: &mut Told<R>,
     writer: &mut Told<W>,

@@ -1,6 +1,7 @@
 //! The plans of a history's runs.
 
 ghost use Rattle.std.specs.Prelude.{◌≡◌, ◌<◌, ℕ, Err, length};
+ghost use Rattle.std.specs.Int.{IsInRange};
 ghost use Rattle.mrp_master.specs.Supply.{supply_of};
 ghost use Rattle.mrp_book.specs.Booked.{AreBooked};
 ghost use Rattle.mrp_item.specs.Inputs.{Inputs, inputs_of};
@@ -9,13 +10,14 @@ ghost use Rattle.mrp_engine.specs.day.Fault.{plan_or_fault, run_fault};
 ghost use Rattle.mrp_engine.specs.day.Planned.{PlansRun, PlansRuns};
 
 use crate::day::fault::DayFault;
-use crate::day::planning::plan_run;
+use crate::day::planning::plan_run_by;
+use crate::day::run::MOST_WORKERS;
 use mrp_bill::Shop;
 use mrp_book::{History, Reply, Snapshot};
 use mrp_explode::RunFault;
 use mrp_item::{Plan, ShopRows};
 use std::alloc::Global;
-use std::sync::Arc;
+use std::sync::{Arc, Wait};
 use std::thread::Threads;
 
 // Why a day is refused, from why a run of its shop has no plan; an item that gets too large is named.
@@ -40,38 +42,42 @@ fn or_refusal(shop: &Shop, planned: Result<Plan, RunFault>) -> Result<Plan, DayF
     }
 }
 
-// The plan of a run, or why its day is refused.
+// The plan of a run by workers, or why its day is refused.
 fn plan_or_refuse(
-    rt: &(impl Threads + Sync),
+    rt: &(impl Threads + Wait + Sync),
     alloc: Global,
     rows: &Arc<ShopRows>,
     snapshot: &Snapshot,
+    workers: usize,
 ) -> Result<Plan, DayFault>
-    requires { AreBooked (supply_of rows.now.value.tables) snapshot.now.standing }
+    requires booked { AreBooked (supply_of rows.now.value.tables) snapshot.now.standing }
+    requires workers { IsInRange 1 MOST_WORKERS workers }
     ensures { PlansRun (inputs_of rows.now.value.tables snapshot.now) result }
 {
-    or_refusal(rows.shop(), plan_run(rt, alloc, rows, snapshot))
+    or_refusal(rows.shop(), plan_run_by(rt, alloc, rows, snapshot, workers))
 }
 
-/// The plans of a history's runs, in order of entries, each from the snapshot in its entry's reply,
-/// all over the rows of one shop. The caller guarantees that the history has the supply of the
-/// shop.
+/// The plans of a history's runs, in order of entries, each from the snapshot in its entry's reply and by
+/// `workers` workers (1 to 64, as the caller guarantees), all over the rows of one shop. The caller
+/// guarantees that the history has the supply of the shop.
 ///
 /// Errors: `TooLarge` with the first item in table order whose quantities get too large in the
 /// first run with such an item; `NoMemory` if an allocation fails.
 pub fn plan_runs(
-    rt: &(impl Threads + Sync),
+    rt: &(impl Threads + Wait + Sync),
     alloc: Global,
     rows: &Arc<ShopRows>,
     history: &History,
+    workers: usize,
 ) -> Result<Vec<Plan>, DayFault>
-    requires { history.now.supply ≡ supply_of rows.now.value.tables }
+    requires supply { history.now.supply ≡ supply_of rows.now.value.tables }
+    requires workers { IsInRange 1 MOST_WORKERS workers }
     ensures { PlansRuns (runs_of rows.now.value.tables history.now.entries) result }
 {
     let mut plans = Vec::new(alloc);
     for entry in history.entries() {
         if let Reply::Taken(snapshot) = &entry.reply {
-            plans.push(plan_or_refuse(rt, alloc, rows, snapshot)?)?;
+            plans.push(plan_or_refuse(rt, alloc, rows, snapshot, workers)?)?;
         }
     }
     Ok(plans)

@@ -1,278 +1,203 @@
-//! The board of a run: which items are handed out, and which are stored.
+//! The board of a run with its log.
 
 ghost use Rattle.std.specs.Prelude.{◌≡◌};
-ghost use Rattle.mrp_engine.specs.event_core.Board.{item_in};
+ghost use Rattle.mrp_board.specs.Board.{item_in, settles};
 
-use mrp_explode::{Finished, RunFault};
-use mrp_item::{Inputs, Plan};
+use mrp_board::{Board, BoardCall, BoardRefused, BoardReply, BoardState};
+use mrp_item::{Inputs, Outcome, Plan, plan_item};
 use mrp_qty::NoMemory;
-use mrp_turn::Entry;
+use mrp_turn::{Entry, Object};
 use std::alloc::Global;
 use std::marker::Model;
 use std::sync::Arc;
 
-/// A worker's call on the board of a run. Items are named by their places in the table.
-#[derive(Clone, Copy, Debug, PartialEq, Eq)]
-pub enum BoardCall {
-    /// Take an item whose parents are all stored.
-    Take,
-    /// Plan this item, and store its outcome.
-    Finish(usize),
-    /// Stop the run: no item is handed out any more.
-    GiveUp,
-}
-
-/// What a board replied.
-#[derive(Clone, Copy, Debug, PartialEq, Eq)]
-pub enum BoardReply {
-    /// Every item was handed out, or a worker gave up the run.
-    AllOut,
-    /// This item is the worker's.
-    Item(usize),
-    /// The outcome is stored.
-    Stored,
-    /// The worker does not hold the item.
-    NotOut,
-    /// The run has stopped.
-    Stopped,
+// Whether a reply decides what its worker holds.
+fn settles(reply: &BoardReply) -> bool
+    ensures { result ≡ settles reply.now }
+{
+    !matches!(reply, BoardReply::AllOut | BoardReply::NotOut)
 }
 
 // The item that a reply hands out.
-fn item_in(reply: BoardReply) -> Option<usize>
-    ensures { result ≡ item_in reply }
+fn item_in(reply: &BoardReply) -> Option<usize>
+    ensures { result ≡ item_in reply.now }
 {
     match reply {
-        BoardReply::Item(item) => Some(item),
+        BoardReply::Item(item, _) => Some(*item),
         _ => None,
     }
 }
 
-/// The board of a run, with its log. Contracts see the inputs of the run, and the log.
+/// The board of a run with its log, for one thread. Contracts see the inputs of the run, and the log.
 #[derive(Drop)]
-pub struct Board {
-    finished: Finished,
-    // Whether each item was handed out.
-    out: Vec<bool>,
-    // Whether each item is stored, and is over.
-    over: Vec<bool>,
-    stopped: bool,
+pub struct RunBoard {
+    board: Board,
+    state: BoardState,
     log: Vec<Entry<BoardCall, BoardReply>>,
 }
 
-impl Model for Board {
+impl Model for RunBoard {
     ghost use Rattle.mrp_engine.specs.event_core.Board.{RunLog};
     ghost use Rattle.mrp_engine.specs.event_core.Kept.{KeepsLog};
 
     ghost Value = { RunLog };
 
-    ghost view = { λ b. record { inputs = b.finished.inputs; log = b.log.items } };
+    ghost view = { λ b. record { inputs = b.board; log = b.log.items } };
 
-    ghost invariant = { λ b. KeepsLog b.finished b.out.items b.over.items b.stopped b.log.items };
+    ghost invariant = { λ b. KeepsLog b.board b.state b.log.items };
 }
 
-impl Board {
-    ghost use Rattle.std.specs.Prelude.{◌≡◌, ◌≢◌, ◌++◌, ◌∷◌, ◌<◌, [], true, Some, None, Ok, IfOk, OnOk, OnErr, find};
-    ghost use Rattle.mrp_turn.specs.Log.{entry};
-    ghost use Rattle.mrp_item.specs.Inputs.{count, places};
-    ghost use Rattle.mrp_item.specs.Plan.{first_over, plan_of};
-    ghost use Rattle.std.specs.List.{list_all};
+impl RunBoard {
+    ghost use Rattle.std.specs.Prelude.{◌≡◌, ◌≢◌, ◌↔◌, ◌++◌, ◌<◌, [], ℕ, true, Some, None, Ok, IfOk, IsTrue, OnErr, IsSome, option_map};
     ghost use Rattle.std.specs.Option.{option_copied};
-    ghost use Rattle.mrp_engine.specs.event_core.Board.{board_reply, held, is_at_end, is_finished, is_out, is_ready, is_stored_over, last_by, taken};
+    ghost use Rattle.mrp_turn.specs.Log.{IsSeatNumber};
+    ghost use Rattle.mrp_item.specs.Inputs.{count};
+    ghost use Rattle.mrp_item.specs.Made.{all_from, item_from};
+    ghost use Rattle.mrp_item.specs.Plan.{first_over, is_over, outcome_of, plan_of};
+    ghost use Rattle.mrp_board.specs.Board.{FitsInputs, board_reply, held, is_finished, is_stored, settled_by};
+    ghost use Rattle.mrp_engine.specs.event_core.Board.{made};
 
     /// The board of a run that plans from these inputs, with an empty log.
     ///
     /// Errors: `NoMemory` if an allocation fails.
-    pub fn open(alloc: Global, inputs: &Arc<Inputs>) -> Result<Board, NoMemory>
+    pub fn open(alloc: Global, inputs: &Arc<Inputs>) -> Result<RunBoard, NoMemory>
         ensures { IfOk result (λ b. b ≡ record { inputs = inputs.now.value; log = [] }) }
     {
-        let finished = Finished::new(alloc, inputs)?;
-        let count = inputs.shop().tables().items().len();
-        let out = vec![in alloc; false; count]?;
-        let over = vec![in alloc; false; count]?;
-        Ok(Board {
-            finished,
-            out,
-            over,
-            stopped: false,
+        let (board, state) = Board::open(alloc, inputs)?;
+        Ok(RunBoard {
+            board,
+            state,
             log: Vec::new(alloc),
         })
     }
 
     /// What the run plans from.
-    pub fn inputs(&self) -> &Inputs
-        ensures { result.now ≡ self.now.inputs }
+    pub fn inputs(&self) -> &Arc<Inputs>
+        ensures { result.now.value ≡ self.now.inputs }
     {
-        self.finished.inputs()
+        self.board.inputs()
     }
 
-    // A worker's last entry.
-    fn last_by(&self, worker: u64) -> Option<&Entry<BoardCall, BoardReply>>
-        ensures { option_copied result ≡ last_by worker self.now.log }
+    // How many items the run has.
+    fn count(&self) -> usize
+        ensures { result ≡ count self.now.inputs }
     {
-        self.log.iter().rev().find(|entry| entry.who == worker)
+        self.inputs().shop().tables().items().len()
+    }
+
+    // A worker's last entry that decides what it holds.
+    fn settled_by(&self, worker: u64) -> Option<&Entry<BoardCall, BoardReply>>
+        ensures { option_copied result ≡ settled_by worker self.now.log }
+    {
+        self.log
+            .iter()
+            .rev()
+            .find(|entry| entry.who == worker && settles(&entry.reply))
     }
 
     /// The item that a worker holds.
     pub fn held(&self, worker: u64) -> Option<usize>
         ensures { result ≡ held worker self.now.log }
     {
-        match self.last_by(worker) {
-            Some(last) => item_in(last.reply),
+        match self.settled_by(worker) {
+            Some(last) => item_in(&last.reply),
             None => None,
         }
     }
 
-    // Whether an item was handed out.
-    fn is_out(&self, item: usize) -> bool
-        ensures { result ≡ is_out self.now.log item }
+    /// What planning the item that a worker holds gives; `None` if it holds none. The item is planned from
+    /// the outcomes with which it was handed out.
+    ///
+    /// Errors: `NoMemory` if the worker holds an item and an allocation fails.
+    pub fn plan_held(&self, alloc: Global, worker: u64) -> Result<Option<Outcome>, NoMemory>
+        ensures outcome { IfOk result (λ outcome. outcome ≡ option_map (item_from self.now.inputs) (held worker self.now.log)) }
+        ensures memory { OnErr result (IsSome (held worker self.now.log)) }
     {
-        matches!(self.out.get(item), Some(true))
+        let Some(last) = self.settled_by(worker) else {
+            return Ok(None);
+        };
+        match &last.reply {
+            BoardReply::Item(item, parents) => Ok(Some(plan_item(
+                alloc,
+                self.board.inputs(),
+                *item,
+                parents.as_slice(),
+            )?)),
+            _ => Ok(None),
+        }
     }
 
-    // Whether an item was never handed out, and all its parents are stored.
-    fn is_ready(&self, item: usize) -> bool
+    // Whether a worker that makes this call has to come again.
+    fn is_waiting(&self, call: &BoardCall) -> bool
+        ensures { (worker : ℕ) → IsTrue result ↔ (board_reply self.now.inputs self.now.log worker call.now ≡ None) }
+    {
+        match call {
+            BoardCall::Take => self.state.is_waiting(),
+            BoardCall::Finish(_) | BoardCall::GiveUp => false,
+        }
+    }
+
+    /// Makes a worker's call, and an entry of it. `None` if the worker has to come again; nothing changes
+    /// then.
+    ///
+    /// Errors: `NoMemory` if an allocation fails, never where the result would be `None`. Nothing
+    /// has changed then.
+    pub fn make(&mut self, worker: u64, call: BoardCall) -> Result<Option<BoardReply>, NoMemory>
+        requires seat { IsSeatNumber worker }
+        requires fits { FitsInputs self.old.inputs call }
+        ensures reply { IfOk result (λ reply. reply ≡ board_reply self.old.inputs self.old.log worker call) }
+        ensures entry { IfOk result (λ reply. self.new ≡ record self.old { log = self.old.log ++ made worker call reply }) }
+        ensures refused { OnErr result (self.new ≡ self.old) }
+        ensures memory { OnErr result (board_reply self.old.inputs self.old.log worker call ≢ None) }
+    {
+        if self.is_waiting(&call) {
+            return Ok(None);
+        }
+        self.log.try_reserve(1)?;
+        match self.board.apply(&mut self.state, worker, &call) {
+            Ok((reply, copy)) => {
+                self.log.push_reserved(Entry {
+                    who: worker,
+                    call,
+                    reply: copy,
+                });
+                Ok(Some(reply))
+            }
+            Err(BoardRefused::NoMemory) => Err(NoMemory),
+            Err(BoardRefused::NotYet) => unreachable!(),
+        }
+    }
+
+    // Whether an item is stored.
+    fn is_stored(&self, item: usize) -> bool
         requires { item < count self.now.inputs }
-        ensures { result ≡ is_ready self.now.inputs self.now.log item }
+        ensures { result ≡ is_stored self.now.log item }
     {
-        !self.out[item] && self.finished.is_ready(item)
-    }
-
-    // The first item in table order that is ready.
-    fn next_item(&self) -> Option<usize>
-        ensures { result ≡ find (is_ready self.now.inputs self.now.log) (places self.now.inputs) }
-    {
-        (0..self.out.len()).find(
-            |item: &usize| -> bool
-                requires { item.now < count self.now.inputs }
-                ensures { result ≡ is_ready self.entry.now.inputs self.entry.now.log item.now }
-            { self.is_ready(*item) },
-        )
-    }
-
-    // Whether every item was handed out.
-    fn are_all_out(&self) -> bool
-        ensures { result ≡ list_all (is_out self.now.log) (places self.now.inputs) }
-    {
-        (0..self.out.len()).all(|item| self.is_out(item))
-    }
-
-    // Whether every item was handed out, or a worker gave up the run.
-    fn is_at_end(&self) -> bool
-        ensures { result ≡ is_at_end self.now.inputs self.now.log }
-    {
-        self.stopped || self.are_all_out()
+        self.state.outcome(item).is_some()
     }
 
     /// Whether every item is stored.
     pub fn is_finished(&self) -> bool
         ensures { result ≡ is_finished self.now.inputs self.now.log }
     {
-        (0..self.out.len()).all(|item| self.finished.is_finished(item))
+        (0..self.count()).all(
+            |item: usize| -> bool
+                requires { item < count self.now.inputs }
+                ensures { result ≡ is_stored self.entry.now.log item }
+            { self.is_stored(item) },
+        )
     }
 
-    // Makes the entry of a worker for which no item is left.
-    fn end(&mut self, worker: u64) -> Result<(), NoMemory>
-        ensures entry { OnOk result (self.new ≡ record self.old { log = self.old.log ++ entry worker BoardCall.Take BoardReply.AllOut ∷ [] }) }
-        ensures refused { OnErr result (self.new ≡ self.old) }
+    // The outcome of an item, once all are stored.
+    fn outcome(&self, item: usize) -> &Outcome
+        requires finished { is_finished self.now.inputs self.now.log ≡ true }
+        requires item { item < count self.now.inputs }
+        ensures { result.now ≡ item_from self.now.inputs item }
     {
-        self.log.try_reserve(1)?;
-        self.log.push_reserved(Entry {
-            who: worker,
-            call: BoardCall::Take,
-            reply: BoardReply::AllOut,
-        });
-        Ok(())
-    }
-
-    // Hands out an item that is ready.
-    fn hand_out(&mut self, worker: u64, item: usize) -> Result<(), NoMemory>
-        requires within { item < count self.old.inputs }
-        requires ready { is_ready self.old.inputs self.old.log item ≡ true }
-        ensures entry { OnOk result (self.new ≡ record self.old { log = self.old.log ++ entry worker BoardCall.Take (BoardReply.Item item) ∷ [] }) }
-        ensures refused { OnErr result (self.new ≡ self.old) }
-    {
-        self.log.try_reserve(1)?;
-        self.out[item] = true;
-        self.log.push_reserved(Entry {
-            who: worker,
-            call: BoardCall::Take,
-            reply: BoardReply::Item(item),
-        });
-        Ok(())
-    }
-
-    /// Answers a worker that asks for an item, and makes an entry of it. `None` if no item is ready
-    /// yet; nothing changes then.
-    ///
-    /// Errors: `NoMemory` if an allocation fails, never where the result would be `None`. Nothing
-    /// has changed then.
-    pub fn take(&mut self, worker: u64) -> Result<Option<BoardReply>, NoMemory>
-        ensures reply { IfOk result (λ reply. reply ≡ board_reply self.old.inputs self.old.log worker BoardCall.Take) }
-        ensures entry { IfOk result (λ reply. self.new ≡ record self.old { log = self.old.log ++ taken worker reply }) }
-        ensures refused { OnErr result (self.new ≡ self.old) }
-        ensures memory { OnErr result (board_reply self.old.inputs self.old.log worker BoardCall.Take ≢ None) }
-    {
-        if self.is_at_end() {
-            self.end(worker)?;
-            return Ok(Some(BoardReply::AllOut));
+        match self.state.outcome(item) {
+            Some(outcome) => outcome,
+            None => unreachable!(),
         }
-        let Some(item) = self.next_item() else {
-            return Ok(None);
-        };
-        self.hand_out(worker, item)?;
-        Ok(Some(BoardReply::Item(item)))
-    }
-
-    /// Plans the item that a worker holds, and stores its outcome.
-    ///
-    /// Errors: `NoMemory` if an allocation fails. Nothing has changed then.
-    pub fn finish(&mut self, alloc: Global, worker: u64, item: usize) -> Result<(), NoMemory>
-        requires { held worker self.old.log ≡ Some item }
-        ensures entry { OnOk result (self.new ≡ record self.old { log = self.old.log ++ entry worker (BoardCall.Finish item) BoardReply.Stored ∷ [] }) }
-        ensures refused { OnErr result (self.new ≡ self.old) }
-    {
-        self.log.try_reserve(1)?;
-        let outcome = self.finished.outcome_for(alloc, item)?;
-        let is_over = outcome.is_over();
-        self.finished.put(outcome);
-        self.over[item] = is_over;
-        self.log.push_reserved(Entry {
-            who: worker,
-            call: BoardCall::Finish(item),
-            reply: BoardReply::Stored,
-        });
-        Ok(())
-    }
-
-    /// A worker gives up the run.
-    ///
-    /// Errors: `NoMemory` if an allocation fails. Nothing has changed then.
-    pub fn give_up(&mut self, worker: u64) -> Result<(), NoMemory>
-        ensures entry { OnOk result (self.new ≡ record self.old { log = self.old.log ++ entry worker BoardCall.GiveUp BoardReply.Stopped ∷ [] }) }
-        ensures refused { OnErr result (self.new ≡ self.old) }
-    {
-        self.log.try_reserve(1)?;
-        self.stopped = true;
-        self.log.push_reserved(Entry {
-            who: worker,
-            call: BoardCall::GiveUp,
-            reply: BoardReply::Stopped,
-        });
-        Ok(())
-    }
-
-    // Whether an item is stored, and is over.
-    fn is_stored_over(&self, item: usize) -> bool
-        ensures { result ≡ is_stored_over self.now.inputs self.now.log item }
-    {
-        matches!(self.over.get(item), Some(true))
-    }
-
-    // The first item in table order that is stored, and is over.
-    fn first_stored_over(&self) -> Option<usize>
-        ensures { result ≡ find (is_stored_over self.now.inputs self.now.log) (places self.now.inputs) }
-    {
-        (0..self.over.len()).find(|item| self.is_stored_over(*item))
     }
 
     /// The first item in table order that gets too large while none above it does, once all are
@@ -281,7 +206,26 @@ impl Board {
         requires { is_finished self.now.inputs self.now.log ≡ true }
         ensures { result ≡ first_over self.now.inputs }
     {
-        self.first_stored_over()
+        (0..self.count()).find(
+            |item: &usize| -> bool
+                requires finished { is_finished self.now.inputs self.now.log ≡ true }
+                requires item { item.now < count self.now.inputs }
+                ensures { result ≡ is_over (outcome_of self.entry.now.inputs item.now) }
+            { self.outcome(*item).is_over() },
+        )
+    }
+
+    // Copies of all items' outcomes in table order, once all are stored.
+    fn outcomes(&self, alloc: Global) -> Result<Vec<Outcome>, NoMemory>
+        requires { is_finished self.now.inputs self.now.log ≡ true }
+        ensures { IfOk result (λ all. all.items ≡ all_from self.now.inputs) }
+    {
+        let count = self.count();
+        let mut all = Vec::with_capacity(alloc, count)?;
+        for item in 0..count {
+            all.push(self.outcome(item).copy()?)?;
+        }
+        Ok(all)
     }
 
     /// The plan of all items, each of which is stored, and none of which gets too large.
@@ -293,10 +237,10 @@ impl Board {
         ensures inputs { IfOk result (λ plan. plan.inputs ≡ self.now.inputs) }
         ensures plans { IfOk result (λ plan. plan_of self.now.inputs ≡ Ok plan.plans) }
     {
-        match self.finished.whole(alloc) {
+        let outcomes = self.outcomes(alloc)?;
+        match Plan::of(self.inputs().clone()?, outcomes) {
             Ok(plan) => Ok(plan),
-            Err(RunFault::NoMemory) => Err(NoMemory),
-            Err(RunFault::TooLarge { item: _ }) => unreachable!(),
+            Err(_) => unreachable!(),
         }
     }
 }

@@ -9,8 +9,9 @@ ghost use Rattle.mrp_engine.specs.event_core.Core.{told};
 ghost use Rattle.mrp_engine.specs.event_core.Kept.{IsBoardOf, log_of};
 
 use crate::day::name_of;
-use crate::event_core::board::{Board, BoardReply};
+use crate::event_core::board::RunBoard;
 use crate::event_core::event::Answer;
+use mrp_board::{BoardCall, BoardReply};
 use mrp_book::Snapshot;
 use mrp_item::{Inputs, Plan, ShopRows};
 use mrp_qty::NoMemory;
@@ -27,7 +28,7 @@ use std::thread::Threads;
 pub struct Run {
     rows: Arc<ShopRows>,
     snapshot: Snapshot,
-    board: Option<Board>,
+    board: Option<RunBoard>,
 }
 
 impl Model for Run {
@@ -46,7 +47,7 @@ fn begin(
     alloc: Global,
     rows: &Arc<ShopRows>,
     snapshot: &Snapshot,
-    board: &mut Option<Board>,
+    board: &mut Option<RunBoard>,
 ) -> Result<(), NoMemory>
     requires booked { AreBooked (supply_of rows.now.value.tables) snapshot.now.standing }
     requires board { IsBoardOf (inputs_of rows.now.value.tables snapshot.now) board.old }
@@ -56,7 +57,7 @@ fn begin(
 {
     if board.is_none() {
         let inputs = Inputs::over(alloc, rows.clone()?, snapshot.copy()?)?;
-        *board = Some(Board::open(alloc, &inputs)?);
+        *board = Some(RunBoard::open(alloc, &inputs)?);
     }
     Ok(())
 }
@@ -78,16 +79,18 @@ fn report_of(
 
 impl Run {
     ghost use Rattle.std.specs.Prelude.{◌≡◌, ◌≢◌, ◌++◌, ◌∷◌, [], true, false, Some, None, IfOk, OnErr, OnOk, IsSome};
-    ghost use Rattle.mrp_turn.specs.Log.{entry};
+    ghost use Rattle.mrp_turn.specs.Log.{IsSeatNumber, entry};
     ghost use Rattle.mrp_master.specs.Supply.{supply_of};
     ghost use Rattle.mrp_book.specs.Booked.{AreBooked};
     ghost use Rattle.mrp_item.specs.Inputs.{inputs_of};
-    ghost use Rattle.mrp_engine.specs.declared.event_core.board.BoardCall.TheVariants as call;
-    ghost use Rattle.mrp_engine.specs.declared.event_core.board.BoardReply.TheVariants as reply;
+    ghost use Rattle.mrp_board.specs.declared.call.BoardCall.TheVariants as call;
+    ghost use Rattle.mrp_board.specs.declared.reply.BoardReply.TheVariants as reply;
+    ghost use Rattle.mrp_board.specs.Board.{board_reply, held, is_finished};
     ghost use Rattle.mrp_engine.specs.declared.event_core.event.Answer.TheVariants as answer;
     ghost use Rattle.mrp_engine.specs.day.Day.{IsPlannable};
-    ghost use Rattle.mrp_engine.specs.event_core.Board.{board_reply, held, is_finished, taken};
-    ghost use Rattle.mrp_engine.specs.event_core.Core.{IsReport, finish_of, told};
+    ghost use Rattle.mrp_engine.specs.event_core.Board.{finish_entry, made};
+    ghost use Rattle.mrp_engine.specs.event_core.Core.{IsReport, told};
+    ghost use Rattle.mrp_engine.specs.event_core.Kept.{KeepsBoard};
 
     /// A run over the rows of a shop and a snapshot of its order book. The caller guarantees that
     /// the snapshot is of that shop.
@@ -117,8 +120,9 @@ impl Run {
     /// Errors: `NoMemory` if an allocation fails, never where the answer would be `NotYet`. Nothing
     /// has changed then.
     pub fn take(&mut self, alloc: Global, worker: u64) -> Result<Answer, NoMemory>
+        requires { IsSeatNumber worker }
         ensures answer { IfOk result (λ a. a ≡ told (board_reply self.old.inputs self.old.log worker call.Take)) }
-        ensures entry { OnOk result (self.new ≡ record self.old { log = self.old.log ++ taken worker (board_reply self.old.inputs self.old.log worker call.Take) }) }
+        ensures entry { OnOk result (self.new ≡ record self.old { log = self.old.log ++ made worker call.Take (board_reply self.old.inputs self.old.log worker call.Take) }) }
         ensures refused { OnErr result (self.new ≡ self.old) }
         ensures memory { OnErr result (board_reply self.old.inputs self.old.log worker call.Take ≢ None) }
     {
@@ -126,44 +130,48 @@ impl Run {
         let _shop = self.rows.shop().tables();
         begin(alloc, &self.rows, &self.snapshot, &mut self.board)?;
         match &mut self.board {
-            Some(board) => Ok(told(board.take(worker)?)),
+            Some(board) => Ok(told(board.make(worker, BoardCall::Take)?)),
             None => unreachable!(),
         }
     }
 
-    /// Plans and stores the item that a worker holds.
+    /// Plans and stores the item that a worker holds. The caller guarantees that the workers of the run
+    /// finish what they hold.
     ///
     /// Errors: `NoMemory` if the worker holds an item and an allocation fails. Nothing has changed
     /// then.
     pub fn finish(&mut self, alloc: Global, worker: u64) -> Result<Answer, NoMemory>
+        requires seat { IsSeatNumber worker }
+        requires keeps { KeepsBoard self.old.inputs self.old.log }
         ensures held { IfOk result (λ a. IsSome (held worker self.old.log) → a ≡ answer.Stored) }
         ensures not_held { IfOk result (λ a. held worker self.old.log ≡ None → a ≡ answer.Nothing) }
-        ensures entry { OnOk result (self.new ≡ record self.old { log = self.old.log ++ finish_of worker (held worker self.old.log) }) }
+        ensures entry { OnOk result (self.new ≡ record self.old { log = self.old.log ++ finish_entry self.old.inputs worker (held worker self.old.log) }) }
         ensures refused { OnErr result (self.new ≡ self.old) }
         ensures memory { OnErr result (IsSome (held worker self.old.log)) }
     {
         let Some(board) = &mut self.board else {
             return Ok(Answer::Nothing);
         };
-        let Some(item) = board.held(worker) else {
+        let Some(outcome) = board.plan_held(alloc, worker)? else {
             return Ok(Answer::Nothing);
         };
-        board.finish(alloc, worker, item)?;
-        Ok(Answer::Stored)
+        Ok(told(board.make(worker, BoardCall::Finish(outcome))?))
     }
 
     /// A worker gives up the run.
     ///
     /// Errors: `NoMemory` if an allocation fails. Nothing has changed then.
     pub fn give_up(&mut self, alloc: Global, worker: u64) -> Result<(), NoMemory>
+        requires { IsSeatNumber worker }
         ensures entry { OnOk result (self.new ≡ record self.old { log = self.old.log ++ entry worker call.GiveUp reply.Stopped ∷ [] }) }
         ensures refused { OnErr result (self.new ≡ self.old) }
     {
         begin(alloc, &self.rows, &self.snapshot, &mut self.board)?;
-        match &mut self.board {
-            Some(board) => board.give_up(worker),
-            None => unreachable!(),
-        }
+        let Some(board) = &mut self.board else {
+            unreachable!()
+        };
+        board.make(worker, BoardCall::GiveUp)?;
+        Ok(())
     }
 
     // Whether every item is stored.
@@ -213,7 +221,7 @@ fn told(reply: Option<BoardReply>) -> Answer
     match reply {
         None => Answer::NotYet,
         Some(BoardReply::AllOut) => Answer::AllOut,
-        Some(BoardReply::Item(item)) => Answer::Item(item),
+        Some(BoardReply::Item(item, _)) => Answer::Item(item),
         Some(BoardReply::Stored) => Answer::Stored,
         Some(BoardReply::NotOut) => Answer::Nothing,
         Some(BoardReply::Stopped) => Answer::Stopped,

@@ -19,4 +19,4 @@ returns g c =
     let t = c.args.rows.value.tables in
     let h = c.args.history.entries in
     let plans : PlansRuns (runs_of t h) (Ok c.in_ok-plans.plans) = c.in_ok-plans.ensures in
-    (refl, refl, record { supply = c.requires; runs = plans.0; plannable = plans.1 })
+    (refl, refl, record { supply = c.requires.supply; runs = plans.0; plannable = plans.1 })

@@ -23,7 +23,7 @@ use Rattle.mrp_engine.proofs.lemmas.event_core.CoreLaws.{answered, core-append, 
 
 -- what was answered, with later steps
 
-answered-then : (steps before later : List Step) (e : Event) (a : Answer) → WasAnswered steps before e a → WasAnswered (steps ++ later) before e a
+pub answered-then : (steps before later : List Step) (e : Event) (a : Answer) → WasAnswered steps before e a → WasAnswered (steps ++ later) before e a
 answered-then steps before later e a was = record {
   after = was.after ++ later;
   place = ap (λ (l : List Step). l ++ later) was.place ∙ append_assoc before ((e, a) ∷ was.after) later;
@@ -33,7 +33,7 @@ answered-last : (before : List Step) (e : Event) (a : Answer) → WasAnswered (b
 answered-last before e a = record { after = []; place = refl }
 
 -- the last of a list, or one before it
-last-or-before : {X : Type 0} (xs : List X) (x : X) (before : List X) (y : X) (after : List X) → xs ++ x ∷ [] ≡ before ++ y ∷ after
+pub last-or-before : {X : Type 0} (xs : List X) (x : X) (before : List X) (y : X) (after : List X) → xs ++ x ∷ [] ≡ before ++ y ∷ after
     → ((before ≡ xs) × (y ≡ x)) ⊎ ((rest : List X) × (xs ≡ before ++ y ∷ rest))
 last-or-before [] x [] y after e = let same : x ≡ y = cc in inl (refl, sym same)
 last-or-before {X} [] x (z ∷ before) y after e =

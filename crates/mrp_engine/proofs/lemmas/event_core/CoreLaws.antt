@@ -19,17 +19,18 @@ use Rattle.mrp_book.specs.History.{IsFull, IsLegal, IsReply, next_number}
 use Rattle.mrp_book.proofs.Histories.{legal-more, legal-none}
 use Rattle.mrp_item.specs.Inputs.{Inputs, places}
 use Rattle.mrp_report.specs.ReportText.{report_text}
-use Rattle.mrp_engine.specs.declared.event_core.board.BoardCall.TheVariants as board_call
-use Rattle.mrp_engine.specs.declared.event_core.board.BoardReply.TheVariants as board_reply
+use Rattle.mrp_board.specs.declared.call.BoardCall.TheVariants as board_call
+use Rattle.mrp_board.specs.declared.reply.BoardReply.{BoardReply}
+use Rattle.mrp_board.specs.declared.reply.BoardReply.TheVariants as board_reply
+use Rattle.mrp_board.specs.Board.{BoardLog, board_reply, handed, held, is_at_end, is_out_to, is_ready, is_stored}
 use Rattle.mrp_engine.specs.declared.event_core.event.Event.{Event}
 use Rattle.mrp_engine.specs.declared.event_core.event.Event.TheVariants as event
 use Rattle.mrp_engine.specs.declared.event_core.event.Answer.{Answer}
 use Rattle.mrp_engine.specs.declared.event_core.event.Answer.TheVariants as answer
 use Rattle.mrp_engine.specs.day.Day.{IsPlannable, IsRefusedBy}
-use Rattle.mrp_engine.specs.declared.event_core.board.BoardReply.{BoardReply}
-use Rattle.mrp_engine.specs.event_core.Board.{BoardLog, board_reply, held, is_at_end, is_out_to, is_ready, is_stored}
+use Rattle.mrp_engine.specs.event_core.Board.{finish_entry, take_entry}
 use Rattle.mrp_engine.specs.event_core.Kept.{KeepsBoard}
-use Rattle.mrp_engine.specs.event_core.Core.{AsksFullBook, Core, FitsShop, HasMeaning, IsAnswer, IsAnswered, IsOfDesk, IsRight, IsStarted, MayFollowSteps, Run, Step, after, core_after, core_of, finish_of, inputs_at, log_at, no_run, opened, run_at, run_inputs, snapshot_of, told, with_entries}
+use Rattle.mrp_engine.specs.event_core.Core.{AsksFullBook, Core, FitsShop, HasMeaning, IsAnswer, IsAnswered, IsOfDesk, IsRight, IsStarted, MayFollowSteps, Run, Step, after, core_after, core_of, inputs_at, log_at, no_run, opened, run_at, run_inputs, snapshot_of, told, with_entries}
 use Rattle.mrp_engine.proofs.lemmas.event_core.BoardLaws.{keeps-end, keeps-none, keeps-stopped, keeps-stored, keeps-taken, stored-reply}
 use Rattle.mrp_engine.specs.event_core.Headline.{ChangesNothing, IsEntry, WasAnswered}
 
@@ -61,12 +62,12 @@ same-logged core run entries = record {
 }
 
 pub take-same : (core : Core) (run who : ℕ) (a : Answer) → Same core (after core (event.Take run who) a)
-take-same core run who (answer.Item item) = same-logged core run (entry who board_call.Take (board_reply.Item item) ∷ [])
+take-same core run who (answer.Item item) = same-logged core run (take_entry (run_inputs core run) (log_at core run) who item)
 take-same core run who answer.AllOut = same-logged core run (entry who board_call.Take board_reply.AllOut ∷ [])
 take-same core run who a = same-core core
 
 pub finish-same : (core : Core) (run who : ℕ) (a : Answer) → Same core (after core (event.Finish run who) a)
-finish-same core run who answer.Stored = same-logged core run (finish_of who (held who (log_at core run)))
+finish-same core run who answer.Stored = same-logged core run (finish_entry (run_inputs core run) who (held who (log_at core run)))
 finish-same core run who a = same-core core
 
 pub give_up-same : (core : Core) (run who : ℕ) (a : Answer) → Same core (after core (event.GiveUp run who) a)
@@ -350,17 +351,17 @@ module _ (tables : Tables) (core : Core) (sound : Sound core) (boards : KeepsBoa
   took-boards run who None started seat is = boards
   took-boards run who (Some board_reply.AllOut) started seat is =
       logged-boards run (entry who board_call.Take board_reply.AllOut ∷ []) started (keeps-end (run_inputs core run) (log_at core run) (boards run started) who seat is)
-  took-boards run who (Some (board_reply.Item item)) started seat is =
-      logged-boards run (entry who board_call.Take (board_reply.Item item) ∷ []) started (keeps-taken (run_inputs core run) (log_at core run) (boards run started) who seat item is)
+  took-boards run who (Some (board_reply.Item item parents)) started seat is =
+      logged-boards run (take_entry (run_inputs core run) (log_at core run) who item) started (keeps-taken (run_inputs core run) (log_at core run) (boards run started) who seat item parents is)
   took-boards run who (Some board_reply.Stored) started seat is = boards
   took-boards run who (Some board_reply.NotOut) started seat is = boards
   took-boards run who (Some board_reply.Stopped) started seat is = boards
 
   -- finishes
-  finished-boards : (run who : ℕ) (o : Option ℕ) → IsStarted core run → IsSeatNumber who → held who (log_at core run) ≡ o → IsSome o → KeepsBoards (with_entries core run (finish_of who o))
+  finished-boards : (run who : ℕ) (o : Option ℕ) → IsStarted core run → IsSeatNumber who → held who (log_at core run) ≡ o → IsSome o → KeepsBoards (with_entries core run (finish_entry (run_inputs core run) who o))
   finished-boards run who None started seat is some = absurd (let n : false ≡ true = some in cc)
   finished-boards run who (Some item) started seat is some =
-      logged-boards run (finish_of who (Some item)) started (keeps-stored (run_inputs core run) (log_at core run) (boards run started) who seat item is)
+      logged-boards run (finish_entry (run_inputs core run) who (Some item)) started (keeps-stored (run_inputs core run) (log_at core run) (boards run started) who seat item is)
 
   -- the history grows, and the runs stay
   same-boards : (new : Core) → Grows core new → new.runs ≡ core.runs → KeepsBoards new
@@ -426,7 +427,7 @@ module _ (tables : Tables) where
 told-something : (s : Inputs) (log : BoardLog) (who : ℕ) → told (board_reply s log who board_call.Take) ≡ answer.Nothing → ⊥
 told-something s log who e = by (is_at_end s log) (find (is_ready s log) (places s)) e
   where
-    by : (b : Bool) (o : Option ℕ) → told (if b then Some board_reply.AllOut else option_map board_reply.Item o) ≡ answer.Nothing → ⊥
+    by : (b : Bool) (o : Option ℕ) → told (if b then Some board_reply.AllOut else option_map (handed s log) o) ≡ answer.Nothing → ⊥
     by true o k = cc
     by false None k = cc
     by false (Some i) k = cc
@@ -450,7 +451,7 @@ meaningless core boards e a (inr (none, is)) = (λ k. none, λ k. is)
 told-full : (s : Inputs) (log : BoardLog) (who : ℕ) → told (board_reply s log who board_call.Take) ≡ answer.Full → ⊥
 told-full s log who e = by (is_at_end s log) (find (is_ready s log) (places s)) e
   where
-    by : (b : Bool) (o : Option ℕ) → told (if b then Some board_reply.AllOut else option_map board_reply.Item o) ≡ answer.Full → ⊥
+    by : (b : Bool) (o : Option ℕ) → told (if b then Some board_reply.AllOut else option_map (handed s log) o) ≡ answer.Full → ⊥
     by true o k = cc
     by false None k = cc
     by false (Some i) k = cc

@@ -18,15 +18,17 @@ use Rattle.mrp_book.specs.Standing.{History, standing}
 use Rattle.mrp_book.specs.History.{IsFull, IsReply, next_number}
 use Rattle.mrp_book.proofs.Standings.{standing_after}
 use Rattle.mrp_item.specs.Inputs.{Inputs, inputs_of, places}
-use Rattle.mrp_engine.specs.declared.event_core.board.BoardCall.TheVariants as board_call
-use Rattle.mrp_engine.specs.declared.event_core.board.BoardReply.TheVariants as board_reply
+use Rattle.mrp_item.specs.Made.{item_from}
+use Rattle.mrp_board.specs.declared.call.BoardCall.TheVariants as board_call
+use Rattle.mrp_board.specs.declared.reply.BoardReply.TheVariants as board_reply
+use Rattle.mrp_board.specs.Board.{BoardLog, board_reply, handed, held, is_at_end, is_finished, is_ready}
 use Rattle.mrp_engine.specs.declared.event_core.event.Event.{Event}
 use Rattle.mrp_engine.specs.declared.event_core.event.Event.TheVariants as event
 use Rattle.mrp_engine.specs.declared.event_core.event.Answer.{Answer}
 use Rattle.mrp_engine.specs.declared.event_core.event.Answer.TheVariants as answer
 use Rattle.mrp_engine.specs.day.Day.{IsPlannable, IsRefusedBy}
-use Rattle.mrp_engine.specs.event_core.Board.{BoardLog, RunLog, board_reply, held, is_at_end, is_finished, is_ready, taken}
-use Rattle.mrp_engine.specs.event_core.Core.{Core, HasMeaning, IsAnswer, IsOfDesk, IsReport, IsStarted, IsToldLater, IsToldTooLarge, Run, IsOutOfMemory, after, finish_of, inputs_at, log_at, no_run, run_at, run_inputs, snapshot_of, told, with_entries}
+use Rattle.mrp_engine.specs.event_core.Board.{RunLog, finish_entry, made, take_entry}
+use Rattle.mrp_engine.specs.event_core.Core.{Core, HasMeaning, IsAnswer, IsOfDesk, IsReport, IsStarted, IsToldLater, IsToldTooLarge, Run, IsOutOfMemory, after, inputs_at, log_at, no_run, run_at, run_inputs, snapshot_of, told, with_entries}
 use Rattle.mrp_engine.specs.event_core.Kept.{KeepsBoard}
 use Rattle.mrp_engine.specs.event_core.KeptCore.{FollowsHistory, brief}
 use Rattle.mrp_engine.proofs.lemmas.event_core.BoardLaws.{keeps-finish, keeps-none, keeps-stopped, keeps-told, stored-reply}
@@ -107,17 +109,19 @@ module _ (tables : Tables) (h : History) where
       is ∙ sym (ap (λ (s : Inputs). told (board_reply s (log_at (seen runs) run) who board_call.Take)) (inputs-are f) ∙ ap (λ (l : BoardLog). told (board_reply r.inputs l who board_call.Take)) log-is),
     )
 
-    took : (who : ℕ) (b : Bool) (o : Option ℕ)
-        → with_entries (seen runs) run (taken who (if b then Some board_reply.AllOut else option_map board_reply.Item o)) ≡ after (seen runs) (event.Take run who) (told (if b then Some board_reply.AllOut else option_map board_reply.Item o))
-    took who true o = refl
-    took who false None = unlogged
-    took who false (Some i) = refl
+    took : FollowsHistory tables h r → (who : ℕ) (b : Bool) (o : Option ℕ)
+        → with_entries (seen runs) run (made who board_call.Take (if b then Some board_reply.AllOut else option_map (handed r.inputs r.log) o))
+        ≡ after (seen runs) (event.Take run who) (told (if b then Some board_reply.AllOut else option_map (handed r.inputs r.log) o))
+    took f who true o = refl
+    took f who false None = unlogged
+    took f who false (Some i) =
+        ap (λ (l : BoardLog). with_entries (seen runs) run (take_entry r.inputs l who i)) (sym log-is) ∙ ap (λ (s : Inputs). with_entries (seen runs) run (take_entry s (log_at (seen runs) run) who i)) (sym (inputs-are f))
 
-    pub take-after : (who : ℕ) (a : Answer) (now : RunLog) → a ≡ told (board_reply r.inputs r.log who board_call.Take) → now ≡ record r { log = r.log ++ taken who (board_reply r.inputs r.log who board_call.Take) }
+    pub take-after : FollowsHistory tables h r → (who : ℕ) (a : Answer) (now : RunLog) → a ≡ told (board_reply r.inputs r.log who board_call.Take) → now ≡ record r { log = r.log ++ made who board_call.Take (board_reply r.inputs r.log who board_call.Take) }
         → seen (set runs place now) ≡ after (seen runs) (event.Take run who) a
-    take-after who a now is after_is =
-        logged now (taken who (board_reply r.inputs r.log who board_call.Take)) after_is
-        ∙ took who (is_at_end r.inputs r.log) (find (is_ready r.inputs r.log) (places r.inputs))
+    take-after f who a now is after_is =
+        logged now (made who board_call.Take (board_reply r.inputs r.log who board_call.Take)) after_is
+        ∙ took f who (is_at_end r.inputs r.log) (find (is_ready r.inputs r.log) (places r.inputs))
         ∙ ap (λ (x : Answer). after (seen runs) (event.Take run who) x) (sym is)
 
     pub take-held : (who item : ℕ) → held who r.log ≡ Some item → IsAnswer (seen runs) (event.Take run who) answer.Nothing
@@ -127,17 +131,18 @@ module _ (tables : Tables) (h : History) where
 
     -- it is answered that what it holds is stored
     told-stored : FollowsHistory tables h r → (who item : ℕ) → held who r.log ≡ Some item
-        → told (board_reply (run_inputs (seen runs) run) (log_at (seen runs) run) who (board_call.Finish item)) ≡ answer.Stored
+        → told (board_reply (run_inputs (seen runs) run) (log_at (seen runs) run) who (board_call.Finish (item_from (run_inputs (seen runs) run) item))) ≡ answer.Stored
     told-stored f who item has =
-        ap (λ (s : Inputs). told (board_reply s (log_at (seen runs) run) who (board_call.Finish item))) (inputs-are f)
-        ∙ ap (λ (l : BoardLog). told (board_reply r.inputs l who (board_call.Finish item))) log-is
+        ap (λ (s : Inputs). told (board_reply s (log_at (seen runs) run) who (board_call.Finish (item_from s item)))) (inputs-are f)
+        ∙ ap (λ (l : BoardLog). told (board_reply r.inputs l who (board_call.Finish (item_from r.inputs item)))) log-is
         ∙ ap told (stored-reply r.inputs r.log f.board who item has)
 
     finish-by : FollowsHistory tables h r → (who : ℕ) (a : Answer) (o : Option ℕ) → held who r.log ≡ o → IsSeatNumber who → (IsSome o → a ≡ answer.Stored) → (o ≡ None → a ≡ answer.Nothing)
-        → IsAnswer (seen runs) (event.Finish run who) a × (with_entries (seen runs) run (finish_of who o) ≡ after (seen runs) (event.Finish run who) a)
+        → IsAnswer (seen runs) (event.Finish run who) a × (with_entries (seen runs) run (finish_entry r.inputs who o) ≡ after (seen runs) (event.Finish run who) a)
     finish-by f who a (Some item) has seat stored nothing = (
       inl ((started, seat, subst (λ (x : Option ℕ). IsSome x) (sym (ap (held who) log-is ∙ has)) refl), (item, ap (held who) log-is ∙ has, stored refl ∙ sym (told-stored f who item has))),
-      ap (λ (x : Option ℕ). with_entries (seen runs) run (finish_of who x)) (sym (ap (held who) log-is ∙ has)) ∙ ap (λ (x : Answer). after (seen runs) (event.Finish run who) x) (sym (stored refl)),
+      ap (λ (s : Inputs). with_entries (seen runs) run (finish_entry s who (Some item))) (sym (inputs-are f))
+          ∙ ap (λ (x : Option ℕ). with_entries (seen runs) run (finish_entry (run_inputs (seen runs) run) who x)) (sym (ap (held who) log-is ∙ has)) ∙ ap (λ (x : Answer). after (seen runs) (event.Finish run who) x) (sym (stored refl)),
     )
     finish-by f who a None has seat stored nothing = (
       subst (λ (x : Answer). IsAnswer (seen runs) (event.Finish run who) x) (sym (nothing refl))
@@ -149,8 +154,8 @@ module _ (tables : Tables) (h : History) where
     finish-answer f who a seat stored nothing = (finish-by f who a (held who r.log) refl seat stored nothing).0
 
     pub finish-after : FollowsHistory tables h r → (who : ℕ) (a : Answer) (now : RunLog) → IsSeatNumber who → (IsSome (held who r.log) → a ≡ answer.Stored) → (held who r.log ≡ None → a ≡ answer.Nothing)
-        → now ≡ record r { log = r.log ++ finish_of who (held who r.log) } → seen (set runs place now) ≡ after (seen runs) (event.Finish run who) a
-    finish-after f who a now seat stored nothing is = logged now (finish_of who (held who r.log)) is ∙ (finish-by f who a (held who r.log) refl seat stored nothing).1
+        → now ≡ record r { log = r.log ++ finish_entry r.inputs who (held who r.log) } → seen (set runs place now) ≡ after (seen runs) (event.Finish run who) a
+    finish-after f who a now seat stored nothing is = logged now (finish_entry r.inputs who (held who r.log)) is ∙ (finish-by f who a (held who r.log) refl seat stored nothing).1
 
     -- A worker gives up.
 
@@ -312,11 +317,11 @@ module _ (tables : Tables) (h : History) (runs : List RunLog) (now : Core) (run 
       (take-answer tables h runs run place r x.at who a x.follows seat (ap (λ (y : RunLog). held who y.log) (sym (same-run q read)) ∙ sym is ∙ is-none o none) e))
 
   pub taken-after : {E : Type 0} (who : ℕ) (res : Result Answer E) (new : RunLog) → IfOk res (λ a. a ≡ told (board_reply r.inputs r.log who board_call.Take))
-      → OnOk res (new ≡ record r { log = r.log ++ taken who (board_reply r.inputs r.log who board_call.Take) }) → IfOk res (λ a. seen tables h (set runs place new) ≡ after now (event.Take run who) a)
+      → OnOk res (new ≡ record r { log = r.log ++ made who board_call.Take (board_reply r.inputs r.log who board_call.Take) }) → IfOk res (λ a. seen tables h (set runs place new) ≡ after now (event.Take run who) a)
   taken-after who res new says adds =
       if-both (λ a. a ≡ told (board_reply r.inputs r.log who board_call.Take)) (λ a. seen tables h (set runs place new) ≡ after now (event.Take run who) a)
-      (new ≡ record r { log = r.log ++ taken who (board_reply r.inputs r.log who board_call.Take) }) res says adds (λ a e is.
-      take-after tables h runs run place r x.at who a new e is ∙ ap (λ (c : Core). after c (event.Take run who) a) x.view)
+      (new ≡ record r { log = r.log ++ made who board_call.Take (board_reply r.inputs r.log who board_call.Take) }) res says adds (λ a e is.
+      take-after tables h runs run place r x.at x.follows who a new e is ∙ ap (λ (c : Core). after c (event.Take run who) a) x.view)
 
   pub held-nothing : (who : ℕ) (o : Option ℕ) → is_some o ≡ true → o ≡ held who r.log → IsAnswer now (event.Take run who) answer.Nothing
   held-nothing who o some is =
@@ -332,13 +337,13 @@ module _ (tables : Tables) (h : History) (runs : List RunLog) (now : Core) (run 
   kept-set (Err e) log new board grown same = kept-now new r same refl x.follows.board
 
   -- each run keeps its board as a worker takes, finishes and gives up
-  pub taken-set : {A E : Type 0} (who : ℕ) (res : Result A E) (new : RunLog) → IsSeatNumber who → OnOk res (new ≡ record r { log = r.log ++ taken who (board_reply r.inputs r.log who board_call.Take) }) → OnErr res (new ≡ r)
+  pub taken-set : {A E : Type 0} (who : ℕ) (res : Result A E) (new : RunLog) → IsSeatNumber who → OnOk res (new ≡ record r { log = r.log ++ made who board_call.Take (board_reply r.inputs r.log who board_call.Take) }) → OnErr res (new ≡ r)
       → All (FollowsHistory tables h) (set runs place new)
-  taken-set who res new seat = kept-set res (r.log ++ taken who (board_reply r.inputs r.log who board_call.Take)) new (keeps-told r.inputs r.log x.follows.board who seat)
+  taken-set who res new seat = kept-set res (r.log ++ made who board_call.Take (board_reply r.inputs r.log who board_call.Take)) new (keeps-told r.inputs r.log x.follows.board who seat)
 
-  pub finished-set : {A E : Type 0} (who : ℕ) (res : Result A E) (new : RunLog) → IsSeatNumber who → OnOk res (new ≡ record r { log = r.log ++ finish_of who (held who r.log) }) → OnErr res (new ≡ r)
+  pub finished-set : {A E : Type 0} (who : ℕ) (res : Result A E) (new : RunLog) → IsSeatNumber who → OnOk res (new ≡ record r { log = r.log ++ finish_entry r.inputs who (held who r.log) }) → OnErr res (new ≡ r)
       → All (FollowsHistory tables h) (set runs place new)
-  finished-set who res new seat = kept-set res (r.log ++ finish_of who (held who r.log)) new (keeps-finish r.inputs r.log x.follows.board who seat (held who r.log) refl)
+  finished-set who res new seat = kept-set res (r.log ++ finish_entry r.inputs who (held who r.log)) new (keeps-finish r.inputs r.log x.follows.board who seat (held who r.log) refl)
 
   pub gave_up-set : {A E : Type 0} (who : ℕ) (res : Result A E) (new : RunLog) → IsSeatNumber who → OnOk res (new ≡ record r { log = r.log ++ entry who board_call.GiveUp board_reply.Stopped ∷ [] }) → OnErr res (new ≡ r)
       → All (FollowsHistory tables h) (set runs place new)
@@ -351,7 +356,7 @@ module _ (tables : Tables) (h : History) (runs : List RunLog) (now : Core) (run 
       subst (λ (c : Core). IsAnswer c (event.Finish run who) a) x.view (finish-answer tables h runs run place r x.at x.follows who a seat s n))
 
   pub finished-after : {E : Type 0} (who : ℕ) (res : Result Answer E) (new : RunLog) → IsSeatNumber who → IfOk res (λ a. IsSome (held who r.log) → a ≡ answer.Stored) → IfOk res (λ a. held who r.log ≡ None → a ≡ answer.Nothing)
-      → OnOk res (new ≡ record r { log = r.log ++ finish_of who (held who r.log) }) → IfOk res (λ a. seen tables h (set runs place new) ≡ after now (event.Finish run who) a)
+      → OnOk res (new ≡ record r { log = r.log ++ finish_entry r.inputs who (held who r.log) }) → IfOk res (λ a. seen tables h (set runs place new) ≡ after now (event.Finish run who) a)
   finished-after who (Ok a) new seat stored nothing adds =
       finish-after tables h runs run place r x.at x.follows who a new seat stored nothing adds ∙ ap (λ (c : Core). after c (event.Finish run who) a) x.view
   finished-after who (Err e) new seat stored nothing adds = stored

@@ -6,9 +6,9 @@ use Rattle.std.specs.List.{list_all, range_with_len}
 use Rattle.mrp_bill.specs.Bill.{IsParent, is_parent, parents_of}
 use Rattle.mrp_bill.specs.Shop.{IsShop, Shop}
 use Rattle.mrp_item.specs.Inputs.{Inputs, count, places}
-use Rattle.mrp_engine.specs.declared.event_core.board.BoardCall.TheVariants as call
-use Rattle.mrp_engine.specs.declared.event_core.board.BoardReply.TheVariants as reply
-use Rattle.mrp_engine.specs.event_core.Board.{board_reply, is_at_end, is_out, is_ready, is_stored}
+use Rattle.mrp_board.specs.declared.call.BoardCall.TheVariants as call
+use Rattle.mrp_board.specs.declared.reply.BoardReply.TheVariants as reply
+use Rattle.mrp_board.specs.Board.{board_reply, handed, is_at_end, is_out, is_ready, is_stored}
 
 -- the first of the numbers that pass a test passes it
 first-passes : (test : ℕ → Bool) (a n p : ℕ) (rest : List ℕ) → filter test (range_with_len a n) ≡ p ∷ rest → (test p ≡ true) × (p < a + n)
@@ -69,9 +69,9 @@ module _ (s : Inputs) (code : ℕ → ℕ) (rises : (p i : ℕ) → IsParent s.t
   told-now : (who : ℕ) → board_reply s [] who call.Take ≢ None
   told-now who none = by (is_at_end s []) (find (is_ready s []) (places s)) refl refl none
     where
-      by : (b : Bool) (o : Option ℕ) → is_at_end s [] ≡ b → find (is_ready s []) (places s) ≡ o → (if b then Some reply.AllOut else option_map reply.Item o) ≡ None → ⊥
+      by : (b : Bool) (o : Option ℕ) → is_at_end s [] ≡ b → find (is_ready s []) (places s) ≡ o → (if b then Some reply.AllOut else option_map (handed s []) o) ≡ None → ⊥
       by true o e f k = let n : Some reply.AllOut ≡ None = k in cc
-      by false (Some i) e f k = let n : Some (reply.Item i) ≡ None = k in cc
+      by false (Some i) e f k = let n : Some (handed s [] i) ≡ None = k in cc
       by false None e f k = elim (cases_lt 0 (count s)) [
         | inl any ↦ some-item any f
         | inr few ↦ let n : true ≡ false = sym (no-items (count s) (omega (arith, few))) ∙ e in cc

@@ -1,7 +1,5 @@
 -- Every right list of events and answers keeps the headline.
-use Rattle.std.proofs.Common.{◌≡◌, ◌≢◌, ◌∙◌, ◌<◌, ◌+◌, ◌↔◌, ℕ, true, List, ◌∷◌, length, take, drop, inl, inr, refl, sym, ap, subst, arith}
-use Rattle.std.proofs.lemmas.List.FromFn.{get_or-range_with_len, length-range_with_len}
-use Rattle.std.proofs.lemmas.List.Sums.{AllPass-from_list_all}
+use Rattle.std.proofs.Common.{◌≡◌, ◌≢◌, ◌∙◌, ◌<◌, ◌↔◌, ℕ, true, List, ◌∷◌, length, take, drop, inl, inr, refl, sym, ap, subst}
 use Rattle.std.proofs.lemmas.List.{take-append-drop}
 use Rattle.std.specs.Prelude.{All, AllPairs, slice_index}
 use Rattle.std.specs.Global.{Vec}
@@ -17,7 +15,7 @@ use Rattle.mrp_book.specs.Standing.{History}
 use Rattle.mrp_book.specs.History.{IsLegal}
 use Rattle.mrp_book.proofs.Histories.{legal-front, prefix-covered}
 use Rattle.mrp_book.proofs.Promised.{booked_within, rising}
-use Rattle.mrp_item.specs.Inputs.{Inputs, count, item_at, places}
+use Rattle.mrp_item.specs.Inputs.{Inputs, count, item_at}
 use Rattle.mrp_item.proofs.ShopLemmas.{has_parents, is_plannable, is_ranked}
 use Rattle.mrp_peg.specs.Laws.{AddUpToRequirements, AddUpToSupplies}
 use Rattle.mrp_peg.specs.Pegging.{pegs_of, requirements, supplies}
@@ -33,12 +31,15 @@ use Rattle.mrp_engine.specs.declared.event_core.event.Event.TheVariants as event
 use Rattle.mrp_engine.specs.declared.event_core.event.Answer.{Answer}
 use Rattle.mrp_engine.specs.declared.event_core.event.Answer.TheVariants as answer
 use Rattle.mrp_engine.specs.day.Day.{IsPlannable, IsRefusedBy}
-use Rattle.mrp_engine.specs.event_core.Board.{BoardLog, is_finished, is_stored}
+use Rattle.mrp_board.specs.Board.{is_stored}
+use Rattle.mrp_board.proofs.HandsOn.{hands-on}
 use Rattle.mrp_engine.specs.event_core.Core.{Core, HasMeaning, IsAnswer, IsRight, MayFollowSteps, Step, core_of, log_at, run_at, run_inputs, snapshot_of}
 use Rattle.mrp_engine.specs.event_core.Headline.{Headline, IsAcceptedShop, WasAnswered, WasWritten, time_of_orders}
+use Rattle.mrp_engine.proofs.lemmas.event_core.BoardAnswers.{all-logged, ended-logged, handed-logged, stopped-logged, stored-logged}
 use Rattle.mrp_engine.proofs.lemmas.event_core.CoreAnswers.{all-answered, all-started, start-inputs}
 use Rattle.mrp_engine.proofs.lemmas.event_core.CoreLaws.{KeepsBoards, answered, bytes-are, core-one, full-is, meaningless, name-is, numbered-is, right-boards, right-sound, started-is, stays-entered, tables-stay, unchanged, written-inputs}
 use Rattle.mrp_engine.proofs.lemmas.event_core.LoadsByOrder.{load-by-orders}
+use Rattle.mrp_engine.proofs.lemmas.event_core.RunBoards.{all-stored}
 
 -- the pegs of a planned run
 planned-pegged : (shop : Shop) (s : Inputs) → IsAcceptedShop shop → shop.tables ≡ s.tables → IsPlannable s → (item : ℕ) → item < count s
@@ -49,13 +50,6 @@ planned-pegged shop s kept same plannable item within =
     let items = subst (λ (t : Tables). All IsItem t.items) same kept.tables.items in
     let own = own-of_all s item code plannable.0 (is_ranked s shop same kept.accepted) (has_parents s lines) plannable.1 within in
     (to-requirements s item (covered_item s item own (is_plannable (item_at s item) (items item no_item within)).sized), to-supplies s item)
-
--- each item of a finished run is stored
-all-stored : (s : Inputs) (log : BoardLog) → is_finished s log ≡ true → (item : ℕ) → item < count s → is_stored log item ≡ true
-all-stored s log is item within =
-    let here = AllPass-from_list_all (is_stored log) (places s) is item 0 (omega (arith, within, length-range_with_len 0 (count s))) in
-    let first : 0 + item ≡ item = omega arith in
-    subst (λ (n : ℕ). is_stored log n ≡ true) (get_or-range_with_len 0 (count s) item 0 within ∙ first) here
 
 module _ (shop : Shop) (kept : IsAcceptedShop shop) (steps : List Step) (right : IsRight shop.tables steps) where
   abbrev tables : Tables
@@ -141,6 +135,12 @@ module _ (shop : Shop) (kept : IsAcceptedShop shop) (steps : List Step) (right :
     refused = end-refused;
     finished = end-finished;
     boards = λ run started. (right-boards shop.tables steps right run started).legal;
+    outcomes = λ run started. hands-on (run_inputs end run) (log_at end run) (right-boards shop.tables steps right run started).legal;
+    handed = handed-logged shop.tables steps right;
+    stored = stored-logged shop.tables steps right;
+    ended = ended-logged shop.tables steps right;
+    stopped = stopped-logged shop.tables steps right;
+    logged = λ run before rest x started is. all-logged shop.tables steps right run before rest x started is;
     within = λ before rest desk number l same. (booked_within (supply_of shop.tables) before rest desk number l (subst (λ (h : History). IsLegal (supply_of shop.tables) h) same end-legal)).0;
     covered = λ before rest same. prefix-covered (supply_of shop.tables) before rest (subst (λ (h : History). IsLegal (supply_of shop.tables) h) same end-legal);
     pegged = end-pegged;

@@ -6,7 +6,7 @@ use Rattle.std.proofs.lemmas.Bool.{eqb-true}
 use Rattle.mrp_item.specs.Inputs.{Inputs, count, places}
 use Rattle.mrp_item.specs.Plan.{first_over, is_over, outcome_of, plan_in, plan_of, plan_unless}
 use Rattle.mrp_engine.specs.day.Day.{IsPlannable}
-use Rattle.mrp_engine.specs.event_core.Board.{is_finished}
+use Rattle.mrp_board.specs.Board.{is_finished}
 use Rattle.mrp_engine.proofs.lemmas.event_core.BoardLogs.{finished-none}
 
 -- the first item that is over refuses the plan

@@ -1,6 +1,13 @@
 use Rattle.mrp_engine.proofs.lemmas.event_core.CoreSteps.{finish-out_of_memory, finished-after, finished-answer, finished-set, here-of}
 use Rattle.mrp_engine.proofs.event_core.Core.finish.Goals as goal
 
+pub finish-requires-clause-keeps : goal.finish-requires-clause-keeps
+finish-requires-clause-keeps c =
+    let i = c.self.inside in
+    let r = c.index_mut.result.now in
+    let here = here-of i.rows.value.tables i.book.entries i.runs.items c.args.self.now c.args.run c.in-Some.place r c.self.view_is c.self.invariant.runs c.in-Some.ensures.started.0 c.in-Some.ensures.started.1 c.index_mut.ensures.value in
+    here.follows.board
+
 pub returns-clause-answer : goal.returns-clause-answer
 returns-clause-answer c =
     let i = c.self.inside in

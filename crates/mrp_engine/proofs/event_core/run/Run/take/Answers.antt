@@ -1,8 +1,9 @@
 use Rattle.std.proofs.Common.{◌≡◌, ◌≢◌, ◌∙◌, [], Option, None, sym, ap, subst}
 use Rattle.mrp_bill.specs.Shop.{Shop}
 use Rattle.mrp_item.specs.Inputs.{inputs_of}
-use Rattle.mrp_engine.specs.declared.event_core.board.BoardCall.TheVariants as call
-use Rattle.mrp_engine.specs.event_core.Board.{RunLog, board_reply}
+use Rattle.mrp_board.specs.declared.call.BoardCall.TheVariants as call
+use Rattle.mrp_board.specs.Board.{board_reply}
+use Rattle.mrp_engine.specs.event_core.Board.{RunLog}
 use Rattle.mrp_engine.specs.event_core.Kept.{log_of}
 use Rattle.mrp_engine.proofs.lemmas.event_core.CoreSteps.{on-err}
 use Rattle.mrp_engine.proofs.lemmas.event_core.FirstTakes.{first-told}

@@ -2,7 +2,8 @@ use Rattle.std.proofs.Common.{◌≡◌, ◌∙◌, [], Option, true, ap, inl, r
 use Rattle.mrp_item.specs.Inputs.{Inputs, inputs_of}
 use Rattle.mrp_report.specs.ReportText.{report_text}
 use Rattle.mrp_engine.specs.day.Day.{IsPlannable}
-use Rattle.mrp_engine.specs.event_core.Board.{RunLog, is_finished}
+use Rattle.mrp_board.specs.Board.{is_finished}
+use Rattle.mrp_engine.specs.event_core.Board.{RunLog}
 use Rattle.mrp_engine.specs.event_core.Kept.{log_of}
 use Rattle.mrp_engine.proofs.lemmas.event_core.CoreSteps.{on-err}
 use Rattle.mrp_engine.proofs.lemmas.event_core.RunReports.{empty-plannable, passed-over}
