@@ -4,3 +4,8 @@ pub mod Gathered
 pub mod Placing
 pub mod LevelLists
 pub mod LevelOrder
+pub mod HandedOnce
+pub mod WorkerCalls
+pub mod SideBySide
+pub mod Ended
+pub mod Crossing

@@ -10,7 +10,8 @@ use Rattle.mrp_bill.proofs.Listed.{filter-range-below}
 use Rattle.mrp_item.specs.Inputs.{Inputs, count}
 use Rattle.mrp_item.specs.Made.{item_from}
 use Rattle.mrp_item.specs.Places.{ItemOf}
-use Rattle.mrp_explode.specs.Finished.{AreOwn, Finishes}
+use Rattle.mrp_board.specs.BoardState.{AreOwn}
+use Rattle.mrp_explode.specs.Finished.{Finishes}
 use Rattle.mrp_explode.proofs.LevelLists.{apart}
 
 set-own : (s : Inputs) (xs : List (Option ItemOf)) (item : ℕ) (o : ItemOf) → item < length xs → o ≡ item_from s item

@@ -7,7 +7,7 @@ use Rattle.std.specs.List.{slice_index_or}
 use Rattle.mrp_item.specs.Inputs.{Inputs, count}
 use Rattle.mrp_item.specs.Made.{all_from, item_from}
 use Rattle.mrp_item.specs.Places.{ItemOf}
-use Rattle.mrp_explode.specs.Finished.{AreOwn}
+use Rattle.mrp_board.specs.BoardState.{AreOwn}
 
 -- these were taken out of the places, and those are left
 abbrev pub AreTaken : {X : Type 0} → List (Option X) → List X → List (Option X) → Type 0

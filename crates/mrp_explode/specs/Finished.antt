@@ -1,20 +1,14 @@
 -- The items that are planned so far, parents before their components.
-use Rattle.std.specs.Prelude.{ℕ, ◌≡◌, All, List, length, Option, Some, None, IsSome}
+use Rattle.std.specs.Prelude.{ℕ, ◌≡◌, All, List, Option, None, IsSome}
 use Rattle.std.specs.List.{slice_index_or}
 use Rattle.mrp_bill.specs.Bill.{parents_of}
 use Rattle.mrp_item.specs.Inputs.{Inputs, count}
-use Rattle.mrp_item.specs.Made.{item_from}
 use Rattle.mrp_item.specs.Places.{ItemOf}
 
 -- the outcomes so far, by their items' places, and the inputs that they are planned from
 pub record Progress : Type 0 where
   pub inputs : Inputs
   pub outcomes : List (Option ItemOf)
-
--- there is a place for each item, and each outcome is that of its item
-pub record AreOwn (s : Inputs) (outcomes : List (Option ItemOf)) : Type 0 where
-  pub size : length outcomes ≡ count s
-  pub own : (i : ℕ) (o : ItemOf) → slice_index_or outcomes i None ≡ Some o → o ≡ item_from s i
 
 abbrev pub IsFinished : Progress → ℕ → Type 0
 IsFinished p i = IsSome (slice_index_or p.outcomes i None)

@@ -1,3 +1,5 @@
 pub mod Explosion
 pub mod Finished
 pub mod Levels
+pub mod Work
+pub mod Workers

@@ -23,7 +23,8 @@ pub struct Finished {
 }
 
 impl Model for Finished {
-    ghost use Rattle.mrp_explode.specs.Finished.{AreOwn, Progress};
+    ghost use Rattle.mrp_board.specs.BoardState.{AreOwn};
+    ghost use Rattle.mrp_explode.specs.Finished.{Progress};
 
     ghost Value = { Progress };
 
@@ -40,7 +41,7 @@ fn too_large(item: usize) -> RunFault
 }
 
 // The plan that the outcomes of all items make, or why there is none. This takes no memory.
-fn plan_from(inputs: Arc<Inputs>, outcomes: Vec<Outcome>) -> Result<Plan, RunFault>
+pub(crate) fn plan_from(inputs: Arc<Inputs>, outcomes: Vec<Outcome>) -> Result<Plan, RunFault>
     requires { outcomes.items ≡ all_from inputs.value }
     ensures plan { Explodes inputs.value result }
     ensures told { IfErr result (λ fault. fault ≢ RunFault.NoMemory) }
@@ -51,8 +52,18 @@ fn plan_from(inputs: Arc<Inputs>, outcomes: Vec<Outcome>) -> Result<Plan, RunFau
     }
 }
 
+// A new reference to what items are planned from.
+pub(crate) fn share(inputs: &Arc<Inputs>) -> Result<Arc<Inputs>, NoMemory>
+    ensures { IfOk result (λ shared. shared.value ≡ inputs.now.value) }
+{
+    Ok(inputs.clone()?)
+}
+
 // The outcomes in a list of places of which none is empty.
-fn out_of_places(alloc: Global, outcomes: Vec<Option<Outcome>>) -> Result<Vec<Outcome>, NoMemory>
+pub(crate) fn out_of_places(
+    alloc: Global,
+    outcomes: Vec<Option<Outcome>>,
+) -> Result<Vec<Outcome>, NoMemory>
     requires { All IsSome outcomes.items }
     ensures { IfOk result (λ all. outcomes.items ≡ map Some all.items) }
 {
@@ -191,13 +202,6 @@ impl Finished {
         Ok(all)
     }
 
-    // A new reference to what the items are planned from.
-    fn share_inputs(&self) -> Result<Arc<Inputs>, NoMemory>
-        ensures { IfOk result (λ inputs. inputs.value ≡ self.now.inputs) }
-    {
-        Ok(self.inputs.clone()?)
-    }
-
     /// The plan of all items. The caller guarantees that each is finished. The outcomes are moved into the
     /// plan, and dropped on an error.
     ///
@@ -220,7 +224,7 @@ impl Finished {
         ensures { Explodes self.now.inputs result }
     {
         let outcomes = self.all(alloc)?;
-        let inputs = self.share_inputs()?;
+        let inputs = share(&self.inputs)?;
         plan_from(inputs, outcomes)
     }
 }

@@ -29,7 +29,7 @@ const ROOM: usize = 60_000;
 // The room that is reserved at an item: that of some items at once, or none. Once freed it stays in the
 // thread's own heap. A heap grows by what is asked for, otherwise by a page or two at a time, and while the
 // heap of one thread grows no other can.
-fn make_room(alloc: Global, item: usize) -> Result<Vec<u8>, NoMemory>
+pub(crate) fn make_room(alloc: Global, item: usize) -> Result<Vec<u8>, NoMemory>
     ensures room { IfOk result (λ room. vec_capacity room ≡ (if item % ITEMS_OF_ROOM == 0 then ROOM else 0)) }
     ensures refused { OnErr result (item % ITEMS_OF_ROOM ≡ 0) }
 {

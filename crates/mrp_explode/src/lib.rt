@@ -6,10 +6,15 @@ mod finished;
 mod gate;
 mod grouping;
 mod levels;
+mod pauses;
 mod serial;
+mod workers;
+mod working;
 
 pub use fault::RunFault;
 pub use finished::Finished;
 pub use gate::{Gate, OpenGate};
 pub use levels::explode_levels;
 pub use serial::explode_serial;
+pub use workers::{MOST_WORKERS, explode};
+pub use working::{Worker, work};

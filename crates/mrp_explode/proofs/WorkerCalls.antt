@@ -1,0 +1,198 @@
+-- What a worker's call adds to its own entries.
+use Rattle.std.proofs.Common.{◌≡◌, ◌∙◌, ◌<◌, ◌≤◌, ◌==◌, ◌⊎◌, ℕ, Bool, true, false, cond, List, [], ◌∷◌, ◌++◌, Option, Some, None, Result, Ok, Err, inl, inr, length, refl, sym, ap, subst, arith, append-nil, append_assoc}
+use Rattle.std.specs.Prelude.{IfOk, OnErr, OnOk, find, is_err, if◌then◌else◌, option_map}
+use Rattle.std.proofs.lemmas.List.{append_cancel_right}
+use Rattle.std.proofs.lemmas.List.Elements.{filter-append}
+use Rattle.mrp_turn.specs.Calls.{HasCause, Tells}
+use Rattle.mrp_turn.specs.Log.{entries_by, entry}
+use Rattle.mrp_turn.specs.declared.turn.CallFault.{CallFault}
+use Rattle.mrp_turn.specs.declared.turn.CallFault.TheVariants as fault
+use Rattle.mrp_turn.specs.declared.views.About.{About}
+use Rattle.mrp_item.specs.Inputs.{Inputs, places}
+use Rattle.mrp_item.specs.Places.{ItemOf}
+use Rattle.mrp_board.specs.declared.call.BoardCall.{BoardCall}
+use Rattle.mrp_board.specs.declared.call.BoardCall.TheVariants as call
+use Rattle.mrp_board.specs.declared.reply.BoardReply.{BoardReply}
+use Rattle.mrp_board.specs.declared.reply.BoardReply.TheVariants as reply
+use Rattle.mrp_board.specs.declared.refused.BoardRefused.{BoardRefused}
+use Rattle.mrp_board.specs.declared.refused.BoardRefused.TheVariants as refused
+use Rattle.mrp_board.specs.Board.{BoardEntry, BoardLog, IsLegalBoard, board_reply, handed, is_at_end, is_ready}
+use Rattle.mrp_board.specs.BoardState.{BoardState, board_reply_in}
+use Rattle.mrp_board.specs.Object.{Answers, IsOutOfMemory, Opens, Refuses}
+use Rattle.mrp_board.specs.Orderly.{IsCourse, finish_of, finished_by}
+use Rattle.mrp_board.proofs.BoardStates.{new-out}
+use Rattle.mrp_board.proofs.HandsOn.{hands-on}
+use Rattle.mrp_board.proofs.LegalLogs.{logs-legal}
+use Rattle.mrp_board.proofs.Tests.{no, same-number}
+use Rattle.mrp_explode.specs.Work.{Asks, GivesUp, HasGivenUp, Holds, HoldsNone, IsAtWork, IsDone}
+use Rattle.mrp_explode.proofs.HandedOnce.{finish-stored}
+
+-- what holds of a refusal
+pub on-err : {T E : Type 0} (r : Result T E) (P : Type 0) → is_err r ≡ true → OnErr r P → P
+on-err (Ok x) P is p = no is
+on-err (Err e) P is p = p
+
+-- an answered call is the last entry that the worker has seen, and its own last one
+record IsAnswered (s : Inputs) (who : ℕ) (c : BoardCall) (r : BoardReply) (mine seen' mine' : BoardLog) : Type 0 where
+  before : BoardLog
+  saw : seen' ≡ before ++ entry who c r ∷ []
+  legal : IsLegalBoard s seen'
+  own : entries_by who before ≡ mine
+  added : mine' ≡ mine ++ entry who c r ∷ []
+
+own-before : (who : ℕ) (c : BoardCall) (r : BoardReply) (before mine seen' mine' : BoardLog) → seen' ≡ before ++ entry who c r ∷ [] → mine' ≡ entries_by who seen' → mine' ≡ mine ++ entry who c r ∷ []
+    → entries_by who before ≡ mine
+own-before who c r before mine seen' mine' saw exact added =
+    let e : BoardEntry = entry who c r in
+    let more : entries_by who (before ++ e ∷ []) ≡ entries_by who before ++ cond (who == who) (e ∷ []) [] = filter-append (λ (x : BoardEntry). x.who == who) before (e ∷ []) in
+    let one : cond (who == who) (e ∷ []) [] ≡ e ∷ [] = ap (λ (b : Bool). cond b (e ∷ []) []) (same-number who who refl) in
+    append_cancel_right (entries_by who before) mine (e ∷ [])
+    (ap (λ (l : BoardLog). entries_by who before ++ l) (sym one) ∙ sym more ∙ ap (entries_by who) (sym saw) ∙ sym exact ∙ added)
+
+module _ (s : Inputs) (who : ℕ) where
+  -- what the lock says of a worker's call
+  abbrev Told : ℕ → BoardCall → BoardLog → BoardLog → Result (ℕ × BoardReply) (CallFault BoardRefused) → BoardLog → BoardLog → Type 0
+  Told room c seen mine result seen' mine' = Tells (Opens s) (Answers s) Refuses IsOutOfMemory room who c seen mine result seen' mine'
+
+  answered : (room : ℕ) (c : BoardCall) (seen mine : BoardLog) (n : ℕ) (r : BoardReply) (seen' mine' : BoardLog) → Told room c seen mine (Ok (n, r)) seen' mine' → IsAnswered s who c r mine seen' mine'
+  answered room c seen mine n r seen' mine' t = record {
+    before = t.last.0;
+    saw = t.last.1;
+    legal = logs-legal s seen' t.legal;
+    own = own-before who c r t.last.0 mine seen' mine' t.last.1 t.exact t.added;
+    added = t.added;
+  }
+
+  reply-is : (c : BoardCall) (r : BoardReply) (mine seen' mine' : BoardLog) → (a : IsAnswered s who c r mine seen' mine') → board_reply s a.before who c ≡ Some r
+  reply-is c r mine seen' mine' a = (a.legal a.before (entry who c r) [] a.saw).1
+
+  -- It asks for an item.
+
+  take-replies : (log : BoardLog) (b : Bool) (o : Option ℕ) (r : BoardReply) → (if b then Some reply.AllOut else option_map (handed s log) o) ≡ Some r → (r ≡ reply.AllOut) ⊎ ((i : ℕ) × (r ≡ handed s log i))
+  take-replies log true o r e = inl (let n : Some reply.AllOut ≡ Some r = e in cc)
+  take-replies log false None r e = absurd (let n : None ≡ Some r = e in cc)
+  take-replies log false (Some i) r e = inr (i, let n : Some (handed s log i) ≡ Some r = e in cc)
+
+  asked : (r : BoardReply) (mine seen' mine' : BoardLog) → IsAnswered s who call.Take r mine seen' mine' → Asks s who mine (Some r) mine'
+  asked r mine seen' mine' a = by r a (take-replies a.before (is_at_end s a.before) (find (is_ready s a.before) (places s)) r (reply-is call.Take r mine seen' mine' a))
+    where
+      by : (r : BoardReply) (a : IsAnswered s who call.Take r mine seen' mine') → (r ≡ reply.AllOut) ⊎ ((i : ℕ) × (r ≡ handed s a.before i)) → Asks s who mine (Some r) mine'
+      by reply.AllOut a is = a.added
+      by (reply.Item item parents) a is = (
+        a.added,
+        (new-out s a.before who item call.Take (reply.Item item parents) (reply-is call.Take (reply.Item item parents) mine seen' mine' a) (same-number item item refl)).1,
+        (hands-on s seen' a.legal).given a.before [] who item parents a.saw,
+      )
+      by reply.Stored a (inl e) = cc
+      by reply.Stored a (inr (i, e)) = cc
+      by reply.NotOut a (inl e) = cc
+      by reply.NotOut a (inr (i, e)) = cc
+      by reply.Stopped a (inl e) = cc
+      by reply.Stopped a (inr (i, e)) = cc
+
+  pub asks-told : (room : ℕ) (seen mine : BoardLog) (result : Result (ℕ × BoardReply) (CallFault BoardRefused)) (seen' mine' : BoardLog) → Told room call.Take seen mine result seen' mine'
+      → IfOk result (λ r. Asks s who mine (Some r.1) mine')
+  asks-told room seen mine (Ok (n, r)) seen' mine' t = asked r mine seen' mine' (answered room call.Take seen mine n r seen' mine' t)
+  asks-told room seen mine (Err f) seen' mine' t = tt
+
+  -- It finishes the item that it holds.
+
+  finished-more : (items : List (ℕ × List ItemOf)) (item : ℕ) (parents : List ItemOf)
+      → (finished_by s who items ++ entry who call.Take (reply.Item item parents) ∷ []) ++ entry who (finish_of s item) reply.Stored ∷ [] ≡ finished_by s who (items ++ (item, parents) ∷ [])
+  finished-more [] item parents = refl
+  finished-more (x ∷ items) item parents =
+      ap (λ (l : BoardLog). entry who call.Take (reply.Item x.0 x.1) ∷ entry who (finish_of s x.0) reply.Stored ∷ l) (finished-more items item parents)
+
+  finished : (o : ItemOf) (r : BoardReply) (mine seen' mine' : BoardLog) → o.inputs ≡ s → Holds s who o.item mine → IsAnswered s who (call.Finish o) r mine seen' mine' → HoldsNone s who mine'
+  finished o r mine seen' mine' own (items, parents, is) a =
+      let told : r ≡ reply.Stored = finish-stored s a.before who o items parents r (subst (IsLegalBoard s) a.saw a.legal) (a.own ∙ is) in
+      let finish : call.Finish o ≡ finish_of s o.item = ap (λ (x : Inputs). call.Finish (record { inputs = x; item = o.item })) own in (
+        items ++ (o.item, parents) ∷ [],
+        a.added
+            ∙ ap (λ (l : BoardLog). l ++ entry who (call.Finish o) r ∷ []) is
+            ∙ (λ i. (finished_by s who items ++ entry who call.Take (reply.Item o.item parents) ∷ []) ++ entry who (finish i) (told i) ∷ [])
+            ∙ finished-more items o.item parents,
+      )
+
+  pub finish-told : (room : ℕ) (o : ItemOf) (seen mine : BoardLog) (result : Result (ℕ × BoardReply) (CallFault BoardRefused)) (seen' mine' : BoardLog) → o.inputs ≡ s → Holds s who o.item mine
+      → Told room (call.Finish o) seen mine result seen' mine' → OnOk result (HoldsNone s who mine')
+  finish-told room o seen mine (Ok (n, r)) seen' mine' own holds t = finished o r mine seen' mine' own holds (answered room (call.Finish o) seen mine n r seen' mine' t)
+  finish-told room o seen mine (Err f) seen' mine' own holds t = tt
+
+  -- It gives up.
+
+  -- the board never refuses that
+  stops : (b : BoardState) (e : BoardRefused) → IsOutOfMemory b who call.GiveUp e ⊎ Refuses b who call.GiveUp e → ⊥
+  stops b refused.NotYet (inl e) = e
+  stops b refused.NotYet (inr e) = let n : Some reply.Stopped ≡ None = e in cc
+  stops b refused.NoMemory (inl e) = e
+  stops b refused.NoMemory (inr e) = e
+
+  log-full : (room : ℕ) (seen' : BoardLog) (f : CallFault BoardRefused) → HasCause (Opens s) (Answers s) Refuses IsOutOfMemory room who call.GiveUp seen' f → room ≤ length seen'
+  log-full room seen' fault.NoMemory full = full
+  log-full room seen' (fault.Refused e) (b, leads, cause) = absurd (stops b e cause)
+
+  given-up : (r : BoardReply) (mine seen' mine' : BoardLog) → IsAtWork s who mine → IsAnswered s who call.GiveUp r mine seen' mine' → HasGivenUp s who mine'
+  given-up r mine seen' mine' at_work a =
+      let is : Some reply.Stopped ≡ Some r = reply-is call.GiveUp r mine seen' mine' a in
+      let told : reply.Stopped ≡ r = cc in
+      (mine, at_work, a.added ∙ ap (λ (x : BoardReply). mine ++ entry who call.GiveUp x ∷ []) (sym told))
+
+  pub gives-up-told : (room : ℕ) (seen mine : BoardLog) (result : Result (ℕ × BoardReply) (CallFault BoardRefused)) (seen' mine' : BoardLog) → IsAtWork s who mine
+      → Told room call.GiveUp seen mine result seen' mine' → HasGivenUp s who mine' ⊎ ((mine' ≡ mine) × (room ≤ length seen'))
+  gives-up-told room seen mine (Ok (n, r)) seen' mine' at_work t = inl (given-up r mine seen' mine' at_work (answered room call.GiveUp seen mine n r seen' mine' t))
+  gives-up-told room seen mine (Err f) seen' mine' at_work t = inr (t.unchanged, log-full room seen' f t.cause)
+
+  -- Each of these is a course.
+
+  course-at_work : (mine : BoardLog) → IsAtWork s who mine → IsCourse s who mine
+  course-at_work mine (inl (items, is)) = record {
+    items = items;
+    last = entry who call.GiveUp reply.Stopped ∷ [];
+    left = entry who call.GiveUp reply.Stopped ∷ [];
+    ends = inr (inl refl);
+    prefix = ap (λ (l : BoardLog). l ++ entry who call.GiveUp reply.Stopped ∷ []) (sym is);
+  }
+  course-at_work mine (inr (item, (items, parents, is))) = record {
+    items = items;
+    last = entry who call.Take (reply.Item item parents) ∷ entry who call.GiveUp reply.Stopped ∷ [];
+    left = entry who call.GiveUp reply.Stopped ∷ [];
+    ends = inr (inr (item, parents, refl));
+    prefix =
+        sym (append_assoc (finished_by s who items) (entry who call.Take (reply.Item item parents) ∷ []) (entry who call.GiveUp reply.Stopped ∷ []))
+        ∙ ap (λ (l : BoardLog). l ++ entry who call.GiveUp reply.Stopped ∷ []) (sym is);
+  }
+
+  course-given_up : (mine : BoardLog) → HasGivenUp s who mine → IsCourse s who mine
+  course-given_up mine (before, inl (items, is), ends) = record {
+    items = items;
+    last = entry who call.GiveUp reply.Stopped ∷ [];
+    left = [];
+    ends = inr (inl refl);
+    prefix = ap (λ (l : BoardLog). l ++ entry who call.GiveUp reply.Stopped ∷ []) (sym is) ∙ sym ends ∙ sym (append-nil mine);
+  }
+  course-given_up mine (before, inr (item, (items, parents, is)), ends) = record {
+    items = items;
+    last = entry who call.Take (reply.Item item parents) ∷ entry who call.GiveUp reply.Stopped ∷ [];
+    left = [];
+    ends = inr (inr (item, parents, refl));
+    prefix =
+        sym (append_assoc (finished_by s who items) (entry who call.Take (reply.Item item parents) ∷ []) (entry who call.GiveUp reply.Stopped ∷ []))
+        ∙ ap (λ (l : BoardLog). l ++ entry who call.GiveUp reply.Stopped ∷ []) (sym is)
+        ∙ sym ends
+        ∙ sym (append-nil mine);
+  }
+
+  pub course-done : (mine : BoardLog) → IsDone s who mine → IsCourse s who mine
+  course-done mine (items, is) = record {
+    items = items;
+    last = entry who call.Take reply.AllOut ∷ [];
+    left = [];
+    ends = inl refl;
+    prefix = sym is ∙ sym (append-nil mine);
+  }
+
+  -- it left off in giving up
+  pub course-left : (room : ℕ) (mine seen' mine' : BoardLog) → IsAtWork s who mine → HasGivenUp s who mine' ⊎ ((mine' ≡ mine) × (room ≤ length seen')) → IsCourse s who mine'
+  course-left room mine seen' mine' at_work (inl given) = course-given_up mine' given
+  course-left room mine seen' mine' at_work (inr (same, full)) = course-at_work mine' (subst (IsAtWork s who) (sym same) at_work)
