@@ -11,7 +11,7 @@ use Rattle.mrp_engine.proofs.live.plan_live.Goals as goal
 pub plan_history-requires : goal.plan_history-requires
 plan_history-requires g c =
     let same : c.in_ok-rows.rows.value ≡ c.args.shop = c.in_ok-rows.ensures ∙ c.in_ok-shop.ensures.shop in
-    (search (sendable, crosses) depth 40, record { supply = c.in_ok-shop.ensures.supply ∙ ap (λ (s : Shop). supply_of s.tables) (sym same); workers = c.requires.workers })
+    (search (sendable, crosses) depth 40, (c.in_ok-shop.ensures.supply ∙ ap (λ (s : Shop). supply_of s.tables) (sym same), c.requires.workers))
 
 pub returns : goal.returns
 returns g c =

@@ -12,7 +12,7 @@ use Rattle.mrp_engine.proofs.day.run.plan_day.Goals as goal
 pub plan_history-requires : goal.plan_history-requires
 plan_history-requires g c = (
   search (sendable, crosses) depth 40,
-  record { supply = c.in_ok-history.ensures.supply ∙ ap (λ (s : Shop). supply_of s.tables) (sym c.in_ok-history.ensures.rows); workers = c.requires.workers },
+  (c.in_ok-history.ensures.supply ∙ ap (λ (s : Shop). supply_of s.tables) (sym c.in_ok-history.ensures.rows), c.requires.workers),
 )
 
 pub returns : goal.returns
