@@ -11,6 +11,7 @@ use std::process::Abort;
 use std::test::Fail;
 
 mod bills;
+mod boards;
 mod books;
 mod bundles;
 mod calendars;
