@@ -35,6 +35,7 @@ mod turns;
 mod versions;
 mod weeks;
 mod worked;
+mod workers;
 
 // The greatest quantity.
 const MOST: u64 = 1_000_000_000_000_000;

@@ -1,18 +1,36 @@
-//! Plans of all items: explosion on one thread and by low-level codes give the same.
+//! Plans of all items: explosion on one thread, by low-level codes and by workers give the same.
+
+ghost use Rattle.std.specs.Int.{IsInRange};
+ghost use Rattle.mrp_explode.specs.declared.workers.TheConstants.{MOST_WORKERS};
 
 use super::reports::has_report;
 use super::texts::{BICYCLE_REPORT, LOTS_REPORT, SCREW_REPORT};
 use super::{made, same};
-use mrp_explode::{RunFault, explode_levels, explode_serial};
+use mrp_explode::{OpenGate, RunFault, explode, explode_levels, explode_serial};
 use mrp_item::Inputs;
 use sample_shops::{Records, bicycles, bicycles_in_lots, chain, fork, morning, no_records, screws};
 use std::alloc::Global;
 use std::process::Abort;
-use std::sync::Arc;
+use std::sync::{Arc, Wait};
 use std::thread::Threads;
 
-// Fails unless both calls give the plan with this report.
-fn explodes<R: Alloc + Abort + Threads + Sync>(
+// Fails unless so many workers make the plan with this report.
+fn explodes_by<R: Alloc + Abort + Threads + Wait + Sync>(
+    rt: &R,
+    alloc: Global,
+    inputs: &Arc<Inputs>,
+    workers: usize,
+    want: &str,
+)
+    requires { IsInRange 1 MOST_WORKERS workers }
+{
+    let plan = explode(rt, alloc, inputs, workers, &OpenGate).expect(rt, "a plan");
+    has_report(rt, alloc, &plan, want);
+    drop(plan);
+}
+
+// Fails unless all calls give the plan with this report.
+fn explodes<R: Alloc + Abort + Threads + Wait + Sync>(
     rt: &R,
     alloc: Global,
     inputs: &Arc<Inputs>,
@@ -23,13 +41,24 @@ fn explodes<R: Alloc + Abort + Threads + Sync>(
     has_report(rt, alloc, &serial, want);
     has_report(rt, alloc, &levels, want);
     drop((serial, levels));
+    explodes_by(rt, alloc, inputs, 1, want);
+    explodes_by(rt, alloc, inputs, 2, want);
+    explodes_by(rt, alloc, inputs, 8, want);
+    explodes_by(rt, alloc, inputs, 64, want);
 }
 
-// Fails unless both calls refuse the plan with this item.
-fn is_refused<R: Abort + Threads + Sync>(rt: &R, alloc: Global, inputs: &Arc<Inputs>, item: usize) {
+// Fails unless all calls refuse the plan with this item.
+fn is_refused<R: Abort + Threads + Wait + Sync>(
+    rt: &R,
+    alloc: Global,
+    inputs: &Arc<Inputs>,
+    item: usize,
+) {
     let over = Some(RunFault::TooLarge { item });
     same(rt, explode_serial(alloc, inputs).err(), over);
     same(rt, explode_levels(rt, alloc, inputs).err(), over);
+    same(rt, explode(rt, alloc, inputs, 1, &OpenGate).err(), over);
+    same(rt, explode(rt, alloc, inputs, 8, &OpenGate).err(), over);
 }
 
 #[test]
