@@ -1,72 +1,16 @@
-//! Workers at the board of a run: the order in which one works, and that several plan at the same time.
+//! Workers at the board of a run plan at the same time.
 
 ghost use Rattle.std.specs.Int.{IsInRange};
 ghost use Rattle.mrp_explode.specs.declared.workers.TheConstants.{MOST_WORKERS};
 
 use super::{made, same};
-use mrp_board::{Board, BoardCall, BoardReply};
-use mrp_explode::{Gate, OpenGate, explode, work};
-use mrp_item::Inputs;
-use mrp_turn::{Log, Turn};
-use sample_shops::{Records, bicycles, no_records};
+use mrp_explode::{Gate, explode};
+use sample_shops::{Records, no_records};
 use std::alloc::Global;
 use std::process::Abort;
 use std::sync::atomic::{AtomicU64, Ordering};
-use std::sync::{Arc, Wait};
+use std::sync::Wait;
 use std::thread::{Threads, yield_now};
-
-// An entry of a board's log: what was called, the reply, and the item that was handed out, or 0.
-type Told = (&'static str, &'static str, usize);
-
-fn told(call: &BoardCall, reply: &BoardReply) -> Told {
-    let called = match call {
-        BoardCall::Take => "take",
-        BoardCall::Finish(_) => "finish",
-        BoardCall::GiveUp => "give-up",
-    };
-    match reply {
-        BoardReply::AllOut => (called, "all-out", 0),
-        BoardReply::Item(item, _) => (called, "item", *item),
-        BoardReply::Stored => (called, "stored", 0),
-        BoardReply::NotOut => (called, "not-out", 0),
-        BoardReply::Stopped => (called, "stopped", 0),
-    }
-}
-
-// The log that one worker leaves.
-fn log_of_one<R: Wait + Abort>(
-    rt: &R,
-    alloc: Global,
-    inputs: &Arc<Inputs>,
-) -> Log<BoardCall, BoardReply> {
-    let (board, state) = Board::open(alloc, inputs).expect(rt, "memory");
-    let (turn, mut workers) = Turn::new(alloc, board, state, 0, 1).expect(rt, "a lock");
-    assert!(rt; workers.len() == 1);
-    work(rt, alloc, &turn, &mut workers[0], inputs, &OpenGate).expect(rt, "memory");
-    let (state, log) = turn.close(workers);
-    drop(state);
-    log
-}
-
-#[test]
-fn a_worker_finishes_each_item_before_it_takes_the_next(rt: HostRuntime) {
-    const WORKED: &[Told] = &[
-        ("take", "item", 0),
-        ("finish", "stored", 0),
-        ("take", "item", 1),
-        ("finish", "stored", 0),
-        ("take", "item", 2),
-        ("finish", "stored", 0),
-        ("take", "all-out", 0),
-    ];
-    let inputs = made(&rt, bicycles().inputs(rt.alloc(), &[]));
-    let log = log_of_one(&rt, rt.alloc(), &inputs);
-    same(&rt, log.len(), WORKED.len());
-    for (entry, want) in log.entries().iter().zip(WORKED) {
-        same(&rt, told(&entry.call, &entry.reply), *want);
-    }
-    drop((inputs, log));
-}
 
 const MOST_TURNS: u64 = 10_000_000;
 
