@@ -8,10 +8,11 @@ use mrp_rows::{Name, Told};
 use sample_shops::{Records, bicycles_in_lots, tower};
 use std::alloc::Global;
 use std::process::Abort;
+use std::sync::Wait;
 use std::thread::Threads;
 
 // What making the day of a bundle wrote. Fails unless it ended like this.
-fn day_of<R: Alloc + Abort + Threads + Sync>(
+fn day_of<R: Alloc + Abort + Threads + Wait + Sync>(
     rt: &R,
     alloc: Global,
     bundle: &str,
