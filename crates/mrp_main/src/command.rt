@@ -62,7 +62,7 @@ script without a run is taken with one more call, a run of desk 1 after all othe
 Bundles, --dir and the sections that are written are those of `mrp plan`: see `mrp plan --help`.";
 
 const ABOUT_WORKERS: &str =
-    "How many threads make the rows of a report, from 1 to 64; those that plan items and load work centres are as many as the machine has processors for, and each desk of a live day has one, whatever N is";
+    "How many threads plan the items of a run and make the rows of a report, from 1 to 64; those that load work centres are as many as the machine has processors for, and each desk of a live day has one, whatever N is";
 
 const ABOUT_DIR: &str =
     "A folder, whose files calendar.csv, items.csv and so on are planned in place of standard input";
