@@ -276,10 +276,18 @@ const WHEEL_PEGS: &[Cells] = &[
     (2, None, Supplied::Order(2), 41),
 ];
 
+// Fails unless these are the pegs of the last item of a plan.
+fn has_last_pegs(rt: &impl Abort, alloc: Global, plan: &Plan, want: &[Cells]) {
+    let items = plan.inputs().shop().tables().items().len();
+    assert!(rt; items > 0);
+    let own = item_pegs(alloc, plan, items - 1).expect(rt, "pegs");
+    are_pegs(rt, own.as_slice(), want);
+    drop(own);
+}
+
 #[test]
 fn service_part_demand_is_a_requirement(rt: HostRuntime) {
     let plan = made(&rt, bicycles_with_service().plan(rt.alloc(), morning()));
-    let wheels = item_pegs(rt.alloc(), &plan, 2).expect(&rt, "pegs");
-    are_pegs(&rt, wheels.as_slice(), WHEEL_PEGS);
-    drop((plan, wheels));
+    has_last_pegs(&rt, rt.alloc(), &plan, WHEEL_PEGS);
+    drop(plan);
 }
