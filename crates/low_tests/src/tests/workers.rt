@@ -8,8 +8,8 @@ use mrp_explode::{Gate, explode};
 use sample_shops::{Records, no_records};
 use std::alloc::Global;
 use std::process::Abort;
-use std::sync::atomic::{AtomicU64, Ordering};
 use std::sync::Wait;
+use std::sync::atomic::{AtomicU64, Ordering};
 use std::thread::{Threads, yield_now};
 
 const MOST_TURNS: u64 = 10_000_000;
