@@ -1,0 +1,143 @@
+//! Workers at the board of a run: the order in which one works, and that several plan at the same time.
+
+ghost use Rattle.std.specs.Int.{IsInRange};
+ghost use Rattle.mrp_explode.specs.declared.workers.TheConstants.{MOST_WORKERS};
+
+use super::{made, same};
+use mrp_board::{Board, BoardCall, BoardReply};
+use mrp_explode::{Gate, OpenGate, explode, work};
+use mrp_item::Inputs;
+use mrp_turn::{Log, Turn};
+use sample_shops::{Records, bicycles, no_records};
+use std::alloc::Global;
+use std::process::Abort;
+use std::sync::atomic::{AtomicU64, Ordering};
+use std::sync::{Arc, Wait};
+use std::thread::{Threads, yield_now};
+
+// An entry of a board's log: what was called, the reply, and the item that was handed out, or 0.
+type Told = (&'static str, &'static str, usize);
+
+fn told(call: &BoardCall, reply: &BoardReply) -> Told {
+    let called = match call {
+        BoardCall::Take => "take",
+        BoardCall::Finish(_) => "finish",
+        BoardCall::GiveUp => "give-up",
+    };
+    match reply {
+        BoardReply::AllOut => (called, "all-out", 0),
+        BoardReply::Item(item, _) => (called, "item", *item),
+        BoardReply::Stored => (called, "stored", 0),
+        BoardReply::NotOut => (called, "not-out", 0),
+        BoardReply::Stopped => (called, "stopped", 0),
+    }
+}
+
+// The log that one worker leaves.
+fn log_of_one<R: Wait + Abort>(
+    rt: &R,
+    alloc: Global,
+    inputs: &Arc<Inputs>,
+) -> Log<BoardCall, BoardReply> {
+    let (board, state) = Board::open(alloc, inputs).expect(rt, "memory");
+    let (turn, mut workers) = Turn::new(alloc, board, state, 0, 1).expect(rt, "a lock");
+    assert!(rt; workers.len() == 1);
+    work(rt, alloc, &turn, &mut workers[0], inputs, &OpenGate).expect(rt, "memory");
+    let (state, log) = turn.close(workers);
+    drop(state);
+    log
+}
+
+#[test]
+fn a_worker_finishes_each_item_before_it_takes_the_next(rt: HostRuntime) {
+    const WORKED: &[Told] = &[
+        ("take", "item", 0),
+        ("finish", "stored", 0),
+        ("take", "item", 1),
+        ("finish", "stored", 0),
+        ("take", "item", 2),
+        ("finish", "stored", 0),
+        ("take", "all-out", 0),
+    ];
+    let inputs = made(&rt, bicycles().inputs(rt.alloc(), &[]));
+    let log = log_of_one(&rt, rt.alloc(), &inputs);
+    same(&rt, log.len(), WORKED.len());
+    for (entry, want) in log.entries().iter().zip(WORKED) {
+        same(&rt, told(&entry.call, &entry.reply), *want);
+    }
+    drop((inputs, log));
+}
+
+const MOST_TURNS: u64 = 10_000_000;
+
+/// Waits until a count has come so far, and returns whether it did.
+pub fn comes_to(came: &AtomicU64, count: u64) -> bool {
+    for _ in 0..MOST_TURNS {
+        if came.load(Ordering::SeqCst) >= count {
+            return true;
+        }
+        yield_now();
+    }
+    false
+}
+
+// A gate that lets nobody pass until so many have come. Whoever gives up waiting is counted.
+#[derive(Drop)]
+struct AllCome {
+    count: u64,
+    came: AtomicU64,
+    given_up: AtomicU64,
+}
+
+impl Gate for AllCome {
+    fn pass<R: Wait>(&self, _rt: &R, _item: usize) {
+        let _before = self.came.fetch_add(1, Ordering::SeqCst);
+        if !comes_to(&self.came, self.count) {
+            let _before = self.given_up.fetch_add(1, Ordering::SeqCst);
+        }
+    }
+}
+
+// Eight items without bills, of which two are the first.
+const EIGHT: &str = "\
+A,master,0,0,lfl,0,0\n\
+B,master,0,0,lfl,0,0\n\
+C,master,0,0,lfl,0,0\n\
+D,master,0,0,lfl,0,0\n\
+E,master,0,0,lfl,0,0\n\
+F,master,0,0,lfl,0,0\n\
+G,master,0,0,lfl,0,0\n\
+H,master,0,0,lfl,0,0\n";
+
+const TWO: &str = "A,master,0,0,lfl,0,0\nB,master,0,0,lfl,0,0\n";
+
+// Fails unless as many workers as the shop has items are at work at the same time.
+fn all_come<R: Alloc + Abort + Threads + Wait + Sync>(
+    rt: &R,
+    alloc: Global,
+    items: &str,
+    workers: usize,
+)
+    requires { IsInRange 1 MOST_WORKERS workers }
+{
+    let shop = Records {
+        items,
+        ..no_records()
+    };
+    let inputs = made(rt, shop.inputs(alloc, &[]));
+    let gate = AllCome {
+        count: workers as u64,
+        came: AtomicU64::new(0),
+        given_up: AtomicU64::new(0),
+    };
+    let plan = explode(rt, alloc, &inputs, workers, &gate).expect(rt, "a plan");
+    same(rt, gate.came.load(Ordering::SeqCst), workers as u64);
+    same(rt, gate.given_up.load(Ordering::SeqCst), 0);
+    drop((inputs, plan));
+}
+
+#[test]
+fn workers_plan_at_the_same_time(rt: HostRuntime) {
+    all_come(&rt, rt.alloc(), TWO, 2);
+    all_come(&rt, rt.alloc(), EIGHT, 8);
+}
