@@ -234,7 +234,7 @@ fn what_starts_is_required_and_what_is_left_is_surplus(rt: HostRuntime) {
     drop(plan);
 }
 
-// The pegs of wheels: row 5 of the master schedule needs 7 of them in week 3, besides what bicycles need.
+// The pegs of wheels: record 5 of the master schedule needs 7 of them in week 3, besides what bicycles need.
 const WHEEL_PEGS: &[Cells] = &[
     (
         2,
