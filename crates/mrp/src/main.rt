@@ -1,10 +1,11 @@
 //! The program `mrp`: plans a shop's materials from a bundle of tables.
 #![tactic(auto)]
 
-use mrp_main::{
-    Hint, QuietErrors, SeenInput, SeenOutput, Sights, begins_utf16, has_stray_word, run_words,
-};
+use mrp_main::run_words;
 use mrp_rows::Told;
+use mrp_words::{
+    Hint, QuietErrors, SeenInput, SeenOutput, Sights, begins_utf16, has_stray_word,
+};
 use std::fs::File;
 use std::io::{ErrorKind, Read};
 use std::path::Path;

@@ -10,7 +10,7 @@ use Rattle.mrp_rows.specs.Told.{failures_of, inner_of}
 use Rattle.mrp_engine.specs.declared.day.fault.DayFault.{DayFault}
 use Rattle.mrp_engine.specs.declared.day.fault.DayFault.TheVariants as fault
 use Rattle.mrp_engine.specs.day.Run.{HasNotFailed, HasPassedLimits, IsAfterReading, IsReadWithin, MakesDay, WritesDay}
-use Rattle.mrp_main.specs.declared.day.DayCommand.{DayCommand}
+use Rattle.mrp_words.specs.declared.day.DayCommand.{DayCommand}
 use Rattle.mrp_main.specs.declared.ending.Ending.{Ending}
 use Rattle.mrp_main.specs.declared.ending.Ending.TheVariants.{Done, Refused, TooLarge, WrongShape, Wrong, NoRun, Usage, NoMemory, Read, Write}
 use Rattle.mrp_main.specs.Ends.{BundleEnds, DayEnds, DayWrites, HasReadAll, IsEndOf, answering}

@@ -9,7 +9,7 @@ use Rattle.mrp_report.specs.Written.{HasGivenUp, HasGoneOn}
 use Rattle.mrp_page.specs.Reading.{HasStopped, IsNoDay, is_write_fault}
 use Rattle.mrp_page.specs.declared.fault.PageFault.{PageFault}
 use Rattle.mrp_page.specs.declared.fault.PageFault.TheVariants as fault
-use Rattle.mrp_main.specs.declared.page_words.PageWords.{PageWords}
+use Rattle.mrp_words.specs.declared.page_words.PageWords.{PageWords}
 use Rattle.mrp_main.specs.declared.ending.Ending.{Ending}
 use Rattle.mrp_main.specs.declared.ending.Ending.TheVariants.{Done}
 use Rattle.mrp_page.specs.Spot.{Names}

@@ -14,7 +14,7 @@ use Rattle.mrp_audit.specs.declared.fault.AuditFault.TheVariants as found
 use Rattle.mrp_audit.specs.Verdict.{Judges}
 use Rattle.mrp_main.specs.declared.ending.Ending.{Ending}
 use Rattle.mrp_main.specs.declared.ending.Ending.TheVariants.{Done, Wrong, NoMemory, Write}
-use Rattle.mrp_main.specs.Folder.{IsReadFrom, Known}
+use Rattle.mrp_words.specs.Folder.{IsReadFrom, Known}
 use Rattle.mrp_main.specs.Refusal.{TellsFault, end_of_read}
 
 -- the text that a reader had left, of any length, and it is at its end; or why it was not read: a read failed, or there

@@ -17,21 +17,21 @@ use Rattle.mrp_engine.specs.day.RightDay.{AnswersDesks}
 use Rattle.mrp_engine.specs.day.Run.{HasNotFailed, HasPassedLimits, HasTakenAll, IsRead, IsReadWithin, TellsDayBy, WritesFrontBy}
 use Rattle.mrp_engine.specs.declared.day.fault.DayFault.{DayFault}
 use Rattle.mrp_engine.specs.declared.day.fault.DayFault.TheVariants as fault
-use Rattle.mrp_main.specs.declared.command.Request.{Request}
-use Rattle.mrp_main.specs.declared.command.Request.TheVariants.{Check, Day, Page}
-use Rattle.mrp_main.specs.declared.day.DayCommand.{DayCommand}
-use Rattle.mrp_main.specs.declared.day.DayCommand.TheVariants.{Plan, Live}
-use Rattle.mrp_main.specs.declared.command.NoRequest.{NoRequest}
-use Rattle.mrp_main.specs.declared.command.NoRequest.TheVariants as none
+use Rattle.mrp_words.specs.declared.command.Request.{Request}
+use Rattle.mrp_words.specs.declared.command.Request.TheVariants.{Check, Day, Page}
+use Rattle.mrp_words.specs.declared.day.DayCommand.{DayCommand}
+use Rattle.mrp_words.specs.declared.day.DayCommand.TheVariants.{Plan, Live}
+use Rattle.mrp_words.specs.declared.command.NoRequest.{NoRequest}
+use Rattle.mrp_words.specs.declared.command.NoRequest.TheVariants as none
 use Rattle.mrp_main.specs.declared.ending.Ending.{Ending}
 use Rattle.mrp_main.specs.declared.ending.Ending.TheVariants.{Done, Refused, TooLarge, WrongShape, Wrong, NoRun, Usage, NoMemory, Read, Write}
 use Rattle.mrp_main.specs.declared.status.Status.TheVariants as status
 use Rattle.mrp_main.specs.Status.{code_of, status_of}
-use Rattle.mrp_main.specs.Folder.{IsReadFrom, Known, nothing_known}
+use Rattle.mrp_words.specs.Folder.{IsReadFrom, Known, nothing_known}
 use Rattle.mrp_main.specs.PageEnds.{PageEnds}
 use Rattle.mrp_main.specs.Refusal.{TellsFault}
 use Rattle.mrp_main.specs.CheckEnds.{CheckEnds}
-use Rattle.mrp_main.specs.Words.{Asks}
+use Rattle.mrp_words.specs.Words.{Asks}
 
 -- how a command answers the script: `plan` in row order, `live` desk by desk
 abbrev pub answering : DayCommand → Answering

@@ -1,9 +1,5 @@
-pub mod Words
-pub mod Folder
 pub mod Status
 pub mod PageEnds
 pub mod Refusal
 pub mod CheckEnds
 pub mod Ends
-pub mod Help
-pub mod Hints

@@ -12,7 +12,7 @@ use Rattle.mrp_page.specs.Spot.{Names}
 use Rattle.mrp_page.specs.Written.{IsPageOf}
 use Rattle.mrp_page.specs.declared.fault.PageFault.{PageFault}
 use Rattle.mrp_page.specs.declared.fault.PageFault.TheVariants as fault
-use Rattle.mrp_main.specs.declared.page_words.PageWords.{PageWords}
+use Rattle.mrp_words.specs.declared.page_words.PageWords.{PageWords}
 use Rattle.mrp_main.specs.declared.ending.Ending.{Ending}
 use Rattle.mrp_main.specs.declared.ending.Ending.TheVariants.{Done, Refused, TooLarge, WrongShape, Wrong, NoRun, Usage, NoMemory, Read, Write}
 

@@ -6,10 +6,10 @@ ghost use Rattle.mrp_main.specs.CheckEnds.{AreRead, CheckEnds, Says, TellsAudit,
 ghost use Rattle.mrp_main.specs.declared.ending.Ending.TheVariants as end;
 
 use crate::ending::{Ending, write_line};
-use crate::files::{FileStore, read_folder};
 use itoa::Buffer;
 use mrp_audit::{AuditFault, check};
 use mrp_rows::{READ_CALLS, ReadFault, Told, fault_text, read_within};
+use mrp_words::{FileStore, read_folder};
 use std::alloc::Global;
 use std::io::{Read, Write};
 use std::thread::Threads;

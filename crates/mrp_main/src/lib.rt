@@ -3,19 +3,9 @@
 #![tactic(auto)]
 
 mod check;
-mod check_words;
-mod command;
-mod day;
 mod ending;
-mod files;
-mod hint;
-pub mod laws;
 mod page;
-mod page_words;
 mod run;
-mod sights;
 mod status;
 
-pub use hint::{Hint, has_stray_word};
 pub use run::run_words;
-pub use sights::{QuietErrors, SeenInput, SeenOutput, Sights, begins_utf16};

@@ -9,10 +9,10 @@ ghost use Rattle.mrp_page.specs.Reading.{HasStopped, IsNoDay, is_write_fault};
 ghost use Rattle.mrp_main.specs.PageEnds.{IsPageBy, LacksRunBy, PageEnds, names_in, title_of};
 
 use crate::ending::Ending;
-use crate::page_words::PageWords;
 use mrp_page::{ItemNames, PageFault, PageOptions, write_page};
 use mrp_qty::NoMemory;
 use mrp_rows::{Told, WRITE_TRIES};
+use mrp_words::PageWords;
 use std::alloc::Global;
 use std::io::{Read, Write};
 

@@ -5,16 +5,14 @@ ghost use Rattle.std.specs.Int.{IsInRange};
 ghost use Rattle.mrp_rows.specs.declared.streams.TheConstants.{GREATEST_BUNDLE};
 ghost use Rattle.std.specs.Result.{ForOk};
 ghost use Rattle.mrp_main.specs.Ends.{BundleEnds, DayEnds, Ends, FolderEnds, HelpEnds, IsDone, RequestEnds};
-ghost use Rattle.mrp_main.specs.Words.{HasWorkers};
+ghost use Rattle.mrp_words.specs.Words.{HasWorkers};
 
 use crate::check::check_day;
-use crate::command::{NoRequest, Request, read_words};
-use crate::day::DayCommand;
 use crate::ending::Ending;
-use crate::files::{FileStore, read_folder};
 use crate::page::make_page;
 use mrp_engine::{MOST_WORKERS, live_bundle, live_day, run_bundle, run_day};
 use mrp_rows::{Told, Tries, write_text};
+use mrp_words::{DayCommand, FileStore, NoRequest, Request, read_folder, read_words};
 use std::alloc::Global;
 use std::convert::AsStr;
 use std::io::{Read, Write};

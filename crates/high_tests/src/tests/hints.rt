@@ -2,7 +2,7 @@
 
 use super::same;
 use super::streams::{Turn, writer};
-use mrp_main::{Hint, QuietErrors, SeenInput, SeenOutput, Sights, has_stray_word};
+use mrp_words::{Hint, QuietErrors, SeenInput, SeenOutput, Sights, has_stray_word};
 use std::alloc::Global;
 use std::io;
 use std::io::{ErrorKind, Read, Write};

@@ -1,7 +1,7 @@
 use Rattle.std.proofs.Common.{subst, sym}
 use Rattle.mrp_main.specs.Ends.{DayEnds}
-use Rattle.mrp_main.specs.declared.day.DayCommand.{DayCommand}
-use Rattle.mrp_main.specs.declared.day.DayCommand.TheVariants.{Plan, Live}
+use Rattle.mrp_words.specs.declared.day.DayCommand.{DayCommand}
+use Rattle.mrp_words.specs.declared.day.DayCommand.TheVariants.{Plan, Live}
 use Rattle.mrp_main.proofs.DayEnds.{day-ends}
 use Rattle.mrp_main.proofs.run.make_day.Goals as goal
 

@@ -1,7 +1,7 @@
 use Rattle.std.proofs.Common.{Ok, subst, sym}
 use Rattle.mrp_main.specs.Ends.{BundleEnds}
-use Rattle.mrp_main.specs.declared.day.DayCommand.{DayCommand}
-use Rattle.mrp_main.specs.declared.day.DayCommand.TheVariants.{Plan, Live}
+use Rattle.mrp_words.specs.declared.day.DayCommand.{DayCommand}
+use Rattle.mrp_words.specs.declared.day.DayCommand.TheVariants.{Plan, Live}
 use Rattle.mrp_main.proofs.DayEnds.{bundle-ends}
 use Rattle.mrp_main.proofs.run.make_day_of_bundle.Goals as goal
 

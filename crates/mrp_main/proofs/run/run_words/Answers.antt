@@ -5,8 +5,8 @@ use Rattle.mrp_report.specs.Written.{HasGivenUp, HasTakenFront}
 use Rattle.mrp_engine.specs.day.Run.{HasTakenAll}
 use Rattle.mrp_main.specs.Ends.{words_of}
 use Rattle.mrp_main.specs.Status.{code_of}
-use Rattle.mrp_main.specs.Words.{HasWorkers}
-use Rattle.mrp_main.proofs.Asked.{for-ok, was-told}
+use Rattle.mrp_words.specs.Words.{HasWorkers}
+use Rattle.mrp_words.proofs.Asked.{for-ok, was-told}
 use Rattle.mrp_main.proofs.run.run_words.Goals as goal
 
 pub carry_out-end-requires : goal.carry_out-end-requires

@@ -1,0 +1,5 @@
+pub mod Asked
+pub mod Workers
+pub mod Folders
+pub mod Entered
+pub mod AskedPage

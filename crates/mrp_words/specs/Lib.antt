@@ -1,0 +1,4 @@
+pub mod Words
+pub mod Folder
+pub mod Help
+pub mod Hints

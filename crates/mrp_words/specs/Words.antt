@@ -1,0 +1,223 @@
+-- What the words of the command line ask for, as `clap` reads them (profile).
+use Rattle.std.specs.Prelude.{ℕ, ◌≡◌, ◌≢◌, ◌⊎◌, ◌-◌, ◌^◌, List, [], ◌∷◌, Option, Some, None, option_and_then, option_map, string_bytes, true, false, codes, Result, Ok, Err, ⊤}
+use Rattle.std.specs.Int.{IsInRange}
+use Rattle.std.specs.Str.Parse.{digits_value, without_leading_plus}
+use Rattle.clap.specs.Walk.{Row, Rule, Text, first_of, one_of}
+use Rattle.clap.specs.Simple.{App, new_app, new_rule, on_top, subcommand_of, with_rule, with_subcommand}
+use Rattle.clap.specs.Kinds.{IsAmong, Kinds}
+use Rattle.clap.specs.Faults.{fault_of}
+use Rattle.clap.specs.Values.{IsUnsignedIn}
+use Rattle.clap.specs.declared.builder.action.ArgAction.TheVariants.{Set}
+use Rattle.clap.specs.declared.builder.command.Command.{Command}
+use Rattle.clap.specs.declared.builder.command.Command.TheViews.{out-Command}
+use Rattle.clap.specs.declared.builder.value_parser.ValueParser.TheVariants.{Unsigned}
+use Rattle.clap.specs.declared.error.kind.ErrorKind.{ErrorKind}
+use Rattle.clap.specs.declared.error.kind.ErrorKind.TheVariants.{DisplayHelp, DisplayVersion, OutOfMemory}
+use Rattle.mrp_words.specs.declared.command.TheConstants.{MOST_WORKERS}
+use Rattle.mrp_words.specs.declared.command.Request.{Request}
+use Rattle.mrp_words.specs.declared.command.Request.TheVariants.{Check, Day, Page}
+use Rattle.mrp_words.specs.declared.day.DayCommand.{DayCommand}
+use Rattle.mrp_words.specs.declared.page_words.PageWords.{PageWords}
+use Rattle.mrp_words.specs.declared.day.DayCommand.TheVariants.{Plan, Live}
+use Rattle.mrp_words.specs.declared.command.NoRequest.{NoRequest}
+use Rattle.mrp_words.specs.declared.command.NoRequest.TheVariants.{Help, Usage, NoMemory}
+
+-- `--workers N`, a number from 1 to `MOST_WORKERS`, or 1 if it is left out
+abbrev pub workers_rule : Rule
+workers_rule = record (new_rule (codes "workers")) {
+  long = Some (codes "workers");
+  action = Some Set;
+  value_names = 1;
+  defaults = codes "1" ∷ [];
+  parser = Some (Unsigned 1 MOST_WORKERS);
+}
+
+-- `--dir D`, a text
+abbrev pub dir_rule : Rule
+dir_rule = record (new_rule (codes "dir")) {
+  long = Some (codes "dir");
+  action = Some Set;
+  value_names = 1;
+}
+
+-- the same, but required
+abbrev pub checked_rule : Rule
+checked_rule = record dir_rule { required = true }
+
+-- `--run K`, a number from 1
+abbrev pub run_rule : Rule
+run_rule = record (new_rule (codes "run")) {
+  long = Some (codes "run");
+  action = Some Set;
+  value_names = 1;
+  parser = Some (Unsigned 1 (2 ^ 64 - 1));
+}
+
+-- `--items A,B`, a text
+abbrev pub items_rule : Rule
+items_rule = record (new_rule (codes "items")) {
+  long = Some (codes "items");
+  action = Some Set;
+  value_names = 1;
+}
+
+-- `--title TEXT`, a text
+abbrev pub title_rule : Rule
+title_rule = record (new_rule (codes "title")) {
+  long = Some (codes "title");
+  action = Some Set;
+  value_names = 1;
+}
+
+-- the word of each command that makes a day
+abbrev pub word_of : DayCommand → Text
+word_of Plan = codes "plan"
+word_of Live = codes "live"
+
+-- a word of one of them
+abbrev pub IsDayWord : Text → Type 0
+IsDayWord word = (word ≡ word_of Plan) ⊎ (word ≡ word_of Live)
+
+-- such a command: its word, and its options
+abbrev pub day_app : DayCommand → App
+day_app command = with_rule (with_rule (new_app (word_of command)) workers_rule) dir_rule
+
+-- `page`: its word, and its options
+abbrev pub page_app : App
+page_app = with_rule (with_rule (with_rule (new_app (codes "page")) run_rule) items_rule) title_rule
+
+-- `check`: its word, and its required option
+abbrev pub check_app : App
+check_app = with_rule (new_app (codes "check")) checked_rule
+
+-- no argument of a command is also one of its subcommands
+abbrev pub HasNoGlobals : Command → Type 0
+HasNoGlobals command = (out-Command command).has_globals ≡ false
+
+-- `mrp`, without its name: one of its subcommands is required
+abbrev pub mrp_command : App
+mrp_command =
+    with_subcommand (
+    with_subcommand (
+    with_subcommand (
+    with_subcommand (on_top (λ s. record s { has_version = true; no_binary_name = true; subcommand_required = true }) (new_app (codes "mrp")))
+    (day_app Plan).top)
+    (day_app Live).top)
+    page_app.top)
+    check_app.top
+
+-- why clap may refuse the words; help is also a refusal, and words that are accepted have none
+abbrev pub refusals : List Text → Kinds
+refusals words = fault_of mrp_command words
+
+-- the value of `--dir` in the matches of a subcommand
+abbrev pub dir_among : Option (Text × List Row) → Option Text
+dir_among found = option_and_then (λ rows. first_of (codes "dir") rows.1) found
+
+-- the folder that words name
+abbrev pub folder_in : List Text → Option Text
+folder_in words = dir_among (subcommand_of mrp_command words)
+
+-- a refusal that is an answer: help, or a version
+abbrev pub IsAnswer : ErrorKind → Type 0
+IsAnswer kind = (kind ≡ DisplayHelp) ⊎ (kind ≡ DisplayVersion)
+
+-- help, or the version, was asked for
+abbrev pub AskForHelp : List Text → Type 0
+AskForHelp words = (kind : ErrorKind) × IsAmong kind (refusals words) × IsAnswer kind
+
+-- the words are wrong
+abbrev pub AreWrong : List Text → Type 0
+AreWrong words = (kind : ErrorKind) × IsAmong kind (refusals words) × (IsAnswer kind → ⊥)
+
+-- 1 to `MOST_WORKERS` workers
+abbrev pub HasWorkers : Request → Type 0
+HasWorkers (Day command workers folder) = IsInRange 1 MOST_WORKERS workers
+HasWorkers (Page words) = ⊤
+HasWorkers (Check folder) = ⊤
+
+-- the folder whose files are to be planned, or that a day is to be checked against, is the one that the words
+-- name
+abbrev pub HasFolder : Option (Text × List Row) → Request → Type 0
+HasFolder entered (Day command workers folder) = option_map string_bytes folder ≡ dir_among entered
+HasFolder entered (Page words) = ⊤
+HasFolder entered (Check folder) = option_map string_bytes folder ≡ dir_among entered
+
+-- the subcommand that words enter is this command
+abbrev pub Enters : Option (Text × List Row) → DayCommand → Type 0
+Enters entered command = (rows : List Row) × (entered ≡ Some (word_of command, rows))
+
+-- the subcommand that words enter is `page`, with these rows
+abbrev pub EntersPage : Option (Text × List Row) → List Row → Type 0
+EntersPage entered rows = entered ≡ Some (codes "page", rows)
+
+-- the subcommand that words enter is `check`, with these rows
+abbrev pub EntersCheck : Option (Text × List Row) → List Row → Type 0
+EntersCheck entered rows = entered ≡ Some (codes "check", rows)
+
+-- words enter `check`, or a command that makes a day
+abbrev pub EntersCheckOrDay : Option (Text × List Row) → Type 0
+EntersCheckOrDay entered = ((command : DayCommand) × Enters entered command) ⊎ ((rows : List Row) × EntersCheck entered rows)
+
+-- words enter one of the commands
+abbrev pub IsEntered : Option (Text × List Row) → Type 0
+IsEntered entered = EntersCheckOrDay entered ⊎ ((rows : List Row) × EntersPage entered rows)
+
+-- the run that rows name
+pub record IsRunIn (rows : List Row) (run : ℕ) : Type 0 where
+  pub text : Text
+  pub given : one_of (codes "run") rows ≡ Some text
+  pub number : IsUnsignedIn 1 (2 ^ 64 - 1) text
+  pub value : run ≡ digits_value 10 (without_leading_plus text)
+
+-- rows name this run, or none, these items and this title
+pub record ArePageRows (rows : List Row) (run : Option ℕ) (items title : Option Text) : Type 0 where
+  pub named : (number : ℕ) → IsRunIn rows number → run ≡ Some number
+  pub last : one_of (codes "run") rows ≡ None → run ≡ None
+  pub of_items : items ≡ first_of (codes "items") rows
+  pub titled : title ≡ first_of (codes "title") rows
+
+-- a page is asked for by what rows name
+abbrev pub HasPageWords : List Row → PageWords → Type 0
+HasPageWords rows words = ArePageRows rows words.run (option_map string_bytes words.items) (option_map string_bytes words.title)
+
+-- words ask for the page of this run, with these items and this title
+abbrev pub AskForPage : List Text → Option ℕ → Option Text → Option Text → Type 0
+AskForPage words run items title = (rows : List Row) × EntersPage (subcommand_of mrp_command words) rows × ArePageRows rows run items title
+
+-- words ask for a check against the files of this folder
+abbrev pub AskForCheck : List Text → Text → Type 0
+AskForCheck words folder = ((rows : List Row) × EntersCheck (subcommand_of mrp_command words) rows) × (folder_in words ≡ Some folder)
+
+-- the subcommand that words enter has so many workers: the number of `--workers`, or the default
+pub record IsBy (entered : Option (Text × List Row)) (workers : ℕ) : Type 0 where
+  pub name : Text
+  pub rows : List Row
+  pub is : entered ≡ Some (name, rows)
+  pub text : Text
+  pub given : one_of (codes "workers") rows ≡ Some text
+  pub number : IsUnsignedIn 1 MOST_WORKERS text
+  pub value : workers ≡ digits_value 10 (without_leading_plus text)
+
+-- words ask for a command with so many workers
+abbrev pub AskFor : List Text → DayCommand → ℕ → Type 0
+AskFor words command workers = Enters (subcommand_of mrp_command words) command × IsBy (subcommand_of mrp_command words) workers
+
+-- a request is for the command that words enter, and has the workers, or the words of the page, that are asked for
+abbrev pub IsAsAsked : Option (Text × List Row) → Request → Type 0
+IsAsAsked entered (Day command workers folder) = Enters entered command × ((asked : ℕ) → IsBy entered asked → workers ≡ asked)
+IsAsAsked entered (Page words) = (rows : List Row) × EntersPage entered rows × HasPageWords rows words
+IsAsAsked entered (Check folder) = (rows : List Row) × EntersCheck entered rows
+
+-- what an error of `clap` asks for, by its kind
+abbrev pub IsOfKind : ErrorKind → NoRequest → Type 0
+IsOfKind kind (Help text) = IsAnswer kind
+IsOfKind kind (Usage text) = (kind ≢ OutOfMemory) × (IsAnswer kind → ⊥)
+IsOfKind kind NoMemory = kind ≡ OutOfMemory
+
+-- what the words ask for, or out of memory
+abbrev pub Asks : List Text → Result Request NoRequest → Type 0
+Asks words (Ok request) = (refusals words ≡ []) × IsAsAsked (subcommand_of mrp_command words) request × HasFolder (subcommand_of mrp_command words) request
+Asks words (Err (Help text)) = AskForHelp words
+Asks words (Err (Usage text)) = AreWrong words
+Asks words (Err NoMemory) = ⊤

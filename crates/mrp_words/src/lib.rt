@@ -1,0 +1,18 @@
+//! What the words of the command line ask for, the files of a folder, and hints at what was probably meant.
+#![tactic(auto)]
+
+mod check_words;
+mod command;
+mod day;
+mod files;
+mod hint;
+pub mod laws;
+mod page_words;
+mod sights;
+
+pub use command::{MOST_WORKERS, NoRequest, Request, read_words};
+pub use day::DayCommand;
+pub use files::{FileStore, read_folder};
+pub use hint::{Hint, has_stray_word};
+pub use page_words::PageWords;
+pub use sights::{QuietErrors, SeenInput, SeenOutput, Sights, begins_utf16};

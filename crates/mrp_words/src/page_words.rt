@@ -1,0 +1,96 @@
+//! The words that ask for the page of a day.
+
+ghost use Rattle.std.specs.Prelude.{◌≡◌, IfOk, false};
+ghost use Rattle.clap.specs.Matches.{found_of};
+ghost use Rattle.clap.specs.Simple.{app_of};
+ghost use Rattle.clap.specs.Walk.{rows_of, rule_of};
+ghost use Rattle.mrp_words.specs.Words.{HasNoGlobals, HasPageWords, items_rule, page_app, run_rule, title_rule};
+
+use crate::command::{EXAMPLE, text_in};
+use clap::builder::ValueParser;
+use clap::{Arg, ArgAction, ArgMatches, Command};
+use std::alloc::{AllocError, Global};
+
+const ABOUT_PAGE: &str =
+    "Reads a day from standard input, as `mrp plan` and `mrp live` write it, and writes one page of HTML that
+any browser opens to standard output. Nothing is fetched, and there is no script.
+
+On the page are what is to be done, the most urgent first; the load of each work centre against its
+capacity; for each item its time-phased record, its orders and its pegs; and the history of the calls.
+Each name and each number of the shop stands in the day.";
+
+const ABOUT_RUN: &str =
+    "The number of the run that is shown, counted from 1; the last one where it is left out";
+
+const ABOUT_ITEMS: &str =
+    "The names of the items that are shown, as a row of csv: A,B; all of them where it is left out. 200 at most are shown, those with messages first";
+
+const ABOUT_TITLE: &str = "The title of the page; Plan where it is left out";
+
+/// The options of the page command.
+#[derive(Drop)]
+pub struct PageWords {
+    /// The number of the run to show, from 1; the last run if none is named.
+    pub run: Option<u64>,
+    /// The names of the items to show, as a csv record.
+    pub items: Option<String>,
+    /// The title of the page.
+    pub title: Option<String>,
+}
+
+fn run<'a>(alloc: Global) -> Arg<'a>
+    ensures rule { rule_of result ≡ run_rule }
+    ensures local { result.global ≡ false }
+{
+    Arg::new(alloc, "run")
+        .long("run")
+        .value_name("K")
+        .action(ArgAction::Set)
+        .help(ABOUT_RUN)
+        .value_parser(ValueParser::Unsigned(1, u64::MAX))
+}
+
+fn items<'a>(alloc: Global) -> Arg<'a>
+    ensures rule { rule_of result ≡ items_rule }
+    ensures local { result.global ≡ false }
+{
+    Arg::new(alloc, "items")
+        .long("items")
+        .value_name("A,B")
+        .action(ArgAction::Set)
+        .help(ABOUT_ITEMS)
+}
+
+fn title<'a>(alloc: Global) -> Arg<'a>
+    ensures rule { rule_of result ≡ title_rule }
+    ensures local { result.global ≡ false }
+{
+    Arg::new(alloc, "title")
+        .long("title")
+        .value_name("TEXT")
+        .action(ArgAction::Set)
+        .help(ABOUT_TITLE)
+}
+
+pub(crate) fn page_command<'a>(alloc: Global) -> Result<Command<'a>, AllocError>
+    ensures app { IfOk result (λ made. app_of made ≡ page_app) }
+    ensures local { IfOk result HasNoGlobals }
+{
+    Command::new(alloc, "page")
+        .about("Draws a day from standard input as a page that a browser opens")
+        .long_about(ABOUT_PAGE)
+        .after_help(EXAMPLE)
+        .arg(run(alloc))?
+        .arg(items(alloc))?
+        .arg(title(alloc))
+}
+
+/// The options in the matches of the subcommand.
+pub(crate) fn page_words(alloc: Global, found: &ArgMatches<'_>) -> Result<PageWords, AllocError>
+    ensures { IfOk result (HasPageWords (rows_of (found_of found.now))) }
+{
+    let run = found.get_one::<u64>("run");
+    let items = text_in(alloc, found, "items")?;
+    let title = text_in(alloc, found, "title")?;
+    Ok(PageWords { run, items, title })
+}
