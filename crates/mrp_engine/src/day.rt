@@ -10,6 +10,7 @@ mod fault;
 mod opening;
 mod planning;
 mod run;
+mod run_plans;
 mod runs;
 mod script;
 mod writing;
@@ -29,17 +30,19 @@ use std::sync::{Arc, Wait};
 use std::thread::Threads;
 pub(crate) use writing::write_day;
 
-/// A planned day: the rows of a shop, a history of its order book, and the plan of each run in it,
-/// in order.
+/// A day in which each run can be planned: the rows of a shop, a history of its order book, and the plan of its
+/// first run, if it has one. The plans of later runs are not kept: each is made again when its report is written,
+/// by net change from the run before it, so that a day holds two plans at most.
 #[derive(Drop)]
 pub struct Day {
     pub rows: Arc<ShopRows>,
     pub history: History,
-    pub plans: Vec<Plan>,
+    pub first: Option<Plan>,
 }
 
-/// Plans each run of a history over the shop's rows, by `workers` workers (1 to 64, as the caller
-/// guarantees). The caller guarantees that the history has the supply of the shop.
+/// Plans each run of a history over the shop's rows: the first by `workers` workers (1 to 64, as the caller
+/// guarantees), each later one by net change from the one before. The caller guarantees that the history has the
+/// supply of the shop.
 ///
 /// Errors: `TooLarge` with the first item in table order whose quantities get too large in the
 /// first run with such an item; `NoMemory` if an allocation fails.
@@ -54,10 +57,10 @@ pub fn plan_history(
     requires workers { IsInRange 1 MOST_WORKERS workers }
     ensures { PlansHistory rows.value.tables history.entries result }
 {
-    let plans = plan_runs(rt, alloc, &rows, &history, workers)?;
+    let first = plan_runs(rt, alloc, &rows, &history, workers)?;
     Ok(Day {
         rows,
         history,
-        plans,
+        first,
     })
 }

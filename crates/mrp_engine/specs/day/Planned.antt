@@ -1,6 +1,5 @@
 -- The result of planning runs.
-use Rattle.std.specs.Prelude.{ℕ, ◌≡◌, List, All, map, Result, Ok, Err, ⊤}
-use Rattle.std.specs.Global.{Vec}
+use Rattle.std.specs.Prelude.{ℕ, ◌≡◌, List, All, Option, Result, Ok, Err, ⊤}
 use Rattle.mrp_item.specs.Inputs.{Inputs}
 use Rattle.mrp_item.specs.Places.{WholePlan}
 use Rattle.mrp_engine.specs.declared.day.fault.DayFault.{DayFault}
@@ -10,6 +9,7 @@ use Rattle.mrp_master.specs.Supply.{supply_of}
 use Rattle.mrp_book.specs.Standing.{History}
 use Rattle.mrp_engine.specs.declared.day.Day.{Day}
 use Rattle.mrp_engine.specs.day.Day.{Answering, IsFirstRefusal, IsPlannable, IsRefusedBy, day_text, runs_of}
+use Rattle.mrp_engine.specs.day.RunPlans.{IsOfFirst}
 
 -- the plan of a run, or the name of the first item that gets too large; or out of memory
 abbrev pub PlansRun : Inputs → Result WholePlan DayFault → Type 0
@@ -20,14 +20,20 @@ PlansRun s (Err (Refused f)) = ⊥
 PlansRun s (Err Read) = ⊥
 PlansRun s (Err Write) = ⊥
 
--- the inputs of plans
-abbrev pub inputs_of_plans : List WholePlan → List Inputs
-inputs_of_plans plans = map (λ p. p.inputs) plans
+-- what planning a run comes to: it can be planned, or it is refused by the first item that gets too large; or out of
+-- memory
+abbrev pub JudgesRun : {X : Type 0} → Inputs → Result X DayFault → Type 0
+JudgesRun s (Ok x) = IsPlannable s
+JudgesRun s (Err (TooLarge name)) = IsRefusedBy s name
+JudgesRun s (Err NoRoom) = ⊤
+JudgesRun s (Err (Refused f)) = ⊥
+JudgesRun s (Err Read) = ⊥
+JudgesRun s (Err Write) = ⊥
 
--- a day with a history of its shop, each run of which has its plan
+-- a day with a history of its shop, each run of which can be planned, and the plan of the first
 pub record IsPlanned (day : Day) : Type 0 where
   pub supply : day.history.supply ≡ supply_of day.rows.value.tables
-  pub runs : inputs_of_plans day.plans.items ≡ runs_of day.rows.value.tables day.history.entries
+  pub first : IsOfFirst (runs_of day.rows.value.tables day.history.entries) day.first
   pub plannable : All IsPlannable (runs_of day.rows.value.tables day.history.entries)
 
 -- the text of a day
@@ -54,9 +60,9 @@ PlansDay Answers tables (Err (Refused f)) = ⊥
 PlansDay Answers tables (Err Read) = ⊥
 PlansDay Answers tables (Err Write) = ⊥
 
--- the plans of all runs, in order, or why the first refused run is refused; or out of memory
-abbrev pub PlansRuns : List Inputs → Result (Vec WholePlan) DayFault → Type 0
-PlansRuns runs (Ok plans) = (inputs_of_plans plans.items ≡ runs) × All IsPlannable runs
+-- all runs can be planned, and the plan of the first is kept, or why the first refused run is refused; or out of memory
+abbrev pub PlansRuns : List Inputs → Result (Option WholePlan) DayFault → Type 0
+PlansRuns runs (Ok first) = IsOfFirst runs first × All IsPlannable runs
 PlansRuns runs (Err (TooLarge name)) = IsFirstRefusal runs name
 PlansRuns runs (Err NoRoom) = ⊤
 PlansRuns runs (Err (Refused f)) = ⊥

@@ -68,7 +68,7 @@ IsAfterReading (Err Write) = ⊤
 IsAfterReading (Err NoMemory) = ⊥
 
 -- a writer took a text whole, or a prefix of it: it gave up, or memory ran out and it did not fail
-pub record WritesText {W : Type 0} (contents : W → Option (List ℕ)) (old new : Told W) (text : List ℕ) (result : Result (Unit {0}) DayFault) : Type 0 where
+pub record WritesText {W X : Type 0} (contents : W → Option (List ℕ)) (old new : Told W) (text : List ℕ) (result : Result X DayFault) : Type 0 where
   pub whole : OnOk result (HasTakenAll contents old new text)
   pub front : OnErr result (HasTakenFront contents old new text)
   pub gave_up : result ≡ Err Write → HasGivenUp old new WRITE_TRIES

@@ -12,13 +12,13 @@ use Rattle.mrp_item.specs.Places.{WholePlan}
 use Rattle.mrp_report.specs.ReportText.{report_text}
 use Rattle.mrp_report.specs.Written.{HasGivenUp, HasTakenFront, HasTakenWhole}
 use Rattle.mrp_report.proofs.Progress.{taken-both, taken-none}
-use Rattle.mrp_engine.specs.day.Planned.{inputs_of_plans}
 use Rattle.mrp_rows.specs.declared.streams.TheConstants.{WRITE_TRIES}
 use Rattle.mrp_report.specs.declared.fault.ReportFault.{ReportFault}
 use Rattle.mrp_report.specs.declared.fault.ReportFault.TheVariants as report
 use Rattle.mrp_engine.specs.day.Fault.{writing_fault}
 use Rattle.mrp_engine.specs.day.Run.{HasNotFailed, HasTakenAll, WritesText}
 use Rattle.mrp_engine.specs.declared.day.fault.DayFault.{DayFault}
+use Rattle.mrp_engine.specs.declared.day.fault.DayFault.TheVariants.{Write, NoMemory}
 
 risen-after : (m n a b c : ℕ) → RisesBy m a b → HasRisenBy n b c → HasRisenBy n a c
 risen-after m n a b c p q = omega (arith, p.0, p.1, q)
@@ -58,18 +58,18 @@ pub all-written : {W : Type 0} (contents : W → Option (List ℕ)) (a b : Told 
 all-written contents a b s taken = record { whole = taken; front = tt; gave_up = λ e. (cc); unfailed = λ e. (cc); writing = tt }
 
 -- a text stops where its writer gives up, or memory runs out
-pub stopped : {W : Type 0} (contents : W → Option (List ℕ)) (a b : Told W) (s : List ℕ) (f : ReportFault) → HasTakenFront contents a b s
-    → (f ≡ report.Write → HasGivenUp a b WRITE_TRIES) → (f ≡ report.NoMemory → HasNotFailed a b) → WritesText contents a b s (Err (writing_fault f))
-stopped contents a b s report.Write front gave_up unfailed = record { whole = tt; front = front; gave_up = λ e. gave_up refl; unfailed = λ e. (cc); writing = tt }
-stopped contents a b s report.NoMemory front gave_up unfailed = record { whole = tt; front = front; gave_up = λ e. (cc); unfailed = λ e. unfailed refl; writing = tt }
+pub stopped : {W : Type 0} (X : Type 0) (contents : W → Option (List ℕ)) (a b : Told W) (s : List ℕ) (f : ReportFault) → HasTakenFront contents a b s
+    → (f ≡ report.Write → HasGivenUp a b WRITE_TRIES) → (f ≡ report.NoMemory → HasNotFailed a b) → WritesText {X = X} contents a b s (Err (writing_fault f))
+stopped X contents a b s report.Write front gave_up unfailed = record { whole = tt; front = front; gave_up = λ e. gave_up refl; unfailed = λ e. (cc); writing = tt }
+stopped X contents a b s report.NoMemory front gave_up unfailed = record { whole = tt; front = front; gave_up = λ e. (cc); unfailed = λ e. unfailed refl; writing = tt }
 
 -- and so does a longer text
-pub stopped-more : {W : Type 0} (contents : W → Option (List ℕ)) (a b : Told W) (s t : List ℕ) (f : DayFault) → WritesText contents a b s (Err f) → WritesText contents a b (s ++ t) (Err f)
-stopped-more contents a b s t f writes = record {
+pub stopped-more : {W X : Type 0} (Y : Type 0) (contents : W → Option (List ℕ)) (a b : Told W) (s t : List ℕ) (f : DayFault) → WritesText {X = X} contents a b s (Err f) → WritesText {X = Y} contents a b (s ++ t) (Err f)
+stopped-more Y contents a b s t f writes = record {
   whole = tt;
   front = front-of-more contents a b s t writes.front;
-  gave_up = writes.gave_up;
-  unfailed = writes.unfailed;
+  gave_up = λ e. let same : f ≡ Write = cc in writes.gave_up (ap (λ (x : DayFault). Err x) same);
+  unfailed = λ e. let same : f ≡ NoMemory = cc in writes.unfailed (ap (λ (x : DayFault). Err x) same);
   writing = writes.writing;
 }
 
@@ -84,20 +84,6 @@ written-then contents a b c s t r taken writes = record {
   writing = writes.writing;
 }
 
--- The reports of plans.
-
-abbrev pub reports : List WholePlan → List ℕ
-reports plans = flat_map report_text (inputs_of_plans plans)
-
-pub reports-more : (plans : List WholePlan) (k : ℕ) (p : WholePlan) → k < length plans → p ≡ get_or plans k p → reports (take (k + 1) plans) ≡ reports (take k plans) ++ report_text p.inputs
-reports-more plans k p within is =
-    ap reports (take_more plans k p within ∙ ap (λ (q : WholePlan). take k plans ++ q ∷ []) (sym is))
-    ∙ ap (flat_map report_text) (map-append (λ (q : WholePlan). q.inputs) (take k plans) (p ∷ []))
-    ∙ flat_map-append report_text (inputs_of_plans (take k plans)) (p.inputs ∷ [])
-    ∙ ap (λ (t : List ℕ). reports (take k plans) ++ t) (append-nil (report_text p.inputs))
-
-pub reports-cut : (plans : List WholePlan) (k : ℕ) (p : WholePlan) → k < length plans → p ≡ get_or plans k p → reports plans ≡ reports (take k plans) ++ (report_text p.inputs ++ reports (drop (k + 1) plans))
-reports-cut plans k p within is =
-    ap reports (sym (take-append-drop k plans) ∙ ap (λ (r : List WholePlan). take k plans ++ r) (drop_more plans k p within ∙ ap (λ (q : WholePlan). q ∷ drop (k + 1) plans) (sym is)))
-    ∙ ap (flat_map report_text) (map-append (λ (q : WholePlan). q.inputs) (take k plans) (p ∷ drop (k + 1) plans))
-    ∙ flat_map-append report_text (inputs_of_plans (take k plans)) (p.inputs ∷ inputs_of_plans (drop (k + 1) plans))
+-- memory runs out before anything is written
+pub stopped-at_once : {W : Type 0} (X : Type 0) (contents : W → Option (List ℕ)) (w : Told W) (s : List ℕ) → WritesText {X = X} contents w w s (Err NoMemory)
+stopped-at_once X contents w s = record { whole = tt; front = (0, omega arith, (taken-none contents w).bytes); gave_up = λ e. (cc); unfailed = λ e. refl; writing = tt }

@@ -10,7 +10,9 @@ use Rattle.mrp_explode.specs.Explosion.{Explodes}
 use Rattle.mrp_explode.specs.declared.fault.RunFault.{RunFault}
 use Rattle.mrp_explode.specs.declared.fault.RunFault.TheVariants as run
 use Rattle.mrp_engine.specs.day.Fault.{plan_or_fault, run_fault}
-use Rattle.mrp_engine.specs.day.Planned.{PlansRun}
+use Rattle.mrp_engine.specs.day.Planned.{JudgesRun, PlansRun}
+use Rattle.mrp_engine.specs.declared.day.fault.DayFault.{DayFault}
+use Rattle.mrp_engine.specs.declared.day.fault.DayFault.TheVariants.{Refused, TooLarge, Read, Write, NoMemory}
 use Rattle.mrp_item.specs.Plan.{plan_in, plan_of, plan_unless, first_over, is_over, outcome_of}
 
 find-below : (p : ℕ → Bool) (a n i : ℕ) → find p (range_with_len a n) ≡ Some i → i < a + n
@@ -46,3 +48,11 @@ refused-run s run.NoMemory is = tt
 pub planned-run : (s : Inputs) (planned : Result WholePlan RunFault) → Explodes s planned → PlansRun s (plan_or_fault s planned)
 planned-run s (Ok plan) is = (is.0, (plan.plans, is.1))
 planned-run s (Err fault) is = refused-run s fault is
+
+-- what planning a run comes to
+pub judged-err : (X : Type 0) (s : Inputs) (f : DayFault) → PlansRun s (Err f) → JudgesRun {X = X} s (Err f)
+judged-err X s (TooLarge name) is = is
+judged-err X s NoMemory is = tt
+judged-err X s (Refused f) is = is
+judged-err X s Read is = is
+judged-err X s Write is = is

@@ -14,10 +14,10 @@ pub or_refusal-requires : goal.or_refusal-requires
 or_refusal-requires g c item is =
     let s = inputs_of c.args.rows.now.value.tables c.args.snapshot.now in
     let same : c.deref-2.result.now.tables ≡ s.tables = ap (λ (x : Shop). x.tables) (c.deref-2.ensures ∙ c.shop.ensures ∙ c.deref.ensures) in
-    subst (λ (t : Tables). item < length t.items) (sym same) (over-within s item (subst (λ (planned : Result WholePlan RunFault). Explodes s planned) is c.plan_run_by.ensures))
+    subst (λ (t : Tables). item < length t.items) (sym same) (over-within s item (subst (λ (planned : Result WholePlan RunFault). Explodes s planned) is c.plan_next.ensures))
 
 pub returns : goal.returns
 returns g c =
     let s = inputs_of c.args.rows.now.value.tables c.args.snapshot.now in
     let same : c.deref-2.result.now.tables ≡ s.tables = ap (λ (x : Shop). x.tables) (c.deref-2.ensures ∙ c.shop.ensures ∙ c.deref.ensures) in
-    subst (λ (r : Result WholePlan DayFault). PlansRun s r) (sym (c.or_refusal.ensures s (sym same))) (planned-run s c.plan_run_by.result c.plan_run_by.ensures)
+    subst (λ (r : Result WholePlan DayFault). PlansRun s r) (sym (c.or_refusal.ensures s (sym same))) (planned-run s c.plan_next.result c.plan_next.ensures)
