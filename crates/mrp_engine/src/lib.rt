@@ -7,7 +7,7 @@ pub mod laws;
 mod live;
 
 pub use day::{
-    DayFault, MOST_WORKERS, OpenFault, added_run, answer, call_of, open_shop, plan_run, run_bundle,
+    Day, DayFault, MOST_WORKERS, OpenFault, added_run, answer, call_of, open_shop, plan_run, run_bundle,
     run_day,
 };
 pub use event_core::{Answer, Core, Event};

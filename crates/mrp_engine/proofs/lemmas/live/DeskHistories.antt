@@ -55,16 +55,20 @@ all-wide seats rows least most some = added (list_any (λ r. is_run r.1) (map re
     added true = rows-wide
     added false = All-push Wide (map record_of rows) (1, call.Snapshot) rows-wide (omega arith, some)
 
+-- the number of a desk
+pub numbered : (office : TurnId Shop) (desks : List Desk) → AreDesksOf office desks → (n : ℕ) → HasNumber desks n → (1 ≤ n) × (n ≤ office.about.seats)
+numbered office desks are n (s, (k, within, at), is) =
+    let number : n ≡ k + 1 = sym is ∙ ap (λ (d : Desk). d.number) (sym at) ∙ are.numbers k s within in
+    let count = are.count in
+    (omega (arith, number), omega (arith, number, within, count))
+
 module _ (office : TurnId Shop) (desks : List Desk) (h : History) (records : Script) (are : AreDesksOf office desks) (mine : All (λ d. d.mine ≡ entries_by d.number h) desks)
     (callers : All (λ e. HasNumber desks e.who) h) (wide : All (λ r. (1 ≤ r.0) × (r.0 ≤ office.about.seats)) records) where
   pub has-number : (n : ℕ) → 1 ≤ n → n ≤ office.about.seats → HasNumber desks n
   has-number = in_order desks office.about.seats are.count (λ k d within. are.numbers k d (omega (arith, within, are.count)))
 
   in-range : (n : ℕ) → HasNumber desks n → (1 ≤ n) × (n ≤ office.about.seats)
-  in-range n (s, (k, within, at), is) =
-      let number : n ≡ k + 1 = sym is ∙ ap (λ (d : Desk). d.number) (sym at) ∙ are.numbers k s within in
-      let count = are.count in
-      (omega (arith, number), omega (arith, number, within, count))
+  in-range = numbered office desks are
 
   -- under a number of no desk there is no call and no record
   none-asked : (d : ℕ) → ((1 ≤ d) × (d ≤ office.about.seats) → ⊥) → asked_by d (asked h) ≡ []
