@@ -8,3 +8,5 @@ pub mod Demands
 pub mod Entries
 pub mod Replies
 pub mod SnapshotBookings
+pub mod ChunkLists
+pub mod MadeLists

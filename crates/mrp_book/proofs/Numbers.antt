@@ -1,16 +1,10 @@
 -- The bookings that were made, by their rising numbers.
-use Rattle.std.specs.Prelude.{All, IfSome, IfNone, filter, find, not}
-use Rattle.std.specs.List.{HoldsAt}
-use Rattle.std.specs.List.Sorted.{IsSearchInRange, IsBinarySearchResult, IsNonDecreasingBy}
-use Rattle.std.specs.Ordering.{nat_cmp, ordering_index}
-use Rattle.std.specs.Result.{result_ok}
-use Rattle.std.proofs.Common.{◌≡◌, ◌≢◌, ℕ, zero, suc, ◌<◌, ◌≤◌, ◌==◌, inl, inr, Bool, true, false, if◌then◌else◌, List, [], ◌∷◌, ◌++◌, length, get_or, set, map, Option, Some, None, Result, Ok, Err, refl, sym, ap, subst, ◌∙◌, arith}
+use Rattle.std.specs.Prelude.{All, filter, find, not}
+use Rattle.std.proofs.Common.{◌≡◌, ◌≢◌, ℕ, zero, suc, ◌+◌, ◌<◌, ◌≤◌, ◌==◌, inl, inr, Bool, true, false, if◌then◌else◌, List, [], ◌∷◌, ◌++◌, length, get_or, set, map, Option, Some, None, refl, sym, ap, subst, ◌∙◌, arith}
 use Rattle.std.proofs.lemmas.Bool.{cases_lt, eq-eqb, ne_eqb}
 use Rattle.std.proofs.lemmas.Bool.Decides.{nat_tests}
-use Rattle.std.proofs.lemmas.Cmp.{ranked}
 use Rattle.std.proofs.lemmas.List.{map-append}
 use Rattle.std.proofs.lemmas.List.Elements.{filter-append, All-from_get_or, All-head, All-tail}
-use Rattle.std.proofs.lemmas.List.Sorted.{IsNonDecreasingBy-from_default}
 use Rattle.mrp_book.specs.declared.booking.Booking.{Booking}
 use Rattle.mrp_book.specs.declared.made.Made.{Made}
 use Rattle.mrp_book.specs.Made.{IsRising, standing_of}
@@ -22,6 +16,10 @@ nothing_made = record { booking = record { number = 0; desk = 0; line = record {
 abbrev pub number_at : List Made → ℕ → ℕ
 number_at made i = (get_or made i nothing_made).booking.number
 
+-- no booking has the number
+abbrev pub NoneHas : ℕ → List Made → Type 0
+NoneHas n made = All (λ (m : Made). m.booking.number ≢ n) made
+
 module _ (made : List Made) (rising : IsRising made) (n : ℕ) where
   -- numbers do not fall
   not_falling : (i j : ℕ) → i ≤ j → j < length made → number_at made i ≤ number_at made j
@@ -30,23 +28,13 @@ module _ (made : List Made) (rising : IsRising made) (n : ℕ) where
     | inr same ↦ let e : i ≡ j = omega arith in subst (λ (x : ℕ). number_at made i ≤ number_at made x) e (omega arith)
   ]
 
-  comparisons_rise : IsNonDecreasingBy (λ (m : Made). ordering_index (nat_cmp m.booking.number n)) made
-  comparisons_rise = IsNonDecreasingBy-from_default (λ (m : Made). ordering_index (nat_cmp m.booking.number n)) made nothing_made (λ i j le within.
-      let up : number_at made i ≤ number_at made j = not_falling i j le within in
-      grind (arith, nat_tests))
+  -- all numbers up to a smaller one are smaller
+  pub less_up_to : (place : ℕ) → place < length made → number_at made place < n → (i : ℕ) → i < place + 1 → number_at made i < n
+  less_up_to place within less i before = omega (arith, not_falling i place (omega arith) within)
 
-  -- a binary search by number finds the booking with the number, or no booking has it
-  pub searched : (r : Result ℕ ℕ) → IsSearchInRange r (length made) → IsBinarySearchResult (λ (m : Made). nat_cmp m.booking.number n) made r
-      → record { within : IfSome (result_ok r) (λ place. place < length made); found : IfSome (result_ok r) (HoldsAt (λ (m : Made). m.booking.number ≡ n) made); none : IfNone (result_ok r) (All (λ (m : Made). m.booking.number ≢ n) made) }
-  searched (Ok place) within equal = record { within = within; found = λ d. ranked _ n _ (sym (equal d)); none = tt }
-  searched (Err place) within parted = record {
-    within = tt;
-    found = tt;
-    none = All-from_get_or (λ (m : Made). m.booking.number ≢ n) made nothing_made (λ i h same. elim (cases_lt i place) [
-      | inl before ↦ let less : number_at made i < n = ranked _ n _ (sym ((parted comparisons_rise).0 i nothing_made (omega arith) before)) in omega arith
-      | inr after ↦ let more : n < number_at made i = ranked _ n _ (sym ((parted comparisons_rise).1 i nothing_made after h)) in omega arith
-    ]);
-  }
+  -- all numbers from a greater one on are greater
+  pub more_from : (place : ℕ) → n < number_at made place → (i : ℕ) → place ≤ i → i < length made → n < number_at made i
+  more_from place more i after within = omega (arith, not_falling place i after within)
 
   -- at another place is another number
   pub others_differ : (i : ℕ) → i < length made → number_at made i ≡ n → (k : ℕ) → k < length made → k ≢ i → number_at made k ≢ n
@@ -54,6 +42,13 @@ module _ (made : List Made) (rising : IsRising made) (n : ℕ) where
     | inl before ↦ let h : number_at made k < number_at made i = rising k i nothing_made before inside in omega arith
     | inr after ↦ let h : number_at made i < number_at made k = rising i k nothing_made (omega arith) within in omega arith
   ]
+
+-- where all numbers are smaller up to a place and greater from there on, none is the same
+pub none_between : (made : List Made) (n place : ℕ) → ((i : ℕ) → i < place → number_at made i < n) → ((i : ℕ) → place ≤ i → i < length made → n < number_at made i) → NoneHas n made
+none_between made n place less more = All-from_get_or (λ (m : Made). m.booking.number ≢ n) made nothing_made (λ i h same. elim (cases_lt i place) [
+  | inl before ↦ let up : number_at made i < n = less i before in omega arith
+  | inr after ↦ let up : n < number_at made i = more i (omega arith) h in omega arith
+])
 
 -- One more booking.
 
@@ -88,9 +83,6 @@ find-cons b bs n v e = ap (λ (x : Bool). if x then Some b else find (has_number
 
 others-cons : (b : Booking) (bs : List Booking) (n : ℕ) (v : Bool) → is_other n b ≡ v → filter (is_other n) (b ∷ bs) ≡ (if v then b ∷ filter (is_other n) bs else filter (is_other n) bs)
 others-cons b bs n v e = ap (λ (x : Bool). if x then b ∷ filter (is_other n) bs else filter (is_other n) bs) e
-
-abbrev pub NoneHas : ℕ → List Made → Type 0
-NoneHas n made = All (λ (m : Made). m.booking.number ≢ n) made
 
 pub find-none : (made : List Made) (n : ℕ) → NoneHas n made → find (has_number n) (standing_of made) ≡ None
 find-none [] n none = refl

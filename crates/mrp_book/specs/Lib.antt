@@ -5,4 +5,5 @@ pub mod Standing
 pub mod BookState
 pub mod History
 pub mod Books
+pub mod Chunks
 pub mod Made

@@ -1,5 +1,5 @@
 -- The representation of a book's state.
-use Rattle.std.specs.Prelude.{ℕ, ◌≡◌, ◌≤◌, ◌<◌, List, All, map, filter, length, Option, Some, None}
+use Rattle.std.specs.Prelude.{ℕ, ◌≡◌, ◌≤◌, ◌<◌, Bool, List, [], ◌∷◌, All, map, filter, length, Option, Some, None}
 use Rattle.std.specs.List.{slice_index_or}
 use Rattle.mrp_book.specs.declared.booking.Booking.{Booking}
 use Rattle.mrp_book.specs.declared.made.Made.{Made}
@@ -8,6 +8,11 @@ use Rattle.mrp_master.specs.Supply.{Supply, IsMaster, IsSupply}
 use Rattle.mrp_master.specs.AtpRow.{AtpRow, atp_row}
 use Rattle.mrp_book.specs.Booked.{AreBooked}
 use Rattle.mrp_book.specs.Bookings.{lines_of}
+
+-- the bookings made, each with whether it stands
+abbrev pub made_of : List Booking → List Bool → List Made
+made_of (b ∷ bookings) (s ∷ stands) = record { booking = b; stands = s } ∷ made_of bookings stands
+made_of bookings stands = []
 
 -- the standing ones of the bookings made
 abbrev pub standing_of : List Made → List Booking

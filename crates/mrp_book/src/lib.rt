@@ -3,6 +3,7 @@
 
 mod book;
 mod booking;
+mod booking_list;
 mod call;
 mod history;
 pub mod laws;
@@ -11,6 +12,7 @@ mod refused;
 mod reply;
 mod rows;
 mod snapshot;
+mod standing;
 mod state;
 
 pub use book::Book;
@@ -22,4 +24,5 @@ pub use mrp_turn::Entry;
 pub use refused::Refused;
 pub use reply::Reply;
 pub use snapshot::Snapshot;
+pub use standing::Standing;
 pub use state::BookState;

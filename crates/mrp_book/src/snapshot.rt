@@ -4,6 +4,8 @@ ghost use Rattle.std.specs.Prelude.{◌≡◌, ◌↔◌, ◌≤◌, IsTrue, sum
 ghost use Rattle.mrp_qty.specs.Quantity.{greatest_quantity};
 
 use crate::booking::Booking;
+use crate::made::MadeList;
+use crate::standing::Standing;
 use mrp_master::Line;
 use mrp_phase::{PhaseFault, Weeks};
 use mrp_qty::{NoMemory, Qty};
@@ -17,26 +19,28 @@ use std::sync::Arc;
 pub struct Snapshot {
     front: u64,
     weeks: u16,
-    standing: Arc<Vec<Booking>>,
+    made: Arc<MadeList>,
 }
 
 impl Model for Snapshot {
     ghost use Rattle.mrp_book.specs.Bookings.{AreLittle};
+    ghost use Rattle.mrp_book.specs.Made.{standing_of};
     ghost use Rattle.mrp_book.specs.Snapshot.{Snapshot};
 
     ghost Value = { Snapshot };
 
-    ghost view = { λ s. record { front = s.front; weeks = s.weeks; standing = s.standing.value.items } };
+    ghost view = { λ s. record { front = s.front; weeks = s.weeks; standing = standing_of s.made.value } };
 
-    ghost invariant = { λ s. AreLittle s.weeks s.standing.value.items };
+    ghost invariant = { λ s. AreLittle s.weeks (standing_of s.made.value) };
 }
 
 impl Snapshot {
-    ghost use Rattle.std.specs.Prelude.{◌≡◌, ◌↔◌, ◌<◌, IfOk, IsErrOf, sum_by};
+    ghost use Rattle.std.specs.Prelude.{◌≡◌, ◌↔◌, ◌<◌, IfOk, IsErrOf, length, sum_by};
     ghost use Rattle.mrp_qty.specs.Quantity.{greatest_quantity};
     ghost use Rattle.mrp_phase.specs.Weeks.{row};
     ghost use Rattle.mrp_master.specs.AtpRow.{due_in};
     ghost use Rattle.mrp_book.specs.Bookings.{AreLittle, lines_of};
+    ghost use Rattle.mrp_book.specs.Made.{standing_of};
     ghost use Rattle.mrp_book.specs.Snapshot.{Snapshot};
 
     /// The snapshot of an entry's number, the weeks of the horizon, and the standing bookings in order of
@@ -56,11 +60,11 @@ impl Snapshot {
         if !is_little(&standing) {
             return Err(PhaseFault::TooLarge);
         }
-        Snapshot::of(alloc, front, weeks, standing).map_err(|_| PhaseFault::NoMemory)
+        Snapshot::of_standing(alloc, front, weeks, standing).map_err(|_| PhaseFault::NoMemory)
     }
 
-    // The snapshot at an entry, if no week has too many pieces of an item.
-    pub(crate) fn of(
+    // The snapshot of standing bookings, if no week has too many pieces of an item.
+    fn of_standing(
         alloc: Global,
         front: u64,
         weeks: u16,
@@ -69,10 +73,24 @@ impl Snapshot {
         requires { AreLittle weeks standing.items }
         ensures { IfOk result (λ s. s ≡ record { front = front; weeks = weeks; standing = standing.items }) }
     {
+        let made = MadeList::of(alloc, standing)?;
+        Snapshot::of(alloc, front, weeks, made)
+    }
+
+    // The snapshot of bookings that were made, if no week has too many pieces of an item.
+    pub(crate) fn of(
+        alloc: Global,
+        front: u64,
+        weeks: u16,
+        made: MadeList,
+    ) -> Result<Snapshot, NoMemory>
+        requires { AreLittle weeks (standing_of made) }
+        ensures { IfOk result (λ s. s ≡ record { front = front; weeks = weeks; standing = standing_of made }) }
+    {
         Ok(Snapshot {
             front,
             weeks,
-            standing: Arc::new(alloc, standing)?,
+            made: Arc::new(alloc, made)?,
         })
     }
 
@@ -90,11 +108,18 @@ impl Snapshot {
         self.weeks
     }
 
-    /// The standing bookings, in order of their numbers.
-    pub fn standing(&self) -> &[Booking]
-        ensures { result.now ≡ self.now.standing }
+    /// How many bookings stand.
+    pub fn count(&self) -> usize
+        ensures { result ≡ length self.now.standing }
     {
-        self.standing.as_slice()
+        self.made.count()
+    }
+
+    /// The standing bookings, in order of their numbers.
+    pub fn standing(&self) -> Standing<'_>
+        ensures { result ≡ self.now.standing }
+    {
+        Standing::of(&self.made)
     }
 
     /// The booked quantity of an item in each week of the horizon, in pieces.
@@ -105,7 +130,7 @@ impl Snapshot {
     {
         let weeks = self.weeks;
         let mut demand = Weeks::zero(alloc, weeks).map_err(|_| NoMemory)?;
-        for booking in self.standing.as_slice() {
+        for booking in self.standing() {
             let line = &booking.line;
             if is_in(line, item, weeks) {
                 demand.add_at(line.week(), line.quantity()).unwrap();
@@ -123,7 +148,7 @@ impl Snapshot {
         Ok(Snapshot {
             front: self.front,
             weeks: self.weeks,
-            standing: self.standing.clone()?,
+            made: self.made.clone()?,
         })
     }
 }

@@ -2,7 +2,7 @@
 
 use crate::booking::Booking;
 use crate::call::Call;
-use crate::made::{Made, place_of, standing};
+use crate::made::MadeList;
 use crate::refused::Refused;
 use crate::reply::Reply;
 use crate::rows::{give, rows_of, take};
@@ -23,7 +23,7 @@ use std::marker::Model;
 pub struct BookState {
     supply: Supply,
     rows: Vec<Option<AtpRow>>,
-    made: Vec<Made>,
+    made: MadeList,
     entries: u64,
 }
 
@@ -33,9 +33,9 @@ impl Model for BookState {
 
     ghost Value = { BookState };
 
-    ghost view = { λ b. record { supply = b.supply; entries = b.entries; standing = standing_of b.made.items } };
+    ghost view = { λ b. record { supply = b.supply; entries = b.entries; standing = standing_of b.made } };
 
-    ghost invariant = { λ b. KeepsState b.supply b.entries b.rows.items b.made.items };
+    ghost invariant = { λ b. KeepsState b.supply b.entries b.rows.items b.made };
 }
 
 impl BookState {
@@ -60,7 +60,7 @@ impl BookState {
         Ok(BookState {
             supply,
             rows,
-            made: Vec::new(alloc),
+            made: MadeList::new(alloc),
             entries: 0,
         })
     }
@@ -90,7 +90,7 @@ impl BookState {
         }
         let reply = self.reply(alloc, desk, call)?;
         let copy = reply.copy()?;
-        self.enter(desk, call, &reply)?;
+        self.enter(alloc, desk, call, &reply)?;
         Ok((reply, copy))
     }
 
@@ -180,16 +180,16 @@ impl BookState {
     fn snapshot(&self, alloc: Global) -> Result<Snapshot, NoMemory>
         ensures { IfOk result (λ s. s ≡ record { front = self.now.entries + 1; weeks = self.now.supply.weeks; standing = self.now.standing }) }
     {
-        let standing = standing(alloc, &self.made)?;
-        Snapshot::of(alloc, self.next_number(), self.supply.weeks(), standing)
+        let made = self.made.copy(alloc)?;
+        Snapshot::of(alloc, self.next_number(), self.supply.weeks(), made)
     }
 
     // The booking with a number, if it stands.
     fn find(&self, number: u64) -> Option<Booking>
         ensures { result ≡ find (λ b. b.number == number) self.now.standing }
     {
-        let place = place_of(&self.made, number)?;
-        let made = self.made[place];
+        let place = self.made.place_of(number)?;
+        let made = self.made.at(place);
         if made.stands {
             Some(made.booking)
         } else {
@@ -228,7 +228,13 @@ impl BookState {
     }
 
     // Makes an entry of a call and its reply.
-    fn enter(&mut self, desk: u64, call: &Call, reply: &Reply) -> Result<(), NoMemory>
+    fn enter(
+        &mut self,
+        alloc: Global,
+        desk: u64,
+        call: &Call,
+        reply: &Reply,
+    ) -> Result<(), NoMemory>
         requires few { self.old.entries < MOST_ENTRIES }
         requires fits { Fits self.old.supply call.now }
         requires reply { IsReplyIn self.old desk call.now reply.now }
@@ -237,7 +243,7 @@ impl BookState {
         ensures memory { OnErr result (TakesMemory self.old call.now) }
     {
         match (call, reply) {
-            (Call::Book(line), Reply::Booked(_)) => self.enter_booking(desk, *line)?,
+            (Call::Book(line), Reply::Booked(_)) => self.enter_booking(alloc, desk, *line)?,
             (Call::Cancel(number), Reply::Cancelled) => self.enter_cancel(*number),
             _ => self.entries += 1,
         }
@@ -245,24 +251,17 @@ impl BookState {
     }
 
     // Books a line that is available.
-    fn enter_booking(&mut self, desk: u64, line: Line) -> Result<(), NoMemory>
+    fn enter_booking(&mut self, alloc: Global, desk: u64, line: Line) -> Result<(), NoMemory>
         requires few { self.old.entries < MOST_ENTRIES }
         requires fits { Fits self.old.supply (call.Book line) }
         requires available { CanPromise self.old.supply (lines_of self.old.standing) line.item line.quantity line.week }
         ensures after { OnOk result (self.new ≡ state_after self.old desk (call.Book line) (reply.Booked (self.old.entries + 1))) }
         ensures refused { OnErr result (self.new ≡ self.old) }
     {
-        self.made.try_reserve(1)?;
-        self.entries += 1;
+        let number = self.entries + 1;
+        self.made.push(alloc, Booking { number, desk, line })?;
+        self.entries = number;
         take(&mut self.rows[line.item()], line);
-        self.made.push_reserved(Made {
-            booking: Booking {
-                number: self.entries,
-                desk,
-                line,
-            },
-            stands: true,
-        });
         Ok(())
     }
 
@@ -272,12 +271,10 @@ impl BookState {
         requires stands { IsSome (find (λ b. b.number == number) self.old.standing) }
         ensures { (desk : ℕ) → self.new ≡ state_after self.old desk (call.Cancel number) reply.Cancelled }
     {
-        let Some(place) = place_of(&self.made, number) else {
+        let Some(place) = self.made.place_of(number) else {
             unreachable!()
         };
-        let made = &mut self.made[place];
-        made.stands = false;
-        let line = made.booking.line;
+        let line = self.made.cancel(place).booking.line;
         give(&mut self.rows[line.item()], line);
         self.entries += 1;
     }

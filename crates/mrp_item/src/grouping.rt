@@ -8,7 +8,7 @@ ghost use Rattle.mrp_item.specs.Numbered.{of_booking, of_master, of_receipt};
 
 use crate::due::Due;
 use mrp_bill::{Grouped, Numbered};
-use mrp_book::Booking;
+use mrp_book::{Booking, Standing};
 use mrp_qty::NoMemory;
 use mrp_tables::{MasterRow, Receipt};
 use std::alloc::Global;
@@ -42,8 +42,8 @@ fn due_of_receipt(row: &Receipt) -> Numbered<Due>
 }
 
 // The quantity due by a booking, numbered by its item.
-fn due_of_booking(booking: &Booking) -> Numbered<Due>
-    ensures { result ≡ of_booking booking.now }
+fn due_of_booking(booking: Booking) -> Numbered<Due>
+    ensures { result ≡ of_booking booking }
 {
     let line = booking.line;
     Numbered {
@@ -101,10 +101,10 @@ fn receipts(alloc: Global, rows: &[Receipt]) -> Result<Vec<Numbered<Due>>, NoMem
 }
 
 // The quantities due by the bookings.
-fn bookings(alloc: Global, rows: &[Booking]) -> Result<Vec<Numbered<Due>>, NoMemory>
-    ensures { IfOk result (λ dues. dues.items ≡ map of_booking rows.now) }
+fn bookings(alloc: Global, standing: Standing<'_>) -> Result<Vec<Numbered<Due>>, NoMemory>
+    ensures { IfOk result (λ dues. dues.items ≡ map of_booking standing.entry) }
 {
-    let dues = rows.iter().map(|row| due_of_booking(row)).collect(alloc)?;
+    let dues = standing.map(due_of_booking).collect(alloc)?;
     Ok(dues)
 }
 
@@ -168,12 +168,12 @@ pub fn receipts_by_item(
 pub fn bookings_by_item(
     alloc: Global,
     count: usize,
-    rows: &[Booking],
+    standing: Standing<'_>,
 ) -> Result<Grouped<Due>, NoMemory>
-    requires { All (λ b. b.line.item < count) rows.now }
+    requires { All (λ b. b.line.item < count) standing }
     ensures size { IfOk result (λ d. length d ≡ count) }
-    ensures lists { IfOk result (λ d. (i : ℕ) → i < count → listed d i ≡ booking_dues rows.now i) }
+    ensures lists { IfOk result (λ d. (i : ℕ) → i < count → listed d i ≡ booking_dues standing.entry i) }
 {
-    let dues = bookings(alloc, rows)?;
+    let dues = bookings(alloc, standing)?;
     Grouped::of(alloc, count, &dues)
 }

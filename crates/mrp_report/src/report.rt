@@ -27,7 +27,7 @@ fn write_run(page: &mut Page, plan: &Plan) -> Result<(), NoMemory>
     ensures { OnOk result (page.new ≡ page.old ++ run_text plan.now.inputs.front (length plan.now.inputs.standing)) }
 {
     let snapshot = plan.inputs().snapshot();
-    run_section(page, snapshot.front(), snapshot.standing().len() as u64)
+    run_section(page, snapshot.front(), snapshot.count() as u64)
 }
 
 // Writes what is on the page and then the rows of a section, in chunks that are made in parallel.

@@ -13,10 +13,10 @@ pub of-requires : goal.of-requires
 of-requires c =
     let is = c.deref.ensures.value ∙ c.in_ok-dues.ensures in
     subst (λ (dues : List (Numbered Due)). All (λ d. d.number < c.args.count) dues) (sym is)
-    (All-map (λ (d : Numbered Due). d.number < c.args.count) of_booking c.args.rows.now c.requires)
+    (All-map (λ (d : Numbered Due). d.number < c.args.count) of_booking c.args.standing c.requires)
 
 pub returns-clause-lists : goal.returns-clause-lists
 returns-clause-lists c =
     let is = c.deref.ensures.value ∙ c.in_ok-dues.ensures in
-    told-of c.of.result c.args.count (values_of c.deref.result.now) (booking_dues c.args.rows.now) c.of.ensures.groups
-    (λ i. ap (λ (dues : List (Numbered Due)). values_of dues i) is ∙ values_of-all of_booking c.args.rows.now i)
+    told-of c.of.result c.args.count (values_of c.deref.result.now) (booking_dues c.args.standing) c.of.ensures.groups
+    (λ i. ap (λ (dues : List (Numbered Due)). values_of dues i) is ∙ values_of-all of_booking c.args.standing i)

@@ -19,8 +19,8 @@ bookings_by_item-requires c = λ k d h.
     let shop = c.deref-2.ensures ∙ c.shop.ensures ∙ c.deref.ensures in
     let tables : c.tables-tables.result.now ≡ rows.tables = c.tables-tables.ensures.value ∙ ap (λ x. x.tables) shop in
     let items : c.items-count.result.now ≡ rows.tables.items = c.items-count.ensures.rows ∙ ap (λ (t : Tables). t.items) tables in
-    let lines : All (λ (b : Booking). IsLine (supply_of rows.tables) b.line) c.standing.result.now = subst (λ (bookings : List Booking). All (λ (b : Booking). IsLine (supply_of rows.tables) b.line) bookings) (sym c.standing.ensures) c.requires.lines in
-    let item = (get_or c.standing.result.now k d).line.item in
+    let lines : All (λ (b : Booking). IsLine (supply_of rows.tables) b.line) c.standing.result = subst (λ (bookings : List Booking). All (λ (b : Booking). IsLine (supply_of rows.tables) b.line) bookings) (sym c.standing.ensures) c.requires.lines in
+    let item = (get_or c.standing.result k d).line.item in
     let inside : item < length (map (λ (i : Item). is_master i.class) rows.tables.items) = master_inside (supply_of rows.tables) item (lines k d h).item in
     omega (arith, inside, length-map rows.tables.items (λ (i : Item). is_master i.class), ap (length {A = Item}) items)
 
