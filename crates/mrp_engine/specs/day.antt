@@ -6,3 +6,4 @@ pub mod Opened
 pub mod Run
 pub mod Planned
 pub mod RunPlans
+pub mod NetChange

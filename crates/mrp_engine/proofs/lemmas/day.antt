@@ -6,3 +6,4 @@ pub mod DayMade
 pub mod DayRuns
 pub mod RefusedItem
 pub mod DayReports
+pub mod Remade

@@ -2,13 +2,11 @@
 
 ghost use Rattle.std.specs.Prelude.{◌≡◌, Err, IfOk};
 ghost use Rattle.std.specs.Int.{IsInRange};
-ghost use Rattle.std.specs.Option.{option_copied};
 ghost use Rattle.mrp_master.specs.Supply.{supply_of};
 ghost use Rattle.mrp_book.specs.Booked.{AreBooked};
 ghost use Rattle.mrp_item.specs.Inputs.{inputs_of, item_at};
 ghost use Rattle.mrp_item.specs.Plan.{plan_of};
 ghost use Rattle.mrp_explode.specs.Explosion.{Explodes};
-ghost use Rattle.mrp_engine.specs.day.RunPlans.{IsOfShop};
 
 use crate::day::run::MOST_WORKERS;
 use mrp_book::Snapshot;
@@ -73,27 +71,6 @@ pub fn plan_run_by<R: Threads + Wait + Sync, G: Gate + Sync>(
 {
     let planned_from = inputs_of(alloc, rows, snapshot)?;
     explode(rt, alloc, &planned_from, workers, gate)
-}
-
-/// The plan of a run, like [`plan_run_by`]; by net change from an earlier plan of the shop if there is one.
-///
-/// Errors: those of [`plan_run`].
-pub fn plan_next<R: Threads + Wait + Sync, G: Gate + Sync>(
-    rt: &R,
-    alloc: Global,
-    rows: &Arc<ShopRows>,
-    last: Option<&Plan>,
-    snapshot: &Snapshot,
-    workers: usize,
-    gate: &G,
-) -> Result<Plan, RunFault>
-    requires booked { AreBooked (supply_of rows.now.value.tables) snapshot.now.standing }
-    requires workers { IsInRange 1 MOST_WORKERS workers }
-    requires last { IsOfShop rows.now.value.tables (option_copied last) }
-    ensures { Explodes (inputs_of rows.now.value.tables snapshot.now) result }
-{
-    let _ = last;
-    plan_run_by(rt, alloc, rows, snapshot, workers, gate)
 }
 
 /// The name of the item that makes the plan of its inputs too large, by its place in the table.

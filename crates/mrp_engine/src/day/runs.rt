@@ -12,7 +12,7 @@ ghost use Rattle.mrp_engine.specs.day.Planned.{JudgesRun, PlansRun, PlansRuns};
 ghost use Rattle.mrp_engine.specs.day.RunPlans.{AddsRun, AreOfShop, IsOfShop};
 
 use crate::day::fault::DayFault;
-use crate::day::planning::plan_next;
+use crate::day::net_change::plan_next;
 use crate::day::run::MOST_WORKERS;
 use crate::day::run_plans::RunPlans;
 use mrp_bill::Shop;

@@ -14,7 +14,7 @@ ghost use Rattle.mrp_engine.specs.day.RunPlans.{IsOfShop};
 
 use crate::day::Day;
 use crate::day::fault::DayFault;
-use crate::day::planning::plan_next;
+use crate::day::net_change::plan_next;
 use crate::day::run::MOST_WORKERS;
 use mrp_book::{Reply, Snapshot};
 use mrp_explode::{OpenGate, RunFault};
