@@ -1,1 +1,2 @@
 pub mod TwoDesks
+pub mod OneWorker

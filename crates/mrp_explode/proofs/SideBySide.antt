@@ -1,6 +1,6 @@
 -- Workers that work at the same time.
 use Rattle.std.proofs.Common.{◌≡◌, ◌∙◌, ◌<◌, ◌+◌, ◌≤◌, ℕ, List, All, length, get_or, map, Some, Result, Ok, Err, sym, ap, subst, arith, slice_get}
-use Rattle.std.specs.Prelude.{IfOk, OnOk}
+use Rattle.std.specs.Prelude.{IfOk}
 use Rattle.std.proofs.lemmas.List.{get_or-map, length-map}
 use Rattle.mrp_turn.specs.Seen.{HasNumber, TurnId, newcomer}
 use Rattle.mrp_turn.proofs.Callers.{in_order, read_at}
