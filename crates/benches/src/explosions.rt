@@ -37,6 +37,7 @@ fn no_bookings(alloc: Global, shop: &Shop) -> Option<Snapshot>
     ensures { IfSome result (λ s. AreBooked (supply_of shop.now.tables) s.standing) }
 {
     let mut book = Book::open(alloc, shop).ok()?;
+    let _legal = book.entries();
     let (_, reply) = book.call(alloc, 1, Call::Snapshot).ok()?;
     match reply {
         Reply::Taken(snapshot) => Some(snapshot),

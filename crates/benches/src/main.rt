@@ -194,7 +194,9 @@ fn read_calls(word: &str) -> Option<u64> {
 }
 
 fn tell_usage<R: Runtime>(rt: &R) -> io::Result<()> {
-    println!(rt; "usage: benches [rows | promise [CALLS] | turn [CALLS] | explode [CALLS]], at most {MANY} calls")
+    println!(rt;
+        "usage: benches [rows | promise [CALLS] | turn [CALLS] | explode [CALLS]], at most {MANY} calls"
+    )
 }
 
 fn main(rt: HostRuntime) -> io::Result<()> {

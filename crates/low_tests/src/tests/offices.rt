@@ -410,13 +410,15 @@ fn planned_meanwhile<R: Alloc + Threads + Wait + Sync + Abort>(
     plan
 }
 
+// The shop of an office, shared.
+fn shared_shop(rt: &impl Abort, office: &Office) -> Arc<Shop>
+    ensures { result.value ≡ office.now.about.object }
+{
+    office.shop().clone().expect(rt, "memory")
+}
+
 // The inputs of a run of a desk, whose snapshot makes the second entry.
-fn started<R: Wait + Abort>(
-    rt: &R,
-    alloc: Global,
-    office: &Office,
-    desk: &mut Desk,
-) -> Arc<Inputs>
+fn started<R: Wait + Abort>(rt: &R, alloc: Global, office: &Office, desk: &mut Desk) -> Arc<Inputs>
     requires { desk.old.turn ≡ office.now }
     ensures { (desk.new.turn ≡ desk.old.turn) × (desk.new.number ≡ desk.old.number) }
 {
@@ -425,7 +427,7 @@ fn started<R: Wait + Abort>(
         panic!(rt; "a snapshot");
     };
     same(rt, (number, snapshot.front()), (2, 2));
-    let shop = office.shop().clone().expect(rt, "memory");
+    let shop = shared_shop(rt, office);
     Inputs::new(alloc, shop, snapshot).expect(rt, "memory")
 }
 

@@ -39,7 +39,9 @@ fn log_of_one<R: Wait + Abort>(
 ) -> Log<BoardCall, BoardReply> {
     let (board, mut worker) = one_worker(rt, alloc, inputs);
     work(rt, alloc, &board, &mut worker, inputs, &OpenGate).expect(rt, "memory");
-    let mut workers = Vec::with_capacity(alloc, 1).expect(rt, "memory");
+    let Ok(mut workers) = Vec::with_capacity(alloc, 1) else {
+        panic!(rt; "memory");
+    };
     workers.push_reserved(worker);
     let (state, log) = board.close(workers);
     drop(state);
