@@ -1,21 +1,25 @@
-//! Benchmarks of parts of the program: reading records, available-to-promise calls, calls on a turn.
+//! Benchmarks of parts of the program: reading records, available-to-promise calls, calls on a turn,
+//! explosions.
 //!
 //! It reads a bundle on standard input, and the part's name as its argument. With a number of calls as
 //! the second argument it prints how long they took; without, it makes a few and prints their answers.
 //! Without arguments it does that for each part.
 #![tactic(auto)]
 
+mod explosions;
 mod plain;
 mod promising;
 mod rows;
 mod turns;
 
+use explosions::{WAYS, Way};
+use mrp_item::Inputs;
 use mrp_master::AtpRow;
 use mrp_rows::Fault;
 use rows::Counts;
 use std::io::Read;
 use std::rt::Runtime;
-use std::sync::Wait;
+use std::sync::{Arc, Wait};
 use std::thread::Threads;
 use std::time::{Duration, Instant};
 use std::{env, io};
@@ -112,10 +116,74 @@ fn turn<R: Runtime + AllocGlobal + Threads + Wait + Sync>(
     }
 }
 
+// The number of items that are planned in each way.
+fn tell_plans<R: Runtime + AllocGlobal + Threads + Wait + Sync>(
+    rt: &R,
+    inputs: &Arc<Inputs>,
+) -> io::Result<()> {
+    for way in WAYS {
+        match explosions::plan(rt, rt.alloc(), inputs, way) {
+            Ok(plan) => {
+                let items = plan.inputs().shop().tables().items().len();
+                drop(plan);
+                println!(rt; "{way:?}: {items} items planned")?;
+            }
+            Err(_) => println!(rt; "{way:?}: no plan")?,
+        }
+    }
+    Ok(())
+}
+
+// The microseconds that a plan takes in a way.
+fn micros_of<R: Runtime + AllocGlobal + Threads + Wait + Sync>(
+    rt: &R,
+    inputs: &Arc<Inputs>,
+    way: Way,
+) -> io::Result<u64> {
+    let start = Instant::now(rt)?;
+    let plan = explosions::plan(rt, rt.alloc(), inputs, way);
+    let took = start.elapsed(rt)?;
+    drop(plan);
+    Ok(u64::try_from(took.as_micros()).unwrap_or(u64::MAX))
+}
+
+// The fewest microseconds that a plan takes in each way; they are made in turn, so many each.
+fn time_plans<R: Runtime + AllocGlobal + Threads + Wait + Sync>(
+    rt: &R,
+    inputs: &Arc<Inputs>,
+    turns: u64,
+) -> io::Result<()> {
+    let mut best = [u64::MAX; WAYS.len()];
+    for _ in 0..turns {
+        for (least, way) in best.iter_mut().zip(WAYS) {
+            *least = micros_of(rt, inputs, way)?.min(*least);
+        }
+    }
+    for (least, way) in best.iter().zip(WAYS) {
+        println!(rt; "{way:?}: {least} microseconds")?;
+    }
+    Ok(())
+}
+
+fn explode<R: Runtime + AllocGlobal + Threads + Wait + Sync>(
+    rt: &R,
+    bundle: &[u8],
+    turns: Option<u64>,
+) -> io::Result<()> {
+    let Some(inputs) = explosions::inputs_of(rt.alloc(), bundle) else {
+        return println!(rt; "no shop");
+    };
+    match turns {
+        None => tell_plans(rt, &inputs),
+        Some(turns) => time_plans(rt, &inputs, turns),
+    }
+}
+
 fn all<R: Runtime + AllocGlobal + Threads + Wait + Sync>(rt: &R, bundle: &[u8]) -> io::Result<()> {
     tell_rows(rt, bundle)?;
     promise(rt, bundle, None)?;
-    turn(rt, None)
+    turn(rt, None)?;
+    explode(rt, bundle, None)
 }
 
 fn read_calls(word: &str) -> Option<u64> {
@@ -126,7 +194,9 @@ fn read_calls(word: &str) -> Option<u64> {
 }
 
 fn tell_usage<R: Runtime>(rt: &R) -> io::Result<()> {
-    println!(rt; "usage: benches [rows | promise [CALLS] | turn [CALLS]], at most {MANY} calls")
+    println!(rt;
+        "usage: benches [rows | promise [CALLS] | turn [CALLS] | explode [CALLS]], at most {MANY} calls"
+    )
 }
 
 fn main(rt: HostRuntime) -> io::Result<()> {
@@ -149,6 +219,7 @@ fn main(rt: HostRuntime) -> io::Result<()> {
         "rows" => tell_rows(&rt, bundle),
         "promise" => promise(&rt, bundle, calls),
         "turn" => turn(&rt, calls),
+        "explode" => explode(&rt, bundle, calls),
         _ => tell_usage(&rt),
     }
 }

@@ -1,1 +1,3 @@
 pub mod TwoDesks
+pub mod OneWorker
+pub mod Crossing

@@ -8,4 +8,5 @@ pub mod LegalLogs
 pub mod Heaps
 pub mod Queues
 pub mod Waiting
+pub mod ComeAgain
 pub mod Replies

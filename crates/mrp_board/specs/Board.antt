@@ -41,6 +41,10 @@ is_out_to who log item = list_any (λ e. (e.who == who) && hands_out item e.repl
 abbrev pub is_stored : BoardLog → ℕ → Bool
 is_stored log item = list_any (λ e. stores item e.call e.reply) log
 
+-- an item was handed out, and is not stored
+abbrev pub IsUnderWay : BoardLog → ℕ → Type 0
+IsUnderWay log item = (is_out log item ≡ true) × (is_stored log item ≡ false)
+
 -- a worker gave up the run
 abbrev pub has_stopped : BoardLog → Bool
 has_stopped log = list_any (λ e. stops e.reply) log

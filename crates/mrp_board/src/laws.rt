@@ -3,11 +3,12 @@
 ghost use Rattle.std.specs.Prelude.{◌≡◌, ◌≤◌, ◌<◌, ◌++◌, ◌∷◌, [], ℕ, List, None, Some, false, true};
 ghost use Rattle.mrp_turn.specs.Log.{AreFrom, IsLegal, LeadsTo, entries_by, entry};
 ghost use Rattle.mrp_item.specs.Inputs.{Inputs, count};
+ghost use Rattle.mrp_item.specs.Plan.{IsRanked};
 ghost use Rattle.mrp_board.specs.declared.call.BoardCall.{BoardCall};
 ghost use Rattle.mrp_board.specs.declared.call.BoardCall.TheVariants as call;
 ghost use Rattle.mrp_board.specs.declared.reply.BoardReply.{BoardReply};
 ghost use Rattle.mrp_board.specs.declared.reply.BoardReply.TheVariants as reply;
-ghost use Rattle.mrp_board.specs.Board.{BoardEntry, BoardLog, FitsInputs, HandsOn, IsLegalBoard, MayFollowOnBoard, board_reply, is_finished, is_out, is_ready};
+ghost use Rattle.mrp_board.specs.Board.{BoardEntry, BoardLog, FitsInputs, HandsOn, IsLegalBoard, IsUnderWay, MayFollowOnBoard, board_reply, is_finished, is_out, is_ready};
 ghost use Rattle.mrp_board.specs.BoardState.{BoardState, board_reply_in, new_board, state_after, state_of};
 ghost use Rattle.mrp_board.specs.Object.{Answers, Opens};
 ghost use Rattle.mrp_board.specs.Orderly.{IsComplete, IsCourse, IsOrderly, WorkedToEnd};
@@ -35,6 +36,12 @@ pub fn logs()
 /// comes with its distinct parents' outcomes.
 pub fn boards_hand_on()
     ensures { (s : Inputs) (log : BoardLog) → IsLegalBoard s log → HandsOn s log }
+{}
+
+/// A worker has to come again only while an item is under way, which its worker can finish. As in every
+/// shop, parents have lesser low-level codes.
+pub fn workers_come_again()
+    ensures { (s : Inputs) (code : ℕ → ℕ) (log : BoardLog) (who : ℕ) → IsRanked s code → board_reply s log who call.Take ≡ None → (item : ℕ) × (item < count s) × IsUnderWay log item }
 {}
 
 /// A board that its workers left at the end, none of them by giving up, is orderly and finished.

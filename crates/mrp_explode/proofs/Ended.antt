@@ -1,5 +1,5 @@
 -- Workers that were all told that every item was handed out leave a finished board.
-use Rattle.std.proofs.Common.{◌≡◌, ◌∙◌, ◌==◌, ◌+◌, ◌<◌, ◌≤◌, ℕ, Bool, true, false, cond, List, [], ◌∷◌, ◌++◌, All, Contains, Option, Some, inl, inr, refl, sym, ap, subst, arith, filter, get_or, length, slice_get}
+use Rattle.std.proofs.Common.{◌≡◌, ◌∙◌, ◌==◌, ◌+◌, ◌<◌, ◌≤◌, ℕ, Bool, true, false, cond, List, [], ◌∷◌, ◌++◌, All, Some, inr, ap, subst, arith, filter, length, slice_get}
 use Rattle.std.proofs.lemmas.List.Elements.{All-contains}
 use Rattle.std.proofs.lemmas.List.Sums.{AllPass-from_list_all}
 use Rattle.std.proofs.lemmas.List.FromFn.{get_or-range_with_len, length-range_with_len}
@@ -12,7 +12,7 @@ use Rattle.mrp_board.specs.declared.reply.BoardReply.TheVariants as reply
 use Rattle.mrp_board.specs.declared.call.BoardCall.{BoardCall}
 use Rattle.mrp_board.specs.declared.reply.BoardReply.{BoardReply}
 use Rattle.mrp_board.specs.Board.{BoardEntry, BoardLog, IsLegalBoard, is_finished, is_stored}
-use Rattle.mrp_board.specs.Orderly.{IsComplete, IsOrderly, WorkedToEnd, finished_by}
+use Rattle.mrp_board.specs.Orderly.{WorkedToEnd, finished_by}
 use Rattle.mrp_board.specs.BoardState.{BoardState, has_stored, state_of}
 use Rattle.mrp_explode.specs.Work.{IsDone, Worker}
 use Rattle.mrp_explode.specs.Workers.{HaveWorked}

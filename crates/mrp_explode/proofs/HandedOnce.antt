@@ -1,24 +1,21 @@
 -- An item is handed out at most once, and stored by the worker that it was handed out to: a worker that finishes the item
 -- that it holds is told that it is stored.
-use Rattle.std.proofs.Common.{◌≡◌, ◌≢◌, ◌∙◌, ◌<◌, ◌≤◌, ◌+◌, ◌==◌, ◌||◌, ◌&&◌, ℕ, ◌⊎◌, Bool, true, false, cond, not, List, [], ◌∷◌, ◌++◌, Option, Some, None, inl, inr, refl, sym, ap, subst, arith, append-nil}
-use Rattle.std.specs.Prelude.{find, if◌then◌else◌}
-use Rattle.std.specs.List.{list_all, list_any}
+use Rattle.std.proofs.Common.{◌≡◌, ◌≢◌, ◌∙◌, ◌≤◌, ◌+◌, ◌==◌, ◌||◌, ◌&&◌, ℕ, Bool, true, false, cond, not, List, [], ◌∷◌, ◌++◌, Some, inl, inr, refl, sym, ap, subst, arith, append-nil}
+use Rattle.std.specs.Prelude.{if◌then◌else◌}
 use Rattle.std.proofs.lemmas.Bool.{cases_eq}
-use Rattle.std.proofs.lemmas.Bool.Decides.{nat_tests}
 use Rattle.std.proofs.lemmas.List.Elements.{filter-append}
 use Rattle.std.proofs.lemmas.List.Folds.{list_any-append}
 use Rattle.mrp_turn.specs.Lists.{total}
 use Rattle.mrp_turn.specs.Log.{entries_by, entry}
 use Rattle.mrp_turn.proofs.Lists.{total-append}
 use Rattle.mrp_turn.proofs.Logs.{EachFollows-front, InTurn, InTurn-from_Each, one_more}
-use Rattle.mrp_bill.specs.Bill.{parents_of}
-use Rattle.mrp_item.specs.Inputs.{Inputs, count, places}
+use Rattle.mrp_item.specs.Inputs.{Inputs}
 use Rattle.mrp_item.specs.Places.{ItemOf}
 use Rattle.mrp_board.specs.declared.call.BoardCall.TheVariants as call
 use Rattle.mrp_board.specs.declared.reply.BoardReply.TheVariants as reply
 use Rattle.mrp_board.specs.declared.call.BoardCall.{BoardCall}
 use Rattle.mrp_board.specs.declared.reply.BoardReply.{BoardReply}
-use Rattle.mrp_board.specs.Board.{BoardEntry, BoardLog, IsLegalBoard, MayFollowOnBoard, board_reply, hands_out, is_at_end, is_out, is_out_to, is_ready, is_stored, stores}
+use Rattle.mrp_board.specs.Board.{BoardEntry, BoardLog, IsLegalBoard, MayFollowOnBoard, board_reply, hands_out, is_out, is_out_to, is_stored, stores}
 use Rattle.mrp_board.specs.Orderly.{finished_by}
 use Rattle.mrp_board.proofs.BoardStates.{new-out}
 use Rattle.mrp_board.proofs.Tests.{and-first, either, equal, no, or-second, same-number}

@@ -1,8 +1,7 @@
 -- Workers that work at the same time.
-use Rattle.std.proofs.Common.{◌≡◌, ◌∙◌, ◌<◌, ◌+◌, ◌≤◌, ◌++◌, ◌∷◌, [], ℕ, List, All, length, get_or, map, Option, Some, Result, Ok, Err, sym, ap, subst, append_assoc, arith, slice_get}
-use Rattle.std.specs.Prelude.{IfOk, OnOk}
-use Rattle.std.proofs.lemmas.List.{get_or-map, length-map, map-append}
-use Rattle.mrp_qty.specs.declared.memory.NoMemory.{NoMemory}
+use Rattle.std.proofs.Common.{◌≡◌, ◌∙◌, ◌<◌, ◌+◌, ◌≤◌, ℕ, List, All, length, get_or, map, Some, Result, Ok, Err, sym, ap, subst, arith, slice_get}
+use Rattle.std.specs.Prelude.{IfOk}
+use Rattle.std.proofs.lemmas.List.{get_or-map, length-map}
 use Rattle.mrp_turn.specs.Seen.{HasNumber, TurnId, newcomer}
 use Rattle.mrp_turn.proofs.Callers.{in_order, read_at}
 use Rattle.mrp_item.specs.Inputs.{Inputs}
@@ -10,17 +9,6 @@ use Rattle.mrp_board.specs.Orderly.{IsCourse}
 use Rattle.mrp_explode.specs.declared.workers.Worked.{Worked}
 use Rattle.mrp_explode.specs.Work.{IsDone, Worker}
 use Rattle.mrp_explode.specs.Workers.{HasWorked, HaveWorked, IsNew, done_by}
-
--- one more worker was not refused memory
-pub one-done : (all left rest : List Worked) (workers now : List Worker) (w : Worked) → all ≡ map done_by workers ++ left → left ≡ w ∷ rest → w.end ≡ Ok (tt {0}) → now ≡ workers ++ w.worker ∷ [] → all ≡ map done_by now ++ rest
-one-done all left rest workers now w is next end pushed =
-    let same : w ≡ done_by w.worker = ap (λ (r : Result (Unit {0}) NoMemory). record { worker = w.worker; end = r }) end in
-    is
-    ∙ ap (λ (l : List Worked). map done_by workers ++ l) next
-    ∙ ap (λ (x : Worked). map done_by workers ++ x ∷ rest) same
-    ∙ sym (append_assoc (map done_by workers) (done_by w.worker ∷ []) rest)
-    ∙ ap (λ (l : List Worked). l ++ rest) (sym (map-append done_by workers (w.worker ∷ [])))
-    ∙ ap (λ (l : List Worker). map done_by l ++ rest) (sym pushed)
 
 module _ (board : TurnId Inputs) (old : List Worker) (all : List Worked) where
   -- what each worker leaves, if none was refused memory

@@ -1,5 +1,5 @@
 -- What a worker's call adds to its own entries.
-use Rattle.std.proofs.Common.{◌≡◌, ◌∙◌, ◌<◌, ◌≤◌, ◌==◌, ◌⊎◌, ℕ, Bool, true, false, cond, List, [], ◌∷◌, ◌++◌, Option, Some, None, Result, Ok, Err, inl, inr, length, refl, sym, ap, subst, arith, append-nil, append_assoc}
+use Rattle.std.proofs.Common.{◌≡◌, ◌∙◌, ◌≤◌, ◌==◌, ◌⊎◌, ℕ, Bool, true, false, cond, List, [], ◌∷◌, ◌++◌, Option, Some, None, Result, Ok, Err, inl, inr, length, refl, sym, ap, subst, append-nil, append_assoc}
 use Rattle.std.specs.Prelude.{IfOk, OnErr, OnOk, find, is_err, if◌then◌else◌, option_map}
 use Rattle.std.proofs.lemmas.List.{append_cancel_right}
 use Rattle.std.proofs.lemmas.List.Elements.{filter-append}
@@ -7,7 +7,6 @@ use Rattle.mrp_turn.specs.Calls.{HasCause, Tells}
 use Rattle.mrp_turn.specs.Log.{entries_by, entry}
 use Rattle.mrp_turn.specs.declared.turn.CallFault.{CallFault}
 use Rattle.mrp_turn.specs.declared.turn.CallFault.TheVariants as fault
-use Rattle.mrp_turn.specs.declared.views.About.{About}
 use Rattle.mrp_item.specs.Inputs.{Inputs, places}
 use Rattle.mrp_item.specs.Places.{ItemOf}
 use Rattle.mrp_board.specs.declared.call.BoardCall.{BoardCall}
@@ -17,14 +16,14 @@ use Rattle.mrp_board.specs.declared.reply.BoardReply.TheVariants as reply
 use Rattle.mrp_board.specs.declared.refused.BoardRefused.{BoardRefused}
 use Rattle.mrp_board.specs.declared.refused.BoardRefused.TheVariants as refused
 use Rattle.mrp_board.specs.Board.{BoardEntry, BoardLog, IsLegalBoard, board_reply, handed, is_at_end, is_ready}
-use Rattle.mrp_board.specs.BoardState.{BoardState, board_reply_in}
+use Rattle.mrp_board.specs.BoardState.{BoardState}
 use Rattle.mrp_board.specs.Object.{Answers, IsOutOfMemory, Opens, Refuses}
 use Rattle.mrp_board.specs.Orderly.{IsCourse, finish_of, finished_by}
 use Rattle.mrp_board.proofs.BoardStates.{new-out}
 use Rattle.mrp_board.proofs.HandsOn.{hands-on}
 use Rattle.mrp_board.proofs.LegalLogs.{logs-legal}
 use Rattle.mrp_board.proofs.Tests.{no, same-number}
-use Rattle.mrp_explode.specs.Work.{Asks, GivesUp, HasGivenUp, Holds, HoldsNone, IsAtWork, IsDone}
+use Rattle.mrp_explode.specs.Work.{Asks, HasGivenUp, Holds, HoldsNone, IsAtWork, IsDone}
 use Rattle.mrp_explode.proofs.HandedOnce.{finish-stored}
 
 -- what holds of a refusal

@@ -23,7 +23,7 @@ enum Asks {
 
 // What a worker is told: an item comes with the place of its last parent.
 #[derive(Clone, Copy, Debug, PartialEq, Eq, Drop)]
-enum Hears {
+pub enum Hears {
     AllOut,
     Item(usize, Option<usize>),
     Stored,
@@ -61,7 +61,7 @@ fn two_workers(
 }
 
 // What a reply tells a worker.
-fn heard(reply: &BoardReply) -> Hears {
+pub fn heard(reply: &BoardReply) -> Hears {
     match reply {
         BoardReply::AllOut => Hears::AllOut,
         BoardReply::Item(item, parents) => {

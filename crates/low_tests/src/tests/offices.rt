@@ -2,14 +2,19 @@
 
 ghost use Rattle.std.specs.Prelude.{◌≡◌, ℕ, ◌<◌, All, IfOk, IfSome, slice_index_or, vec_len};
 
+use super::weeks::has_row;
+use super::workers::comes_to;
 use super::{made, pieces, same};
 use mrp_bill::Shop;
 use mrp_book::{History, Line, Refused, Reply, Spot, Wish};
 use mrp_desk::{Desk, Office, OfficeFault};
+use mrp_explode::{Gate, explode};
+use mrp_item::{Inputs, Plan};
 use sample_shops::{Asked, Said, bicycles, said};
 use std::alloc::{AllocError, Global};
 use std::process::Abort;
-use std::sync::Wait;
+use std::sync::atomic::{AtomicU64, Ordering};
+use std::sync::{Arc, Wait};
 use std::thread;
 use std::thread::Threads;
 
@@ -346,4 +351,111 @@ fn a_desk_that_meets_another_makes_an_entry(rt: HostRuntime) {
     let mut pair = after_four_calls(&rt, rt.alloc());
     same(&rt, pair.meet(&rt), (5, ("front", 5)));
     drop(pair);
+}
+
+// How far a run and a desk have come: the run's first item is held at its gate until the desk has booked.
+#[derive(Drop)]
+struct Meeting {
+    held: AtomicU64,
+    booked: AtomicU64,
+    given_up: AtomicU64,
+}
+
+impl Gate for Meeting {
+    fn pass<R: Wait>(&self, _rt: &R, item: usize) {
+        if item != 0 {
+            return;
+        }
+        self.held.store(1, Ordering::SeqCst);
+        if !comes_to(&self.booked, 1) {
+            self.given_up.store(1, Ordering::SeqCst);
+        }
+    }
+}
+
+// Books once the run's first item is held, and then lets it pass.
+fn book_meanwhile<R: Wait + Abort>(rt: &R, office: &Office, desk: &mut Desk, meeting: &Meeting)
+    requires { desk.old.turn ≡ office.now }
+    ensures { (desk.new.turn ≡ desk.old.turn) × (desk.new.number ≡ desk.old.number) }
+{
+    assert!(rt; comes_to(&meeting.held, 1));
+    let booked = answer(rt, office, desk, Asked::Book(5, 25));
+    same(rt, booked, (3, ("booked", 3)));
+    meeting.booked.store(1, Ordering::SeqCst);
+}
+
+// The plan of a run whose first item is held until the desk has booked, in a thread of its own.
+fn planned_meanwhile<R: Alloc + Threads + Wait + Sync + Abort>(
+    rt: &R,
+    alloc: Global,
+    inputs: &Arc<Inputs>,
+    office: &Office,
+    desk: &mut Desk,
+) -> Plan
+    requires { desk.old.turn ≡ office.now }
+    ensures { (desk.new.turn ≡ desk.old.turn) × (desk.new.number ≡ desk.old.number) }
+{
+    let meeting = Meeting {
+        held: AtomicU64::new(0),
+        booked: AtomicU64::new(0),
+        given_up: AtomicU64::new(0),
+    };
+    let mut book = || -> ()
+        requires { desk.now.turn ≡ office.now }
+        ensures { (desk.exit.now.turn ≡ desk.entry.now.turn) × (desk.exit.now.number ≡ desk.entry.now.number) }
+    { book_meanwhile(rt, office, desk, &meeting) };
+    let mut run = || -> Plan { explode(rt, alloc, inputs, 1, &meeting).expect(rt, "a plan") };
+    let ((), plan) = thread::join_mut(rt, &mut book, &mut run);
+    same(rt, meeting.given_up.load(Ordering::SeqCst), 0);
+    plan
+}
+
+// The shop of an office, shared.
+fn shared_shop(rt: &impl Abort, office: &Office) -> Arc<Shop>
+    ensures { result.value ≡ office.now.about.object }
+{
+    office.shop().clone().expect(rt, "memory")
+}
+
+// The inputs of a run of a desk, whose snapshot makes the second entry.
+fn started<R: Wait + Abort>(rt: &R, alloc: Global, office: &Office, desk: &mut Desk) -> Arc<Inputs>
+    requires { desk.old.turn ≡ office.now }
+    ensures { (desk.new.turn ≡ desk.old.turn) × (desk.new.number ≡ desk.old.number) }
+{
+    let (number, reply) = office.snapshot(rt, desk).expect(rt, "a reply");
+    let Reply::Taken(snapshot) = reply else {
+        panic!(rt; "a snapshot");
+    };
+    same(rt, (number, snapshot.front()), (2, 2));
+    let shop = shared_shop(rt, office);
+    Inputs::new(alloc, shop, snapshot).expect(rt, "memory")
+}
+
+impl Pair {
+    // The plan of a run of the first desk. While its first item is held the second desk books.
+    fn plan_meanwhile<R: Alloc + Threads + Wait + Sync + Abort>(
+        &mut self,
+        rt: &R,
+        alloc: Global,
+    ) -> Plan {
+        let inputs = started(rt, alloc, &self.office, &mut self.first);
+        let plan = planned_meanwhile(rt, alloc, &inputs, &self.office, &mut self.second);
+        drop(inputs);
+        plan
+    }
+}
+
+// A run plans from its snapshot, and bookings are answered while it is held.
+#[test]
+fn a_desk_books_while_a_run_is_held(rt: HostRuntime) {
+    let mut pair = Pair::open(&rt, rt.alloc());
+    let booked = pair.answer(&rt, true, Asked::Book(3, 12));
+    same(&rt, booked, (1, ("booked", 1)));
+    let plan = pair.plan_meanwhile(&rt, rt.alloc());
+    assert!(rt; plan.inputs().shop().tables().items().len() > 0);
+    has_row(&rt, rt.alloc(), plan.item(0).gross(), &[0, 8, 12, 6, 0, 0]);
+    same(&rt, pair.snapshot(&rt), (4, 4, 2));
+    let history = pair.close(&rt, rt.alloc());
+    same(&rt, history.entries().len(), 4);
+    drop((plan, history));
 }

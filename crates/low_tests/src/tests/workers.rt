@@ -1,16 +1,72 @@
-//! Workers at the board of a run plan at the same time.
+//! Workers at the board of a run: the order in which one works, and that several plan at the same time.
 
+ghost use Rattle.std.specs.Prelude.{◌≡◌};
 ghost use Rattle.std.specs.Int.{IsInRange};
+ghost use Rattle.mrp_turn.specs.Seen.{newcomer};
 ghost use Rattle.mrp_explode.specs.declared.workers.TheConstants.{MOST_WORKERS};
 
+use super::boards::{Hears, heard};
 use super::{made, same};
-use mrp_explode::{Gate, explode};
-use sample_shops::{Records, no_records};
+use mrp_board::{Board, BoardCall, BoardReply};
+use mrp_explode::{Gate, OpenGate, Worker, explode, work};
+use mrp_item::Inputs;
+use mrp_turn::{Log, Turn};
+use sample_shops::{Records, bicycles, no_records};
 use std::alloc::Global;
 use std::process::Abort;
-use std::sync::Wait;
 use std::sync::atomic::{AtomicU64, Ordering};
+use std::sync::{Arc, Wait};
 use std::thread::{Threads, yield_now};
+
+// A new board under a lock, and its only worker.
+fn one_worker(rt: &impl Abort, alloc: Global, inputs: &Arc<Inputs>) -> (Turn<Board>, Worker)
+    ensures board { result.0.about.object ≡ inputs.now.value }
+    ensures seats { result.0.about.seats ≡ 1 }
+    ensures worker { result.1 ≡ newcomer result.0 1 }
+{
+    let (board, state) = Board::open(alloc, inputs).expect(rt, "memory");
+    let (turn, mut workers) = Turn::new(alloc, board, state, 0, 1).expect(rt, "a lock");
+    let worker = workers.pop().expect(rt, "a worker");
+    drop(workers);
+    (turn, worker)
+}
+
+// The log that one worker leaves.
+fn log_of_one<R: Wait + Abort>(
+    rt: &R,
+    alloc: Global,
+    inputs: &Arc<Inputs>,
+) -> Log<BoardCall, BoardReply> {
+    let (board, mut worker) = one_worker(rt, alloc, inputs);
+    work(rt, alloc, &board, &mut worker, inputs, &OpenGate).expect(rt, "memory");
+    let Ok(mut workers) = Vec::with_capacity(alloc, 1) else {
+        panic!(rt; "memory");
+    };
+    workers.push_reserved(worker);
+    let (state, log) = board.close(workers);
+    drop(state);
+    log
+}
+
+#[test]
+fn a_worker_finishes_each_item_before_it_takes_the_next(rt: HostRuntime) {
+    const HEARD: &[Hears] = &[
+        Hears::Item(0, None),
+        Hears::Stored,
+        Hears::Item(1, Some(0)),
+        Hears::Stored,
+        Hears::Item(2, Some(0)),
+        Hears::Stored,
+        Hears::AllOut,
+    ];
+    let inputs = made(&rt, bicycles().inputs(rt.alloc(), &[]));
+    let log = log_of_one(&rt, rt.alloc(), &inputs);
+    same(&rt, log.len(), HEARD.len());
+    for (entry, want) in log.entries().iter().zip(HEARD) {
+        same(&rt, heard(&entry.reply), *want);
+    }
+    drop((inputs, log));
+}
 
 const MOST_TURNS: u64 = 10_000_000;
 

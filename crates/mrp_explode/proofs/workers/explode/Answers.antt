@@ -1,4 +1,4 @@
-use Rattle.std.proofs.Common.{◌≤◌, ℕ, arith}
+use Rattle.std.proofs.Common.{arith}
 use Rattle.mrp_explode.proofs.Ended.{holds-all}
 use Rattle.mrp_explode.proofs.SideBySide.{all-numbers, made-new}
 use Rattle.mrp_explode.proofs.workers.explode.Goals as goal

@@ -1,4 +1,4 @@
-use Rattle.std.proofs.Common.{◌≡◌, ◌∙◌, ap, subst, sym}
+use Rattle.std.proofs.Common.{◌∙◌, ap, subst, sym}
 use Rattle.mrp_item.specs.Inputs.{Inputs}
 use Rattle.mrp_item.specs.Made.{all_from}
 use Rattle.mrp_board.specs.BoardState.{AreOwn}

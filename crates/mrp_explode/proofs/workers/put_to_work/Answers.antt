@@ -1,4 +1,4 @@
-use Rattle.std.proofs.Common.{◌≡◌, ◌<◌, ℕ, arith, length}
+use Rattle.std.proofs.Common.{◌≡◌, arith, length}
 use Rattle.mrp_explode.proofs.SideBySide.{worked-if}
 use Rattle.mrp_explode.proofs.workers.put_to_work.Goals as goal
 

@@ -1,4 +1,4 @@
-use Rattle.std.proofs.Common.{◌≡◌, Some, subst}
+use Rattle.std.proofs.Common.{Some, subst}
 use Rattle.std.specs.Prelude.{IfOk}
 use Rattle.mrp_explode.specs.Work.{Asks}
 use Rattle.mrp_explode.proofs.WorkerCalls.{asks-told}

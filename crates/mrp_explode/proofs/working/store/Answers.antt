@@ -1,4 +1,4 @@
-use Rattle.std.proofs.Common.{◌≡◌, subst, sym}
+use Rattle.std.proofs.Common.{subst, sym}
 use Rattle.std.specs.Prelude.{OnOk}
 use Rattle.mrp_explode.specs.Work.{HoldsNone}
 use Rattle.mrp_explode.proofs.WorkerCalls.{finish-told}
