@@ -32,7 +32,7 @@ struct Needed<'a> {
 impl<'a> Needed<'a> {
     // The cells of surplus, or of a requirement that comes from no parent.
     fn own(week: Cell<'a>, need: Word, number: Cell<'a>) -> Needed<'a>
-        ensures { needed_cells result ≡ cell_of week ∷ word_text need ∷ cell_of number ∷ [] ∷ [] ∷ [] }
+        ensures { needed_cells result ≡ cell_of week.entry ∷ word_text need ∷ cell_of number.entry ∷ [] ∷ [] ∷ [] }
     {
         Needed {
             week,
