@@ -23,41 +23,22 @@ calls_by_desk-requires-clause-fits g c =
     let is = c.deref.ensures ∙ c.shop.ensures in
     subst (λ (x : Shop). All (λ r. Fits (supply_of x.tables) (call_of r.call)) c.args.script.now) (sym is) c.requires.fits
 
-pub serve_all-requires-clause-lists : goal.serve_all-requires-clause-lists
-serve_all-requires-clause-lists g c = λ κs alive.
-    let supply = supply_at c.args.office.now in
+pub make_ready-requires-clause-listed : goal.make_ready-requires-clause-listed
+make_ready-requires-clause-listed g c = λ k d within.
     let long : length c.as_slice.result.now ≡ length c.in_ok-lists.lists.items = ap (length {A = Vec Call Global}) c.as_slice.ensures.value in
     let size = c.in_ok-lists.ensures.size in
-    let count = c.len.ensures in record {
-      of_office = c.requires.desks.of_office;
-      listed = λ k d within.
-          let number = c.requires.desks.numbers k d within in
-          (omega (arith, number), omega (arith, number, within, long, size, count, c.args.desks.ok.0));
-      fits = λ place.
-          subst (λ (lists : List (Vec Call Global)). All (Fits supply) (calls_at lists place)) (sym c.as_slice.ensures.value)
-          (lists-fit supply c.args.script.now c.in_ok-lists.lists.items c.in_ok-lists.ensures.calls c.requires.fits place);
-    }
+    let count = c.len.ensures in
+    let number = c.requires.desks.numbers k d within in
+    (omega (arith, number), omega (arith, number, within, long, size, count, c.args.desks.ok.0))
+
+pub serve_all-requires-clause-lists : goal.serve_all-requires-clause-lists
+serve_all-requires-clause-lists g c = ?
 
 pub returns-clause-desks : goal.returns-clause-desks
-returns-clause-desks g c =
-    let records = map record_of c.args.script.now in
-    let desks = c.args.desks.items in
-    let all = c.in_ok-all.all.items in
-    let served = c.in_ok-all.ensures in
-    let calls = subst (AreCallsOf records) (sym c.as_slice.ensures.value) c.in_ok-lists.ensures.calls in
-    if-parted-desks c.args.office.now records desks all c.requires.desks c.requires.new served.count
-    (followed-each c.args.office.now (supply_at c.args.office.now) records c.as_slice.result.now desks all c.requires.desks calls
-    served.each)
-    c.parted.result c.parted.ensures.desks
+returns-clause-desks g c = ?
 
 pub returns-clause-served : goal.returns-clause-served
-returns-clause-served g c =
-    let records = map record_of c.args.script.now in
-    let desks = c.args.desks.items in
-    let all = c.in_ok-all.all.items in
-    let served = c.in_ok-all.ensures in
-    let calls = subst (AreCallsOf records) (sym c.as_slice.ensures.value) c.in_ok-lists.ensures.calls in
-    if-parted-served c.args.office.now records desks all c.requires.desks c.requires.new served.count
-    (followed-each c.args.office.now (supply_at c.args.office.now) records c.as_slice.result.now desks all c.requires.desks calls
-    served.each)
-    c.parted.result c.parted.ensures.desks c.parted.ensures.end
+returns-clause-served g c = ?
+
+pub returns-clause-runs : goal.returns-clause-runs
+returns-clause-runs g c = ?
