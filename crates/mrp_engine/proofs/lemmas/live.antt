@@ -10,3 +10,4 @@ pub mod DeskHistories
 pub mod DeskRuns
 pub mod Refusals
 pub mod Merging
+pub mod LastRuns

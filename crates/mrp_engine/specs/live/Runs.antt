@@ -1,5 +1,5 @@
 -- The runs that the calls of desks start, and what comes of them (profile).
-use Rattle.std.specs.Prelude.{ℕ, ◌≡◌, ◌<◌, ◌≤◌, ◌+◌, Bool, true, false, if◌then◌else◌, List, [], ◌∷◌, Vec, All, Option, Some, None, Result, Ok, Err, count_by, length, map, slice_index_or}
+use Rattle.std.specs.Prelude.{ℕ, ◌≡◌, ◌<◌, ◌≤◌, ◌+◌, ◌-◌, Bool, true, false, if◌then◌else◌, List, [], ◌∷◌, Vec, All, Option, Some, None, Result, Ok, Err, count_by, length, map, slice_get, slice_index_or, ⊤}
 use Rattle.std.specs.declared.collections.VecDeque.{VecDeque}
 use Rattle.std.specs.List.{AllZip, list_any}
 use Rattle.std.specs.declared.alloc.Global.{Global}
@@ -14,8 +14,8 @@ use Rattle.mrp_desk.specs.Offices.{Desk}
 use Rattle.mrp_item.specs.Inputs.{Inputs}
 use Rattle.mrp_item.specs.Places.{WholePlan}
 use Rattle.mrp_engine.specs.declared.day.fault.DayFault.{DayFault}
-use Rattle.mrp_engine.specs.declared.day.fault.DayFault.TheVariants.{NoMemory}
-use Rattle.mrp_engine.specs.day.Day.{runs_of}
+use Rattle.mrp_engine.specs.declared.day.fault.DayFault.TheVariants.{Refused, TooLarge, Read, Write, NoMemory}
+use Rattle.mrp_engine.specs.day.Day.{IsFirstRefusal, IsPlannable, runs_of}
 use Rattle.mrp_engine.specs.day.Planned.{PlansRun}
 use Rattle.mrp_engine.specs.day.Script.{is_run}
 
@@ -26,6 +26,29 @@ RunResult = Result WholePlan DayFault
 -- the inputs of the runs that entries at an office start
 abbrev pub runs_at : TurnId Shop → History → List Inputs
 runs_at office h = runs_of office.about.object.tables h
+
+-- the plan in what came of a run, if there is one
+abbrev pub plan_in_run : Option RunResult → Option WholePlan
+plan_in_run (Some (Ok plan)) = Some plan
+plan_in_run (Some (Err fault)) = None
+plan_in_run None = None
+
+-- the plan of the last run, if that has one
+abbrev pub last_plan : List RunResult → Option WholePlan
+last_plan runs = plan_in_run (slice_get runs (length runs - 1))
+
+-- the inputs of plans
+abbrev pub inputs_of_plans : List WholePlan → List Inputs
+inputs_of_plans plans = map (λ p. p.inputs) plans
+
+-- the plans of all runs, in order, or why the first refused run is refused; or out of memory
+abbrev pub PlansAll : List Inputs → Result (Vec WholePlan Global) DayFault → Type 0
+PlansAll runs (Ok plans) = (inputs_of_plans plans.items ≡ runs) × All IsPlannable runs
+PlansAll runs (Err (TooLarge name)) = IsFirstRefusal runs name
+PlansAll runs (Err NoMemory) = ⊤
+PlansAll runs (Err (Refused f)) = ⊥
+PlansAll runs (Err Read) = ⊥
+PlansAll runs (Err Write) = ⊥
 
 -- how many runs calls start
 abbrev pub runs_in : List Call → ℕ

@@ -1,11 +1,11 @@
 //! What came of the runs of all desks, in the order of the history.
 
-ghost use Rattle.std.specs.Prelude.{◌≡◌, ◌≢◌, ◌<◌, ◌≤◌, ◌-◌, ◌∷◌, ℕ, IfOk, List, length, map};
+ghost use Rattle.std.specs.Prelude.{◌≡◌, ◌≢◌, ◌<◌, ◌≤◌, ◌-◌, ◌∷◌, ℕ, IfOk, List, length, map, slice_get};
 ghost use Rattle.std.specs.List.{AllZip, list_any};
 ghost use Rattle.mrp_master.specs.Supply.{supply_of};
 ghost use Rattle.mrp_item.specs.Inputs.{Inputs};
-ghost use Rattle.mrp_engine.specs.day.Planned.{PlansHistory, PlansRun, PlansRuns};
-ghost use Rattle.mrp_engine.specs.live.Runs.{AreRunsOf, first_refused, lacks_memory, queued, refusal_among};
+ghost use Rattle.mrp_engine.specs.day.Planned.{PlansHistory, PlansRun};
+ghost use Rattle.mrp_engine.specs.live.Runs.{AreRunsOf, PlansAll, first_refused, lacks_memory, queued, refusal_among};
 
 use crate::day::{Day, DayFault, RunResult};
 use mrp_book::{History, Reply};
@@ -49,7 +49,7 @@ fn refusal_among(runs: &[RunResult]) -> Option<DayFault>
 
 // The plans of runs, or why a day with these runs is refused.
 fn plans_of(alloc: Global, runs: Vec<RunResult>) -> Result<Vec<Plan>, DayFault>
-    ensures { (all : List Inputs) → AllZip PlansRun all runs.items → PlansRuns all result }
+    ensures { (all : List Inputs) → AllZip PlansRun all runs.items → PlansAll all result }
 {
     if let Some(fault) = refusal_among(runs.as_slice()) {
         return Err(fault);
@@ -59,6 +59,14 @@ fn plans_of(alloc: Global, runs: Vec<RunResult>) -> Result<Vec<Plan>, DayFault>
         plans.push(run?)?;
     }
     Ok(plans)
+}
+
+// The first of some plans.
+fn first_of(plans: Vec<Plan>) -> Option<Plan>
+    ensures { result ≡ slice_get plans.items 0 }
+{
+    let mut plans = VecDeque::from_vec(plans);
+    plans.pop_front()
 }
 
 // The same lists, as queues.
@@ -116,6 +124,6 @@ pub fn merge(
     Ok(Day {
         rows,
         history,
-        plans,
+        first: first_of(plans),
     })
 }

@@ -3,12 +3,13 @@
 ghost use Rattle.std.specs.Prelude.{◌≡◌, ◌≤◌, ◌+◌, if◌then◌else◌, length, vec_capacity};
 ghost use Rattle.std.specs.Int.{IsInRange};
 ghost use Rattle.std.specs.List.{AllZip};
+ghost use Rattle.std.specs.Option.{option_copied};
 ghost use Rattle.mrp_book.specs.History.{Fits};
 ghost use Rattle.mrp_desk.specs.Calls.{Tells};
 ghost use Rattle.mrp_desk.specs.Offices.{supply_at};
 ghost use Rattle.mrp_engine.specs.day.Planned.{PlansRun};
 ghost use Rattle.mrp_engine.specs.day.Script.{is_run};
-ghost use Rattle.mrp_engine.specs.live.Runs.{runs_at};
+ghost use Rattle.mrp_engine.specs.live.Runs.{last_plan, runs_at};
 ghost use Rattle.mrp_engine.specs.live.Begun.{CanServe, HasDone};
 
 use crate::day::{MOST_WORKERS, RunResult, plan_or_refuse};
@@ -16,7 +17,7 @@ use crate::live::ready::Ready;
 use mrp_book::{Call, Refused, Reply};
 use mrp_desk::{Desk, Office};
 use mrp_explode::Gate;
-use mrp_item::ShopRows;
+use mrp_item::{Plan, ShopRows};
 use std::alloc::Global;
 use std::sync::{Arc, Wait};
 use std::thread::Threads;
@@ -65,7 +66,18 @@ fn make<R: Wait>(
     }
 }
 
-/// Makes a call of a desk, and plans the run that it starts: what comes of it is the last of the desk's runs.
+// The plan of a desk's last run, if that has one.
+fn last_plan(runs: &[RunResult]) -> Option<&Plan>
+    ensures { option_copied result ≡ last_plan runs.now }
+{
+    match runs.last() {
+        Some(Ok(plan)) => Some(plan),
+        _ => None,
+    }
+}
+
+/// Makes a call of a desk, and plans the run that it starts, by net change from the desk's last run if that has a
+/// plan: what comes of it is the last of the desk's runs.
 /// The caller guarantees that the call fits the shop, that the desk is of the office, and that there is room
 /// for the run.
 ///
@@ -91,14 +103,16 @@ pub fn make_and_plan<R: Threads + Wait + Sync, D, I: Gate + Sync>(
 {
     let answer = make(rt, shared.office, desk, call)?;
     if let Reply::Taken(snapshot) = &answer.1 {
-        runs.push_reserved(plan_or_refuse(
+        let run = plan_or_refuse(
             rt,
             alloc,
             shared.rows,
+            last_plan(runs),
             snapshot,
             shared.workers,
             shared.item_gate,
-        ));
+        );
+        runs.push_reserved(run);
     }
     Ok(answer)
 }

@@ -2,10 +2,12 @@ use Rattle.std.proofs.Common.{◌≡◌, ◌∙◌, ◌+◌, ◌++◌, ◌∷◌
 use Rattle.std.specs.declared.alloc.Global.{Global}
 use Rattle.std.specs.List.{AllZip}
 use Rattle.mrp_engine.specs.day.Day.{runs_of}
-use Rattle.mrp_engine.specs.day.Planned.{PlansHistory, PlansRun, PlansRuns}
+use Rattle.mrp_engine.specs.day.Planned.{PlansHistory, PlansRun}
+use Rattle.mrp_engine.specs.day.RunPlans.{IsOfFirst}
 use Rattle.mrp_engine.specs.declared.day.Day.{Day}
 use Rattle.mrp_engine.specs.declared.day.fault.DayFault.{DayFault}
-use Rattle.mrp_engine.specs.live.Runs.{RunResult}
+use Rattle.mrp_engine.specs.live.Runs.{PlansAll, RunResult}
+use Rattle.mrp_engine.proofs.lemmas.live.Refusals.{first-of-all, same-refusal}
 use Rattle.mrp_engine.proofs.lemmas.day.DayRuns.{refused-day}
 use Rattle.mrp_engine.proofs.lemmas.live.Merging.{AreMerged, Queue, all-merged, is-there, none-merged, one-merged, same-merged}
 use Rattle.mrp_engine.proofs.live.merging.merge.Goals as goal
@@ -48,9 +50,9 @@ returns-in_err-plans c =
     let fault = c.in_err-plans.field-0.0 in
     let zip : AllZip PlansRun (runs_of t h) c.loop-entry.all.items =
     all-merged t c.entries-entry-items.result.now h c.loop-entry.entry-index c.loop-entry.queues.items c.loop-entry.all.items c.entries-entry-items.ensures.entries (omega (arith, c.loop-entry-test.false)) c.loop-entry.invariant in
-    let refused : PlansRuns (runs_of t h) (Err fault) = c.in_err-plans.ensures (runs_of t h) zip in
+    let refused : PlansAll (runs_of t h) (Err fault) = c.in_err-plans.ensures (runs_of t h) zip in
     let fails : c.from_residual-in_err-plans.result ≡ Err fault = search rules in
-    subst (λ (r : Result Day DayFault). PlansHistory t h r) (sym fails) (refused-day t h fault refused)
+    subst (λ (r : Result Day DayFault). PlansHistory t h r) (sym fails) (refused-day t h fault (same-refusal (runs_of t h) fault refused))
 
 pub returns : goal.returns
 returns c =
@@ -58,5 +60,6 @@ returns c =
     let h = c.args.history.entries in
     let zip : AllZip PlansRun (runs_of t h) c.loop-entry.all.items =
     all-merged t c.entries-entry-items.result.now h c.loop-entry.entry-index c.loop-entry.queues.items c.loop-entry.all.items c.entries-entry-items.ensures.entries (omega (arith, c.loop-entry-test.false)) c.loop-entry.invariant in
-    let plans : PlansRuns (runs_of t h) (Ok c.in_ok-plans.plans) = c.in_ok-plans.ensures (runs_of t h) zip in
-    (refl, refl, record { supply = c.requires.supply; runs = plans.0; plannable = plans.1 })
+    let plans : PlansAll (runs_of t h) (Ok c.in_ok-plans.plans) = c.in_ok-plans.ensures (runs_of t h) zip in
+    let first = first-of-all c.in_ok-plans.plans.items (runs_of t h) plans.0 in
+    (refl, refl, record { supply = c.requires.supply; first = subst (IsOfFirst (runs_of t h)) (sym c.first_of.ensures) first; plannable = plans.1 })

@@ -1,8 +1,8 @@
 use Rattle.std.proofs.Common.{◌≡◌, ◌∙◌, ◌++◌, ◌∷◌, List, Some, None, Err, ap, arith, length, subst, sym}
 use Rattle.std.specs.List.{AllZip}
 use Rattle.std.proofs.lemmas.List.{append-nil, nil_from_length}
-use Rattle.mrp_engine.specs.day.Planned.{PlansRun, PlansRuns}
-use Rattle.mrp_engine.specs.live.Runs.{RunResult, refusal_among}
+use Rattle.mrp_engine.specs.day.Planned.{PlansRun}
+use Rattle.mrp_engine.specs.live.Runs.{PlansAll, RunResult, refusal_among}
 use Rattle.mrp_engine.proofs.lemmas.day.ScriptCalls.{none-given}
 use Rattle.mrp_engine.proofs.lemmas.live.Refusals.{all-planned, no-refusal, none-refused, planned, refusal}
 use Rattle.mrp_engine.proofs.live.merging.plans_of.Goals as goal
@@ -20,7 +20,7 @@ returns-in_err-run c all zip =
     let are : results ≡ planned plans ++ Err fault ∷ left =
     c.loop-run.invariant ∙ ap (λ (rest : List RunResult). planned plans ++ rest) c.in-Some-run.ensures.steps.0 ∙ ap (λ (run : RunResult). planned plans ++ run ∷ left) c.in_err-run.was in
     let none : refusal_among results ≡ None = sym (c.refusal_among.ensures ∙ ap refusal_among c.as_slice.ensures.value) ∙ none-given c.refusal_among.result c.in_default.not-Some in
-    no-refusal {X = PlansRuns all c.from_residual-in_err-run.result} results plans fault left are (none-refused results none)
+    no-refusal {X = PlansAll all c.from_residual-in_err-run.result} results plans fault left are (none-refused results none)
 
 pub returns : goal.returns
 returns c all zip =
