@@ -12,8 +12,10 @@ use Rattle.mrp_tables.specs.declared.rows.Receipt.{Receipt}
 use Rattle.mrp_tables.specs.Tables.{Tables}
 use Rattle.mrp_tables.specs.Facts.{IsMasterRow, IsReceipt}
 use Rattle.mrp_book.specs.declared.booking.Booking.{Booking}
+use Rattle.mrp_book.specs.Booked.{AreBooked}
+use Rattle.mrp_master.specs.Supply.{supply_of}
 use Rattle.mrp_item.specs.declared.due.Due.{Due}
-use Rattle.mrp_item.specs.Inputs.{Inputs}
+use Rattle.mrp_item.specs.Inputs.{Inputs, horizon}
 use Rattle.mrp_tables.specs.Master.{is_firm, is_forecast, is_service}
 use Rattle.mrp_item.specs.Rows.{firm_rows, forecast_rows, service_rows, open_receipts, bookings_due, forecast, service, booked}
 use Rattle.mrp_item.specs.Dues.{due_in, due_sum, dues_of, master_due, receipt_due, booking_due, firm_dues, forecast_dues, receipt_dues, booking_dues, service_dues}
@@ -104,3 +106,9 @@ receipts-within t i all =
     All-map (λ (d : Due). IsInRange 1 t.calendar.weeks d.week) receipt_due (filter (λ (r : Receipt). eqb r.item i) t.receipts)
     (All-filter (λ (r : Receipt). eqb r.item i) (λ (r : Receipt). IsInRange 1 t.calendar.weeks r.week) t.receipts
     (All-weaker (IsReceipt t.calendar.weeks t.items) (λ (r : Receipt). IsInRange 1 t.calendar.weeks r.week) (λ r is. is.week) t.receipts all))
+
+-- each booking of an item is due in a week of the horizon
+pub bookings-within : (s : Inputs) (i : ℕ) → AreBooked (supply_of s.tables) s.standing → All (λ (d : Due). IsInRange 1 (horizon s) d.week) (booking_dues s.standing i)
+bookings-within s i is =
+    All-map (λ (d : Due). IsInRange 1 (horizon s) d.week) booking_due (filter (λ (b : Booking). eqb b.line.item i) s.standing)
+    (All-filter (λ (b : Booking). eqb b.line.item i) (λ (b : Booking). IsInRange 1 (horizon s) b.line.week) s.standing (λ k d h. (is.lines k d h).week))

@@ -1,8 +1,10 @@
 pub mod DueLemmas
+pub mod DueSums
 pub mod DueRows
 pub mod Starts
 pub mod Releases
 pub mod OrderWeeks
+pub mod Bookings
 pub mod DependentDemand
 pub mod Parents
 pub mod StartedRows
@@ -23,6 +25,8 @@ pub mod SinglePieces
 pub mod Steps
 pub mod Outcomes
 pub mod OrderLaws
+pub mod SameOrders
+pub mod Untouched
 pub mod BicycleShop
 pub mod OtherShops
 pub mod OutcomeLists

@@ -8,7 +8,6 @@ pub mod Releases
 pub mod Orders
 pub mod Recursion
 pub mod Plan
-pub mod NetChange
 pub mod ShopRows
 pub mod View
 pub mod Places
@@ -17,5 +16,6 @@ pub mod Cases
 pub mod Own
 pub mod Whole
 pub mod Made
+pub mod NetChange
 pub mod DependentDemand
 pub mod Supplies

@@ -1,6 +1,7 @@
 //! Planning: the plan of each item, from its parents' plans.
 #![tactic(auto)]
 
+mod carrying;
 mod dependent;
 mod due;
 mod grouping;
@@ -12,18 +13,21 @@ mod outcome;
 mod over;
 mod plan;
 mod planned;
+mod planner;
 mod planning;
 mod release;
 mod shop_rows;
 mod supplies;
 mod supply;
 
+pub use carrying::{carry, keep};
 pub use due::Due;
 pub use inputs::Inputs;
 pub use order::{Order, OrderKind};
 pub use outcome::Outcome;
 pub use plan::Plan;
 pub use planned::Planned;
+pub use planner::{Planner, Work};
 pub use planning::plan_item;
 pub use shop_rows::ShopRows;
 pub use supplies::{Supplied, Supply};

@@ -102,6 +102,18 @@ impl Planned {
         &self.rows.started
     }
 
+    // The plan of the item for other inputs, for which it has the same outcome. It shares the rows.
+    pub(crate) fn over(&self, inputs: &Arc<Inputs>) -> Result<Planned, NoMemory>
+        requires tables { self.now.inputs.tables ≡ inputs.now.value.tables }
+        requires outcome { outcome_of self.now.inputs self.now.item ≡ outcome_of inputs.now.value self.now.item }
+        ensures { IfOk result (λ planned. planned ≡ record self.now { inputs = inputs.now.value }) }
+    {
+        let inputs = inputs.clone()?;
+        let rows = self.rows.clone()?;
+        let item = self.item;
+        Ok(Planned { inputs, item, rows })
+    }
+
     /// An equal plan, which shares the rows.
     ///
     /// Errors: `NoMemory` if a reference count cannot rise.

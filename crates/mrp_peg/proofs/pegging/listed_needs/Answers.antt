@@ -11,7 +11,7 @@ use Rattle.mrp_item.specs.Plan.{outcome_of, plan_in}
 use Rattle.mrp_peg.specs.declared.matching.Requirement.{Requirement}
 use Rattle.mrp_peg.specs.Weekly.{AreWithin, by_weeks}
 use Rattle.mrp_peg.specs.Rows.{all_requirements, beyond, booking_requirement, independent_requirements, forecast_requirements, part_requirements}
-use Rattle.mrp_peg.proofs.Listed.{bookings_within}
+use Rattle.mrp_item.proofs.DueRows.{bookings-within}
 use Rattle.mrp_peg.proofs.Own.{gross-length}
 use Rattle.mrp_peg.proofs.pegging.listed_needs.Goals as goal
 
@@ -25,7 +25,7 @@ demand_of-requires c =
     let size : length c.as_slice.result.now ≡ horizon s = ap length gross ∙ gross-length s i c.requires.own in
     let same : horizon x ≡ horizon s = ap (λ (y : Inputs). horizon y) e in
     let P : List Due → Type 0 = λ l. All (λ (d : Due). IsInRange 1 (horizon x) d.week) l in
-    let all = subst P (sym c.bookings.ensures.dues) (bookings_within x i c.bookings.ensures.booked) in
+    let all = subst P (sym c.bookings.ensures.dues) (bookings-within x i c.bookings.ensures.booked) in
     record {
       weeks = size ∙ sym same ∙ sym c.weeks.ensures.value;
       within = λ k d h. let r = all k d h in (r.0, omega (arith, r.1, size, same));
