@@ -5,3 +5,4 @@ pub mod Fault
 pub mod Opened
 pub mod Run
 pub mod Planned
+pub mod NetChange

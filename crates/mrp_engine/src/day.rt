@@ -7,6 +7,7 @@ ghost use Rattle.mrp_master.specs.Supply.{supply_of};
 ghost use Rattle.mrp_engine.specs.day.Planned.{PlansHistory};
 
 mod fault;
+mod net_change;
 mod opening;
 mod planning;
 mod run;
@@ -17,6 +18,7 @@ mod writing;
 pub use fault::{DayFault, OpenFault};
 use mrp_book::History;
 use mrp_item::{Plan, ShopRows};
+pub use net_change::{plan_next, replan};
 pub use opening::open_shop;
 pub use planning::plan_run;
 pub(crate) use planning::{inputs_of, name_of};

@@ -59,18 +59,17 @@ pub(crate) fn share(inputs: &Arc<Inputs>) -> Result<Arc<Inputs>, NoMemory>
     Ok(inputs.clone()?)
 }
 
-// The outcomes in a list of places of which none is empty.
-pub(crate) fn out_of_places(
-    alloc: Global,
-    outcomes: Vec<Option<Outcome>>,
-) -> Result<Vec<Outcome>, NoMemory>
-    requires { All IsSome outcomes.items }
-    ensures { IfOk result (λ all. outcomes.items ≡ map Some all.items) }
+/// What is in a list of places, in their order. The caller guarantees that no place is empty.
+///
+/// Errors: `NoMemory` if an allocation fails.
+pub fn out_of_places<M: Drop>(alloc: Global, places: Vec<Option<M>>) -> Result<Vec<M>, NoMemory>
+    requires { All IsSome places.items }
+    ensures { IfOk result (λ all. places.items ≡ map Some all.items) }
 {
-    let mut all = Vec::with_capacity(alloc, outcomes.len())?;
-    for outcome in outcomes {
-        match outcome {
-            Some(outcome) => all.push(outcome)?,
+    let mut all = Vec::with_capacity(alloc, places.len())?;
+    for place in places {
+        match place {
+            Some(held) => all.push(held)?,
             None => unreachable!(),
         }
     }

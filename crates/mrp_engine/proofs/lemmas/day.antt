@@ -5,3 +5,4 @@ pub mod DayWritten
 pub mod DayMade
 pub mod DayRuns
 pub mod RefusedItem
+pub mod Remade
