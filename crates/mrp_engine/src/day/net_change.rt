@@ -139,6 +139,13 @@ fn no_outcomes<M: Drop>(alloc: Global, count: usize) -> Result<Vec<Option<M>>, N
     Ok(made)
 }
 
+// A mark for each of a number of items, none of them set.
+fn no_marks(alloc: Global, count: usize) -> Result<Vec<bool>, NoMemory>
+    ensures { IfOk result (λ marks. marks.items ≡ replicate count false) }
+{
+    Ok(vec![in alloc; false; count]?)
+}
+
 /// The outcomes of all items for other inputs of an equal shop, in table order, by net change from an older plan
 /// (Orlicky): items are carried over from it where they can be, and else planned. If no item is over, the planner
 /// plans touched items alone. Memory and time are linear in items and bill lines.
@@ -156,7 +163,7 @@ pub fn replan<P: Planner>(
 {
     let count = inputs.shop().tables().items().len();
     let mut made = no_outcomes(alloc, count)?;
-    let mut kept = vec![in alloc; false; count]?;
+    let mut kept = no_marks(alloc, count)?;
     for item in inputs.shop().order() {
         let (outcome, is_kept) = remake(alloc, planner, old, inputs, *item, &made, &kept)?;
         made[*item] = Some(outcome);

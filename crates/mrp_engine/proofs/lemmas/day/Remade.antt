@@ -1,21 +1,26 @@
 -- Net change, item by item: outcomes in their places, marks of those that keep their orders, and what is counted.
-use Rattle.std.proofs.Common.{◌≡◌, ◌≢◌, ◌∙◌, ℕ, zero, suc, ◌+◌, ◌<◌, ◌≤◌, ◌⊎◌, inl, inr, Bool, true, false, List, [], ◌∷◌, ◌++◌, Option, Some, None, length, length-append, length-set, get_or, set, take, map, refl, sym, ap, subst, arith, get_or-set_same, get_or-set_other}
-use Rattle.std.specs.Prelude.{All, AllPairs, IsSome}
-use Rattle.std.specs.List.{range_with_len, slice_index_or}
+use Rattle.std.proofs.Common.{◌≡◌, ◌≢◌, ◌∙◌, ℕ, zero, suc, ◌+◌, ◌<◌, ◌≤◌, ◌⊎◌, inl, inr, Bool, true, false, List, [], ◌∷◌, ◌++◌, Option, Some, None, length, length-append, get_or, replicate, set, take, map, refl, sym, ap, subst, arith, get_or-set_same, get_or-set_other}
+use Rattle.std.specs.Prelude.{All, IsSome, OnOk, Result, Ok, Err}
+use Rattle.std.specs.List.{range_with_len}
 use Rattle.std.proofs.lemmas.Bool.{cases_eq}
-use Rattle.std.proofs.lemmas.List.{ext_get_or, get_or-map, length-map, map-append}
-use Rattle.std.proofs.lemmas.List.Elements.{All-push, All-nil, All-weaker}
+use Rattle.std.proofs.lemmas.List.{ext_get_or, length-map, map-append}
+use Rattle.std.proofs.lemmas.List.Elements.{All-push, All-nil, All-weaker, filter_passes}
 use Rattle.std.proofs.lemmas.List.FromFn.{get_or-map-range_with_len, length-map-range_with_len}
 use Rattle.std.proofs.lemmas.List.Quantifiers.{all_pairs_push}
-use Rattle.mrp_tables.specs.Facts.{AllDiffer}
+use Rattle.mrp_tables.specs.Facts.{AllDiffer, IsBillLine}
 use Rattle.mrp_tables.specs.declared.rows.BillLine.{BillLine}
-use Rattle.mrp_bill.specs.Bill.{IsOrder}
+use Rattle.mrp_bill.specs.Bill.{IsOrder, is_parent, parents_of}
+use Rattle.mrp_bill.proofs.Listed.{filter-range-below}
 use Rattle.mrp_item.specs.Inputs.{Inputs, count}
 use Rattle.mrp_item.specs.Made.{all_from, item_from, items_from}
-use Rattle.mrp_item.specs.NetChange.{IsTouched, KeepsOrders, RisesByTouched}
+use Rattle.mrp_item.specs.NetChange.{IsLeftAlone, IsTouched, KeepsOrders, RisesByTouched}
+use Rattle.mrp_item.specs.Own.{IsReady}
+use Rattle.mrp_item.specs.Plan.{HasParents}
 use Rattle.mrp_item.specs.Places.{ItemOf}
 use Rattle.mrp_item.proofs.OutcomeLists.{items-next}
-use Rattle.mrp_engine.specs.day.NetChange.{AreOwn, IsMade, KeepMarked}
+use Rattle.mrp_item.proofs.Parents.{kept_there}
+use Rattle.mrp_item.proofs.Untouched.{parent-of-part, part-alone}
+use Rattle.mrp_engine.specs.day.NetChange.{AreOwn, IsMade, IsRemade, KeepMarked}
 
 module _ {M : Type 0} (item_of : M → ItemOf) (s : Inputs) where
   -- one more outcome of a list of items
@@ -69,6 +74,39 @@ marked-set old new kept i b within keeps marked j e = elim (cases_eq j i) [
   | inr other ↦ marked j (sym (get_or-set_other kept i j b false other) ∙ e)
 ]
 
+-- places without outcomes, and marks that are not set
+none-at : {X : Type 0} (n i : ℕ) (x : X) → get_or (replicate n x) i x ≡ x
+none-at zero zero x = refl
+none-at zero (suc i) x = refl
+none-at (suc n) zero x = refl
+none-at (suc n) (suc i) x = none-at n i x
+
+pub own-none : {M : Type 0} (item_of : M → ItemOf) (s : Inputs) (made : List (Option M)) (n : ℕ) → made ≡ replicate n None → AreOwn item_of s made
+own-none {M} item_of s made n none i m e =
+    absurd (let empty : get_or made i None ≡ None = ap (λ (xs : List (Option M)). get_or xs i None) none ∙ none-at n i None in cc)
+
+pub marked-none : (old new : Inputs) (kept : List Bool) (n : ℕ) → kept ≡ replicate n false → KeepMarked old new kept
+marked-none old new kept n none i e = absurd (let unset : get_or kept i false ≡ false = ap (λ (xs : List Bool). get_or xs i false) none ∙ none-at n i false in cc)
+
+-- parents are items
+pub marks-fit : (lines : List BillLine) (n i : ℕ) (parents : List ℕ) (kept : List Bool) → parents ≡ parents_of lines n i → length kept ≡ n → All (λ p. p < length kept) parents
+marks-fit lines n i parents kept are size k d h =
+    omega (arith, filter-range-below (λ q. is_parent lines q i) n k d (subst (λ (xs : List ℕ). k < length xs) are h), ap (λ (xs : List ℕ). get_or xs k d) are, size)
+
+-- net change leaves an item alone that has parents, all of which are marked
+pub marked-alone : (old new : Inputs) (i : ℕ) (parents : List ℕ) (kept : List Bool) → old.tables ≡ new.tables → HasParents new → All (IsBillLine new.tables.items) new.tables.bills
+    → parents ≡ parents_of new.tables.bills (count new) i → 0 < length parents → KeepMarked old new kept → All (λ p. get_or kept p false ≡ true) parents → IsLeftAlone old new i
+marked-alone old new i parents kept tables has lines are some marked all =
+    let first : 0 < length (parents_of new.tables.bills (count new) i) = subst (λ (xs : List ℕ). 0 < length xs) are some in
+    let parent = filter_passes (λ q. is_parent new.tables.bills q i) (range_with_len 0 (count new)) 0 0 first in
+    part-alone old new i tables (parent-of-part new _ i lines parent)
+    (λ p above.
+    let within : p < count new = has p i above in
+    let (k, low, is) = kept_there (λ q. is_parent new.tables.bills q i) 0 (count new) p (omega arith) (omega arith) above in
+    let there : k < length parents = subst (λ (xs : List ℕ). k < length xs) (sym are) low in
+    let here : get_or parents k 0 ≡ p = ap (λ (xs : List ℕ). get_or xs k 0) are ∙ is in
+    marked p (subst (λ (q : ℕ). get_or kept q false ≡ true) here (all k 0 there)))
+
 -- among the first items of an order, as many different touched ones as a count has risen by
 pub record HasRisen (old s : Inputs) (order : List ℕ) (k before after : ℕ) : Type 0 where
   pub touched : List ℕ
@@ -118,3 +156,21 @@ risen-more lines n old s order k before now after i o within here touched one r 
 pub risen-all : (lines : List BillLine) (old s : Inputs) (order : List ℕ) (k before after : ℕ) → IsOrder lines (count s) order → k ≤ length order → HasRisen old s order k before after → RisesByTouched old s before after
 risen-all lines old s order k before after o most r =
     (r.touched, r.differ, (λ m d h. let (j, low, is) = r.among m d h in (subst (λ (i : ℕ). i < count s) is (o.all.items j 0 (omega arith)), r.are m d h)), r.rises)
+
+-- the next item of an order
+pub risen-next : (lines : List BillLine) (n : ℕ) (old s : Inputs) (order : List ℕ) (k before now after i : ℕ) (o : ItemOf) (kept : Bool) → IsOrder lines n order → k < length order → i ≡ get_or order k 0
+    → IsReady s i → IsRemade old s i now after o kept → HasRisen old s order k before now → HasRisen old s order (k + 1) before after
+risen-next lines n old s order k before now after i o kept is within here ready remade r = by kept refl
+  where
+    counted : kept ≡ false → IsTouched old s i ⊎ (IsReady s i → ⊥) → HasRisen old s order (k + 1) before after
+    counted e (inl touched) = risen-more lines n old s order k before now after i is within here touched (remade.counted e) r
+    counted e (inr unready) = absurd (unready ready)
+
+    by : (b : Bool) → kept ≡ b → HasRisen old s order (k + 1) before after
+    by true e = risen-same old s order k before now after (remade.uncounted e) r
+    by false e = counted e (remade.touched e)
+
+-- what holds holds of any result
+pub on-ok : {T E : Type 0} (r : Result T E) (P : Type 0) → P → OnOk r P
+on-ok (Ok t) P h = h
+on-ok (Err e) P h = tt

@@ -11,7 +11,7 @@ use Rattle.mrp_desk.specs.Offices.{supply_at}
 use Rattle.mrp_item.specs.Inputs.{inputs_of}
 use Rattle.mrp_engine.specs.day.Planned.{PlansRun}
 use Rattle.mrp_engine.specs.day.RunPlans.{IsOfShop}
-use Rattle.mrp_engine.specs.live.Runs.{RunResult, runs_at}
+use Rattle.mrp_engine.specs.live.Runs.{RunResult, last_plan, runs_at}
 use Rattle.mrp_engine.proofs.lemmas.live.LastRuns.{last-run-of-shop}
 use Rattle.mrp_engine.proofs.lemmas.live.DeskRuns.{none-started, run-started, run-taken}
 use Rattle.mrp_engine.proofs.live.serving.make_and_plan.Goals as goal
@@ -28,7 +28,7 @@ pub plan_or_refuse-run-requires-clause-last : goal.plan_or_refuse-run-requires-c
 plan_or_refuse-run-requires-clause-last g c κs alive =
     let office = c.args.shared.now.office.now in
     subst (λ (shop : Shop). IsOfShop shop.tables (option_copied c.last_plan.result)) (sym c.requires.shop)
-    (subst (IsOfShop office.about.object.tables) (sym c.last_plan.ensures) (last-run-of-shop office.about.object.tables c.args.desk.now.mine c.args.runs.now.items c.requires.runs))
+    (subst (IsOfShop office.about.object.tables) (sym (c.last_plan.ensures ∙ ap last_plan c.deref.ensures.value)) (last-run-of-shop office.about.object.tables c.args.desk.now.mine c.args.runs.now.items c.requires.runs))
 
 pub returns-clause-runs : goal.returns-clause-runs
 returns-clause-runs g c =
