@@ -26,13 +26,13 @@ pub record IsReady (calls : List Call) (r : Ready) : Type 0 where
   pub room : runs_in calls ≤ vec_capacity r.runs
 
 -- a desk of an office can make these calls, and plan the runs that they start, over these rows by so many workers
-pub record CanServe (office : TurnId Shop) (rows : Shop) (workers : ℕ) (calls : List Call) (desk : Desk) (runs : Vec RunResult) : Type 0 where
-  pub own : desk.turn ≡ office
+pub record CanServe (office : TurnId Shop) (rows : Shop) (workers : ℕ) (calls : List Call) (r : Ready) : Type 0 where
+  pub own : r.desk.turn ≡ office
   pub shop : rows ≡ office.about.object
   pub hands : IsInRange 1 MOST_WORKERS workers
   pub fits : All (Fits (supply_at office)) calls
-  pub planned : AllZip PlansRun (runs_at office desk.mine) runs.items
-  pub room : length runs.items + runs_in calls ≤ vec_capacity runs
+  pub planned : AllZip PlansRun (runs_at office r.desk.mine) r.runs.items
+  pub room : length r.runs.items + runs_in calls ≤ vec_capacity r.runs
 
 -- a desk of an office has made these calls in order, or was refused one of them, and of each run that its entries start
 -- there is what came of it

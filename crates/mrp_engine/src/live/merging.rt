@@ -1,7 +1,7 @@
 //! What came of the runs of all desks, in the order of the history.
 
 ghost use Rattle.std.specs.Prelude.{◌≡◌, ◌≢◌, ◌<◌, ◌≤◌, ◌-◌, ◌∷◌, ℕ, IfOk, List, length, map};
-ghost use Rattle.std.specs.List.{AllZip};
+ghost use Rattle.std.specs.List.{AllZip, list_any};
 ghost use Rattle.mrp_master.specs.Supply.{supply_of};
 ghost use Rattle.mrp_item.specs.Inputs.{Inputs};
 ghost use Rattle.mrp_engine.specs.day.Planned.{PlansHistory, PlansRun, PlansRuns};
@@ -27,15 +27,24 @@ fn first_refused(runs: &[RunResult]) -> Option<DayFault>
     None
 }
 
+// Whether a run was refused memory.
+fn has_lacked(runs: &[RunResult]) -> bool
+    ensures { result ≡ list_any lacks_memory runs.now }
+{
+    runs.iter()
+        .any(|run| matches!(run, Err(DayFault::NoMemory)))
+}
+
 // Why a day with these runs is refused, if it is: for want of memory if a run was refused it, otherwise as the
 // first refused run is. It takes no memory.
 fn refusal_among(runs: &[RunResult]) -> Option<DayFault>
     ensures { result ≡ refusal_among runs.now }
 {
-    if runs.iter().any(|run| matches!(run, Err(DayFault::NoMemory))) {
-        return Some(DayFault::NoMemory);
+    if has_lacked(runs) {
+        Some(DayFault::NoMemory)
+    } else {
+        first_refused(runs)
     }
-    first_refused(runs)
 }
 
 // The plans of runs, or why a day with these runs is refused.

@@ -12,6 +12,7 @@ ghost use Rattle.mrp_engine.specs.live.Runs.{runs_at};
 ghost use Rattle.mrp_engine.specs.live.Begun.{CanServe, HasDone};
 
 use crate::day::{MOST_WORKERS, RunResult, plan_or_refuse};
+use crate::live::ready::Ready;
 use mrp_book::{Call, Refused, Reply};
 use mrp_desk::{Desk, Office};
 use mrp_explode::Gate;
@@ -109,12 +110,12 @@ pub fn serve<R: Threads + Wait + Sync, D: Gate, I: Gate + Sync>(
     alloc: Global,
     shared: &Shared<'_, D, I>,
     calls: &[Call],
-    mut desk: Desk,
-    mut runs: Vec<RunResult>,
+    ready: Ready,
 ) -> Served
-    requires { CanServe shared.now.office.now shared.now.rows.now.value shared.now.workers calls.now desk runs }
-    ensures { HasDone shared.now.office.now calls.now desk result }
+    requires { CanServe shared.now.office.now shared.now.rows.now.value shared.now.workers calls.now ready }
+    ensures { HasDone shared.now.office.now calls.now ready.desk result }
 {
+    let Ready { mut desk, mut runs } = ready;
     let number = desk.number() as usize;
     for call in calls {
         shared.desk_gate.pass(rt, number);

@@ -93,18 +93,34 @@ fn serve_in<'a, E, R: Threads + Wait + Sync, D: Gate + Sync, I: Gate + Sync>(
     let mut begun = Vec::with_capacity(alloc, desks.len())?;
     let ended = Vec::with_capacity(alloc, desks.len())?;
     let all = Vec::with_capacity(alloc, desks.len())?;
-    let office = shared.office;
-    for Ready { desk, runs } in desks {
-        let calls = list_of(lists, desk.number());
+    let Shared {
+        office,
+        rows,
+        workers,
+        desk_gate,
+        item_gate,
+    } = shared;
+    for ready in desks {
+        let calls = list_of(lists, ready.desk.number());
         let duty = Duty {
             office,
             calls,
-            desk: Snapshot::of(&desk),
+            desk: Snapshot::of(&ready.desk),
         };
         let work = move || -> Served
-            requires { CanServe shared.office.now shared.rows.now.value shared.workers calls.now desk runs }
-            ensures { HasDone shared.entry.office.now calls.entry.now desk result }
-        { serve(rt, alloc, &shared, calls, desk, runs) };
+            requires { CanServe office.now rows.now.value workers calls.now ready }
+            ensures { HasDone office.entry.now calls.entry.now ready.desk result }
+        {
+            // Made here, since of a struct of references that it captures no closure has a clause.
+            let shared = Shared {
+                office,
+                rows,
+                workers,
+                desk_gate,
+                item_gate,
+            };
+            serve(rt, alloc, &shared, calls, ready)
+        };
         let one: Begun<_> = scope.spawn_with(duty, work);
         begun.push_reserved(one);
     }
@@ -127,14 +143,30 @@ pub fn serve_all<'a, R: Threads + Wait + Sync, D: Gate + Sync, I: Gate + Sync>(
     requires lists { HaveLists shared.office.now lists.now desks.items }
     ensures { IfOk result (λ all. EachServes shared.entry.office.now lists.now desks.items all.items) }
 {
+    let Shared {
+        office,
+        rows,
+        workers,
+        desk_gate,
+        item_gate,
+    } = shared;
     thread::scope(
         thread::scope_env(),
         rt,
         move |scope| -> Result<Vec<Served>, AllocError>
-            requires shop { shared.rows.now.value ≡ shared.office.now.about.object }
-            requires workers { IsInRange 1 MOST_WORKERS shared.workers }
-            requires lists { HaveLists shared.office.now lists.now desks.items }
-            ensures { IfOk result (λ all. EachServes shared.entry.office.now lists.entry.now desks.items all.items) }
-        { serve_in(scope, rt, alloc, shared, lists, desks) },
+            requires shop { rows.now.value ≡ office.now.about.object }
+            requires workers { IsInRange 1 MOST_WORKERS workers }
+            requires lists { HaveLists office.now lists.now desks.items }
+            ensures { IfOk result (λ all. EachServes office.entry.now lists.entry.now desks.items all.items) }
+        {
+            let shared = Shared {
+                office,
+                rows,
+                workers,
+                desk_gate,
+                item_gate,
+            };
+            serve_in(scope, rt, alloc, shared, lists, desks)
+        },
     )
 }

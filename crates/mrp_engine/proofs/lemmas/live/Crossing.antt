@@ -12,6 +12,8 @@ use Rattle.mrp_desk.specs.contracts.office.Office as office
 use Rattle.mrp_desk.specs.contracts.shop_book.ShopBook as shop_book
 use Rattle.mrp_desk.specs.contracts.shop_book.ShopBookObject.TheImpl as object
 use Rattle.mrp_desk.proofs.office.Office.TheSendSync.{the_sync}
+use Rattle.mrp_engine.specs.contracts.live.ready.Ready as ready
+use Rattle.mrp_engine.specs.contracts.live.serving.Served as served
 use Rattle.mrp_item.specs.contracts.plan.Plan as plan
 use Rattle.mrp_item.proofs.plan.Plan.TheSendSync as the_plan
 use Rattle.mrp_item.specs.contracts.shop_rows.ShopRows as rows
@@ -35,3 +37,11 @@ rows-send = the_rows.the_send
 
 pub rows-sync : IsSync rows.the_row
 rows-sync = the_rows.the_sync
+
+pub ready-send : IsSend ready.the_row
+unfolding entry
+ready-send = search (desk-send, plan-send, sendable, crosses) depth 40
+
+pub served-send : IsSend served.the_row
+unfolding entry
+served-send = search (desk-send, plan-send, sendable, crosses) depth 40

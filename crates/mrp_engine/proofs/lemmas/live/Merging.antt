@@ -26,15 +26,20 @@ abbrev pub Queue : Type 0
 Queue = VecDeque RunResult Global
 
 -- a queue as it is read
-pub queued-read : (queues : List Queue) (k : ℕ) (d : Queue) → k < length queues → queued queues k ≡ (get_or queues k d).items
+queued-read : (queues : List Queue) (k : ℕ) (d : Queue) → k < length queues → queued queues k ≡ (get_or queues k d).items
 queued-read queues k d within = get_or-map (λ (q : Queue). q.items) queues k d [] within
 
-pub queued-set_same : (queues : List Queue) (k : ℕ) (q : Queue) → k < length queues → queued (set queues k q) k ≡ q.items
+queued-set_same : (queues : List Queue) (k : ℕ) (q : Queue) → k < length queues → queued (set queues k q) k ≡ q.items
 queued-set_same queues k q within =
     rw (map-set (λ (x : Queue). x.items) queues k q) (get_or-set_same (map (λ (x : Queue). x.items) queues) k q.items [] (omega (arith, within, length-map queues (λ (x : Queue). x.items))))
 
 pub queued-set_other : (queues : List Queue) (k other : ℕ) (q : Queue) → other ≢ k → queued (set queues k q) other ≡ queued queues other
 queued-set_other queues k other q apart = rw (map-set (λ (x : Queue). x.items) queues k q) (get_or-set_other (map (λ (x : Queue). x.items) queues) k other q.items [] apart)
+
+-- the first of a queue is taken
+pub pop-next : (queues : List Queue) (k : ℕ) (old new : Queue) (run : RunResult) → k < length queues → old ≡ get_or queues k old → old.items ≡ run ∷ new.items → queued queues k ≡ run ∷ queued (set queues k new) k
+pop-next queues k old new run within is next =
+    queued-read queues k old within ∙ ap (λ (q : Queue). q.items) (sym is) ∙ next ∙ ap (λ (rest : List RunResult). run ∷ rest) (sym (queued-set_same queues k new within))
 
 zip-some : {A B : Type 0} (R : A → B → Type 0) (x : A) (xs : List A) (ys : List B) → AllZip R (x ∷ xs) ys → 0 < length ys
 zip-some R x xs [] all = absurd all

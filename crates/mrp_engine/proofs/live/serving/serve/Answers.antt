@@ -19,7 +19,7 @@ make_and_plan-requires-clause-room g c =
 
 pub loop-call-preserved : goal.loop-call-preserved
 loop-call-preserved g c =
-    let old = c.args.desk in
+    let old = c.args.ready.desk in
     let k = c.loop-call.call-index in
     let kept = c.loop-call.invariant in
     let told = c.make_and_plan.ensures in
@@ -40,7 +40,7 @@ loop-call-preserved g c =
 
 pub returns : goal.returns
 returns g c =
-    let old = c.args.desk in
+    let old = c.args.ready.desk in
     let kept = c.loop-call.invariant in
     record {
       made = record {
