@@ -130,6 +130,25 @@ served-each office lists ready desks all same serves =
           subst (λ (x : Desk). HasServed (supply_at office) (calls_at lists (x.number - 1)) x {U = Unit {0}} (get_or all k s).end (get_or all k s).desk) own (serves.each k r s here).made,
     )
 
+-- the first desk's list has more room, and the same in it
+pub first-same : (office : TurnId Shop) (desks : List Desk) (runs : List (Vec RunResult Global)) (old list : Vec RunResult Global) → 1 ≤ length desks → list.items ≡ (get_or runs 0 old).items → HaveRuns office desks runs
+    → HaveRuns office desks (set runs 0 list)
+first-same office desks runs old list some same have =
+    let count = have.count in
+    record {
+      count = length-set runs 0 list ∙ count;
+      each = λ k d within. elim (cases_lt 0 k) [
+        | inl more ↦
+            let apart : k ≢ 0 = λ e. absurd (omega (arith, e, more)) in
+            subst (AllZip PlansRun (runs_at office (get_or desks k d).mine)) (sym (listed-set_other runs 0 k list apart)) (have.each k d within)
+        | inr none ↦
+            let zero : k ≡ 0 = omega (arith, none) in
+            let here : listed (set runs 0 list) k ≡ listed runs k =
+            ap (listed (set runs 0 list)) zero ∙ listed-set_same runs 0 list (omega (arith, some, count)) ∙ same ∙ sym (listed-read runs 0 old (omega (arith, some, count))) ∙ ap (listed runs) (sym zero) in
+            subst (AllZip PlansRun (runs_at office (get_or desks k d).mine)) (sym here) (have.each k d within)
+      ];
+    }
+
 -- the first desk has one more of its runs
 pub first-more : (office : TurnId Shop) (desks : List Desk) (new : Desk) (runs : List (Vec RunResult Global)) (list : Vec RunResult Global) → 1 ≤ length desks → HaveRuns office desks runs
     → AllZip PlansRun (runs_at office new.mine) list.items → HaveRuns office (set desks 0 new) (set runs 0 list)

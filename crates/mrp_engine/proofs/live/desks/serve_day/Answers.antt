@@ -1,4 +1,4 @@
-use Rattle.std.proofs.Common.{◌≡◌, Err, List, Vec, arith, map, rules, subst, sym}
+use Rattle.std.proofs.Common.{◌≡◌, ◌∙◌, Err, List, Vec, ap, arith, length, map, rules, subst, sym}
 use Rattle.std.specs.Prelude.{All}
 use Rattle.std.specs.declared.alloc.Global.{Global}
 use Rattle.mrp_tables.specs.Facts.{IsScriptRow}
@@ -28,13 +28,14 @@ returns-clause-desks g c =
     let office = c.args.shared.office.now in
     let Are : Vec Desk Global → Type 0 = λ desks. AreDesksOf office desks.items in
     let lent = c.in_ok-desks.desks in
-    let before = c.in_ok-desks.ensures.desks.count in
+    let are : AreDesksOf office lent.items = subst Are c.in_ok-desks.desks-is c.in_ok-desks.ensures.desks in
+    let before = are.count in
     elim c.match-end.branch [
       | in-Ok w ↦
           let after = w.add_run-end.ensures.desks.count in
           let back = lent-back lent.len lent.items w.add_run-end.new.desks (omega (arith, before, after)) (omega (arith, lent.ok.0)) in
           subst Are (sym w.desks-is) (subst (AreDesksOf office) (sym back) w.add_run-end.ensures.desks)
-      | in-Err w ↦ subst Are (sym w.desks-is) c.in_ok-desks.ensures.desks
+      | in-Err w ↦ subst Are (sym w.desks-is) are
     ]
 
 pub returns-clause-served : goal.returns-clause-served
@@ -43,7 +44,7 @@ returns-clause-served g c =
     let all = with_run (script_of t) in
     let script : c.script-script.result.now ≡ t.script = search rules in
     let lent = c.in_ok-desks.desks in
-    let before = c.in_ok-desks.ensures.desks.count in
+    let before = ap (λ (v : Vec Desk Global). length v.items) (sym c.in_ok-desks.desks-is) ∙ c.in_ok-desks.ensures.desks.count in
     elim c.match-end.branch [
       | in-Ok w ↦
           let after = w.add_run-end.ensures.desks.count in
@@ -54,7 +55,9 @@ returns-clause-served g c =
           (subst (λ (desks : Vec Desk Global). HaveServed all desks.items w.add_run-end.result) (sym w.desks-is)
           (subst (λ (desks : List Desk). HaveServed all desks w.add_run-end.result) (sym back) served))
       | in-Err w ↦
-          let before = subst (λ (rows : List ScriptRow). HaveServed (map record_of rows) c.in_ok-desks.desks.items c.in_ok-desks.end) script c.in_ok-desks.ensures.served in
+          let told = subst (λ (end : End). HaveServed (map record_of c.script-script.result.now) lent.items end) c.in_ok-desks.end-is
+          (subst (λ (desks : Vec Desk Global). HaveServed (map record_of c.script-script.result.now) desks.items c.in_ok-desks.field-0.end) c.in_ok-desks.desks-is c.in_ok-desks.ensures.served) in
+          let before = subst (λ (rows : List ScriptRow). HaveServed (map record_of rows) c.in_ok-desks.desks.items c.in_ok-desks.end) script told in
           let refused = subst (λ (end : End). HaveServed (script_of t) c.in_ok-desks.desks.items end) w.in-Err.is before in
           subst (λ (end : End). HaveServed all c.match-end.desks.items end) (sym w.end-is)
           (subst (λ (desks : Vec Desk Global). HaveServed all desks.items {U = Unit {0}} (Err w.in-Err.refused)) (sym w.desks-is)
@@ -66,18 +69,20 @@ returns-clause-runs g c =
     let office = c.args.shared.office.now in
     let lent = c.in_ok-desks.desks in
     let lists = c.in_ok-desks.runs in
-    let before = c.in_ok-desks.ensures.desks.count in
-    let many = c.in_ok-desks.ensures.runs.count in
+    let have : HaveRuns office lent.items lists.items = subst (λ (runs : Vec (Vec RunResult Global) Global). HaveRuns office lent.items runs.items) c.in_ok-desks.runs-is
+    (subst (λ (desks : Vec Desk Global). HaveRuns office desks.items c.in_ok-desks.field-0.runs.items) c.in_ok-desks.desks-is c.in_ok-desks.ensures.runs) in
+    let before = ap (λ (v : Vec Desk Global). length v.items) (sym c.in_ok-desks.desks-is) ∙ c.in_ok-desks.ensures.desks.count in
+    let many = have.count in
     elim c.match-end.branch [
       | in-Ok w ↦
           let after = w.add_run-end.ensures.desks.count in
           let size = w.add_run-end.ensures.runs.count in
           let back = lent-back lent.len lent.items w.add_run-end.new.desks (omega (arith, before, after)) (omega (arith, lent.ok.0)) in
           let given = lent-back lists.len lists.items w.add_run-end.new.runs (omega (arith, before, after, many, size)) (omega (arith, lists.ok.0)) in
-          subst (λ (runs : Vec (Vec RunResult Global) Global). HaveRuns office c.match-end.desks.items runs.items) (sym w.runs-is)
-          (subst (λ (desks : Vec Desk Global). HaveRuns office desks.items _) (sym w.desks-is)
-          (subst (HaveRuns office _) (sym given) (subst (λ (desks : List Desk). HaveRuns office desks w.add_run-end.new.runs) (sym back) w.add_run-end.ensures.runs)))
+          let desks : c.match-end.desks.items ≡ w.add_run-end.new.desks = ap (λ (v : Vec Desk Global). v.items) w.desks-is ∙ back in
+          let runs : c.match-end.runs.items ≡ w.add_run-end.new.runs = ap (λ (v : Vec (Vec RunResult Global) Global). v.items) w.runs-is ∙ given in
+          subst (λ (ds : List Desk). HaveRuns office ds c.match-end.runs.items) (sym desks) (subst (HaveRuns office w.add_run-end.new.desks) (sym runs) w.add_run-end.ensures.runs)
       | in-Err w ↦
           subst (λ (runs : Vec (Vec RunResult Global) Global). HaveRuns office c.match-end.desks.items runs.items) (sym w.runs-is)
-          (subst (λ (desks : Vec Desk Global). HaveRuns office desks.items c.in_ok-desks.runs.items) (sym w.desks-is) c.in_ok-desks.ensures.runs)
+          (subst (λ (desks : Vec Desk Global). HaveRuns office desks.items c.in_ok-desks.runs.items) (sym w.desks-is) have)
     ]
