@@ -17,6 +17,7 @@ use Rattle.mrp_book.specs.History.{IsFull, asked}
 use Rattle.mrp_book.specs.declared.reply.Reply.{Reply}
 use Rattle.mrp_desk.specs.Calls.{HasCause, Tells}
 use Rattle.mrp_desk.specs.Offices.{Desk}
+use Rattle.mrp_engine.specs.declared.live.desks.AllServed.{AllServed}
 use Rattle.mrp_engine.specs.declared.live.serving.Served.{Served}
 use Rattle.mrp_engine.specs.live.Desks.{AreDesksOf, EndAs, HasServed, HaveServed, IsRefusedOne}
 use Rattle.mrp_engine.specs.live.DeskCalls.{AreCallsOf, asks, calls_at}
@@ -161,14 +162,14 @@ module _ (office : TurnId Shop) (records : Script) (desks now : List Desk) (all 
 -- the same of what parting gives, if it gives anything
 pub if-parted-desks : {E : Type 0} (office : TurnId Shop) (records : Script) (desks : List Desk) (all : List Served) → AreDesksOf office desks → All (λ d. d.mine ≡ []) desks → length all ≡ length desks
     → ((k : ℕ) (d : Desk) (s : Served) → k < length desks → HasFollowed records (get_or desks k d) (get_or all k s).end (get_or all k s).desk)
-    → (r : Result (Vec Desk Global × End) E) → IfOk r (λ p. p.0.items ≡ map (λ (s : Served). s.desk) all) → IfOk r (λ p. AreDesksOf office p.0.items)
-if-parted-desks office records desks all are new count each (Ok (now, end)) parted = served-desks office records desks now.items all are new count each parted
+    → (r : Result AllServed E) → IfOk r (λ p. p.desks.items ≡ map (λ (s : Served). s.desk) all) → IfOk r (λ p. AreDesksOf office p.desks.items)
+if-parted-desks office records desks all are new count each (Ok p) parted = served-desks office records desks p.desks.items all are new count each parted
 if-parted-desks office records desks all are new count each (Err e) parted = tt
 
 pub if-parted-served : {E : Type 0} (office : TurnId Shop) (records : Script) (desks : List Desk) (all : List Served) → AreDesksOf office desks → All (λ d. d.mine ≡ []) desks → length all ≡ length desks
     → ((k : ℕ) (d : Desk) (s : Served) → k < length desks → HasFollowed records (get_or desks k d) (get_or all k s).end (get_or all k s).desk)
-    → (r : Result (Vec Desk Global × End) E) → IfOk r (λ p. p.0.items ≡ map (λ (s : Served). s.desk) all) → IfOk r (λ p. EndAs all p.1) → IfOk r (λ p. HaveServed records p.0.items p.1)
-if-parted-served office records desks all are new count each (Ok (now, end)) parted ends = served-script office records desks now.items all are new count each parted end ends
+    → (r : Result AllServed E) → IfOk r (λ p. p.desks.items ≡ map (λ (s : Served). s.desk) all) → IfOk r (λ p. EndAs all p.end) → IfOk r (λ p. HaveServed records p.desks.items p.end)
+if-parted-served office records desks all are new count each (Ok p) parted ends = served-script office records desks p.desks.items all are new count each parted p.end ends
 if-parted-served office records desks all are new count each (Err e) parted ends = tt
 
 -- what some desks have made of their records, of records that are no fewer for any desk

@@ -26,15 +26,17 @@ use Rattle.mrp_book.specs.Snapshot.{Snapshot}
 use Rattle.mrp_book.specs.Standing.{History}
 use Rattle.mrp_book.proofs.SnapshotBookings.{taken-booked}
 use Rattle.mrp_desk.specs.Calls.{Tells}
-use Rattle.mrp_desk.specs.Offices.{Desk}
+use Rattle.mrp_desk.specs.Offices.{Desk, supply_at}
 use Rattle.mrp_item.specs.Inputs.{Inputs, inputs_of}
+use Rattle.mrp_engine.specs.declared.live.desks.AllServed.{AllServed}
 use Rattle.mrp_engine.specs.declared.live.ready.Ready.{Ready}
 use Rattle.mrp_engine.specs.declared.live.serving.Served.{Served}
 use Rattle.mrp_engine.specs.day.Day.{planned_from, runs_of}
 use Rattle.mrp_engine.specs.day.Planned.{PlansRun}
 use Rattle.mrp_engine.specs.day.Script.{is_run}
 use Rattle.mrp_engine.specs.live.Begun.{EachServes}
-use Rattle.mrp_engine.specs.live.Desks.{AreDesksOf}
+use Rattle.mrp_engine.specs.live.DeskCalls.{calls_at}
+use Rattle.mrp_engine.specs.live.Desks.{AreDesksOf, HasServed}
 use Rattle.mrp_engine.specs.live.Runs.{AreRunsOf, HaveRuns, RunResult, runs_at, runs_in}
 use Rattle.mrp_engine.proofs.lemmas.day.RunsPlanned.{not-a-run}
 use Rattle.mrp_engine.proofs.lemmas.live.DeskHistories.{numbered}
@@ -101,6 +103,50 @@ have-runs office lists ready all desks runs serves desks_are runs_are =
           let low : k < length ready = omega (arith, here, count) in
           subst (λ (x : Desk). AllZip PlansRun (runs_at office x.mine) (listed runs k)) (sym desk)
           (subst (AllZip PlansRun (runs_at office s.desk.mine)) (sym list) (serves.each k (some-of ready k low) (some-of all k here) low).planned);
+    }
+
+-- the same of what parting gives, if it gives anything
+pub if-have-runs : {E : Type 0} (office : TurnId Shop) (lists : List (Vec Call Global)) (ready : List Ready) (all : List Served) → EachServes office lists ready all → (r : Result AllServed E)
+    → IfOk r (λ p. p.desks.items ≡ map (λ (s : Served). s.desk) all) → IfOk r (λ p. p.runs.items ≡ map (λ (s : Served). s.runs) all) → IfOk r (λ p. HaveRuns office p.desks.items p.runs.items)
+if-have-runs office lists ready all serves (Ok p) desks_are runs_are = have-runs office lists ready all p.desks.items p.runs.items serves desks_are runs_are
+if-have-runs office lists ready all serves (Err e) desks_are runs_are = tt
+
+-- what all desks have, they have when they are ready
+pub ready-all : (P : Desk → Type 0) (ready : List Ready) (desks : List Desk) → map (λ (r : Ready). r.desk) ready ≡ desks → All P desks → All (λ (r : Ready). P r.desk) ready
+ready-all P ready desks same all = λ k d within.
+    let long = length-map {B = Desk} ready (λ r. r.desk) in
+    subst P (get_or-map (λ (r : Ready). r.desk) ready k d d.desk within) (subst (All P) (sym same) all k d.desk (omega (arith, within, long)))
+
+-- desks that are ready have made the calls of their lists, and so have these desks
+pub served-each : (office : TurnId Shop) (lists : List (Vec Call Global)) (ready : List Ready) (desks : List Desk) (all : List Served) → map (λ (r : Ready). r.desk) ready ≡ desks → EachServes office lists ready all
+    → (length all ≡ length desks) × ((k : ℕ) (d : Desk) (s : Served) → k < length desks → HasServed (supply_at office) (calls_at lists ((get_or desks k d).number - 1)) (get_or desks k d) {U = Unit {0}} (get_or all k s).end (get_or all k s).desk)
+served-each office lists ready desks all same serves =
+    let long : length desks ≡ length ready = ap (length {A = Desk}) (sym same) ∙ length-map {B = Desk} ready (λ r. r.desk) in (
+      serves.count ∙ sym long,
+      λ k d s within.
+          let here : k < length ready = omega (arith, within, long) in
+          let r = some-of ready k here in
+          let own : (get_or ready k r).desk ≡ get_or desks k d = sym (get_or-map (λ (x : Ready). x.desk) ready k r d here) ∙ ap (λ (ds : List Desk). get_or ds k d) same in
+          subst (λ (x : Desk). HasServed (supply_at office) (calls_at lists (x.number - 1)) x {U = Unit {0}} (get_or all k s).end (get_or all k s).desk) own (serves.each k r s here).made,
+    )
+
+-- the first desk's list has more room, and the same in it
+pub first-same : (office : TurnId Shop) (desks : List Desk) (runs : List (Vec RunResult Global)) (old list : Vec RunResult Global) → 1 ≤ length desks → list.items ≡ (get_or runs 0 old).items → HaveRuns office desks runs
+    → HaveRuns office desks (set runs 0 list)
+first-same office desks runs old list some same have =
+    let count = have.count in
+    record {
+      count = length-set runs 0 list ∙ count;
+      each = λ k d within. elim (cases_lt 0 k) [
+        | inl more ↦
+            let apart : k ≢ 0 = λ e. absurd (omega (arith, e, more)) in
+            subst (AllZip PlansRun (runs_at office (get_or desks k d).mine)) (sym (listed-set_other runs 0 k list apart)) (have.each k d within)
+        | inr none ↦
+            let zero : k ≡ 0 = omega (arith, none) in
+            let here : listed (set runs 0 list) k ≡ listed runs k =
+            ap (listed (set runs 0 list)) zero ∙ listed-set_same runs 0 list (omega (arith, some, count)) ∙ same ∙ sym (listed-read runs 0 old (omega (arith, some, count))) ∙ ap (listed runs) (sym zero) in
+            subst (AllZip PlansRun (runs_at office (get_or desks k d).mine)) (sym here) (have.each k d within)
+      ];
     }
 
 -- the first desk has one more of its runs

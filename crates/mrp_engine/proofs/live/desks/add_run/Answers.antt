@@ -8,6 +8,7 @@ use Rattle.mrp_engine.proofs.lemmas.day.ScriptCalls.{none-given}
 use Rattle.mrp_engine.proofs.lemmas.live.DeskLists.{run-desks, run-made, run-served}
 use Rattle.mrp_engine.proofs.lemmas.live.DeskHistories.{none-made}
 use Rattle.mrp_engine.proofs.lemmas.live.DeskRecords.{ended}
+use Rattle.mrp_engine.proofs.lemmas.live.DeskRuns.{first-more, first-same}
 use Rattle.mrp_engine.proofs.lemmas.live.Parting.{End}
 use Rattle.mrp_engine.proofs.live.desks.add_run.Goals as goal
 
@@ -62,10 +63,16 @@ pub returns-then-is_err-clause-served : goal.returns-then-is_err-clause-served
 returns-then-is_err-clause-served g c = none-made (map record_of c.args.script.now) c.args.desks.now c.requires.served
 
 pub returns-then-is_err-clause-runs : goal.returns-then-is_err-clause-runs
-returns-then-is_err-clause-runs g c = ?
+returns-then-is_err-clause-runs g c = first-same c.args.shared.now.office.now c.args.desks.now c.args.runs.now c.index-runs-0.result c.reserve.new.self c.requires.some c.reserve.ensures.items c.requires.runs
 
 pub returns-in_err-make_and_plan-clause-runs : goal.returns-in_err-make_and_plan-clause-runs
-returns-in_err-make_and_plan-clause-runs g c = ?
+returns-in_err-make_and_plan-clause-runs g c =
+    let office = c.args.shared.now.office.now in
+    let same = first-same office c.args.desks.now c.args.runs.now c.index-runs-0.result c.reserve.new.self c.requires.some c.reserve.ensures.items c.requires.runs in
+    first-more office c.args.desks.now c.make_and_plan.new.desk (slice_set c.args.runs.now 0 c.reserve.new.self) c.make_and_plan.new.runs c.requires.some same c.make_and_plan.ensures.runs
 
 pub returns-clause-runs : goal.returns-clause-runs
-returns-clause-runs g c = ?
+returns-clause-runs g c =
+    let office = c.args.shared.now.office.now in
+    let same = first-same office c.args.desks.now c.args.runs.now c.index-runs-0.result c.reserve.new.self c.requires.some c.reserve.ensures.items c.requires.runs in
+    first-more office c.args.desks.now c.make_and_plan.new.desk (slice_set c.args.runs.now 0 c.reserve.new.self) c.make_and_plan.new.runs c.requires.some same c.make_and_plan.ensures.runs
