@@ -8,8 +8,14 @@ use mrp_item::Inputs;
 use mrp_qty::NoMemory;
 use mrp_turn::Object;
 use std::alloc::Global;
+use std::hint::spin_loop;
 use std::marker::Model;
-use std::sync::Arc;
+use std::sync::atomic::{AtomicU64, Ordering};
+use std::sync::{Arc, Wait};
+use std::thread::yield_now;
+
+// How often a worker in line looks whether it is its turn before it lets other threads run.
+const LOOKS: u32 = 1_000;
 
 /// The board of a run, as an object whose state is a [`BoardState`]. Contracts see the inputs of the run.
 #[derive(Drop)]
@@ -17,6 +23,8 @@ pub struct Board {
     inputs: Arc<Inputs>,
     // The allocator of what is handed out.
     alloc: Global,
+    // 1 while a worker that came through the line is at the board, otherwise 0.
+    line: AtomicU64,
 }
 
 impl Model for Board {
@@ -41,7 +49,42 @@ impl Board {
     {
         let state = BoardState::open(alloc, inputs)?;
         let inputs = inputs.clone()?;
-        Ok((Board { inputs, alloc }, state))
+        let board = Board {
+            inputs,
+            alloc,
+            line: AtomicU64::new(0),
+        };
+        Ok((board, state))
+    }
+
+    /// Waits until no other worker that came through the line is at the board. Nothing that is proved rests on
+    /// it: a lock puts a thread that finds it taken to sleep after a few looks, for longer than it takes to plan
+    /// many items. The caller leaves the line after its call.
+    pub fn line_up<R: Wait>(&self, rt: &R) {
+        for _ in rt.forever() {
+            if self.line.swap(1, Ordering::Acquire) == 0 {
+                return;
+            }
+            if !self.looks_free() {
+                yield_now();
+            }
+        }
+    }
+
+    // Looks for a while whether the line was left.
+    fn looks_free(&self) -> bool {
+        for _ in 0..LOOKS {
+            if self.line.load(Ordering::Relaxed) == 0 {
+                return true;
+            }
+            spin_loop();
+        }
+        false
+    }
+
+    /// Lets the next worker in line come to the board.
+    pub fn leave_line(&self) {
+        self.line.store(0, Ordering::Release);
     }
 
     /// What the run plans from.

@@ -1,6 +1,8 @@
 -- The work of a worker at a board, by its own entries (profile).
-use Rattle.std.specs.Prelude.{ℕ, ◌≡◌, ◌<◌, ◌≤◌, ◌⊎◌, Bool, true, false, List, [], ◌∷◌, ◌++◌, Option, Some, None, length}
+use Rattle.std.specs.Prelude.{ℕ, ◌≡◌, ◌<◌, ◌≤◌, ◌⊎◌, Bool, true, false, List, [], ◌∷◌, ◌++◌, Option, Some, None, Result, length}
 use Rattle.mrp_turn.specs.Log.{entry}
+use Rattle.mrp_turn.specs.Calls.{Tells}
+use Rattle.mrp_turn.specs.declared.turn.CallFault.{CallFault}
 use Rattle.mrp_turn.specs.Seen.{Seated}
 use Rattle.mrp_turn.specs.declared.views.About.{About}
 use Rattle.mrp_item.specs.Inputs.{Inputs, count}
@@ -10,13 +12,19 @@ use Rattle.mrp_board.specs.declared.call.BoardCall.{BoardCall}
 use Rattle.mrp_board.specs.declared.call.BoardCall.TheVariants as call
 use Rattle.mrp_board.specs.declared.reply.BoardReply.{BoardReply}
 use Rattle.mrp_board.specs.declared.reply.BoardReply.TheVariants as reply
+use Rattle.mrp_board.specs.declared.refused.BoardRefused.{BoardRefused}
 use Rattle.mrp_board.specs.Board.{BoardLog}
+use Rattle.mrp_board.specs.Object.{Answers, IsOutOfMemory, Opens, Refuses}
 use Rattle.mrp_board.specs.Orderly.{finished_by}
 use Rattle.mrp_explode.specs.declared.working.Task.{Task}
 
 -- a worker: its board, its number, what it has seen of the board's log, and its own entries
 abbrev pub Worker : Type 0
 Worker = Seated Inputs BoardCall BoardReply
+
+-- what the lock says of a worker's call
+abbrev pub IsTold : About Inputs → BoardCall → Worker → Result (ℕ × BoardReply) (CallFault BoardRefused) → Worker → Type 0
+IsTold about c old result new = Tells (Opens about.object) (Answers about.object) Refuses IsOutOfMemory about.room old.number c old.seen old.mine result new.seen new.mine
 
 -- it has finished each item that it took
 abbrev pub HoldsNone : Inputs → ℕ → BoardLog → Type 0

@@ -3,8 +3,9 @@
 ghost use Rattle.std.specs.Prelude.{◌≡◌, ◌<◌, ◌≤◌, ◌⊎◌, ◌++◌, ◌∷◌, [], IfOk, OnErr, OnOk, length};
 ghost use Rattle.mrp_item.specs.Inputs.{count};
 ghost use Rattle.mrp_item.specs.Made.{item_from, parents_from};
+ghost use Rattle.mrp_board.specs.Board.{FitsInputs};
 ghost use Rattle.mrp_board.specs.Orderly.{IsCourse};
-ghost use Rattle.mrp_explode.specs.Work.{Asks, GivesUp, HasGivenUp, Holds, HoldsNone, IsAfter, IsAtWork, IsDone, Takes};
+ghost use Rattle.mrp_explode.specs.Work.{Asks, GivesUp, HasGivenUp, Holds, HoldsNone, IsAfter, IsAtWork, IsDone, IsTold, Takes};
 
 use crate::gate::Gate;
 use crate::levels::make_room;
@@ -27,6 +28,24 @@ struct Task {
     parents: Parents,
 }
 
+// One call of a worker, which lines up for it.
+fn call<R: Wait>(
+    rt: &R,
+    board: &Turn<Board>,
+    seat: &mut Worker,
+    asked: BoardCall,
+) -> Result<(u64, BoardReply), CallFault<BoardRefused>>
+    requires turn { seat.old.turn ≡ board.now }
+    requires call { FitsInputs board.now.about.object asked }
+    ensures same { (seat.new.turn ≡ seat.old.turn) × (seat.new.number ≡ seat.old.number) }
+    ensures told { IsTold board.now.about asked seat.old result seat.new }
+{
+    board.object().line_up(rt);
+    let result = board.call(rt, seat, asked);
+    board.object().leave_line();
+    result
+}
+
 // Asks for an item once. `None` if none is ready yet.
 fn ask<R: Wait>(
     rt: &R,
@@ -38,7 +57,7 @@ fn ask<R: Wait>(
     ensures asked { IfOk result (λ reply. Asks board.now.about.object worker.old.number worker.old.mine reply worker.new.mine) }
     ensures refused { OnErr result (worker.new.mine ≡ worker.old.mine) }
 {
-    match board.call(rt, worker, BoardCall::Take) {
+    match call(rt, board, worker, BoardCall::Take) {
         Ok((_, reply)) => Ok(Some(reply)),
         Err(CallFault::Refused(BoardRefused::NotYet)) => Ok(None),
         Err(_) => Err(NoMemory),
@@ -95,7 +114,7 @@ fn store<R: Wait>(
     ensures stored { OnOk result (HoldsNone board.now.about.object worker.old.number worker.new.mine) }
     ensures refused { OnErr result (worker.new.mine ≡ worker.old.mine) }
 {
-    match board.call(rt, worker, BoardCall::Finish(outcome)) {
+    match call(rt, board, worker, BoardCall::Finish(outcome)) {
         Ok(_) => Ok(()),
         Err(_) => Err(NoMemory),
     }
@@ -156,7 +175,7 @@ fn give_up<R: Wait>(rt: &R, board: &Turn<Board>, worker: &mut Worker)
     ensures same { (worker.new.turn ≡ worker.old.turn) × (worker.new.number ≡ worker.old.number) }
     ensures given_up { GivesUp board.now.about worker.old.number worker.old.mine worker.new.seen worker.new.mine }
 {
-    let _ = board.call(rt, worker, BoardCall::GiveUp);
+    let _ = call(rt, board, worker, BoardCall::GiveUp);
 }
 
 /// Has a worker take items from the board of a run, plan each and store its outcome, until every item was
