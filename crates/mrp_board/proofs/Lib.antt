@@ -2,6 +2,7 @@ pub mod Tests
 pub mod BoardLogs
 pub mod BoardStates
 pub mod HandsOn
+pub mod ComeAgain
 pub mod Ends
 pub mod SeatWorkers
 pub mod LegalLogs
