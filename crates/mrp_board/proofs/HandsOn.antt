@@ -1,5 +1,5 @@
 -- In a legal log each outcome that is stored is its item's, and each item that is handed out comes with its parents' outcomes.
-use Rattle.std.proofs.Common.{◌≡◌, ◌∙◌, ◌||◌, ◌<◌, ℕ, Bool, true, false, not, if◌then◌else◌, List, [], ◌∷◌, ◌++◌, Option, Some, map, refl, sym, ap, subst, arith}
+use Rattle.std.proofs.Common.{◌≡◌, ◌∙◌, ◌||◌, ◌&&◌, ◌<◌, ℕ, Bool, true, false, not, if◌then◌else◌, List, [], ◌∷◌, ◌++◌, Option, Some, map, refl, sym, ap, subst, arith}
 use Rattle.std.specs.Prelude.{filter_map, find}
 use Rattle.std.specs.List.{cons_option, list_all}
 use Rattle.mrp_turn.specs.Log.{entry}
@@ -12,9 +12,9 @@ use Rattle.mrp_board.specs.declared.call.BoardCall.{BoardCall}
 use Rattle.mrp_board.specs.declared.call.BoardCall.TheVariants as call
 use Rattle.mrp_board.specs.declared.reply.BoardReply.{BoardReply}
 use Rattle.mrp_board.specs.declared.reply.BoardReply.TheVariants as reply
-use Rattle.mrp_board.specs.Board.{BoardLog, FitsInputs, HandsOn, IsLegalBoard, MayFollowOnBoard, board_reply, is_at_end, is_out, is_ready, is_stored, outcome_by, outcome_in, parents_in, stores}
+use Rattle.mrp_board.specs.Board.{BoardLog, FitsInputs, HandsOn, IsLegalBoard, MayFollowOnBoard, board_reply, is_at_end, is_out, is_out_to, is_ready, is_stored, outcome_by, outcome_in, parents_in, stores}
 use Rattle.mrp_board.proofs.BoardStates.{found-ready}
-use Rattle.mrp_board.proofs.Tests.{and-first, and-second, equal, found-in, no}
+use Rattle.mrp_board.proofs.Tests.{and-first, and-second, equal, found-in, is-not, no}
 
 module _ (s : Inputs) where
   own : (o : ItemOf) → o.inputs ≡ s → o ≡ item_from s o.item
@@ -74,10 +74,31 @@ module _ (s : Inputs) where
             (and-second (not (is_out log item)) (list_all (is_stored log) (parents_of s.tables.bills (count s) item)) found.0);
       }
 
+  -- an item that is handed out, as the log before it has it
+  at-hand : (log before after : BoardLog) (who item : ℕ) (parents : List ItemOf) → IsLegalBoard s log → log ≡ before ++ entry who call.Take (reply.Item item parents) ∷ after → IsHanded before item parents
+  at-hand log before after who item parents legal place =
+      let e = entry who call.Take (reply.Item item parents) in
+      handed-out before who item parents (EachFollows-front (MayFollowOnBoard s) before (e ∷ after) (subst (IsLegalBoard s) place legal)) (legal before e after place).1
+
+  -- what is stored was handed out to the worker that stores it, and was not stored
+  held-by : (log : BoardLog) (who : ℕ) (o : ItemOf) → board_reply s log who (call.Finish o) ≡ Some reply.Stored → (is_out_to who log o.item ≡ true) × (is_stored log o.item ≡ false)
+  held-by log who o is = by (is_out_to who log o.item) (is_stored log o.item) is
+    where
+      by : (a b : Bool) → (if a && not b then Some reply.Stored else Some reply.NotOut) ≡ Some reply.Stored → (a ≡ true) × (b ≡ false)
+      by true false e = (refl, refl)
+      by true true e = absurd (let n : Some reply.NotOut ≡ Some reply.Stored = e in cc)
+      by false b e = absurd (let n : Some reply.NotOut ≡ Some reply.Stored = e in cc)
+
   pub hands-on : (log : BoardLog) → IsLegalBoard s log → HandsOn s log
   hands-on log legal = record {
+    once = λ before after who item parents place.
+        let ready = (at-hand log before after who item parents legal place).ready in
+        is-not (is_out before item) (and-first (not (is_out before item)) (list_all (is_stored before) (parents_of s.tables.bills (count s) item)) ready);
+    fed = λ before after who item parents place.
+        let ready = (at-hand log before after who item parents legal place).ready in
+        and-second (not (is_out before item)) (list_all (is_stored before) (parents_of s.tables.bills (count s) item)) ready;
+    given = λ before after who item parents place. (at-hand log before after who item parents legal place).given;
+    new = λ before after who o place. (held-by before who o (legal before (entry who (call.Finish o) reply.Stored) after place).1).1;
+    taken = λ before after who o place. (held-by before who o (legal before (entry who (call.Finish o) reply.Stored) after place).1).0;
     stored = λ before after who o place. own o (legal before (entry who (call.Finish o) reply.Stored) after place).2;
-    given = λ before after who item parents place.
-        let front : IsLegalBoard s before = EachFollows-front (MayFollowOnBoard s) before (entry who call.Take (reply.Item item parents) ∷ after) (subst (IsLegalBoard s) place legal) in
-        (handed-out before who item parents front (legal before (entry who call.Take (reply.Item item parents)) after place).1).given;
   }

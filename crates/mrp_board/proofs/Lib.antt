@@ -2,11 +2,12 @@ pub mod Tests
 pub mod BoardLogs
 pub mod BoardStates
 pub mod HandsOn
+pub mod ComeAgain
 pub mod Ends
 pub mod SeatWorkers
 pub mod LegalLogs
 pub mod Heaps
 pub mod Queues
 pub mod Waiting
-pub mod ComeAgain
+pub mod Waits
 pub mod Replies

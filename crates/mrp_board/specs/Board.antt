@@ -125,10 +125,15 @@ item_of (Some e) = item_in e.reply
 abbrev pub held : ℕ → BoardLog → Option ℕ
 held who log = item_of (settled_by who log)
 
--- What a legal log says of outcomes.
+-- What a legal log says of items and their outcomes.
 
--- what is stored is its item's outcome for these inputs, and what is handed out comes with its distinct parents' outcomes for
--- them
+-- An item is handed out once, after all its parents were stored, and with their outcomes for these inputs. Its own is stored
+-- once, by the worker that it was handed to, and is the item's outcome for them
 pub record HandsOn (s : Inputs) (log : BoardLog) : Type 0 where
-  pub stored : (before after : BoardLog) (who : ℕ) (o : ItemOf) → log ≡ before ++ entry who (call.Finish o) reply.Stored ∷ after → o ≡ item_from s o.item
+  pub once : (before after : BoardLog) (who item : ℕ) (parents : List ItemOf) → log ≡ before ++ entry who call.Take (reply.Item item parents) ∷ after → is_out before item ≡ false
+  pub fed : (before after : BoardLog) (who item : ℕ) (parents : List ItemOf) → log ≡ before ++ entry who call.Take (reply.Item item parents) ∷ after
+      → list_all (is_stored before) (parents_of s.tables.bills (count s) item) ≡ true
   pub given : (before after : BoardLog) (who item : ℕ) (parents : List ItemOf) → log ≡ before ++ entry who call.Take (reply.Item item parents) ∷ after → parents ≡ parents_from s item
+  pub new : (before after : BoardLog) (who : ℕ) (o : ItemOf) → log ≡ before ++ entry who (call.Finish o) reply.Stored ∷ after → is_stored before o.item ≡ false
+  pub taken : (before after : BoardLog) (who : ℕ) (o : ItemOf) → log ≡ before ++ entry who (call.Finish o) reply.Stored ∷ after → is_out_to who before o.item ≡ true
+  pub stored : (before after : BoardLog) (who : ℕ) (o : ItemOf) → log ≡ before ++ entry who (call.Finish o) reply.Stored ∷ after → o ≡ item_from s o.item

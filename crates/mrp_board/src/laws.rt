@@ -1,6 +1,6 @@
 //! What follows from the definitions alone, each law the contract of a function that does nothing.
 
-ghost use Rattle.std.specs.Prelude.{◌≡◌, ◌≤◌, ◌<◌, ◌++◌, ◌∷◌, [], ℕ, List, None, Some, false, true};
+ghost use Rattle.std.specs.Prelude.{◌≡◌, ◌↔◌, ◌≤◌, ◌<◌, ◌++◌, ◌∷◌, [], ℕ, List, None, Some, false, true};
 ghost use Rattle.mrp_turn.specs.Log.{AreFrom, IsLegal, LeadsTo, entries_by, entry};
 ghost use Rattle.mrp_item.specs.Inputs.{Inputs, count};
 ghost use Rattle.mrp_item.specs.Plan.{IsRanked};
@@ -8,7 +8,7 @@ ghost use Rattle.mrp_board.specs.declared.call.BoardCall.{BoardCall};
 ghost use Rattle.mrp_board.specs.declared.call.BoardCall.TheVariants as call;
 ghost use Rattle.mrp_board.specs.declared.reply.BoardReply.{BoardReply};
 ghost use Rattle.mrp_board.specs.declared.reply.BoardReply.TheVariants as reply;
-ghost use Rattle.mrp_board.specs.Board.{BoardEntry, BoardLog, FitsInputs, HandsOn, IsLegalBoard, IsUnderWay, MayFollowOnBoard, board_reply, is_finished, is_out, is_ready};
+ghost use Rattle.mrp_board.specs.Board.{BoardEntry, BoardLog, FitsInputs, HandsOn, IsLegalBoard, IsUnderWay, MayFollowOnBoard, board_reply, is_at_end, is_finished, is_out, is_ready};
 ghost use Rattle.mrp_board.specs.BoardState.{BoardState, board_reply_in, new_board, state_after, state_of};
 ghost use Rattle.mrp_board.specs.Object.{Answers, Opens};
 ghost use Rattle.mrp_board.specs.Orderly.{IsComplete, IsCourse, IsOrderly, WorkedToEnd};
@@ -17,6 +17,8 @@ ghost use Rattle.mrp_board.specs.Orderly.{IsComplete, IsCourse, IsOrderly, Worke
 pub fn boards()
     // A board answers by its legal log as it does by the state that the log leaves.
     ensures reply { (s : Inputs) (log : BoardLog) (who : ℕ) (c : BoardCall) → IsLegalBoard s log → board_reply s log who c ≡ board_reply_in (state_of s log) who c }
+    // A worker has to come again exactly if items are left, none of them is ready, and nobody gave up.
+    ensures waits { (s : Inputs) (log : BoardLog) (who : ℕ) → (board_reply s log who call.Take ≡ None) ↔ ((is_at_end s log ≡ false) × ((item : ℕ) → item < count s → is_ready s log item ≡ false)) }
     // An empty log leaves the state in which a board opens.
     ensures none { (s : Inputs) → state_of s [] ≡ new_board s }
     // One more entry changes the state that a log leaves as it changes any state.
@@ -32,8 +34,8 @@ pub fn logs()
     ensures leads { (s : Inputs) (log : BoardLog) → IsLegalBoard s log → LeadsTo (Answers s) (Opens s) log (state_of s log) }
 {}
 
-/// In a legal log of a board each outcome that is stored is its item's, and each item that is handed out
-/// comes with its distinct parents' outcomes.
+/// In a legal log of a board each item is handed out once, after all its parents were stored, and with their
+/// outcomes; its own outcome is stored once, by the worker that took the item.
 pub fn boards_hand_on()
     ensures { (s : Inputs) (log : BoardLog) → IsLegalBoard s log → HandsOn s log }
 {}

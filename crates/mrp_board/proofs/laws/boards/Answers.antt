@@ -1,4 +1,5 @@
 use Rattle.mrp_board.proofs.BoardStates.{reply-is, state-more, state-none}
+use Rattle.mrp_board.proofs.Waits.{come-again}
 use Rattle.mrp_board.proofs.laws.boards.Goals as goal
 
 pub returns-clause-reply : goal.returns-clause-reply
@@ -9,3 +10,6 @@ returns-clause-none c = λ s. state-none s
 
 pub returns-clause-more : goal.returns-clause-more
 returns-clause-more c = λ s log who call reply is. state-more s log who call reply is
+
+pub returns-clause-waits : goal.returns-clause-waits
+returns-clause-waits c = λ s log who. come-again s log who
