@@ -14,28 +14,17 @@ use Rattle.mrp_engine.proofs.lemmas.live.OneByOne.{all-done, one-done, room-left
 use Rattle.mrp_engine.proofs.lemmas.live.Duties.{IsBegun, IsWorkOf, begun-as, can-serve, left-can, serves-all, some-of}
 use Rattle.mrp_engine.proofs.live.threads.serve_in.Goals as goal
 
--- what the closure captures, one by one: the search for all of it at once passes its limits
 pub spawn_with-one-requires-send-F : goal.spawn_with-one-requires-send-F
-spawn_with-one-requires-send-F g c κs within =
-    param_send 2 _ (recorded_send _ _ _ _ (struct_send _ (
-      search (office-sync, sendable, crosses) depth 40,
-      (
-        search (rows-send, rows-sync, sendable, crosses) depth 40,
-        (
-          search sendable,
-          (
-            search (c.type_bounds.sync-D, sendable) depth 20,
-            (
-              search (c.type_bounds.sync-I, sendable) depth 20,
-              (
-                search (c.type_bounds.sync-R, sendable) depth 20,
-                (search (sendable, crosses) depth 40, (search (call-sync, sendable, crosses) depth 40, (search (ready-send, sendable, crosses) depth 40, tt))),
-              ),
-            ),
-          ),
-        ),
-      ),
-    )))
+spawn_with-one-requires-send-F g c κs within = param_send 2 _ (recorded_send _ _ _ _ (struct_send _ ?))
+
+try1 : goal.spawn_with-one-requires-send-F
+try1 g c κs within = param_send 2 _ (recorded_send _ _ _ _ (struct_send _ (search (ready-send, office-sync, call-sync, rows-send, rows-sync, c.type_bounds.sync-R, c.type_bounds.sync-D, c.type_bounds.sync-I, sendable, crosses) depth 100)))
+
+try2 : goal.spawn_with-one-requires-send-F
+try2 g c κs within = param_send 2 _ (search (ready-send, office-sync, call-sync, rows-send, rows-sync, c.type_bounds.sync-R, c.type_bounds.sync-D, c.type_bounds.sync-I, sendable, crosses) depth 100)
+
+try3 : goal.spawn_with-one-requires-send-F
+try3 g c κs within = param_send 2 _ (recorded_send _ _ _ _ (search (ready-send, office-sync, call-sync, rows-send, rows-sync, c.type_bounds.sync-R, c.type_bounds.sync-D, c.type_bounds.sync-I, sendable, crosses) depth 100))
 
 pub spawn_with-one-requires-send-T : goal.spawn_with-one-requires-send-T
 spawn_with-one-requires-send-T g c κs within = search (served-send, sendable, crosses) depth 40
