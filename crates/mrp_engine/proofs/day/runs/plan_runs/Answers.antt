@@ -19,8 +19,7 @@ plan_or_refuse-requires g c =
     let t = c.args.rows.now.value.tables in
     let h = c.entries-entry-items.result.now in
     let legal : IsLegal (supply_of t) h = subst (λ (x : Supply). IsLegal x h) c.requires.supply c.entries-entry-items.ensures.legal in (
-      search (sendable, crosses) depth 40,
-      search (sendable, crosses) depth 40,
+      (search (sendable, crosses) depth 40, search (sendable, crosses) depth 40),
       (snapshot-booked (supply_of t) h c.loop-entry.entry-index c.entry-item.result c.in-Taken.snapshot legal c.loop-entry-test.true c.entry-item.is c.in-Taken.is, c.requires.workers),
     )
 

@@ -27,8 +27,8 @@ pub returns-clause-desks : goal.returns-clause-desks
 returns-clause-desks g c =
     let office = c.args.shared.office.now in
     let Are : Vec Desk Global → Type 0 = λ desks. AreDesksOf office desks.items in
-    let lent = c.in_ok-desks.desks in
-    let are : AreDesksOf office lent.items = subst Are c.in_ok-desks.desks-is c.in_ok-desks.ensures.desks in
+    let lent = c.in_ok-desks.field-0.desks in
+    let are = c.in_ok-desks.ensures.desks in
     let before = are.count in
     elim c.match-end.branch [
       | in-Ok w ↦
@@ -43,8 +43,8 @@ returns-clause-served g c =
     let t = c.args.shared.office.now.about.object.tables in
     let all = with_run (script_of t) in
     let script : c.script-script.result.now ≡ t.script = search rules in
-    let lent = c.in_ok-desks.desks in
-    let before = ap (λ (v : Vec Desk Global). length v.items) (sym c.in_ok-desks.desks-is) ∙ c.in_ok-desks.ensures.desks.count in
+    let lent = c.in_ok-desks.field-0.desks in
+    let before = c.in_ok-desks.ensures.desks.count in
     elim c.match-end.branch [
       | in-Ok w ↦
           let after = w.add_run-end.ensures.desks.count in
@@ -55,23 +55,20 @@ returns-clause-served g c =
           (subst (λ (desks : Vec Desk Global). HaveServed all desks.items w.add_run-end.result) (sym w.desks-is)
           (subst (λ (desks : List Desk). HaveServed all desks w.add_run-end.result) (sym back) served))
       | in-Err w ↦
-          let told = subst (λ (end : End). HaveServed (map record_of c.script-script.result.now) lent.items end) c.in_ok-desks.end-is
-          (subst (λ (desks : Vec Desk Global). HaveServed (map record_of c.script-script.result.now) desks.items c.in_ok-desks.field-0.end) c.in_ok-desks.desks-is c.in_ok-desks.ensures.served) in
-          let before = subst (λ (rows : List ScriptRow). HaveServed (map record_of rows) c.in_ok-desks.desks.items c.in_ok-desks.end) script told in
-          let refused = subst (λ (end : End). HaveServed (script_of t) c.in_ok-desks.desks.items end) w.in-Err.is before in
+          let told = subst (λ (rows : List ScriptRow). HaveServed (map record_of rows) lent.items c.in_ok-desks.field-0.end) script c.in_ok-desks.ensures.served in
+          let refused = subst (λ (end : End). HaveServed (script_of t) lent.items end) (c.in_ok-desks.end-is ∙ w.in-Err.is) told in
           subst (λ (end : End). HaveServed all c.match-end.desks.items end) (sym w.end-is)
           (subst (λ (desks : Vec Desk Global). HaveServed all desks.items {U = Unit {0}} (Err w.in-Err.refused)) (sym w.desks-is)
-          (refused-more (script_of t) all c.in_ok-desks.desks.items w.in-Err.refused (run-fewer (script_of t)) refused))
+          (refused-more (script_of t) all lent.items w.in-Err.refused (run-fewer (script_of t)) refused))
     ]
 
 pub returns-clause-runs : goal.returns-clause-runs
 returns-clause-runs g c =
     let office = c.args.shared.office.now in
-    let lent = c.in_ok-desks.desks in
-    let lists = c.in_ok-desks.runs in
-    let have : HaveRuns office lent.items lists.items = subst (λ (runs : Vec (Vec RunResult Global) Global). HaveRuns office lent.items runs.items) c.in_ok-desks.runs-is
-    (subst (λ (desks : Vec Desk Global). HaveRuns office desks.items c.in_ok-desks.field-0.runs.items) c.in_ok-desks.desks-is c.in_ok-desks.ensures.runs) in
-    let before = ap (λ (v : Vec Desk Global). length v.items) (sym c.in_ok-desks.desks-is) ∙ c.in_ok-desks.ensures.desks.count in
+    let lent = c.in_ok-desks.field-0.desks in
+    let lists = c.in_ok-desks.field-0.runs in
+    let have = c.in_ok-desks.ensures.runs in
+    let before = c.in_ok-desks.ensures.desks.count in
     let many = have.count in
     elim c.match-end.branch [
       | in-Ok w ↦
@@ -84,5 +81,5 @@ returns-clause-runs g c =
           subst (λ (ds : List Desk). HaveRuns office ds c.match-end.runs.items) (sym desks) (subst (HaveRuns office w.add_run-end.new.desks) (sym runs) w.add_run-end.ensures.runs)
       | in-Err w ↦
           subst (λ (runs : Vec (Vec RunResult Global) Global). HaveRuns office c.match-end.desks.items runs.items) (sym w.runs-is)
-          (subst (λ (desks : Vec Desk Global). HaveRuns office desks.items c.in_ok-desks.runs.items) (sym w.desks-is) have)
+          (subst (λ (desks : Vec Desk Global). HaveRuns office desks.items lists.items) (sym w.desks-is) have)
     ]
