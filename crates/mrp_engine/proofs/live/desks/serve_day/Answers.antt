@@ -56,7 +56,8 @@ returns-clause-served g c =
           (subst (λ (desks : List Desk). HaveServed all desks w.add_run-end.result) (sym back) served))
       | in-Err w ↦
           let told = subst (λ (rows : List ScriptRow). HaveServed (map record_of rows) lent.items c.in_ok-desks.field-0.end) script c.in_ok-desks.ensures.served in
-          let refused = subst (λ (end : End). HaveServed (script_of t) lent.items end) (c.in_ok-desks.end-is ∙ w.in-Err.is) told in
+          let is : ◌≡◌ {A = End} c.in_ok-desks.field-0.end (Err w.in-Err.refused) = first_of (search rules, cc) in
+          let refused = subst (λ (end : End). HaveServed (script_of t) lent.items end) is told in
           subst (λ (end : End). HaveServed all c.match-end.desks.items end) (sym w.end-is)
           (subst (λ (desks : Vec Desk Global). HaveServed all desks.items {U = Unit {0}} (Err w.in-Err.refused)) (sym w.desks-is)
           (refused-more (script_of t) all lent.items w.in-Err.refused (run-fewer (script_of t)) refused))
