@@ -60,7 +60,10 @@ pub fn plan_or_refuse<R: Threads + Wait + Sync, G: Gate + Sync>(
     requires workers { IsInRange 1 MOST_WORKERS workers }
     ensures { PlansRun (inputs_of rows.now.value.tables snapshot.now) result }
 {
-    or_refusal(rows.shop(), plan_run_by(rt, alloc, rows, snapshot, workers, gate))
+    or_refusal(
+        rows.shop(),
+        plan_run_by(rt, alloc, rows, snapshot, workers, gate),
+    )
 }
 
 /// The plans of a history's runs, in order of entries, each from the snapshot in its entry's reply and by
@@ -83,9 +86,7 @@ pub fn plan_runs(
     let mut plans = Vec::new(alloc);
     for entry in history.entries() {
         if let Reply::Taken(snapshot) = &entry.reply {
-            plans.push(plan_or_refuse(
-                rt, alloc, rows, snapshot, workers, &OpenGate,
-            )?)?;
+            plans.push(plan_or_refuse(rt, alloc, rows, snapshot, workers, &OpenGate)?)?;
         }
     }
     Ok(plans)
