@@ -70,10 +70,7 @@ fn first_of(plans: Vec<Plan>) -> Option<Plan>
 }
 
 // The same lists, as queues.
-fn queues_of(
-    alloc: Global,
-    runs: Vec<Vec<RunResult>>,
-) -> Result<Vec<VecDeque<RunResult>>, NoMemory>
+fn queues_of(alloc: Global, runs: Vec<Vec<RunResult>>) -> Result<Vec<VecDeque<RunResult>>, NoMemory>
     ensures { IfOk result (λ queues. map (λ q. q.items) queues.items ≡ map (λ list. list.items) runs.items) }
 {
     let mut queues = Vec::with_capacity(alloc, runs.len())?;

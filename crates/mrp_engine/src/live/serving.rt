@@ -42,10 +42,8 @@ pub struct Served {
     pub end: Result<(), Refused>,
 }
 
-/// Makes a call of a desk, and returns the entry's number and the reply. The caller guarantees that the call
-/// fits the shop and that the desk is of the office.
-///
-/// Errors: those of the office's calls. No entry has been made then.
+// Makes a call of a desk, and returns the entry's number and the reply, or the refusal: then no entry has been
+// made.
 fn make<R: Wait>(
     rt: &R,
     office: &Office,

@@ -23,10 +23,6 @@ pub record AreParted (all rest : List Served) (desks : List Desk) (lists : Lists
   pub lists_are : lists ≡ map (λ (s : Served). s.runs) done
   pub ends : EndAs done end
 
--- none is parted yet
-pub none-parted : (all rest : List Served) (desks : List Desk) (lists : Lists) (u : Unit {0}) → rest ≡ all → desks ≡ [] → lists ≡ [] → AreParted all rest desks lists (Ok u)
-none-parted all rest desks lists u same none empty = record { done = []; left = sym same; desks_are = none; lists_are = empty; ends = All-nil (λ (s : Served). IsOk s.end) }
-
 last : (done : List Served) (s : Served) (end : End) → EndAs done (Ok tt) → s.end ≡ end → EndAs (done ++ s ∷ []) end
 last done s (Ok u) all is = All-push (λ (x : Served). IsOk x.end) done s all (subst (λ (r : End). IsOk r) (sym is) refl)
 last done s (Err e) all is = let long = length_push done s in (length done, s, omega (arith, long), get_or_push done s s (length done) refl, is)
@@ -53,9 +49,3 @@ one-parted all rest left desks now lists grown end new s before is adds grows ok
   lists_are = grows ∙ ap (λ (ls : Lists). ls ++ s.runs ∷ []) before.lists_are ∙ sym (map-append (λ (x : Served). x.runs) before.done (s ∷ []));
   ends = more before.done s end new before.ends ok refused;
 }
-
--- all are parted
-pub all-parted : (all rest : List Served) (desks : List Desk) (lists : Lists) (end : End) → AreParted all rest desks lists end → rest ≡ [] → (desks ≡ map (λ (s : Served). s.desk) all) × (lists ≡ map (λ (s : Served). s.runs) all) × EndAs all end
-all-parted all rest desks lists end before none =
-    let whole : before.done ≡ all = sym (before.left ∙ ap (λ (r : List Served). before.done ++ r) none ∙ append-nil before.done) in
-    (before.desks_are ∙ ap (map (λ (s : Served). s.desk)) whole, before.lists_are ∙ ap (map (λ (s : Served). s.runs)) whole, subst (λ (xs : List Served). EndAs xs end) whole before.ends)

@@ -27,14 +27,15 @@ pub returns-clause-desks : goal.returns-clause-desks
 returns-clause-desks g c =
     let office = c.args.shared.office.now in
     let Are : Vec Desk Global → Type 0 = λ desks. AreDesksOf office desks.items in
+    let lent = c.in_ok-desks.field-0.desks in
+    let are = c.in_ok-desks.ensures.desks in
+    let before = are.count in
     elim c.match-end.branch [
       | in-Ok w ↦
-          let own = c.in_ok-desks.field-0.desks in
-          let before = c.in_ok-desks.ensures.desks.count in
           let after = w.add_run-end.ensures.desks.count in
-          let back = lent-back own.len own.items w.add_run-end.new.desks (omega (arith, before, after)) (omega (arith, own.ok.0)) in
+          let back = lent-back lent.len lent.items w.add_run-end.new.desks (omega (arith, before, after)) (omega (arith, lent.ok.0)) in
           subst Are (sym w.desks-is) (subst (AreDesksOf office) (sym back) w.add_run-end.ensures.desks)
-      | in-Err w ↦ subst Are (sym w.desks-is) c.in_ok-desks.ensures.desks
+      | in-Err w ↦ subst Are (sym w.desks-is) are
     ]
 
 pub returns-clause-served : goal.returns-clause-served
@@ -42,43 +43,44 @@ returns-clause-served g c =
     let t = c.args.shared.office.now.about.object.tables in
     let all = with_run (script_of t) in
     let script : c.script-script.result.now ≡ t.script = search rules in
+    let lent = c.in_ok-desks.field-0.desks in
+    let before = c.in_ok-desks.ensures.desks.count in
     elim c.match-end.branch [
       | in-Ok w ↦
-          let own = c.in_ok-desks.field-0.desks in
-          let before = c.in_ok-desks.ensures.desks.count in
           let after = w.add_run-end.ensures.desks.count in
-          let back = lent-back own.len own.items w.add_run-end.new.desks (omega (arith, before, after)) (omega (arith, own.ok.0)) in
+          let back = lent-back lent.len lent.items w.add_run-end.new.desks (omega (arith, before, after)) (omega (arith, lent.ok.0)) in
           let served : HaveServed all w.add_run-end.new.desks w.add_run-end.result =
           subst (λ (rows : List ScriptRow). HaveServed (with_run (map record_of rows)) w.add_run-end.new.desks w.add_run-end.result) script w.add_run-end.ensures.served in
           subst (λ (end : End). HaveServed all c.match-end.desks.items end) (sym w.end-is)
           (subst (λ (desks : Vec Desk Global). HaveServed all desks.items w.add_run-end.result) (sym w.desks-is)
           (subst (λ (desks : List Desk). HaveServed all desks w.add_run-end.result) (sym back) served))
       | in-Err w ↦
-          let own = c.in_ok-desks.field-0 in
-          let before = subst (λ (rows : List ScriptRow). HaveServed (map record_of rows) own.desks.items own.end) script c.in_ok-desks.ensures.served in
-          let refused = subst (λ (end : End). HaveServed (script_of t) own.desks.items end) w.in-Err.is before in
+          let told = subst (λ (rows : List ScriptRow). HaveServed (map record_of rows) lent.items c.in_ok-desks.field-0.end) script c.in_ok-desks.ensures.served in
+          let is : ◌≡◌ {A = End} c.in_ok-desks.field-0.end (Err w.in-Err.refused) = first_of (search rules, cc) in
+          let refused = subst (λ (end : End). HaveServed (script_of t) lent.items end) is told in
           subst (λ (end : End). HaveServed all c.match-end.desks.items end) (sym w.end-is)
           (subst (λ (desks : Vec Desk Global). HaveServed all desks.items {U = Unit {0}} (Err w.in-Err.refused)) (sym w.desks-is)
-          (refused-more (script_of t) all own.desks.items w.in-Err.refused (run-fewer (script_of t)) refused))
+          (refused-more (script_of t) all lent.items w.in-Err.refused (run-fewer (script_of t)) refused))
     ]
 
 pub returns-clause-runs : goal.returns-clause-runs
 returns-clause-runs g c =
     let office = c.args.shared.office.now in
+    let lent = c.in_ok-desks.field-0.desks in
+    let lists = c.in_ok-desks.field-0.runs in
+    let have = c.in_ok-desks.ensures.runs in
+    let before = c.in_ok-desks.ensures.desks.count in
+    let many = have.count in
     elim c.match-end.branch [
       | in-Ok w ↦
-          let own = c.in_ok-desks.field-0.desks in
-          let own_lists = c.in_ok-desks.field-0.runs in
-          let before = c.in_ok-desks.ensures.desks.count in
-          let many = c.in_ok-desks.ensures.runs.count in
           let after = w.add_run-end.ensures.desks.count in
           let size = w.add_run-end.ensures.runs.count in
-          let back = lent-back own.len own.items w.add_run-end.new.desks (omega (arith, before, after)) (omega (arith, own.ok.0)) in
-          let given = lent-back own_lists.len own_lists.items w.add_run-end.new.runs (omega (arith, before, after, many, size)) (omega (arith, own_lists.ok.0)) in
+          let back = lent-back lent.len lent.items w.add_run-end.new.desks (omega (arith, before, after)) (omega (arith, lent.ok.0)) in
+          let given = lent-back lists.len lists.items w.add_run-end.new.runs (omega (arith, before, after, many, size)) (omega (arith, lists.ok.0)) in
           let desks : c.match-end.desks.items ≡ w.add_run-end.new.desks = ap (λ (v : Vec Desk Global). v.items) w.desks-is ∙ back in
           let runs : c.match-end.runs.items ≡ w.add_run-end.new.runs = ap (λ (v : Vec (Vec RunResult Global) Global). v.items) w.runs-is ∙ given in
           subst (λ (ds : List Desk). HaveRuns office ds c.match-end.runs.items) (sym desks) (subst (HaveRuns office w.add_run-end.new.desks) (sym runs) w.add_run-end.ensures.runs)
       | in-Err w ↦
           subst (λ (runs : Vec (Vec RunResult Global) Global). HaveRuns office c.match-end.desks.items runs.items) (sym w.runs-is)
-          (subst (λ (desks : Vec Desk Global). HaveRuns office desks.items c.in_ok-desks.field-0.runs.items) (sym w.desks-is) c.in_ok-desks.ensures.runs)
+          (subst (λ (desks : Vec Desk Global). HaveRuns office desks.items lists.items) (sym w.desks-is) have)
     ]

@@ -45,8 +45,8 @@ serve_all-requires-clause-lists g c = λ κs alive.
     let count = c.len.ensures in
     let same = c.as_slice.ensures.value ∙ sym c.as_slice-2.ensures.value in
     let listed : All (λ (d : Desk). (1 ≤ d.number) × (d.number ≤ length c.as_slice-2.result.now)) desks = λ k d within.
-        let number = c.requires.desks.numbers k d within in
-        (omega (arith, number), omega (arith, number, within, long, size, count, c.args.desks.ok.0)) in
+    let number = c.requires.desks.numbers k d within in
+    (omega (arith, number), omega (arith, number, within, long, size, count, c.args.desks.ok.0)) in
     record {
       of_office = ready-all (λ (d : Desk). d.turn ≡ office) ready desks made.desks c.requires.desks.of_office;
       listed = ready-all (λ (d : Desk). (1 ≤ d.number) × (d.number ≤ length c.as_slice-2.result.now)) ready desks made.desks listed;

@@ -1,7 +1,7 @@
 use Rattle.std.proofs.Common.{rules, ◌≡◌, ◌∙◌, ◌<◌, ◌-◌, ◌++◌, ◌∷◌, ℕ, List, Vec, ap, arith, length, refl, subst, sym}
 use Rattle.std.specs.Prelude.{All, slice_index_or}
 use Rattle.std.proofs.Crossing.{crosses}
-use denote.Param.Send.{param_send, recorded_send, sendable, struct_send}
+use denote.Param.Send.{sendable}
 use Rattle.std.proofs.lemmas.Result.{MatchResult-weaker}
 use Rattle.mrp_book.specs.declared.call.Call.{Call}
 use Rattle.mrp_desk.specs.Offices.{Desk}
@@ -14,17 +14,13 @@ use Rattle.mrp_engine.proofs.lemmas.live.OneByOne.{all-done, one-done, room-left
 use Rattle.mrp_engine.proofs.lemmas.live.Duties.{IsBegun, IsWorkOf, begun-as, can-serve, left-can, serves-all, some-of}
 use Rattle.mrp_engine.proofs.live.threads.serve_in.Goals as goal
 
+-- The search looks through all fields of what is in scope: without `c` it ends within its limits.
 pub spawn_with-one-requires-send-F : goal.spawn_with-one-requires-send-F
-spawn_with-one-requires-send-F g c κs within = param_send 2 _ (recorded_send _ _ _ _ (struct_send _ ?))
-
-try1 : goal.spawn_with-one-requires-send-F
-try1 g c κs within = param_send 2 _ (recorded_send _ _ _ _ (struct_send _ (search (ready-send, office-sync, call-sync, rows-send, rows-sync, c.type_bounds.sync-R, c.type_bounds.sync-D, c.type_bounds.sync-I, sendable, crosses) depth 100)))
-
-try2 : goal.spawn_with-one-requires-send-F
-try2 g c κs within = param_send 2 _ (search (ready-send, office-sync, call-sync, rows-send, rows-sync, c.type_bounds.sync-R, c.type_bounds.sync-D, c.type_bounds.sync-I, sendable, crosses) depth 100)
-
-try3 : goal.spawn_with-one-requires-send-F
-try3 g c κs within = param_send 2 _ (recorded_send _ _ _ _ (search (ready-send, office-sync, call-sync, rows-send, rows-sync, c.type_bounds.sync-R, c.type_bounds.sync-D, c.type_bounds.sync-I, sendable, crosses) depth 100))
+spawn_with-one-requires-send-F g c κs within =
+    let r = c.type_bounds.sync-R in
+    let d = c.type_bounds.sync-D in
+    let i = c.type_bounds.sync-I in
+    let c : Unit {0} = tt in search (ready-send, office-sync, call-sync, rows-send, rows-sync, r, d, i, sendable, crosses) depth 40
 
 pub spawn_with-one-requires-send-T : goal.spawn_with-one-requires-send-T
 spawn_with-one-requires-send-T g c κs within = search (served-send, sendable, crosses) depth 40
