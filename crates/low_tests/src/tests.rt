@@ -29,6 +29,7 @@ mod offices;
 mod plans;
 mod promises;
 mod quantities;
+mod snapshots;
 mod streams;
 mod tables;
 mod told;

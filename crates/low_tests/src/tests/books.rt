@@ -82,8 +82,8 @@ fn booking(rt: &impl Abort, shop: &Shop, booked: &Booked) -> Booking {
 
 // Fails unless these bookings stand.
 fn stand(rt: &impl Abort, snapshot: &Snapshot, want: &[Booked]) {
-    same(rt, snapshot.standing().len(), want.len());
-    for (got, booked) in snapshot.standing().iter().zip(want) {
+    same(rt, snapshot.count(), want.len());
+    for (got, booked) in snapshot.standing().zip(want) {
         let line = got.line;
         let said = (got.number, got.desk, line.week(), line.quantity().value());
         same(rt, (line.item(), said), (0, *booked));

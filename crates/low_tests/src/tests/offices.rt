@@ -168,7 +168,7 @@ impl Pair {
         let Reply::Taken(snapshot) = reply else {
             panic!(rt; "a snapshot");
         };
-        (number, snapshot.front(), snapshot.standing().len())
+        (number, snapshot.front(), snapshot.count())
     }
 
     fn close(self, rt: &impl Abort, alloc: Global) -> History {
