@@ -98,7 +98,16 @@ fn write_reports<W: Write>(
     let mut last = None;
     for entry in history.entries() {
         if let Reply::Taken(snapshot) = &entry.reply {
-            let plan = write_run(rt, alloc, &rows, made.take(), last.as_ref(), snapshot, writer, workers)?;
+            let plan = write_run(
+                rt,
+                alloc,
+                &rows,
+                made.take(),
+                last.as_ref(),
+                snapshot,
+                writer,
+                workers,
+            )?;
             last = Some(plan);
         }
     }

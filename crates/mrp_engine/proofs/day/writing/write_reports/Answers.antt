@@ -39,7 +39,7 @@ write_run-requires g c =
             (
               subst (IsOfShop t) (sym c.as_ref.ensures.value) c.loop-entry.invariant.last,
               run-plannable t h k c.entry-item.result c.in-Taken.snapshot c.loop-entry-test.true c.entry-item.is c.in-Taken.is
-              (subst (λ (x : History). All IsPlannable (runs_of t x)) same c.requires.planned.plannable),
+                  (subst (λ (x : History). All IsPlannable (runs_of t x)) same c.requires.planned.plannable),
             ),
           ),
         ),
