@@ -1,6 +1,6 @@
 use Rattle.std.proofs.Common.{rules, ◌≡◌, ◌∙◌, ◌<◌, ◌-◌, ◌++◌, ◌∷◌, ℕ, List, Vec, ap, arith, length, refl, subst, sym}
 use Rattle.std.specs.Prelude.{All, slice_index_or}
-use Rattle.std.proofs.Crossing.{crosses}
+use Rattle.std.proofs.Crossing.{Arc-sync, crosses, send}
 use denote.Param.Send.{sendable}
 use Rattle.std.proofs.lemmas.Result.{MatchResult-weaker}
 use Rattle.mrp_book.specs.declared.call.Call.{Call}
@@ -14,13 +14,20 @@ use Rattle.mrp_engine.proofs.lemmas.live.OneByOne.{all-done, one-done, room-left
 use Rattle.mrp_engine.proofs.lemmas.live.Duties.{IsBegun, IsWorkOf, begun-as, can-serve, left-can, serves-all, some-of}
 use Rattle.mrp_engine.proofs.live.threads.serve_in.Goals as goal
 
--- The search looks through all fields of what is in scope: without `c` it ends within its limits.
 pub spawn_with-one-requires-send-F : goal.spawn_with-one-requires-send-F
-spawn_with-one-requires-send-F g c κs within =
-    let r = c.type_bounds.sync-R in
-    let d = c.type_bounds.sync-D in
-    let i = c.type_bounds.sync-I in
-    let c : Unit {0} = tt in search (ready-send, office-sync, call-sync, rows-send, rows-sync, r, d, i, sendable, crosses) depth 40
+spawn_with-one-requires-send-F g c κs within = let r = c.type_bounds.sync-R in let d = c.type_bounds.sync-D in let i = c.type_bounds.sync-I in let c : Unit {0} = tt in let within : Unit {0} = tt in let κs : Unit {0} = tt in let g : Unit {0} = tt in search (ready-send, office-sync, call-sync, Arc-sync, rows-send, rows-sync, send, r, d, i, sendable) depth 60
+
+try2 : goal.spawn_with-one-requires-send-F
+try2 g c κs within = let r = c.type_bounds.sync-R in let d = c.type_bounds.sync-D in let i = c.type_bounds.sync-I in let c : Unit {0} = tt in let within : Unit {0} = tt in let κs : Unit {0} = tt in let g : Unit {0} = tt in search (ready-send, office-sync, call-sync, Arc-sync, rows-send, rows-sync, send, r, d, i, sendable, crosses) depth 60
+
+try3 : goal.spawn_with-one-requires-send-F
+try3 g c κs within = search (ready-send, office-sync, call-sync, Arc-sync, rows-send, rows-sync, send, sendable) depth 40
+
+try4 : goal.spawn_with-one-requires-send-F
+try4 g c κs within = let r = c.type_bounds.sync-R in let d = c.type_bounds.sync-D in let i = c.type_bounds.sync-I in let c : Unit {0} = tt in let within : Unit {0} = tt in search (ready-send, office-sync, call-sync, Arc-sync, rows-send, rows-sync, send, r, d, i, sendable) depth 60
+
+try5 : goal.spawn_with-one-requires-send-F
+try5 g c κs within = let i = c.type_bounds in let within : Unit {0} = tt in let c : Unit {0} = tt in search (ready-send, office-sync, call-sync, Arc-sync, rows-send, rows-sync, send, sendable) depth 60
 
 pub spawn_with-one-requires-send-T : goal.spawn_with-one-requires-send-T
 spawn_with-one-requires-send-T g c κs within = search (served-send, sendable, crosses) depth 40
