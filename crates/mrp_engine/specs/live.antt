@@ -1,4 +1,3 @@
 pub mod DeskCalls
 pub mod Desks
-pub mod Runs
 pub mod Begun
