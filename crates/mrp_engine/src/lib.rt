@@ -7,8 +7,8 @@ pub mod laws;
 mod live;
 
 pub use day::{
-    DayFault, MOST_WORKERS, OpenFault, added_run, answer, call_of, open_shop, plan_run, run_bundle,
-    run_day,
+    Day, DayFault, MOST_WORKERS, OpenFault, added_run, answer, call_of, open_shop, plan_run,
+    run_bundle, run_day,
 };
 pub use event_core::{Answer, Core, Event};
 pub use live::{answer_by_desks, live_bundle, live_day};

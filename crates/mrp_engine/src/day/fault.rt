@@ -3,7 +3,7 @@
 use mrp_qty::NoMemory;
 use mrp_report::ReportFault;
 use mrp_rows::{Fault, Name, ReadFault};
-use std::alloc::AllocFailed;
+use std::alloc::{AllocError, AllocFailed};
 use thiserror::Error;
 
 /// Why a day was not written whole.
@@ -45,6 +45,17 @@ impl From<NoMemory> for DayFault {
     ghost from_gives = { λ _ given. given ≡ fault.NoMemory };
 
     fn from(_refused: NoMemory) -> DayFault {
+        DayFault::NoMemory
+    }
+}
+
+impl From<AllocError> for DayFault {
+    ghost use Rattle.std.specs.Prelude.{◌≡◌};
+    ghost use Rattle.mrp_engine.specs.declared.day.fault.DayFault.TheVariants as fault;
+
+    ghost from_gives = { λ _ given. given ≡ fault.NoMemory };
+
+    fn from(_refused: AllocError) -> DayFault {
         DayFault::NoMemory
     }
 }

@@ -10,7 +10,7 @@ ghost use Rattle.mrp_explode.specs.Explosion.{Explodes};
 
 use crate::day::run::MOST_WORKERS;
 use mrp_book::Snapshot;
-use mrp_explode::{OpenGate, RunFault, explode, explode_levels};
+use mrp_explode::{Gate, RunFault, explode, explode_levels};
 use mrp_item::{Inputs, Plan, ShopRows};
 use mrp_qty::NoMemory;
 use mrp_rows::Name;
@@ -53,22 +53,24 @@ pub fn plan_run(
 }
 
 /// The plan of a run, like [`plan_run`], by `workers` workers (1 to 64, as the caller guarantees): each
-/// plans the next item whose parents are planned, until all are. A worker may wait for the others.
+/// takes the next item whose parents are planned, passes the gate with its place and plans it, until all are
+/// planned. A worker may wait for the others.
 ///
 /// Errors: those of [`plan_run`].
-pub fn plan_run_by(
-    rt: &(impl Threads + Wait + Sync),
+pub fn plan_run_by<R: Threads + Wait + Sync, G: Gate + Sync>(
+    rt: &R,
     alloc: Global,
     rows: &Arc<ShopRows>,
     snapshot: &Snapshot,
     workers: usize,
+    gate: &G,
 ) -> Result<Plan, RunFault>
     requires booked { AreBooked (supply_of rows.now.value.tables) snapshot.now.standing }
     requires workers { IsInRange 1 MOST_WORKERS workers }
     ensures { Explodes (inputs_of rows.now.value.tables snapshot.now) result }
 {
     let planned_from = inputs_of(alloc, rows, snapshot)?;
-    explode(rt, alloc, &planned_from, workers, &OpenGate)
+    explode(rt, alloc, &planned_from, workers, gate)
 }
 
 /// The name of the item that makes the plan of its inputs too large, by its place in the table.

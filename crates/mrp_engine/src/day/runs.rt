@@ -14,11 +14,14 @@ use crate::day::planning::plan_run_by;
 use crate::day::run::MOST_WORKERS;
 use mrp_bill::Shop;
 use mrp_book::{History, Reply, Snapshot};
-use mrp_explode::RunFault;
+use mrp_explode::{Gate, OpenGate, RunFault};
 use mrp_item::{Plan, ShopRows};
 use std::alloc::Global;
 use std::sync::{Arc, Wait};
 use std::thread::Threads;
+
+/// What came of a run: its plan, or why its day is refused.
+pub type RunResult = Result<Plan, DayFault>;
 
 // Why a day is refused, from why a run of its shop has no plan; an item that gets too large is named.
 fn refusal(shop: &Shop, fault: RunFault) -> DayFault
@@ -32,7 +35,7 @@ fn refusal(shop: &Shop, fault: RunFault) -> DayFault
 }
 
 // A run's plan, or why its day is refused, by what planning the run gave. It takes no memory.
-fn or_refusal(shop: &Shop, planned: Result<Plan, RunFault>) -> Result<Plan, DayFault>
+fn or_refusal(shop: &Shop, planned: Result<Plan, RunFault>) -> RunResult
     requires { (item : ℕ) → planned ≡ Err (RunFault.TooLarge item) → item < length shop.now.tables.items }
     ensures { (s : Inputs) → s.tables ≡ shop.now.tables → result ≡ plan_or_fault s planned }
 {
@@ -42,19 +45,25 @@ fn or_refusal(shop: &Shop, planned: Result<Plan, RunFault>) -> Result<Plan, DayF
     }
 }
 
-// The plan of a run by workers, or why its day is refused.
-fn plan_or_refuse(
-    rt: &(impl Threads + Wait + Sync),
+/// The plan of the next run of a shop, from a snapshot of its order book, by `workers` workers (1 to 64) that
+/// pass the gate before each item; or why its day is refused. The caller guarantees that the snapshot is of
+/// that shop.
+pub fn plan_or_refuse<R: Threads + Wait + Sync, G: Gate + Sync>(
+    rt: &R,
     alloc: Global,
     rows: &Arc<ShopRows>,
     snapshot: &Snapshot,
     workers: usize,
-) -> Result<Plan, DayFault>
+    gate: &G,
+) -> RunResult
     requires booked { AreBooked (supply_of rows.now.value.tables) snapshot.now.standing }
     requires workers { IsInRange 1 MOST_WORKERS workers }
     ensures { PlansRun (inputs_of rows.now.value.tables snapshot.now) result }
 {
-    or_refusal(rows.shop(), plan_run_by(rt, alloc, rows, snapshot, workers))
+    or_refusal(
+        rows.shop(),
+        plan_run_by(rt, alloc, rows, snapshot, workers, gate),
+    )
 }
 
 /// The plans of a history's runs, in order of entries, each from the snapshot in its entry's reply and by
@@ -77,7 +86,7 @@ pub fn plan_runs(
     let mut plans = Vec::new(alloc);
     for entry in history.entries() {
         if let Reply::Taken(snapshot) = &entry.reply {
-            plans.push(plan_or_refuse(rt, alloc, rows, snapshot, workers)?)?;
+            plans.push(plan_or_refuse(rt, alloc, rows, snapshot, workers, &OpenGate)?)?;
         }
     }
     Ok(plans)

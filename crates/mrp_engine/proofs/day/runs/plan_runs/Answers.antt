@@ -20,7 +20,10 @@ plan_or_refuse-requires g c =
     let h = c.entries-entry-items.result.now in
     let legal : IsLegal (supply_of t) h = subst (λ (x : Supply). IsLegal x h) c.requires.supply c.entries-entry-items.ensures.legal in (
       search (sendable, crosses) depth 40,
-      (snapshot-booked (supply_of t) h c.loop-entry.entry-index c.entry-item.result c.in-Taken.snapshot legal c.loop-entry-test.true c.entry-item.is c.in-Taken.is, c.requires.workers),
+      (
+        search (sendable, crosses) depth 40,
+        (snapshot-booked (supply_of t) h c.loop-entry.entry-index c.entry-item.result c.in-Taken.snapshot legal c.loop-entry-test.true c.entry-item.is c.in-Taken.is, c.requires.workers),
+      ),
     )
 
 pub returns-in_err-plan_or_refuse : goal.returns-in_err-plan_or_refuse
