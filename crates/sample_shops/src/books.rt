@@ -7,7 +7,9 @@ ghost use Rattle.mrp_book.specs.Booked.{AreBooked};
 use crate::asked::Asked;
 use mrp_bill::Shop;
 use mrp_book::{Book, Call, Reply, Snapshot};
+use mrp_item::Inputs;
 use std::alloc::Global;
+use std::sync::Arc;
 use std::test::Fail;
 
 /// The order book of a shop, after these calls of its desks.
@@ -56,4 +58,17 @@ pub fn snapshot_of(alloc: Global, shop: &Shop, calls: &[(u64, Asked)]) -> Result
         Reply::Taken(snapshot) => Ok(snapshot),
         _ => Err(Fail::from("a snapshot")),
     }
+}
+
+/// The inputs of another plan of a shop: the bookings that stand after these calls of its desks.
+pub fn inputs_after(
+    alloc: Global,
+    inputs: &Inputs,
+    calls: &[(u64, Asked)],
+) -> Result<Arc<Inputs>, Fail>
+    ensures { IfOk result (λ other. inputs.now.tables ≡ other.value.tables) }
+{
+    let rows = inputs.rows().clone()?;
+    let snapshot = snapshot_of(alloc, rows.shop(), calls)?;
+    Ok(Inputs::over(alloc, rows, snapshot)?)
 }

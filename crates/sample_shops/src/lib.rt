@@ -8,7 +8,7 @@ mod records;
 mod shops;
 
 pub use asked::{Asked, Said, pieces, said};
-pub use books::{book_of, snapshot_of};
+pub use books::{book_of, inputs_after, snapshot_of};
 pub use records::Records;
 pub use shops::{
     bicycles, bicycles_in_lots, bicycles_welded, bicycles_with_service, chain, fork, morning,
