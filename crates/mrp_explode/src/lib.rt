@@ -16,5 +16,5 @@ pub use finished::Finished;
 pub use gate::{Gate, OpenGate};
 pub use levels::explode_levels;
 pub use serial::explode_serial;
-pub use workers::{MOST_WORKERS, explode};
+pub use workers::{MOST_WORKERS, explode, work_together};
 pub use working::{Worker, work};
