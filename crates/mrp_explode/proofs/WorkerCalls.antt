@@ -18,11 +18,11 @@ use Rattle.mrp_board.specs.declared.refused.BoardRefused.{BoardRefused}
 use Rattle.mrp_board.specs.declared.refused.BoardRefused.TheVariants as refused
 use Rattle.mrp_board.specs.Board.{BoardEntry, BoardLog, IsLegalBoard, board_reply, handed, is_at_end, is_ready}
 use Rattle.mrp_board.specs.BoardState.{BoardState, board_reply_in}
-use Rattle.mrp_board.specs.Object.{Answers, IsOutOfMemory, Opens, Refuses}
+use Rattle.mrp_board.specs.Object.{Answers, IsOutOfMemory, Opens, Refuses, TakesMemory}
 use Rattle.mrp_board.specs.Orderly.{IsCourse, finish_of, finished_by}
-use Rattle.mrp_board.proofs.BoardStates.{new-out}
+use Rattle.mrp_board.proofs.BoardStates.{new-out, reply-is as state-reply}
 use Rattle.mrp_board.proofs.HandsOn.{hands-on}
-use Rattle.mrp_board.proofs.LegalLogs.{logs-legal}
+use Rattle.mrp_board.proofs.LegalLogs.{logs-left, logs-legal}
 use Rattle.mrp_board.proofs.Tests.{no, same-number}
 use Rattle.mrp_explode.specs.Work.{Asks, GivesUp, HasGivenUp, Holds, HoldsNone, IsAtWork, IsDone}
 use Rattle.mrp_explode.proofs.HandedOnce.{finish-stored}
@@ -31,6 +31,16 @@ use Rattle.mrp_explode.proofs.HandedOnce.{finish-stored}
 pub on-err : {T E : Type 0} (r : Result T E) (P : Type 0) → is_err r ≡ true → OnErr r P → P
 on-err (Ok x) P is p = no is
 on-err (Err e) P is p = p
+
+-- a refusal for memory is not one of a worker that has to come again
+pub not-later : (f : CallFault BoardRefused) (e : BoardRefused) → f ≡ fault.Refused e → e ≡ refused.NoMemory → f ≡ fault.Refused refused.NotYet → ⊥
+not-later f e is memory later =
+    let n : fault.Refused e ≡ fault.Refused refused.NotYet = sym is ∙ later in
+    let m : e ≡ refused.NotYet = cc in
+    let k : refused.NoMemory ≡ refused.NotYet = sym memory ∙ m in cc
+
+pub full-not_later : (f : CallFault BoardRefused) → f ≡ fault.NoMemory → f ≡ fault.Refused refused.NotYet → ⊥
+full-not_later f is later = let n : fault.NoMemory ≡ fault.Refused refused.NotYet = sym is ∙ later in cc
 
 -- an answered call is the last entry that the worker has seen, and its own last one
 record IsAnswered (s : Inputs) (who : ℕ) (c : BoardCall) (r : BoardReply) (mine seen' mine' : BoardLog) : Type 0 where
@@ -94,6 +104,21 @@ module _ (s : Inputs) (who : ℕ) where
       → IfOk result (λ r. Asks s who mine (Some r.1) mine')
   asks-told room seen mine (Ok (n, r)) seen' mine' t = asked r mine seen' mine' (answered room call.Take seen mine n r seen' mine' t)
   asks-told room seen mine (Err f) seen' mine' t = tt
+
+  lacking : (room : ℕ) (seen' : BoardLog) (f : CallFault BoardRefused) → (f ≡ fault.Refused refused.NotYet → ⊥) → IsLegalBoard s seen' → HasCause (Opens s) (Answers s) Refuses IsOutOfMemory room who call.Take seen' f
+      → TakesMemory (board_reply s seen' who call.Take) ⊎ (room ≤ length seen')
+  lacking room seen' fault.NoMemory other legal full = inr full
+  lacking room seen' (fault.Refused refused.NotYet) other legal cause = absurd (other refl)
+  lacking room seen' (fault.Refused refused.NoMemory) other legal (b, leads, inl takes) =
+      inl (subst TakesMemory (ap (λ (x : BoardState). board_reply_in x who call.Take) (logs-left s seen' b leads) ∙ sym (state-reply s seen' legal who call.Take)) takes)
+  lacking room seen' (fault.Refused refused.NoMemory) other legal (b, leads, inr never) = absurd never
+
+  -- a worker that is refused anything but that it has to come again lacks memory
+  pub lacks-told : (room : ℕ) (seen mine : BoardLog) (result : Result (ℕ × BoardReply) (CallFault BoardRefused)) (f : CallFault BoardRefused) (seen' mine' : BoardLog) → result ≡ Err f
+      → (f ≡ fault.Refused refused.NotYet → ⊥) → Told room call.Take seen mine result seen' mine' → TakesMemory (board_reply s seen' who call.Take) ⊎ (room ≤ length seen')
+  lacks-told room seen mine result f seen' mine' is other t =
+      let told : Told room call.Take seen mine (Err f) seen' mine' = subst (λ (r : Result (ℕ × BoardReply) (CallFault BoardRefused)). Told room call.Take seen mine r seen' mine') is t in
+      lacking room seen' f other (logs-legal s seen' told.legal) told.cause
 
   -- It finishes the item that it holds.
 

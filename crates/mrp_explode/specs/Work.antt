@@ -10,7 +10,8 @@ use Rattle.mrp_board.specs.declared.call.BoardCall.{BoardCall}
 use Rattle.mrp_board.specs.declared.call.BoardCall.TheVariants as call
 use Rattle.mrp_board.specs.declared.reply.BoardReply.{BoardReply}
 use Rattle.mrp_board.specs.declared.reply.BoardReply.TheVariants as reply
-use Rattle.mrp_board.specs.Board.{BoardLog}
+use Rattle.mrp_board.specs.Board.{BoardLog, board_reply}
+use Rattle.mrp_board.specs.Object.{TakesMemory}
 use Rattle.mrp_board.specs.Orderly.{finished_by}
 use Rattle.mrp_explode.specs.declared.working.Task.{Task}
 
@@ -47,6 +48,11 @@ Asks s who old (Some (reply.Item item parents)) new =
 Asks s who old (Some reply.Stored) new = ⊥
 Asks s who old (Some reply.NotOut) new = ⊥
 Asks s who old (Some reply.Stopped) new = ⊥
+
+-- why a worker that asks for an item is refused memory: after what it has seen an item is there for it, or the board's log has
+-- an entry in each of the places that it began with
+abbrev pub LacksMemory : About Inputs → ℕ → BoardLog → Type 0
+LacksMemory about who seen = TakesMemory (board_reply about.object seen who call.Take) ⊎ (about.room ≤ length seen)
 
 -- a worker takes an item, with the outcomes of the item's distinct parents, or is told that every item is out
 abbrev pub Takes : Inputs → ℕ → BoardLog → Option Task → BoardLog → Type 0

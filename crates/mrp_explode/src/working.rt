@@ -4,7 +4,7 @@ ghost use Rattle.std.specs.Prelude.{◌≡◌, ◌<◌, ◌≤◌, ◌⊎◌, �
 ghost use Rattle.mrp_item.specs.Inputs.{count};
 ghost use Rattle.mrp_item.specs.Made.{item_from, parents_from};
 ghost use Rattle.mrp_board.specs.Orderly.{IsCourse};
-ghost use Rattle.mrp_explode.specs.Work.{Asks, GivesUp, HasGivenUp, Holds, HoldsNone, IsAfter, IsAtWork, IsDone, Takes};
+ghost use Rattle.mrp_explode.specs.Work.{Asks, GivesUp, HasGivenUp, Holds, HoldsNone, IsAfter, IsAtWork, IsDone, LacksMemory, Takes};
 
 use crate::gate::Gate;
 use crate::levels::make_room;
@@ -37,11 +37,13 @@ fn ask<R: Wait>(
     ensures same { (worker.new.turn ≡ worker.old.turn) × (worker.new.number ≡ worker.old.number) }
     ensures asked { IfOk result (λ reply. Asks board.now.about.object worker.old.number worker.old.mine reply worker.new.mine) }
     ensures refused { OnErr result (worker.new.mine ≡ worker.old.mine) }
+    ensures memory { OnErr result (LacksMemory board.now.about worker.old.number worker.new.seen) }
 {
     match board.call(rt, worker, BoardCall::Take) {
         Ok((_, reply)) => Ok(Some(reply)),
         Err(CallFault::Refused(BoardRefused::NotYet)) => Ok(None),
-        Err(_) => Err(NoMemory),
+        Err(CallFault::Refused(BoardRefused::NoMemory)) => Err(NoMemory),
+        Err(CallFault::NoMemory) => Err(NoMemory),
     }
 }
 
@@ -51,6 +53,8 @@ fn take<R: Wait>(rt: &R, board: &Turn<Board>, worker: &mut Worker) -> Result<Opt
     ensures same { (worker.new.turn ≡ worker.old.turn) × (worker.new.number ≡ worker.old.number) }
     ensures taken { IfOk result (λ task. Takes board.now.about.object worker.old.number worker.old.mine task worker.new.mine) }
     ensures refused { OnErr result (worker.new.mine ≡ worker.old.mine) }
+    // It never gives up because no item is ready yet.
+    ensures memory { OnErr result (LacksMemory board.now.about worker.old.number worker.new.seen) }
 {
     let mut pauses = Pauses::new();
     for _ in rt.forever() {
