@@ -30,41 +30,30 @@ struct Needed<'a> {
 }
 
 impl<'a> Needed<'a> {
+    // The cells of surplus, or of a requirement that comes from no parent.
+    fn own(week: Cell<'a>, need: Word, number: Cell<'a>) -> Needed<'a>
+        ensures { needed_cells result ≡ cell_of week ∷ word_text need ∷ cell_of number ∷ [] ∷ [] ∷ [] }
+    {
+        Needed {
+            week,
+            need,
+            number,
+            parent: Cell::Empty,
+            line: Cell::Empty,
+        }
+    }
+
     fn of(names: &'a ShopNames<'_>, need: Option<Need>) -> Needed<'a>
         ensures { needed_cells result ≡ need_cells names.now.tables.now need }
     {
         let Some(need) = need else {
-            return Needed {
-                week: Cell::Empty,
-                need: Word::Surplus,
-                number: Cell::Empty,
-                parent: Cell::Empty,
-                line: Cell::Empty,
-            };
+            return Needed::own(Cell::Empty, Word::Surplus, Cell::Empty);
         };
         let week = Cell::Number(u64::from(need.week));
         match need.kind {
-            NeedKind::Booking(number) => Needed {
-                week,
-                need: Word::Booking,
-                number: Cell::Number(number),
-                parent: Cell::Empty,
-                line: Cell::Empty,
-            },
-            NeedKind::Forecast => Needed {
-                week,
-                need: Word::Forecast,
-                number: Cell::Empty,
-                parent: Cell::Empty,
-                line: Cell::Empty,
-            },
-            NeedKind::Service(number) => Needed {
-                week,
-                need: Word::Service,
-                number: Cell::Number(number),
-                parent: Cell::Empty,
-                line: Cell::Empty,
-            },
+            NeedKind::Booking(number) => Needed::own(week, Word::Booking, Cell::Number(number)),
+            NeedKind::Forecast => Needed::own(week, Word::Forecast, Cell::Empty),
+            NeedKind::Service(number) => Needed::own(week, Word::Service, Cell::Number(number)),
             NeedKind::Parent { line, order } => Needed {
                 week,
                 need: Word::Parent,
