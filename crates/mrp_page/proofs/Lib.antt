@@ -19,3 +19,6 @@ pub mod Steps
 pub mod CountedRows
 pub mod CountedEntries
 pub mod OrderedRows
+pub mod ByWord
+pub mod Folds
+pub mod RefusedCalls

@@ -1,23 +1,25 @@
 -- What pages consist of: fixed markup, and texts that are known.
-use Rattle.std.specs.Prelude.{ℕ, ◌≡◌, ◌⊎◌, ◌-◌, List, [], ◌∷◌, ◌++◌, codes, decimal, flat_map, length, map}
+use Rattle.std.specs.Prelude.{ℕ, ◌≡◌, ◌⊎◌, ◌-◌, List, [], ◌∷◌, ◌++◌, codes, decimal, drop, flat_map, length, map}
 use Rattle.std.specs.List.{All, Contains}
 use Rattle.mrp_page.specs.ItemRows.{item_lists}
-use Rattle.mrp_page.specs.Laws.{Escaped, Link, Markup, Piece, piece_html}
-use Rattle.mrp_page.specs.Layout.{available_label, balance_chart, balance_label, bar, bars_end, booked_label, capacity_label, centre_head, centres_open, entry, firm_label, grid_end, gross_label, history_end, history_open, item_head, item_tasks_end, item_tasks_open, list_end, load_chart, load_label, more, no_promises, no_record, order, orders_open, other_words, over_label, page_end, page_head, page_top, peg, pegs_open, planned_label, point, points_end, record_head, scheduled_label, section_end, starts_label, style, task_head, task_words, todo_end, todo_open, week, weeks_end}
+use Rattle.mrp_page.specs.Laws.{Entry, Escaped, Link, Markup, Piece, piece_html}
+use Rattle.mrp_page.specs.Layout.{available_label, balance_chart, balance_label, bar, bars_end, booked_label, capacity_label, centre_head, centres_open, entry, firm_label, grid_end, gross_label, history_end, history_open, item_head, item_tasks_end, item_tasks_open, list_end, load_chart, load_label, more, no_promises, no_record, none_refused, order, orders_open, other_words, over_label, page_end, page_head, page_top, peg, pegs_open, planned_label, point, points_end, record_head, refused_answer, refused_asked, refused_desk, refused_end, refused_front, refused_open, refused_row, rest_end, rest_open, scheduled_label, section_end, starts_label, style, table_end, task_head, task_words, todo_end, todo_open, week, weeks_end}
 use Rattle.mrp_page.specs.Notes.{Noted}
 use Rattle.mrp_page.specs.Page.{shown_items}
+use Rattle.mrp_page.specs.Refused.{refused_rows}
 use Rattle.mrp_page.specs.Row.{Cells, cell_at}
 use Rattle.mrp_page.specs.Template.{Drawn, Mark, Number, Text, Where}
 use Rattle.mrp_page.specs.declared.counts.Counts.{Counts}
+use Rattle.mrp_page.specs.declared.limits.TheConstants.{FEW_ROWS}
 use Rattle.mrp_page.specs.Unshown.{unshown}
 
 -- the markup that rows are drawn with
 unfoldable pub layouts : List (List Drawn)
-layouts = page_top ∷ page_head ∷ task_head ∷ task_words ∷ week ∷ entry ∷ order ∷ peg ∷ centre_head ∷ load_chart ∷ bar ∷ item_head ∷ record_head ∷ balance_chart ∷ point ∷ more ∷ other_words ∷ []
+layouts = page_top ∷ page_head ∷ task_head ∷ task_words ∷ week ∷ entry ∷ order ∷ peg ∷ centre_head ∷ load_chart ∷ bar ∷ item_head ∷ record_head ∷ balance_chart ∷ point ∷ more ∷ other_words ∷ rest_open ∷ refused_answer ∷ refused_asked ∷ refused_desk ∷ []
 
 -- markup that stands between rows
 unfoldable pub plain : List (List ℕ)
-plain = style ∷ todo_open ∷ todo_end ∷ item_tasks_open ∷ item_tasks_end ∷ weeks_end ∷ bars_end ∷ points_end ∷ load_label ∷ capacity_label ∷ over_label ∷ grid_end ∷ centres_open ∷ section_end ∷ scheduled_label ∷ firm_label ∷ booked_label ∷ available_label ∷ gross_label ∷ planned_label ∷ starts_label ∷ balance_label ∷ orders_open ∷ pegs_open ∷ list_end ∷ no_record ∷ history_open ∷ history_end ∷ page_end ∷ [] ∷ codes "<td>" ∷ codes "<td class=z>" ∷ codes "</td>" ∷ codes "</tr>\n" ∷ no_promises ∷ []
+plain = style ∷ todo_open ∷ todo_end ∷ item_tasks_open ∷ item_tasks_end ∷ weeks_end ∷ bars_end ∷ points_end ∷ load_label ∷ capacity_label ∷ over_label ∷ grid_end ∷ centres_open ∷ section_end ∷ scheduled_label ∷ firm_label ∷ booked_label ∷ available_label ∷ gross_label ∷ planned_label ∷ starts_label ∷ balance_label ∷ orders_open ∷ pegs_open ∷ list_end ∷ no_record ∷ history_open ∷ history_end ∷ page_end ∷ [] ∷ codes "<td>" ∷ codes "<td class=z>" ∷ codes "</td>" ∷ codes "</tr>\n" ∷ no_promises ∷ table_end ∷ rest_end ∷ refused_open ∷ none_refused ∷ refused_front ∷ refused_row ∷ refused_end ∷ []
 
 -- the markup of a part
 abbrev pub marks_of : Drawn → List (List ℕ)
@@ -30,15 +32,17 @@ marks_of (Number column) = []
 unfoldable pub own_words : List (List ℕ)
 own_words = plain ++ flat_map (flat_map marks_of) layouts
 
--- a piece is such markup, a text that is known, or the name of an item that is shown, as a link to it
-abbrev pub IsPieceOf : (List ℕ → Type 0) → (List ℕ → Type 0) → Piece → Type 0
-IsPieceOf Known Shown (Markup markup) = Contains own_words markup
-IsPieceOf Known Shown (Escaped text) = Known text
-IsPieceOf Known Shown (Link name) = Shown name
+-- a piece is such markup, a text that is known, the name of an item that is shown, as a link to it, or the number of an
+-- entry that is kept, as a link to it
+abbrev pub IsPieceOf : (List ℕ → Type 0) → (List ℕ → Type 0) → (List ℕ → Type 0) → Piece → Type 0
+IsPieceOf Known Shown Kept (Markup markup) = Contains own_words markup
+IsPieceOf Known Shown Kept (Escaped text) = Known text
+IsPieceOf Known Shown Kept (Link name) = Shown name
+IsPieceOf Known Shown Kept (Entry number) = Kept number
 
 -- a text consists of such pieces
-abbrev pub IsMadeOf : (List ℕ → Type 0) → (List ℕ → Type 0) → List ℕ → Type 0
-IsMadeOf Known Shown html = (pieces : List Piece) × All (IsPieceOf Known Shown) pieces × (html ≡ flat_map piece_html pieces)
+abbrev pub IsMadeOf : (List ℕ → Type 0) → (List ℕ → Type 0) → (List ℕ → Type 0) → List ℕ → Type 0
+IsMadeOf Known Shown Kept html = (pieces : List Piece) × All (IsPieceOf Known Shown Kept) pieces × (html ≡ flat_map piece_html pieces)
 
 -- a text is a cell of one of these records
 abbrev pub StandsIn : List Cells → List ℕ → Type 0
@@ -48,20 +52,24 @@ StandsIn records text = (cells : Cells) × Contains records cells × Contains ce
 abbrev pub names_shown : Noted → List (List ℕ)
 names_shown notes = map (λ r. cell_at r 0) (shown_items (item_lists notes.report))
 
+-- the numbers of the entries that are kept of the history
+abbrev pub entries_kept : Noted → List (List ℕ)
+entries_kept notes = map (λ r. cell_at r 0) notes.history
+
 -- how many rows of items are not shown
 abbrev pub left_of : Noted → Counts
 left_of notes = unshown (item_lists notes.report) (shown_items (item_lists notes.report)) notes.counts
 
--- the counts of what is not shown, and of the items
+-- the counts of what is not shown, of the items, and of the rows that are folded
 abbrev pub count_texts : Noted → List (List ℕ)
 count_texts notes =
     decimal notes.counts.messages ∷ decimal notes.counts.loads ∷ decimal (notes.counts.items - length (shown_items (item_lists notes.report)))
-    ∷ decimal (left_of notes).plan ∷ decimal (left_of notes).promises ∷ decimal (left_of notes).orders ∷ decimal (left_of notes).pegs ∷ decimal notes.counts.history ∷ decimal notes.counts.items ∷ []
+    ∷ decimal (left_of notes).plan ∷ decimal (left_of notes).promises ∷ decimal (left_of notes).orders ∷ decimal (left_of notes).pegs ∷ decimal notes.counts.history ∷ decimal notes.counts.items ∷ decimal (length (drop FEW_ROWS (refused_rows notes.history))) ∷ []
 
 -- texts of a page that come from no row: those of a table without rows, and the words for what is
 -- counted
 unfoldable pub small_words : List (List ℕ)
-small_words = [] ∷ codes "0" ∷ codes "1" ∷ codes "message, perhaps an urgent one, is" ∷ codes "messages, urgent ones perhaps among them, are" ∷ codes "week of a work centre is" ∷ codes "weeks of work centres are" ∷ codes "item is" ∷ codes "items are" ∷ codes "week of a record is" ∷ codes "weeks of records are" ∷ codes "week of promises is" ∷ codes "weeks of promises are" ∷ codes "order is" ∷ codes "orders are" ∷ codes "peg is" ∷ codes "pegs are" ∷ codes "entry is" ∷ codes "entries are" ∷ codes "1.000" ∷ []
+small_words = [] ∷ codes "0" ∷ codes "1" ∷ codes "message, perhaps an urgent one, is" ∷ codes "messages, urgent ones perhaps among them, are" ∷ codes "week of a work centre is" ∷ codes "weeks of work centres are" ∷ codes "item is" ∷ codes "items are" ∷ codes "week of a record is" ∷ codes "weeks of records are" ∷ codes "week of promises is" ∷ codes "weeks of promises are" ∷ codes "order is" ∷ codes "orders are" ∷ codes "peg is" ∷ codes "pegs are" ∷ codes "entry is" ∷ codes "entries are" ∷ codes "1.000" ∷ codes "entry of the history is" ∷ codes "entries of the history are" ∷ []
 
 -- a text is the title, a cell of a record, a number of what is not shown or of the items, or one of those words
 abbrev pub IsKnown : List ℕ → List Cells → Noted → List ℕ → Type 0

@@ -1,8 +1,10 @@
+pub mod ByWord
 pub mod Columns
 pub mod Counted
 pub mod Counts
 pub mod Draw
 pub mod Escaped
+pub mod Folded
 pub mod Frame
 pub mod Html
 pub mod ItemRows
@@ -15,6 +17,7 @@ pub mod Notes
 pub mod Page
 pub mod Pictures
 pub mod Reading
+pub mod Refused
 pub mod Row
 pub mod Rows
 pub mod Section

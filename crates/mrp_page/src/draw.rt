@@ -78,7 +78,7 @@ fn has_item(shown: &[&Row], name: &[u8]) -> bool
 
 // Adds the name of an item, as a link if the item is among those that are shown.
 #[tactic(auto, unfolding(crate::specs::Draw::item_name_html))]
-fn put_item_name(page: &mut Html, shown: &[&Row], name: &[u8]) -> Result<(), NoMemory>
+pub(crate) fn put_item_name(page: &mut Html, shown: &[&Row], name: &[u8]) -> Result<(), NoMemory>
     ensures { OnOk result (page.new ≡ page.old ++ item_name_html (map (λ r. r.now) shown.now) name.now) }
 {
     if has_item(shown, name) {
@@ -189,7 +189,7 @@ fn put_task_table(
 
 // Adds how many are not shown; nothing if that is none.
 #[tactic(auto, unfolding(crate::specs::Draw::more_html))]
-fn put_more(
+pub(crate) fn put_more(
     alloc: Global,
     page: &mut Html,
     count: u64,

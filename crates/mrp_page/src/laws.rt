@@ -1,26 +1,30 @@
 //! What follows from the definitions alone, each law the contract of a function that does nothing.
 
-ghost use Rattle.std.specs.Prelude.{◌≡◌, ◌++◌, ◌+◌, ◌-◌, ◌^◌, ◌⊎◌, ◌<◌, ◌≤◌, ℕ, All, Contains, IsPermutation, List, Option, [], ◌∷◌, codes, flat_map, length};
+ghost use Rattle.std.specs.Prelude.{◌≡◌, ◌++◌, ◌+◌, ◌-◌, ◌^◌, ◌⊎◌, ◌<◌, ◌≤◌, ℕ, All, Contains, IsPermutation, List, Option, Some, false, [], ◌∷◌, codes, decimal, drop, filter, find, flat_map, length, take};
+ghost use Rattle.mrp_page.specs.ByWord.{has_one_of};
 ghost use Rattle.mrp_page.specs.Columns.{column};
 ghost use Rattle.mrp_page.specs.Counted.{kept_of, missed_of, wanted_rows};
 ghost use Rattle.mrp_page.specs.Draw.{bars_html, booked_html, item_html, items_html, link_html, loads_html, measure_html, more_html, named_record, named_tasks, planned_html, points_html, promised_html, record_or_none, record_rows, supplies_html};
 ghost use Rattle.mrp_page.specs.Escaped.{escaped};
+ghost use Rattle.mrp_page.specs.Folded.{Listing, folded_html, hidden_html, listed_html};
 ghost use Rattle.mrp_page.specs.ItemRows.{ItemLists, item_lists};
-ghost use Rattle.mrp_page.specs.Known.{IsKnown, IsMadeOf, names_shown};
+ghost use Rattle.mrp_page.specs.Known.{IsKnown, IsMadeOf, entries_kept, names_shown};
 ghost use Rattle.mrp_page.specs.Labels.{AreFirm};
 ghost use Rattle.mrp_page.specs.Laws.{piece_html, pieces, shown};
-ghost use Rattle.mrp_page.specs.Layout.{available_label, balance_label, bars_end, booked_label, capacity_label, firm_label, grid_end, gross_label, item_tasks_end, item_tasks_open, load_label, other_words, over_label, planned_label, points_end, scheduled_label, starts_label, task_words, todo_end, todo_open};
+ghost use Rattle.mrp_page.specs.Layout.{available_label, balance_label, bars_end, booked_label, capacity_label, firm_label, grid_end, gross_label, item_tasks_end, item_tasks_open, load_label, none_refused, other_words, over_label, planned_label, points_end, refused_answer, refused_open, scheduled_label, section_end, starts_label, task_words, todo_end, todo_open};
 ghost use Rattle.mrp_page.specs.Notes.{Noted, notes_of};
 ghost use Rattle.mrp_page.specs.Page.{page_html, shown_items};
 ghost use Rattle.mrp_page.specs.Pictures.{drawn_balance, drawn_load};
 ghost use Rattle.mrp_page.specs.Reading.{IsDayOf};
+ghost use Rattle.mrp_page.specs.Refused.{asked_of, is_booking, refusals, refused_html, refused_rows, refused_section};
 ghost use Rattle.mrp_page.specs.Row.{Cells, RowView, cell_at};
 ghost use Rattle.mrp_page.specs.Rows.{rows_in, rows_named};
 ghost use Rattle.mrp_page.specs.Section.{place_of};
 ghost use Rattle.mrp_page.specs.Shown.{IsByItems, items_of_plan, items_to_show, rows_of, run_shown};
 ghost use Rattle.mrp_page.specs.Spot.{Names};
-ghost use Rattle.mrp_page.specs.Template.{Drawn, row_html};
+ghost use Rattle.mrp_page.specs.Template.{Drawn, has_word, row_html};
 ghost use Rattle.mrp_page.specs.Todo.{by_urgency, message_html, said, said_of_another, word_of};
+ghost use Rattle.mrp_page.specs.declared.limits.TheConstants.{FEW_ROWS};
 ghost use Rattle.mrp_day.specs.declared.section.Section.{Section};
 ghost use Rattle.mrp_day.specs.declared.section.Section.TheVariants as section;
 
@@ -54,10 +58,11 @@ pub fn rows_are_kept_or_counted()
 {}
 
 /// A page consists of fixed markup, which is the same for every day, and of escaped texts that are known:
-/// each is the title, a cell of a record of the day, the number of items or of what is not shown, or the word
-/// for that. Its only links are names of items that are shown, each to its item.
+/// each is the title, a cell of a record of the day, the number of items, of what is folded or of what is not
+/// shown, or the word for that. Its only links to items and entries are names of items that are shown, each to
+/// its item, and numbers of entries that are kept of the history, each to its entry.
 pub fn pages_show_what_is_known()
-    ensures { (title : List ℕ) (items : Names) (asked : Option ℕ) (records : List Cells) → IsMadeOf (IsKnown title records (notes_of items asked records)) (Contains (names_shown (notes_of items asked records))) (page_html title (notes_of items asked records)) }
+    ensures { (title : List ℕ) (items : Names) (asked : Option ℕ) (records : List Cells) → IsMadeOf (IsKnown title records (notes_of items asked records)) (Contains (names_shown (notes_of items asked records))) (Contains (entries_kept (notes_of items asked records))) (page_html title (notes_of items asked records)) }
 {}
 
 /// An item's time-phased record shows its rows of the sections `plan` and `promises`. The numbers next to
@@ -122,4 +127,30 @@ pub fn first_items_with_messages()
     ensures full { (items : Names) (run : ℕ) (records : List Cells) → 200 ≤ length (items_of_plan items run records) → length (items_to_show items run records) ≡ 200 }
     ensures count { (items : Names) (asked : Option ℕ) (records : List Cells) (notes : Noted) → IsDayOf items asked records notes → IsByItems records → notes.counts.items ≡ length (items_of_plan items (run_shown asked records) records) }
     ensures page { (title : List ℕ) (notes : Noted) → (front : List ℕ) × (back : List ℕ) × (page_html title notes ≡ front ++ (items_html (item_lists notes.report) notes.counts.promises (shown_items (item_lists notes.report)) ++ (more_html (notes.counts.items - length (shown_items (item_lists notes.report))) (codes "item is") (codes "items are") ++ back))) }
+{}
+
+/// A list that is folded shows each of its rows once: the first ones, and behind their number the others.
+pub fn folds_hide_no_row()
+    ensures drawn { (listing : Listing) (most : ℕ) (rows : List RowView) → (front : List ℕ) × (between : List ℕ) × (back : List ℕ) × (folded_html listing most rows ≡ front ++ (flat_map listing.line (take most rows) ++ (between ++ (flat_map listing.line (drop most rows) ++ back)))) }
+    ensures counted { (listing : Listing) (r : RowView) (rows : List RowView) → hidden_html listing (r ∷ rows) ≡ codes "<details class=rest><summary>and " ++ (escaped (decimal (length (r ∷ rows))) ++ (codes " more</summary>\n" ++ (listed_html listing (r ∷ rows) ++ codes "</details>\n"))) }
+{}
+
+/// Each call that is kept of the history and was not answered as it asked is shown once in *Not promised*: the
+/// bookings that were answered short first, then the cancellations of what is not standing, and of what is
+/// another desk's. If there is none, and the whole history is kept, the page says so.
+pub fn refused_calls_stand_once()
+    ensures once { (history : List RowView) → IsPermutation (filter (has_one_of (column section.History (codes "reply")) refusals) history) (refused_rows history) }
+    ensures page { (title : List ℕ) (notes : Noted) → (front : List ℕ) × (between : List ℕ) × (back : List ℕ) × (page_html title notes ≡ front ++ (flat_map (refused_html (shown_items (item_lists notes.report)) notes.history) (take FEW_ROWS (refused_rows notes.history)) ++ (between ++ (flat_map (refused_html (shown_items (item_lists notes.report)) notes.history) (drop FEW_ROWS (refused_rows notes.history)) ++ back)))) }
+    ensures none { (shown history : List RowView) → refused_rows history ≡ [] → refused_section shown history 0 ≡ refused_open ++ (none_refused ++ section_end) }
+{}
+
+/// What *Not promised* says of a call: how it was answered, with what is available or the entry that it names;
+/// and the item, pieces and week that it is about, which for a cancellation are those of the booking that it
+/// names, if the history has that.
+pub fn refused_calls_say_why()
+    ensures short { (call : RowView) → cell_at call (column section.History (codes "reply")) ≡ codes "short" → row_html refused_answer call ≡ codes "</th><td class=t><b>short: " ++ (escaped (cell_at call (column section.History (codes "value"))) ++ codes " available</b>") }
+    ensures not_standing { (call : RowView) → cell_at call (column section.History (codes "reply")) ≡ codes "not-standing" → row_html refused_answer call ≡ codes "</th><td class=t>not standing: entry " ++ (escaped (cell_at call (column section.History (codes "value"))) ++ []) }
+    ensures not_yours { (call : RowView) → cell_at call (column section.History (codes "reply")) ≡ codes "not-yours" → row_html refused_answer call ≡ codes "</th><td class=t>not yours: entry " ++ (escaped (cell_at call (column section.History (codes "value"))) ++ []) }
+    ensures booking { (call : RowView) (history : List RowView) (booking : RowView) → cell_at call (column section.History (codes "call")) ≡ codes "cancel" → find (is_booking (cell_at call (column section.History (codes "number")))) history ≡ Some booking → asked_of history call ≡ booking }
+    ensures itself { (call : RowView) (history : List RowView) → has_word (column section.History (codes "call")) (codes "cancel") call ≡ false → asked_of history call ≡ call }
 {}

@@ -2,7 +2,7 @@
 
 ghost use Rattle.std.specs.Prelude.{◌≡◌, map};
 ghost use Rattle.mrp_page.specs.Template.{drawn_of};
-ghost use Rattle.mrp_page.specs.Layout.{available_label, balance_chart, balance_label, bar, bars_end, booked_label, capacity_label, centre_head, centres_open, entry, firm_label, grid_end, gross_label, history_end, history_open, item_head, item_tasks_end, item_tasks_open, link_end, link_middle, link_open, list_end, load_chart, load_label, more, no_promises, no_record, order, orders_open, other_words, over_label, page_end, page_head, page_top, peg, pegs_open, planned_label, point, points_end, record_head, scheduled_label, section_end, starts_label, task_head, task_words, todo_end, todo_open, week, weeks_end, style};
+ghost use Rattle.mrp_page.specs.Layout.{available_label, balance_chart, balance_label, bar, bars_end, booked_label, capacity_label, centre_head, centres_open, entry, entry_link_open, firm_label, grid_end, gross_label, history_end, history_open, item_head, item_tasks_end, item_tasks_open, link_end, link_middle, link_open, list_end, load_chart, load_label, more, no_promises, no_record, none_refused, order, orders_open, other_words, over_label, page_end, page_head, page_top, peg, pegs_open, planned_label, point, points_end, record_head, refused_answer, refused_asked, refused_desk, refused_end, refused_front, refused_open, refused_row, rest_end, rest_open, scheduled_label, section_end, starts_label, style, table_end, task_head, task_words, todo_end, todo_open, week, weeks_end};
 
 use crate::style::STYLE;
 use crate::template::Part;
@@ -155,7 +155,9 @@ pub(crate) fn entry() -> &'static [Part]
     ensures { map drawn_of result.now ≡ entry }
 {
     &[
-        Part::Markup(b"<tr><th scope=row>"),
+        Part::Markup(b"<tr id=\"e"),
+        Part::Cell(0),
+        Part::Markup(b"\"><th scope=row>"),
         Part::Cell(0),
         Part::Markup(b"</th>"),
         Part::Number(1),
@@ -593,4 +595,111 @@ pub(crate) fn page_end() -> &'static [u8]
     ensures { result.now ≡ page_end }
 {
     b"</main>\n</body>\n</html>\n"
+}
+
+// What a list's table ends with.
+#[tactic(auto, unfolding(crate::specs::Layout::table_end))]
+pub(crate) fn table_end() -> &'static [u8]
+    ensures { result.now ≡ table_end }
+{
+    b"</tbody></table>\n"
+}
+
+// What the rows that are folded end with.
+#[tactic(auto, unfolding(crate::specs::Layout::rest_end))]
+pub(crate) fn rest_end() -> &'static [u8]
+    ensures { result.now ≡ rest_end }
+{
+    b"</details>\n"
+}
+
+// What a link to an entry of the history begins with, before the number in its address.
+#[tactic(auto, unfolding(crate::specs::Layout::entry_link_open))]
+pub(crate) fn entry_link_open() -> &'static [u8]
+    ensures { result.now ≡ entry_link_open }
+{
+    b"<a href=\"#e"
+}
+
+// What the section *Not promised* begins with.
+#[tactic(auto, unfolding(crate::specs::Layout::refused_open))]
+pub(crate) fn refused_open() -> &'static [u8]
+    ensures { result.now ≡ refused_open }
+{
+    b"<section id=unkept>\n<h2>Not promised</h2>\n"
+}
+
+// What stands there if each call was answered as it asked.
+#[tactic(auto, unfolding(crate::specs::Layout::none_refused))]
+pub(crate) fn none_refused() -> &'static [u8]
+    ensures { result.now ≡ none_refused }
+{
+    b"<p>None: each booking was promised, and each cancellation done.</p>\n"
+}
+
+// What the table of the calls begins with.
+#[tactic(auto, unfolding(crate::specs::Layout::refused_front))]
+pub(crate) fn refused_front() -> &'static [u8]
+    ensures { result.now ≡ refused_front }
+{
+    b"<table class=\"list even\" aria-label=\"Not promised\"><thead><tr><th class=t scope=col>Item</th><th class=t scope=col>Answer</th><th scope=col>Pieces</th><th scope=col>Week</th><th scope=col>Desk</th><th scope=col>Entry</th></tr></thead>\n<tbody>"
+}
+
+// What a call begins with, before its item.
+#[tactic(auto, unfolding(crate::specs::Layout::refused_row))]
+pub(crate) fn refused_row() -> &'static [u8]
+    ensures { result.now ≡ refused_row }
+{
+    b"<tr><th scope=row>"
+}
+
+// What a call ends with.
+#[tactic(auto, unfolding(crate::specs::Layout::refused_end))]
+pub(crate) fn refused_end() -> &'static [u8]
+    ensures { result.now ≡ refused_end }
+{
+    b"</td></tr>\n"
+}
+
+// What rows that are folded begin with: how many they are.
+#[tactic(auto, unfolding(crate::specs::Layout::rest_open))]
+pub(crate) fn rest_open() -> &'static [Part]
+    ensures { map drawn_of result.now ≡ rest_open }
+{
+    &[
+        Part::Markup(b"<details class=rest><summary>and "),
+        Part::Cell(0),
+        Part::Markup(b" more</summary>\n"),
+    ]
+}
+
+// How a call was answered, before the entry that it names.
+#[tactic(auto, unfolding(crate::specs::Layout::refused_answer))]
+pub(crate) fn refused_answer() -> &'static [Part]
+    ensures { map drawn_of result.now ≡ refused_answer }
+{
+    &[
+        Part::Markup(b"</th><td class=t>"),
+        Part::If(7, b"short", b"<b>short: "),
+        Part::If(7, b"not-standing", b"not standing: entry "),
+        Part::If(7, b"not-yours", b"not yours: entry "),
+        Part::Cell(8),
+        Part::If(7, b"short", b" available</b>"),
+    ]
+}
+
+// The pieces and the week of a call.
+#[tactic(auto, unfolding(crate::specs::Layout::refused_asked))]
+pub(crate) fn refused_asked() -> &'static [Part]
+    ensures { map drawn_of result.now ≡ refused_asked }
+{
+    &[Part::Markup(b"</td>"), Part::Number(5), Part::Number(4)]
+}
+
+// The desk of a call.
+#[tactic(auto, unfolding(crate::specs::Layout::refused_desk))]
+pub(crate) fn refused_desk() -> &'static [Part]
+    ensures { map drawn_of result.now ≡ refused_desk }
+{
+    &[Part::Number(1), Part::Markup(b"<td>")]
 }

@@ -1,11 +1,13 @@
 //! The page that a planner opens: a day as one file of HTML that fetches nothing and runs nothing.
 #![tactic(auto)]
 
+mod by_word;
 mod cells;
 mod counts;
 mod draw;
 mod escape;
 mod fault;
+mod folded;
 mod frame;
 mod html;
 mod item_rows;
@@ -16,6 +18,7 @@ mod names;
 mod notes;
 mod page;
 mod read;
+mod refused;
 mod row;
 mod rows;
 mod section;

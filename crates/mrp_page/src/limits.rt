@@ -13,3 +13,6 @@ pub const MOST_ROWS: u64 = MOST_ITEMS * 104;
 
 /// The most pegs that a page keeps: 300 for each of [`MOST_ITEMS`] items.
 pub const MOST_PEGS: u64 = MOST_ITEMS * 300;
+
+/// How many rows of a short list are not folded.
+pub const FEW_ROWS: usize = 5;

@@ -11,6 +11,7 @@ use crate::item_rows::ItemRows;
 use crate::layout::{page_end, page_head, page_top, style};
 use crate::limits::MOST_ITEMS;
 use crate::notes::Notes;
+use crate::refused::put_refused;
 use crate::row::Row;
 use crate::rows::{leaders, rows_in, rows_named};
 use crate::template::put_row;
@@ -164,6 +165,7 @@ fn put_page_of(
     let rows = ItemRows::of(report);
     let counts = notes.counts();
     put_top(alloc, page, title, report, counts.items)?;
+    put_refused(alloc, page, shown, notes.history(), counts.history)?;
     put_todo(alloc, page, shown, rows.messages(), counts.messages)?;
     put_load_section(alloc, page, rows_in(report, Section::Loads), counts.loads)?;
     put_rest(alloc, page, &rows, counts, shown, notes.history())
