@@ -22,3 +22,4 @@ pub mod OrderedRows
 pub mod ByWord
 pub mod Folds
 pub mod RefusedCalls
+pub mod TodoKinds

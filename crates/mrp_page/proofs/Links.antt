@@ -1,8 +1,9 @@
 -- Where the items are on a page, and how a name links to its item.
 use Rattle.std.proofs.Common.{◌≡◌, ◌-◌, ℕ, List, [], ◌++◌, codes, length, refl, ap, append_assoc}
-use Rattle.mrp_page.specs.Draw.{history_html, item_html, item_lists_html, items_html, link_html, more_html, more_items, more_rows, named_note, named_record, named_tasks, todo_html}
+use Rattle.mrp_page.specs.Draw.{history_html, item_html, item_lists_html, items_html, link_html, more_html, more_items, more_rows, named_note, named_record, named_tasks}
 use Rattle.mrp_page.specs.Escaped.{escaped}
 use Rattle.mrp_page.specs.ItemRows.{ItemLists, item_lists}
+use Rattle.mrp_page.specs.Kinds.{todo_html}
 use Rattle.mrp_page.specs.Layout.{item_head, link_end, link_middle, link_open, page_end}
 use Rattle.mrp_page.specs.Notes.{Noted}
 use Rattle.mrp_page.specs.Page.{items_of, load_section, page_html, page_of, rest_html, shown_items, top_html}
@@ -36,7 +37,7 @@ items-stand title notes =
     let shown : List RowView = shown_items lists in
     let top : List ℕ = top_html title notes.report notes.counts.items in
     let calls : List ℕ = refused_section shown notes.history notes.counts.history in
-    let todo : List ℕ = todo_html shown (rows_in s.Messages notes.report) notes.counts.messages in
+    let todo : List ℕ = todo_html shown (rows_in s.Orders notes.report) (rows_in s.Messages notes.report) notes.counts.messages in
     let loads : List ℕ = load_section (rows_in s.Loads notes.report) notes.counts.loads in
     let more : List ℕ = more_html (notes.counts.items - length shown) (codes "item is") (codes "items are") in
     let last : List ℕ = history_html notes.history notes.counts.history ++ page_end in (

@@ -1,6 +1,6 @@
 -- Pages consist of fixed markup and of texts that are known.
 use Rattle.std.proofs.Common.{◌≡◌, ◌∙◌, ◌⊎◌, ◌-◌, ◌<◌, ◌≤◌, ℕ, zero, suc, Bool, true, false, Some, List, [], ◌∷◌, ◌++◌, codes, decimal, drop, get_or, length, refl, sym, ap, subst, take, unwrap_or, arith, inl, inr, not}
-use Rattle.std.specs.Prelude.{if◌then◌else◌, ◌==◌, ◌&&◌, ◌||◌, nat_lt}
+use Rattle.std.specs.Prelude.{if◌then◌else◌, ◌==◌, ◌&&◌, ◌||◌, ◌*◌, nat_le, nat_lt}
 use Rattle.std.proofs.lemmas.Bool.{cases_lt}
 use Rattle.std.proofs.lemmas.List.{append-nil, get_or_past}
 use Rattle.std.proofs.lemmas.List.Concat.{flat_map-append}
@@ -9,22 +9,23 @@ use Rattle.std.proofs.lemmas.Slice.Eq.{bytes_eq-Decides}
 use Rattle.std.proofs.lemmas.List.Elements.{All-append, All-cons, All-contains, All-contains_itself, All-drop, All-filter, All-nil, All-take, Contains-append_left, Contains-append_right}
 use Rattle.std.specs.List.{All, Contains, find, flat_map, position_or_len}
 use Rattle.mrp_page.specs.ByWord.{by_word, with_word}
-use Rattle.mrp_page.specs.Draw.{balance_html, bars_html, booked_html, centre_html, centre_rows_html, centres_html, each_centre, grid_html, has_firm, has_item, has_none, history_html, is_plain, item_html, item_lists_html, item_name_html, item_tasks, items_html, link_html, loads_html, measure_html, more_html, more_items, more_lists, more_rows, more_weeks, named_note, named_record, named_tasks, orders_html, other_if, other_tasks, pegs_html, planned_html, points_html, promised_html, record_html, record_or_none, record_rows, supplies_html, table_html, task_html, task_if, task_table, tasks_html, tasks_with, todo_back, todo_html, weeks_html}
+use Rattle.mrp_page.specs.Draw.{balance_html, bars_html, booked_html, centre_html, centre_rows_html, centres_html, each_centre, grid_html, has_firm, has_item, has_none, history_html, is_plain, item_html, item_lists_html, item_name_html, item_tasks, items_html, link_html, loads_html, measure_html, more_html, more_items, more_lists, more_rows, more_weeks, named_note, named_record, named_tasks, orders_html, other_if, other_tasks, pegs_html, planned_html, points_html, promised_html, record_html, record_or_none, record_rows, supplies_html, table_html, task_html, task_if, task_table, tasks_html, tasks_with, weeks_html}
 use Rattle.mrp_page.specs.Escaped.{escaped}
-use Rattle.mrp_page.specs.Folded.{Listing, folded_html, hidden_html, listed_html}
+use Rattle.mrp_page.specs.Folded.{Listing, capped_html, folded_html, hidden_html, listed_html}
 use Rattle.mrp_page.specs.Frame.{count_row, frame_of, heading, last_week}
 use Rattle.mrp_page.specs.Html.{is_zero, number_html, number_tag}
 use Rattle.mrp_page.specs.ItemRows.{ItemLists, item_lists}
-use Rattle.mrp_page.specs.Known.{IsMadeOf, IsPieceOf, count_texts, layouts, marks_of, own_words, plain, small_words}
+use Rattle.mrp_page.specs.Kinds.{Kind, cancel, earlier, is_order_of, kind_html, kind_listing, kind_part, kinds_html, late, later, messages_of, note_html, order_html, other, other_messages, other_part, release, state_of, task_line, todo_back, todo_html}
+use Rattle.mrp_page.specs.Known.{IsMadeOf, IsPieceOf, count_texts, layouts, list_counts, marks_of, message_lists, own_counts, own_words, plain, small_words}
 use Rattle.mrp_page.specs.Laws.{Entry, Escaped, Link, Markup, piece_html}
-use Rattle.mrp_page.specs.Layout.{available_label, balance_chart, balance_label, bar, bars_end, booked_label, capacity_label, centre_head, centres_open, entry, firm_label, grid_end, gross_label, history_end, history_open, item_head, item_tasks_end, item_tasks_open, list_end, load_chart, load_label, more, no_promises, no_record, none_refused, order, orders_open, other_words, over_label, page_end, page_head, page_top, peg, pegs_open, planned_label, point, points_end, record_head, refused_answer, refused_asked, refused_desk, refused_end, refused_front, refused_open, refused_row, rest_end, rest_open, scheduled_label, section_end, starts_label, style, table_end, task_head, task_words, todo_end, todo_open, week, weeks_end}
+use Rattle.mrp_page.specs.Layout.{available_label, balance_chart, balance_label, bar, bars_end, booked_label, cancel_front, cancel_open, capacity_label, centre_head, centres_open, entry, firm_label, grid_end, gross_label, history_end, history_open, in_front, in_open, item_head, item_tasks_end, item_tasks_open, late_front, late_open, list_end, load_chart, load_label, more, no_promises, no_record, none_refused, nothing_to_do, order, order_start, order_unknown, order_week, orders_open, other_cells, other_front, other_open, other_words, out_front, out_open, over_label, page_end, page_head, page_top, peg, pegs_open, planned_label, point, points_end, record_head, refused_answer, refused_asked, refused_desk, refused_end, refused_front, refused_open, refused_row, release_front, release_open, rest_end, rest_open, row_end, scheduled_label, section_end, starts_label, style, table_end, task_head, task_row, task_supply, task_words, to_week, todo_note, todo_open, week, weeks_end, weeks_late}
 use Rattle.mrp_page.specs.Notes.{Noted}
 use Rattle.mrp_page.specs.Page.{head_html, is_told, items_of, load_section, page_html, page_of, rest_html, shown_items, told_first, top_html, untold_rows}
 use Rattle.mrp_page.specs.Refused.{answer_html, asked_of, call_html, caller_html, entry_link_html, entry_name_html, is_booking, refusals, refused_back, refused_lines, refused_listing, refused_or_none, refused_rows, refused_section}
 use Rattle.mrp_page.specs.Row.{Cells, RowView, cell_at, is_in, is_of}
 use Rattle.mrp_page.specs.Rows.{greatest, higher, leader_rows, leaders, rank, rows_in, rows_named, stretch}
 use Rattle.mrp_page.specs.Template.{Drawn, Mark, Number, Text, Where, has_word, number_at, numbers_html, part_html, row_html, rows_html}
-use Rattle.mrp_page.specs.declared.limits.TheConstants.{FEW_ROWS, MOST_ITEMS}
+use Rattle.mrp_page.specs.declared.limits.TheConstants.{FEW_ROWS, MOST_ITEMS, MOST_LINES, SOME_ROWS}
 use Rattle.mrp_page.specs.declared.counts.Counts.{Counts}
 use Rattle.mrp_day.specs.declared.section.Section.{Section}
 use Rattle.mrp_day.specs.declared.section.Section.TheVariants as s
@@ -143,6 +144,58 @@ laid-refused_desk : Contains layouts refused_desk
 unfolding layouts
 laid-refused_desk = (20, omega arith, refl)
 
+laid-task_supply : Contains layouts task_supply
+unfolding layouts
+laid-task_supply = (21, omega arith, refl)
+
+laid-order_start : Contains layouts order_start
+unfolding layouts
+laid-order_start = (22, omega arith, refl)
+
+laid-order_week : Contains layouts order_week
+unfolding layouts
+laid-order_week = (23, omega arith, refl)
+
+laid-weeks_late : Contains layouts weeks_late
+unfolding layouts
+laid-weeks_late = (24, omega arith, refl)
+
+laid-to_week : Contains layouts to_week
+unfolding layouts
+laid-to_week = (25, omega arith, refl)
+
+laid-row_end : Contains layouts row_end
+unfolding layouts
+laid-row_end = (26, omega arith, refl)
+
+laid-other_cells : Contains layouts other_cells
+unfolding layouts
+laid-other_cells = (27, omega arith, refl)
+
+laid-late_open : Contains layouts late_open
+unfolding layouts
+laid-late_open = (28, omega arith, refl)
+
+laid-release_open : Contains layouts release_open
+unfolding layouts
+laid-release_open = (29, omega arith, refl)
+
+laid-in_open : Contains layouts in_open
+unfolding layouts
+laid-in_open = (30, omega arith, refl)
+
+laid-out_open : Contains layouts out_open
+unfolding layouts
+laid-out_open = (31, omega arith, refl)
+
+laid-cancel_open : Contains layouts cancel_open
+unfolding layouts
+laid-cancel_open = (32, omega arith, refl)
+
+laid-other_open : Contains layouts other_open
+unfolding layouts
+laid-other_open = (33, omega arith, refl)
+
 own-style : Contains own_words style
 unfolding plain
 own-style = own style 0 (omega arith) refl
@@ -151,9 +204,9 @@ own-todo_open : Contains own_words todo_open
 unfolding plain
 own-todo_open = own todo_open 1 (omega arith) refl
 
-own-todo_end : Contains own_words todo_end
+own-nothing_to_do : Contains own_words nothing_to_do
 unfolding plain
-own-todo_end = own todo_end 2 (omega arith) refl
+own-nothing_to_do = own nothing_to_do 2 (omega arith) refl
 
 own-item_tasks_open : Contains own_words item_tasks_open
 unfolding plain
@@ -310,6 +363,67 @@ own-refused_row = own refused_row 40 (omega arith) refl
 own-refused_end : Contains own_words refused_end
 unfolding plain
 own-refused_end = own refused_end 41 (omega arith) refl
+
+own-todo_note : Contains own_words todo_note
+unfolding plain
+own-todo_note = own todo_note 42 (omega arith) refl
+
+own-task_row : Contains own_words task_row
+unfolding plain
+own-task_row = own task_row 43 (omega arith) refl
+
+own-order_unknown : Contains own_words order_unknown
+unfolding plain
+own-order_unknown = own order_unknown 44 (omega arith) refl
+
+own-late_front : Contains own_words late_front
+unfolding plain
+own-late_front = own late_front 45 (omega arith) refl
+
+own-release_front : Contains own_words release_front
+unfolding plain
+own-release_front = own release_front 46 (omega arith) refl
+
+own-in_front : Contains own_words in_front
+unfolding plain
+own-in_front = own in_front 47 (omega arith) refl
+
+own-out_front : Contains own_words out_front
+unfolding plain
+own-out_front = own out_front 48 (omega arith) refl
+
+own-cancel_front : Contains own_words cancel_front
+unfolding plain
+own-cancel_front = own cancel_front 49 (omega arith) refl
+
+own-other_front : Contains own_words other_front
+unfolding plain
+own-other_front = own other_front 50 (omega arith) refl
+
+-- the markup of a kind of messages is the page's own
+record OfKind (kind : Kind) : Type 0 where
+  open-laid : Contains layouts kind.head
+  front-own : Contains own_words kind.front
+  order-laid : Contains layouts kind.order
+  value-laid : Contains layouts kind.value
+
+of-late : OfKind late
+of-late = record { open-laid = laid-late_open; front-own = own-late_front; order-laid = laid-order_start; value-laid = laid-weeks_late }
+
+of-release : OfKind release
+of-release = record { open-laid = laid-release_open; front-own = own-release_front; order-laid = laid-order_start; value-laid = laid-row_end }
+
+of-earlier : OfKind earlier
+of-earlier = record { open-laid = laid-in_open; front-own = own-in_front; order-laid = laid-order_week; value-laid = laid-to_week }
+
+of-later : OfKind later
+of-later = record { open-laid = laid-out_open; front-own = own-out_front; order-laid = laid-order_week; value-laid = laid-to_week }
+
+of-cancel : OfKind cancel
+of-cancel = record { open-laid = laid-cancel_open; front-own = own-cancel_front; order-laid = laid-order_week; value-laid = laid-row_end }
+
+of-other : OfKind other
+of-other = record { open-laid = laid-other_open; front-own = own-other_front; order-laid = laid-order_week; value-laid = laid-other_cells }
 
 -- if some rows are kept, each of them is among all
 module _ {X : Type 0} (P : X → Type 0) where
@@ -571,13 +685,91 @@ module _ (K L E : List ℕ → Type 0) (words : (w : List ℕ) → Contains smal
       (folded (refused_listing shown history) FEW_ROWS calls own-refused_front own-table_end (λ r known. call shown history (asked_of history r) r led kept (asked history r all known) known) (all-by-word (λ (r : RowView). (column : ℕ) → K (cell_at r column)) 7 refusals history all) of-rest))
       (join more-of section_end (further missed (codes "entry of the history is") (codes "entries of the history are") of-missed (small (codes "entry of the history is") 20 (omega arith) refl) (small (codes "entries of the history are") 21 (omega arith) refl)) (mark section_end own-section_end)))
 
-  todo-back : (missed : ℕ) → K (decimal missed) → IsMadeOf K L E (todo_back missed)
-  unfolding todo_back small_words
-  todo-back missed known = (join (more_html missed (codes "message, perhaps an urgent one, is") (codes "messages, urgent ones perhaps among them, are")) section_end (further missed (codes "message, perhaps an urgent one, is") (codes "messages, urgent ones perhaps among them, are") known (small (codes "message, perhaps an urgent one, is") 3 (omega arith) refl) (small (codes "messages, urgent ones perhaps among them, are") 4 (omega arith) refl)) (mark section_end own-section_end))
+  order-cells : (kind : Kind) → OfKind kind → (p : RowView → Bool) (orders : List RowView) → All (λ (r : RowView). (column : ℕ) → K (cell_at r column)) orders → IsMadeOf K L E (order_html kind (find p orders))
+  order-cells kind of p [] all = mark order_unknown own-order_unknown
+  order-cells kind of p (r ∷ orders) all = by (p r) (all 0 r (omega arith)) (order-cells kind of p orders (λ k d within. all (suc k) d (omega arith)))
+    where
+      by : (b : Bool) → ((column : ℕ) → K (cell_at r column)) → IsMadeOf K L E (order_html kind (find p orders)) → IsMadeOf K L E (order_html kind (if b then Some r else find p orders))
+      by true here rest = row kind.order r of.order-laid here
+      by false here rest = rest
 
-  todo : (shown ms : List RowView) (missed : ℕ) → All (λ (r : RowView). L (cell_at r 0)) shown → All (λ (r : RowView). (column : ℕ) → K (cell_at r column)) ms → K (decimal missed) → IsMadeOf K L E (todo_html shown ms missed)
-  unfolding todo_html
-  todo shown ms missed led all known = join (task_table todo_open shown ms todo_end) (todo_back missed) (told todo_open shown ms todo_end own-todo_open led all own-todo_end) (todo-back missed known)
+  line : (kind : Kind) → OfKind kind → (shown orders : List RowView) (r : RowView) → All (λ (r : RowView). L (cell_at r 0)) shown → All (λ (r : RowView). (column : ℕ) → K (cell_at r column)) orders → ((column : ℕ) → K (cell_at r column)) → IsMadeOf K L E (task_line kind shown orders r)
+  unfolding task_line
+  line kind of shown orders r led all known =
+      let name : List ℕ = item_name_html shown (cell_at r 0) in
+      let supply : List ℕ = row_html task_supply r in
+      let order-of : List ℕ = order_html kind (find (is_order_of r) orders) in
+      let value : List ℕ = row_html kind.value r in
+      join task_row (name ++ (supply ++ (order-of ++ value))) (mark task_row own-task_row)
+      (join name (supply ++ (order-of ++ value)) (item-name shown (cell_at r 0) led (known 0))
+      (join supply (order-of ++ value) (row task_supply r laid-task_supply known)
+      (join order-of value (order-cells kind of (is_order_of r) orders all) (row kind.value r of.value-laid known))))
+
+  -- the counts of a list are known
+  record Counted (rs : List RowView) : Type 0 where
+    all-of : K (decimal (length rs))
+    rest-of : K (decimal (length (drop SOME_ROWS (take MOST_LINES rs))))
+    past-of : K (decimal (length (drop MOST_LINES rs)))
+
+  kind-part-of : (kind : Kind) → OfKind kind → (shown orders : List RowView) (state : List ℕ) (rs : List RowView) → All (λ (r : RowView). L (cell_at r 0)) shown → All (λ (r : RowView). (column : ℕ) → K (cell_at r column)) orders → All (λ (r : RowView). (column : ℕ) → K (cell_at r column)) rs → K state → Counted rs → IsMadeOf K L E (kind_html kind shown orders state rs)
+  unfolding kind_html capped_html small_words
+  kind-part-of kind of shown orders state rs led of-orders all of-state counts =
+      let head : List ℕ = row_html kind.head (count_row (length rs) state state) in
+      let listing : Listing = kind_listing kind shown orders in
+      let kept : List RowView = take MOST_LINES rs in
+      let lines : List ℕ = folded_html listing SOME_ROWS kept in
+      let past : List ℕ = more_html (length (drop MOST_LINES rs)) (codes "is") (codes "are") in
+      either (has_none rs) [] (head ++ ((lines ++ past) ++ rest_end)) none
+      (join head ((lines ++ past) ++ rest_end) (row kind.head (count_row (length rs) state state) of.open-laid (counted (length rs) state state counts.all-of of-state of-state))
+      (join (lines ++ past) rest_end
+      (join lines past (folded listing SOME_ROWS kept of.front-own own-table_end (λ r known. line kind of shown orders r led of-orders known) (All-take (λ (r : RowView). (column : ℕ) → K (cell_at r column)) MOST_LINES rs all) counts.rest-of)
+      (further (length (drop MOST_LINES rs)) (codes "is") (codes "are") counts.past-of (small (codes "is") 22 (omega arith) refl) (small (codes "are") 23 (omega arith) refl)))
+      (mark rest_end own-rest_end)))
+
+  -- the counts of the messages, kind by kind, are known
+  record AllCounted (ms : List RowView) : Type 0 where
+    of-late : Counted (messages_of ms late)
+    of-release : Counted (messages_of ms release)
+    of-earlier : Counted (messages_of ms earlier)
+    of-later : Counted (messages_of ms later)
+    of-cancel : Counted (messages_of ms cancel)
+    of-other : Counted (other_messages ms)
+
+  state-known : (ms : List RowView) → K (state_of ms)
+  unfolding small_words
+  state-known ms = by (nat_le (length ms) (2 * SOME_ROWS))
+    where
+      by : (b : Bool) → K (if b then codes "open" else [])
+      by true = small (codes "open") 24 (omega arith) refl
+      by false = nothing
+
+  a-kind : (kind : Kind) → OfKind kind → (shown orders ms : List RowView) → All (λ (r : RowView). L (cell_at r 0)) shown → All (λ (r : RowView). (column : ℕ) → K (cell_at r column)) orders → All (λ (r : RowView). (column : ℕ) → K (cell_at r column)) ms → Counted (messages_of ms kind) → IsMadeOf K L E (kind_part shown orders ms kind)
+  unfolding kind_part
+  a-kind kind of shown orders ms led of-orders all counts =
+      kind-part-of kind of shown orders (state_of ms) (messages_of ms kind) led of-orders (All-filter (has_word 3 kind.word) (λ (r : RowView). (column : ℕ) → K (cell_at r column)) ms all) (state-known ms) counts
+
+  every-kind : (shown orders ms : List RowView) → All (λ (r : RowView). L (cell_at r 0)) shown → All (λ (r : RowView). (column : ℕ) → K (cell_at r column)) orders → All (λ (r : RowView). (column : ℕ) → K (cell_at r column)) ms → AllCounted ms → IsMadeOf K L E (kinds_html shown orders ms)
+  unfolding kinds_html other_part
+  every-kind shown orders ms led of-orders all counts =
+      let part-of : Kind → List ℕ = kind_part shown orders ms in
+      let others : List ℕ = kind_html other shown orders (state_of ms) (other_messages ms) in
+      join (part-of late) (part-of release ++ (part-of earlier ++ (part-of later ++ (part-of cancel ++ others)))) (a-kind late of-late shown orders ms led of-orders all counts.of-late)
+      (join (part-of release) (part-of earlier ++ (part-of later ++ (part-of cancel ++ others))) (a-kind release of-release shown orders ms led of-orders all counts.of-release)
+      (join (part-of earlier) (part-of later ++ (part-of cancel ++ others)) (a-kind earlier of-earlier shown orders ms led of-orders all counts.of-earlier)
+      (join (part-of later) (part-of cancel ++ others) (a-kind later of-later shown orders ms led of-orders all counts.of-later)
+      (join (part-of cancel) others (a-kind cancel of-cancel shown orders ms led of-orders all counts.of-cancel)
+      (kind-part-of other of-other shown orders (state_of ms) (other_messages ms) led of-orders (All-filter (λ message. not (is_plain message)) (λ (r : RowView). (column : ℕ) → K (cell_at r column)) ms all) (state-known ms) counts.of-other)))))
+
+  todo : (shown orders ms : List RowView) (missed : ℕ) → All (λ (r : RowView). L (cell_at r 0)) shown → All (λ (r : RowView). (column : ℕ) → K (cell_at r column)) orders → All (λ (r : RowView). (column : ℕ) → K (cell_at r column)) ms → AllCounted ms → K (decimal missed) → IsMadeOf K L E (todo_html shown orders ms missed)
+  unfolding todo_html todo_back small_words
+  todo shown orders ms missed led of-orders all counts known =
+      let note : List ℕ = note_html ms missed in
+      let parts : List ℕ = kinds_html shown orders ms in
+      let past : List ℕ = more_html missed (codes "message, perhaps an urgent one, is") (codes "messages, urgent ones perhaps among them, are") in
+      join todo_open (note ++ (parts ++ (past ++ section_end))) (mark todo_open own-todo_open)
+      (join note (parts ++ (past ++ section_end)) (either (has_none ms && (missed == 0)) nothing_to_do todo_note (mark nothing_to_do own-nothing_to_do) (mark todo_note own-todo_note))
+      (join parts (past ++ section_end) (every-kind shown orders ms led of-orders all counts)
+      (join past section_end (further missed (codes "message, perhaps an urgent one, is") (codes "messages, urgent ones perhaps among them, are") known (small (codes "message, perhaps an urgent one, is") 3 (omega arith) refl) (small (codes "messages, urgent ones perhaps among them, are") 4 (omega arith) refl)) (mark section_end own-section_end))))
 
   weeks : (rs : List RowView) → All (λ (r : RowView). (column : ℕ) → K (cell_at r column)) rs → IsMadeOf K L E (weeks_html rs)
   unfolding weeks_html
@@ -757,11 +949,21 @@ module _ (K L E : List ℕ → Type 0) (words : (w : List ℕ) → Contains smal
     messages = all-in (λ (r : RowView). (column : ℕ) → K (cell_at r column)) s.Messages report all;
   }
 
+  counted-list : (notes : Noted) → All K (count_texts notes) → (rs : List RowView) → Contains (message_lists notes) rs → Counted rs
+  counted-list notes counts rs has =
+      let one : (t : List ℕ) → Contains (list_counts rs) t → K t = λ t is. All-contains K (count_texts notes) t counts (Contains-append_right (own_counts notes) (flat_map list_counts (message_lists notes)) t (contains-flat list_counts (message_lists notes) rs t has.0 has.1 has.2 is)) in
+      record {
+        all-of = one (decimal (length rs)) (0, omega arith, refl);
+        rest-of = one (decimal (length (drop SOME_ROWS (take MOST_LINES rs)))) (1, omega arith, refl);
+        past-of = one (decimal (length (drop MOST_LINES rs))) (2, omega arith, refl);
+      }
+
   pub page : (title : List ℕ) (notes : Noted) → K title → All (λ (r : RowView). (column : ℕ) → K (cell_at r column)) notes.history → All (λ (r : RowView). (column : ℕ) → K (cell_at r column)) notes.report → All K (count_texts notes)
       → All (λ (r : RowView). L (cell_at r 0)) (shown_items (item_lists notes.report)) → All (λ (r : RowView). E (cell_at r 0)) notes.history → IsMadeOf K L E (page_html title notes)
   unfolding page_html page_of top_html load_section rest_html items_of
   page title notes known entries all counts led kept =
-      let count : (k : ℕ) → k < 10 → K (get_or (count_texts notes) k []) = λ k within. counts k [] (omega (arith, within)) in
+      let count : (k : ℕ) → k < 10 → K (get_or (own_counts notes) k []) = λ k within. All-contains K (count_texts notes) (get_or (own_counts notes) k []) counts (Contains-append_left (own_counts notes) (flat_map list_counts (message_lists notes)) (get_or (own_counts notes) k []) (All-contains_itself (own_counts notes) k [] (omega (arith, within)))) in
+      let of-list : (rs : List RowView) → Contains (message_lists notes) rs → Counted rs = λ rs has. counted-list notes counts rs has in
       let lists : ItemLists = item_lists notes.report in
       let of-lists : AllKnown lists = all-lists notes.report all in
       let shown : List RowView = shown_items lists in
@@ -770,7 +972,8 @@ module _ (K L E : List ℕ → Type 0) (words : (w : List ℕ) → Contains smal
       let of-loaded : All (λ (r : RowView). (column : ℕ) → K (cell_at r column)) loaded = all-in (λ (r : RowView). (column : ℕ) → K (cell_at r column)) s.Loads notes.report all in
       let top : List ℕ = head_html (heading title notes.report notes.counts.items) in
       let calls : List ℕ = refused_section shown notes.history notes.counts.history in
-      let todos : List ℕ = todo_html shown lists.messages notes.counts.messages in
+      let todos : List ℕ = todo_html shown lists.orders lists.messages notes.counts.messages in
+      let of-messages : AllCounted lists.messages = record { of-late = of-list (messages_of lists.messages late) (0, omega arith, refl); of-release = of-list (messages_of lists.messages release) (1, omega arith, refl); of-earlier = of-list (messages_of lists.messages earlier) (2, omega arith, refl); of-later = of-list (messages_of lists.messages later) (3, omega arith, refl); of-cancel = of-list (messages_of lists.messages cancel) (4, omega arith, refl); of-other = of-list (other_messages lists.messages) (5, omega arith, refl) } in
       let centred : List ℕ = centres_html loaded (leaders [] loaded) notes.counts.loads in
       let item-parts : List ℕ = items_html lists notes.counts.promises shown ++ more_items (unshown lists shown notes.counts) shown in
       let past : List ℕ = history_html notes.history notes.counts.history in
@@ -779,7 +982,7 @@ module _ (K L E : List ℕ → Type 0) (words : (w : List ℕ) → Contains smal
       (join calls (todos ++ (centred ++ (item-parts ++ (past ++ page_end))))
       (unkept shown notes.history notes.counts.history led kept entries (count 7 (omega arith)) (count 9 (omega arith)))
       (join todos (centred ++ (item-parts ++ (past ++ page_end)))
-      (todo shown lists.messages notes.counts.messages led of-lists.messages (count 0 (omega arith)))
+      (todo shown lists.orders lists.messages notes.counts.messages led of-lists.orders of-lists.messages of-messages (count 0 (omega arith)))
       (join centred (item-parts ++ (past ++ page_end))
       (centres loaded (leaders [] loaded) notes.counts.loads of-loaded (all-leaders (λ (r : RowView). (column : ℕ) → K (cell_at r column)) [] loaded of-loaded) (count 1 (omega arith)))
       (join item-parts (past ++ page_end)

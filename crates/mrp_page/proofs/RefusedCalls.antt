@@ -5,10 +5,11 @@ use Rattle.std.specs.List.{filter, find, flat_map}
 use Rattle.std.proofs.lemmas.List.{append-nil}
 use Rattle.mrp_page.specs.ByWord.{has_one_of}
 use Rattle.mrp_page.specs.Columns.{column}
-use Rattle.mrp_page.specs.Draw.{has_none, more_html, todo_html}
+use Rattle.mrp_page.specs.Draw.{has_none, more_html}
 use Rattle.mrp_page.specs.Escaped.{escaped}
 use Rattle.mrp_page.specs.Folded.{folded_html}
 use Rattle.mrp_page.specs.ItemRows.{item_lists}
+use Rattle.mrp_page.specs.Kinds.{todo_html}
 use Rattle.mrp_page.specs.Layout.{none_refused, refused_answer, refused_open, section_end}
 use Rattle.mrp_page.specs.Notes.{Noted}
 use Rattle.mrp_page.specs.Page.{load_section, page_html, page_of, rest_html, shown_items, top_html}
@@ -52,7 +53,7 @@ refused-stand title notes =
     let rows : List RowView = refused_rows notes.history in
     let top : List ℕ = top_html title notes.report notes.counts.items in
     let last : List ℕ = more_html notes.counts.history (codes "entry of the history is") (codes "entries of the history are") ++ section_end in
-    let todo : List ℕ = todo_html shown (rows_in s.Messages notes.report) notes.counts.messages in
+    let todo : List ℕ = todo_html shown (rows_in s.Orders notes.report) (rows_in s.Messages notes.report) notes.counts.messages in
     let rest : List ℕ = load_section (rows_in s.Loads notes.report) notes.counts.loads ++ rest_html (item_lists notes.report) notes.counts shown notes.history in
     let (front, between, back, is) = lines-are shown notes.history notes.counts.history rows in (
       (top ++ refused_open) ++ front,

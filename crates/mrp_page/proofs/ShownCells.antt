@@ -5,9 +5,10 @@ use Rattle.std.proofs.lemmas.List.{append-nil, get_or_past}
 use Rattle.std.proofs.lemmas.List.Concat.{flat_map-append}
 use Rattle.std.proofs.lemmas.List.Elements.{All-append, All-cons, All-nil, Contains-get_or}
 use Rattle.std.specs.List.{All, Contains, flat_map}
-use Rattle.mrp_page.specs.Draw.{history_html, todo_html}
+use Rattle.mrp_page.specs.Draw.{history_html}
 use Rattle.mrp_page.specs.ItemRows.{item_lists}
 use Rattle.mrp_page.specs.Laws.{part_pieces, piece_html, pieces, shown, text_of}
+use Rattle.mrp_page.specs.Kinds.{todo_html}
 use Rattle.mrp_page.specs.Layout.{page_end, page_top}
 use Rattle.mrp_page.specs.Notes.{Noted}
 use Rattle.mrp_page.specs.Page.{head_html, items_of, load_section, page_html, page_of, rest_html, shown_items, top_html}
@@ -74,7 +75,7 @@ ends title notes =
     let top = top_html title notes.report notes.counts.items in
     let shown = shown_items (item_lists notes.report) in
     let calls = refused_section shown notes.history notes.counts.history in
-    let todo = todo_html shown (rows_in s.Messages notes.report) notes.counts.messages in
+    let todo = todo_html shown (rows_in s.Orders notes.report) (rows_in s.Messages notes.report) notes.counts.messages in
     let loads = load_section (rows_in s.Loads notes.report) notes.counts.loads in
     let items = items_of (item_lists notes.report) notes.counts shown in
     let history = history_html notes.history notes.counts.history in

@@ -8,9 +8,9 @@ use Rattle.std.proofs.lemmas.List.Concat.{flat_map-append}
 use Rattle.std.proofs.lemmas.List.Elements.{filter_agree}
 use Rattle.std.proofs.lemmas.List.Sorted.{IsPermutation-append_right, IsPermutation-filter_both, IsPermutation-refl, IsPermutation-trans}
 use Rattle.mrp_page.specs.ByWord.{by_word, has_one_of}
-use Rattle.mrp_page.specs.Draw.{is_plain, item_tasks, named_tasks, other_if, other_tasks, task_html, task_if, task_table, tasks_html, tasks_with, todo_back, todo_html}
+use Rattle.mrp_page.specs.Draw.{is_plain, item_tasks, named_tasks, other_if, other_tasks, task_html, task_if, task_table, tasks_html, tasks_with}
 use Rattle.mrp_page.specs.ItemRows.{ItemLists, item_lists}
-use Rattle.mrp_page.specs.Layout.{item_tasks_end, item_tasks_open, other_words, task_words, todo_end, todo_open}
+use Rattle.mrp_page.specs.Layout.{item_tasks_end, item_tasks_open, other_words, task_words}
 use Rattle.mrp_page.specs.Notes.{Noted}
 use Rattle.mrp_page.specs.Page.{load_section, page_html, page_of, rest_html, shown_items, top_html}
 use Rattle.mrp_page.specs.Refused.{refused_section}
@@ -128,40 +128,21 @@ pub item-messages : (rows : ItemLists) (leader : RowView)
 unfolding named_tasks item_tasks task_table
 item-messages rows leader = ap (λ (t : List ℕ). item_tasks_open ++ (t ++ item_tasks_end)) (tasks-are (leader ∷ []) (rows_named (cell_at leader 0) rows.messages))
 
-placed : (a o b c d e f : List ℕ) → a ++ (o ++ (((b ++ (c ++ d)) ++ e) ++ f)) ≡ (a ++ o) ++ (b ++ (c ++ (d ++ (e ++ f))))
-placed a o b c d e f = simp append_assoc
-
-pub page-messages : (title : List ℕ) (notes : Noted) → (front : List ℕ) × (back : List ℕ) × (page_html title notes
-    ≡ front ++ (todo_open ++ (flat_map (message_html (shown_items (item_lists notes.report))) (by_urgency (rows_in s.Messages notes.report)) ++ (todo_end ++ back))))
-unfolding page_html page_of todo_html task_table
-page-messages title notes =
-    let lists : ItemLists = item_lists notes.report in
-    let shown : List RowView = shown_items lists in
-    let messages : List RowView = rows_in s.Messages notes.report in
-    let top : List ℕ = top_html title notes.report notes.counts.items in
-    let calls : List ℕ = refused_section shown notes.history notes.counts.history in
-    let rest : List ℕ = load_section (rows_in s.Loads notes.report) notes.counts.loads ++ rest_html lists notes.counts shown notes.history in (
-      top ++ calls,
-      todo_back notes.counts.messages ++ rest,
-      placed top calls todo_open (tasks_html shown messages) todo_end (todo_back notes.counts.messages) rest
-          ∙ ap (λ (t : List ℕ). (top ++ calls) ++ (todo_open ++ (t ++ (todo_end ++ (todo_back notes.counts.messages ++ rest))))) (tasks-are shown messages),
-    )
-
 -- the text of a message, word by word
 module _ (message : RowView) where
-  pub said-late : word_of message ≡ codes "PAST-DUE" → row_html task_words message ≡ said (codes "Past due, start now: ") (codes ", weeks late (shop days from version 2 on): ") message
+  pub said-late : word_of message ≡ codes "PAST-DUE" → row_html task_words message ≡ said (codes "Past due: ") (codes ", weeks late (shop days from version 2 on): ") message
   unfolding row_html task_words
   said-late e = rw e refl
 
-  pub said-release : word_of message ≡ codes "RELEASE" → row_html task_words message ≡ said (codes "Release now: ") [] message
+  pub said-release : word_of message ≡ codes "RELEASE" → row_html task_words message ≡ said (codes "Release: ") [] message
   unfolding row_html task_words
   said-release e = rw e refl
 
-  pub said-in : word_of message ≡ codes "IN" → row_html task_words message ≡ said (codes "Bring in: ") (codes " to week ") message
+  pub said-in : word_of message ≡ codes "IN" → row_html task_words message ≡ said (codes "Reschedule in: ") (codes " to week ") message
   unfolding row_html task_words
   said-in e = rw e refl
 
-  pub said-out : word_of message ≡ codes "OUT" → row_html task_words message ≡ said (codes "Put off: ") (codes " to week ") message
+  pub said-out : word_of message ≡ codes "OUT" → row_html task_words message ≡ said (codes "Reschedule out: ") (codes " to week ") message
   unfolding row_html task_words
   said-out e = rw e refl
 

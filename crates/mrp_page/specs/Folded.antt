@@ -1,6 +1,7 @@
 -- Lists that show their first rows, and fold the others.
-use Rattle.std.specs.Prelude.{ℕ, List, [], ◌++◌, drop, flat_map, length, take, if◌then◌else◌}
-use Rattle.mrp_page.specs.Draw.{has_none}
+use Rattle.std.specs.Prelude.{ℕ, List, [], ◌++◌, codes, drop, flat_map, length, take, if◌then◌else◌}
+use Rattle.mrp_page.specs.declared.limits.TheConstants.{MOST_LINES}
+use Rattle.mrp_page.specs.Draw.{has_none, more_html}
 use Rattle.mrp_page.specs.Frame.{count_row}
 use Rattle.mrp_page.specs.Layout.{rest_end, rest_open}
 use Rattle.mrp_page.specs.Row.{RowView}
@@ -25,3 +26,7 @@ hidden_html listing rows =
 -- the first rows, and the others folded
 unfoldable pub folded_html : Listing → ℕ → List RowView → List ℕ
 folded_html listing most rows = listed_html listing (take most rows) ++ hidden_html listing (drop most rows)
+
+-- the same of a long list, whose rows past a limit are counted
+unfoldable pub capped_html : Listing → ℕ → List RowView → List ℕ
+capped_html listing most rows = folded_html listing most (take MOST_LINES rows) ++ more_html (length (drop MOST_LINES rows)) (codes "is") (codes "are")

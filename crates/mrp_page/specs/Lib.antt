@@ -8,6 +8,7 @@ pub mod Folded
 pub mod Frame
 pub mod Html
 pub mod ItemRows
+pub mod Kinds
 pub mod Known
 pub mod Labels
 pub mod Laws

@@ -1,11 +1,13 @@
 //! Lists that show their first rows, and fold the others.
 
 ghost use Rattle.std.specs.Prelude.{◌≡◌, ◌++◌, OnOk, drop, flat_map, map, take};
-ghost use Rattle.mrp_page.specs.Folded.{Listing, folded_html, hidden_html, listed_html};
+ghost use Rattle.mrp_page.specs.Folded.{Listing, capped_html, folded_html, hidden_html, listed_html};
 
+use crate::draw::put_more;
 use crate::frame::count_row;
 use crate::html::Html;
 use crate::layout::{rest_end, rest_open};
+use crate::limits::MOST_LINES;
 use crate::row::Row;
 use crate::template::put_row;
 use mrp_qty::NoMemory;
@@ -92,4 +94,20 @@ pub(crate) fn put_folded<L: Lines>(
     let (first, rest) = cut_rows(rows, most);
     put_listed(page, lines, first)?;
     put_hidden(alloc, page, lines, rest)
+}
+
+// Adds the first rows of a long list, and the others folded, up to a limit; the rest are counted.
+#[tactic(auto, unfolding(crate::specs::Folded::capped_html))]
+pub(crate) fn put_capped<L: Lines>(
+    alloc: Global,
+    page: &mut Html,
+    lines: &L,
+    most: usize,
+    rows: &[&Row],
+) -> Result<(), NoMemory>
+    ensures { OnOk result (page.new ≡ page.old ++ capped_html (L.drawn lines.now) most (map (λ r. r.now) rows.now)) }
+{
+    let (kept, rest) = cut_rows(rows, MOST_LINES);
+    put_folded(alloc, page, lines, most, kept)?;
+    put_more(alloc, page, rest.len() as u64, b"is", b"are")
 }

@@ -11,6 +11,7 @@ mod folded;
 mod frame;
 mod html;
 mod item_rows;
+mod kinds;
 pub mod laws;
 mod layout;
 pub mod limits;

@@ -4,10 +4,11 @@ ghost use Rattle.std.specs.Prelude.{◌≡◌, ◌++◌, IfOk, OnOk, flat_map, m
 ghost use Rattle.mrp_page.specs.Page.{head_html, is_told, items_of, load_section, page_html, page_of, rest_html, told_first, top_html, untold_rows};
 
 use crate::counts::Counts;
-use crate::draw::{put_centres, put_history, put_items, put_more_items, put_todo};
+use crate::draw::{put_centres, put_history, put_items, put_more_items};
 use crate::frame::heading;
 use crate::html::Html;
 use crate::item_rows::ItemRows;
+use crate::kinds::{Tasks, put_todo};
 use crate::layout::{page_end, page_head, page_top, style};
 use crate::limits::MOST_ITEMS;
 use crate::notes::Notes;
@@ -166,7 +167,12 @@ fn put_page_of(
     let counts = notes.counts();
     put_top(alloc, page, title, report, counts.items)?;
     put_refused(alloc, page, shown, notes.history(), counts.history)?;
-    put_todo(alloc, page, shown, rows.messages(), counts.messages)?;
+    let tasks = Tasks {
+        shown,
+        orders: rows.orders(),
+        messages: rows.messages(),
+    };
+    put_todo(alloc, page, tasks, counts.messages)?;
     put_load_section(alloc, page, rows_in(report, Section::Loads), counts.loads)?;
     put_rest(alloc, page, &rows, counts, shown, notes.history())
 }
