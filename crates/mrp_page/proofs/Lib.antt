@@ -23,3 +23,4 @@ pub mod ByWord
 pub mod Folds
 pub mod RefusedCalls
 pub mod TodoKinds
+pub mod CentreCounts

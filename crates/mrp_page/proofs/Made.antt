@@ -1,6 +1,6 @@
 -- Pages consist of fixed markup and of texts that are known.
 use Rattle.std.proofs.Common.{◌≡◌, ◌∙◌, ◌⊎◌, ◌-◌, ◌<◌, ◌≤◌, ℕ, zero, suc, Bool, true, false, Some, List, [], ◌∷◌, ◌++◌, codes, decimal, drop, get_or, length, refl, sym, ap, subst, take, unwrap_or, arith, inl, inr, not}
-use Rattle.std.specs.Prelude.{if◌then◌else◌, ◌==◌, ◌&&◌, ◌||◌, ◌*◌, nat_le, nat_lt}
+use Rattle.std.specs.Prelude.{if◌then◌else◌, ◌==◌, ◌&&◌, ◌||◌, ◌*◌, count_by, nat_le, nat_lt}
 use Rattle.std.proofs.lemmas.Bool.{cases_lt}
 use Rattle.std.proofs.lemmas.List.{append-nil, get_or_past}
 use Rattle.std.proofs.lemmas.List.Concat.{flat_map-append}
@@ -16,14 +16,15 @@ use Rattle.mrp_page.specs.Frame.{count_row, frame_of, heading, last_week}
 use Rattle.mrp_page.specs.Html.{is_zero, number_html, number_tag}
 use Rattle.mrp_page.specs.ItemRows.{ItemLists, item_lists}
 use Rattle.mrp_page.specs.Kinds.{Kind, cancel, earlier, is_order_of, kind_html, kind_listing, kind_part, kinds_html, late, later, messages_of, note_html, order_html, other, other_messages, other_part, release, state_of, task_line, todo_back, todo_html}
-use Rattle.mrp_page.specs.Known.{IsMadeOf, IsPieceOf, count_texts, layouts, list_counts, marks_of, message_lists, own_counts, own_words, plain, small_words}
+use Rattle.mrp_page.specs.Known.{IsMadeOf, IsPieceOf, count_texts, layouts, list_counts, marks_of, message_lists, own_counts, own_words, plain, small_words, summary_counts}
 use Rattle.mrp_page.specs.Laws.{Entry, Escaped, Link, Markup, piece_html}
-use Rattle.mrp_page.specs.Layout.{available_label, balance_chart, balance_label, bar, bars_end, booked_label, cancel_front, cancel_open, capacity_label, centre_head, centres_open, entry, firm_label, grid_end, gross_label, history_end, history_open, in_front, in_open, item_head, item_tasks_end, item_tasks_open, late_front, late_open, list_end, load_chart, load_label, more, no_promises, no_record, none_refused, nothing_to_do, order, order_start, order_unknown, order_week, orders_open, other_cells, other_front, other_open, other_words, out_front, out_open, over_label, page_end, page_head, page_top, peg, pegs_open, planned_label, point, points_end, record_head, refused_answer, refused_asked, refused_desk, refused_end, refused_front, refused_open, refused_row, release_front, release_open, rest_end, rest_open, row_end, scheduled_label, section_end, starts_label, style, table_end, task_head, task_row, task_supply, task_words, to_week, todo_note, todo_open, week, weeks_end, weeks_late}
+use Rattle.mrp_page.specs.Layout.{available_label, balance_chart, balance_label, bar, bars_end, booked_label, cancel_front, cancel_open, capacity_label, centre_head, centre_tile, centres_open, entry, firm_label, grid_end, gross_label, history_end, history_open, in_front, in_open, item_head, item_tasks_end, item_tasks_open, late_front, late_open, list_end, load_chart, load_label, main_open, more, no_promises, no_record, none_refused, nothing_to_do, order, order_start, order_unknown, order_week, orders_open, other_cells, other_front, other_open, other_words, out_front, out_open, over_label, page_end, page_head, page_top, peg, pegs_open, planned_label, point, points_end, record_head, refused_answer, refused_asked, refused_desk, refused_end, refused_front, refused_open, refused_row, release_front, release_open, rest_end, rest_open, row_end, scheduled_label, section_end, starts_label, style, summary_open, summary_tile, table_end, task_head, task_row, task_supply, task_words, to_week, todo_note, todo_open, week, weeks_end, weeks_late}
 use Rattle.mrp_page.specs.Notes.{Noted}
 use Rattle.mrp_page.specs.Page.{head_html, is_told, items_of, load_section, page_html, page_of, rest_html, shown_items, told_first, top_html, untold_rows}
 use Rattle.mrp_page.specs.Refused.{answer_html, asked_of, call_html, caller_html, entry_link_html, entry_name_html, is_booking, refusals, refused_back, refused_lines, refused_listing, refused_or_none, refused_rows, refused_section}
 use Rattle.mrp_page.specs.Row.{Cells, RowView, cell_at, is_in, is_of}
 use Rattle.mrp_page.specs.Rows.{greatest, higher, leader_rows, leaders, rank, rows_in, rows_named, stretch}
+use Rattle.mrp_page.specs.Summary.{calls_tiles, centre_count, centres_tile, count_with, is_undone, kind_tile, kinds_tiles, overloads, place_or, summary_html, tile, tile_html}
 use Rattle.mrp_page.specs.Template.{Drawn, Mark, Number, Text, Where, has_word, number_at, numbers_html, part_html, row_html, rows_html}
 use Rattle.mrp_page.specs.declared.limits.TheConstants.{FEW_ROWS, MOST_ITEMS, MOST_LINES, SOME_ROWS}
 use Rattle.mrp_page.specs.declared.counts.Counts.{Counts}
@@ -195,6 +196,14 @@ laid-cancel_open = (32, omega arith, refl)
 laid-other_open : Contains layouts other_open
 unfolding layouts
 laid-other_open = (33, omega arith, refl)
+
+laid-summary_tile : Contains layouts summary_tile
+unfolding layouts
+laid-summary_tile = (34, omega arith, refl)
+
+laid-centre_tile : Contains layouts centre_tile
+unfolding layouts
+laid-centre_tile = (35, omega arith, refl)
 
 own-style : Contains own_words style
 unfolding plain
@@ -399,6 +408,14 @@ own-cancel_front = own cancel_front 49 (omega arith) refl
 own-other_front : Contains own_words other_front
 unfolding plain
 own-other_front = own other_front 50 (omega arith) refl
+
+own-summary_open : Contains own_words summary_open
+unfolding plain
+own-summary_open = own summary_open 51 (omega arith) refl
+
+own-main_open : Contains own_words main_open
+unfolding plain
+own-main_open = own main_open 52 (omega arith) refl
 
 -- the markup of a kind of messages is the page's own
 record OfKind (kind : Kind) : Type 0 where
@@ -685,6 +702,66 @@ module _ (K L E : List ℕ → Type 0) (words : (w : List ℕ) → Contains smal
       (folded (refused_listing shown history) FEW_ROWS calls own-refused_front own-table_end (λ r known. call shown history (asked_of history r) r led kept (asked history r all known) known) (all-by-word (λ (r : RowView). (column : ℕ) → K (cell_at r column)) 7 refusals history all) of-rest))
       (join more-of section_end (further missed (codes "entry of the history is") (codes "entries of the history are") of-missed (small (codes "entry of the history is") 20 (omega arith) refl) (small (codes "entries of the history are") 21 (omega arith) refl)) (mark section_end own-section_end)))
 
+  tile-known : (count : ℕ) (mark-of place what : List ℕ) (all : ℕ) → K (decimal count) → K mark-of → K place → K what → K (decimal all) → (column : ℕ) → K (cell_at (tile count mark-of place what all) column)
+  unfolding small_words
+  tile-known count mark-of place what all of-count of-mark of-place of-what of-all =
+      let shade : List ℕ = if count == 0 then codes "none" else mark-of in
+      knows s.Run (decimal count ∷ shade ∷ place ∷ what ∷ decimal all ∷ [])
+      (All-cons K (decimal count) (shade ∷ place ∷ what ∷ decimal all ∷ []) of-count
+      (All-cons K shade (place ∷ what ∷ decimal all ∷ []) (by (count == 0))
+      (All-cons K place (what ∷ decimal all ∷ []) of-place
+      (All-cons K what (decimal all ∷ []) of-what
+      (All-cons K (decimal all) [] of-all (All-nil K))))))
+    where
+      by : (b : Bool) → K (if b then codes "none" else mark-of)
+      by true = (small (codes "none") 25 (omega arith) refl)
+      by false = of-mark
+
+  a-tile : (count : ℕ) (mark-of place what : List ℕ) → K (decimal count) → K mark-of → K place → K what → IsMadeOf K L E (tile_html count mark-of place what)
+  unfolding tile_html
+  a-tile count mark-of place what of-count of-mark of-place of-what = row summary_tile (tile count mark-of place what count) laid-summary_tile (tile-known count mark-of place what count of-count of-mark of-place of-what of-count)
+
+  calls-tiles : (history : List RowView) → K (decimal (count_with 7 (codes "short") history)) → K (decimal (count_by is_undone history)) → IsMadeOf K L E (calls_tiles history)
+  unfolding calls_tiles small_words
+  calls-tiles history short undone =
+      join (tile_html (count_with 7 (codes "short") history) (codes "late") (codes "unkept") (codes "not promised")) (tile_html (count_by is_undone history) (codes "cancel") (codes "unkept") (codes "not cancelled"))
+      (a-tile (count_with 7 (codes "short") history) (codes "late") (codes "unkept") (codes "not promised") short (small (codes "late") 26 (omega arith) refl) (small (codes "unkept") 27 (omega arith) refl) (small (codes "not promised") 28 (omega arith) refl))
+      (a-tile (count_by is_undone history) (codes "cancel") (codes "unkept") (codes "not cancelled") undone (small (codes "cancel") 29 (omega arith) refl) (small (codes "unkept") 27 (omega arith) refl) (small (codes "not cancelled") 30 (omega arith) refl))
+
+  kind-tile : (messages : List RowView) (word mark-of what : List ℕ) → K (decimal (count_with 3 word messages)) → K mark-of → K what → IsMadeOf K L E (kind_tile messages word mark-of what)
+  unfolding kind_tile small_words
+  kind-tile messages word mark-of what of-count of-mark of-what = a-tile (count_with 3 word messages) mark-of (place_or (count_with 3 word messages) mark-of) what of-count of-mark (by (count_with 3 word messages == 0)) of-what
+    where
+      by : (b : Bool) → K (if b then codes "todo" else mark-of)
+      by true = (small (codes "todo") 31 (omega arith) refl)
+      by false = of-mark
+
+  kinds-tiles : (messages : List RowView) → K (decimal (count_with 3 (codes "PAST-DUE") messages)) → K (decimal (count_with 3 (codes "RELEASE") messages)) → K (decimal (count_with 3 (codes "IN") messages)) → K (decimal (count_with 3 (codes "OUT") messages)) → K (decimal (count_with 3 (codes "CANCEL") messages)) → IsMadeOf K L E (kinds_tiles messages)
+  unfolding kinds_tiles small_words
+  kinds-tiles messages a b c d e =
+      let first : List ℕ = kind_tile messages (codes "PAST-DUE") (codes "late") (codes "past due") in
+      let second : List ℕ = kind_tile messages (codes "RELEASE") (codes "release") (codes "release") in
+      let third : List ℕ = kind_tile messages (codes "IN") (codes "in") (codes "reschedule in") in
+      let fourth : List ℕ = kind_tile messages (codes "OUT") (codes "out") (codes "reschedule out") in
+      let fifth : List ℕ = kind_tile messages (codes "CANCEL") (codes "cancel") (codes "cancel") in
+      join first (second ++ (third ++ (fourth ++ fifth))) (kind-tile messages (codes "PAST-DUE") (codes "late") (codes "past due") a (small (codes "late") 26 (omega arith) refl) (small (codes "past due") 35 (omega arith) refl))
+      (join second (third ++ (fourth ++ fifth)) (kind-tile messages (codes "RELEASE") (codes "release") (codes "release") b (small (codes "release") 32 (omega arith) refl) (small (codes "release") 32 (omega arith) refl))
+      (join third (fourth ++ fifth) (kind-tile messages (codes "IN") (codes "in") (codes "reschedule in") c (small (codes "in") 33 (omega arith) refl) (small (codes "reschedule in") 36 (omega arith) refl))
+      (join fourth fifth (kind-tile messages (codes "OUT") (codes "out") (codes "reschedule out") d (small (codes "out") 34 (omega arith) refl) (small (codes "reschedule out") 37 (omega arith) refl))
+      (kind-tile messages (codes "CANCEL") (codes "cancel") (codes "cancel") e (small (codes "cancel") 29 (omega arith) refl) (small (codes "cancel") 29 (omega arith) refl)))))
+
+  summed : (history messages loads-of : List RowView) → All K (summary_counts history messages loads-of) → IsMadeOf K L E (summary_html history messages loads-of)
+  unfolding summary_html centres_tile small_words
+  summed history messages loads-of counts =
+      let count : (k : ℕ) → k < 9 → K (get_or (summary_counts history messages loads-of) k []) = λ k within. counts k [] (omega (arith, within)) in
+      let over : List ℕ = row_html centre_tile (tile (centre_count (overloads loads-of)) (codes "late") (codes "centres") [] (centre_count loads-of)) in
+      join summary_open (calls_tiles history ++ (kinds_tiles messages ++ (over ++ main_open))) (mark summary_open own-summary_open)
+      (join (calls_tiles history) (kinds_tiles messages ++ (over ++ main_open)) (calls-tiles history (count 0 (omega arith)) (count 1 (omega arith)))
+      (join (kinds_tiles messages) (over ++ main_open) (kinds-tiles messages (count 2 (omega arith)) (count 3 (omega arith)) (count 4 (omega arith)) (count 5 (omega arith)) (count 6 (omega arith)))
+      (join over main_open (row centre_tile (tile (centre_count (overloads loads-of)) (codes "late") (codes "centres") [] (centre_count loads-of)) laid-centre_tile
+      (tile-known (centre_count (overloads loads-of)) (codes "late") (codes "centres") [] (centre_count loads-of) (count 7 (omega arith)) (small (codes "late") 26 (omega arith) refl) (small (codes "centres") 38 (omega arith) refl) nothing (count 8 (omega arith))))
+      (mark main_open own-main_open))))
+
   order-cells : (kind : Kind) → OfKind kind → (p : RowView → Bool) (orders : List RowView) → All (λ (r : RowView). (column : ℕ) → K (cell_at r column)) orders → IsMadeOf K L E (order_html kind (find p orders))
   order-cells kind of p [] all = mark order_unknown own-order_unknown
   order-cells kind of p (r ∷ orders) all = by (p r) (all 0 r (omega arith)) (order-cells kind of p orders (λ k d within. all (suc k) d (omega arith)))
@@ -949,6 +1026,12 @@ module _ (K L E : List ℕ → Type 0) (words : (w : List ℕ) → Contains smal
     messages = all-in (λ (r : RowView). (column : ℕ) → K (cell_at r column)) s.Messages report all;
   }
 
+  later-counts : (notes : Noted) → All (Contains (own_counts notes)) (summary_counts notes.history (rows_in s.Messages notes.report) (rows_in s.Loads notes.report))
+  later-counts notes = λ k d within.
+      let counts : List (List ℕ) = summary_counts notes.history (rows_in s.Messages notes.report) (rows_in s.Loads notes.report) in
+      let first : List (List ℕ) = take 10 (own_counts notes) in
+      Contains-append_right first counts (get_or counts k d) (All-contains_itself counts k d within)
+
   counted-list : (notes : Noted) → All K (count_texts notes) → (rs : List RowView) → Contains (message_lists notes) rs → Counted rs
   counted-list notes counts rs has =
       let one : (t : List ℕ) → Contains (list_counts rs) t → K t = λ t is. All-contains K (count_texts notes) t counts (Contains-append_right (own_counts notes) (flat_map list_counts (message_lists notes)) t (contains-flat list_counts (message_lists notes) rs t has.0 has.1 has.2 is)) in
@@ -962,7 +1045,7 @@ module _ (K L E : List ℕ → Type 0) (words : (w : List ℕ) → Contains smal
       → All (λ (r : RowView). L (cell_at r 0)) (shown_items (item_lists notes.report)) → All (λ (r : RowView). E (cell_at r 0)) notes.history → IsMadeOf K L E (page_html title notes)
   unfolding page_html page_of top_html load_section rest_html items_of
   page title notes known entries all counts led kept =
-      let count : (k : ℕ) → k < 10 → K (get_or (own_counts notes) k []) = λ k within. All-contains K (count_texts notes) (get_or (own_counts notes) k []) counts (Contains-append_left (own_counts notes) (flat_map list_counts (message_lists notes)) (get_or (own_counts notes) k []) (All-contains_itself (own_counts notes) k [] (omega (arith, within)))) in
+      let count : (k : ℕ) → k < 19 → K (get_or (own_counts notes) k []) = λ k within. All-contains K (count_texts notes) (get_or (own_counts notes) k []) counts (Contains-append_left (own_counts notes) (flat_map list_counts (message_lists notes)) (get_or (own_counts notes) k []) (All-contains_itself (own_counts notes) k [] (omega (arith, within)))) in
       let of-list : (rs : List RowView) → Contains (message_lists notes) rs → Counted rs = λ rs has. counted-list notes counts rs has in
       let lists : ItemLists = item_lists notes.report in
       let of-lists : AllKnown lists = all-lists notes.report all in
@@ -971,14 +1054,18 @@ module _ (K L E : List ℕ → Type 0) (words : (w : List ℕ) → Contains smal
       let loaded : List RowView = rows_in s.Loads notes.report in
       let of-loaded : All (λ (r : RowView). (column : ℕ) → K (cell_at r column)) loaded = all-in (λ (r : RowView). (column : ℕ) → K (cell_at r column)) s.Loads notes.report all in
       let top : List ℕ = head_html (heading title notes.report notes.counts.items) in
+      let sums : List ℕ = summary_html notes.history lists.messages loaded in
+      let of-sums : All K (summary_counts notes.history lists.messages loaded) = λ k d within. All-contains K (count_texts notes) (get_or (summary_counts notes.history lists.messages loaded) k d) counts (Contains-append_left (own_counts notes) (flat_map list_counts (message_lists notes)) (get_or (summary_counts notes.history lists.messages loaded) k d) (later-counts notes k d within)) in
       let calls : List ℕ = refused_section shown notes.history notes.counts.history in
       let todos : List ℕ = todo_html shown lists.orders lists.messages notes.counts.messages in
       let of-messages : AllCounted lists.messages = record { of-late = of-list (messages_of lists.messages late) (0, omega arith, refl); of-release = of-list (messages_of lists.messages release) (1, omega arith, refl); of-earlier = of-list (messages_of lists.messages earlier) (2, omega arith, refl); of-later = of-list (messages_of lists.messages later) (3, omega arith, refl); of-cancel = of-list (messages_of lists.messages cancel) (4, omega arith, refl); of-other = of-list (other_messages lists.messages) (5, omega arith, refl) } in
       let centred : List ℕ = centres_html loaded (leaders [] loaded) notes.counts.loads in
       let item-parts : List ℕ = items_html lists notes.counts.promises shown ++ more_items (unshown lists shown notes.counts) shown in
       let past : List ℕ = history_html notes.history notes.counts.history in
-      join top (calls ++ (todos ++ (centred ++ (item-parts ++ (past ++ page_end)))))
+      join top (sums ++ (calls ++ (todos ++ (centred ++ (item-parts ++ (past ++ page_end))))))
       (head (heading title notes.report notes.counts.items) (headed title notes.report notes.counts.items known (count 8 (omega arith)) all))
+      (join sums (calls ++ (todos ++ (centred ++ (item-parts ++ (past ++ page_end)))))
+      (summed notes.history lists.messages loaded of-sums)
       (join calls (todos ++ (centred ++ (item-parts ++ (past ++ page_end))))
       (unkept shown notes.history notes.counts.history led kept entries (count 7 (omega arith)) (count 9 (omega arith)))
       (join todos (centred ++ (item-parts ++ (past ++ page_end)))
@@ -988,4 +1075,4 @@ module _ (K L E : List ℕ → Type 0) (words : (w : List ℕ) → Contains smal
       (join item-parts (past ++ page_end)
       (join (items_html lists notes.counts.promises shown) (more_items (unshown lists shown notes.counts) shown) (items lists notes.counts.promises shown of-lists of-shown led)
       (more-items (unshown lists shown notes.counts) shown (count 2 (omega arith)) (count 3 (omega arith)) (count 4 (omega arith)) (count 5 (omega arith)) (count 6 (omega arith))))
-      (join past page_end (history notes.history notes.counts.history entries (count 7 (omega arith))) (mark page_end own-page_end))))))
+      (join past page_end (history notes.history notes.counts.history entries (count 7 (omega arith))) (mark page_end own-page_end)))))))

@@ -16,6 +16,7 @@ use Rattle.mrp_page.specs.Page.{load_section, page_html, page_of, rest_html, sho
 use Rattle.mrp_page.specs.Refused.{asked_of, is_booking, refusals, refused_back, refused_html, refused_lines, refused_listing, refused_or_none, refused_rows, refused_section}
 use Rattle.mrp_page.specs.Row.{RowView, cell_at}
 use Rattle.mrp_page.specs.Rows.{rows_in}
+use Rattle.mrp_page.specs.Summary.{summary_html}
 use Rattle.mrp_page.specs.Template.{has_word, row_html}
 use Rattle.mrp_page.specs.declared.limits.TheConstants.{FEW_ROWS}
 use Rattle.mrp_day.specs.declared.section.Section.TheVariants as s
@@ -40,8 +41,8 @@ lines-are shown history missed (r ∷ rows) =
     let (front, between, back, is) = folded-is (refused_listing shown history) FEW_ROWS (r ∷ rows) in
     (front, between, back, rw (some-rows r rows) is)
 
-placed : (t o f l b n m e d r : List ℕ) → t ++ ((o ++ ((f ++ (l ++ (b ++ (n ++ m)))) ++ e)) ++ (d ++ r)) ≡ ((t ++ o) ++ f) ++ (l ++ (b ++ (n ++ (m ++ (e ++ (d ++ r))))))
-placed t o f l b n m e d r = simp append_assoc
+placed : (t u o f l b n m e d r : List ℕ) → t ++ (u ++ ((o ++ ((f ++ (l ++ (b ++ (n ++ m)))) ++ e)) ++ (d ++ r))) ≡ (((t ++ u) ++ o) ++ f) ++ (l ++ (b ++ (n ++ (m ++ (e ++ (d ++ r))))))
+placed t u o f l b n m e d r = simp append_assoc
 
 pub refused-stand : (title : List ℕ) (notes : Noted) → (front : List ℕ) × (between : List ℕ) × (back : List ℕ) × (page_html title notes
     ≡ front ++ (flat_map (refused_html (shown_items (item_lists notes.report)) notes.history) (take FEW_ROWS (refused_rows notes.history))
@@ -52,14 +53,15 @@ refused-stand title notes =
     let line : RowView → List ℕ = refused_html shown notes.history in
     let rows : List RowView = refused_rows notes.history in
     let top : List ℕ = top_html title notes.report notes.counts.items in
+    let sums : List ℕ = summary_html notes.history (rows_in s.Messages notes.report) (rows_in s.Loads notes.report) in
     let last : List ℕ = more_html notes.counts.history (codes "entry of the history is") (codes "entries of the history are") ++ section_end in
     let todo : List ℕ = todo_html shown (rows_in s.Orders notes.report) (rows_in s.Messages notes.report) notes.counts.messages in
     let rest : List ℕ = load_section (rows_in s.Loads notes.report) notes.counts.loads ++ rest_html (item_lists notes.report) notes.counts shown notes.history in
     let (front, between, back, is) = lines-are shown notes.history notes.counts.history rows in (
-      (top ++ refused_open) ++ front,
+      ((top ++ sums) ++ refused_open) ++ front,
       between,
       back ++ (last ++ (todo ++ rest)),
-      ap (λ (t : List ℕ). top ++ ((refused_open ++ (t ++ last)) ++ (todo ++ rest))) is ∙ placed top refused_open front (flat_map line (take FEW_ROWS rows)) between (flat_map line (drop FEW_ROWS rows)) back last todo rest,
+      ap (λ (t : List ℕ). top ++ (sums ++ ((refused_open ++ (t ++ last)) ++ (todo ++ rest)))) is ∙ placed top sums refused_open front (flat_map line (take FEW_ROWS rows)) between (flat_map line (drop FEW_ROWS rows)) back last todo rest,
     )
 
 pub none-is : (shown history : List RowView) → refused_rows history ≡ [] → refused_section shown history 0 ≡ refused_open ++ (none_refused ++ section_end)

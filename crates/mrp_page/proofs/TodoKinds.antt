@@ -21,6 +21,7 @@ use Rattle.mrp_page.specs.Refused.{refused_section}
 use Rattle.mrp_page.specs.Row.{RowView, cell_at, same_text}
 use Rattle.mrp_page.specs.Rows.{rows_in, rows_named}
 use Rattle.mrp_page.specs.Escaped.{escaped}
+use Rattle.mrp_page.specs.Summary.{summary_html}
 use Rattle.mrp_page.specs.Template.{has_word, markup_if, number_at, row_html}
 use Rattle.mrp_page.specs.Todo.{by_urgency, message_html, of_word, said, said_of_another, urgent_words, word_of}
 use Rattle.mrp_day.specs.declared.section.Section.TheVariants as s
@@ -33,8 +34,8 @@ pub kinds-once : (messages : List RowView) → IsPermutation messages (flat_map 
 unfolding by_urgency
 kinds-once messages = stand-once messages
 
-placed : (t c o n k m r : List ℕ) → t ++ (c ++ ((o ++ (n ++ (k ++ m))) ++ r)) ≡ (t ++ (c ++ (o ++ n))) ++ (k ++ (m ++ r))
-placed t c o n k m r = simp append_assoc
+placed : (t u c o n k m r : List ℕ) → t ++ (u ++ (c ++ ((o ++ (n ++ (k ++ m))) ++ r))) ≡ (t ++ (u ++ (c ++ (o ++ n)))) ++ (k ++ (m ++ r))
+placed t u c o n k m r = simp append_assoc
 
 pub page-kinds : (title : List ℕ) (notes : Noted) → (front : List ℕ) × (back : List ℕ) × (page_html title notes ≡ front ++ (kinds_html (shown_items (item_lists notes.report)) (rows_in s.Orders notes.report) (rows_in s.Messages notes.report) ++ back))
 unfolding page_html page_of todo_html todo_back
@@ -43,11 +44,12 @@ page-kinds title notes =
     let shown : List RowView = shown_items lists in
     let messages : List RowView = rows_in s.Messages notes.report in
     let top : List ℕ = top_html title notes.report notes.counts.items in
+    let sums : List ℕ = summary_html notes.history (rows_in s.Messages notes.report) (rows_in s.Loads notes.report) in
     let calls : List ℕ = refused_section shown notes.history notes.counts.history in
     let note : List ℕ = note_html messages notes.counts.messages in
     let last : List ℕ = more_html notes.counts.messages (codes "message, perhaps an urgent one, is") (codes "messages, urgent ones perhaps among them, are") ++ section_end in
     let rest : List ℕ = load_section (rows_in s.Loads notes.report) notes.counts.loads ++ rest_html lists notes.counts shown notes.history in
-    (top ++ (calls ++ (todo_open ++ note)), last ++ rest, placed top calls todo_open note (kinds_html shown (rows_in s.Orders notes.report) messages) last rest)
+    (top ++ (sums ++ (calls ++ (todo_open ++ note))), last ++ rest, placed top sums calls todo_open note (kinds_html shown (rows_in s.Orders notes.report) messages) last rest)
 
 pub kinds-are : (shown orders messages : List RowView) → kinds_html shown orders messages ≡ flat_map (kind_part shown orders messages) kinds ++ other_part shown orders messages
 unfolding kinds_html

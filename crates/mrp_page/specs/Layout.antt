@@ -29,7 +29,7 @@ page_head =
     Text 4 ∷
     Mark (codes "</b>") ∷
     Where 4 (codes "0") (codes " (the plan has none, or none that was asked for)") ∷
-    Mark (codes "</p>\n</header>\n<main>\n") ∷ []
+    Mark (codes "</p>\n") ∷ []
 
 -- what a message begins with
 unfoldable pub task_head : List Drawn
@@ -562,3 +562,37 @@ other_open =
     Mark (codes "><summary><b>Other messages: ") ∷
     Text 0 ∷
     Mark (codes "</b> <small>with words of their own</small></summary>\n") ∷ []
+
+-- what the counts of a page stand in
+unfoldable pub summary_open : List ℕ
+summary_open = codes "<p class=sum>"
+
+-- what comes between the head of a page and its parts: links to these
+unfoldable pub main_open : List ℕ
+main_open = codes "</p>\n</header>\n<nav><a href=\"#unkept\">Not promised</a><a href=\"#todo\">To do</a><a href=\"#centres\">Work centres</a><a href=\"#history\">History</a></nav>\n<main>\n"
+
+-- a count that leads to a part of the page
+unfoldable pub summary_tile : List Drawn
+summary_tile =
+    Mark (codes "<a class=\"") ∷
+    Text 1 ∷
+    Mark (codes "\" href=\"#") ∷
+    Text 2 ∷
+    Mark (codes "\"><b>") ∷
+    Text 0 ∷
+    Mark (codes "</b>") ∷
+    Text 3 ∷
+    Mark (codes "</a>") ∷ []
+
+-- how many of all work centres are over their capacity
+unfoldable pub centre_tile : List Drawn
+centre_tile =
+    Mark (codes "<a class=\"") ∷
+    Text 1 ∷
+    Mark (codes "\" href=\"#") ∷
+    Text 2 ∷
+    Mark (codes "\"><b>") ∷
+    Text 0 ∷
+    Mark (codes "</b>of ") ∷
+    Text 4 ∷
+    Mark (codes " centres over capacity</a>") ∷ []

@@ -24,6 +24,7 @@ pub mod Rows
 pub mod Section
 pub mod Shown
 pub mod Spot
+pub mod Summary
 pub mod Template
 pub mod Todo
 pub mod Unshown

@@ -2,7 +2,7 @@
 
 ghost use Rattle.std.specs.Prelude.{◌≡◌, map};
 ghost use Rattle.mrp_page.specs.Template.{drawn_of};
-ghost use Rattle.mrp_page.specs.Layout.{available_label, balance_chart, balance_label, bar, bars_end, booked_label, cancel_front, cancel_open, capacity_label, centre_head, centres_open, entry, entry_link_open, firm_label, grid_end, gross_label, history_end, history_open, in_front, in_open, item_head, item_tasks_end, item_tasks_open, late_front, late_open, link_end, link_middle, link_open, list_end, load_chart, load_label, more, no_promises, no_record, none_refused, nothing_to_do, order, order_start, order_unknown, order_week, orders_open, other_cells, other_front, other_open, other_words, out_front, out_open, over_label, page_end, page_head, page_top, peg, pegs_open, planned_label, point, points_end, record_head, refused_answer, refused_asked, refused_desk, refused_end, refused_front, refused_open, refused_row, release_front, release_open, rest_end, rest_open, row_end, scheduled_label, section_end, starts_label, style, table_end, task_head, task_row, task_supply, task_words, to_week, todo_note, todo_open, week, weeks_end, weeks_late};
+ghost use Rattle.mrp_page.specs.Layout.{available_label, balance_chart, balance_label, bar, bars_end, booked_label, cancel_front, cancel_open, capacity_label, centre_head, centre_tile, centres_open, entry, entry_link_open, firm_label, grid_end, gross_label, history_end, history_open, in_front, in_open, item_head, item_tasks_end, item_tasks_open, late_front, late_open, link_end, link_middle, link_open, list_end, load_chart, load_label, main_open, more, no_promises, no_record, none_refused, nothing_to_do, order, order_start, order_unknown, order_week, orders_open, other_cells, other_front, other_open, other_words, out_front, out_open, over_label, page_end, page_head, page_top, peg, pegs_open, planned_label, point, points_end, record_head, refused_answer, refused_asked, refused_desk, refused_end, refused_front, refused_open, refused_row, release_front, release_open, rest_end, rest_open, row_end, scheduled_label, section_end, starts_label, style, summary_open, summary_tile, table_end, task_head, task_row, task_supply, task_words, to_week, todo_note, todo_open, week, weeks_end, weeks_late};
 
 use crate::style::STYLE;
 use crate::template::Part;
@@ -48,7 +48,7 @@ pub(crate) fn page_head() -> &'static [Part]
         Part::Cell(4),
         Part::Markup(b"</b>"),
         Part::If(4, b"0", b" (the plan has none, or none that was asked for)"),
-        Part::Markup(b"</p>\n</header>\n<main>\n"),
+        Part::Markup(b"</p>\n"),
     ]
 }
 
@@ -927,5 +927,57 @@ pub(crate) fn other_open() -> &'static [Part]
         Part::Markup(b"><summary><b>Other messages: "),
         Part::Cell(0),
         Part::Markup(b"</b> <small>with words of their own</small></summary>\n"),
+    ]
+}
+
+// What the counts of a page stand in.
+#[tactic(auto, unfolding(crate::specs::Layout::summary_open))]
+pub(crate) fn summary_open() -> &'static [u8]
+    ensures { result.now ≡ summary_open }
+{
+    b"<p class=sum>"
+}
+
+// What comes between the head of a page and its parts: links to these.
+#[tactic(auto, unfolding(crate::specs::Layout::main_open))]
+pub(crate) fn main_open() -> &'static [u8]
+    ensures { result.now ≡ main_open }
+{
+    b"</p>\n</header>\n<nav><a href=\"#unkept\">Not promised</a><a href=\"#todo\">To do</a><a href=\"#centres\">Work centres</a><a href=\"#history\">History</a></nav>\n<main>\n"
+}
+
+// A count that leads to a part of the page.
+#[tactic(auto, unfolding(crate::specs::Layout::summary_tile))]
+pub(crate) fn summary_tile() -> &'static [Part]
+    ensures { map drawn_of result.now ≡ summary_tile }
+{
+    &[
+        Part::Markup(b"<a class=\""),
+        Part::Cell(1),
+        Part::Markup(b"\" href=\"#"),
+        Part::Cell(2),
+        Part::Markup(b"\"><b>"),
+        Part::Cell(0),
+        Part::Markup(b"</b>"),
+        Part::Cell(3),
+        Part::Markup(b"</a>"),
+    ]
+}
+
+// How many of all work centres are over their capacity.
+#[tactic(auto, unfolding(crate::specs::Layout::centre_tile))]
+pub(crate) fn centre_tile() -> &'static [Part]
+    ensures { map drawn_of result.now ≡ centre_tile }
+{
+    &[
+        Part::Markup(b"<a class=\""),
+        Part::Cell(1),
+        Part::Markup(b"\" href=\"#"),
+        Part::Cell(2),
+        Part::Markup(b"\"><b>"),
+        Part::Cell(0),
+        Part::Markup(b"</b>of "),
+        Part::Cell(4),
+        Part::Markup(b" centres over capacity</a>"),
     ]
 }

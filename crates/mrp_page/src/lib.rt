@@ -26,6 +26,7 @@ mod section;
 mod spot;
 mod steady;
 mod style;
+mod summary;
 mod template;
 mod unshown;
 mod write;

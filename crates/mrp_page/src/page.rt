@@ -15,6 +15,7 @@ use crate::notes::Notes;
 use crate::refused::put_refused;
 use crate::row::Row;
 use crate::rows::{leaders, rows_in, rows_named};
+use crate::summary::put_summary;
 use crate::template::put_row;
 use crate::unshown::unshown;
 use mrp_day::Section;
@@ -166,6 +167,13 @@ fn put_page_of(
     let rows = ItemRows::of(report);
     let counts = notes.counts();
     put_top(alloc, page, title, report, counts.items)?;
+    put_summary(
+        alloc,
+        page,
+        notes.history(),
+        rows.messages(),
+        rows_in(report, Section::Loads),
+    )?;
     put_refused(alloc, page, shown, notes.history(), counts.history)?;
     let tasks = Tasks {
         shown,
