@@ -24,3 +24,5 @@ pub mod Folds
 pub mod RefusedCalls
 pub mod TodoKinds
 pub mod CentreCounts
+pub mod ByKey
+pub mod Tiles

@@ -15,7 +15,12 @@ use Rattle.mrp_page.specs.Folded.{Listing, capped_html, folded_html, hidden_html
 use Rattle.mrp_page.specs.Frame.{count_row, frame_of, heading, last_week}
 use Rattle.mrp_page.specs.Html.{is_zero, number_html, number_tag}
 use Rattle.mrp_page.specs.ItemRows.{ItemLists, item_lists}
-use Rattle.mrp_page.specs.Kinds.{Kind, cancel, earlier, is_order_of, kind_html, kind_listing, kind_part, kinds_html, late, later, messages_of, note_html, order_html, other, other_messages, other_part, release, state_of, task_line, todo_back, todo_html}
+use Rattle.std.proofs.lemmas.List.Sorted.{All-permutation}
+use Rattle.mrp_page.specs.declared.kinds.Sorting.{Sorting}
+use Rattle.mrp_page.specs.declared.kinds.Sorting.TheVariants as sorts
+use Rattle.mrp_page.specs.Sorted.{sorted_by}
+use Rattle.mrp_page.proofs.ByKey.{sorted-permutes}
+use Rattle.mrp_page.specs.Kinds.{Kind, cancel, earlier, falling_rank, in_order, is_order_of, kind_html, kind_listing, kind_part, kinds_html, late, later, messages_of, note_html, order_html, other, other_messages, other_part, release, state_of, task_line, todo_back, todo_html, value_rank}
 use Rattle.mrp_page.specs.Known.{IsMadeOf, IsPieceOf, count_texts, layouts, list_counts, marks_of, message_lists, own_counts, own_words, plain, small_words, summary_counts}
 use Rattle.mrp_page.specs.Laws.{Entry, Escaped, Link, Markup, piece_html}
 use Rattle.mrp_page.specs.Layout.{available_label, balance_chart, balance_label, bar, bars_end, booked_label, cancel_front, cancel_open, capacity_label, centre_head, centre_tile, centres_open, entry, firm_label, grid_end, gross_label, history_end, history_open, in_front, in_open, item_head, item_tasks_end, item_tasks_open, late_front, late_open, list_end, load_chart, load_label, main_open, more, no_promises, no_record, none_refused, nothing_to_do, order, order_start, order_unknown, order_week, orders_open, other_cells, other_front, other_open, other_words, out_front, out_open, over_label, page_end, page_head, page_top, peg, pegs_open, planned_label, point, points_end, record_head, refused_answer, refused_asked, refused_desk, refused_end, refused_front, refused_open, refused_row, release_front, release_open, rest_end, rest_open, row_end, scheduled_label, section_end, starts_label, style, summary_open, summary_tile, table_end, task_head, task_row, task_supply, task_words, to_week, todo_note, todo_open, week, weeks_end, weeks_late}
@@ -820,10 +825,15 @@ module _ (K L E : List ℕ → Type 0) (words : (w : List ℕ) → Contains smal
       by true = small (codes "open") 24 (omega arith) refl
       by false = nothing
 
+  in-order : (sorting : Sorting) (rs : List RowView) → All (λ (r : RowView). (column : ℕ) → K (cell_at r column)) rs → All (λ (r : RowView). (column : ℕ) → K (cell_at r column)) (in_order sorting rs)
+  in-order sorts.Day rs all = all
+  in-order sorts.Rising rs all = All-permutation (λ (r : RowView). (column : ℕ) → K (cell_at r column)) rs (sorted_by value_rank rs) (sorted-permutes value_rank rs) all
+  in-order sorts.Falling rs all = All-permutation (λ (r : RowView). (column : ℕ) → K (cell_at r column)) rs (sorted_by falling_rank rs) (sorted-permutes falling_rank rs) all
+
   a-kind : (kind : Kind) → OfKind kind → (shown orders ms : List RowView) → All (λ (r : RowView). L (cell_at r 0)) shown → All (λ (r : RowView). (column : ℕ) → K (cell_at r column)) orders → All (λ (r : RowView). (column : ℕ) → K (cell_at r column)) ms → Counted (messages_of ms kind) → IsMadeOf K L E (kind_part shown orders ms kind)
   unfolding kind_part
   a-kind kind of shown orders ms led of-orders all counts =
-      kind-part-of kind of shown orders (state_of ms) (messages_of ms kind) led of-orders (All-filter (has_word 3 kind.word) (λ (r : RowView). (column : ℕ) → K (cell_at r column)) ms all) (state-known ms) counts
+      kind-part-of kind of shown orders (state_of ms) (messages_of ms kind) led of-orders (in-order kind.sorting (with_word 3 ms kind.word) (All-filter (has_word 3 kind.word) (λ (r : RowView). (column : ℕ) → K (cell_at r column)) ms all)) (state-known ms) counts
 
   every-kind : (shown orders ms : List RowView) → All (λ (r : RowView). L (cell_at r 0)) shown → All (λ (r : RowView). (column : ℕ) → K (cell_at r column)) orders → All (λ (r : RowView). (column : ℕ) → K (cell_at r column)) ms → AllCounted ms → IsMadeOf K L E (kinds_html shown orders ms)
   unfolding kinds_html other_part

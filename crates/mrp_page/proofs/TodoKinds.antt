@@ -1,19 +1,19 @@
 -- Each message is in *To do* once, in the fold of its kind, with its order.
-use Rattle.std.proofs.Common.{◌≡◌, ◌∙◌, ℕ, Bool, true, false, not, Option, Some, List, [], ◌∷◌, ◌++◌, codes, decimal, drop, length, take, refl, sym, ap, ap₂, subst, append_assoc}
+use Rattle.std.proofs.Common.{◌≡◌, ◌∙◌, ◌<◌, ◌≤◌, ℕ, Bool, true, false, not, Option, Some, List, [], ◌∷◌, ◌++◌, codes, decimal, drop, get_or, length, take, arith, refl, sym, ap, ap₂, subst, append_assoc}
 use Rattle.std.specs.Prelude.{◌&&◌, ◌||◌, IsPermutation, if◌then◌else◌}
 use Rattle.std.specs.List.{filter, find, flat_map, list_any}
 use Rattle.std.proofs.lemmas.Bool.{both_ways}
 use Rattle.std.proofs.lemmas.List.{append-nil}
 use Rattle.std.proofs.lemmas.List.Concat.{flat_map-append}
 use Rattle.std.proofs.lemmas.List.Elements.{filter_agree}
-use Rattle.std.proofs.lemmas.List.Sorted.{IsPermutation-append_right, IsPermutation-filter_both, IsPermutation-refl, IsPermutation-trans}
+use Rattle.std.proofs.lemmas.List.Sorted.{IsPermutation-append, IsPermutation-append_left, IsPermutation-append_right, IsPermutation-filter_both, IsPermutation-refl, IsPermutation-trans}
 use Rattle.mrp_page.specs.ByWord.{by_word, has_one_of}
 use Rattle.mrp_page.specs.Columns.{column}
 use Rattle.mrp_page.specs.Draw.{is_plain, item_name_html, item_tasks, more_html, named_tasks, other_if, other_tasks, task_html, task_if, task_table, tasks_html, tasks_with}
 use Rattle.mrp_page.specs.ItemRows.{ItemLists, item_lists}
 use Rattle.mrp_page.specs.Folded.{capped_html}
 use Rattle.mrp_page.specs.Frame.{count_row}
-use Rattle.mrp_page.specs.Kinds.{Kind, cancel, earlier, is_order_of, kind_html, kind_listing, kind_part, kinds, kinds_html, late, later, messages_of, note_html, order_html, other, other_messages, other_part, release, task_line, todo_back, todo_html}
+use Rattle.mrp_page.specs.Kinds.{Kind, cancel, earlier, falling_rank, is_order_of, kind_html, kind_listing, kind_part, kinds, kinds_html, late, later, messages_of, note_html, order_html, other, other_messages, other_part, release, task_line, todo_back, todo_html, value_rank}
 use Rattle.mrp_page.specs.Layout.{cancel_open, in_open, item_tasks_end, item_tasks_open, late_open, order_start, order_week, other_open, other_words, out_open, release_open, rest_end, section_end, task_row, task_supply, task_words, todo_open}
 use Rattle.mrp_page.specs.Notes.{Noted}
 use Rattle.mrp_page.specs.Page.{load_section, page_html, page_of, rest_html, shown_items, top_html}
@@ -27,12 +27,37 @@ use Rattle.mrp_page.specs.Todo.{by_urgency, message_html, of_word, said, said_of
 use Rattle.mrp_day.specs.declared.section.Section.TheVariants as s
 use Rattle.mrp_page.specs.declared.limits.TheConstants.{MOST_LINES, SOME_ROWS}
 use Rattle.mrp_page.proofs.Todo.{stand-once}
+use Rattle.std.specs.List.Sorted.{IsNonDecreasingBy}
+use Rattle.mrp_page.specs.ByWord.{with_word}
+use Rattle.mrp_page.specs.Sorted.{sorted_by}
+use Rattle.mrp_page.proofs.ByKey.{rank-most, sorted-non-decreasing, sorted-permutes}
 use Rattle.mrp_page.proofs.Folds.{folded-is, some-rows}
 
 -- the messages of each kind, and those of none, are all of them
 pub kinds-once : (messages : List RowView) → IsPermutation messages (flat_map (messages_of messages) kinds ++ other_messages messages)
 unfolding by_urgency
-kinds-once messages = stand-once messages
+kinds-once messages =
+    let of : List ℕ → List RowView = λ word. with_word 3 messages word in
+    let a : List RowView = of (codes "PAST-DUE") in
+    let b : List RowView = of (codes "RELEASE") in
+    let c : List RowView = of (codes "IN") in
+    let d : List RowView = of (codes "OUT") in
+    let e : List RowView = of (codes "CANCEL") in
+    let o : List RowView = other_messages messages in
+    IsPermutation-trans messages ((a ++ (b ++ (c ++ (d ++ (e ++ []))))) ++ o) ((sorted_by falling_rank a ++ (b ++ (sorted_by value_rank c ++ (d ++ (e ++ []))))) ++ o) (stand-once messages)
+    (IsPermutation-append_left o (a ++ (b ++ (c ++ (d ++ (e ++ []))))) (sorted_by falling_rank a ++ (b ++ (sorted_by value_rank c ++ (d ++ (e ++ [])))))
+    (IsPermutation-append a (sorted_by falling_rank a) (b ++ (c ++ (d ++ (e ++ [])))) (b ++ (sorted_by value_rank c ++ (d ++ (e ++ [])))) (sorted-permutes falling_rank a)
+    (IsPermutation-append_right b (c ++ (d ++ (e ++ []))) (sorted_by value_rank c ++ (d ++ (e ++ [])))
+    (IsPermutation-append_left (d ++ (e ++ [])) c (sorted_by value_rank c) (sorted-permutes value_rank c)))))
+
+-- the messages of a kind whose order is by their values
+pub late-falls : (messages : List RowView) (i j : ℕ) (m : RowView) → i ≤ j → j < length (messages_of messages late) → value_rank (get_or (messages_of messages late) j m) ≤ value_rank (get_or (messages_of messages late) i m)
+late-falls messages i j m less within =
+    let rows : List RowView = messages_of messages late in
+    omega (arith, sorted-non-decreasing falling_rank (with_word 3 messages (codes "PAST-DUE")) i j m less within, rank-most (cell_at (get_or rows j m) 4))
+
+pub in-rises : (messages : List RowView) → IsNonDecreasingBy value_rank (messages_of messages earlier)
+in-rises messages = sorted-non-decreasing value_rank (with_word 3 messages (codes "IN"))
 
 placed : (t u c o n k m r : List ℕ) → t ++ (u ++ (c ++ ((o ++ (n ++ (k ++ m))) ++ r))) ≡ (t ++ (u ++ (c ++ (o ++ n)))) ++ (k ++ (m ++ r))
 placed t u c o n k m r = simp append_assoc

@@ -23,6 +23,7 @@ pub mod Row
 pub mod Rows
 pub mod Section
 pub mod Shown
+pub mod Sorted
 pub mod Spot
 pub mod Summary
 pub mod Template

@@ -1,7 +1,7 @@
 //! What follows from the definitions alone, each law the contract of a function that does nothing.
 
-ghost use Rattle.std.specs.Prelude.{◌≡◌, ◌++◌, ◌+◌, ◌-◌, ◌^◌, ◌&&◌, ◌⊎◌, ◌<◌, ◌≤◌, ℕ, All, Contains, IsPermutation, List, Option, Some, false, [], ◌∷◌, codes, decimal, drop, filter, find, flat_map, length, take};
-ghost use Rattle.mrp_page.specs.ByWord.{has_one_of};
+ghost use Rattle.std.specs.Prelude.{◌≡◌, ◌++◌, ◌+◌, ◌-◌, ◌^◌, ◌&&◌, ◌⊎◌, ◌<◌, ◌≤◌, ℕ, All, Contains, IsPermutation, List, Option, Some, false, [], ◌∷◌, codes, count_by, decimal, drop, filter, find, flat_map, length, slice_index_or, take};
+ghost use Rattle.mrp_page.specs.ByWord.{has_one_of, with_word};
 ghost use Rattle.mrp_page.specs.Columns.{column};
 ghost use Rattle.mrp_page.specs.Counted.{kept_of, missed_of, wanted_rows};
 ghost use Rattle.mrp_page.specs.Draw.{bars_html, booked_html, item_html, item_name_html, items_html, link_html, loads_html, measure_html, more_html, named_record, named_tasks, planned_html, points_html, promised_html, record_or_none, record_rows, supplies_html};
@@ -13,7 +13,9 @@ ghost use Rattle.mrp_page.specs.Labels.{AreFirm};
 ghost use Rattle.mrp_page.specs.Laws.{piece_html, pieces, shown};
 ghost use Rattle.mrp_page.specs.Layout.{available_label, balance_label, bars_end, booked_label, capacity_label, firm_label, grid_end, gross_label, item_tasks_end, item_tasks_open, load_label, none_refused, order_start, order_week, other_words, over_label, planned_label, points_end, refused_answer, refused_open, scheduled_label, section_end, starts_label, task_row, task_supply, task_words};
 ghost use Rattle.mrp_page.specs.Frame.{count_row};
-ghost use Rattle.mrp_page.specs.Kinds.{Kind, cancel, earlier, is_order_of, kind_html, kind_part, kinds, kinds_html, late, later, messages_of, other_messages, other_part, release, task_line};
+ghost use Rattle.mrp_page.specs.Kinds.{Kind, cancel, earlier, is_order_of, kind_html, kind_part, kinds, kinds_html, late, later, messages_of, other_messages, other_part, release, task_line, value_rank};
+ghost use Rattle.std.specs.List.Sorted.{IsNonDecreasingBy};
+ghost use Rattle.mrp_page.specs.Rows.{rank};
 ghost use Rattle.mrp_page.specs.Notes.{Noted, notes_of};
 ghost use Rattle.mrp_page.specs.Page.{page_html, shown_items};
 ghost use Rattle.mrp_page.specs.Pictures.{drawn_balance, drawn_load};
@@ -24,6 +26,7 @@ ghost use Rattle.mrp_page.specs.Rows.{rows_in, rows_named};
 ghost use Rattle.mrp_page.specs.Section.{place_of};
 ghost use Rattle.mrp_page.specs.Shown.{IsByItems, items_of_plan, items_to_show, rows_of, run_shown};
 ghost use Rattle.mrp_page.specs.Spot.{Names};
+ghost use Rattle.mrp_page.specs.Summary.{count_with, is_undone, summary_html, tile_html};
 ghost use Rattle.mrp_page.specs.Template.{Drawn, has_word, number_at, row_html};
 ghost use Rattle.mrp_page.specs.Todo.{by_urgency, message_html, said, said_of_another, word_of};
 ghost use Rattle.mrp_page.specs.declared.limits.TheConstants.{FEW_ROWS, MOST_LINES, SOME_ROWS};
@@ -177,4 +180,21 @@ pub fn refused_calls_say_why()
     ensures not_yours { (call : RowView) → cell_at call (column section.History (codes "reply")) ≡ codes "not-yours" → row_html refused_answer call ≡ codes "</th><td class=t>not yours: entry " ++ (escaped (cell_at call (column section.History (codes "value"))) ++ []) }
     ensures booking { (call : RowView) (history : List RowView) (booking : RowView) → cell_at call (column section.History (codes "call")) ≡ codes "cancel" → find (is_booking (cell_at call (column section.History (codes "number")))) history ≡ Some booking → asked_of history call ≡ booking }
     ensures itself { (call : RowView) (history : List RowView) → has_word (column section.History (codes "call")) (codes "cancel") call ≡ false → asked_of history call ≡ call }
+{}
+
+/// Messages past due stand by how late their orders are, the latest first; messages to reschedule in by the
+/// week that they are needed in, the earliest first. Decimals are compared by their numbers.
+pub fn messages_stand_in_order()
+    ensures past_due { (messages : List RowView) (i j : ℕ) (m : RowView) → i ≤ j → j < length (messages_of messages late) → value_rank (slice_index_or (messages_of messages late) j m) ≤ value_rank (slice_index_or (messages_of messages late) i m) }
+    ensures earlier { (messages : List RowView) → IsNonDecreasingBy value_rank (messages_of messages earlier) }
+    ensures value { (message : RowView) → value_rank message ≡ rank (cell_at message (column section.Messages (codes "value"))) }
+{}
+
+/// The counts of the summary are those of the rows of the parts that they lead to, and stand in links to these.
+pub fn counts_are_of_their_parts()
+    ensures kinds { (messages : List RowView) (kind : Kind) → count_with (column section.Messages (codes "message")) kind.word messages ≡ length (messages_of messages kind) }
+    ensures short { (history : List RowView) → count_with (column section.History (codes "reply")) (codes "short") history ≡ length (with_word (column section.History (codes "reply")) history (codes "short")) }
+    ensures undone { (history : List RowView) → count_by is_undone history ≡ length (filter is_undone history) }
+    ensures tile { (count : ℕ) (mark place what : List ℕ) → (front : List ℕ) × (tile_html count mark place what ≡ front ++ (codes "\" href=\"#" ++ (escaped place ++ (codes "\"><b>" ++ (escaped (decimal count) ++ (codes "</b>" ++ (escaped what ++ (codes "</a>" ++ [])))))))) }
+    ensures page { (title : List ℕ) (notes : Noted) → (front : List ℕ) × (back : List ℕ) × (page_html title notes ≡ front ++ (summary_html notes.history (rows_in section.Messages notes.report) (rows_in section.Loads notes.report) ++ back)) }
 {}

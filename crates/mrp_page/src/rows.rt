@@ -105,7 +105,7 @@ fn ranked(rank: u64, byte: u8) -> u64
 
 // A number by which numbers with equally many decimals are compared.
 #[tactic(auto, using(crate::proofs::RowLists::fold_next, crate::proofs::RowLists::fold_end), unfolding(crate::specs::Rows::rank))]
-fn rank(text: &[u8]) -> u64
+pub(crate) fn rank(text: &[u8]) -> u64
     ensures { result ≡ rank text.now }
 {
     let mut rank = 0;
