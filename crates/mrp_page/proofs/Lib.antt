@@ -26,3 +26,4 @@ pub mod TodoKinds
 pub mod CentreCounts
 pub mod ByKey
 pub mod Tiles
+pub mod FirstRows

@@ -780,12 +780,12 @@ module _ (K L E : List ℕ → Type 0) (words : (w : List ℕ) → Contains smal
   line kind of shown orders r led all known =
       let name : List ℕ = item_name_html shown (cell_at r 0) in
       let supply : List ℕ = row_html task_supply r in
-      let order-of : List ℕ = order_html kind (find (is_order_of r) orders) in
+      let order-of : List ℕ = order_html kind (find (is_order_of r) (rows_named (cell_at r 0) orders)) in
       let value : List ℕ = row_html kind.value r in
       join task_row (name ++ (supply ++ (order-of ++ value))) (mark task_row own-task_row)
       (join name (supply ++ (order-of ++ value)) (item-name shown (cell_at r 0) led (known 0))
       (join supply (order-of ++ value) (row task_supply r laid-task_supply known)
-      (join order-of value (order-cells kind of (is_order_of r) orders all) (row kind.value r of.value-laid known))))
+      (join order-of value (order-cells kind of (is_order_of r) (rows_named (cell_at r 0) orders) (all-named (λ (r : RowView). (column : ℕ) → K (cell_at r column)) (cell_at r 0) orders all)) (row kind.value r of.value-laid known))))
 
   -- the counts of a list are known
   record Counted (rs : List RowView) : Type 0 where

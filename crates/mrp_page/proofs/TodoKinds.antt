@@ -100,7 +100,7 @@ kind-lines kind shown orders state r rows =
     ending h f l b n e p z = simp append_assoc
 
 -- the order that a message is about
-pub order-is : (kind : Kind) (shown orders : List RowView) (message order : RowView) → find (is_order_of message) orders ≡ Some order
+pub order-is : (kind : Kind) (shown orders : List RowView) (message order : RowView) → find (is_order_of message) (rows_named (cell_at message 0) orders) ≡ Some order
     → task_line kind shown orders message ≡ task_row ++ (item_name_html shown (cell_at message 0) ++ (row_html task_supply message ++ (row_html kind.order order ++ row_html kind.value message)))
 unfolding task_line
 order-is kind shown orders message order found = ap (λ (o : Option RowView). task_row ++ (item_name_html shown (cell_at message 0) ++ (row_html task_supply message ++ (order_html kind o ++ row_html kind.value message)))) found

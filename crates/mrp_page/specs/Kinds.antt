@@ -11,7 +11,7 @@ use Rattle.mrp_page.specs.Folded.{Listing, capped_html}
 use Rattle.mrp_page.specs.Frame.{count_row}
 use Rattle.mrp_page.specs.Layout.{cancel_front, cancel_open, in_front, in_open, late_front, late_open, nothing_to_do, order_start, order_unknown, order_week, other_cells, other_front, other_open, out_front, out_open, release_front, release_open, rest_end, row_end, section_end, table_end, task_row, task_supply, to_week, todo_note, todo_open, weeks_late}
 use Rattle.mrp_page.specs.Row.{RowView, cell_at, is_of}
-use Rattle.mrp_page.specs.Rows.{rank}
+use Rattle.mrp_page.specs.Rows.{rank, rows_named}
 use Rattle.mrp_page.specs.Sorted.{sorted_by}
 use Rattle.mrp_page.specs.Template.{Drawn, drawn_of, has_word, row_html}
 
@@ -67,7 +67,7 @@ task_line kind shown orders message =
     task_row
     ++ (item_name_html shown (cell_at message 0)
     ++ (row_html task_supply message
-    ++ (order_html kind (find (is_order_of message) orders)
+    ++ (order_html kind (find (is_order_of message) (rows_named (cell_at message 0) orders))
     ++ row_html kind.value message)))
 
 abbrev pub kind_listing : Kind → List RowView → List RowView → Listing

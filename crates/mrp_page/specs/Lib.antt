@@ -17,6 +17,7 @@ pub mod Names
 pub mod Notes
 pub mod Page
 pub mod Pictures
+pub mod Places
 pub mod Reading
 pub mod Refused
 pub mod Row

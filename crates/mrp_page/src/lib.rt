@@ -18,6 +18,7 @@ pub mod limits;
 mod names;
 mod notes;
 mod page;
+mod places;
 mod read;
 mod refused;
 mod row;

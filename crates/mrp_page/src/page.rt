@@ -12,6 +12,7 @@ use crate::kinds::{Tasks, put_todo};
 use crate::layout::{page_end, page_head, page_top, style};
 use crate::limits::MOST_ITEMS;
 use crate::notes::Notes;
+use crate::places::Places;
 use crate::refused::put_refused;
 use crate::row::Row;
 use crate::rows::{leaders, rows_in, rows_named};
@@ -175,9 +176,10 @@ fn put_page_of(
         rows_in(report, Section::Loads),
     )?;
     put_refused(alloc, page, shown, notes.history(), counts.history)?;
+    let orders = Places::of(alloc, rows.orders())?;
     let tasks = Tasks {
         shown,
-        orders: rows.orders(),
+        orders: &orders,
         messages: rows.messages(),
     };
     put_todo(alloc, page, tasks, counts.messages)?;

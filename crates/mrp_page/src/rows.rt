@@ -64,12 +64,20 @@ pub(crate) fn rows_in(rows: &[Row], section: Section) -> &[Row]
     rows_before(rest, first_out(rest, section))
 }
 
+// The rows of an item or a work centre, which stand together, given the place of the first.
+pub(crate) fn stretch_of<'a>(rows: &'a [Row], first: Option<usize>, name: &[u8]) -> &'a [Row]
+    requires { first ≡ position (is_of name.now) rows.now }
+    ensures { result.now ≡ rows_named name.now rows.now }
+{
+    let rest = rows_from(rows, first);
+    rows_before(rest, first_other(rest, name))
+}
+
 // The rows of an item or a work centre in a section, which stand together.
 pub(crate) fn rows_named<'a>(rows: &'a [Row], name: &[u8]) -> &'a [Row]
     ensures { result.now ≡ rows_named name.now rows.now }
 {
-    let rest = rows_from(rows, first_of(rows, name));
-    rows_before(rest, first_other(rest, name))
+    stretch_of(rows, first_of(rows, name), name)
 }
 
 // Adds a row that is not of the same item or work centre as the row before it.
