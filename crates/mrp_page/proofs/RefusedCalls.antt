@@ -1,11 +1,11 @@
 -- Each call of the history that was not answered as it asked is in *Not promised* once.
-use Rattle.std.proofs.Common.{◌≡◌, ◌∙◌, ℕ, Bool, true, false, Option, Some, List, [], ◌∷◌, ◌++◌, codes, drop, take, unwrap_or, refl, sym, ap, append_assoc}
-use Rattle.std.specs.Prelude.{◌==◌, ◌&&◌, IsPermutation, if◌then◌else◌}
+use Rattle.std.proofs.Common.{◌≡◌, ◌∙◌, ℕ, Bool, true, false, Some, List, [], ◌∷◌, ◌++◌, codes, drop, take, refl, sym, ap, append_assoc}
+use Rattle.std.specs.Prelude.{◌==◌, IsPermutation, if◌then◌else◌}
 use Rattle.std.specs.List.{filter, find, flat_map}
 use Rattle.std.proofs.lemmas.List.{append-nil}
 use Rattle.mrp_page.specs.ByWord.{has_one_of}
 use Rattle.mrp_page.specs.Columns.{column}
-use Rattle.mrp_page.specs.Draw.{has_none, more_html}
+use Rattle.mrp_page.specs.Draw.{more_html}
 use Rattle.mrp_page.specs.Escaped.{escaped}
 use Rattle.mrp_page.specs.Folded.{folded_html}
 use Rattle.mrp_page.specs.ItemRows.{item_lists}

@@ -1,5 +1,5 @@
 -- The counts of the summary are those of the rows of the parts that they lead to.
-use Rattle.std.proofs.Common.{◌≡◌, ◌∙◌, ℕ, Bool, List, [], ◌∷◌, ◌++◌, codes, decimal, length, refl, sym, ap, append_assoc}
+use Rattle.std.proofs.Common.{◌≡◌, ◌∙◌, ℕ, Bool, List, [], ◌++◌, codes, decimal, length, refl, sym, append_assoc}
 use Rattle.std.specs.Prelude.{◌==◌, count_by, if◌then◌else◌}
 use Rattle.std.specs.List.{filter}
 use Rattle.std.proofs.lemmas.List.Sums.{length-filter}
@@ -16,7 +16,7 @@ use Rattle.mrp_page.specs.Refused.{refused_section}
 use Rattle.mrp_page.specs.Row.{RowView}
 use Rattle.mrp_page.specs.Rows.{rows_in}
 use Rattle.mrp_page.specs.Sorted.{sorted_by}
-use Rattle.mrp_page.specs.Summary.{count_with, is_undone, summary_html, tile_html}
+use Rattle.mrp_page.specs.Summary.{count_with, summary_html, tile_html}
 use Rattle.mrp_page.specs.Template.{has_word, row_html}
 use Rattle.mrp_page.specs.declared.kinds.Sorting.{Sorting}
 use Rattle.mrp_page.specs.declared.kinds.Sorting.TheVariants as sorts

@@ -1,24 +1,18 @@
 -- Each message is in *To do* once, under its own word.
 use Rattle.std.proofs.Common.{◌≡◌, ◌∙◌, ℕ, Bool, true, false, not, List, [], ◌∷◌, ◌++◌, codes, refl, sym, ap, ap₂, subst, append_assoc}
 use Rattle.std.specs.Prelude.{◌||◌, IsPermutation, if◌then◌else◌}
-use Rattle.std.specs.List.{filter, flat_map, list_any}
-use Rattle.std.proofs.lemmas.Bool.{both_ways}
+use Rattle.std.specs.List.{filter, flat_map}
 use Rattle.std.proofs.lemmas.List.{append-nil}
 use Rattle.std.proofs.lemmas.List.Concat.{flat_map-append}
 use Rattle.std.proofs.lemmas.List.Elements.{filter_agree}
-use Rattle.std.proofs.lemmas.List.Sorted.{IsPermutation-append_right, IsPermutation-filter_both, IsPermutation-refl, IsPermutation-trans}
 use Rattle.mrp_page.specs.ByWord.{by_word, has_one_of}
 use Rattle.mrp_page.specs.Draw.{is_plain, item_tasks, named_tasks, other_if, other_tasks, task_html, task_if, task_table, tasks_html, tasks_with}
-use Rattle.mrp_page.specs.ItemRows.{ItemLists, item_lists}
+use Rattle.mrp_page.specs.ItemRows.{ItemLists}
 use Rattle.mrp_page.specs.Layout.{item_tasks_end, item_tasks_open, other_words, task_words}
-use Rattle.mrp_page.specs.Notes.{Noted}
-use Rattle.mrp_page.specs.Page.{load_section, page_html, page_of, rest_html, shown_items, top_html}
-use Rattle.mrp_page.specs.Refused.{refused_section}
-use Rattle.mrp_page.specs.Row.{RowView, cell_at, same_text}
-use Rattle.mrp_page.specs.Rows.{rows_in, rows_named}
+use Rattle.mrp_page.specs.Row.{RowView, cell_at}
+use Rattle.mrp_page.specs.Rows.{rows_named}
 use Rattle.mrp_page.specs.Template.{has_word, row_html}
 use Rattle.mrp_page.specs.Todo.{by_urgency, message_html, of_word, said, said_of_another, urgent_words, word_of}
-use Rattle.mrp_day.specs.declared.section.Section.TheVariants as s
 use Rattle.mrp_page.proofs.ByWord.{Differ, or-first, or-second, word-by-word}
 
 -- what is drawn of those alone that pass

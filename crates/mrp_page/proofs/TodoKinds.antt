@@ -1,20 +1,16 @@
 -- Each message is in *To do* once, in the fold of its kind, with its order.
-use Rattle.std.proofs.Common.{◌≡◌, ◌∙◌, ◌<◌, ◌≤◌, ℕ, Bool, true, false, not, Option, Some, List, [], ◌∷◌, ◌++◌, codes, decimal, drop, get_or, length, take, arith, refl, sym, ap, ap₂, subst, append_assoc}
-use Rattle.std.specs.Prelude.{◌&&◌, ◌||◌, IsPermutation, if◌then◌else◌}
-use Rattle.std.specs.List.{filter, find, flat_map, list_any}
-use Rattle.std.proofs.lemmas.Bool.{both_ways}
+use Rattle.std.proofs.Common.{◌≡◌, ◌∙◌, ◌<◌, ◌≤◌, ℕ, Option, Some, List, [], ◌∷◌, ◌++◌, codes, decimal, drop, get_or, length, take, arith, refl, sym, ap, append_assoc}
+use Rattle.std.specs.Prelude.{◌&&◌, IsPermutation}
+use Rattle.std.specs.List.{find, flat_map}
 use Rattle.std.proofs.lemmas.List.{append-nil}
-use Rattle.std.proofs.lemmas.List.Concat.{flat_map-append}
-use Rattle.std.proofs.lemmas.List.Elements.{filter_agree}
-use Rattle.std.proofs.lemmas.List.Sorted.{IsPermutation-append, IsPermutation-append_left, IsPermutation-append_right, IsPermutation-filter_both, IsPermutation-refl, IsPermutation-trans}
-use Rattle.mrp_page.specs.ByWord.{by_word, has_one_of}
+use Rattle.std.proofs.lemmas.List.Sorted.{IsPermutation-append, IsPermutation-append_left, IsPermutation-append_right, IsPermutation-trans}
 use Rattle.mrp_page.specs.Columns.{column}
-use Rattle.mrp_page.specs.Draw.{is_plain, item_name_html, item_tasks, more_html, named_tasks, other_if, other_tasks, task_html, task_if, task_table, tasks_html, tasks_with}
+use Rattle.mrp_page.specs.Draw.{item_name_html, more_html}
 use Rattle.mrp_page.specs.ItemRows.{ItemLists, item_lists}
 use Rattle.mrp_page.specs.Folded.{capped_html}
 use Rattle.mrp_page.specs.Frame.{count_row}
-use Rattle.mrp_page.specs.Kinds.{Kind, cancel, earlier, falling_rank, is_order_of, kind_html, kind_listing, kind_part, kinds, kinds_html, late, later, messages_of, note_html, order_html, other, other_messages, other_part, release, task_line, todo_back, todo_html, value_rank}
-use Rattle.mrp_page.specs.Layout.{cancel_open, in_open, item_tasks_end, item_tasks_open, late_open, order_start, order_week, other_open, other_words, out_open, release_open, rest_end, section_end, task_row, task_supply, task_words, todo_open}
+use Rattle.mrp_page.specs.Kinds.{Kind, cancel, earlier, falling_rank, is_order_of, kind_html, kind_listing, kind_part, kinds, kinds_html, late, later, messages_of, note_html, order_html, other_messages, other_part, release, task_line, todo_back, todo_html, value_rank}
+use Rattle.mrp_page.specs.Layout.{cancel_open, in_open, late_open, order_start, order_week, out_open, release_open, rest_end, section_end, task_row, task_supply, todo_open}
 use Rattle.mrp_page.specs.Notes.{Noted}
 use Rattle.mrp_page.specs.Page.{load_section, page_html, page_of, rest_html, shown_items, top_html}
 use Rattle.mrp_page.specs.Refused.{refused_section}
@@ -23,7 +19,7 @@ use Rattle.mrp_page.specs.Rows.{rows_in, rows_named}
 use Rattle.mrp_page.specs.Escaped.{escaped}
 use Rattle.mrp_page.specs.Summary.{summary_html}
 use Rattle.mrp_page.specs.Template.{has_word, markup_if, number_at, row_html}
-use Rattle.mrp_page.specs.Todo.{by_urgency, message_html, of_word, said, said_of_another, urgent_words, word_of}
+use Rattle.mrp_page.specs.Todo.{by_urgency}
 use Rattle.mrp_day.specs.declared.section.Section.TheVariants as s
 use Rattle.mrp_page.specs.declared.limits.TheConstants.{MOST_LINES, SOME_ROWS}
 use Rattle.mrp_page.proofs.Todo.{stand-once}

@@ -1,4 +1,4 @@
-use Rattle.std.proofs.Common.{◌≡◌, ◌∙◌, ◌<◌, ap, arith, length}
+use Rattle.std.proofs.Common.{◌∙◌, ◌<◌, ap, arith, length}
 use Rattle.std.specs.List.{position}
 use Rattle.std.specs.Map.{lookup}
 use Rattle.std.specs.Str.{bytes_eq}

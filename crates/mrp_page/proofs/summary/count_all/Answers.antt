@@ -1,4 +1,4 @@
-use Rattle.std.proofs.Common.{◌≡◌, arith}
+use Rattle.std.proofs.Common.{arith}
 use Rattle.mrp_page.proofs.CentreCounts.{count-next}
 use Rattle.mrp_page.proofs.RowLists.{last_next}
 use Rattle.mrp_page.proofs.summary.count_all.Goals as goal

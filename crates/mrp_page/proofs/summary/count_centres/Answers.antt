@@ -1,5 +1,5 @@
-use Rattle.std.proofs.Common.{◌≡◌, ◌∙◌, List, ap, arith, map}
-use Rattle.mrp_page.specs.Row.{RowView, cell_at}
+use Rattle.std.proofs.Common.{List, arith, map}
+use Rattle.mrp_page.specs.Row.{RowView}
 use Rattle.mrp_page.proofs.CentreCounts.{count-next, seen-at, seen-within}
 use Rattle.mrp_page.proofs.RowLists.{last_next}
 use Rattle.mrp_page.proofs.summary.count_centres.Goals as goal
