@@ -3,9 +3,7 @@
 
 use mrp_main::run_words;
 use mrp_rows::Told;
-use mrp_words::{
-    Hint, QuietErrors, SeenInput, SeenOutput, Sights, begins_utf16, has_stray_word,
-};
+use mrp_words::{Hint, QuietErrors, SeenInput, SeenOutput, Sights, begins_utf16, has_stray_word};
 use std::fs::File;
 use std::io::{ErrorKind, Read};
 use std::path::Path;

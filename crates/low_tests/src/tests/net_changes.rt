@@ -92,18 +92,39 @@ fn carries(
 
 #[test]
 fn items_with_the_same_bookings_are_carried_over(rt: HostRuntime) {
-    carries(&rt, rt.alloc(), bicycles_in_lots(), morning(), morning(), &[true, true, true]);
+    carries(
+        &rt,
+        rt.alloc(),
+        bicycles_in_lots(),
+        morning(),
+        morning(),
+        &[true, true, true],
+    );
 }
 
 #[test]
 fn all_below_a_booking_above_the_forecast_are_planned(rt: HostRuntime) {
-    carries(&rt, rt.alloc(), bicycles_in_lots(), &[], morning(), &[false, false, false]);
+    carries(
+        &rt,
+        rt.alloc(),
+        bicycles_in_lots(),
+        &[],
+        morning(),
+        &[false, false, false],
+    );
 }
 
 #[test]
 fn parts_are_carried_over_where_a_booking_is_within_the_forecast(rt: HostRuntime) {
     const FOUR: &[(u64, Asked)] = &[(1, Asked::Book(4, 6))];
-    carries(&rt, rt.alloc(), bicycles_in_lots(), &[], FOUR, &[false, true, true]);
+    carries(
+        &rt,
+        rt.alloc(),
+        bicycles_in_lots(),
+        &[],
+        FOUR,
+        &[false, true, true],
+    );
 }
 
 // Two bookings of six, and one of twelve in the same week.
@@ -111,17 +132,32 @@ fn parts_are_carried_over_where_a_booking_is_within_the_forecast(rt: HostRuntime
 fn quantities_count_and_not_bookings(rt: HostRuntime) {
     const TWO: &[(u64, Asked)] = &[(1, Asked::Book(3, 6)), (2, Asked::Book(3, 6))];
     const ONE: &[(u64, Asked)] = &[(1, Asked::Book(3, 12))];
-    carries(&rt, rt.alloc(), bicycles_in_lots(), TWO, ONE, &[true, true, true]);
+    carries(
+        &rt,
+        rt.alloc(),
+        bicycles_in_lots(),
+        TWO,
+        ONE,
+        &[true, true, true],
+    );
 }
 
 #[test]
 fn components_of_items_that_are_over_are_planned(rt: HostRuntime) {
-    const BELOW: &str = "TOP,master,0,0,lfl,0,0\nA,part,0,0,lfl,0,0\nB,part,0,0,lfl,0,0\nC,part,0,0,lfl,0,0\n";
+    const BELOW: &str =
+        "TOP,master,0,0,lfl,0,0\nA,part,0,0,lfl,0,0\nB,part,0,0,lfl,0,0\nC,part,0,0,lfl,0,0\n";
     const MORE: &[(u64, Asked)] = &[(1, Asked::Book(1, 1))];
     let shop = Records {
         items: BELOW,
         bills: "TOP,A,1000000\nA,B,1000000\nB,C,1\n",
         ..tower()
     };
-    carries(&rt, rt.alloc(), shop, &[], MORE, &[false, false, false, false]);
+    carries(
+        &rt,
+        rt.alloc(),
+        shop,
+        &[],
+        MORE,
+        &[false, false, false, false],
+    );
 }
