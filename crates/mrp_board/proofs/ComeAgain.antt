@@ -1,17 +1,15 @@
 -- A worker that has to come again waits for an item that is out, and not stored.
-use Rattle.std.proofs.Common.{◌≡◌, ◌∙◌, ◌<◌, ◌≤◌, ◌+◌, ◌||◌, ◌&&◌, ℕ, zero, suc, Bool, true, false, cond, not, if◌then◌else◌, List, [], ◌∷◌, Option, Some, None, length, get_or, inl, inr, refl, sym, ap, arith}
-use Rattle.std.proofs.lemmas.Bool.{cases_eq}
+use Rattle.std.proofs.Common.{◌≡◌, ◌∙◌, ◌<◌, ◌||◌, ◌&&◌, ℕ, zero, suc, Bool, true, false, not, List, [], ◌∷◌, None, length, get_or, refl, sym, ap, arith}
 use Rattle.std.proofs.lemmas.List.Elements.{filter_passes}
 use Rattle.std.proofs.lemmas.List.FromFn.{get_or-range_with_len, length-range_with_len}
-use Rattle.std.specs.Prelude.{find, option_map}
 use Rattle.std.specs.List.{list_all, range_with_len}
 use Rattle.mrp_bill.specs.Bill.{is_parent, parents_of}
 use Rattle.mrp_bill.proofs.Listed.{filter-range-below}
 use Rattle.mrp_item.specs.Inputs.{Inputs, count, places}
 use Rattle.mrp_item.specs.Plan.{IsRanked}
 use Rattle.mrp_board.specs.declared.call.BoardCall.TheVariants as call
-use Rattle.mrp_board.specs.declared.reply.BoardReply.TheVariants as reply
-use Rattle.mrp_board.specs.Board.{BoardLog, IsUnderWay, board_reply, handed, has_stopped, is_at_end, is_out, is_ready, is_stored}
+use Rattle.mrp_board.specs.Board.{BoardLog, IsUnderWay, board_reply, has_stopped, is_out, is_ready, is_stored}
+use Rattle.mrp_board.proofs.Waits.{can-not-take}
 
 -- where a test fails
 failing : (p : ℕ → Bool) (items : List ℕ) → list_all p items ≡ false → (k : ℕ) × (k < length items) × (p (get_or items k 0) ≡ false)
@@ -22,34 +20,17 @@ failing p (i ∷ items) fails = by (p i) refl fails (failing p items)
     by true is rest later = let f = later rest in (suc f.0, omega (arith, f.1), f.2)
     by false is rest later = (0, omega arith, is)
 
--- what is not found fails the test
-not-found : (p : ℕ → Bool) (a n i : ℕ) → find p (range_with_len a n) ≡ None → a ≤ i → i < a + n → p i ≡ false
-not-found p a zero i none low high = absurd (omega (arith, low, high))
-not-found p a (suc n) i none low high = by (p a) refl none (not-found p (a + 1) n i)
-  where
-    by : (b : Bool) → p a ≡ b → cond b (Some a) (find p (range_with_len (a + 1) n)) ≡ None → (find p (range_with_len (a + 1) n) ≡ None → a + 1 ≤ i → i < a + 1 + n → p i ≡ false) → p i ≡ false
-    by true is e later = absurd (let n : Some a ≡ None = e in cc)
-    by false is e later = elim (cases_eq i a) [
-      | inl same ↦ ap p same ∙ is
-      | inr other ↦ later e (omega (arith, low, other)) (omega (arith, high))
-    ]
-
-told-none : (s : Inputs) (log : BoardLog) (b : Bool) (o : Option ℕ) → (if b then Some reply.AllOut else option_map (handed s log) o) ≡ None → (b ≡ false) × (o ≡ None)
-told-none s log true o e = absurd (let n : Some reply.AllOut ≡ None = e in cc)
-told-none s log false None e = (refl, refl)
-told-none s log false (Some i) e = absurd (let n : Some (handed s log i) ≡ None = e in cc)
-
 neither : (a b : Bool) → (a || b) ≡ false → b ≡ false
 neither true b e = absurd (let n : true ≡ false = e in cc)
 neither false b e = e
 
-module _ (s : Inputs) (code : ℕ → ℕ) (log : BoardLog) (ranked : IsRanked s code) (none : find (is_ready s log) (places s) ≡ None) where
+module _ (s : Inputs) (code : ℕ → ℕ) (log : BoardLog) (ranked : IsRanked s code) (unready : (item : ℕ) → item < count s → is_ready s log item ≡ false) where
   -- from an item that is left up to one that is under way
   climb : (n i : ℕ) → code i < n → i < count s → is_out log i ≡ false → (item : ℕ) × (item < count s) × IsUnderWay log item
   climb zero i low within left = absurd (omega (arith, low))
   climb (suc n) i low within left =
       let parents = parents_of s.tables.bills (count s) i in
-      let waits : list_all (is_stored log) parents ≡ false = ap (λ (b : Bool). not b && list_all (is_stored log) parents) (sym left) ∙ not-found (is_ready s log) 0 (count s) i none (omega arith) (omega (arith, within)) in
+      let waits : list_all (is_stored log) parents ≡ false = ap (λ (b : Bool). not b && list_all (is_stored log) parents) (sym left) ∙ unready i within in
       let f = failing (is_stored log) parents waits in
       let p = get_or parents f.0 0 in
       let below : p < count s = filter-range-below (λ q. is_parent s.tables.bills q i) (count s) f.0 0 f.1 in
@@ -63,7 +44,7 @@ module _ (s : Inputs) (code : ℕ → ℕ) (log : BoardLog) (ranked : IsRanked s
 
 pub come-again : (s : Inputs) (code : ℕ → ℕ) (log : BoardLog) (who : ℕ) → IsRanked s code → board_reply s log who call.Take ≡ None → (item : ℕ) × (item < count s) × IsUnderWay log item
 come-again s code log who ranked waits =
-    let told = told-none s log (is_at_end s log) (find (is_ready s log) (places s)) waits in
+    let told = (can-not-take s log who).0 waits in
     let f = failing (is_out log) (places s) (neither (has_stopped log) (list_all (is_out log) (places s)) told.0) in
     let within : f.0 < count s = omega (arith, f.1, length-range_with_len 0 (count s)) in
     let place : get_or (places s) f.0 0 ≡ f.0 = get_or-range_with_len 0 (count s) f.0 0 within ∙ omega arith in

@@ -38,8 +38,8 @@ module _ (s : Inputs) (log : BoardLog) where
   none-told false None left none = refl
   none-told false (Some i) left none = absurd (let n : Some i ≡ None = none in cc)
 
-  pub come-again : (who : ℕ) → (board_reply s log who call.Take ≡ None) ↔ ((is_at_end s log ≡ false) × ((item : ℕ) → item < count s → is_ready s log item ≡ false))
-  come-again who = (
+  pub can-not-take : (who : ℕ) → (board_reply s log who call.Take ≡ None) ↔ ((is_at_end s log ≡ false) × ((item : ℕ) → item < count s → is_ready s log item ≡ false))
+  can-not-take who = (
     λ waits.
         let told = told-none (is_at_end s log) (find (is_ready s log) (places s)) waits in
         (told.0, λ item within. not-found (is_ready s log) 0 (count s) item told.1 (omega arith) (omega (arith, within))),

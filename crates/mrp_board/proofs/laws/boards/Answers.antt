@@ -1,5 +1,5 @@
 use Rattle.mrp_board.proofs.BoardStates.{reply-is, state-more, state-none}
-use Rattle.mrp_board.proofs.Waits.{come-again}
+use Rattle.mrp_board.proofs.Waits.{can-not-take}
 use Rattle.mrp_board.proofs.laws.boards.Goals as goal
 
 pub returns-clause-reply : goal.returns-clause-reply
@@ -12,4 +12,4 @@ pub returns-clause-more : goal.returns-clause-more
 returns-clause-more c = λ s log who call reply is. state-more s log who call reply is
 
 pub returns-clause-waits : goal.returns-clause-waits
-returns-clause-waits c = λ s log who. come-again s log who
+returns-clause-waits c = λ s log who. can-not-take s log who
