@@ -4,9 +4,9 @@
   tools/prove --lanes N    N processes at a time, in place of as many as there are processors and as memory holds (4.5 GB each)
   tools/prove --stale      proves nothing: says why bin/mrp is not up to date, and nothing where it is
 
-Crates that do not wait for one another, by crates.txt, are proved in parallel. Those with the longest way up to the program
-come first, with half of the processes, and with all that no other crate takes. A line on standard error says how far it is, as
-each crate ends and every minute:
+Crates that do not wait for one another, by crates.txt, are proved in parallel. That with the longest way up to the program has
+all of them; the others have one each, at a lower priority, as far as memory holds them too (3 GB each). A line on standard
+error says how far it is, as each crate ends and every minute:
 
   crate 7 of 23, about 18 minutes left
 

@@ -18,8 +18,10 @@ from .schedule import MOST_JOBS, Plan, rate_seen, seconds_left, told
 
 TOP = os.path.dirname(os.path.dirname(os.path.dirname(os.path.realpath(__file__))))
 BUILT = os.path.join(TOP, "bin", PROGRAM)
-# What the proof of a crate may take of the memory.
-MEMORY_OF_A_PROOF = 4_500_000_000
+# What the proof of a crate may take of the memory, and what each process of several takes.
+MEMORY_OF_A_PROOF, MEMORY_OF_A_PROCESS = 4_500_000_000, 3_000_000_000
+# How far those crates give way for which no other waits.
+NICE = 10
 
 
 class NotProved(Exception):
@@ -102,9 +104,11 @@ class Proving:
         seconds = seconds_left(self.plan, spent, rate_seen(self.proved))
         say(told(len(self.plan.done), len(self.plan.below), seconds))
 
-    def prove(self, name, jobs):
+    def prove(self, name, jobs, nice):
         is_well = False
         try:
+            # (on Linux that is for this thread and the processes that it starts)
+            os.nice(nice)
             is_well = self.build(name, jobs)
         finally:
             with self.changed:
@@ -119,7 +123,8 @@ class Proving:
             while len(self.plan.done) < len(self.plan.below) and not self.failed:
                 for name, jobs in self.plan.start().items():
                     self.begun[name] = time.time()
-                    threading.Thread(target=self.prove, args=(name, jobs), daemon=True).start()
+                    nice = 0 if name == self.plan.first() else NICE
+                    threading.Thread(target=self.prove, args=(name, jobs, nice), daemon=True).start()
                 self.say()
                 self.changed.wait(60)
             if self.failed:
@@ -127,22 +132,21 @@ class Proving:
 
 
 def plan_of(top, lanes):
-    """All that is to be proved."""
-    crates = listed(top)
+    """All that is to be proved, by so many processes for one crate, or by as many as there are processors and as memory holds."""
+    crates, free = listed(top), toolchain.free_memory()
     names = standing_under(crates, PROGRAM)
-    return Plan({name: crates[name] for name in names}, {name: weight(top, name) for name in names}, lanes)
-
-
-def free_lanes():
-    """How many processes go at a time: as many as there are processors, and as memory holds."""
-    return max(1, min(toolchain.processors(), toolchain.free_memory() // MEMORY_OF_A_PROOF))
+    below, weights = {name: crates[name] for name in names}, {name: weight(top, name) for name in names}
+    if lanes:
+        return Plan(below, weights, lanes)
+    lanes = max(1, min(toolchain.processors(), free // MEMORY_OF_A_PROOF))
+    return Plan(below, weights, lanes, room=min(2 * lanes, free // MEMORY_OF_A_PROCESS))
 
 
 def prove_in_parallel(lanes):
     """Proves and builds the program and all that it stands on. Raises NotProved, and OtherToolchain."""
     libraries = Libraries()
     libraries.lock()
-    plan = plan_of(TOP, lanes or free_lanes())
+    plan = plan_of(TOP, lanes)
     plan.done = {name for name in plan.below if libraries.is_built(name)}
 
     def build(name, jobs):

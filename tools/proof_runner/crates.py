@@ -4,9 +4,9 @@ import os
 
 PROGRAM = "mrp"
 # What a crate costs is counted in lines of proof, at some 30 a second and process: a line of code costs 4/3 of one, and each crate
-# costs 1,400, a program 2,200 more, since it loads all that stands below (fitted to the proofs of all crates from nothing,
-# 2026-11-27; the error of one crate is up to a half).
-EACH, A_PROGRAM = 1400, 2200
+# costs 1,000, with 150 for each crate below it, which it loads, a program 5,000 more (fitted to the proofs of all crates from
+# nothing; the error of one crate is up to a half).
+EACH, BELOW, A_PROGRAM = 1000, 150, 5000
 PARTS = ("src", "specs", "proofs")
 
 
@@ -45,7 +45,8 @@ def weight(top, name):
     code = sum(lines_in(path) for path in found if path.endswith(".rt"))
     proof = sum(lines_in(path) for path in found if f"{os.sep}proofs{os.sep}" in path)
     is_program = os.path.isfile(os.path.join(top, "crates", name, "src", "main.rt"))
-    return EACH + A_PROGRAM * is_program + 4 * code // 3 + proof
+    below = len(standing_under(listed(top), name)) - 1
+    return EACH + BELOW * below + A_PROGRAM * is_program + 4 * code // 3 + proof
 
 
 def why_stale(top, program):

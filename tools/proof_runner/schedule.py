@@ -13,13 +13,14 @@ FIRST_RATE, FIRST_LINES = 30.0, 6000.0
 @dataclass
 class Plan:
     """Crates with what each stands on and what it costs, those that are proved, and those that are being proved, each with its
-    processes."""
+    processes: at most `lanes` for one, for which all the others wait, and `room` for all."""
 
     below: dict
     weights: dict
     lanes: int
     done: set = field(default_factory=set)
     running: dict = field(default_factory=dict)
+    room: int = 0
 
     def way_up(self, name):
         """What a crate and the dearest way up from it cost."""
@@ -33,23 +34,30 @@ class Plan:
 
     def __post_init__(self):
         self.ways = {name: self.way_up(name) for name in self.below}
+        self.room = max(self.room, self.lanes)
 
     def leads(self, name):
         """Whether a crate has a longer way up than all that are being proved."""
         return all(self.ways[name] > self.ways[it] for it in self.running)
 
+    def first(self):
+        """The crate with the longest way up of those that are being proved."""
+        return max(self.running, key=self.ways.get)
+
     def start(self):
-        """Takes those that go next, and returns them with their processes: one each, but half of all to the one that all the others
-        wait for, and what no other takes to the first."""
-        idle, ready, begun = self.lanes - sum(self.running.values()), self.ready(), {}
+        """Takes those that go next, and returns them with their processes: one each, and all lanes to the one that all the others
+        wait for. Where there is no more room, up to half of the lanes are for the others."""
+        begun, ready = {}, self.ready()
         for place, name in enumerate(ready):
-            if idle < 1:
-                break
-            least = self.lanes // 2 if place == 0 and self.leads(name) else 1
-            waiting = len(ready) - place - 1
-            begun[name] = min(idle, MOST_JOBS, max(1, least, idle - waiting))
-            idle -= begun[name]
-        self.running.update(begun)
+            leads, others = self.leads(name), sum(self.running.values())
+            aside = max(self.room - self.lanes, self.lanes // 2)
+            if leads:
+                wanted = self.room - min(aside, others + len(ready) - place - 1)
+                jobs = min(self.lanes, MOST_JOBS, wanted, self.room - others)
+            else:
+                jobs = min(1, aside - others + self.running[self.first()], self.room - others)
+            if jobs > 0:
+                begun[name] = self.running[name] = jobs
         return begun
 
     def end(self, name):
@@ -61,7 +69,7 @@ class Plan:
 def seconds_left(plan, spent, rate):
     """How long it takes until all is proved, at a rate of lines a second and process. `spent` is how long each crate that is
     being proved has been at it."""
-    ahead = Plan(plan.below, plan.weights, plan.lanes, set(plan.done), dict(plan.running))
+    ahead = Plan(plan.below, plan.weights, plan.lanes, set(plan.done), dict(plan.running), plan.room)
     # (what takes longer than it should is taken to have a tenth of it left)
     lines = {name: max(plan.weights[name] - rate * SPEED[jobs] * spent.get(name, 0), plan.weights[name] / 10) for name, jobs in plan.running.items()}
     clock = 0.0

@@ -19,6 +19,15 @@ class Order(unittest.TestCase):
         self.assertEqual(plan(4).start(), {"base": 3, "side": 1})
         self.assertEqual(plan(1).start(), {"base": 1})
 
+    def test_with_more_room_the_longest_way_up_has_all_lanes(self):
+        it = Plan({**BELOW, "other": []}, {**COSTS, "other": 10}, 4, room=6)
+        self.assertEqual(it.start(), {"base": 4, "side": 1, "other": 1})
+        self.assertEqual(it.first(), "base")
+        it.end("base")
+        self.assertEqual(it.start(), {"long": 4})
+        it.end("side")
+        self.assertEqual(it.start(), {"short": 1})
+
     def test_half_of_the_processes_are_for_the_longest_way_up(self):
         many = {"base": [], "top": ["base"], "one": [], "two": [], "three": []}
         it = Plan(many, {"base": 100, "top": 100, "one": 30, "two": 20, "three": 10}, 4)
