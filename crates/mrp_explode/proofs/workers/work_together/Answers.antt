@@ -1,4 +1,4 @@
-use Rattle.std.proofs.Common.{◌≤◌, ℕ, arith}
+use Rattle.std.proofs.Common.{arith}
 use Rattle.mrp_explode.proofs.Ended.{leave-finished}
 use Rattle.mrp_explode.proofs.SideBySide.{all-numbers, made-new}
 use Rattle.mrp_explode.proofs.workers.work_together.Goals as goal

@@ -36,7 +36,8 @@ returns-in-Err-Refused-NotYet-clause-asked g c =
     let about = c.args.board.now.about in
     let old = c.args.worker.now in
     let new = c.call.new.seat in
-    let arm = c.in-Err-Refused-NotYet in
-    (unchanged-told about.object old.number about.room old.seen old.mine c.call.result arm.field-0 new.seen new.mine arm.is c.call.ensures.told,
-    subst (IsRefusedItem about.object old.number about.room new.seen) (arm.field-0-is ∙ ap fault.Refused arm.field-0-0-is)
-    (refused-told about.object old.number about.room old.seen old.mine c.call.result arm.field-0 new.seen new.mine arm.is c.call.ensures.told))
+    let arm = c.in-Err-Refused-NotYet in (
+      unchanged-told about.object old.number about.room old.seen old.mine c.call.result arm.field-0 new.seen new.mine arm.is c.call.ensures.told,
+      subst (IsRefusedItem about.object old.number about.room new.seen) (arm.field-0-is ∙ ap fault.Refused arm.field-0-0-is)
+          (refused-told about.object old.number about.room old.seen old.mine c.call.result arm.field-0 new.seen new.mine arm.is c.call.ensures.told),
+    )
