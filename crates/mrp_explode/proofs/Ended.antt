@@ -11,11 +11,11 @@ use Rattle.mrp_board.specs.declared.call.BoardCall.TheVariants as call
 use Rattle.mrp_board.specs.declared.reply.BoardReply.TheVariants as reply
 use Rattle.mrp_board.specs.declared.call.BoardCall.{BoardCall}
 use Rattle.mrp_board.specs.declared.reply.BoardReply.{BoardReply}
-use Rattle.mrp_board.specs.Board.{BoardEntry, BoardLog, IsLegalBoard, is_finished, is_stored}
+use Rattle.mrp_board.specs.Board.{BoardEntry, BoardLog, is_stored}
 use Rattle.mrp_board.specs.Orderly.{WorkedToEnd, finished_by}
-use Rattle.mrp_board.specs.BoardState.{BoardState, has_stored, state_of}
+use Rattle.mrp_board.specs.BoardState.{BoardState, has_stored}
 use Rattle.mrp_explode.specs.Work.{IsDone, Worker}
-use Rattle.mrp_explode.specs.Workers.{HaveWorked}
+use Rattle.mrp_explode.specs.Workers.{HaveFinished, HaveWorked, LeaveFinished}
 use Rattle.mrp_explode.proofs.SideBySide.{all-numbers}
 use Rattle.mrp_board.proofs.BoardStates.{stored-is}
 use Rattle.mrp_board.specs.Object.{Answers, Opens}
@@ -46,44 +46,46 @@ module _ (s : Inputs) {O : Type 0} where
       (subst (IsDone s w.number) (All-contains (λ (x : Seated O BoardCall BoardReply). x.mine ≡ entries_by x.number log) workers w own here)
       (All-contains (λ (x : Seated O BoardCall BoardReply). IsDone s x.number x.mine) workers w done here))
 
-  pub came-to_end : (workers : List (Seated O BoardCall BoardReply)) (count : ℕ) (log : BoardLog) → 1 ≤ count → ((n : ℕ) → 1 ≤ n → n ≤ count → HasNumber workers n)
-      → All (λ w. IsDone s w.number w.mine) workers → All (λ w. w.mine ≡ entries_by w.number log) workers → All (λ e. (1 ≤ e.who) × (e.who ≤ count)) log → WorkedToEnd s log
-  came-to_end workers count log some numbers done own from =
-      let each = λ (who : ℕ) (low : 1 ≤ who) (high : who ≤ count). by-number workers log who (numbers who low high) done own in
-      let first : IsDone s 1 (entries_by 1 log) = each 1 (omega arith) some in
-      let at = among (λ (e : BoardEntry). e.who == 1) log (finished_by s 1 first.0) [] (entry 1 call.Take reply.AllOut) first.1 in
-      record {
-        before = at.0;
-        who = 1;
-        after = at.1;
-        told_end = at.2;
-        each = seats-complete s count log (Each-from_All (λ (e : BoardEntry). (1 ≤ e.who) × (e.who ≤ count)) log from) (λ who low high. inr (each who low high));
-      }
+  have-finished : (workers : List (Seated O BoardCall BoardReply)) (count : ℕ) (log : BoardLog) → ((n : ℕ) → 1 ≤ n → n ≤ count → HasNumber workers n)
+      → All (λ w. IsDone s w.number w.mine) workers → All (λ w. w.mine ≡ entries_by w.number log) workers → All (λ e. (1 ≤ e.who) × (e.who ≤ count)) log → HaveFinished s count log
+  have-finished workers count log numbers done own from = record {
+    from = Each-from_All (λ (e : BoardEntry). (1 ≤ e.who) × (e.who ≤ count)) log from;
+    each = λ who low high. by-number workers log who (numbers who low high) done own;
+  }
 
-  pub board-finished : (workers : List (Seated O BoardCall BoardReply)) (count : ℕ) (log : BoardLog) → 1 ≤ count → ((n : ℕ) → 1 ≤ n → n ≤ count → HasNumber workers n)
-      → All (λ w. IsDone s w.number w.mine) workers → All (λ w. w.mine ≡ entries_by w.number log) workers → All (λ e. (1 ≤ e.who) × (e.who ≤ count)) log → IsLegalBoard s log
-      → is_finished s log ≡ true
-  board-finished workers count log some numbers done own from legal = ends-finished s log legal (came-to_end workers count log some numbers done own from)
+came-to_end : (s : Inputs) (count : ℕ) (log : BoardLog) → 1 ≤ count → HaveFinished s count log → WorkedToEnd s log
+came-to_end s count log some h =
+    let first : IsDone s 1 (entries_by 1 log) = h.each 1 (omega arith) some in
+    let at = among (λ (e : BoardEntry). e.who == 1) log (finished_by s 1 first.0) [] (entry 1 call.Take reply.AllOut) first.1 in
+    record {
+      before = at.0;
+      who = 1;
+      after = at.1;
+      told_end = at.2;
+      each = seats-complete s count log h.from (λ who low high. inr (h.each who low high));
+    }
 
--- the state of a finished board has every outcome
-pub all-stored : (s : Inputs) (log : BoardLog) (b : BoardState) → b ≡ state_of s log → is_finished s log ≡ true → (i : ℕ) → i < count s → has_stored b i ≡ true
-all-stored s log b is finished i within =
+-- the state of a board that its workers left at the end has every outcome
+pub all-stored : (s : Inputs) (seats : ℕ) (log : BoardLog) (b : BoardState) → LeaveFinished s seats b log → (i : ℕ) → i < count s → has_stored b i ≡ true
+all-stored s seats log b left i within =
     let first : 0 + i ≡ i = omega arith in
-    ap (λ (x : BoardState). has_stored x i) is
+    ap (λ (x : BoardState). has_stored x i) left.state
     ∙ stored-is s log i within
     ∙ subst (λ (k : ℕ). is_stored log k ≡ true) (get_or-range_with_len 0 (count s) i 0 within ∙ first)
-    (AllPass-from_list_all (is_stored log) (places s) finished i 0 (omega (arith, within, length-range_with_len 0 (count s))))
+    (AllPass-from_list_all (is_stored log) (places s) (ends-finished s log left.legal left.ended) i 0 (omega (arith, within, length-range_with_len 0 (count s))))
 
--- The workers of a board, new and after their work: once it is closed the board is that of the run's inputs, and has every
--- outcome.
-pub holds-all : (s : Inputs) (board : TurnId Inputs) (old new : List Worker) (seats : ℕ) (log : BoardLog) (b : BoardState) → board.about.object ≡ s → board.about.seats ≡ seats → 1 ≤ seats → length old ≡ seats
+-- what the workers of a new board leave after their work
+pub leave-finished : (s : Inputs) (board : TurnId Inputs) (old new : List Worker) (seats : ℕ) (log : BoardLog) (b : BoardState) → board.about.object ≡ s → board.about.seats ≡ seats → 1 ≤ seats → length old ≡ seats
     → ((k : ℕ) → k < seats → slice_get old k ≡ Some (newcomer board (k + 1))) → HaveWorked board old new → All (λ w. w.mine ≡ entries_by w.number log) new
-    → All (λ e. (1 ≤ e.who) × (e.who ≤ board.about.seats)) log → LeadsTo (Answers board.about.object) (Opens board.about.object) log b → (b.inputs ≡ s) × ((i : ℕ) → i < count s → has_stored b i ≡ true)
-holds-all s board old new seats log b object are some size made worked own from leads =
+    → All (λ e. (1 ≤ e.who) × (e.who ≤ board.about.seats)) log → LeadsTo (Answers board.about.object) (Opens board.about.object) log b → LeaveFinished s seats b log
+leave-finished s board old new seats log b object are some size made worked own from leads =
     let at : LeadsTo (Answers s) (Opens s) log b = subst (λ (x : Inputs). LeadsTo (Answers x) (Opens x) log b) object leads in
-    let left : b ≡ state_of s log = logs-left s log b at in
     let done : All (λ (w : Worker). IsDone s w.number w.mine) new = subst (λ (x : Inputs). All (λ (w : Worker). IsDone x w.number w.mine) new) object worked.done in
-    let within : All (λ (e : BoardEntry). (1 ≤ e.who) × (e.who ≤ seats)) log = subst (λ (n : ℕ). All (λ (e : BoardEntry). (1 ≤ e.who) × (e.who ≤ n)) log) are from in (
-      ap (λ (x : BoardState). x.inputs) left,
-      all-stored s log b left (board-finished s new seats log some (all-numbers board old new seats size made worked) done own within (logs-legal s log (b, at))),
-    )
+    let within : All (λ (e : BoardEntry). (1 ≤ e.who) × (e.who ≤ seats)) log = subst (λ (n : ℕ). All (λ (e : BoardEntry). (1 ≤ e.who) × (e.who ≤ n)) log) are from in
+    let finished : HaveFinished s seats log = have-finished s new seats log (all-numbers board old new seats size made worked) done own within in
+    record {
+      legal = logs-legal s log (b, at);
+      state = logs-left s log b at;
+      workers_are = finished;
+      ended = came-to_end s seats log some finished;
+    }

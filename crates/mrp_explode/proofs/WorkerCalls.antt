@@ -4,9 +4,11 @@ use Rattle.std.specs.Prelude.{IfOk, OnErr, OnOk, find, is_err, if◌then◌else�
 use Rattle.std.proofs.lemmas.List.{append_cancel_right}
 use Rattle.std.proofs.lemmas.List.Elements.{filter-append}
 use Rattle.mrp_turn.specs.Calls.{HasCause, Tells}
-use Rattle.mrp_turn.specs.Log.{entries_by, entry}
+use Rattle.mrp_turn.specs.Lists.{StartsWith}
+use Rattle.mrp_turn.specs.Log.{LeadsTo, entries_by, entry}
 use Rattle.mrp_turn.specs.declared.turn.CallFault.{CallFault}
 use Rattle.mrp_turn.specs.declared.turn.CallFault.TheVariants as fault
+use Rattle.mrp_turn.specs.declared.views.About.{About}
 use Rattle.mrp_item.specs.Inputs.{Inputs, places}
 use Rattle.mrp_item.specs.Places.{ItemOf}
 use Rattle.mrp_board.specs.declared.call.BoardCall.{BoardCall}
@@ -16,20 +18,24 @@ use Rattle.mrp_board.specs.declared.reply.BoardReply.TheVariants as reply
 use Rattle.mrp_board.specs.declared.refused.BoardRefused.{BoardRefused}
 use Rattle.mrp_board.specs.declared.refused.BoardRefused.TheVariants as refused
 use Rattle.mrp_board.specs.Board.{BoardEntry, BoardLog, IsLegalBoard, board_reply, handed, is_at_end, is_ready}
-use Rattle.mrp_board.specs.BoardState.{BoardState}
-use Rattle.mrp_board.specs.Object.{Answers, IsOutOfMemory, Opens, Refuses}
+use Rattle.mrp_board.specs.BoardState.{BoardState, board_reply_in}
+use Rattle.mrp_board.specs.Object.{Answers, IsOutOfMemory, Opens, Refuses, TakesMemory}
 use Rattle.mrp_board.specs.Orderly.{IsCourse, finish_of, finished_by}
-use Rattle.mrp_board.proofs.BoardStates.{new-out}
+use Rattle.mrp_board.proofs.BoardStates.{new-out, reply-is as legal-reply}
 use Rattle.mrp_board.proofs.HandsOn.{hands-on}
-use Rattle.mrp_board.proofs.LegalLogs.{logs-legal}
+use Rattle.mrp_board.proofs.LegalLogs.{logs-left, logs-legal}
 use Rattle.mrp_board.proofs.Tests.{no, same-number}
-use Rattle.mrp_explode.specs.Work.{Asks, HasGivenUp, Holds, HoldsNone, IsAtWork, IsDone}
+use Rattle.mrp_explode.specs.Work.{Asks, GivesUp, HasGivenUp, Holds, HoldsNone, IsDone, IsRefused}
 use Rattle.mrp_explode.proofs.HandedOnce.{finish-stored}
 
 -- what holds of a refusal
-pub on-err : {T E : Type 0} (r : Result T E) (P : Type 0) → is_err r ≡ true → OnErr r P → P
+on-err : {T E : Type 0} (r : Result T E) (P : Type 0) → is_err r ≡ true → OnErr r P → P
 on-err (Ok x) P is p = no is
 on-err (Err e) P is p = p
+
+pub with-err : {T E : Type 0} (r : Result T E) (P : Type 0) → P → OnErr r P
+with-err (Ok x) P p = tt
+with-err (Err e) P p = p
 
 -- an answered call is the last entry that the worker has seen, and its own last one
 record IsAnswered (s : Inputs) (who : ℕ) (c : BoardCall) (r : BoardReply) (mine seen' mine' : BoardLog) : Type 0 where
@@ -72,10 +78,10 @@ module _ (s : Inputs) (who : ℕ) where
   take-replies log false None r e = absurd (let n : None ≡ Some r = e in cc)
   take-replies log false (Some i) r e = inr (i, let n : Some (handed s log i) ≡ Some r = e in cc)
 
-  asked : (r : BoardReply) (mine seen' mine' : BoardLog) → IsAnswered s who call.Take r mine seen' mine' → Asks s who mine (Some r) mine'
+  asked : (r : BoardReply) (mine seen' mine' : BoardLog) → IsAnswered s who call.Take r mine seen' mine' → Asks s who mine (Some r) seen' mine'
   asked r mine seen' mine' a = by r a (take-replies a.before (is_at_end s a.before) (find (is_ready s a.before) (places s)) r (reply-is call.Take r mine seen' mine' a))
     where
-      by : (r : BoardReply) (a : IsAnswered s who call.Take r mine seen' mine') → (r ≡ reply.AllOut) ⊎ ((i : ℕ) × (r ≡ handed s a.before i)) → Asks s who mine (Some r) mine'
+      by : (r : BoardReply) (a : IsAnswered s who call.Take r mine seen' mine') → (r ≡ reply.AllOut) ⊎ ((i : ℕ) × (r ≡ handed s a.before i)) → Asks s who mine (Some r) seen' mine'
       by reply.AllOut a is = a.added
       by (reply.Item item parents) a is = (
         a.added,
@@ -90,9 +96,35 @@ module _ (s : Inputs) (who : ℕ) where
       by reply.Stopped a (inr (i, e)) = cc
 
   pub asks-told : (room : ℕ) (seen mine : BoardLog) (result : Result (ℕ × BoardReply) (CallFault BoardRefused)) (seen' mine' : BoardLog) → Told room call.Take seen mine result seen' mine'
-      → IfOk result (λ r. Asks s who mine (Some r.1) mine')
+      → IfOk result (λ r. Asks s who mine (Some r.1) seen' mine')
   asks-told room seen mine (Ok (n, r)) seen' mine' t = asked r mine seen' mine' (answered room call.Take seen mine n r seen' mine' t)
   asks-told room seen mine (Err f) seen' mine' t = tt
+
+  -- why it is refused, after what it has seen
+  abbrev pub IsRefusedItem : ℕ → BoardLog → CallFault BoardRefused → Type 0
+  IsRefusedItem room seen' fault.NoMemory = room ≤ length seen'
+  IsRefusedItem room seen' (fault.Refused refused.NotYet) = board_reply s seen' who call.Take ≡ None
+  IsRefusedItem room seen' (fault.Refused refused.NoMemory) = TakesMemory (board_reply s seen' who call.Take)
+
+  state-reply : (seen' : BoardLog) (b : BoardState) → IsLegalBoard s seen' → LeadsTo (Answers s) (Opens s) seen' b → board_reply s seen' who call.Take ≡ board_reply_in b who call.Take
+  state-reply seen' b legal leads = legal-reply s seen' legal who call.Take ∙ ap (λ (x : BoardState). board_reply_in x who call.Take) (sym (logs-left s seen' b leads))
+
+  cause-told : (room : ℕ) (seen' : BoardLog) (f : CallFault BoardRefused) → IsLegalBoard s seen' → HasCause (Opens s) (Answers s) Refuses IsOutOfMemory room who call.Take seen' f → IsRefusedItem room seen' f
+  cause-told room seen' fault.NoMemory legal full = full
+  cause-told room seen' (fault.Refused refused.NotYet) legal (b, leads, inl never) = absurd never
+  cause-told room seen' (fault.Refused refused.NotYet) legal (b, leads, inr waits) = state-reply seen' b legal leads ∙ waits
+  cause-told room seen' (fault.Refused refused.NoMemory) legal (b, leads, inl takes) = subst TakesMemory (sym (state-reply seen' b legal leads)) takes
+  cause-told room seen' (fault.Refused refused.NoMemory) legal (b, leads, inr never) = absurd never
+
+  pub unchanged-told : (room : ℕ) (seen mine : BoardLog) (result : Result (ℕ × BoardReply) (CallFault BoardRefused)) (f : CallFault BoardRefused) (seen' mine' : BoardLog) → result ≡ Err f
+      → Told room call.Take seen mine result seen' mine' → mine' ≡ mine
+  unchanged-told room seen mine result f seen' mine' is t = subst (λ (r : Result (ℕ × BoardReply) (CallFault BoardRefused)). OnErr r (mine' ≡ mine)) is t.unchanged
+
+  pub refused-told : (room : ℕ) (seen mine : BoardLog) (result : Result (ℕ × BoardReply) (CallFault BoardRefused)) (f : CallFault BoardRefused) (seen' mine' : BoardLog) → result ≡ Err f
+      → Told room call.Take seen mine result seen' mine' → IsRefusedItem room seen' f
+  refused-told room seen mine result f seen' mine' is t =
+      let told : Told room call.Take seen mine (Err f) seen' mine' = subst (λ (r : Result (ℕ × BoardReply) (CallFault BoardRefused)). Told room call.Take seen mine r seen' mine') is t in
+      cause-told room seen' f (logs-legal s seen' told.legal) told.cause
 
   -- It finishes the item that it holds.
 
@@ -131,56 +163,41 @@ module _ (s : Inputs) (who : ℕ) where
   log-full room seen' fault.NoMemory full = full
   log-full room seen' (fault.Refused e) (b, leads, cause) = absurd (stops b e cause)
 
-  given-up : (r : BoardReply) (mine seen' mine' : BoardLog) → IsAtWork s who mine → IsAnswered s who call.GiveUp r mine seen' mine' → HasGivenUp s who mine'
-  given-up r mine seen' mine' at_work a =
+  given-up : (r : BoardReply) (mine seen' mine' : BoardLog) → IsAnswered s who call.GiveUp r mine seen' mine' → mine' ≡ mine ++ entry who call.GiveUp reply.Stopped ∷ []
+  given-up r mine seen' mine' a =
       let is : Some reply.Stopped ≡ Some r = reply-is call.GiveUp r mine seen' mine' a in
       let told : reply.Stopped ≡ r = cc in
-      (mine, at_work, a.added ∙ ap (λ (x : BoardReply). mine ++ entry who call.GiveUp x ∷ []) (sym told))
+      a.added ∙ ap (λ (x : BoardReply). mine ++ entry who call.GiveUp x ∷ []) (sym told)
 
-  pub gives-up-told : (room : ℕ) (seen mine : BoardLog) (result : Result (ℕ × BoardReply) (CallFault BoardRefused)) (seen' mine' : BoardLog) → IsAtWork s who mine
-      → Told room call.GiveUp seen mine result seen' mine' → HasGivenUp s who mine' ⊎ ((mine' ≡ mine) × (room ≤ length seen'))
-  gives-up-told room seen mine (Ok (n, r)) seen' mine' at_work t = inl (given-up r mine seen' mine' at_work (answered room call.GiveUp seen mine n r seen' mine' t))
-  gives-up-told room seen mine (Err f) seen' mine' at_work t = inr (t.unchanged, log-full room seen' f t.cause)
+  pub gives-up-told : (room : ℕ) (seen mine : BoardLog) (result : Result (ℕ × BoardReply) (CallFault BoardRefused)) (seen' mine' : BoardLog) → Told room call.GiveUp seen mine result seen' mine'
+      → (mine' ≡ mine ++ entry who call.GiveUp reply.Stopped ∷ []) ⊎ ((mine' ≡ mine) × (room ≤ length seen'))
+  gives-up-told room seen mine (Ok (n, r)) seen' mine' t = inl (given-up r mine seen' mine' (answered room call.GiveUp seen mine n r seen' mine' t))
+  gives-up-told room seen mine (Err f) seen' mine' t = inr (t.unchanged, log-full room seen' f t.cause)
 
   -- Each of these is a course.
 
-  course-at_work : (mine : BoardLog) → IsAtWork s who mine → IsCourse s who mine
-  course-at_work mine (inl (items, is)) = record {
+  abbrev stop : BoardLog
+  stop = entry who call.GiveUp reply.Stopped ∷ []
+
+  -- it holds none, and gives up or leaves off
+  course-none : (items : List (ℕ × List ItemOf)) (mine left : BoardLog) → finished_by s who items ++ stop ≡ mine ++ left → IsCourse s who mine
+  course-none items mine left is = record { items = items; last = stop; left = left; ends = inr (inl refl); prefix = is }
+
+  -- it holds an item, and gives up or leaves off
+  course-held : (items : List (ℕ × List ItemOf)) (item : ℕ) (parents : List ItemOf) (mine left : BoardLog)
+      → (finished_by s who items ++ entry who call.Take (reply.Item item parents) ∷ []) ++ stop ≡ mine ++ left → IsCourse s who mine
+  course-held items item parents mine left is = record {
     items = items;
-    last = entry who call.GiveUp reply.Stopped ∷ [];
-    left = entry who call.GiveUp reply.Stopped ∷ [];
-    ends = inr (inl refl);
-    prefix = ap (λ (l : BoardLog). l ++ entry who call.GiveUp reply.Stopped ∷ []) (sym is);
-  }
-  course-at_work mine (inr (item, (items, parents, is))) = record {
-    items = items;
-    last = entry who call.Take (reply.Item item parents) ∷ entry who call.GiveUp reply.Stopped ∷ [];
-    left = entry who call.GiveUp reply.Stopped ∷ [];
+    last = entry who call.Take (reply.Item item parents) ∷ stop;
+    left = left;
     ends = inr (inr (item, parents, refl));
-    prefix =
-        sym (append_assoc (finished_by s who items) (entry who call.Take (reply.Item item parents) ∷ []) (entry who call.GiveUp reply.Stopped ∷ []))
-        ∙ ap (λ (l : BoardLog). l ++ entry who call.GiveUp reply.Stopped ∷ []) (sym is);
+    prefix = sym (append_assoc (finished_by s who items) (entry who call.Take (reply.Item item parents) ∷ []) stop) ∙ is;
   }
 
-  course-given_up : (mine : BoardLog) → HasGivenUp s who mine → IsCourse s who mine
-  course-given_up mine (before, inl (items, is), ends) = record {
-    items = items;
-    last = entry who call.GiveUp reply.Stopped ∷ [];
-    left = [];
-    ends = inr (inl refl);
-    prefix = ap (λ (l : BoardLog). l ++ entry who call.GiveUp reply.Stopped ∷ []) (sym is) ∙ sym ends ∙ sym (append-nil mine);
-  }
-  course-given_up mine (before, inr (item, (items, parents, is)), ends) = record {
-    items = items;
-    last = entry who call.Take (reply.Item item parents) ∷ entry who call.GiveUp reply.Stopped ∷ [];
-    left = [];
-    ends = inr (inr (item, parents, refl));
-    prefix =
-        sym (append_assoc (finished_by s who items) (entry who call.Take (reply.Item item parents) ∷ []) (entry who call.GiveUp reply.Stopped ∷ []))
-        ∙ ap (λ (l : BoardLog). l ++ entry who call.GiveUp reply.Stopped ∷ []) (sym is)
-        ∙ sym ends
-        ∙ sym (append-nil mine);
-  }
+  -- what it did before it gave up, and what is left of that
+  given-or-left : (did mine : BoardLog) → (mine ≡ did ++ stop) ⊎ (mine ≡ did) → (left : BoardLog) × (did ++ stop ≡ mine ++ left)
+  given-or-left did mine (inl given) = ([], sym given ∙ sym (append-nil mine))
+  given-or-left did mine (inr same) = (stop, ap (λ (l : BoardLog). l ++ stop) (sym same))
 
   pub course-done : (mine : BoardLog) → IsDone s who mine → IsCourse s who mine
   course-done mine (items, is) = record {
@@ -191,7 +208,27 @@ module _ (s : Inputs) (who : ℕ) where
     prefix = sym is ∙ sym (append-nil mine);
   }
 
-  -- it left off in giving up
-  pub course-left : (room : ℕ) (mine seen' mine' : BoardLog) → IsAtWork s who mine → HasGivenUp s who mine' ⊎ ((mine' ≡ mine) × (room ≤ length seen')) → IsCourse s who mine'
-  course-left room mine seen' mine' at_work (inl given) = course-given_up mine' given
-  course-left room mine seen' mine' at_work (inr (same, full)) = course-at_work mine' (subst (IsAtWork s who) (sym same) at_work)
+  gave-up : (about : About Inputs) (did seen mine : BoardLog) → GivesUp about who did seen mine → (mine ≡ did ++ stop) ⊎ (mine ≡ did)
+  gave-up about did seen mine (inl given) = inl given
+  gave-up about did seen mine (inr full) = inr full.0
+
+  course-of : (about : About Inputs) (seen did mine : BoardLog) → IsRefused about s who seen did → (mine ≡ did ++ stop) ⊎ (mine ≡ did) → IsCourse s who mine
+  course-of about seen did mine (inl ((items, is), lacks)) ends =
+      let rest = given-or-left did mine ends in course-none items mine rest.0 (ap (λ (l : BoardLog). l ++ stop) (sym is) ∙ rest.1)
+  course-of about seen did mine (inr (item, (items, parents, is))) ends =
+      let rest = given-or-left did mine ends in course-held items item parents mine rest.0 (ap (λ (l : BoardLog). l ++ stop) (sym is) ∙ rest.1)
+
+  -- a worker that was refused memory has given up since
+  pub left-off : (about : About Inputs) {T E : Type 0} (r : Result T E) (saw did seen mine : BoardLog) → is_err r ≡ true → OnErr r (IsRefused about s who saw did) → StartsWith seen saw → GivesUp about who did seen mine
+      → HasGivenUp about s who seen mine
+  left-off about r saw did seen mine failed refused later ends = record {
+    saw = saw;
+    did = did;
+    later = later;
+    refused = on-err r (IsRefused about s who saw did) failed refused;
+    ends = ends;
+  }
+
+  -- and left a course
+  pub course-given_up : (about : About Inputs) (seen mine : BoardLog) → HasGivenUp about s who seen mine → IsCourse s who mine
+  course-given_up about seen mine h = course-of about h.saw h.did mine h.refused (gave-up about h.did seen mine h.ends)

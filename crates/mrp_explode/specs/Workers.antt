@@ -1,8 +1,11 @@
 -- Workers that work at the same time (profile).
-use Rattle.std.specs.Prelude.{ℕ, ◌≡◌, ◌<◌, List, [], All, OnOk, Ok, length, slice_index_or}
+use Rattle.std.specs.Prelude.{ℕ, ◌≡◌, ◌<◌, ◌≤◌, List, [], All, OnOk, Ok, length, slice_index_or}
+use Rattle.mrp_turn.specs.Log.{AreFrom, entries_by}
 use Rattle.mrp_turn.specs.Seen.{TurnId}
 use Rattle.mrp_item.specs.Inputs.{Inputs}
-use Rattle.mrp_board.specs.Orderly.{IsCourse}
+use Rattle.mrp_board.specs.Board.{BoardLog, IsLegalBoard}
+use Rattle.mrp_board.specs.BoardState.{BoardState, state_of}
+use Rattle.mrp_board.specs.Orderly.{IsCourse, WorkedToEnd}
 use Rattle.mrp_explode.specs.declared.workers.Worked.{Worked}
 use Rattle.mrp_explode.specs.Work.{IsDone, Worker}
 
@@ -29,3 +32,15 @@ pub record HaveWorked (board : TurnId Inputs) (old new : List Worker) : Type 0 w
   pub boards : All (λ w. w.turn ≡ board) new
   pub orderly : All (λ w. IsCourse board.about.object w.number w.mine) new
   pub done : All (λ w. IsDone board.about.object w.number w.mine) new
+
+-- so many workers worked to the end: each was told at last that every item is out, and nobody else has an entry
+pub record HaveFinished (s : Inputs) (workers : ℕ) (log : BoardLog) : Type 0 where
+  pub from : AreFrom workers log
+  pub each : (who : ℕ) → 1 ≤ who → who ≤ workers → IsDone s who (entries_by who log)
+
+-- what so many workers leave of their board: a legal log, whose state it is; so it is orderly, and every item is stored
+pub record LeaveFinished (s : Inputs) (workers : ℕ) (b : BoardState) (log : BoardLog) : Type 0 where
+  pub legal : IsLegalBoard s log
+  pub state : b ≡ state_of s log
+  pub workers_are : HaveFinished s workers log
+  pub ended : WorkedToEnd s log

@@ -1,8 +1,6 @@
 //! The items that are planned so far, parents before their components.
 
-ghost use Rattle.std.specs.Prelude.{◌≡◌, ◌≢◌, ◌<◌, ℕ, All, Some, None, IfOk, IfErr, IsSome, OnOk, OnErr, is_some, map, replicate, set};
-ghost use Rattle.std.specs.List.{list_all, slice_index_or};
-ghost use Rattle.mrp_bill.specs.Bill.{parents_of};
+ghost use Rattle.std.specs.Prelude.{◌≡◌, ◌≢◌, ◌<◌, ℕ, All, Some, None, IfOk, IfErr, IsSome, OnOk, OnErr, map, replicate, set};
 ghost use Rattle.mrp_item.specs.Inputs.{count};
 ghost use Rattle.mrp_item.specs.Made.{all_from, item_from, parents_from};
 ghost use Rattle.mrp_explode.specs.Finished.{Finishes, IsFinished, IsReady};
@@ -15,7 +13,7 @@ use std::alloc::Global;
 use std::marker::Model;
 use std::sync::Arc;
 
-/// The outcomes of the items that are planned so far, each at its item's place in the table.
+// The outcomes of the items that are planned so far, each at its item's place in the table.
 #[derive(Drop)]
 pub struct Finished {
     inputs: Arc<Inputs>,
@@ -77,10 +75,10 @@ pub fn out_of_places<M: Drop>(alloc: Global, places: Vec<Option<M>>) -> Result<V
 }
 
 impl Finished {
-    /// The state in which no item is planned yet.
-    ///
-    /// Errors: `NoMemory` if an allocation fails, or a reference count cannot rise.
-    pub fn new(alloc: Global, inputs: &Arc<Inputs>) -> Result<Finished, NoMemory>
+    // The state in which no item is planned yet.
+    //
+    // Errors: `NoMemory` if an allocation fails, or a reference count cannot rise.
+    pub(crate) fn new(alloc: Global, inputs: &Arc<Inputs>) -> Result<Finished, NoMemory>
         ensures inputs { IfOk result (λ f. f.inputs ≡ inputs.now.value) }
         ensures none { IfOk result (λ f. f.outcomes ≡ replicate (count inputs.now.value) None) }
     {
@@ -91,29 +89,6 @@ impl Finished {
             outcomes.push(None)?;
         }
         Ok(Finished { inputs, outcomes })
-    }
-
-    /// What the items are planned from.
-    pub fn inputs(&self) -> &Arc<Inputs>
-        ensures { result.now.value ≡ self.now.inputs }
-    {
-        &self.inputs
-    }
-
-    /// Whether an item is planned.
-    pub fn is_finished(&self, item: usize) -> bool
-        ensures { result ≡ is_some (slice_index_or self.now.outcomes item None) }
-    {
-        matches!(self.outcomes.get(item), Some(Some(_)))
-    }
-
-    /// Whether all parents of an item are planned.
-    pub fn is_ready(&self, item: usize) -> bool
-        requires { item < count self.now.inputs }
-        ensures { result ≡ list_all (λ p. is_some (slice_index_or self.now.outcomes p None)) (parents_of self.now.inputs.tables.bills (count self.now.inputs) item) }
-    {
-        let parents = self.inputs.shop().parents(item);
-        parents.iter().all(|parent| self.is_finished(*parent))
     }
 
     // The outcome of a finished item.
@@ -149,10 +124,10 @@ impl Finished {
         Ok(copies)
     }
 
-    /// The outcome of planning an item whose parents are finished.
-    ///
-    /// Errors: `NoMemory` if an allocation fails, or a reference count cannot rise.
-    pub fn outcome_for(&self, alloc: Global, item: usize) -> Result<Outcome, NoMemory>
+    // The outcome of planning an item whose parents are finished.
+    //
+    // Errors: `NoMemory` if an allocation fails, or a reference count cannot rise.
+    pub(crate) fn outcome_for(&self, alloc: Global, item: usize) -> Result<Outcome, NoMemory>
         requires item { item < count self.now.inputs }
         requires ready { IsReady self.now item }
         ensures { IfOk result (λ o. o ≡ item_from self.now.inputs item) }
@@ -161,9 +136,9 @@ impl Finished {
         plan_item(alloc, &self.inputs, item, &parents)
     }
 
-    /// Puts an outcome in its item's place. The caller guarantees that it was planned from the same
-    /// inputs.
-    pub fn put(&mut self, outcome: Outcome)
+    // Puts an outcome in its item's place. The caller guarantees that it was planned from the same
+    // inputs.
+    pub(crate) fn put(&mut self, outcome: Outcome)
         requires inputs { outcome.inputs ≡ self.old.inputs }
         requires item { outcome.item < count self.old.inputs }
         ensures finishes { Finishes self.old self.new outcome.item }
@@ -173,10 +148,10 @@ impl Finished {
         self.outcomes[item] = Some(outcome);
     }
 
-    /// Plans an item whose parents are finished, and puts the outcome in its place.
-    ///
-    /// Errors: `NoMemory` if an allocation fails, or a reference count cannot rise.
-    pub fn plan(&mut self, alloc: Global, item: usize) -> Result<(), NoMemory>
+    // Plans an item whose parents are finished, and puts the outcome in its place.
+    //
+    // Errors: `NoMemory` if an allocation fails, or a reference count cannot rise.
+    pub(crate) fn plan(&mut self, alloc: Global, item: usize) -> Result<(), NoMemory>
         requires item { item < count self.old.inputs }
         requires ready { IsReady self.old item }
         ensures finishes { OnOk result (Finishes self.old self.new item) }
@@ -188,42 +163,16 @@ impl Finished {
         Ok(())
     }
 
-    // Copies of all items' outcomes, in table order.
-    fn all(&self, alloc: Global) -> Result<Vec<Outcome>, NoMemory>
-        requires { (i : ℕ) → i < count self.now.inputs → IsFinished self.now i }
-        ensures { IfOk result (λ all. all.items ≡ all_from self.now.inputs) }
-    {
-        let count = self.outcomes.len();
-        let mut all = Vec::with_capacity(alloc, count)?;
-        for item in 0..count {
-            all.push(self.copy_of(item)?)?;
-        }
-        Ok(all)
-    }
-
-    /// The plan of all items. The caller guarantees that each is finished. The outcomes are moved into the
-    /// plan, and dropped on an error.
-    ///
-    /// Errors: `NoMemory` if an allocation fails; `TooLarge` with the first item that is over.
-    pub fn into_whole(self, alloc: Global) -> Result<Plan, RunFault>
+    // The plan of all items. The caller guarantees that each is finished. The outcomes are moved into the
+    // plan, and dropped on an error.
+    //
+    // Errors: `NoMemory` if an allocation fails; `TooLarge` with the first item that is over.
+    pub(crate) fn into_whole(self, alloc: Global) -> Result<Plan, RunFault>
         requires { (i : ℕ) → i < count self.inputs → IsFinished self i }
         ensures { Explodes self.inputs result }
     {
         let Finished { inputs, outcomes } = self;
         let all = out_of_places(alloc, outcomes)?;
         plan_from(inputs, all)
-    }
-
-    /// The plan of all items, from copies of their outcomes. The caller guarantees that each is
-    /// finished.
-    ///
-    /// Errors: `NoMemory` if an allocation fails; `TooLarge` with the first item that is over.
-    pub fn whole(&self, alloc: Global) -> Result<Plan, RunFault>
-        requires { (i : ℕ) → i < count self.now.inputs → IsFinished self.now i }
-        ensures { Explodes self.now.inputs result }
-    {
-        let outcomes = self.all(alloc)?;
-        let inputs = share(&self.inputs)?;
-        plan_from(inputs, outcomes)
     }
 }

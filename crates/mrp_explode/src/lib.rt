@@ -12,9 +12,9 @@ mod workers;
 mod working;
 
 pub use fault::RunFault;
-pub use finished::{Finished, out_of_places};
+pub use finished::out_of_places;
 pub use gate::{Gate, OpenGate};
 pub use levels::explode_levels;
 pub use serial::explode_serial;
-pub use workers::{MOST_WORKERS, explode};
+pub use workers::{MOST_WORKERS, explode, work_together};
 pub use working::{Worker, work};

@@ -1,21 +1,21 @@
 //! Explosion by workers, each in a thread of its own if one can be started.
 
-ghost use Rattle.std.specs.Prelude.{◌≡◌, ◌<◌, ◌≤◌, ◌+◌, ℕ, true, All, IfOk, Some, length, map, slice_get, slice_index_or, vec_len};
+ghost use Rattle.std.specs.Prelude.{◌≡◌, ◌<◌, ◌≤◌, ◌+◌, ◌*◌, ℕ, true, All, IfOk, Some, length, map, slice_get, slice_index_or, vec_len};
 ghost use Rattle.std.specs.Int.{IsInRange};
 ghost use Rattle.mrp_turn.specs.Seen.{newcomer};
 ghost use Rattle.mrp_item.specs.Inputs.{count};
 ghost use Rattle.mrp_board.specs.BoardState.{has_stored};
 ghost use Rattle.mrp_explode.specs.Explosion.{Explodes};
-ghost use Rattle.mrp_explode.specs.Workers.{HasWorked, HaveWorked, IsNew, done_by};
+ghost use Rattle.mrp_explode.specs.Workers.{HasWorked, HaveWorked, IsNew, LeaveFinished, done_by};
 
 use crate::fault::RunFault;
 use crate::finished::{out_of_places, plan_from, share};
 use crate::gate::Gate;
 use crate::working::{Worker, work};
-use mrp_board::{Board, BoardState};
+use mrp_board::{Board, BoardCall, BoardReply, BoardState};
 use mrp_item::{Inputs, Plan};
 use mrp_qty::NoMemory;
-use mrp_turn::{MOST_SEATS, Turn};
+use mrp_turn::{Log, MOST_SEATS, Turn};
 use std::alloc::{AllocError, Global};
 use std::sync::{Arc, Wait};
 use std::thread;
@@ -116,6 +116,7 @@ fn open(
     requires { IsInRange 1 MOST_WORKERS workers }
     ensures board { IfOk result (λ r. r.0.about.object ≡ inputs.now.value) }
     ensures seats { IfOk result (λ r. r.0.about.seats ≡ workers) }
+    ensures room { IfOk result (λ r. r.0.about.room ≡ 2 * count inputs.now.value + ROOM_OF_ENDS) }
     ensures count { IfOk result (λ r. length r.1.items ≡ workers) }
     ensures workers { IfOk result (λ r. (k : ℕ) → k < workers → slice_get r.1.items k ≡ Some (newcomer r.0 (k + 1))) }
 {
@@ -125,6 +126,27 @@ fn open(
         Ok(opened) => Ok(opened),
         Err(_) => Err(NoMemory),
     }
+}
+
+/// Has so many workers (1 to 64, as the caller guarantees) plan all items of these inputs at one board. Returns
+/// the board's state and log once each worker was told that every item is out. The calling thread is one of
+/// them; each of the others has a thread of its own if one can be started, otherwise it works here, after those
+/// that have. Each passes the gate before it plans an item. It may wait.
+///
+/// Errors: `NoMemory` if an allocation fails.
+pub fn work_together<R: Threads + Wait + Sync, G: Gate + Sync>(
+    rt: &R,
+    alloc: Global,
+    inputs: &Arc<Inputs>,
+    workers: usize,
+    gate: &G,
+) -> Result<(BoardState, Log<BoardCall, BoardReply>), NoMemory>
+    requires { IsInRange 1 MOST_WORKERS workers }
+    ensures { IfOk result (λ r. LeaveFinished inputs.now.value workers r.0 r.1) }
+{
+    let (board, hired) = open(alloc, inputs, workers)?;
+    let worked = put_to_work(rt, alloc, &board, inputs, gate, hired)?;
+    Ok(board.close(worked))
 }
 
 // The plan of the outcomes that a board holds, each of which is stored.
@@ -137,10 +159,8 @@ fn plan_of(alloc: Global, inputs: &Arc<Inputs>, board: BoardState) -> Result<Pla
     plan_from(share(inputs)?, all)
 }
 
-/// The plan of these inputs: every item is planned, by so many workers (1 to 64, as the caller guarantees) that
-/// share the board of the run. The calling thread is one of them; each of the others has a thread of its own if
-/// one can be started, otherwise it works here, after those that have. Each worker passes the gate before it
-/// plans an item. It is the plan that `explode_serial` gives. It may wait.
+/// The plan of these inputs: every item is planned, by so many workers (1 to 64, as the caller guarantees), like
+/// [`work_together`]. It is the plan that `explode_serial` gives. It may wait.
 ///
 /// Errors: `NoMemory` if an allocation fails; otherwise `TooLarge` with the first item in table
 /// order whose quantities get too large while those of no item above it do (profile).
@@ -154,9 +174,7 @@ pub fn explode<R: Threads + Wait + Sync, G: Gate + Sync>(
     requires { IsInRange 1 MOST_WORKERS workers }
     ensures { Explodes inputs.now.value result }
 {
-    let (board, hired) = open(alloc, inputs, workers)?;
-    let worked = put_to_work(rt, alloc, &board, inputs, gate, hired)?;
-    let (state, log) = board.close(worked);
+    let (board, log) = work_together(rt, alloc, inputs, workers, gate)?;
     drop(log);
-    plan_of(alloc, inputs, state)
+    plan_of(alloc, inputs, board)
 }

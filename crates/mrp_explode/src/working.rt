@@ -1,11 +1,12 @@
 //! A worker at the board of a run: it takes items, plans them and stores their outcomes.
 
-ghost use Rattle.std.specs.Prelude.{◌≡◌, ◌<◌, ◌≤◌, ◌⊎◌, ◌++◌, ◌∷◌, [], IfOk, OnErr, OnOk, length};
+ghost use Rattle.std.specs.Prelude.{◌≡◌, ◌<◌, [], IfOk, OnErr, OnOk};
+ghost use Rattle.mrp_turn.specs.Lists.{StartsWith};
 ghost use Rattle.mrp_item.specs.Inputs.{count};
 ghost use Rattle.mrp_item.specs.Made.{item_from, parents_from};
 ghost use Rattle.mrp_board.specs.Board.{FitsInputs};
 ghost use Rattle.mrp_board.specs.Orderly.{IsCourse};
-ghost use Rattle.mrp_explode.specs.Work.{Asks, GivesUp, HasGivenUp, Holds, HoldsNone, IsAfter, IsAtWork, IsDone, IsTold, Takes};
+ghost use Rattle.mrp_explode.specs.Work.{Asks, GivesUp, HasGivenUp, Holds, HoldsNone, IsAfter, IsDone, IsRefused, IsTold, LacksMemory, Sees, Takes};
 
 use crate::gate::Gate;
 use crate::levels::make_room;
@@ -38,6 +39,8 @@ fn call<R: Wait>(
     requires turn { seat.old.turn ≡ board.now }
     requires call { FitsInputs board.now.about.object asked }
     ensures same { (seat.new.turn ≡ seat.old.turn) × (seat.new.number ≡ seat.old.number) }
+    ensures goes_on { StartsWith seat.new.seen seat.old.seen }
+    ensures sees { Sees board.now.about.object seat.new }
     ensures told { IsTold board.now.about asked seat.old result seat.new }
 {
     board.object().line_up(rt);
@@ -54,13 +57,17 @@ fn ask<R: Wait>(
 ) -> Result<Option<BoardReply>, NoMemory>
     requires board { worker.old.turn ≡ board.now }
     ensures same { (worker.new.turn ≡ worker.old.turn) × (worker.new.number ≡ worker.old.number) }
-    ensures asked { IfOk result (λ reply. Asks board.now.about.object worker.old.number worker.old.mine reply worker.new.mine) }
+    ensures goes_on { StartsWith worker.new.seen worker.old.seen }
+    ensures sees { Sees board.now.about.object worker.new }
+    ensures asked { IfOk result (λ reply. Asks board.now.about.object worker.old.number worker.old.mine reply worker.new.seen worker.new.mine) }
     ensures refused { OnErr result (worker.new.mine ≡ worker.old.mine) }
+    ensures memory { OnErr result (LacksMemory board.now.about worker.old.number worker.new.seen) }
 {
     match call(rt, board, worker, BoardCall::Take) {
         Ok((_, reply)) => Ok(Some(reply)),
         Err(CallFault::Refused(BoardRefused::NotYet)) => Ok(None),
-        Err(_) => Err(NoMemory),
+        Err(CallFault::Refused(BoardRefused::NoMemory)) => Err(NoMemory),
+        Err(CallFault::NoMemory) => Err(NoMemory),
     }
 }
 
@@ -68,8 +75,11 @@ fn ask<R: Wait>(
 fn take<R: Wait>(rt: &R, board: &Turn<Board>, worker: &mut Worker) -> Result<Option<Task>, NoMemory>
     requires board { worker.old.turn ≡ board.now }
     ensures same { (worker.new.turn ≡ worker.old.turn) × (worker.new.number ≡ worker.old.number) }
+    ensures goes_on { StartsWith worker.new.seen worker.old.seen }
+    ensures sees { Sees board.now.about.object worker.new }
     ensures taken { IfOk result (λ task. Takes board.now.about.object worker.old.number worker.old.mine task worker.new.mine) }
     ensures refused { OnErr result (worker.new.mine ≡ worker.old.mine) }
+    ensures memory { OnErr result (LacksMemory board.now.about worker.old.number worker.new.seen) }
 {
     let mut pauses = Pauses::new();
     for _ in rt.forever() {
@@ -111,6 +121,8 @@ fn store<R: Wait>(
     requires inputs { outcome.inputs ≡ board.now.about.object }
     requires holds { Holds board.now.about.object worker.old.number outcome.item worker.old.mine }
     ensures same { (worker.new.turn ≡ worker.old.turn) × (worker.new.number ≡ worker.old.number) }
+    ensures goes_on { StartsWith worker.new.seen worker.old.seen }
+    ensures sees { Sees board.now.about.object worker.new }
     ensures stored { OnOk result (HoldsNone board.now.about.object worker.old.number worker.new.mine) }
     ensures refused { OnErr result (worker.new.mine ≡ worker.old.mine) }
 {
@@ -133,8 +145,10 @@ fn work_once<R: Wait, G: Gate>(
     requires inputs { board.now.about.object ≡ inputs.now.value }
     requires holds { HoldsNone inputs.now.value worker.old.number worker.old.mine }
     ensures same { (worker.new.turn ≡ worker.old.turn) × (worker.new.number ≡ worker.old.number) }
+    ensures goes_on { StartsWith worker.new.seen worker.old.seen }
+    ensures sees { Sees board.now.about.object worker.new }
     ensures worked { IfOk result (λ more. IsAfter inputs.now.value worker.old.number more worker.new.mine) }
-    ensures refused { OnErr result (IsAtWork inputs.now.value worker.old.number worker.new.mine) }
+    ensures refused { OnErr result (IsRefused board.now.about inputs.now.value worker.old.number worker.new.seen worker.new.mine) }
 {
     let Some(task) = take(rt, board, worker)? else {
         return Ok(false);
@@ -157,8 +171,10 @@ fn work_on<R: Wait, G: Gate>(
     requires inputs { board.now.about.object ≡ inputs.now.value }
     requires holds { HoldsNone inputs.now.value worker.old.number worker.old.mine }
     ensures same { (worker.new.turn ≡ worker.old.turn) × (worker.new.number ≡ worker.old.number) }
+    ensures goes_on { StartsWith worker.new.seen worker.old.seen }
+    ensures sees { Sees board.now.about.object worker.new }
     ensures done { OnOk result (IsDone inputs.now.value worker.old.number worker.new.mine) }
-    ensures refused { OnErr result (IsAtWork inputs.now.value worker.old.number worker.new.mine) }
+    ensures refused { OnErr result (IsRefused board.now.about inputs.now.value worker.old.number worker.new.seen worker.new.mine) }
 {
     for _ in rt.forever() {
         if !work_once(rt, alloc, board, worker, inputs, gate)? {
@@ -171,8 +187,9 @@ fn work_on<R: Wait, G: Gate>(
 // Stops the run, if there is memory for the entry.
 fn give_up<R: Wait>(rt: &R, board: &Turn<Board>, worker: &mut Worker)
     requires board { worker.old.turn ≡ board.now }
-    requires work { IsAtWork board.now.about.object worker.old.number worker.old.mine }
     ensures same { (worker.new.turn ≡ worker.old.turn) × (worker.new.number ≡ worker.old.number) }
+    ensures goes_on { StartsWith worker.new.seen worker.old.seen }
+    ensures sees { Sees board.now.about.object worker.new }
     ensures given_up { GivesUp board.now.about worker.old.number worker.old.mine worker.new.seen worker.new.mine }
 {
     let _ = call(rt, board, worker, BoardCall::GiveUp);
@@ -197,10 +214,15 @@ pub fn work<R: Wait, G: Gate>(
     requires inputs { board.now.about.object ≡ inputs.now.value }
     requires new { worker.old.mine ≡ [] }
     ensures same { (worker.new.turn ≡ worker.old.turn) × (worker.new.number ≡ worker.old.number) }
+    // What it has then seen is a legal log that continues what it had seen, and its own entries are those of the log.
+    ensures goes_on { StartsWith worker.new.seen worker.old.seen }
+    ensures sees { Sees board.now.about.object worker.new }
     // It takes an item and finishes it, again and again, until it is told that all are out or gives up.
     ensures orderly { IsCourse inputs.now.value worker.old.number worker.new.mine }
     ensures done { OnOk result (IsDone inputs.now.value worker.old.number worker.new.mine) }
-    ensures given_up { OnErr result (HasGivenUp inputs.now.value worker.old.number worker.new.mine ⊎ (board.now.about.room ≤ length worker.new.seen)) }
+    // It is refused memory with an item in hand, or where one is there for it or the log is full; never because no
+    // item is ready yet.
+    ensures given_up { OnErr result (HasGivenUp board.now.about inputs.now.value worker.old.number worker.new.seen worker.new.mine) }
 {
     let worked = work_on(rt, alloc, board, worker, inputs, gate);
     if worked.is_err() {

@@ -1,4 +1,5 @@
-//! Workers at the board of a run: the order in which one works, and that several plan at the same time.
+//! Workers at the board of a run: the order in which one works, what several leave, and that they plan at the same
+//! time.
 
 ghost use Rattle.std.specs.Prelude.{◌≡◌};
 ghost use Rattle.std.specs.Int.{IsInRange};
@@ -8,15 +9,16 @@ ghost use Rattle.mrp_explode.specs.declared.workers.TheConstants.{MOST_WORKERS};
 use super::boards::{Hears, heard};
 use super::{made, same};
 use mrp_board::{Board, BoardCall, BoardReply};
-use mrp_explode::{Gate, OpenGate, Worker, explode, work};
+use mrp_explode::{Gate, OpenGate, Worker, explode, work, work_together};
 use mrp_item::Inputs;
 use mrp_turn::{Log, Turn};
-use sample_shops::{Records, bicycles, no_records};
+use sample_shops::{Records, bicycles, bicycles_in_lots, morning, no_records};
 use std::alloc::Global;
 use std::process::Abort;
 use std::sync::atomic::{AtomicU64, Ordering};
 use std::sync::{Arc, Wait};
 use std::thread::{Threads, yield_now};
+use std::time::Duration;
 
 // A new board under a lock, and its only worker.
 fn one_worker(rt: &impl Abort, alloc: Global, inputs: &Arc<Inputs>) -> (Turn<Board>, Worker)
@@ -140,4 +142,115 @@ fn all_come<R: Alloc + Abort + Threads + Wait + Sync>(
 fn workers_plan_at_the_same_time(rt: HostRuntime) {
     all_come(&rt, rt.alloc(), TWO, 2);
     all_come(&rt, rt.alloc(), EIGHT, 8);
+}
+
+// A gate that counts how often items pass it: the first in units, the second in thousands, the third in millions.
+#[derive(Drop)]
+struct Counts {
+    passed: AtomicU64,
+}
+
+impl Gate for Counts {
+    fn pass<R: Wait>(&self, _rt: &R, item: usize) {
+        let unit = match item {
+            0 => 1,
+            1 => 1_000,
+            2 => 1_000_000,
+            _ => 1_000_000_000,
+        };
+        let _before = self.passed.fetch_add(unit, Ordering::SeqCst);
+    }
+}
+
+// Fails unless each of three items passes the gate once, by so many workers.
+fn pass_once<R: Alloc + Abort + Threads + Wait + Sync>(
+    rt: &R,
+    alloc: Global,
+    inputs: &Arc<Inputs>,
+    workers: usize,
+)
+    requires { IsInRange 1 MOST_WORKERS workers }
+{
+    let gate = Counts {
+        passed: AtomicU64::new(0),
+    };
+    let plan = explode(rt, alloc, inputs, workers, &gate).expect(rt, "a plan");
+    same(rt, gate.passed.load(Ordering::SeqCst), 1_001_001);
+    drop(plan);
+}
+
+#[test]
+fn each_item_passes_the_gate_once(rt: HostRuntime) {
+    let inputs = made(&rt, bicycles_in_lots().inputs(rt.alloc(), morning()));
+    pass_once(&rt, rt.alloc(), &inputs, 1);
+    pass_once(&rt, rt.alloc(), &inputs, 2);
+    pass_once(&rt, rt.alloc(), &inputs, 8);
+    drop(inputs);
+}
+
+// Fails unless so many workers leave a log of so many entries, and an outcome of each of three items.
+fn leave<R: Alloc + Abort + Threads + Wait + Sync>(
+    rt: &R,
+    alloc: Global,
+    inputs: &Arc<Inputs>,
+    workers: usize,
+    entries: usize,
+)
+    requires { IsInRange 1 MOST_WORKERS workers }
+{
+    let (board, log) = work_together(rt, alloc, inputs, workers, &OpenGate).expect(rt, "memory");
+    same(rt, log.len(), entries);
+    for item in 0..3 {
+        same(rt, board.outcome(item).is_some(), true);
+    }
+    drop((board, log));
+}
+
+// Each of three items is taken and finished, and each worker is told the end.
+#[test]
+fn each_worker_works_to_the_end(rt: HostRuntime) {
+    let inputs = made(&rt, bicycles().inputs(rt.alloc(), &[]));
+    leave(&rt, rt.alloc(), &inputs, 1, 7);
+    leave(&rt, rt.alloc(), &inputs, 2, 8);
+    leave(&rt, rt.alloc(), &inputs, 8, 14);
+    drop(inputs);
+}
+
+// How many microseconds the first item is held, far more than another worker takes to ask for one.
+const HELD: u64 = 50_000;
+
+// A gate that holds the first item for a while, so that no item is ready for another worker, and then both of its
+// components until both have come.
+#[derive(Drop)]
+struct Later {
+    held: AtomicU64,
+    components: AllCome,
+}
+
+impl Gate for Later {
+    fn pass<R: Wait>(&self, rt: &R, item: usize) {
+        if item == 0 {
+            self.held
+                .park_timeout(rt, 0, Duration::from_micros(HELD));
+        } else {
+            self.components.pass(rt, item);
+        }
+    }
+}
+
+#[test]
+fn a_worker_that_finds_no_item_ready_comes_again(rt: HostRuntime) {
+    let inputs = made(&rt, bicycles().inputs(rt.alloc(), &[]));
+    let gate = Later {
+        held: AtomicU64::new(0),
+        components: AllCome {
+            count: 2,
+            came: AtomicU64::new(0),
+            given_up: AtomicU64::new(0),
+        },
+    };
+    let plan = explode(&rt, rt.alloc(), &inputs, 2, &gate).expect(&rt, "a plan");
+    same(&rt, gate.components.came.load(Ordering::SeqCst), 2);
+    same(&rt, gate.components.given_up.load(Ordering::SeqCst), 0);
+    drop((inputs, plan));
 }

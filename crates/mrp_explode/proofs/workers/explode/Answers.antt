@@ -1,28 +1,10 @@
-use Rattle.std.proofs.Common.{arith}
-use Rattle.mrp_explode.proofs.Ended.{holds-all}
-use Rattle.mrp_explode.proofs.SideBySide.{all-numbers, made-new}
+use Rattle.std.proofs.Common.{ap}
+use Rattle.mrp_board.specs.BoardState.{BoardState}
+use Rattle.mrp_explode.proofs.Ended.{all-stored}
 use Rattle.mrp_explode.proofs.workers.explode.Goals as goal
 
-pub put_to_work-requires-clause-new : goal.put_to_work-requires-clause-new
-put_to_work-requires-clause-new g c κs within =
-    let made = c.in_ok-board.ensures in
-    made-new c.in_ok-board.board c.in_ok-board.hired.items c.args.workers made.count made.workers
-
-pub close-state-requires-clause-all : goal.close-state-requires-clause-all
-close-state-requires-clause-all g c n low high =
-    let made = c.in_ok-board.ensures in
-    all-numbers c.in_ok-board.board c.in_ok-board.hired.items c.in_ok-worked.worked.items c.args.workers made.count made.workers c.in_ok-worked.ensures n low (omega (arith, high, made.seats))
-
 pub plan_of-requires-clause-inputs : goal.plan_of-requires-clause-inputs
-plan_of-requires-clause-inputs g c =
-    let made = c.in_ok-board.ensures in
-    let closed = c.close-state in
-    (holds-all c.args.inputs.now.value c.in_ok-board.board c.in_ok-board.hired.items c.in_ok-worked.worked.items c.args.workers closed.result.1 closed.result.0 made.board made.seats c.requires.0 made.count made.workers
-    c.in_ok-worked.ensures closed.ensures.mine closed.ensures.in_range closed.ensures.legal).0
+plan_of-requires-clause-inputs g c = ap (λ (b : BoardState). b.inputs) c.in_ok-board.ensures.state
 
 pub plan_of-requires-clause-stored : goal.plan_of-requires-clause-stored
-plan_of-requires-clause-stored g c =
-    let made = c.in_ok-board.ensures in
-    let closed = c.close-state in
-    (holds-all c.args.inputs.now.value c.in_ok-board.board c.in_ok-board.hired.items c.in_ok-worked.worked.items c.args.workers closed.result.1 closed.result.0 made.board made.seats c.requires.0 made.count made.workers
-    c.in_ok-worked.ensures closed.ensures.mine closed.ensures.in_range closed.ensures.legal).1
+plan_of-requires-clause-stored g c = all-stored c.args.inputs.now.value c.args.workers c.in_ok-board.log c.in_ok-board.board c.in_ok-board.ensures

@@ -6,4 +6,4 @@ returns-clause-given_up g c =
     let about = c.args.board.now.about in
     let old = c.args.worker.now in
     let new = c.call.new.seat in
-    gives-up-told about.object old.number about.room old.seen old.mine c.call.result new.seen new.mine c.requires.work c.call.ensures.told
+    gives-up-told about.object old.number about.room old.seen old.mine c.call.result new.seen new.mine c.call.ensures.told
