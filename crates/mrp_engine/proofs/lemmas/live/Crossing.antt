@@ -1,4 +1,4 @@
--- A desk may go to another thread, and an office and calls may be lent to one.
+-- A desk and what came of its runs may go to another thread, and an office, calls and the rows of a shop may be lent to one.
 use Rattle.std.proofs.Common.{rules}
 use Rattle.std.proofs.Crossing.{crosses}
 use denote.Param.Send.{IsSend, IsSync, sendable}
@@ -12,6 +12,12 @@ use Rattle.mrp_desk.specs.contracts.office.Office as office
 use Rattle.mrp_desk.specs.contracts.shop_book.ShopBook as shop_book
 use Rattle.mrp_desk.specs.contracts.shop_book.ShopBookObject.TheImpl as object
 use Rattle.mrp_desk.proofs.office.Office.TheSendSync.{the_sync}
+use Rattle.mrp_engine.specs.contracts.live.ready.Ready as ready
+use Rattle.mrp_engine.specs.contracts.live.serving.Served as served
+use Rattle.mrp_item.specs.contracts.plan.Plan as plan
+use Rattle.mrp_item.proofs.plan.Plan.TheSendSync as the_plan
+use Rattle.mrp_item.specs.contracts.shop_rows.ShopRows as rows
+use Rattle.mrp_item.proofs.shop_rows.ShopRows.TheSendSync as the_rows
 
 pub desk-send : IsSend (seat.the_row shop_book.the_row state.the_row call.the_row reply.the_row refused.the_row object.ghosts)
 unfolding entry
@@ -22,3 +28,20 @@ office-sync = the_sync
 
 pub call-sync : IsSync call.the_row
 call-sync = search (sendable, crosses) depth 40
+
+pub plan-send : IsSend plan.the_row
+plan-send = the_plan.the_send
+
+pub rows-send : IsSend rows.the_row
+rows-send = the_rows.the_send
+
+pub rows-sync : IsSync rows.the_row
+rows-sync = the_rows.the_sync
+
+pub ready-send : IsSend ready.the_row
+unfolding entry
+ready-send = search (desk-send, plan-send, sendable, crosses) depth 40
+
+pub served-send : IsSend served.the_row
+unfolding entry
+served-send = search (desk-send, plan-send, sendable, crosses) depth 40
