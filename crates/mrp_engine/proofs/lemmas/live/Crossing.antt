@@ -1,6 +1,7 @@
 -- A desk and what came of its runs may go to another thread, and an office, calls and the rows of a shop may be lent to one.
 use Rattle.std.proofs.Common.{rules}
 use Rattle.std.proofs.Crossing.{crosses}
+use denote.RattleType.{RattleType}
 use denote.Param.Send.{IsSend, IsSync, sendable}
 use types.Keyed.{entry}
 use Rattle.mrp_turn.specs.contracts.seat.Seat as seat
@@ -45,3 +46,11 @@ ready-send = search (desk-send, plan-send, sendable, crosses) depth 40
 pub served-send : IsSend served.the_row
 unfolding entry
 served-send = search (desk-send, plan-send, sendable, crosses) depth 40
+
+-- what a closure captures may go to another thread, one by one
+pub cons-send : {X : Type 0} (T : RattleType) → IsSend T → X → IsSend T × X
+cons-send T s x = (s, x)
+
+pub nine-send : (A B C D E F G H I : RattleType) → IsSend A → IsSend B → IsSend C → IsSend D → IsSend E → IsSend F → IsSend G → IsSend H → IsSend I
+    → IsSend A × (IsSend B × (IsSend C × (IsSend D × (IsSend E × (IsSend F × (IsSend G × (IsSend H × (IsSend I × Unit {0}))))))))
+nine-send A B C D E F G H I a b c d e f g h i = (a, (b, (c, (d, (e, (f, (g, (h, (i, tt)))))))))

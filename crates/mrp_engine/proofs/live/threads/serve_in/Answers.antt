@@ -9,25 +9,17 @@ use Rattle.mrp_engine.specs.declared.live.ready.Ready.{Ready}
 use Rattle.mrp_engine.specs.declared.live.serving.Served.{Served}
 use Rattle.mrp_engine.specs.live.Begun.{CanServe, HasDone}
 use Rattle.mrp_engine.specs.live.DeskCalls.{calls_at}
-use Rattle.mrp_engine.proofs.lemmas.live.Crossing.{call-sync, office-sync, ready-send, rows-send, rows-sync, served-send}
+use Rattle.mrp_engine.proofs.lemmas.live.Crossing.{call-sync, cons-send, nine-send, office-sync, ready-send, rows-send, rows-sync, served-send}
 use Rattle.mrp_engine.proofs.lemmas.live.OneByOne.{all-done, one-done, room-left}
 use Rattle.mrp_engine.proofs.lemmas.live.Duties.{IsBegun, IsWorkOf, begun-as, can-serve, left-can, serves-all, some-of}
 use Rattle.mrp_engine.proofs.live.threads.serve_in.Goals as goal
 
 pub spawn_with-one-requires-send-F : goal.spawn_with-one-requires-send-F
-spawn_with-one-requires-send-F g c κs within = let r = c.type_bounds.sync-R in let d = c.type_bounds.sync-D in let i = c.type_bounds.sync-I in let c : Unit {0} = tt in let within : Unit {0} = tt in let κs : Unit {0} = tt in let g : Unit {0} = tt in search (ready-send, office-sync, call-sync, Arc-sync, rows-send, rows-sync, send, r, d, i, sendable) depth 60
-
-try2 : goal.spawn_with-one-requires-send-F
-try2 g c κs within = let r = c.type_bounds.sync-R in let d = c.type_bounds.sync-D in let i = c.type_bounds.sync-I in let c : Unit {0} = tt in let within : Unit {0} = tt in let κs : Unit {0} = tt in let g : Unit {0} = tt in search (ready-send, office-sync, call-sync, Arc-sync, rows-send, rows-sync, send, r, d, i, sendable, crosses) depth 60
-
-try3 : goal.spawn_with-one-requires-send-F
-try3 g c κs within = search (ready-send, office-sync, call-sync, Arc-sync, rows-send, rows-sync, send, sendable) depth 40
-
-try4 : goal.spawn_with-one-requires-send-F
-try4 g c κs within = let r = c.type_bounds.sync-R in let d = c.type_bounds.sync-D in let i = c.type_bounds.sync-I in let c : Unit {0} = tt in let within : Unit {0} = tt in search (ready-send, office-sync, call-sync, Arc-sync, rows-send, rows-sync, send, r, d, i, sendable) depth 60
-
-try5 : goal.spawn_with-one-requires-send-F
-try5 g c κs within = let i = c.type_bounds in let within : Unit {0} = tt in let c : Unit {0} = tt in search (ready-send, office-sync, call-sync, Arc-sync, rows-send, rows-sync, send, sendable) depth 60
+spawn_with-one-requires-send-F g c κs within =
+    first_of (
+      search (cons-send, c.type_bounds.sync-R, c.type_bounds.sync-D, c.type_bounds.sync-I, ready-send, office-sync, call-sync, Arc-sync, rows-send, rows-sync, send, sendable) depth 60 fits 5000,
+      search (nine-send, c.type_bounds.sync-R, c.type_bounds.sync-D, c.type_bounds.sync-I, ready-send, office-sync, call-sync, Arc-sync, rows-send, rows-sync, send, sendable) depth 60 fits 5000,
+    )
 
 pub spawn_with-one-requires-send-T : goal.spawn_with-one-requires-send-T
 spawn_with-one-requires-send-T g c κs within = search (served-send, sendable, crosses) depth 40
