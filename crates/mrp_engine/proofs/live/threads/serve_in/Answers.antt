@@ -1,6 +1,6 @@
 use Rattle.std.proofs.Common.{rules, ◌≡◌, ◌∙◌, ◌<◌, ◌-◌, ◌++◌, ◌∷◌, ℕ, List, Vec, ap, arith, length, refl, subst, sym}
 use Rattle.std.specs.Prelude.{All, slice_index_or}
-use Rattle.std.proofs.Crossing.{Arc-sync, crosses, send}
+use Rattle.std.proofs.Crossing.{crosses}
 use denote.Param.Send.{sendable}
 use Rattle.std.proofs.lemmas.Result.{MatchResult-weaker}
 use Rattle.mrp_book.specs.declared.call.Call.{Call}
@@ -9,17 +9,13 @@ use Rattle.mrp_engine.specs.declared.live.ready.Ready.{Ready}
 use Rattle.mrp_engine.specs.declared.live.serving.Served.{Served}
 use Rattle.mrp_engine.specs.live.Begun.{CanServe, HasDone}
 use Rattle.mrp_engine.specs.live.DeskCalls.{calls_at}
-use Rattle.mrp_engine.proofs.lemmas.live.Crossing.{call-sync, cons-send, nine-send, office-sync, ready-send, rows-send, rows-sync, served-send}
+use Rattle.mrp_engine.proofs.lemmas.live.Crossing.{captures-send, served-send}
 use Rattle.mrp_engine.proofs.lemmas.live.OneByOne.{all-done, one-done, room-left}
 use Rattle.mrp_engine.proofs.lemmas.live.Duties.{IsBegun, IsWorkOf, begun-as, can-serve, left-can, serves-all, some-of}
 use Rattle.mrp_engine.proofs.live.threads.serve_in.Goals as goal
 
 pub spawn_with-one-requires-send-F : goal.spawn_with-one-requires-send-F
-spawn_with-one-requires-send-F g c κs within =
-    first_of (
-      search (cons-send, c.type_bounds.sync-R, c.type_bounds.sync-D, c.type_bounds.sync-I, ready-send, office-sync, call-sync, Arc-sync, rows-send, rows-sync, send, sendable) depth 60 fits 5000,
-      search (nine-send, c.type_bounds.sync-R, c.type_bounds.sync-D, c.type_bounds.sync-I, ready-send, office-sync, call-sync, Arc-sync, rows-send, rows-sync, send, sendable) depth 60 fits 5000,
-    )
+spawn_with-one-requires-send-F g c κs within = search (captures-send, c.type_bounds.sync-D, c.type_bounds.sync-I, c.type_bounds.sync-R, sendable) depth 12
 
 pub spawn_with-one-requires-send-T : goal.spawn_with-one-requires-send-T
 spawn_with-one-requires-send-T g c κs within = search (served-send, sendable, crosses) depth 40
