@@ -1,3 +1,4 @@
 pub mod DeskCalls
 pub mod Desks
+pub mod Runs
 pub mod Begun

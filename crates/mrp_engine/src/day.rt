@@ -25,6 +25,7 @@ pub use planning::plan_run;
 pub(crate) use planning::{inputs_of, name_of};
 pub use run::{MOST_WORKERS, run_bundle, run_day};
 use runs::plan_runs;
+pub(crate) use runs::{RunResult, plan_or_refuse};
 pub(crate) use script::ADDED_DESK;
 pub use script::{added_run, answer, call_of};
 use std::alloc::Global;

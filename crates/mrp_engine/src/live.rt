@@ -3,50 +3,35 @@
 ghost use Rattle.std.specs.Prelude.{◌≤◌, Some, ⊤, vec_len};
 ghost use Rattle.std.specs.Int.{IsInRange};
 ghost use Rattle.mrp_rows.specs.declared.streams.TheConstants.{GREATEST_BUNDLE};
-ghost use Rattle.mrp_engine.specs.day.Planned.{PlansDay};
 ghost use Rattle.mrp_engine.specs.day.RightDay.{AnswersDesks};
 ghost use Rattle.mrp_engine.specs.day.Run.{MakesDay, WritesDay};
 
 mod desk_calls;
 mod desks;
+mod merging;
+mod ready;
 mod serving;
 mod threads;
 
-use crate::day::{Day, DayFault, MOST_WORKERS, open_shop, plan_history, write_day};
+use crate::day::{DayFault, MOST_WORKERS, open_shop, write_day};
 pub use desks::answer_by_desks;
-use mrp_bill::Shop;
 use mrp_explode::OpenGate;
-use mrp_item::ShopRows;
 use mrp_rows::{Told, read_bundle};
 use std::alloc::Global;
 use std::io::{Read, Write};
 use std::sync::Wait;
 use std::thread::Threads;
 
-// Has a shop's desks make the calls of its script concurrently, and plans the runs by workers.
-fn plan_live(
-    rt: &(impl Alloc + Threads + Wait + Sync),
-    alloc: Global,
-    shop: Shop,
-    workers: usize,
-) -> Result<Day, DayFault>
-    requires workers { IsInRange 1 MOST_WORKERS workers }
-    ensures { PlansDay AnswersDesks shop.tables result }
-{
-    let (shop, history) = answer_by_desks(rt, alloc, shop, &OpenGate)?;
-    let rows = ShopRows::of(alloc, shop)?;
-    plan_history(rt, alloc, rows, history, workers)
-}
-
-/// Has the desks of a bundle's script make their calls concurrently, plans the runs that they started, and
-/// writes the history and the report of each run. Nothing is written before every run is planned. The caller
-/// guarantees that the bundle has at most 67,108,864 bytes; they are dropped once its shop is open.
+/// Has the desks of a bundle's script make their calls and plan their runs concurrently, and writes the history
+/// and the report of each run. Nothing is written before every run is planned. The caller guarantees that the
+/// bundle has at most 67,108,864 bytes; they are dropped once its shop is open.
 ///
 /// There are as many desks as the script's greatest desk number. Each has a thread, if one can be started,
-/// and makes the calls of its records in order; the order between desks is not specified. A script without a
-/// run is taken with one more record, a run of desk 1 after all others. What is written is a right day
-/// (`laws::right_days`). Once all desks have ended, `workers` threads (1 to 64, as the caller guarantees) plan
-/// the items of each run, and then make the rows of its report.
+/// and makes the calls of its records in order; the order between desks is not specified. A desk plans each of
+/// its runs, by `workers` workers (1 to 64, as the caller guarantees), before its next record, while the other
+/// desks go on. A script without a run is taken with one more record, a run of desk 1 after all others. What is
+/// written is a right day (`laws::right_days`). Once all desks have ended, as many workers make the rows of
+/// each report.
 ///
 /// Errors: those of [`run_bundle`](crate::run_bundle), for a history that answers the script desk by desk.
 pub fn live_bundle<W: Write>(
@@ -62,7 +47,7 @@ pub fn live_bundle<W: Write>(
 {
     let shop = open_shop(rt, alloc, &bundle)?;
     drop(bundle);
-    let day = plan_live(rt, alloc, shop, workers)?;
+    let day = answer_by_desks(rt, alloc, shop, workers, &OpenGate, &OpenGate)?;
     write_day(rt, alloc, day, writer, workers)
 }
 

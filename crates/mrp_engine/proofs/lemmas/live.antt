@@ -7,3 +7,7 @@ pub mod Duties
 pub mod Crossing
 pub mod DeskLists
 pub mod DeskHistories
+pub mod DeskRuns
+pub mod Refusals
+pub mod Merging
+pub mod LastRuns

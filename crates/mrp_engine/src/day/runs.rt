@@ -23,6 +23,9 @@ use std::alloc::Global;
 use std::sync::{Arc, Wait};
 use std::thread::Threads;
 
+/// What came of a run: its plan, or why its day is refused.
+pub type RunResult = Result<Plan, DayFault>;
+
 // Why a day is refused, from why a run of its shop has no plan; an item that gets too large is named.
 fn refusal(shop: &Shop, fault: RunFault) -> DayFault
     requires { (item : ℕ) → fault ≡ RunFault.TooLarge item → item < length shop.now.tables.items }
@@ -35,7 +38,7 @@ fn refusal(shop: &Shop, fault: RunFault) -> DayFault
 }
 
 // A run's plan, or why its day is refused, by what planning the run gave. It takes no memory.
-fn or_refusal(shop: &Shop, planned: Result<Plan, RunFault>) -> Result<Plan, DayFault>
+fn or_refusal(shop: &Shop, planned: Result<Plan, RunFault>) -> RunResult
     requires { (item : ℕ) → planned ≡ Err (RunFault.TooLarge item) → item < length shop.now.tables.items }
     ensures { (s : Inputs) → s.tables ≡ shop.now.tables → result ≡ plan_or_fault s planned }
 {
@@ -45,10 +48,10 @@ fn or_refusal(shop: &Shop, planned: Result<Plan, RunFault>) -> Result<Plan, DayF
     }
 }
 
-// The plan of the next run of a shop, from a snapshot of its order book: by net change from the last plan of the shop,
-// if there is one, otherwise by `workers` workers (1 to 64) that pass the gate before each item; or why its day is
-// refused. The caller guarantees that the snapshot and the plan are of that shop.
-fn plan_or_refuse<R: Threads + Wait + Sync, G: Gate + Sync>(
+/// The plan of the next run of a shop, from a snapshot of its order book: by net change from the last plan of the shop,
+/// if there is one, otherwise by `workers` workers (1 to 64) that pass the gate before each item; or why its day is
+/// refused. The caller guarantees that the snapshot and the plan are of that shop.
+pub fn plan_or_refuse<R: Threads + Wait + Sync, G: Gate + Sync>(
     rt: &R,
     alloc: Global,
     rows: &Arc<ShopRows>,
@@ -56,7 +59,7 @@ fn plan_or_refuse<R: Threads + Wait + Sync, G: Gate + Sync>(
     snapshot: &Snapshot,
     workers: usize,
     gate: &G,
-) -> Result<Plan, DayFault>
+) -> RunResult
     requires booked { AreBooked (supply_of rows.now.value.tables) snapshot.now.standing }
     requires workers { IsInRange 1 MOST_WORKERS workers }
     requires last { IsOfShop rows.now.value.tables (option_copied last) }

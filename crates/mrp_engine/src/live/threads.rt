@@ -1,13 +1,13 @@
 //! Desks that make their calls concurrently, each in a thread of its own if one can be started.
 
 ghost use Rattle.std.specs.Prelude.{◌≡◌, ◌<◌, ◌≤◌, All, [], ℕ, IfErr, IfOk, length, slice_index_or, vec_capacity};
-ghost use Rattle.mrp_book.specs.History.{Fits};
-ghost use Rattle.mrp_desk.specs.Offices.{supply_at};
-ghost use Rattle.mrp_engine.specs.live.Desks.{HasServed};
-ghost use Rattle.mrp_engine.specs.live.Begun.{EachServes, EndsAs, GivesWhat, HaveLists, IsDone};
+ghost use Rattle.std.specs.Int.{IsInRange};
+ghost use Rattle.mrp_engine.specs.live.Begun.{CanServe, EachServes, EndsAs, GivesWhat, HasDone, HaveLists, IsDone};
 
+use crate::day::MOST_WORKERS;
 use crate::live::desk_calls::list_of;
-use crate::live::serving::{Served, serve};
+use crate::live::ready::Ready;
+use crate::live::serving::{Served, Shared, serve};
 use mrp_book::Call;
 use mrp_desk::{Desk, Office};
 use mrp_explode::Gate;
@@ -77,59 +77,96 @@ fn do_left<F: FnOnce() -> Served + Drop>(ended: Vec<Ended<F>>, mut all: Vec<Serv
 // Has each desk make the calls of its list, in a thread of the scope, or, if none can be started, here after
 // all threads have finished. Memory is reserved before the first thread is started, so none is left running
 // when memory runs out.
-fn serve_in<'a, E, R: Threads + Wait + Sync, G: Gate + Sync>(
+fn serve_in<'a, E, R: Threads + Wait + Sync, D: Gate + Sync, I: Gate + Sync>(
     scope: &Scope<'a, E>,
     rt: &'a R,
     alloc: Global,
-    office: &'a Office,
+    shared: Shared<'a, D, I>,
     lists: &'a [Vec<Call>],
-    gate: &'a G,
-    desks: Vec<Desk>,
+    desks: Vec<Ready>,
 ) -> Result<Vec<Served>, AllocError>
-    requires lists { HaveLists office.now lists.now desks.items }
-    ensures { IfOk result (λ all. EachServes office.now lists.now desks.items all.items) }
+    requires shop { shared.rows.now.value ≡ shared.office.now.about.object }
+    requires workers { IsInRange 1 MOST_WORKERS shared.workers }
+    requires lists { HaveLists shared.office.now lists.now desks.items }
+    ensures { IfOk result (λ all. EachServes shared.entry.office.now lists.now desks.items all.items) }
 {
     let mut begun = Vec::with_capacity(alloc, desks.len())?;
     let ended = Vec::with_capacity(alloc, desks.len())?;
     let all = Vec::with_capacity(alloc, desks.len())?;
-    for desk in desks {
-        let calls = list_of(lists, desk.number());
+    let Shared {
+        office,
+        rows,
+        workers,
+        desk_gate,
+        item_gate,
+    } = shared;
+    for ready in desks {
+        let calls = list_of(lists, ready.desk.number());
         let duty = Duty {
             office,
             calls,
-            desk: Snapshot::of(&desk),
+            desk: Snapshot::of(&ready.desk),
         };
         let work = move || -> Served
-            requires { (desk.turn ≡ office.now) × All (Fits (supply_at office.now)) calls.now }
-            ensures { HasServed (supply_at office.entry.now) calls.entry.now desk result.end result.desk }
-        { serve(rt, office, calls, gate, desk) };
+            requires { CanServe office.now rows.now.value workers calls.now ready }
+            ensures { HasDone office.entry.now calls.entry.now ready.desk result }
+        {
+            // Made here, since of a struct of references that it captures no closure has a clause.
+            let shared = Shared {
+                office,
+                rows,
+                workers,
+                desk_gate,
+                item_gate,
+            };
+            serve(rt, alloc, &shared, calls, ready)
+        };
         let one: Begun<_> = scope.spawn_with(duty, work);
         begun.push_reserved(one);
     }
     Ok(do_left(join_all(rt, begun, ended), all))
 }
 
-/// Has each desk make the calls of its list in a thread of its own. Desks for which none can be
-/// started run in this thread, after all threaded desks have finished.
+/// Has each desk make the calls of its list in a thread of its own, where it plans the runs that they start.
+/// Desks for which none can be started run in this thread, after all threaded desks have finished.
 ///
 /// Errors: `AllocError` if an allocation fails; no desk has begun then.
-pub fn serve_all<'a, R: Threads + Wait + Sync, G: Gate + Sync>(
+pub fn serve_all<'a, R: Threads + Wait + Sync, D: Gate + Sync, I: Gate + Sync>(
     rt: &'a R,
     alloc: Global,
-    office: &'a Office,
+    shared: Shared<'a, D, I>,
     lists: &'a [Vec<Call>],
-    gate: &'a G,
-    desks: Vec<Desk>,
+    desks: Vec<Ready>,
 ) -> Result<Vec<Served>, AllocError>
-    requires lists { HaveLists office.now lists.now desks.items }
-    ensures { IfOk result (λ all. EachServes office.now lists.now desks.items all.items) }
+    requires shop { shared.rows.now.value ≡ shared.office.now.about.object }
+    requires workers { IsInRange 1 MOST_WORKERS shared.workers }
+    requires lists { HaveLists shared.office.now lists.now desks.items }
+    ensures { IfOk result (λ all. EachServes shared.entry.office.now lists.now desks.items all.items) }
 {
+    let Shared {
+        office,
+        rows,
+        workers,
+        desk_gate,
+        item_gate,
+    } = shared;
     thread::scope(
         thread::scope_env(),
         rt,
         move |scope| -> Result<Vec<Served>, AllocError>
-            requires { HaveLists office.now lists.now desks.items }
+            requires shop { rows.now.value ≡ office.now.about.object }
+            requires workers { IsInRange 1 MOST_WORKERS workers }
+            requires lists { HaveLists office.now lists.now desks.items }
             ensures { IfOk result (λ all. EachServes office.entry.now lists.entry.now desks.items all.items) }
-        { serve_in(scope, rt, alloc, office, lists, gate, desks) },
+        {
+            let shared = Shared {
+                office,
+                rows,
+                workers,
+                desk_gate,
+                item_gate,
+            };
+            serve_in(scope, rt, alloc, shared, lists, desks)
+        },
     )
 }

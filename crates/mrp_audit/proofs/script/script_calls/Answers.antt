@@ -5,7 +5,7 @@ use Rattle.mrp_tables.specs.Tables.{Tables}
 use Rattle.mrp_tables.specs.Facts.{IsScriptRow}
 use Rattle.mrp_master.specs.Supply.{supply_of}
 use Rattle.mrp_engine.specs.day.Script.{Script, record_of, with_run}
-use Rattle.mrp_engine.proofs.lemmas.day.ScriptCalls.{none-added, row-fits}
+use Rattle.mrp_engine.proofs.lemmas.day.ScriptCalls.{none-given, row-fits}
 use Rattle.mrp_audit.proofs.DeskRecords.{all-taken}
 use Rattle.mrp_audit.proofs.script.script_calls.Goals as goal
 use Rattle.mrp_audit.proofs.script.script_calls.Goals.{in-Some+in_ok-push-2, in_default}
@@ -24,5 +24,5 @@ returns c =
     let from = ap (λ (rows : List ScriptRow). with_run (map record_of rows)) (c.script-script.ensures.rows ∙ ap (λ (x : Tables). x.script) c.tables.ensures.value) in
     elim c.match-added_run.branch [
       | in-Some+in_ok-push-2 w ↦ rw w.calls-is (w.in_ok-push-2.ensures.items ∙ ap (λ (r : Script). r ++ w.in-Some.last ∷ []) all ∙ sym w.in-Some.ensures.added ∙ from)
-      | in_default w ↦ rw w.calls-is (all ∙ sym (c.added_run.ensures.none (none-added c.added_run.result w.in_default.not-Some)) ∙ from)
+      | in_default w ↦ rw w.calls-is (all ∙ sym (c.added_run.ensures.none (none-given c.added_run.result w.in_default.not-Some)) ∙ from)
     ]

@@ -83,9 +83,9 @@ pub has-no-run : (script : List ScriptRow) → list_any (λ r. is_run (call_of r
 has-no-run script e = sym (with-run-is (map record_of script) false (any-mapped (λ r. is_run r.1) record_of script ∙ e))
 
 -- no call is added if there is none
-pub none-added : (o : Option (ℕ × Call)) → ((r : ℕ × Call) → o ≡ Some r → ⊥) → o ≡ None
-none-added None other = refl
-none-added (Some r) other = absurd (other r refl)
+pub none-given : {X : Type 0} (o : Option X) → ((x : X) → o ≡ Some x → ⊥) → o ≡ None
+none-given None other = refl
+none-given (Some x) other = absurd (other x refl)
 
 -- a legal history whose calls are the script's answers it
 pub answers : (t : Tables) (b : Supply) (h same : History) (script : List ScriptRow) → b ≡ supply_of t → IsLegal b same → same ≡ h → script ≡ t.script → asked h ≡ with_run (map record_of script) → AnswersScript t h

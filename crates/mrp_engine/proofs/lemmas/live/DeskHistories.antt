@@ -1,5 +1,5 @@
 -- The history of an office whose desks made the calls of their records.
-use Rattle.std.proofs.Common.{◌≡◌, ◌∙◌, ◌≢◌, ℕ, ◌+◌, ◌<◌, ◌≤◌, ◌==◌, ◌++◌, Bool, true, false, cond, if◌then◌else◌, List, [], ◌∷◌, get_or, length, map, ap, arith, inl, inr, refl, subst, sym}
+use Rattle.std.proofs.Common.{◌≡◌, ◌∙◌, ◌≢◌, ℕ, ◌+◌, ◌<◌, ◌≤◌, ◌==◌, ◌++◌, Bool, true, false, cond, if◌then◌else◌, List, [], ◌∷◌, Ok, Err, get_or, length, map, ap, arith, inl, inr, refl, subst, sym}
 use Rattle.std.specs.Prelude.{All, Any}
 use Rattle.std.specs.List.{list_any}
 use Rattle.std.proofs.lemmas.Bool.{cases_lt}
@@ -16,7 +16,8 @@ use Rattle.mrp_book.specs.declared.call.Call.TheVariants as call
 use Rattle.mrp_book.specs.Standing.{History}
 use Rattle.mrp_book.specs.History.{IsFull, asked}
 use Rattle.mrp_desk.specs.Offices.{Desk}
-use Rattle.mrp_engine.specs.live.Desks.{AreDesksOf}
+use Rattle.mrp_book.specs.declared.refused.Refused.TheVariants.{NoMemory}
+use Rattle.mrp_engine.specs.live.Desks.{AreDesksOf, HaveServed}
 use Rattle.mrp_engine.specs.day.RightDay.{asked_by}
 use Rattle.mrp_tables.specs.declared.rows.ScriptRow.{ScriptRow}
 use Rattle.mrp_engine.specs.day.Script.{Script, is_run, record_of, with_run}
@@ -55,16 +56,20 @@ all-wide seats rows least most some = added (list_any (λ r. is_run r.1) (map re
     added true = rows-wide
     added false = All-push Wide (map record_of rows) (1, call.Snapshot) rows-wide (omega arith, some)
 
+-- the number of a desk
+pub numbered : (office : TurnId Shop) (desks : List Desk) → AreDesksOf office desks → (n : ℕ) → HasNumber desks n → (1 ≤ n) × (n ≤ office.about.seats)
+numbered office desks are n (s, (k, within, at), is) =
+    let number : n ≡ k + 1 = sym is ∙ ap (λ (d : Desk). d.number) (sym at) ∙ are.numbers k s within in
+    let count = are.count in
+    (omega (arith, number), omega (arith, number, within, count))
+
 module _ (office : TurnId Shop) (desks : List Desk) (h : History) (records : Script) (are : AreDesksOf office desks) (mine : All (λ d. d.mine ≡ entries_by d.number h) desks)
     (callers : All (λ e. HasNumber desks e.who) h) (wide : All (λ r. (1 ≤ r.0) × (r.0 ≤ office.about.seats)) records) where
   pub has-number : (n : ℕ) → 1 ≤ n → n ≤ office.about.seats → HasNumber desks n
   has-number = in_order desks office.about.seats are.count (λ k d within. are.numbers k d (omega (arith, within, are.count)))
 
   in-range : (n : ℕ) → HasNumber desks n → (1 ≤ n) × (n ≤ office.about.seats)
-  in-range n (s, (k, within, at), is) =
-      let number : n ≡ k + 1 = sym is ∙ ap (λ (d : Desk). d.number) (sym at) ∙ are.numbers k s within in
-      let count = are.count in
-      (omega (arith, number), omega (arith, number, within, count))
+  in-range = numbered office desks are
 
   -- under a number of no desk there is no call and no record
   none-asked : (d : ℕ) → ((1 ≤ d) × (d ≤ office.about.seats) → ⊥) → asked_by d (asked h) ≡ []
@@ -139,3 +144,11 @@ run-fewer records d = added (list_any (λ r. is_run r.1) records)
     added : (b : Bool) → length (asked_by d records) ≤ length (asked_by d (if b then records else records ++ (1, call.Snapshot) ∷ []))
     added true = omega arith
     added false = run-more records d
+
+-- desks that have made the calls of their records, where the run that is added is not made for want of memory
+pub none-made : (records : Script) (desks : List Desk) → HaveServed records desks {U = Unit {0}} (Ok (tt {0})) → HaveServed (with_run records) desks {U = Unit {0}} (Err NoMemory)
+none-made records desks have = record {
+  served = tt;
+  few = λ k d within. let a = have.few k d within in let b = run-fewer records (get_or desks k d).number in omega (arith, a, b);
+  full = λ e. absurd (cc);
+}

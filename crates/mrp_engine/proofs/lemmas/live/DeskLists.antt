@@ -17,18 +17,20 @@ use Rattle.mrp_book.specs.History.{IsFull, asked}
 use Rattle.mrp_book.specs.declared.reply.Reply.{Reply}
 use Rattle.mrp_desk.specs.Calls.{HasCause, Tells}
 use Rattle.mrp_desk.specs.Offices.{Desk}
+use Rattle.mrp_engine.specs.declared.live.desks.AllServed.{AllServed}
 use Rattle.mrp_engine.specs.declared.live.serving.Served.{Served}
 use Rattle.mrp_engine.specs.live.Desks.{AreDesksOf, EndAs, HasServed, HaveServed, IsRefusedOne}
 use Rattle.mrp_engine.specs.live.DeskCalls.{AreCallsOf, asks, calls_at}
 use Rattle.mrp_engine.specs.day.RightDay.{asked_by}
 use Rattle.mrp_engine.specs.day.Script.{Script}
 use Rattle.mrp_engine.proofs.lemmas.live.DeskRecords.{MakesCall, ended, entries-of, made}
+use Rattle.mrp_engine.proofs.lemmas.live.Duties.{some-of}
 use Rattle.mrp_engine.proofs.lemmas.live.Parting.{End}
 
--- a list of desks that was lent is the one that was given back
-pub lent-back : (len : ℕ) (old new : List Desk) → length new ≡ length old → len ≡ length old → take len (new ++ drop (length new) old) ≡ new
-lent-back len old new same all =
-    ap (λ (rest : List Desk). take len (new ++ rest)) (drop_all (length new) old (omega (arith, same))) ∙ ap (take len) (append-nil new) ∙ take_all len new (omega (arith, same, all))
+-- a list that was lent is the one that was given back
+pub lent-back : {X : Type 0} (len : ℕ) (old new : List X) → length new ≡ length old → len ≡ length old → take len (new ++ drop (length new) old) ≡ new
+lent-back {X} len old new same all =
+    ap (λ (rest : List X). take len (new ++ rest)) (drop_all (length new) old (omega (arith, same))) ∙ ap (take len) (append-nil new) ∙ take_all len new (omega (arith, same, all))
 
 -- desks that were just made
 pub new-desks : (office : TurnId Shop) (desks : List Desk) (n : ℕ) → office.about.seats ≡ n → length desks ≡ n
@@ -99,15 +101,18 @@ module _ (office : TurnId Shop) (records : Script) (desks now : List Desk) (all 
   long : length now ≡ length desks
   long = ap (length {A = Desk}) parted ∙ length-map {B = Desk} all (λ s. s.desk) ∙ count
 
+  any : (k : ℕ) (d : Desk) → k < length now → Served
+  any k d within = some-of all k (omega (arith, within, long, count))
+
   -- a desk that has made its calls
   abbrev at : (k : ℕ) (d : Desk) → k < length now → Served
-  at k d within = get_or all k (record { desk = d; end = Ok (tt {0}) })
+  at k d within = get_or all k (any k d within)
 
   is-at : (k : ℕ) (d : Desk) (within : k < length now) → get_or now k d ≡ (at k d within).desk
-  is-at k d within = ap (λ (ds : List Desk). get_or ds k d) parted ∙ get_or-map (λ (s : Served). s.desk) all k (record { desk = d; end = Ok (tt {0}) }) d (omega (arith, within, long, count))
+  is-at k d within = ap (λ (ds : List Desk). get_or ds k d) parted ∙ get_or-map (λ (s : Served). s.desk) all k (any k d within) d (omega (arith, within, long, count))
 
   has : (k : ℕ) (d : Desk) (within : k < length now) → HasFollowed records (get_or desks k d) (at k d within).end (at k d within).desk
-  has k d within = each k d (record { desk = d; end = Ok (tt {0}) }) (omega (arith, within, long))
+  has k d within = each k d (any k d within) (omega (arith, within, long))
 
   pub served-desks : AreDesksOf office now
   served-desks = record {
@@ -130,7 +135,7 @@ module _ (office : TurnId Shop) (records : Script) (desks now : List Desk) (all 
       ∙ ap (λ (n : ℕ). asked_by n records) (sym (own k d within))
 
   all-done : (end : End) → EndAs all end → OnOk end (All (λ d. asked d.mine ≡ asked_by d.number records) now)
-  all-done (Ok u) ends = λ k d within. done k d within (ends k (record { desk = d; end = Ok (tt {0}) }) (omega (arith, within, long, count)))
+  all-done (Ok u) ends = λ k d within. done k d within (ends k (any k d within) (omega (arith, within, long, count)))
   all-done (Err e) ends = tt
 
   was-full : (end : End) → EndAs all end → end ≡ Err Full → Any (λ d. IsFull d.seen) now
@@ -157,14 +162,14 @@ module _ (office : TurnId Shop) (records : Script) (desks now : List Desk) (all 
 -- the same of what parting gives, if it gives anything
 pub if-parted-desks : {E : Type 0} (office : TurnId Shop) (records : Script) (desks : List Desk) (all : List Served) → AreDesksOf office desks → All (λ d. d.mine ≡ []) desks → length all ≡ length desks
     → ((k : ℕ) (d : Desk) (s : Served) → k < length desks → HasFollowed records (get_or desks k d) (get_or all k s).end (get_or all k s).desk)
-    → (r : Result (Vec Desk Global × End) E) → IfOk r (λ p. p.0.items ≡ map (λ (s : Served). s.desk) all) → IfOk r (λ p. AreDesksOf office p.0.items)
-if-parted-desks office records desks all are new count each (Ok (now, end)) parted = served-desks office records desks now.items all are new count each parted
+    → (r : Result AllServed E) → IfOk r (λ p. p.desks.items ≡ map (λ (s : Served). s.desk) all) → IfOk r (λ p. AreDesksOf office p.desks.items)
+if-parted-desks office records desks all are new count each (Ok p) parted = served-desks office records desks p.desks.items all are new count each parted
 if-parted-desks office records desks all are new count each (Err e) parted = tt
 
 pub if-parted-served : {E : Type 0} (office : TurnId Shop) (records : Script) (desks : List Desk) (all : List Served) → AreDesksOf office desks → All (λ d. d.mine ≡ []) desks → length all ≡ length desks
     → ((k : ℕ) (d : Desk) (s : Served) → k < length desks → HasFollowed records (get_or desks k d) (get_or all k s).end (get_or all k s).desk)
-    → (r : Result (Vec Desk Global × End) E) → IfOk r (λ p. p.0.items ≡ map (λ (s : Served). s.desk) all) → IfOk r (λ p. EndAs all p.1) → IfOk r (λ p. HaveServed records p.0.items p.1)
-if-parted-served office records desks all are new count each (Ok (now, end)) parted ends = served-script office records desks now.items all are new count each parted end ends
+    → (r : Result AllServed E) → IfOk r (λ p. p.desks.items ≡ map (λ (s : Served). s.desk) all) → IfOk r (λ p. EndAs all p.end) → IfOk r (λ p. HaveServed records p.desks.items p.end)
+if-parted-served office records desks all are new count each (Ok p) parted ends = served-script office records desks p.desks.items all are new count each parted p.end ends
 if-parted-served office records desks all are new count each (Err e) parted ends = tt
 
 -- what some desks have made of their records, of records that are no fewer for any desk

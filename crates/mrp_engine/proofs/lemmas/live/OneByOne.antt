@@ -1,7 +1,8 @@
 -- Work is taken from the beginning of a list, and its result is appended to another.
 use Rattle.std.proofs.Common.{◌≡◌, ◌∙◌, ◌<◌, ◌≤◌, ◌+◌, ◌++◌, ℕ, List, [], ◌∷◌, length, get_or, ap, arith, inl, inr, refl, subst, sym}
+use Rattle.std.specs.Prelude.{All}
 use Rattle.std.proofs.lemmas.Bool.{cases_lt}
-use Rattle.std.proofs.lemmas.List.{append-nil, append_assoc, get_or_append_left, get_or_push, length_push}
+use Rattle.std.proofs.lemmas.List.{append-nil, append_assoc, get_or_append_left, get_or_at, get_or_push, length-append, length_push}
 
 -- some of the elements are done, the others are left; each that is done is related by R to its result
 pub record AreDoneInTurn {X Y : Type 0} (R : X → Y → Type 0) (all rest : List X) (ends : List Y) : Type 0 where
@@ -47,3 +48,9 @@ pub all-done : {X Y : Type 0} (R : X → Y → Type 0) (all rest : List X) (ends
 all-done R all rest ends before none =
     let whole : before.done ≡ all = sym (before.left ∙ ap (λ r. before.done ++ r) (none-left rest none) ∙ append-nil before.done) in
     (before.count ∙ ap length whole, subst (λ xs. (k : ℕ) (x : _) (y : _) → k < length xs → R (get_or xs k x) (get_or ends k y)) whole before.each)
+
+-- what all elements have, the next one has
+pub next-has : {X : Type 0} (P : X → Type 0) (all done left : List X) (x : X) → all ≡ done ++ x ∷ left → All P all → P x
+next-has P all done left x are has =
+    let long = ap length are ∙ length-append done (x ∷ left) in
+    subst P (ap (λ l. get_or l (length done) x) are ∙ get_or_at done x left x (length done) refl) (has (length done) x (omega (arith, long)))

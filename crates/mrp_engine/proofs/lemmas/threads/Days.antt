@@ -38,11 +38,11 @@ not-week : (week : Option ℕ) (snapshot : Snapshot) → week_reply week ≡ rep
 not-week None snapshot e = cc
 not-week (Some week) snapshot e = cc
 
-abbrev IsTaken : Supply → History → Call → Snapshot → Type 0
+abbrev pub IsTaken : Supply → History → Call → Snapshot → Type 0
 IsTaken s h c snapshot = (c ≡ call.Snapshot) × (snapshot ≡ record { front = next_number h; weeks = s.weeks; standing = standing h })
 
 -- a snapshot is the reply to a call for one, and has what stands
-taken : (s : Supply) (h : History) (desk : ℕ) (c : Call) (r : Reply) (snapshot : Snapshot) → IsReply s h desk c r → r ≡ reply.Taken snapshot → IsTaken s h c snapshot
+pub taken : (s : Supply) (h : History) (desk : ℕ) (c : Call) (r : Reply) (snapshot : Snapshot) → IsReply s h desk c r → r ≡ reply.Taken snapshot → IsTaken s h c snapshot
 taken s h desk (call.Book l) r snapshot (a, available, e) is = absurd (not-booking (nat_le l.quantity a) (next_number h) a snapshot (sym e ∙ is))
 taken s h desk (call.Cancel n) r snapshot e is = absurd (not-cancel desk (find (λ b. b.number == n) (standing h)) snapshot (sym e ∙ is))
 taken s h desk (call.Ask p) r snapshot (a, available, e) is = absurd (cc)

@@ -6,7 +6,7 @@ use Rattle.mrp_book.specs.History.{Fits, asked}
 use Rattle.mrp_book.specs.Books.{OrderBook}
 use Rattle.mrp_tables.specs.Facts.{IsScriptRow}
 use Rattle.mrp_engine.specs.day.Script.{Script}
-use Rattle.mrp_engine.proofs.lemmas.day.ScriptCalls.{all-answered, answers, entries-few, none-added, row-fits}
+use Rattle.mrp_engine.proofs.lemmas.day.ScriptCalls.{all-answered, answers, entries-few, none-given, row-fits}
 use Rattle.mrp_engine.proofs.day.script.answer_script.Goals as goal
 use Rattle.mrp_engine.proofs.day.script.answer_script.Goals.{in-Some+in_ok-answer-2, in_default}
 
@@ -53,5 +53,5 @@ returns-clause-answers c =
       | in_default w ↦
           let book : h ≡ c.loop-row.book = c.into_history-history.ensures ∙ w.book-is in
           answers t h.supply h.entries c.entries-legal.result.now rows (ap (λ (b : OrderBook). b.supply) book ∙ c.loop-row.invariant.0) c.entries-legal.ensures.legal c.entries-legal.ensures.entries script
-          (ap (λ (b : OrderBook). asked b.entries) book ∙ all ∙ sym (c.added_run.ensures.none (none-added c.added_run.result w.in_default.not-Some)))
+          (ap (λ (b : OrderBook). asked b.entries) book ∙ all ∙ sym (c.added_run.ensures.none (none-given c.added_run.result w.in_default.not-Some)))
     ]
