@@ -23,7 +23,7 @@ use std::io::{Read, Write};
 use std::sync::Wait;
 use std::thread::Threads;
 
-// Has a shop's desks make the calls of its script concurrently, and plans the runs by workers.
+// Has a shop's desks make the calls of its script concurrently, and plans the runs, the first by workers.
 fn plan_live(
     rt: &(impl Alloc + Threads + Wait + Sync),
     alloc: Global,
@@ -46,7 +46,8 @@ fn plan_live(
 /// and makes the calls of its records in order; the order between desks is not specified. A script without a
 /// run is taken with one more record, a run of desk 1 after all others. What is written is a right day
 /// (`laws::right_days`). Once all desks have ended, `workers` threads (1 to 64, as the caller guarantees) plan
-/// the items of each run, and then make the rows of its report.
+/// the items of the first run, and then make the rows of each run's report; later runs are planned by net change
+/// from the run before.
 ///
 /// Errors: those of [`run_bundle`](crate::run_bundle), for a history that answers the script desk by desk.
 pub fn live_bundle<W: Write>(
