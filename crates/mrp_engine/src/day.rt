@@ -34,7 +34,8 @@ pub(crate) use writing::write_day;
 
 /// A day in which each run can be planned: the rows of a shop, a history of its order book, and the plan of its
 /// first run, if it has one. The plans of later runs are not kept: each is made again when its report is written,
-/// by net change from the run before it, so that a day holds two plans at most.
+/// by net change from the run before it. So at most three plans are held at a time, while runs are planned: the
+/// first, the last and the next, which share the rows of items that did not change.
 #[derive(Drop)]
 pub struct Day {
     pub rows: Arc<ShopRows>,
