@@ -35,7 +35,7 @@ pub(crate) use writing::write_day;
 
 /// A day in which each run can be planned: the rows of a shop, a history of its order book, and the plan of its
 /// first run, if it has one. The plans of later runs are not kept: each is made again when its report is written,
-/// by net change from the run before it, so that a day holds two plans at most.
+/// by net change from the run before it.
 #[derive(Drop)]
 pub struct Day {
     pub rows: Arc<ShopRows>,
@@ -44,8 +44,9 @@ pub struct Day {
 }
 
 /// Plans each run of a history over the shop's rows: the first by `workers` workers (1 to 64, as the caller
-/// guarantees), each later one by net change from the one before. The caller guarantees that the history has the
-/// supply of the shop.
+/// guarantees), each later one by net change from the one before. At most three plans are held at a time, the
+/// first, the last and the next, which share the rows of items that did not change. The caller guarantees that
+/// the history has the supply of the shop.
 ///
 /// Errors: `TooLarge` with the first item in table order whose quantities get too large in the
 /// first run with such an item; `NoMemory` if an allocation fails.

@@ -28,10 +28,10 @@ use std::thread::Threads;
 ///
 /// There are as many desks as the script's greatest desk number. Each has a thread, if one can be started,
 /// and makes the calls of its records in order; the order between desks is not specified. A desk plans each of
-/// its runs, by `workers` workers (1 to 64, as the caller guarantees), before its next record, while the other
-/// desks go on. A script without a run is taken with one more record, a run of desk 1 after all others. What is
-/// written is a right day (`laws::right_days`). Once all desks have ended, as many workers make the rows of
-/// each report.
+/// its runs before its next record, while the other desks go on: its first by `workers` workers (1 to 64, as the
+/// caller guarantees), later ones by net change from the one before. A script without a run is taken with one
+/// more record, a run of desk 1 after all others. What is written is a right day (`laws::right_days`). Once all
+/// desks have ended, as many workers make the rows of each report.
 ///
 /// Errors: those of [`run_bundle`](crate::run_bundle), for a history that answers the script desk by desk.
 pub fn live_bundle<W: Write>(

@@ -38,8 +38,10 @@ fn too_large(item: usize) -> RunFault
     RunFault::TooLarge { item }
 }
 
-// The plan that the outcomes of all items make, or why there is none. This takes no memory.
-pub(crate) fn plan_from(inputs: Arc<Inputs>, outcomes: Vec<Outcome>) -> Result<Plan, RunFault>
+/// The plan that the outcomes of all items make, as [`Plan::of`] does. It does not allocate.
+///
+/// Errors: `TooLarge` with the first item in table order that is over.
+pub fn plan_from(inputs: Arc<Inputs>, outcomes: Vec<Outcome>) -> Result<Plan, RunFault>
     requires { outcomes.items ≡ all_from inputs.value }
     ensures plan { Explodes inputs.value result }
     ensures told { IfErr result (λ fault. fault ≢ RunFault.NoMemory) }

@@ -12,7 +12,7 @@ mod workers;
 mod working;
 
 pub use fault::RunFault;
-pub use finished::out_of_places;
+pub use finished::{out_of_places, plan_from};
 pub use gate::{Gate, OpenGate};
 pub use levels::explode_levels;
 pub use serial::explode_serial;

@@ -18,7 +18,7 @@ ghost use Rattle.mrp_engine.specs.day.RunPlans.{IsOfShop};
 use crate::day::planning::{inputs_of, plan_run_by};
 use crate::day::run::MOST_WORKERS;
 use mrp_book::Snapshot;
-use mrp_explode::{Gate, RunFault, out_of_places};
+use mrp_explode::{Gate, RunFault, out_of_places, plan_from};
 use mrp_item::{Inputs, Plan, Planner, ShopRows, Work};
 use mrp_qty::NoMemory;
 use std::alloc::Global;
@@ -148,7 +148,8 @@ fn no_marks(alloc: Global, count: usize) -> Result<Vec<bool>, NoMemory>
 
 /// The outcomes of all items for other inputs of an equal shop, in table order, by net change from an older plan
 /// (Orlicky): items are carried over from it where they can be, and else planned. If no item is over, the planner
-/// plans touched items alone. Memory and time are linear in items and bill lines.
+/// plans touched items alone. Beside that, all items and bill lines are walked once; the orders of a parent that is
+/// planned are compared once for each of its components.
 ///
 /// Errors: `NoMemory` if an allocation fails, or a reference count cannot rise.
 pub fn replan<P: Planner>(
@@ -178,10 +179,7 @@ fn replanned(alloc: Global, old: &Plan, inputs: Arc<Inputs>) -> Result<Plan, Run
     ensures { Explodes inputs.value result }
 {
     let outcomes = replan(alloc, old, &inputs, &mut Work::new())?;
-    match Plan::of(inputs, outcomes) {
-        Ok(plan) => Ok(plan),
-        Err(item) => Err(RunFault::TooLarge { item }),
-    }
+    plan_from(inputs, outcomes)
 }
 
 /// The plan of a run, from the rows of a shop and a snapshot of its order book: by net change from the last plan of

@@ -51,7 +51,7 @@ fn answer_with_rows(
     Ok((history, rows))
 }
 
-// Answers a shop's script record by record, and plans its runs by workers.
+// Answers a shop's script record by record, and plans its runs, the first by workers.
 fn plan_day(
     rt: &(impl Alloc + Threads + Wait + Sync),
     alloc: Global,
@@ -72,8 +72,9 @@ fn plan_day(
 ///
 /// The tables are read in two threads, and one thread groups the rows of the shop while another answers the
 /// script, if a second one can be started. `workers` threads (1 to 64, as the caller guarantees) plan the
-/// items of a run and make the rows of its report; the loads of work centres are summed in parallel if there
-/// are enough of them. An interrupted write is tried again.
+/// items of the first run, and make the rows of each run's report; later runs are planned by net change from the
+/// run before. The loads of work centres are summed in parallel if there are enough of them. An interrupted
+/// write is tried again.
 ///
 /// Errors: `Refused` with the bundle's first fault, a loop in the bill last; `TooLarge` with the first item
 /// in table order whose quantities get too large in the first run with such an item; `Write` if the writer
