@@ -6,6 +6,7 @@ ghost use Rattle.mrp_rows.specs.declared.streams.TheConstants.{GREATEST_BUNDLE};
 ghost use Rattle.std.specs.Result.{ForOk};
 ghost use Rattle.mrp_main.specs.Ends.{BundleEnds, DayEnds, Ends, FolderEnds, HelpEnds, IsDone, RequestEnds};
 ghost use Rattle.mrp_words.specs.Words.{HasWorkers};
+ghost use Rattle.mrp_words.specs.declared.day.DayCommand.TheVariants as day;
 
 use crate::check::check_day;
 use crate::ending::Ending;
@@ -30,6 +31,36 @@ fn write_help<W: Write>(text: &str, output: &mut Told<W>) -> Ending
     }
 }
 
+// Plans the bundle on the input, with its script in row order.
+fn plan_input<R: Read, W: Write>(
+    rt: &(impl Alloc + Threads + Wait + Sync),
+    alloc: Global,
+    workers: usize,
+    input: &mut Told<R>,
+    output: &mut Told<W>,
+) -> Ending
+    requires workers { IsInRange 1 MOST_WORKERS workers }
+    ensures { DayEnds day.Plan R.remaining W.contents input.old input.new output.old output.new result }
+{
+    let day = run_day(rt, alloc, input, output, workers);
+    Ending::of_day(alloc, day)
+}
+
+// Makes a live day of the bundle on the input.
+fn live_input<R: Read, W: Write>(
+    rt: &(impl Alloc + Threads + Wait + Sync),
+    alloc: Global,
+    workers: usize,
+    input: &mut Told<R>,
+    output: &mut Told<W>,
+) -> Ending
+    requires workers { IsInRange 1 MOST_WORKERS workers }
+    ensures { DayEnds day.Live R.remaining W.contents input.old input.new output.old output.new result }
+{
+    let day = live_day(rt, alloc, input, output, workers);
+    Ending::of_day(alloc, day)
+}
+
 // Makes a day of the bundle on the input.
 fn make_day<R: Read, W: Write>(
     rt: &(impl Alloc + Threads + Wait + Sync),
@@ -43,8 +74,8 @@ fn make_day<R: Read, W: Write>(
     ensures { DayEnds command R.remaining W.contents input.old input.new output.old output.new result }
 {
     match command {
-        DayCommand::Plan => Ending::of_day(alloc, run_day(rt, alloc, input, output, workers)),
-        DayCommand::Live => Ending::of_day(alloc, live_day(rt, alloc, input, output, workers)),
+        DayCommand::Plan => plan_input(rt, alloc, workers, input, output),
+        DayCommand::Live => live_input(rt, alloc, workers, input, output),
     }
 }
 
