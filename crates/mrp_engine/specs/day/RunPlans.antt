@@ -1,5 +1,5 @@
 -- The plans that are kept of a day's runs (profile).
-use Rattle.std.specs.Prelude.{ℕ, ◌≡◌, List, Option, None, Some, IfSome, slice_get}
+use Rattle.std.specs.Prelude.{◌≡◌, List, Option, None, Some, IfSome, slice_get}
 use Rattle.std.specs.Option.{option_map}
 use Rattle.mrp_tables.specs.Tables.{Tables}
 use Rattle.mrp_item.specs.Inputs.{Inputs}

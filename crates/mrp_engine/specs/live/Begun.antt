@@ -17,7 +17,7 @@ use Rattle.mrp_engine.specs.declared.live.threads.Duty.{Duty}
 use Rattle.mrp_engine.specs.day.Planned.{PlansRun}
 use Rattle.mrp_engine.specs.live.DeskCalls.{calls_at}
 use Rattle.mrp_engine.specs.live.Desks.{HasServed}
-use Rattle.mrp_engine.specs.live.Runs.{RunResult, runs_at, runs_in}
+use Rattle.mrp_engine.specs.live.Runs.{runs_at, runs_in}
 
 -- a desk that has made no call, with room for what comes of the runs that these calls start
 pub record IsReady (calls : List Call) (r : Ready) : Type 0 where

@@ -1,15 +1,10 @@
 -- The texts of a day are written one after the other.
-use Rattle.std.proofs.Common.{◌≡◌, ◌∙◌, ℕ, ◌+◌, ◌<◌, List, [], ◌∷◌, ◌++◌, length, take, drop, get_or, Option, Result, Ok, Err, sym, ap, subst, inl, inr, refl, arith}
-use Rattle.std.proofs.lemmas.List.{append-nil, drop_more, map-append, take-append-drop, take_more}
-use Rattle.std.proofs.lemmas.List.Concat.{flat_map-append}
-use Rattle.std.specs.List.{flat_map}
+use Rattle.std.proofs.Common.{◌≡◌, ◌∙◌, ℕ, ◌+◌, List, [], ◌++◌, Option, Result, Ok, Err, ap, subst, inl, inr, refl, arith}
 use Rattle.std.proofs.lemmas.Result.{on_err_weaker, on_ok_weaker}
 use Rattle.mrp_rows.specs.declared.told.Told.{Told}
 use Rattle.mrp_rows.specs.Told.{inner_of, failures_of, interrupted_of, HasRisenBy}
 use Rattle.mrp_rows.specs.Streams.{RisesBy}
 use Rattle.mrp_rows.proofs.StreamFronts.{front-longer, front-after}
-use Rattle.mrp_item.specs.Places.{WholePlan}
-use Rattle.mrp_report.specs.ReportText.{report_text}
 use Rattle.mrp_report.specs.Written.{HasGivenUp, HasTakenFront, HasTakenWhole}
 use Rattle.mrp_report.proofs.Progress.{taken-both, taken-none}
 use Rattle.mrp_rows.specs.declared.streams.TheConstants.{WRITE_TRIES}

@@ -1,5 +1,5 @@
 -- The plan of a desk's last run is of its shop.
-use Rattle.std.proofs.Common.{◌≡◌, ◌∙◌, ℕ, zero, suc, ◌-◌, List, [], ◌∷◌, ◌++◌, length, Option, Some, None, Result, Ok, Err, ap, refl, subst}
+use Rattle.std.proofs.Common.{◌≡◌, ◌∙◌, ℕ, zero, suc, ◌-◌, List, [], ◌∷◌, length, Some, Ok, Err, ap, refl}
 use Rattle.std.specs.Prelude.{All, slice_get}
 use Rattle.std.specs.List.{AllZip}
 use Rattle.std.proofs.lemmas.List.Elements.{All-append, All-cons, All-head, All-nil, All-tail}
@@ -8,11 +8,9 @@ use Rattle.mrp_book.specs.declared.reply.Reply.{Reply}
 use Rattle.mrp_book.specs.declared.reply.Reply.TheVariants as reply
 use Rattle.mrp_book.specs.Standing.{History}
 use Rattle.mrp_item.specs.Inputs.{Inputs, inputs_of}
-use Rattle.mrp_item.specs.Places.{WholePlan}
 use Rattle.mrp_engine.specs.day.Day.{planned_from, runs_of}
 use Rattle.mrp_engine.specs.day.Planned.{PlansRun}
 use Rattle.mrp_engine.specs.day.RunPlans.{IsOfShop}
-use Rattle.mrp_engine.specs.declared.day.fault.DayFault.{DayFault}
 use Rattle.mrp_engine.specs.live.Runs.{RunResult, last_plan, plan_in_run}
 
 abbrev pub AreOf : Tables → List Inputs → Type 0

@@ -1,12 +1,11 @@
 -- The runs of a history are merged, entry by entry.
-use Rattle.std.proofs.Common.{◌≡◌, ◌≢◌, ◌∙◌, ℕ, ◌+◌, ◌-◌, ◌<◌, ◌≤◌, ◌==◌, ◌++◌, Bool, cond, List, [], ◌∷◌, Vec, drop, get_or, length, map, set, take, ap, arith, inl, inr, refl, subst, sym}
+use Rattle.std.proofs.Common.{◌≡◌, ◌≢◌, ◌∙◌, ℕ, ◌+◌, ◌-◌, ◌<◌, ◌≤◌, ◌++◌, Bool, cond, List, [], ◌∷◌, Vec, drop, get_or, length, map, set, take, ap, arith, inl, inr, refl, subst, sym}
 use Rattle.std.specs.Prelude.{All}
 use Rattle.std.specs.declared.collections.VecDeque.{VecDeque}
 use Rattle.std.specs.List.{AllZip}
 use Rattle.std.specs.declared.alloc.Global.{Global}
 use Rattle.std.proofs.lemmas.Bool.{cases_eq, eq-eqb, ne_eqb}
-use Rattle.std.proofs.lemmas.List.{append-nil, drop_more, get_or-map, get_or-set_other, get_or-set_same, length-map, length-set, map-set, take_all}
-use Rattle.mrp_bill.specs.Lists.{listed}
+use Rattle.std.proofs.lemmas.List.{append-nil, drop_more, get_or-map, get_or-set_other, get_or-set_same, length-map, map-set, take_all}
 use Rattle.mrp_turn.specs.declared.log.Entry.{Entry}
 use Rattle.mrp_turn.specs.Log.{entries_by}
 use Rattle.mrp_tables.specs.Tables.{Tables}
@@ -19,7 +18,7 @@ use Rattle.mrp_item.specs.Inputs.{Inputs, inputs_of}
 use Rattle.mrp_engine.specs.day.Day.{planned_from, runs_of}
 use Rattle.mrp_engine.specs.day.Planned.{PlansRun}
 use Rattle.mrp_engine.specs.live.Runs.{AreRunsOf, RunResult, queued}
-use Rattle.mrp_engine.proofs.lemmas.day.RunsPlanned.{not-a-run, planned-same, runs-more}
+use Rattle.mrp_engine.proofs.lemmas.day.RunsPlanned.{not-a-run, runs-more}
 use Rattle.mrp_engine.proofs.lemmas.live.DeskRuns.{zip-push}
 
 abbrev pub Queue : Type 0

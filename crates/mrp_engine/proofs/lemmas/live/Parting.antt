@@ -1,8 +1,8 @@
 -- Desks are parted from how their calls ended, one by one.
 use Rattle.std.proofs.Common.{◌≡◌, ◌∙◌, ◌++◌, List, [], ◌∷◌, Result, Vec, Ok, Err, IsOk, is_ok, true, length, map, ap, arith, refl, subst, sym}
 use Rattle.std.specs.declared.alloc.Global.{Global}
-use Rattle.std.proofs.lemmas.List.{append-nil, append_assoc, get_or_append_left, get_or_push, length_push, map-append}
-use Rattle.std.proofs.lemmas.List.Elements.{All-nil, All-push}
+use Rattle.std.proofs.lemmas.List.{append_assoc, get_or_append_left, get_or_push, length_push, map-append}
+use Rattle.std.proofs.lemmas.List.Elements.{All-push}
 use Rattle.mrp_book.specs.declared.refused.Refused.{Refused}
 use Rattle.mrp_desk.specs.Offices.{Desk}
 use Rattle.mrp_engine.specs.declared.live.serving.Served.{Served}

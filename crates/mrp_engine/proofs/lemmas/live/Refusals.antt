@@ -1,5 +1,5 @@
 -- Why a day is refused, by what came of its runs.
-use Rattle.std.proofs.Common.{◌≡◌, ◌∙◌, ◌++◌, Bool, true, false, cond, List, [], ◌∷◌, Option, Some, None, Result, Ok, Err, map, ap, refl, subst, sym}
+use Rattle.std.proofs.Common.{◌≡◌, ◌∙◌, ◌++◌, Bool, true, false, cond, List, [], ◌∷◌, Some, None, Ok, Err, map, ap, refl, subst}
 use Rattle.std.specs.Prelude.{All, slice_get}
 use Rattle.std.specs.List.{AllZip, list_any}
 use Rattle.std.proofs.lemmas.List.Elements.{All-cons, All-nil}
@@ -7,7 +7,7 @@ use Rattle.mrp_item.specs.Inputs.{Inputs}
 use Rattle.mrp_item.specs.Places.{WholePlan}
 use Rattle.mrp_engine.specs.declared.day.fault.DayFault.{DayFault}
 use Rattle.mrp_engine.specs.declared.day.fault.DayFault.TheVariants.{Refused, TooLarge, Read, Write, NoMemory}
-use Rattle.mrp_engine.specs.day.Day.{IsFirstRefusal, IsPlannable}
+use Rattle.mrp_engine.specs.day.Day.{IsPlannable}
 use Rattle.mrp_engine.specs.day.Planned.{PlansRun, PlansRuns}
 use Rattle.mrp_engine.specs.day.RunPlans.{IsOfFirst}
 use Rattle.mrp_engine.specs.live.Runs.{PlansAll, RunResult, first_refused, inputs_of_plans, lacks_memory, refusal_among}

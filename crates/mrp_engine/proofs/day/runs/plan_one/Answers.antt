@@ -1,9 +1,8 @@
-use Rattle.std.proofs.Common.{◌≡◌, Option, Result, Ok, Err, rules, subst, sym, refl}
+use Rattle.std.proofs.Common.{◌≡◌, Result, Ok, Err, rules, subst, sym, refl}
 use Rattle.std.proofs.Crossing.{crosses}
 use denote.Param.Send.{sendable}
 use Rattle.std.specs.Prelude.{OnErr, OnOk}
 use Rattle.mrp_item.specs.Inputs.{inputs_of}
-use Rattle.mrp_item.specs.Places.{WholePlan}
 use Rattle.mrp_engine.specs.day.Planned.{JudgesRun, PlansRun}
 use Rattle.mrp_engine.specs.day.RunPlans.{AddsRun, IsOfShop}
 use Rattle.mrp_engine.specs.declared.day.fault.DayFault.{DayFault}

@@ -1,16 +1,14 @@
-use Rattle.std.proofs.Common.{◌≡◌, ◌∙◌, ◌+◌, Option, Result, Ok, Err, ap, sym, subst, arith, rules}
+use Rattle.std.proofs.Common.{◌≡◌, ◌+◌, Option, Result, Err, sym, subst, arith, rules}
 use Rattle.std.proofs.Crossing.{crosses}
 use denote.Param.Send.{sendable}
 use Rattle.mrp_master.specs.Supply.{Supply, supply_of}
 use Rattle.mrp_book.specs.History.{IsLegal}
-use Rattle.mrp_item.specs.Inputs.{inputs_of}
 use Rattle.mrp_item.specs.Places.{WholePlan}
 use Rattle.mrp_book.proofs.SnapshotBookings.{snapshot-booked}
 use Rattle.mrp_engine.specs.day.Day.{runs_of}
 use Rattle.mrp_engine.specs.day.Planned.{PlansRuns}
 use Rattle.mrp_engine.specs.day.RunPlans.{IsOfFirst}
 use Rattle.mrp_engine.specs.declared.day.fault.DayFault.{DayFault}
-use Rattle.mrp_engine.specs.declared.day.run_plans.RunPlans.{RunPlans}
 use Rattle.mrp_engine.proofs.lemmas.day.RunsPlanned.{HasPlanned, not-a-run, planned-all, planned-more, planned-same, run-refused}
 use Rattle.mrp_engine.proofs.day.runs.plan_runs.Goals as goal
 use Rattle.mrp_engine.proofs.day.runs.plan_runs.Goals.{in-Taken+in_ok-plan_one, in_default}

@@ -1,4 +1,4 @@
-use Rattle.std.proofs.Common.{◌≡◌, ◌∙◌, List, ◌++◌, Result, Err, ap, rules, subst, sym}
+use Rattle.std.proofs.Common.{◌≡◌, ◌∙◌, Result, Err, ap, rules, subst, sym}
 use Rattle.std.specs.List.{flat_map}
 use Rattle.mrp_bill.specs.Shop.{Shop}
 use Rattle.mrp_report.specs.section.HistoryText.{history_text}

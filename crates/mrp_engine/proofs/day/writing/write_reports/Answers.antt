@@ -1,4 +1,4 @@
-use Rattle.std.proofs.Common.{◌≡◌, ◌∙◌, ◌+◌, List, ◌++◌, Option, Result, Ok, Err, ap, drop, inl, inr, length, refl, rules, subst, sym, take, take_all, ℕ}
+use Rattle.std.proofs.Common.{◌≡◌, ◌∙◌, ◌+◌, List, ◌++◌, Option, Result, Err, ap, drop, inl, inr, refl, rules, subst, sym, take, take_all, ℕ}
 use Rattle.std.proofs.Crossing.{crosses}
 use denote.Param.Send.{sendable}
 use Rattle.std.specs.Prelude.{All, IfSome}

@@ -1,12 +1,10 @@
-use Rattle.std.proofs.Common.{◌≡◌, ◌∙◌, ◌+◌, ◌≤◌, ◌++◌, ◌∷◌, [], ℕ, List, IfErr, OnErr, ap, arith, cond, drop, length, subst, take, vec_capacity}
+use Rattle.std.proofs.Common.{◌≡◌, ◌∙◌, ◌+◌, ◌++◌, ◌∷◌, [], ℕ, List, IfErr, OnErr, ap, arith, drop, subst, take}
 use Rattle.std.proofs.lemmas.List.{take_all}
 use Rattle.mrp_book.specs.declared.call.Call.{Call}
 use Rattle.mrp_book.specs.History.{asked}
 use Rattle.mrp_desk.specs.Calls.{HasCause}
 use Rattle.mrp_desk.specs.Offices.{supply_at}
-use Rattle.mrp_engine.specs.day.Script.{is_run}
 use Rattle.mrp_engine.specs.live.DeskCalls.{asks}
-use Rattle.mrp_engine.specs.live.Runs.{runs_in}
 use Rattle.mrp_engine.proofs.lemmas.live.DeskRecords.{asks-more, ok-then, parts-at, tells-asked}
 use Rattle.mrp_engine.proofs.lemmas.live.DeskRuns.{runs-left}
 use Rattle.mrp_engine.proofs.live.serving.serve.Goals as goal
