@@ -1,19 +1,22 @@
 //! Benchmarks of parts of the program: reading records, available-to-promise calls, calls on a turn,
-//! explosions.
+//! explosions, net change.
 //!
 //! It reads a bundle on standard input, and the part's name as its argument. With a number of calls as
 //! the second argument it prints how long they took; without, it makes a few and prints their answers.
 //! Without arguments it does that for each part.
 #![tactic(auto)]
 
+ghost use Rattle.std.specs.Prelude.{◌≡◌};
+
 mod explosions;
+mod net_changes;
 mod plain;
 mod promising;
 mod rows;
 mod turns;
 
 use explosions::{WAYS, Way};
-use mrp_item::Inputs;
+use mrp_item::{Inputs, Plan};
 use mrp_master::AtpRow;
 use mrp_rows::Fault;
 use rows::Counts;
@@ -179,11 +182,67 @@ fn explode<R: Runtime + AllocGlobal + Threads + Wait + Sync>(
     }
 }
 
+// The microseconds that the plan of a shop's next run takes, and how many items were planned for it.
+fn micros_of_next<R: Runtime + AllocGlobal>(
+    rt: &R,
+    last: &Plan,
+    other: &Inputs,
+) -> io::Result<(u64, u64)>
+    requires { last.now.inputs.tables ≡ other.now.tables }
+{
+    let start = Instant::now(rt)?;
+    let next = net_changes::plan_next(rt.alloc(), last, other);
+    let took = start.elapsed(rt)?;
+    let count = match next {
+        Ok((plan, count)) => {
+            drop(plan);
+            count
+        }
+        Err(_) => 0,
+    };
+    Ok((u64::try_from(took.as_micros()).unwrap_or(u64::MAX), count))
+}
+
+// Plans a shop's next run by net change, and tells the number of items that were planned for it. Where it is planned
+// more than once it tells the fewest microseconds too.
+fn tell_next<R: Runtime + AllocGlobal>(
+    rt: &R,
+    last: &Plan,
+    other: &Inputs,
+    turns: Option<u64>,
+) -> io::Result<()>
+    requires { last.now.inputs.tables ≡ other.now.tables }
+{
+    let (mut best, count) = micros_of_next(rt, last, other)?;
+    println!(rt; "{count} items planned by net change")?;
+    let Some(turns) = turns else {
+        return Ok(());
+    };
+    for _ in 1..turns {
+        best = micros_of_next(rt, last, other)?.0.min(best);
+    }
+    println!(rt; "{best} microseconds")
+}
+
+fn change<R: Runtime + AllocGlobal>(rt: &R, bundle: &[u8], turns: Option<u64>) -> io::Result<()> {
+    let Some(inputs) = explosions::inputs_of(rt.alloc(), bundle) else {
+        return println!(rt; "no shop");
+    };
+    let Some(last) = net_changes::first_plan(rt.alloc(), &inputs) else {
+        return println!(rt; "no plan");
+    };
+    match net_changes::with_booking(rt, rt.alloc(), last.inputs()) {
+        Some(other) => tell_next(rt, &last, &other, turns),
+        None => println!(rt; "no booking"),
+    }
+}
+
 fn all<R: Runtime + AllocGlobal + Threads + Wait + Sync>(rt: &R, bundle: &[u8]) -> io::Result<()> {
     tell_rows(rt, bundle)?;
     promise(rt, bundle, None)?;
     turn(rt, None)?;
-    explode(rt, bundle, None)
+    explode(rt, bundle, None)?;
+    change(rt, bundle, None)
 }
 
 fn read_calls(word: &str) -> Option<u64> {
@@ -195,7 +254,7 @@ fn read_calls(word: &str) -> Option<u64> {
 
 fn tell_usage<R: Runtime>(rt: &R) -> io::Result<()> {
     println!(rt;
-        "usage: benches [rows | promise [CALLS] | turn [CALLS] | explode [CALLS]], at most {MANY} calls"
+        "usage: benches [rows | promise [CALLS] | turn [CALLS] | explode [CALLS] | change [CALLS]], at most {MANY} calls"
     )
 }
 
@@ -220,6 +279,7 @@ fn main(rt: HostRuntime) -> io::Result<()> {
         "promise" => promise(&rt, bundle, calls),
         "turn" => turn(&rt, calls),
         "explode" => explode(&rt, bundle, calls),
+        "change" => change(&rt, bundle, calls),
         _ => tell_usage(&rt),
     }
 }

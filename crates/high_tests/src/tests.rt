@@ -18,6 +18,7 @@ mod explosions;
 mod hints;
 mod live_days;
 mod loads;
+mod net_changes;
 mod notes;
 mod pages;
 mod pegging;

@@ -23,6 +23,7 @@ mod joined;
 mod limits;
 mod lots;
 mod making;
+mod net_changes;
 mod netting;
 mod offices;
 mod plans;

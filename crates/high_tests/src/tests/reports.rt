@@ -19,6 +19,13 @@ fn has_text(rt: &impl Abort, writer: Told<Vec<u8>>, want: &str) {
     drop(text);
 }
 
+// The report of a plan.
+pub fn report_of<R: Alloc + Abort + Threads + Sync>(rt: &R, alloc: Global, plan: &Plan) -> String {
+    let mut writer = Told::new(Vec::new(alloc));
+    same(rt, write_report(rt, alloc, plan, &mut writer, 1), Ok(()));
+    String::from_utf8(writer.into_inner()).expect(rt, "text")
+}
+
 // Fails unless a plan has this report.
 pub fn has_report<R: Alloc + Abort + Threads + Sync>(
     rt: &R,

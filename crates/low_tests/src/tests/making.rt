@@ -11,7 +11,7 @@ use std::sync::Arc;
 use std::test::Fail;
 
 // Copies of the outcomes of an item's parents, which come before it.
-fn parents_of(
+pub fn parents_of(
     alloc: Global,
     inputs: &Inputs,
     before: &[Outcome],
