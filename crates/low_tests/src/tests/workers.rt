@@ -230,8 +230,7 @@ struct Later {
 impl Gate for Later {
     fn pass<R: Wait>(&self, rt: &R, item: usize) {
         if item == 0 {
-            self.held
-                .park_timeout(rt, 0, Duration::from_micros(HELD));
+            self.held.park_timeout(rt, 0, Duration::from_micros(HELD));
         } else {
             self.components.pass(rt, item);
         }
