@@ -6,7 +6,7 @@ ghost use Rattle.mrp_item.specs.Made.{item_from, parents_from};
 
 use super::making::{outcomes_of, parents_of};
 use super::{made, same};
-use mrp_item::{Inputs, Outcome, Plan, Planner, Work};
+use mrp_item::{Inputs, Outcome, Plan, Planner, Work, carry};
 use sample_shops::{Asked, Records, bicycles_in_lots, inputs_after, morning, tower};
 use std::alloc::Global;
 use std::process::Abort;
@@ -28,13 +28,18 @@ fn remade(
     requires parents { parents.now ≡ parents_from inputs.now.value item }
     ensures { result.0 ≡ item_from inputs.now.value item }
 {
+    let is_carried = carry(old, item, inputs, parents)
+        .expect(rt, "memory")
+        .is_some();
     match work.carry(old, item, inputs, parents).expect(rt, "memory") {
         Some(carried) => {
+            same(rt, is_carried, true);
             let kept = work.keep(old, item, inputs).expect(rt, "memory");
             same(rt, kept.is_planned(), carried.is_planned());
             (kept, true)
         }
         None => {
+            same(rt, is_carried, false);
             let planned = work.plan(alloc, inputs, item, parents).expect(rt, "memory");
             (planned, false)
         }
