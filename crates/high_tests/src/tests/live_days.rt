@@ -8,7 +8,7 @@ use mrp_audit::check;
 use mrp_engine::{Day, DayFault, answer_by_desks};
 use mrp_explode::{Gate, OpenGate};
 use mrp_rows::Name;
-use sample_shops::{Records, bicycles, bicycles_in_lots, tower};
+use sample_shops::{Records, bicycles, bicycles_in_lots, no_records, tower};
 use std::alloc::Global;
 use std::io::Eprint;
 use std::process::Abort;
@@ -386,4 +386,42 @@ fn a_live_day_is_refused_by_the_first_run_and_its_desks_go_on(rt: HostRuntime) {
     same(&rt, beside.given_up.load(Ordering::SeqCst), 0);
     same(&rt, beside.records.load(Ordering::SeqCst), 3);
     drop(beside);
+}
+
+// A gate at which so many workers wait for one another. Whoever gives up waiting is counted.
+#[derive(Drop)]
+struct AllCome {
+    workers: u64,
+    came: AtomicU64,
+    given_up: AtomicU64,
+}
+
+impl Gate for AllCome {
+    fn pass<R: Wait>(&self, _rt: &R, _item: usize) {
+        let _before = self.came.fetch_add(1, Ordering::SeqCst);
+        if !comes_to(&self.came, self.workers) {
+            let _before = self.given_up.fetch_add(1, Ordering::SeqCst);
+        }
+    }
+}
+
+#[test]
+fn as_many_workers_as_were_asked_for_plan_a_run(rt: HostRuntime) {
+    let records = Records {
+        items: "A,master,0,0,lfl,0,0\nB,master,0,0,lfl,0,0\n",
+        script: "1,run,,,,\n",
+        ..no_records()
+    };
+    let gate = AllCome {
+        workers: 2,
+        came: AtomicU64::new(0),
+        given_up: AtomicU64::new(0),
+    };
+    let alloc = rt.alloc();
+    let shop = made(&rt, records.shop(alloc));
+    let day = answer_by_desks(&rt, alloc, shop, 2, &OpenGate, &gate).expect(&rt, "memory");
+    same(&rt, day.first.is_some(), true);
+    same(&rt, gate.came.load(Ordering::SeqCst), 2);
+    same(&rt, gate.given_up.load(Ordering::SeqCst), 0);
+    drop((day, gate));
 }
