@@ -4,7 +4,7 @@ use Rattle.std.proofs.lemmas.Bool.{cases_lt}
 use Rattle.std.proofs.lemmas.List.{get_or-map, get_or_past, length-map}
 use Rattle.std.proofs.lemmas.List.Elements.{All-contains_itself, Contains-get_or}
 use Rattle.std.specs.List.{All, Contains}
-use Rattle.mrp_page.specs.Known.{IsKnown, IsMadeOf, count_texts, names_shown, small_words}
+use Rattle.mrp_page.specs.Known.{IsKnown, IsMadeOf, count_texts, entries_kept, names_shown, small_words}
 use Rattle.mrp_page.specs.ItemRows.{item_lists}
 use Rattle.mrp_page.specs.Notes.{Noted, notes_of}
 use Rattle.mrp_page.specs.Page.{page_html, shown_items}
@@ -29,11 +29,12 @@ shown-names rows = λ k d within.
     let long : k < length (map (λ (r : RowView). cell_at r 0) rows) = rw (length-map rows (λ (r : RowView). cell_at r 0)) within in
     subst (λ (t : List ℕ). Contains (map (λ (r : RowView). cell_at r 0) rows) t) (get_or-map (λ (r : RowView). cell_at r 0) rows k d [] within) (Contains-get_or (map (λ (r : RowView). cell_at r 0) rows) k [] long)
 
-pub shows-known : (title : List ℕ) (items : Names) (asked : Option ℕ) (records : List Cells) → IsMadeOf (IsKnown title records (notes_of items asked records)) (Contains (names_shown (notes_of items asked records))) (page_html title (notes_of items asked records))
+pub shows-known : (title : List ℕ) (items : Names) (asked : Option ℕ) (records : List Cells) → IsMadeOf (IsKnown title records (notes_of items asked records)) (Contains (names_shown (notes_of items asked records))) (Contains (entries_kept (notes_of items asked records))) (page_html title (notes_of items asked records))
 shows-known title items asked records =
     let notes : Noted = notes_of items asked records in
-    page (λ (t : List ℕ). IsKnown title records notes t) (Contains (names_shown notes)) (λ w is. inr (inr (inr is))) title notes (inl refl)
+    page (λ (t : List ℕ). IsKnown title records notes t) (Contains (names_shown notes)) (Contains (entries_kept notes)) (λ w is. inr (inr (inr is))) title notes (inl refl)
     (λ k d within. known-cell title records notes (get_or notes.history k d) (history-stands items asked records k d within))
     (λ k d within. known-cell title records notes (get_or notes.report k d) (report-stands items asked records k d within))
     (λ k d within. inr (inr (inl (All-contains_itself (count_texts notes) k d within))))
     (shown-names (shown_items (item_lists notes.report)))
+    (shown-names notes.history)

@@ -1,27 +1,37 @@
 -- Pages consist of fixed markup and of texts that are known.
-use Rattle.std.proofs.Common.{◌≡◌, ◌∙◌, ◌⊎◌, ◌-◌, ◌<◌, ◌≤◌, ℕ, zero, suc, Bool, true, false, List, [], ◌∷◌, ◌++◌, codes, decimal, drop, get_or, length, refl, sym, ap, subst, arith, inl, inr, not}
-use Rattle.std.specs.Prelude.{if◌then◌else◌, ◌==◌, ◌&&◌, ◌||◌, nat_lt}
+use Rattle.std.proofs.Common.{◌≡◌, ◌∙◌, ◌⊎◌, ◌-◌, ◌<◌, ◌≤◌, ℕ, zero, suc, Bool, true, false, Some, List, [], ◌∷◌, ◌++◌, codes, decimal, drop, get_or, length, refl, sym, ap, subst, take, unwrap_or, arith, inl, inr, not}
+use Rattle.std.specs.Prelude.{if◌then◌else◌, ◌==◌, ◌&&◌, ◌||◌, ◌*◌, count_by, nat_le, nat_lt}
 use Rattle.std.proofs.lemmas.Bool.{cases_lt}
 use Rattle.std.proofs.lemmas.List.{append-nil, get_or_past}
 use Rattle.std.proofs.lemmas.List.Concat.{flat_map-append}
 use Rattle.std.proofs.lemmas.List.Folds.{Any-from_list_any}
 use Rattle.std.proofs.lemmas.Slice.Eq.{bytes_eq-Decides}
-use Rattle.std.proofs.lemmas.List.Elements.{All-append, All-cons, All-contains, All-contains_itself, All-drop, All-nil, All-take, Contains-append_left, Contains-append_right}
-use Rattle.std.specs.List.{All, Contains, flat_map, position_or_len}
-use Rattle.mrp_page.specs.Draw.{balance_html, bars_html, booked_html, centre_html, centre_rows_html, centres_html, each_centre, grid_html, has_firm, has_item, has_none, history_html, is_plain, item_html, item_lists_html, item_name_html, item_tasks, items_html, link_html, loads_html, measure_html, more_html, more_items, more_lists, more_rows, more_weeks, named_note, named_record, named_tasks, orders_html, other_if, other_tasks, pegs_html, planned_html, points_html, promised_html, record_html, record_or_none, record_rows, supplies_html, table_html, task_html, task_if, task_table, tasks_html, tasks_with, todo_back, todo_html, weeks_html}
+use Rattle.std.proofs.lemmas.List.Elements.{All-append, All-cons, All-contains, All-contains_itself, All-drop, All-filter, All-nil, All-take, Contains-append_left, Contains-append_right}
+use Rattle.std.specs.List.{All, Contains, find, flat_map, position_or_len}
+use Rattle.mrp_page.specs.ByWord.{by_word, with_word}
+use Rattle.mrp_page.specs.Draw.{balance_html, bars_html, booked_html, centre_html, centre_rows_html, centres_html, each_centre, grid_html, has_firm, has_item, has_none, history_html, is_plain, item_html, item_lists_html, item_name_html, item_tasks, items_html, link_html, loads_html, measure_html, more_html, more_items, more_lists, more_rows, more_weeks, named_note, named_record, named_tasks, orders_html, other_if, other_tasks, pegs_html, planned_html, points_html, promised_html, record_html, record_or_none, record_rows, supplies_html, table_html, task_html, task_if, task_table, tasks_html, tasks_with, weeks_html}
 use Rattle.mrp_page.specs.Escaped.{escaped}
+use Rattle.mrp_page.specs.Folded.{Listing, capped_html, folded_html, hidden_html, listed_html}
 use Rattle.mrp_page.specs.Frame.{count_row, frame_of, heading, last_week}
 use Rattle.mrp_page.specs.Html.{is_zero, number_html, number_tag}
 use Rattle.mrp_page.specs.ItemRows.{ItemLists, item_lists}
-use Rattle.mrp_page.specs.Known.{IsMadeOf, IsPieceOf, count_texts, layouts, marks_of, own_words, plain, small_words}
-use Rattle.mrp_page.specs.Laws.{Escaped, Link, Markup, piece_html}
-use Rattle.mrp_page.specs.Layout.{available_label, balance_chart, balance_label, bar, bars_end, booked_label, capacity_label, centre_head, centres_open, entry, firm_label, grid_end, gross_label, history_end, history_open, item_head, item_tasks_end, item_tasks_open, list_end, load_chart, load_label, more, no_promises, no_record, order, orders_open, other_words, over_label, page_end, page_head, page_top, peg, pegs_open, planned_label, point, points_end, record_head, scheduled_label, section_end, starts_label, style, task_head, task_words, todo_end, todo_open, week, weeks_end}
+use Rattle.std.proofs.lemmas.List.Sorted.{All-permutation}
+use Rattle.mrp_page.specs.declared.kinds.Sorting.{Sorting}
+use Rattle.mrp_page.specs.declared.kinds.Sorting.TheVariants as sorts
+use Rattle.mrp_page.specs.Sorted.{sorted_by}
+use Rattle.mrp_page.proofs.ByKey.{sorted-permutes}
+use Rattle.mrp_page.specs.Kinds.{Kind, cancel, earlier, falling_rank, in_order, is_order_of, kind_html, kind_listing, kind_part, kinds_html, late, later, messages_of, note_html, order_html, other, other_messages, other_part, release, state_of, task_line, todo_back, todo_html, value_rank}
+use Rattle.mrp_page.specs.Known.{IsMadeOf, IsPieceOf, count_texts, layouts, list_counts, marks_of, message_lists, own_counts, own_words, plain, small_words, summary_counts}
+use Rattle.mrp_page.specs.Laws.{Entry, Escaped, Link, Markup, piece_html}
+use Rattle.mrp_page.specs.Layout.{available_label, balance_chart, balance_label, bar, bars_end, booked_label, cancel_front, cancel_open, capacity_label, centre_head, centre_tile, centres_open, entry, firm_label, grid_end, gross_label, history_end, history_open, in_front, in_open, item_head, item_tasks_end, item_tasks_open, late_front, late_open, list_end, load_chart, load_label, main_open, more, no_promises, no_record, none_refused, nothing_to_do, order, order_start, order_unknown, order_week, orders_open, other_cells, other_front, other_open, other_words, out_front, out_open, over_label, page_end, page_head, page_top, peg, pegs_open, planned_label, point, points_end, record_head, refused_answer, refused_asked, refused_desk, refused_end, refused_front, refused_open, refused_row, release_front, release_open, rest_end, rest_open, row_end, scheduled_label, section_end, starts_label, style, summary_open, summary_tile, table_end, task_head, task_row, task_supply, task_words, to_week, todo_note, todo_open, week, weeks_end, weeks_late}
 use Rattle.mrp_page.specs.Notes.{Noted}
 use Rattle.mrp_page.specs.Page.{head_html, is_told, items_of, load_section, page_html, page_of, rest_html, shown_items, told_first, top_html, untold_rows}
+use Rattle.mrp_page.specs.Refused.{answer_html, asked_of, call_html, caller_html, entry_link_html, entry_name_html, is_booking, refusals, refused_back, refused_lines, refused_listing, refused_or_none, refused_rows, refused_section}
 use Rattle.mrp_page.specs.Row.{Cells, RowView, cell_at, is_in, is_of}
 use Rattle.mrp_page.specs.Rows.{greatest, higher, leader_rows, leaders, rank, rows_in, rows_named, stretch}
+use Rattle.mrp_page.specs.Summary.{calls_tiles, centre_count, centres_tile, count_with, is_undone, kind_tile, kinds_tiles, overloads, place_or, summary_html, tile, tile_html}
 use Rattle.mrp_page.specs.Template.{Drawn, Mark, Number, Text, Where, has_word, number_at, numbers_html, part_html, row_html, rows_html}
-use Rattle.mrp_page.specs.declared.limits.TheConstants.{MOST_ITEMS}
+use Rattle.mrp_page.specs.declared.limits.TheConstants.{FEW_ROWS, MOST_ITEMS, MOST_LINES, SOME_ROWS}
 use Rattle.mrp_page.specs.declared.counts.Counts.{Counts}
 use Rattle.mrp_day.specs.declared.section.Section.{Section}
 use Rattle.mrp_day.specs.declared.section.Section.TheVariants as s
@@ -124,6 +134,82 @@ laid-other_words : Contains layouts other_words
 unfolding layouts
 laid-other_words = (16, omega arith, refl)
 
+laid-rest_open : Contains layouts rest_open
+unfolding layouts
+laid-rest_open = (17, omega arith, refl)
+
+laid-refused_answer : Contains layouts refused_answer
+unfolding layouts
+laid-refused_answer = (18, omega arith, refl)
+
+laid-refused_asked : Contains layouts refused_asked
+unfolding layouts
+laid-refused_asked = (19, omega arith, refl)
+
+laid-refused_desk : Contains layouts refused_desk
+unfolding layouts
+laid-refused_desk = (20, omega arith, refl)
+
+laid-task_supply : Contains layouts task_supply
+unfolding layouts
+laid-task_supply = (21, omega arith, refl)
+
+laid-order_start : Contains layouts order_start
+unfolding layouts
+laid-order_start = (22, omega arith, refl)
+
+laid-order_week : Contains layouts order_week
+unfolding layouts
+laid-order_week = (23, omega arith, refl)
+
+laid-weeks_late : Contains layouts weeks_late
+unfolding layouts
+laid-weeks_late = (24, omega arith, refl)
+
+laid-to_week : Contains layouts to_week
+unfolding layouts
+laid-to_week = (25, omega arith, refl)
+
+laid-row_end : Contains layouts row_end
+unfolding layouts
+laid-row_end = (26, omega arith, refl)
+
+laid-other_cells : Contains layouts other_cells
+unfolding layouts
+laid-other_cells = (27, omega arith, refl)
+
+laid-late_open : Contains layouts late_open
+unfolding layouts
+laid-late_open = (28, omega arith, refl)
+
+laid-release_open : Contains layouts release_open
+unfolding layouts
+laid-release_open = (29, omega arith, refl)
+
+laid-in_open : Contains layouts in_open
+unfolding layouts
+laid-in_open = (30, omega arith, refl)
+
+laid-out_open : Contains layouts out_open
+unfolding layouts
+laid-out_open = (31, omega arith, refl)
+
+laid-cancel_open : Contains layouts cancel_open
+unfolding layouts
+laid-cancel_open = (32, omega arith, refl)
+
+laid-other_open : Contains layouts other_open
+unfolding layouts
+laid-other_open = (33, omega arith, refl)
+
+laid-summary_tile : Contains layouts summary_tile
+unfolding layouts
+laid-summary_tile = (34, omega arith, refl)
+
+laid-centre_tile : Contains layouts centre_tile
+unfolding layouts
+laid-centre_tile = (35, omega arith, refl)
+
 own-style : Contains own_words style
 unfolding plain
 own-style = own style 0 (omega arith) refl
@@ -132,9 +218,9 @@ own-todo_open : Contains own_words todo_open
 unfolding plain
 own-todo_open = own todo_open 1 (omega arith) refl
 
-own-todo_end : Contains own_words todo_end
+own-nothing_to_do : Contains own_words nothing_to_do
 unfolding plain
-own-todo_end = own todo_end 2 (omega arith) refl
+own-nothing_to_do = own nothing_to_do 2 (omega arith) refl
 
 own-item_tasks_open : Contains own_words item_tasks_open
 unfolding plain
@@ -264,6 +350,103 @@ own-no_promises : Contains own_words no_promises
 unfolding plain
 own-no_promises = own no_promises 34 (omega arith) refl
 
+own-table_end : Contains own_words table_end
+unfolding plain
+own-table_end = own table_end 35 (omega arith) refl
+
+own-rest_end : Contains own_words rest_end
+unfolding plain
+own-rest_end = own rest_end 36 (omega arith) refl
+
+own-refused_open : Contains own_words refused_open
+unfolding plain
+own-refused_open = own refused_open 37 (omega arith) refl
+
+own-none_refused : Contains own_words none_refused
+unfolding plain
+own-none_refused = own none_refused 38 (omega arith) refl
+
+own-refused_front : Contains own_words refused_front
+unfolding plain
+own-refused_front = own refused_front 39 (omega arith) refl
+
+own-refused_row : Contains own_words refused_row
+unfolding plain
+own-refused_row = own refused_row 40 (omega arith) refl
+
+own-refused_end : Contains own_words refused_end
+unfolding plain
+own-refused_end = own refused_end 41 (omega arith) refl
+
+own-todo_note : Contains own_words todo_note
+unfolding plain
+own-todo_note = own todo_note 42 (omega arith) refl
+
+own-task_row : Contains own_words task_row
+unfolding plain
+own-task_row = own task_row 43 (omega arith) refl
+
+own-order_unknown : Contains own_words order_unknown
+unfolding plain
+own-order_unknown = own order_unknown 44 (omega arith) refl
+
+own-late_front : Contains own_words late_front
+unfolding plain
+own-late_front = own late_front 45 (omega arith) refl
+
+own-release_front : Contains own_words release_front
+unfolding plain
+own-release_front = own release_front 46 (omega arith) refl
+
+own-in_front : Contains own_words in_front
+unfolding plain
+own-in_front = own in_front 47 (omega arith) refl
+
+own-out_front : Contains own_words out_front
+unfolding plain
+own-out_front = own out_front 48 (omega arith) refl
+
+own-cancel_front : Contains own_words cancel_front
+unfolding plain
+own-cancel_front = own cancel_front 49 (omega arith) refl
+
+own-other_front : Contains own_words other_front
+unfolding plain
+own-other_front = own other_front 50 (omega arith) refl
+
+own-summary_open : Contains own_words summary_open
+unfolding plain
+own-summary_open = own summary_open 51 (omega arith) refl
+
+own-main_open : Contains own_words main_open
+unfolding plain
+own-main_open = own main_open 52 (omega arith) refl
+
+-- the markup of a kind of messages is the page's own
+record OfKind (kind : Kind) : Type 0 where
+  open-laid : Contains layouts kind.head
+  front-own : Contains own_words kind.front
+  order-laid : Contains layouts kind.order
+  value-laid : Contains layouts kind.value
+
+of-late : OfKind late
+of-late = record { open-laid = laid-late_open; front-own = own-late_front; order-laid = laid-order_start; value-laid = laid-weeks_late }
+
+of-release : OfKind release
+of-release = record { open-laid = laid-release_open; front-own = own-release_front; order-laid = laid-order_start; value-laid = laid-row_end }
+
+of-earlier : OfKind earlier
+of-earlier = record { open-laid = laid-in_open; front-own = own-in_front; order-laid = laid-order_week; value-laid = laid-to_week }
+
+of-later : OfKind later
+of-later = record { open-laid = laid-out_open; front-own = own-out_front; order-laid = laid-order_week; value-laid = laid-to_week }
+
+of-cancel : OfKind cancel
+of-cancel = record { open-laid = laid-cancel_open; front-own = own-cancel_front; order-laid = laid-order_week; value-laid = laid-row_end }
+
+of-other : OfKind other
+of-other = record { open-laid = laid-other_open; front-own = own-other_front; order-laid = laid-order_week; value-laid = laid-other_cells }
+
 -- if some rows are kept, each of them is among all
 module _ {X : Type 0} (P : X → Type 0) where
   pub all-stretch : (p : X → Bool) (xs : List X) → All P xs → All P (stretch p xs)
@@ -288,6 +471,20 @@ module _ (P : RowView → Type 0) where
   all-leaders previous (r ∷ rows) all =
       All-append P (leader_rows previous r) (leaders (cell_at r 0) rows) (all-if P (is_of previous r) r (all 0 r (omega arith))) (all-leaders (cell_at r 0) rows (λ k d within. all (suc k) d (omega arith)))
 
+  pub all-by-word : (column : ℕ) (words : List (List ℕ)) (rows : List RowView) → All P rows → All P (by_word column words rows)
+  unfolding by_word
+  all-by-word column [] rows all = All-nil P
+  all-by-word column (word ∷ words) rows all = All-append P (with_word column rows word) (flat_map (with_word column rows) words) (All-filter (has_word column word) P rows all) (all-by-word column words rows all)
+
+  -- what is found among rows, or a row like them
+  pub found-or : (p : RowView → Bool) (rows : List RowView) (other : RowView) → All P rows → P other → P (unwrap_or (find p rows) other)
+  found-or p [] other all is = is
+  found-or p (r ∷ rows) other all is = by (p r) (all 0 r (omega arith)) (found-or p rows other (λ k d within. all (suc k) d (omega arith)) is)
+    where
+      by : (b : Bool) → P r → P (unwrap_or (find p rows) other) → P (unwrap_or (if b then Some r else find p rows) other)
+      by true here rest = here
+      by false here rest = rest
+
   pub all-told : (messages plan : List RowView) → All P messages → All P plan → All P (told_first messages plan)
   unfolding told_first
   all-told messages plan of-messages of-plan =
@@ -304,28 +501,28 @@ named-item shown name has =
     let (k, r, within, at, is) = Any-from_list_any (is_of name) shown has in
     (r, (k, within, at), (bytes_eq-Decides (cell_at r 0) name).0 is)
 
-module _ (K L : List ℕ → Type 0) (words : (w : List ℕ) → Contains small_words w → K w) where
-  none : IsMadeOf K L []
-  none = ([], All-nil (IsPieceOf K L), refl)
+module _ (K L E : List ℕ → Type 0) (words : (w : List ℕ) → Contains small_words w → K w) where
+  none : IsMadeOf K L E []
+  none = ([], All-nil (IsPieceOf K L E), refl)
 
-  mark : (m : List ℕ) → Contains own_words m → IsMadeOf K L m
-  mark m is = (Markup m ∷ [], All-cons (IsPieceOf K L) (Markup m) [] is (All-nil (IsPieceOf K L)), sym (append-nil m))
+  mark : (m : List ℕ) → Contains own_words m → IsMadeOf K L E m
+  mark m is = (Markup m ∷ [], All-cons (IsPieceOf K L E) (Markup m) [] is (All-nil (IsPieceOf K L E)), sym (append-nil m))
 
-  text : (t : List ℕ) → K t → IsMadeOf K L (escaped t)
-  text t known = (Escaped t ∷ [], All-cons (IsPieceOf K L) (Escaped t) [] known (All-nil (IsPieceOf K L)), sym (append-nil (escaped t)))
+  text : (t : List ℕ) → K t → IsMadeOf K L E (escaped t)
+  text t known = (Escaped t ∷ [], All-cons (IsPieceOf K L E) (Escaped t) [] known (All-nil (IsPieceOf K L E)), sym (append-nil (escaped t)))
 
-  join : (a b : List ℕ) → IsMadeOf K L a → IsMadeOf K L b → IsMadeOf K L (a ++ b)
+  join : (a b : List ℕ) → IsMadeOf K L E a → IsMadeOf K L E b → IsMadeOf K L E (a ++ b)
   join a b x y = (
     x.0 ++ y.0,
-    All-append (IsPieceOf K L) x.0 y.0 x.1 y.1,
+    All-append (IsPieceOf K L E) x.0 y.0 x.1 y.1,
     ap (λ (t : List ℕ). t ++ b) x.2 ∙ ap (λ (t : List ℕ). flat_map piece_html x.0 ++ t) y.2 ∙ sym (flat_map-append piece_html x.0 y.0),
   )
 
-  each : {X : Type 0} (P : X → Type 0) (f : X → List ℕ) → ((x : X) → P x → IsMadeOf K L (f x)) → (xs : List X) → All P xs → IsMadeOf K L (flat_map f xs)
+  each : {X : Type 0} (P : X → Type 0) (f : X → List ℕ) → ((x : X) → P x → IsMadeOf K L E (f x)) → (xs : List X) → All P xs → IsMadeOf K L E (flat_map f xs)
   each P f made [] all = none
   each P f made (x ∷ xs) all = join (f x) (flat_map f xs) (made x (all 0 x (omega arith))) (each P f made xs (λ k d within. all (suc k) d (omega arith)))
 
-  either : (b : Bool) (x y : List ℕ) → IsMadeOf K L x → IsMadeOf K L y → IsMadeOf K L (if b then x else y)
+  either : (b : Bool) (x y : List ℕ) → IsMadeOf K L E x → IsMadeOf K L E y → IsMadeOf K L E (if b then x else y)
   either true x y of-x of-y = of-x
   either false x y of-x of-y = of-y
 
@@ -355,67 +552,67 @@ module _ (K L : List ℕ → Type 0) (words : (w : List ℕ) → Contains small_
       by (inl within) = all column [] within
       by (inr past) = subst K (sym (get_or_past cells column [] past)) nothing
 
-  number-tag : (b : Bool) → IsMadeOf K L (if b then codes "<td class=z>" else codes "<td>")
+  number-tag : (b : Bool) → IsMadeOf K L E (if b then codes "<td class=z>" else codes "<td>")
   number-tag b = either b (codes "<td class=z>") (codes "<td>") (mark (codes "<td class=z>") own-zero) (mark (codes "<td>") own-cell)
 
-  number : (t : List ℕ) → K t → IsMadeOf K L (number_html t)
+  number : (t : List ℕ) → K t → IsMadeOf K L E (number_html t)
   number t known = join (number_tag t) (escaped t ++ codes "</td>") (number-tag (is_zero t)) (join (escaped t) (codes "</td>") (text t known) (mark (codes "</td>") own-cell-end))
 
-  part : (r : RowView) (p : Drawn) → ((column : ℕ) → K (cell_at r column)) → IsOwn p → IsMadeOf K L (part_html r p)
+  part : (r : RowView) (p : Drawn) → ((column : ℕ) → K (cell_at r column)) → IsOwn p → IsMadeOf K L E (part_html r p)
   part r (Mark m) known is = mark m (is 0 m (omega arith))
   part r (Where column word m) known is = either (has_word column word r) m [] (mark m (is 0 m (omega arith))) none
   part r (Text column) known is = text (cell_at r column) (known column)
   part r (Number column) known is = number (cell_at r column) (known column)
 
-  row : (parts : List Drawn) (r : RowView) → Contains layouts parts → ((column : ℕ) → K (cell_at r column)) → IsMadeOf K L (row_html parts r)
+  row : (parts : List Drawn) (r : RowView) → Contains layouts parts → ((column : ℕ) → K (cell_at r column)) → IsMadeOf K L E (row_html parts r)
   unfolding row_html
   row parts r laid known = each IsOwn (part_html r) (λ p is. part r p known is) parts (own-parts parts laid)
 
-  rows : (parts : List Drawn) (rs : List RowView) → Contains layouts parts → All (λ (r : RowView). (column : ℕ) → K (cell_at r column)) rs → IsMadeOf K L (rows_html parts rs)
+  rows : (parts : List Drawn) (rs : List RowView) → Contains layouts parts → All (λ (r : RowView). (column : ℕ) → K (cell_at r column)) rs → IsMadeOf K L E (rows_html parts rs)
   unfolding rows_html
   rows parts rs laid all = each (λ (r : RowView). (column : ℕ) → K (cell_at r column)) (row_html parts) (λ r known. row parts r laid known) rs all
 
-  numbers : (column : ℕ) (rs : List RowView) → All (λ (r : RowView). (column : ℕ) → K (cell_at r column)) rs → IsMadeOf K L (numbers_html column rs)
+  numbers : (column : ℕ) (rs : List RowView) → All (λ (r : RowView). (column : ℕ) → K (cell_at r column)) rs → IsMadeOf K L E (numbers_html column rs)
   unfolding numbers_html
   numbers column rs all = each (λ (r : RowView). (column : ℕ) → K (cell_at r column)) (number_at column) (λ r known. number (cell_at r column) (known column)) rs all
 
-  table : (front : List ℕ) (parts : List Drawn) (rs : List RowView) (back : List ℕ) → Contains own_words front → Contains layouts parts → All (λ (r : RowView). (column : ℕ) → K (cell_at r column)) rs → Contains own_words back → IsMadeOf K L (table_html front parts rs back)
+  table : (front : List ℕ) (parts : List Drawn) (rs : List RowView) (back : List ℕ) → Contains own_words front → Contains layouts parts → All (λ (r : RowView). (column : ℕ) → K (cell_at r column)) rs → Contains own_words back → IsMadeOf K L E (table_html front parts rs back)
   unfolding table_html
   table front parts rs back of-front laid all of-back = join front (rows_html parts rs ++ back) (mark front of-front) (join (rows_html parts rs) back (rows parts rs laid all) (mark back of-back))
 
-  measure : (label : List ℕ) (column : ℕ) (rs : List RowView) → Contains own_words label → All (λ (r : RowView). (column : ℕ) → K (cell_at r column)) rs → IsMadeOf K L (measure_html label column rs)
+  measure : (label : List ℕ) (column : ℕ) (rs : List RowView) → Contains own_words label → All (λ (r : RowView). (column : ℕ) → K (cell_at r column)) rs → IsMadeOf K L E (measure_html label column rs)
   unfolding measure_html
   measure label column rs is all = join label (numbers_html column rs ++ codes "</tr>\n") (mark label is) (join (numbers_html column rs) (codes "</tr>\n") (numbers column rs all) (mark (codes "</tr>\n") own-row-end))
 
-  link : (name : List ℕ) → L name → IsMadeOf K L (link_html name)
-  link name leads = (Link name ∷ [], All-cons (IsPieceOf K L) (Link name) [] leads (All-nil (IsPieceOf K L)), sym (append-nil (link_html name)))
+  link : (name : List ℕ) → L name → IsMadeOf K L E (link_html name)
+  link name leads = (Link name ∷ [], All-cons (IsPieceOf K L E) (Link name) [] leads (All-nil (IsPieceOf K L E)), sym (append-nil (link_html name)))
 
-  item-name : (shown : List RowView) (name : List ℕ) → All (λ (r : RowView). L (cell_at r 0)) shown → K name → IsMadeOf K L (item_name_html shown name)
+  item-name : (shown : List RowView) (name : List ℕ) → All (λ (r : RowView). L (cell_at r 0)) shown → K name → IsMadeOf K L E (item_name_html shown name)
   unfolding item_name_html
   item-name shown name led known = by (has_item shown name) refl
     where
-      by : (b : Bool) → has_item shown name ≡ b → IsMadeOf K L (if b then link_html name else escaped name)
+      by : (b : Bool) → has_item shown name ≡ b → IsMadeOf K L E (if b then link_html name else escaped name)
       by true has = link name (subst L (named-item shown name has).2 (All-contains (λ (r : RowView). L (cell_at r 0)) shown (named-item shown name has).0 led (named-item shown name has).1))
       by false has = text name known
 
-  task : (shown : List RowView) (says : List Drawn) (r : RowView) → Contains layouts says → All (λ (r : RowView). L (cell_at r 0)) shown → ((column : ℕ) → K (cell_at r column)) → IsMadeOf K L (task_html shown says r)
+  task : (shown : List RowView) (says : List Drawn) (r : RowView) → Contains layouts says → All (λ (r : RowView). L (cell_at r 0)) shown → ((column : ℕ) → K (cell_at r column)) → IsMadeOf K L E (task_html shown says r)
   unfolding task_html
   task shown says r laid led known =
       join (row_html task_head r) (item_name_html shown (cell_at r 0) ++ row_html says r) (row task_head r laid-task_head known)
       (join (item_name_html shown (cell_at r 0)) (row_html says r) (item-name shown (cell_at r 0) led (known 0)) (row says r laid known))
 
-  tasks-word : (shown : List RowView) (word : List ℕ) (ms : List RowView) → All (λ (r : RowView). L (cell_at r 0)) shown → All (λ (r : RowView). (column : ℕ) → K (cell_at r column)) ms → IsMadeOf K L (tasks_with shown word ms)
+  tasks-word : (shown : List RowView) (word : List ℕ) (ms : List RowView) → All (λ (r : RowView). L (cell_at r 0)) shown → All (λ (r : RowView). (column : ℕ) → K (cell_at r column)) ms → IsMadeOf K L E (tasks_with shown word ms)
   unfolding tasks_with
   tasks-word shown word ms led all = each (λ (r : RowView). (column : ℕ) → K (cell_at r column)) (task_if shown word) (λ r known. either (has_word 3 word r) (task_html shown task_words r) [] (task shown task_words r laid-task_words led known) none) ms all
 
-  tasks-other : (shown ms : List RowView) → All (λ (r : RowView). L (cell_at r 0)) shown → All (λ (r : RowView). (column : ℕ) → K (cell_at r column)) ms → IsMadeOf K L (other_tasks shown ms)
+  tasks-other : (shown ms : List RowView) → All (λ (r : RowView). L (cell_at r 0)) shown → All (λ (r : RowView). (column : ℕ) → K (cell_at r column)) ms → IsMadeOf K L E (other_tasks shown ms)
   unfolding other_tasks
   tasks-other shown ms led all = each (λ (r : RowView). (column : ℕ) → K (cell_at r column)) (other_if shown) (λ r known. either (is_plain r) [] (task_html shown other_words r) none (task shown other_words r laid-other_words led known)) ms all
 
-  tasks : (shown ms : List RowView) → All (λ (r : RowView). L (cell_at r 0)) shown → All (λ (r : RowView). (column : ℕ) → K (cell_at r column)) ms → IsMadeOf K L (tasks_html shown ms)
+  tasks : (shown ms : List RowView) → All (λ (r : RowView). L (cell_at r 0)) shown → All (λ (r : RowView). (column : ℕ) → K (cell_at r column)) ms → IsMadeOf K L E (tasks_html shown ms)
   unfolding tasks_html
   tasks shown ms led all =
-      let of : (word : List ℕ) → IsMadeOf K L (tasks_with shown word ms) = λ word. tasks-word shown word ms led all in
+      let of : (word : List ℕ) → IsMadeOf K L E (tasks_with shown word ms) = λ word. tasks-word shown word ms led all in
       let late : List ℕ = tasks_with shown (codes "PAST-DUE") ms in
       let release : List ℕ = tasks_with shown (codes "RELEASE") ms in
       let sooner : List ℕ = tasks_with shown (codes "IN") ms in
@@ -426,7 +623,7 @@ module _ (K L : List ℕ → Type 0) (words : (w : List ℕ) → Contains small_
       (join release (sooner ++ (later ++ (cancel ++ other))) (of (codes "RELEASE"))
       (join sooner (later ++ (cancel ++ other)) (of (codes "IN")) (join later (cancel ++ other) (of (codes "OUT")) (join cancel other (of (codes "CANCEL")) (tasks-other shown ms led all)))))
 
-  told : (front : List ℕ) (shown ms : List RowView) (back : List ℕ) → Contains own_words front → All (λ (r : RowView). L (cell_at r 0)) shown → All (λ (r : RowView). (column : ℕ) → K (cell_at r column)) ms → Contains own_words back → IsMadeOf K L (task_table front shown ms back)
+  told : (front : List ℕ) (shown ms : List RowView) (back : List ℕ) → Contains own_words front → All (λ (r : RowView). L (cell_at r 0)) shown → All (λ (r : RowView). (column : ℕ) → K (cell_at r column)) ms → Contains own_words back → IsMadeOf K L E (task_table front shown ms back)
   unfolding task_table
   told front shown ms back of-front led all of-back = join front (tasks_html shown ms ++ back) (mark front of-front) (join (tasks_html shown ms) back (tasks shown ms led all) (mark back of-back))
 
@@ -438,31 +635,242 @@ module _ (K L : List ℕ → Type 0) (words : (w : List ℕ) → Contains small_
       by true = of-one
       by false = of-many
 
-  further : (count : ℕ) (one many : List ℕ) → K (decimal count) → K one → K many → IsMadeOf K L (more_html count one many)
+  further : (count : ℕ) (one many : List ℕ) → K (decimal count) → K one → K many → IsMadeOf K L E (more_html count one many)
   unfolding more_html
   further count one many of-count of-one of-many = either (count == 0) [] (row_html more (count_row count one many)) none (row more (count_row count one many) laid-more (counted count one many of-count of-one of-many))
 
-  todo-back : (missed : ℕ) → K (decimal missed) → IsMadeOf K L (todo_back missed)
-  unfolding todo_back small_words
-  todo-back missed known = (join (more_html missed (codes "message, perhaps an urgent one, is") (codes "messages, urgent ones perhaps among them, are")) section_end (further missed (codes "message, perhaps an urgent one, is") (codes "messages, urgent ones perhaps among them, are") known (small (codes "message, perhaps an urgent one, is") 3 (omega arith) refl) (small (codes "messages, urgent ones perhaps among them, are") 4 (omega arith) refl)) (mark section_end own-section_end))
+  entry-link : (number : List ℕ) → E number → IsMadeOf K L E (entry_link_html number)
+  entry-link number kept = (Entry number ∷ [], All-cons (IsPieceOf K L E) (Entry number) [] kept (All-nil (IsPieceOf K L E)), sym (append-nil (entry_link_html number)))
 
-  todo : (shown ms : List RowView) (missed : ℕ) → All (λ (r : RowView). L (cell_at r 0)) shown → All (λ (r : RowView). (column : ℕ) → K (cell_at r column)) ms → K (decimal missed) → IsMadeOf K L (todo_html shown ms missed)
-  unfolding todo_html
-  todo shown ms missed led all known = join (task_table todo_open shown ms todo_end) (todo_back missed) (told todo_open shown ms todo_end own-todo_open led all own-todo_end) (todo-back missed known)
+  entry-name : (history : List RowView) (number : List ℕ) → All (λ (r : RowView). E (cell_at r 0)) history → K number → IsMadeOf K L E (entry_name_html history number)
+  unfolding entry_name_html
+  entry-name history number kept known = by (has_item history number) refl
+    where
+      by : (b : Bool) → has_item history number ≡ b → IsMadeOf K L E (if b then entry_link_html number else escaped number)
+      by true has = entry-link number (subst E (named-item history number has).2 (All-contains (λ (r : RowView). E (cell_at r 0)) history (named-item history number has).0 kept (named-item history number has).1))
+      by false has = text number known
 
-  weeks : (rs : List RowView) → All (λ (r : RowView). (column : ℕ) → K (cell_at r column)) rs → IsMadeOf K L (weeks_html rs)
+  listed : (listing : Listing) (rs : List RowView) → Contains own_words listing.front → Contains own_words listing.back → ((r : RowView) → ((column : ℕ) → K (cell_at r column)) → IsMadeOf K L E (listing.line r))
+      → All (λ (r : RowView). (column : ℕ) → K (cell_at r column)) rs → IsMadeOf K L E (listed_html listing rs)
+  unfolding listed_html
+  listed listing rs of-front of-back line all =
+      either (has_none rs) [] (listing.front ++ (flat_map listing.line rs ++ listing.back)) none
+      (join listing.front (flat_map listing.line rs ++ listing.back) (mark listing.front of-front)
+      (join (flat_map listing.line rs) listing.back (each (λ (r : RowView). (column : ℕ) → K (cell_at r column)) listing.line line rs all) (mark listing.back of-back)))
+
+  folded : (listing : Listing) (most : ℕ) (rs : List RowView) → Contains own_words listing.front → Contains own_words listing.back → ((r : RowView) → ((column : ℕ) → K (cell_at r column)) → IsMadeOf K L E (listing.line r))
+      → All (λ (r : RowView). (column : ℕ) → K (cell_at r column)) rs → K (decimal (length (drop most rs))) → IsMadeOf K L E (folded_html listing most rs)
+  unfolding folded_html hidden_html
+  folded listing most rs of-front of-back line all count =
+      let rest : List RowView = drop most rs in
+      let of-rest : All (λ (r : RowView). (column : ℕ) → K (cell_at r column)) rest = All-drop (λ (r : RowView). (column : ℕ) → K (cell_at r column)) most rs all in
+      join (listed_html listing (take most rs)) (hidden_html listing rest)
+      (listed listing (take most rs) of-front of-back line (All-take (λ (r : RowView). (column : ℕ) → K (cell_at r column)) most rs all))
+      (either (has_none rest) [] (row_html rest_open (count_row (length rest) [] []) ++ (listed_html listing rest ++ rest_end)) none
+      (join (row_html rest_open (count_row (length rest) [] [])) (listed_html listing rest ++ rest_end) (row rest_open (count_row (length rest) [] []) laid-rest_open (counted (length rest) [] [] count nothing nothing))
+      (join (listed_html listing rest) rest_end (listed listing rest of-front of-back line of-rest) (mark rest_end own-rest_end))))
+
+  asked : (history : List RowView) (r : RowView) → All (λ (r : RowView). (column : ℕ) → K (cell_at r column)) history → ((column : ℕ) → K (cell_at r column)) → (column : ℕ) → K (cell_at (asked_of history r) column)
+  unfolding asked_of
+  asked history r all known = by (has_word 2 (codes "cancel") r)
+    where
+      by : (b : Bool) → (column : ℕ) → K (cell_at (if b then unwrap_or (find (is_booking (cell_at r 6)) history) r else r) column)
+      by true = found-or (λ (r : RowView). (column : ℕ) → K (cell_at r column)) (is_booking (cell_at r 6)) history r all known
+      by false = known
+
+  call : (shown history : List RowView) (of r : RowView) → All (λ (r : RowView). L (cell_at r 0)) shown → All (λ (r : RowView). E (cell_at r 0)) history → ((column : ℕ) → K (cell_at of column)) → ((column : ℕ) → K (cell_at r column)) → IsMadeOf K L E (call_html shown history of r)
+  unfolding call_html answer_html caller_html
+  call shown history of r led kept of-known known =
+      let name : List ℕ = item_name_html shown (cell_at of 3) in
+      let answer : List ℕ = row_html refused_answer r in
+      let named : List ℕ = entry_name_html history (cell_at r 6) in
+      let pieces : List ℕ = row_html refused_asked of in
+      let desk : List ℕ = row_html refused_desk r in
+      let own-entry : List ℕ = entry_name_html history (cell_at r 0) in
+      join refused_row (name ++ ((answer ++ named) ++ (pieces ++ (desk ++ (own-entry ++ refused_end))))) (mark refused_row own-refused_row)
+      (join name ((answer ++ named) ++ (pieces ++ (desk ++ (own-entry ++ refused_end)))) (item-name shown (cell_at of 3) led (of-known 3))
+      (join (answer ++ named) (pieces ++ (desk ++ (own-entry ++ refused_end))) (join answer named (row refused_answer r laid-refused_answer known) (entry-name history (cell_at r 6) kept (known 6)))
+      (join pieces (desk ++ (own-entry ++ refused_end)) (row refused_asked of laid-refused_asked of-known)
+      (join desk (own-entry ++ refused_end) (row refused_desk r laid-refused_desk known)
+      (join own-entry refused_end (entry-name history (cell_at r 0) kept (known 0)) (mark refused_end own-refused_end))))))
+
+  unkept : (shown history : List RowView) (missed : ℕ) → All (λ (r : RowView). L (cell_at r 0)) shown → All (λ (r : RowView). E (cell_at r 0)) history → All (λ (r : RowView). (column : ℕ) → K (cell_at r column)) history
+      → K (decimal missed) → K (decimal (length (drop FEW_ROWS (refused_rows history)))) → IsMadeOf K L E (refused_section shown history missed)
+  unfolding refused_section refused_back refused_lines refused_or_none small_words
+  unkept shown history missed led kept all of-missed of-rest =
+      let calls : List RowView = refused_rows history in
+      let lines : List ℕ = refused_or_none shown history missed calls in
+      let more-of : List ℕ = more_html missed (codes "entry of the history is") (codes "entries of the history are") in
+      join refused_open (lines ++ (more-of ++ section_end)) (mark refused_open own-refused_open)
+      (join lines (more-of ++ section_end)
+      (either (has_none calls && (missed == 0)) none_refused (folded_html (refused_listing shown history) FEW_ROWS calls) (mark none_refused own-none_refused)
+      (folded (refused_listing shown history) FEW_ROWS calls own-refused_front own-table_end (λ r known. call shown history (asked_of history r) r led kept (asked history r all known) known) (all-by-word (λ (r : RowView). (column : ℕ) → K (cell_at r column)) 7 refusals history all) of-rest))
+      (join more-of section_end (further missed (codes "entry of the history is") (codes "entries of the history are") of-missed (small (codes "entry of the history is") 20 (omega arith) refl) (small (codes "entries of the history are") 21 (omega arith) refl)) (mark section_end own-section_end)))
+
+  tile-known : (count : ℕ) (mark-of place what : List ℕ) (all : ℕ) → K (decimal count) → K mark-of → K place → K what → K (decimal all) → (column : ℕ) → K (cell_at (tile count mark-of place what all) column)
+  unfolding small_words
+  tile-known count mark-of place what all of-count of-mark of-place of-what of-all =
+      let shade : List ℕ = if count == 0 then codes "none" else mark-of in
+      knows s.Run (decimal count ∷ shade ∷ place ∷ what ∷ decimal all ∷ [])
+      (All-cons K (decimal count) (shade ∷ place ∷ what ∷ decimal all ∷ []) of-count
+      (All-cons K shade (place ∷ what ∷ decimal all ∷ []) (by (count == 0))
+      (All-cons K place (what ∷ decimal all ∷ []) of-place
+      (All-cons K what (decimal all ∷ []) of-what
+      (All-cons K (decimal all) [] of-all (All-nil K))))))
+    where
+      by : (b : Bool) → K (if b then codes "none" else mark-of)
+      by true = (small (codes "none") 25 (omega arith) refl)
+      by false = of-mark
+
+  a-tile : (count : ℕ) (mark-of place what : List ℕ) → K (decimal count) → K mark-of → K place → K what → IsMadeOf K L E (tile_html count mark-of place what)
+  unfolding tile_html
+  a-tile count mark-of place what of-count of-mark of-place of-what = row summary_tile (tile count mark-of place what count) laid-summary_tile (tile-known count mark-of place what count of-count of-mark of-place of-what of-count)
+
+  calls-tiles : (history : List RowView) → K (decimal (count_with 7 (codes "short") history)) → K (decimal (count_by is_undone history)) → IsMadeOf K L E (calls_tiles history)
+  unfolding calls_tiles small_words
+  calls-tiles history short undone =
+      join (tile_html (count_with 7 (codes "short") history) (codes "late") (codes "unkept") (codes "not promised")) (tile_html (count_by is_undone history) (codes "cancel") (codes "unkept") (codes "not cancelled"))
+      (a-tile (count_with 7 (codes "short") history) (codes "late") (codes "unkept") (codes "not promised") short (small (codes "late") 26 (omega arith) refl) (small (codes "unkept") 27 (omega arith) refl) (small (codes "not promised") 28 (omega arith) refl))
+      (a-tile (count_by is_undone history) (codes "cancel") (codes "unkept") (codes "not cancelled") undone (small (codes "cancel") 29 (omega arith) refl) (small (codes "unkept") 27 (omega arith) refl) (small (codes "not cancelled") 30 (omega arith) refl))
+
+  kind-tile : (messages : List RowView) (word mark-of what : List ℕ) → K (decimal (count_with 3 word messages)) → K mark-of → K what → IsMadeOf K L E (kind_tile messages word mark-of what)
+  unfolding kind_tile small_words
+  kind-tile messages word mark-of what of-count of-mark of-what = a-tile (count_with 3 word messages) mark-of (place_or (count_with 3 word messages) mark-of) what of-count of-mark (by (count_with 3 word messages == 0)) of-what
+    where
+      by : (b : Bool) → K (if b then codes "todo" else mark-of)
+      by true = (small (codes "todo") 31 (omega arith) refl)
+      by false = of-mark
+
+  kinds-tiles : (messages : List RowView) → K (decimal (count_with 3 (codes "PAST-DUE") messages)) → K (decimal (count_with 3 (codes "RELEASE") messages)) → K (decimal (count_with 3 (codes "IN") messages)) → K (decimal (count_with 3 (codes "OUT") messages)) → K (decimal (count_with 3 (codes "CANCEL") messages)) → IsMadeOf K L E (kinds_tiles messages)
+  unfolding kinds_tiles small_words
+  kinds-tiles messages a b c d e =
+      let first : List ℕ = kind_tile messages (codes "PAST-DUE") (codes "late") (codes "past due") in
+      let second : List ℕ = kind_tile messages (codes "RELEASE") (codes "release") (codes "release") in
+      let third : List ℕ = kind_tile messages (codes "IN") (codes "in") (codes "reschedule in") in
+      let fourth : List ℕ = kind_tile messages (codes "OUT") (codes "out") (codes "reschedule out") in
+      let fifth : List ℕ = kind_tile messages (codes "CANCEL") (codes "cancel") (codes "cancel") in
+      join first (second ++ (third ++ (fourth ++ fifth))) (kind-tile messages (codes "PAST-DUE") (codes "late") (codes "past due") a (small (codes "late") 26 (omega arith) refl) (small (codes "past due") 35 (omega arith) refl))
+      (join second (third ++ (fourth ++ fifth)) (kind-tile messages (codes "RELEASE") (codes "release") (codes "release") b (small (codes "release") 32 (omega arith) refl) (small (codes "release") 32 (omega arith) refl))
+      (join third (fourth ++ fifth) (kind-tile messages (codes "IN") (codes "in") (codes "reschedule in") c (small (codes "in") 33 (omega arith) refl) (small (codes "reschedule in") 36 (omega arith) refl))
+      (join fourth fifth (kind-tile messages (codes "OUT") (codes "out") (codes "reschedule out") d (small (codes "out") 34 (omega arith) refl) (small (codes "reschedule out") 37 (omega arith) refl))
+      (kind-tile messages (codes "CANCEL") (codes "cancel") (codes "cancel") e (small (codes "cancel") 29 (omega arith) refl) (small (codes "cancel") 29 (omega arith) refl)))))
+
+  summed : (history messages loads-of : List RowView) → All K (summary_counts history messages loads-of) → IsMadeOf K L E (summary_html history messages loads-of)
+  unfolding summary_html centres_tile small_words
+  summed history messages loads-of counts =
+      let count : (k : ℕ) → k < 9 → K (get_or (summary_counts history messages loads-of) k []) = λ k within. counts k [] (omega (arith, within)) in
+      let over : List ℕ = row_html centre_tile (tile (centre_count (overloads loads-of)) (codes "late") (codes "centres") [] (centre_count loads-of)) in
+      join summary_open (calls_tiles history ++ (kinds_tiles messages ++ (over ++ main_open))) (mark summary_open own-summary_open)
+      (join (calls_tiles history) (kinds_tiles messages ++ (over ++ main_open)) (calls-tiles history (count 0 (omega arith)) (count 1 (omega arith)))
+      (join (kinds_tiles messages) (over ++ main_open) (kinds-tiles messages (count 2 (omega arith)) (count 3 (omega arith)) (count 4 (omega arith)) (count 5 (omega arith)) (count 6 (omega arith)))
+      (join over main_open (row centre_tile (tile (centre_count (overloads loads-of)) (codes "late") (codes "centres") [] (centre_count loads-of)) laid-centre_tile
+      (tile-known (centre_count (overloads loads-of)) (codes "late") (codes "centres") [] (centre_count loads-of) (count 7 (omega arith)) (small (codes "late") 26 (omega arith) refl) (small (codes "centres") 38 (omega arith) refl) nothing (count 8 (omega arith))))
+      (mark main_open own-main_open))))
+
+  order-cells : (kind : Kind) → OfKind kind → (p : RowView → Bool) (orders : List RowView) → All (λ (r : RowView). (column : ℕ) → K (cell_at r column)) orders → IsMadeOf K L E (order_html kind (find p orders))
+  order-cells kind of p [] all = mark order_unknown own-order_unknown
+  order-cells kind of p (r ∷ orders) all = by (p r) (all 0 r (omega arith)) (order-cells kind of p orders (λ k d within. all (suc k) d (omega arith)))
+    where
+      by : (b : Bool) → ((column : ℕ) → K (cell_at r column)) → IsMadeOf K L E (order_html kind (find p orders)) → IsMadeOf K L E (order_html kind (if b then Some r else find p orders))
+      by true here rest = row kind.order r of.order-laid here
+      by false here rest = rest
+
+  line : (kind : Kind) → OfKind kind → (shown orders : List RowView) (r : RowView) → All (λ (r : RowView). L (cell_at r 0)) shown → All (λ (r : RowView). (column : ℕ) → K (cell_at r column)) orders → ((column : ℕ) → K (cell_at r column)) → IsMadeOf K L E (task_line kind shown orders r)
+  unfolding task_line
+  line kind of shown orders r led all known =
+      let name : List ℕ = item_name_html shown (cell_at r 0) in
+      let supply : List ℕ = row_html task_supply r in
+      let order-of : List ℕ = order_html kind (find (is_order_of r) (rows_named (cell_at r 0) orders)) in
+      let value : List ℕ = row_html kind.value r in
+      join task_row (name ++ (supply ++ (order-of ++ value))) (mark task_row own-task_row)
+      (join name (supply ++ (order-of ++ value)) (item-name shown (cell_at r 0) led (known 0))
+      (join supply (order-of ++ value) (row task_supply r laid-task_supply known)
+      (join order-of value (order-cells kind of (is_order_of r) (rows_named (cell_at r 0) orders) (all-named (λ (r : RowView). (column : ℕ) → K (cell_at r column)) (cell_at r 0) orders all)) (row kind.value r of.value-laid known))))
+
+  -- the counts of a list are known
+  record Counted (rs : List RowView) : Type 0 where
+    all-of : K (decimal (length rs))
+    rest-of : K (decimal (length (drop SOME_ROWS (take MOST_LINES rs))))
+    past-of : K (decimal (length (drop MOST_LINES rs)))
+
+  kind-part-of : (kind : Kind) → OfKind kind → (shown orders : List RowView) (state : List ℕ) (rs : List RowView) → All (λ (r : RowView). L (cell_at r 0)) shown → All (λ (r : RowView). (column : ℕ) → K (cell_at r column)) orders → All (λ (r : RowView). (column : ℕ) → K (cell_at r column)) rs → K state → Counted rs → IsMadeOf K L E (kind_html kind shown orders state rs)
+  unfolding kind_html capped_html small_words
+  kind-part-of kind of shown orders state rs led of-orders all of-state counts =
+      let head : List ℕ = row_html kind.head (count_row (length rs) state state) in
+      let listing : Listing = kind_listing kind shown orders in
+      let kept : List RowView = take MOST_LINES rs in
+      let lines : List ℕ = folded_html listing SOME_ROWS kept in
+      let past : List ℕ = more_html (length (drop MOST_LINES rs)) (codes "is") (codes "are") in
+      either (has_none rs) [] (head ++ ((lines ++ past) ++ rest_end)) none
+      (join head ((lines ++ past) ++ rest_end) (row kind.head (count_row (length rs) state state) of.open-laid (counted (length rs) state state counts.all-of of-state of-state))
+      (join (lines ++ past) rest_end
+      (join lines past (folded listing SOME_ROWS kept of.front-own own-table_end (λ r known. line kind of shown orders r led of-orders known) (All-take (λ (r : RowView). (column : ℕ) → K (cell_at r column)) MOST_LINES rs all) counts.rest-of)
+      (further (length (drop MOST_LINES rs)) (codes "is") (codes "are") counts.past-of (small (codes "is") 22 (omega arith) refl) (small (codes "are") 23 (omega arith) refl)))
+      (mark rest_end own-rest_end)))
+
+  -- the counts of the messages, kind by kind, are known
+  record AllCounted (ms : List RowView) : Type 0 where
+    of-late : Counted (messages_of ms late)
+    of-release : Counted (messages_of ms release)
+    of-earlier : Counted (messages_of ms earlier)
+    of-later : Counted (messages_of ms later)
+    of-cancel : Counted (messages_of ms cancel)
+    of-other : Counted (other_messages ms)
+
+  state-known : (ms : List RowView) → K (state_of ms)
+  unfolding small_words
+  state-known ms = by (nat_le (length ms) (2 * SOME_ROWS))
+    where
+      by : (b : Bool) → K (if b then codes "open" else [])
+      by true = small (codes "open") 24 (omega arith) refl
+      by false = nothing
+
+  in-order : (sorting : Sorting) (rs : List RowView) → All (λ (r : RowView). (column : ℕ) → K (cell_at r column)) rs → All (λ (r : RowView). (column : ℕ) → K (cell_at r column)) (in_order sorting rs)
+  in-order sorts.Day rs all = all
+  in-order sorts.Rising rs all = All-permutation (λ (r : RowView). (column : ℕ) → K (cell_at r column)) rs (sorted_by value_rank rs) (sorted-permutes value_rank rs) all
+  in-order sorts.Falling rs all = All-permutation (λ (r : RowView). (column : ℕ) → K (cell_at r column)) rs (sorted_by falling_rank rs) (sorted-permutes falling_rank rs) all
+
+  a-kind : (kind : Kind) → OfKind kind → (shown orders ms : List RowView) → All (λ (r : RowView). L (cell_at r 0)) shown → All (λ (r : RowView). (column : ℕ) → K (cell_at r column)) orders → All (λ (r : RowView). (column : ℕ) → K (cell_at r column)) ms → Counted (messages_of ms kind) → IsMadeOf K L E (kind_part shown orders ms kind)
+  unfolding kind_part
+  a-kind kind of shown orders ms led of-orders all counts =
+      kind-part-of kind of shown orders (state_of ms) (messages_of ms kind) led of-orders (in-order kind.sorting (with_word 3 ms kind.word) (All-filter (has_word 3 kind.word) (λ (r : RowView). (column : ℕ) → K (cell_at r column)) ms all)) (state-known ms) counts
+
+  every-kind : (shown orders ms : List RowView) → All (λ (r : RowView). L (cell_at r 0)) shown → All (λ (r : RowView). (column : ℕ) → K (cell_at r column)) orders → All (λ (r : RowView). (column : ℕ) → K (cell_at r column)) ms → AllCounted ms → IsMadeOf K L E (kinds_html shown orders ms)
+  unfolding kinds_html other_part
+  every-kind shown orders ms led of-orders all counts =
+      let part-of : Kind → List ℕ = kind_part shown orders ms in
+      let others : List ℕ = kind_html other shown orders (state_of ms) (other_messages ms) in
+      join (part-of late) (part-of release ++ (part-of earlier ++ (part-of later ++ (part-of cancel ++ others)))) (a-kind late of-late shown orders ms led of-orders all counts.of-late)
+      (join (part-of release) (part-of earlier ++ (part-of later ++ (part-of cancel ++ others))) (a-kind release of-release shown orders ms led of-orders all counts.of-release)
+      (join (part-of earlier) (part-of later ++ (part-of cancel ++ others)) (a-kind earlier of-earlier shown orders ms led of-orders all counts.of-earlier)
+      (join (part-of later) (part-of cancel ++ others) (a-kind later of-later shown orders ms led of-orders all counts.of-later)
+      (join (part-of cancel) others (a-kind cancel of-cancel shown orders ms led of-orders all counts.of-cancel)
+      (kind-part-of other of-other shown orders (state_of ms) (other_messages ms) led of-orders (All-filter (λ message. not (is_plain message)) (λ (r : RowView). (column : ℕ) → K (cell_at r column)) ms all) (state-known ms) counts.of-other)))))
+
+  todo : (shown orders ms : List RowView) (missed : ℕ) → All (λ (r : RowView). L (cell_at r 0)) shown → All (λ (r : RowView). (column : ℕ) → K (cell_at r column)) orders → All (λ (r : RowView). (column : ℕ) → K (cell_at r column)) ms → AllCounted ms → K (decimal missed) → IsMadeOf K L E (todo_html shown orders ms missed)
+  unfolding todo_html todo_back small_words
+  todo shown orders ms missed led of-orders all counts known =
+      let note : List ℕ = note_html ms missed in
+      let parts : List ℕ = kinds_html shown orders ms in
+      let past : List ℕ = more_html missed (codes "message, perhaps an urgent one, is") (codes "messages, urgent ones perhaps among them, are") in
+      join todo_open (note ++ (parts ++ (past ++ section_end))) (mark todo_open own-todo_open)
+      (join note (parts ++ (past ++ section_end)) (either (has_none ms && (missed == 0)) nothing_to_do todo_note (mark nothing_to_do own-nothing_to_do) (mark todo_note own-todo_note))
+      (join parts (past ++ section_end) (every-kind shown orders ms led of-orders all counts)
+      (join past section_end (further missed (codes "message, perhaps an urgent one, is") (codes "messages, urgent ones perhaps among them, are") known (small (codes "message, perhaps an urgent one, is") 3 (omega arith) refl) (small (codes "messages, urgent ones perhaps among them, are") 4 (omega arith) refl)) (mark section_end own-section_end))))
+
+  weeks : (rs : List RowView) → All (λ (r : RowView). (column : ℕ) → K (cell_at r column)) rs → IsMadeOf K L E (weeks_html rs)
   unfolding weeks_html
   weeks rs all = table [] week rs weeks_end own-none laid-week all own-weeks_end
 
-  grid : (head chart : List Drawn) (r : RowView) (rs : List RowView) → Contains layouts head → Contains layouts chart → ((column : ℕ) → K (cell_at r column)) → All (λ (r : RowView). (column : ℕ) → K (cell_at r column)) rs → IsMadeOf K L (grid_html head chart r rs)
+  grid : (head chart : List Drawn) (r : RowView) (rs : List RowView) → Contains layouts head → Contains layouts chart → ((column : ℕ) → K (cell_at r column)) → All (λ (r : RowView). (column : ℕ) → K (cell_at r column)) rs → IsMadeOf K L E (grid_html head chart r rs)
   unfolding grid_html
   grid head chart r rs of-head of-chart known all = (join (row_html head r) ((weeks_html rs) ++ (row_html chart r)) (row head r of-head known) (join (weeks_html rs) (row_html chart r) (weeks rs all) (row chart r of-chart known)))
 
-  bars : (rs : List RowView) → All (λ (r : RowView). (column : ℕ) → K (cell_at r column)) rs → IsMadeOf K L (bars_html rs)
+  bars : (rs : List RowView) → All (λ (r : RowView). (column : ℕ) → K (cell_at r column)) rs → IsMadeOf K L E (bars_html rs)
   unfolding bars_html
   bars rs all = table [] bar rs bars_end own-none laid-bar all own-bars_end
 
-  loads : (rs : List RowView) → All (λ (r : RowView). (column : ℕ) → K (cell_at r column)) rs → IsMadeOf K L (loads_html rs)
+  loads : (rs : List RowView) → All (λ (r : RowView). (column : ℕ) → K (cell_at r column)) rs → IsMadeOf K L E (loads_html rs)
   unfolding loads_html
   loads rs all = (join (measure_html load_label 2 rs) ((measure_html capacity_label 3 rs) ++ ((measure_html over_label 4 rs) ++ grid_end)) (measure load_label 2 rs own-load_label all) (join (measure_html capacity_label 3 rs) ((measure_html over_label 4 rs) ++ grid_end) (measure capacity_label 3 rs own-capacity_label all) (join (measure_html over_label 4 rs) grid_end (measure over_label 4 rs own-over_label all) (mark grid_end own-grid_end))))
 
@@ -482,63 +890,63 @@ module _ (K L : List ℕ → Type 0) (words : (w : List ℕ) → Contains small_
       knows s.Run (name ∷ weeks ∷ top ∷ []) (All-cons K name (weeks ∷ top ∷ []) known (All-cons K weeks (top ∷ []) (top-known 1 (codes "1") rs unit all)
       (All-cons K top [] (top-known b (greatest a least rs) rs (top-known a least rs of-least all) all) (All-nil K))))
 
-  centre-rows : (name : List ℕ) (rs : List RowView) → K name → All (λ (r : RowView). (column : ℕ) → K (cell_at r column)) rs → IsMadeOf K L (centre_rows_html name rs)
+  centre-rows : (name : List ℕ) (rs : List RowView) → K name → All (λ (r : RowView). (column : ℕ) → K (cell_at r column)) rs → IsMadeOf K L E (centre_rows_html name rs)
   unfolding centre_rows_html
   centre-rows name rs known all = (join (grid_html centre_head load_chart (frame_of name rs 2 3 (codes "1.000")) rs) ((bars_html rs) ++ (loads_html rs)) (grid centre_head load_chart (frame_of name rs 2 3 (codes "1.000")) rs laid-centre_head laid-load_chart (framed name rs 2 3 (codes "1.000") known unit-minute all) all) (join (bars_html rs) (loads_html rs) (bars rs all) (loads rs all)))
 
-  centre : (ls : List RowView) (r : RowView) → All (λ (r : RowView). (column : ℕ) → K (cell_at r column)) ls → ((column : ℕ) → K (cell_at r column)) → IsMadeOf K L (centre_html ls r)
+  centre : (ls : List RowView) (r : RowView) → All (λ (r : RowView). (column : ℕ) → K (cell_at r column)) ls → ((column : ℕ) → K (cell_at r column)) → IsMadeOf K L E (centre_html ls r)
   unfolding centre_html
   centre ls r all known = centre-rows (cell_at r 0) (rows_named (cell_at r 0) ls) (known 0) (all-named (λ (r : RowView). (column : ℕ) → K (cell_at r column)) (cell_at r 0) ls all)
 
-  each-centre : (ls rs : List RowView) → All (λ (r : RowView). (column : ℕ) → K (cell_at r column)) ls → All (λ (r : RowView). (column : ℕ) → K (cell_at r column)) rs → IsMadeOf K L (each_centre ls rs)
+  each-centre : (ls rs : List RowView) → All (λ (r : RowView). (column : ℕ) → K (cell_at r column)) ls → All (λ (r : RowView). (column : ℕ) → K (cell_at r column)) rs → IsMadeOf K L E (each_centre ls rs)
   unfolding each_centre
   each-centre ls rs all leads = each (λ (r : RowView). (column : ℕ) → K (cell_at r column)) (centre_html ls) (λ r known. centre ls r all known) rs leads
 
-  centres : (ls rs : List RowView) (missed : ℕ) → All (λ (r : RowView). (column : ℕ) → K (cell_at r column)) ls → All (λ (r : RowView). (column : ℕ) → K (cell_at r column)) rs → K (decimal missed) → IsMadeOf K L (centres_html ls rs missed)
+  centres : (ls rs : List RowView) (missed : ℕ) → All (λ (r : RowView). (column : ℕ) → K (cell_at r column)) ls → All (λ (r : RowView). (column : ℕ) → K (cell_at r column)) rs → K (decimal missed) → IsMadeOf K L E (centres_html ls rs missed)
   unfolding centres_html small_words
   centres ls rs missed all leads known = (join centres_open ((each_centre ls rs) ++ ((more_html missed (codes "week of a work centre is") (codes "weeks of work centres are")) ++ section_end)) (mark centres_open own-centres_open) (join (each_centre ls rs) ((more_html missed (codes "week of a work centre is") (codes "weeks of work centres are")) ++ section_end) (each-centre ls rs all leads) (join (more_html missed (codes "week of a work centre is") (codes "weeks of work centres are")) section_end (further missed (codes "week of a work centre is") (codes "weeks of work centres are") known (small (codes "week of a work centre is") 5 (omega arith) refl) (small (codes "weeks of work centres are") 6 (omega arith) refl)) (mark section_end own-section_end))))
 
-  supplies : (plan promises : List RowView) → All (λ (r : RowView). (column : ℕ) → K (cell_at r column)) plan → All (λ (r : RowView). (column : ℕ) → K (cell_at r column)) promises → IsMadeOf K L (supplies_html plan promises)
+  supplies : (plan promises : List RowView) → All (λ (r : RowView). (column : ℕ) → K (cell_at r column)) plan → All (λ (r : RowView). (column : ℕ) → K (cell_at r column)) promises → IsMadeOf K L E (supplies_html plan promises)
   unfolding supplies_html
   supplies plan promises of-plan of-promises = either (has_none promises && not (has_firm plan)) (measure_html scheduled_label 3 plan) (measure_html firm_label 4 plan) (measure scheduled_label 3 plan own-scheduled_label of-plan) (measure firm_label 4 plan own-firm_label of-plan)
 
-  booked : (rs : List RowView) → All (λ (r : RowView). (column : ℕ) → K (cell_at r column)) rs → IsMadeOf K L (booked_html rs)
+  booked : (rs : List RowView) → All (λ (r : RowView). (column : ℕ) → K (cell_at r column)) rs → IsMadeOf K L E (booked_html rs)
   unfolding booked_html
   booked rs all = (join (measure_html booked_label 3 rs) (measure_html available_label 5 rs) (measure booked_label 3 rs own-booked_label all) (measure available_label 5 rs own-available_label all))
 
-  promised : (rs : List RowView) → All (λ (r : RowView). (column : ℕ) → K (cell_at r column)) rs → IsMadeOf K L (promised_html rs)
+  promised : (rs : List RowView) → All (λ (r : RowView). (column : ℕ) → K (cell_at r column)) rs → IsMadeOf K L E (promised_html rs)
   unfolding promised_html
   promised rs all = either (has_none rs) [] (booked_html rs) none (booked rs all)
 
-  points : (rs : List RowView) → All (λ (r : RowView). (column : ℕ) → K (cell_at r column)) rs → IsMadeOf K L (points_html rs)
+  points : (rs : List RowView) → All (λ (r : RowView). (column : ℕ) → K (cell_at r column)) rs → IsMadeOf K L E (points_html rs)
   unfolding points_html
   points rs all = table [] point rs points_end own-none laid-point all own-points_end
 
-  balance : (name : List ℕ) (rs : List RowView) → K name → All (λ (r : RowView). (column : ℕ) → K (cell_at r column)) rs → IsMadeOf K L (balance_html name rs)
+  balance : (name : List ℕ) (rs : List RowView) → K name → All (λ (r : RowView). (column : ℕ) → K (cell_at r column)) rs → IsMadeOf K L E (balance_html name rs)
   unfolding balance_html
   balance name rs known all = (join (grid_html record_head balance_chart (frame_of name rs 7 7 (codes "1")) rs) (points_html rs) (grid record_head balance_chart (frame_of name rs 7 7 (codes "1")) rs laid-record_head laid-balance_chart (framed name rs 7 7 (codes "1") known unit all) all) (points rs all))
 
-  planned : (rs : List RowView) → All (λ (r : RowView). (column : ℕ) → K (cell_at r column)) rs → IsMadeOf K L (planned_html rs)
+  planned : (rs : List RowView) → All (λ (r : RowView). (column : ℕ) → K (cell_at r column)) rs → IsMadeOf K L E (planned_html rs)
   unfolding planned_html
   planned rs all = (join (measure_html planned_label 5 rs) ((measure_html starts_label 6 rs) ++ (measure_html balance_label 7 rs)) (measure planned_label 5 rs own-planned_label all) (join (measure_html starts_label 6 rs) (measure_html balance_label 7 rs) (measure starts_label 6 rs own-starts_label all) (measure balance_label 7 rs own-balance_label all)))
 
-  record-rows : (plan promises : List RowView) → All (λ (r : RowView). (column : ℕ) → K (cell_at r column)) plan → All (λ (r : RowView). (column : ℕ) → K (cell_at r column)) promises → IsMadeOf K L (record_rows plan promises)
+  record-rows : (plan promises : List RowView) → All (λ (r : RowView). (column : ℕ) → K (cell_at r column)) plan → All (λ (r : RowView). (column : ℕ) → K (cell_at r column)) promises → IsMadeOf K L E (record_rows plan promises)
   unfolding record_rows
   record-rows plan promises of-plan of-promises = (join (measure_html gross_label 2 plan) ((supplies_html plan promises) ++ ((planned_html plan) ++ (promised_html promises))) (measure gross_label 2 plan own-gross_label of-plan) (join (supplies_html plan promises) ((planned_html plan) ++ (promised_html promises)) (supplies plan promises of-plan of-promises) (join (planned_html plan) (promised_html promises) (planned plan of-plan) (promised promises of-promises))))
 
-  phased : (name : List ℕ) (plan promises : List RowView) → K name → All (λ (r : RowView). (column : ℕ) → K (cell_at r column)) plan → All (λ (r : RowView). (column : ℕ) → K (cell_at r column)) promises → IsMadeOf K L (record_html name plan promises)
+  phased : (name : List ℕ) (plan promises : List RowView) → K name → All (λ (r : RowView). (column : ℕ) → K (cell_at r column)) plan → All (λ (r : RowView). (column : ℕ) → K (cell_at r column)) promises → IsMadeOf K L E (record_html name plan promises)
   unfolding record_html
   phased name plan promises known of-plan of-promises = (join (balance_html name plan) ((record_rows plan promises) ++ grid_end) (balance name plan known of-plan) (join (record_rows plan promises) grid_end (record-rows plan promises of-plan of-promises) (mark grid_end own-grid_end)))
 
-  record-or-none : (name : List ℕ) (plan promises : List RowView) → K name → All (λ (r : RowView). (column : ℕ) → K (cell_at r column)) plan → All (λ (r : RowView). (column : ℕ) → K (cell_at r column)) promises → IsMadeOf K L (record_or_none name plan promises)
+  record-or-none : (name : List ℕ) (plan promises : List RowView) → K name → All (λ (r : RowView). (column : ℕ) → K (cell_at r column)) plan → All (λ (r : RowView). (column : ℕ) → K (cell_at r column)) promises → IsMadeOf K L E (record_or_none name plan promises)
   unfolding record_or_none
   record-or-none name plan promises known of-plan of-promises = either (has_none plan) no_record (record_html name plan promises) (mark no_record own-no_record) (phased name plan promises known of-plan of-promises)
 
-  orders : (rs : List RowView) → All (λ (r : RowView). (column : ℕ) → K (cell_at r column)) rs → IsMadeOf K L (orders_html rs)
+  orders : (rs : List RowView) → All (λ (r : RowView). (column : ℕ) → K (cell_at r column)) rs → IsMadeOf K L E (orders_html rs)
   unfolding orders_html
   orders rs all = table orders_open order rs list_end own-orders_open laid-order all own-list_end
 
-  pegs : (rs : List RowView) → All (λ (r : RowView). (column : ℕ) → K (cell_at r column)) rs → IsMadeOf K L (pegs_html rs)
+  pegs : (rs : List RowView) → All (λ (r : RowView). (column : ℕ) → K (cell_at r column)) rs → IsMadeOf K L E (pegs_html rs)
   unfolding pegs_html
   pegs rs all = table pegs_open peg rs list_end own-pegs_open laid-peg all own-list_end
 
@@ -549,25 +957,25 @@ module _ (K L : List ℕ → Type 0) (words : (w : List ℕ) → Contains small_
     pegs : All (λ (r : RowView). (column : ℕ) → K (cell_at r column)) rows.pegs
     messages : All (λ (r : RowView). (column : ℕ) → K (cell_at r column)) rows.messages
 
-  item-lists : (rows : ItemLists) (name : List ℕ) → AllKnown rows → IsMadeOf K L (item_lists_html rows name)
+  item-lists : (rows : ItemLists) (name : List ℕ) → AllKnown rows → IsMadeOf K L E (item_lists_html rows name)
   unfolding item_lists_html
   item-lists rows name all = (join (orders_html (rows_named name rows.orders)) ((pegs_html (rows_named name rows.pegs)) ++ section_end) (orders (rows_named name rows.orders) (all-named (λ (r : RowView). (column : ℕ) → K (cell_at r column)) name rows.orders all.orders)) (join (pegs_html (rows_named name rows.pegs)) section_end (pegs (rows_named name rows.pegs) (all-named (λ (r : RowView). (column : ℕ) → K (cell_at r column)) name rows.pegs all.pegs)) (mark section_end own-section_end)))
 
-  record-named : (rows : ItemLists) (name : List ℕ) → AllKnown rows → K name → IsMadeOf K L (named_record rows name)
+  record-named : (rows : ItemLists) (name : List ℕ) → AllKnown rows → K name → IsMadeOf K L E (named_record rows name)
   unfolding named_record
   record-named rows name all known = record-or-none name (rows_named name rows.plan) (rows_named name rows.promises) known (all-named (λ (r : RowView). (column : ℕ) → K (cell_at r column)) name rows.plan all.plan) (all-named (λ (r : RowView). (column : ℕ) → K (cell_at r column)) name rows.promises all.promises)
 
-  tasks-named : (rows : ItemLists) (r : RowView) → AllKnown rows → L (cell_at r 0) → IsMadeOf K L (named_tasks rows r)
+  tasks-named : (rows : ItemLists) (r : RowView) → AllKnown rows → L (cell_at r 0) → IsMadeOf K L E (named_tasks rows r)
   unfolding named_tasks item_tasks
   tasks-named rows r all leads =
       told item_tasks_open (r ∷ []) (rows_named (cell_at r 0) rows.messages) item_tasks_end own-item_tasks_open (All-cons (λ (r : RowView). L (cell_at r 0)) r [] leads (All-nil (λ (r : RowView). L (cell_at r 0))))
       (all-named (λ (r : RowView). (column : ℕ) → K (cell_at r column)) (cell_at r 0) rows.messages all.messages) own-item_tasks_end
 
-  noted : (rows : ItemLists) (missed : ℕ) (name : List ℕ) → IsMadeOf K L (named_note rows missed name)
+  noted : (rows : ItemLists) (missed : ℕ) (name : List ℕ) → IsMadeOf K L E (named_note rows missed name)
   unfolding named_note
   noted rows missed name = either ((missed == 0) || (has_none (rows_named name rows.plan) || not (has_none (rows_named name rows.promises)))) [] no_promises none (mark no_promises own-no_promises)
 
-  item : (rows : ItemLists) (missed : ℕ) (r : RowView) → AllKnown rows → ((column : ℕ) → K (cell_at r column)) → L (cell_at r 0) → IsMadeOf K L (item_html rows missed r)
+  item : (rows : ItemLists) (missed : ℕ) (r : RowView) → AllKnown rows → ((column : ℕ) → K (cell_at r column)) → L (cell_at r 0) → IsMadeOf K L E (item_html rows missed r)
   unfolding item_html
   item rows missed r all known leads =
       let name : List ℕ = cell_at r 0 in
@@ -579,28 +987,28 @@ module _ (K L : List ℕ → Type 0) (words : (w : List ℕ) → Contains small_
       (join told-of (recorded ++ (note ++ listed)) (tasks-named rows r all leads)
       (join recorded (note ++ listed) (record-named rows name all (known 0)) (join note listed (noted rows missed name) (item-lists rows name all))))
 
-  items : (rows : ItemLists) (missed : ℕ) (rs : List RowView) → AllKnown rows → All (λ (r : RowView). (column : ℕ) → K (cell_at r column)) rs → All (λ (r : RowView). L (cell_at r 0)) rs → IsMadeOf K L (items_html rows missed rs)
+  items : (rows : ItemLists) (missed : ℕ) (rs : List RowView) → AllKnown rows → All (λ (r : RowView). (column : ℕ) → K (cell_at r column)) rs → All (λ (r : RowView). L (cell_at r 0)) rs → IsMadeOf K L E (items_html rows missed rs)
   unfolding items_html
   items rows missed rs all leads led =
       each (λ (r : RowView). ((column : ℕ) → K (cell_at r column)) × L (cell_at r 0)) (item_html rows missed) (λ r known. item rows missed r all known.0 known.1) rs (λ k d within. (leads k d within, led k d within))
 
-  more-weeks : (counts : Counts) → K (decimal counts.plan) → K (decimal counts.promises) → IsMadeOf K L (more_weeks counts)
+  more-weeks : (counts : Counts) → K (decimal counts.plan) → K (decimal counts.promises) → IsMadeOf K L E (more_weeks counts)
   unfolding more_weeks small_words
   more-weeks counts a b = (join (more_html counts.plan (codes "week of a record is") (codes "weeks of records are")) (more_html counts.promises (codes "week of promises is") (codes "weeks of promises are")) (further counts.plan (codes "week of a record is") (codes "weeks of records are") a (small (codes "week of a record is") 9 (omega arith) refl) (small (codes "weeks of records are") 10 (omega arith) refl)) (further counts.promises (codes "week of promises is") (codes "weeks of promises are") b (small (codes "week of promises is") 11 (omega arith) refl) (small (codes "weeks of promises are") 12 (omega arith) refl)))
 
-  more-lists : (counts : Counts) → K (decimal counts.orders) → K (decimal counts.pegs) → IsMadeOf K L (more_lists counts)
+  more-lists : (counts : Counts) → K (decimal counts.orders) → K (decimal counts.pegs) → IsMadeOf K L E (more_lists counts)
   unfolding more_lists small_words
   more-lists counts a b = (join (more_html counts.orders (codes "order is") (codes "orders are")) (more_html counts.pegs (codes "peg is") (codes "pegs are")) (further counts.orders (codes "order is") (codes "orders are") a (small (codes "order is") 13 (omega arith) refl) (small (codes "orders are") 14 (omega arith) refl)) (further counts.pegs (codes "peg is") (codes "pegs are") b (small (codes "peg is") 15 (omega arith) refl) (small (codes "pegs are") 16 (omega arith) refl)))
 
-  more-items : (counts : Counts) (shown : List RowView) → K (decimal (counts.items - length shown)) → K (decimal counts.plan) → K (decimal counts.promises) → K (decimal counts.orders) → K (decimal counts.pegs) → IsMadeOf K L (more_items counts shown)
+  more-items : (counts : Counts) (shown : List RowView) → K (decimal (counts.items - length shown)) → K (decimal counts.plan) → K (decimal counts.promises) → K (decimal counts.orders) → K (decimal counts.pegs) → IsMadeOf K L E (more_items counts shown)
   unfolding more_items more_rows small_words
   more-items counts shown n a b c d = (join (more_html (counts.items - length shown) (codes "item is") (codes "items are")) (more_rows counts) (further (counts.items - length shown) (codes "item is") (codes "items are") n (small (codes "item is") 7 (omega arith) refl) (small (codes "items are") 8 (omega arith) refl)) (join (more_weeks counts) (more_lists counts) (more-weeks counts a b) (more-lists counts c d)))
 
-  history : (rs : List RowView) (missed : ℕ) → All (λ (r : RowView). (column : ℕ) → K (cell_at r column)) rs → K (decimal missed) → IsMadeOf K L (history_html rs missed)
+  history : (rs : List RowView) (missed : ℕ) → All (λ (r : RowView). (column : ℕ) → K (cell_at r column)) rs → K (decimal missed) → IsMadeOf K L E (history_html rs missed)
   unfolding history_html small_words
   history rs missed all known = (join (table_html history_open entry rs grid_end) ((more_html missed (codes "entry is") (codes "entries are")) ++ history_end) (table history_open entry rs grid_end own-history_open laid-entry all own-grid_end) (join (more_html missed (codes "entry is") (codes "entries are")) history_end (further missed (codes "entry is") (codes "entries are") known (small (codes "entry is") 17 (omega arith) refl) (small (codes "entries are") 18 (omega arith) refl)) (mark history_end own-history_end)))
 
-  head : (r : RowView) → ((column : ℕ) → K (cell_at r column)) → IsMadeOf K L (head_html r)
+  head : (r : RowView) → ((column : ℕ) → K (cell_at r column)) → IsMadeOf K L E (head_html r)
   unfolding head_html
   head r known = (join (row_html page_top r) (style ++ (row_html page_head r)) (row page_top r laid-page_top known) (join style (row_html page_head r) (mark style own-style) (row page_head r laid-page_head known)))
 
@@ -628,11 +1036,27 @@ module _ (K L : List ℕ → Type 0) (words : (w : List ℕ) → Contains small_
     messages = all-in (λ (r : RowView). (column : ℕ) → K (cell_at r column)) s.Messages report all;
   }
 
+  later-counts : (notes : Noted) → All (Contains (own_counts notes)) (summary_counts notes.history (rows_in s.Messages notes.report) (rows_in s.Loads notes.report))
+  later-counts notes = λ k d within.
+      let counts : List (List ℕ) = summary_counts notes.history (rows_in s.Messages notes.report) (rows_in s.Loads notes.report) in
+      let first : List (List ℕ) = take 10 (own_counts notes) in
+      Contains-append_right first counts (get_or counts k d) (All-contains_itself counts k d within)
+
+  counted-list : (notes : Noted) → All K (count_texts notes) → (rs : List RowView) → Contains (message_lists notes) rs → Counted rs
+  counted-list notes counts rs has =
+      let one : (t : List ℕ) → Contains (list_counts rs) t → K t = λ t is. All-contains K (count_texts notes) t counts (Contains-append_right (own_counts notes) (flat_map list_counts (message_lists notes)) t (contains-flat list_counts (message_lists notes) rs t has.0 has.1 has.2 is)) in
+      record {
+        all-of = one (decimal (length rs)) (0, omega arith, refl);
+        rest-of = one (decimal (length (drop SOME_ROWS (take MOST_LINES rs)))) (1, omega arith, refl);
+        past-of = one (decimal (length (drop MOST_LINES rs))) (2, omega arith, refl);
+      }
+
   pub page : (title : List ℕ) (notes : Noted) → K title → All (λ (r : RowView). (column : ℕ) → K (cell_at r column)) notes.history → All (λ (r : RowView). (column : ℕ) → K (cell_at r column)) notes.report → All K (count_texts notes)
-      → All (λ (r : RowView). L (cell_at r 0)) (shown_items (item_lists notes.report)) → IsMadeOf K L (page_html title notes)
+      → All (λ (r : RowView). L (cell_at r 0)) (shown_items (item_lists notes.report)) → All (λ (r : RowView). E (cell_at r 0)) notes.history → IsMadeOf K L E (page_html title notes)
   unfolding page_html page_of top_html load_section rest_html items_of
-  page title notes known entries all counts led =
-      let count : (k : ℕ) → k < 9 → K (get_or (count_texts notes) k []) = λ k within. counts k [] (omega (arith, within)) in
+  page title notes known entries all counts led kept =
+      let count : (k : ℕ) → k < 19 → K (get_or (own_counts notes) k []) = λ k within. All-contains K (count_texts notes) (get_or (own_counts notes) k []) counts (Contains-append_left (own_counts notes) (flat_map list_counts (message_lists notes)) (get_or (own_counts notes) k []) (All-contains_itself (own_counts notes) k [] (omega (arith, within)))) in
+      let of-list : (rs : List RowView) → Contains (message_lists notes) rs → Counted rs = λ rs has. counted-list notes counts rs has in
       let lists : ItemLists = item_lists notes.report in
       let of-lists : AllKnown lists = all-lists notes.report all in
       let shown : List RowView = shown_items lists in
@@ -640,17 +1064,25 @@ module _ (K L : List ℕ → Type 0) (words : (w : List ℕ) → Contains small_
       let loaded : List RowView = rows_in s.Loads notes.report in
       let of-loaded : All (λ (r : RowView). (column : ℕ) → K (cell_at r column)) loaded = all-in (λ (r : RowView). (column : ℕ) → K (cell_at r column)) s.Loads notes.report all in
       let top : List ℕ = head_html (heading title notes.report notes.counts.items) in
-      let todos : List ℕ = todo_html shown lists.messages notes.counts.messages in
+      let sums : List ℕ = summary_html notes.history lists.messages loaded in
+      let of-sums : All K (summary_counts notes.history lists.messages loaded) = λ k d within. All-contains K (count_texts notes) (get_or (summary_counts notes.history lists.messages loaded) k d) counts (Contains-append_left (own_counts notes) (flat_map list_counts (message_lists notes)) (get_or (summary_counts notes.history lists.messages loaded) k d) (later-counts notes k d within)) in
+      let calls : List ℕ = refused_section shown notes.history notes.counts.history in
+      let todos : List ℕ = todo_html shown lists.orders lists.messages notes.counts.messages in
+      let of-messages : AllCounted lists.messages = record { of-late = of-list (messages_of lists.messages late) (0, omega arith, refl); of-release = of-list (messages_of lists.messages release) (1, omega arith, refl); of-earlier = of-list (messages_of lists.messages earlier) (2, omega arith, refl); of-later = of-list (messages_of lists.messages later) (3, omega arith, refl); of-cancel = of-list (messages_of lists.messages cancel) (4, omega arith, refl); of-other = of-list (other_messages lists.messages) (5, omega arith, refl) } in
       let centred : List ℕ = centres_html loaded (leaders [] loaded) notes.counts.loads in
-      let listed : List ℕ = items_html lists notes.counts.promises shown ++ more_items (unshown lists shown notes.counts) shown in
+      let item-parts : List ℕ = items_html lists notes.counts.promises shown ++ more_items (unshown lists shown notes.counts) shown in
       let past : List ℕ = history_html notes.history notes.counts.history in
-      join top (todos ++ (centred ++ (listed ++ (past ++ page_end))))
+      join top (sums ++ (calls ++ (todos ++ (centred ++ (item-parts ++ (past ++ page_end))))))
       (head (heading title notes.report notes.counts.items) (headed title notes.report notes.counts.items known (count 8 (omega arith)) all))
-      (join todos (centred ++ (listed ++ (past ++ page_end)))
-      (todo shown lists.messages notes.counts.messages led of-lists.messages (count 0 (omega arith)))
-      (join centred (listed ++ (past ++ page_end))
+      (join sums (calls ++ (todos ++ (centred ++ (item-parts ++ (past ++ page_end)))))
+      (summed notes.history lists.messages loaded of-sums)
+      (join calls (todos ++ (centred ++ (item-parts ++ (past ++ page_end))))
+      (unkept shown notes.history notes.counts.history led kept entries (count 7 (omega arith)) (count 9 (omega arith)))
+      (join todos (centred ++ (item-parts ++ (past ++ page_end)))
+      (todo shown lists.orders lists.messages notes.counts.messages led of-lists.orders of-lists.messages of-messages (count 0 (omega arith)))
+      (join centred (item-parts ++ (past ++ page_end))
       (centres loaded (leaders [] loaded) notes.counts.loads of-loaded (all-leaders (λ (r : RowView). (column : ℕ) → K (cell_at r column)) [] loaded of-loaded) (count 1 (omega arith)))
-      (join listed (past ++ page_end)
+      (join item-parts (past ++ page_end)
       (join (items_html lists notes.counts.promises shown) (more_items (unshown lists shown notes.counts) shown) (items lists notes.counts.promises shown of-lists of-shown led)
       (more-items (unshown lists shown notes.counts) shown (count 2 (omega arith)) (count 3 (omega arith)) (count 4 (omega arith)) (count 5 (omega arith)) (count 6 (omega arith))))
-      (join past page_end (history notes.history notes.counts.history entries (count 7 (omega arith))) (mark page_end own-page_end)))))
+      (join past page_end (history notes.history notes.counts.history entries (count 7 (omega arith))) (mark page_end own-page_end)))))))

@@ -6,7 +6,7 @@ use Rattle.mrp_page.specs.Escaped.{escaped}
 use Rattle.mrp_page.specs.Frame.{count_row, frame_of}
 use Rattle.mrp_page.specs.Html.{is_zero}
 use Rattle.mrp_page.specs.ItemRows.{ItemLists}
-use Rattle.mrp_page.specs.Layout.{available_label, balance_chart, balance_label, bar, bars_end, booked_label, capacity_label, centre_head, centres_open, entry, firm_label, grid_end, gross_label, history_end, history_open, item_head, item_tasks_end, item_tasks_open, link_end, link_middle, link_open, list_end, load_chart, load_label, more, no_promises, no_record, order, orders_open, other_words, over_label, peg, pegs_open, planned_label, point, points_end, record_head, scheduled_label, section_end, starts_label, task_head, task_words, todo_end, todo_open, week, weeks_end}
+use Rattle.mrp_page.specs.Layout.{available_label, balance_chart, balance_label, bar, bars_end, booked_label, capacity_label, centre_head, centres_open, entry, firm_label, grid_end, gross_label, history_end, history_open, item_head, item_tasks_end, item_tasks_open, link_end, link_middle, link_open, list_end, load_chart, load_label, more, no_promises, no_record, order, orders_open, other_words, over_label, peg, pegs_open, planned_label, point, points_end, record_head, scheduled_label, section_end, starts_label, task_head, task_words, week, weeks_end}
 use Rattle.mrp_page.specs.Row.{RowView, cell_at, is_of}
 use Rattle.mrp_page.specs.Rows.{greatest, rows_named}
 use Rattle.mrp_page.specs.Template.{Drawn, has_word, numbers_html, row_html, rows_html}
@@ -91,18 +91,6 @@ task_table front shown messages back =
 unfoldable pub more_html : ℕ → List ℕ → List ℕ → List ℕ
 more_html count one many =
     if count == 0 then [] else row_html more (count_row count one many)
-
--- how many more messages there are; they may be of any urgency
-unfoldable pub todo_back : ℕ → List ℕ
-todo_back missed =
-    more_html missed (codes "message, perhaps an urgent one, is") (codes "messages, urgent ones perhaps among them, are")
-    ++ section_end
-
--- the section *To do*
-unfoldable pub todo_html : List RowView → List RowView → ℕ → List ℕ
-todo_html shown messages missed =
-    task_table todo_open shown messages todo_end
-    ++ todo_back missed
 
 -- the weeks of a table
 unfoldable pub weeks_html : List RowView → List ℕ

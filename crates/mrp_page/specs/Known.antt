@@ -1,23 +1,29 @@
 -- What pages consist of: fixed markup, and texts that are known.
-use Rattle.std.specs.Prelude.{ℕ, ◌≡◌, ◌⊎◌, ◌-◌, List, [], ◌∷◌, ◌++◌, codes, decimal, flat_map, length, map}
+use Rattle.std.specs.Prelude.{ℕ, ◌≡◌, ◌⊎◌, ◌-◌, List, [], ◌∷◌, ◌++◌, codes, count_by, decimal, drop, flat_map, length, map, take}
 use Rattle.std.specs.List.{All, Contains}
 use Rattle.mrp_page.specs.ItemRows.{item_lists}
-use Rattle.mrp_page.specs.Laws.{Escaped, Link, Markup, Piece, piece_html}
-use Rattle.mrp_page.specs.Layout.{available_label, balance_chart, balance_label, bar, bars_end, booked_label, capacity_label, centre_head, centres_open, entry, firm_label, grid_end, gross_label, history_end, history_open, item_head, item_tasks_end, item_tasks_open, list_end, load_chart, load_label, more, no_promises, no_record, order, orders_open, other_words, over_label, page_end, page_head, page_top, peg, pegs_open, planned_label, point, points_end, record_head, scheduled_label, section_end, starts_label, style, task_head, task_words, todo_end, todo_open, week, weeks_end}
+use Rattle.mrp_page.specs.Kinds.{kinds, messages_of, other_messages}
+use Rattle.mrp_page.specs.Laws.{Entry, Escaped, Link, Markup, Piece, piece_html}
+use Rattle.mrp_page.specs.Layout.{available_label, balance_chart, balance_label, bar, bars_end, booked_label, cancel_front, cancel_open, capacity_label, centre_head, centre_tile, centres_open, entry, firm_label, grid_end, gross_label, history_end, history_open, in_front, in_open, item_head, item_tasks_end, item_tasks_open, late_front, late_open, list_end, load_chart, load_label, main_open, more, no_promises, no_record, none_refused, nothing_to_do, order, order_start, order_unknown, order_week, orders_open, other_cells, other_front, other_open, other_words, out_front, out_open, over_label, page_end, page_head, page_top, peg, pegs_open, planned_label, point, points_end, record_head, refused_answer, refused_asked, refused_desk, refused_end, refused_front, refused_open, refused_row, release_front, release_open, rest_end, rest_open, row_end, scheduled_label, section_end, starts_label, style, summary_open, summary_tile, table_end, task_head, task_row, task_supply, task_words, to_week, todo_note, todo_open, week, weeks_end, weeks_late}
 use Rattle.mrp_page.specs.Notes.{Noted}
 use Rattle.mrp_page.specs.Page.{shown_items}
-use Rattle.mrp_page.specs.Row.{Cells, cell_at}
+use Rattle.mrp_page.specs.Refused.{refused_rows}
+use Rattle.mrp_page.specs.Row.{Cells, RowView, cell_at}
+use Rattle.mrp_page.specs.Rows.{rows_in}
+use Rattle.mrp_page.specs.Summary.{centre_count, count_with, is_undone, overloads}
 use Rattle.mrp_page.specs.Template.{Drawn, Mark, Number, Text, Where}
 use Rattle.mrp_page.specs.declared.counts.Counts.{Counts}
+use Rattle.mrp_page.specs.declared.limits.TheConstants.{FEW_ROWS, MOST_LINES, SOME_ROWS}
 use Rattle.mrp_page.specs.Unshown.{unshown}
+use Rattle.mrp_day.specs.declared.section.Section.TheVariants as s
 
 -- the markup that rows are drawn with
 unfoldable pub layouts : List (List Drawn)
-layouts = page_top ∷ page_head ∷ task_head ∷ task_words ∷ week ∷ entry ∷ order ∷ peg ∷ centre_head ∷ load_chart ∷ bar ∷ item_head ∷ record_head ∷ balance_chart ∷ point ∷ more ∷ other_words ∷ []
+layouts = page_top ∷ page_head ∷ task_head ∷ task_words ∷ week ∷ entry ∷ order ∷ peg ∷ centre_head ∷ load_chart ∷ bar ∷ item_head ∷ record_head ∷ balance_chart ∷ point ∷ more ∷ other_words ∷ rest_open ∷ refused_answer ∷ refused_asked ∷ refused_desk ∷ task_supply ∷ order_start ∷ order_week ∷ weeks_late ∷ to_week ∷ row_end ∷ other_cells ∷ late_open ∷ release_open ∷ in_open ∷ out_open ∷ cancel_open ∷ other_open ∷ summary_tile ∷ centre_tile ∷ []
 
 -- markup that stands between rows
 unfoldable pub plain : List (List ℕ)
-plain = style ∷ todo_open ∷ todo_end ∷ item_tasks_open ∷ item_tasks_end ∷ weeks_end ∷ bars_end ∷ points_end ∷ load_label ∷ capacity_label ∷ over_label ∷ grid_end ∷ centres_open ∷ section_end ∷ scheduled_label ∷ firm_label ∷ booked_label ∷ available_label ∷ gross_label ∷ planned_label ∷ starts_label ∷ balance_label ∷ orders_open ∷ pegs_open ∷ list_end ∷ no_record ∷ history_open ∷ history_end ∷ page_end ∷ [] ∷ codes "<td>" ∷ codes "<td class=z>" ∷ codes "</td>" ∷ codes "</tr>\n" ∷ no_promises ∷ []
+plain = style ∷ todo_open ∷ nothing_to_do ∷ item_tasks_open ∷ item_tasks_end ∷ weeks_end ∷ bars_end ∷ points_end ∷ load_label ∷ capacity_label ∷ over_label ∷ grid_end ∷ centres_open ∷ section_end ∷ scheduled_label ∷ firm_label ∷ booked_label ∷ available_label ∷ gross_label ∷ planned_label ∷ starts_label ∷ balance_label ∷ orders_open ∷ pegs_open ∷ list_end ∷ no_record ∷ history_open ∷ history_end ∷ page_end ∷ [] ∷ codes "<td>" ∷ codes "<td class=z>" ∷ codes "</td>" ∷ codes "</tr>\n" ∷ no_promises ∷ table_end ∷ rest_end ∷ refused_open ∷ none_refused ∷ refused_front ∷ refused_row ∷ refused_end ∷ todo_note ∷ task_row ∷ order_unknown ∷ late_front ∷ release_front ∷ in_front ∷ out_front ∷ cancel_front ∷ other_front ∷ summary_open ∷ main_open ∷ []
 
 -- the markup of a part
 abbrev pub marks_of : Drawn → List (List ℕ)
@@ -30,15 +36,17 @@ marks_of (Number column) = []
 unfoldable pub own_words : List (List ℕ)
 own_words = plain ++ flat_map (flat_map marks_of) layouts
 
--- a piece is such markup, a text that is known, or the name of an item that is shown, as a link to it
-abbrev pub IsPieceOf : (List ℕ → Type 0) → (List ℕ → Type 0) → Piece → Type 0
-IsPieceOf Known Shown (Markup markup) = Contains own_words markup
-IsPieceOf Known Shown (Escaped text) = Known text
-IsPieceOf Known Shown (Link name) = Shown name
+-- a piece is such markup, a text that is known, the name of an item that is shown, as a link to it, or the number of an
+-- entry that is kept, as a link to it
+abbrev pub IsPieceOf : (List ℕ → Type 0) → (List ℕ → Type 0) → (List ℕ → Type 0) → Piece → Type 0
+IsPieceOf Known Shown Kept (Markup markup) = Contains own_words markup
+IsPieceOf Known Shown Kept (Escaped text) = Known text
+IsPieceOf Known Shown Kept (Link name) = Shown name
+IsPieceOf Known Shown Kept (Entry number) = Kept number
 
 -- a text consists of such pieces
-abbrev pub IsMadeOf : (List ℕ → Type 0) → (List ℕ → Type 0) → List ℕ → Type 0
-IsMadeOf Known Shown html = (pieces : List Piece) × All (IsPieceOf Known Shown) pieces × (html ≡ flat_map piece_html pieces)
+abbrev pub IsMadeOf : (List ℕ → Type 0) → (List ℕ → Type 0) → (List ℕ → Type 0) → List ℕ → Type 0
+IsMadeOf Known Shown Kept html = (pieces : List Piece) × All (IsPieceOf Known Shown Kept) pieces × (html ≡ flat_map piece_html pieces)
 
 -- a text is a cell of one of these records
 abbrev pub StandsIn : List Cells → List ℕ → Type 0
@@ -48,20 +56,43 @@ StandsIn records text = (cells : Cells) × Contains records cells × Contains ce
 abbrev pub names_shown : Noted → List (List ℕ)
 names_shown notes = map (λ r. cell_at r 0) (shown_items (item_lists notes.report))
 
+-- the numbers of the entries that are kept of the history
+abbrev pub entries_kept : Noted → List (List ℕ)
+entries_kept notes = map (λ r. cell_at r 0) notes.history
+
 -- how many rows of items are not shown
 abbrev pub left_of : Noted → Counts
 left_of notes = unshown (item_lists notes.report) (shown_items (item_lists notes.report)) notes.counts
 
--- the counts of what is not shown, and of the items
-abbrev pub count_texts : Noted → List (List ℕ)
-count_texts notes =
-    decimal notes.counts.messages ∷ decimal notes.counts.loads ∷ decimal (notes.counts.items - length (shown_items (item_lists notes.report)))
-    ∷ decimal (left_of notes).plan ∷ decimal (left_of notes).promises ∷ decimal (left_of notes).orders ∷ decimal (left_of notes).pegs ∷ decimal notes.counts.history ∷ decimal notes.counts.items ∷ []
+-- the counts of a list: its rows, those that are folded, and those past the most
+abbrev pub list_counts : List RowView → List (List ℕ)
+list_counts rows = decimal (length rows) ∷ decimal (length (drop SOME_ROWS (take MOST_LINES rows))) ∷ decimal (length (drop MOST_LINES rows)) ∷ []
 
--- texts of a page that come from no row: those of a table without rows, and the words for what is
--- counted
+-- the lists of messages, kind by kind
+abbrev pub message_lists : Noted → List (List RowView)
+message_lists notes = map (messages_of (rows_in s.Messages notes.report)) kinds ++ (other_messages (rows_in s.Messages notes.report) ∷ [])
+
+-- the counts of the summary
+abbrev pub summary_counts : List RowView → List RowView → List RowView → List (List ℕ)
+summary_counts history messages loads =
+    decimal (count_with 7 (codes "short") history) ∷ decimal (count_by is_undone history)
+    ∷ decimal (count_with 3 (codes "PAST-DUE") messages) ∷ decimal (count_with 3 (codes "RELEASE") messages) ∷ decimal (count_with 3 (codes "IN") messages) ∷ decimal (count_with 3 (codes "OUT") messages) ∷ decimal (count_with 3 (codes "CANCEL") messages)
+    ∷ decimal (centre_count (overloads loads)) ∷ decimal (centre_count loads) ∷ []
+
+-- the counts of what is not shown, of the items, and of rows that are folded, and those of the summary
+abbrev pub own_counts : Noted → List (List ℕ)
+own_counts notes =
+    decimal notes.counts.messages ∷ decimal notes.counts.loads ∷ decimal (notes.counts.items - length (shown_items (item_lists notes.report)))
+    ∷ decimal (left_of notes).plan ∷ decimal (left_of notes).promises ∷ decimal (left_of notes).orders ∷ decimal (left_of notes).pegs ∷ decimal notes.counts.history ∷ decimal notes.counts.items ∷ decimal (length (drop FEW_ROWS (refused_rows notes.history))) ∷ summary_counts notes.history (rows_in s.Messages notes.report) (rows_in s.Loads notes.report)
+
+-- those, and the counts of each list of messages
+abbrev pub count_texts : Noted → List (List ℕ)
+count_texts notes = own_counts notes ++ flat_map list_counts (message_lists notes)
+
+-- texts of a page that come from no row: those of a table without rows, the words for what is counted, and that of a fold
+-- which stands open
 unfoldable pub small_words : List (List ℕ)
-small_words = [] ∷ codes "0" ∷ codes "1" ∷ codes "message, perhaps an urgent one, is" ∷ codes "messages, urgent ones perhaps among them, are" ∷ codes "week of a work centre is" ∷ codes "weeks of work centres are" ∷ codes "item is" ∷ codes "items are" ∷ codes "week of a record is" ∷ codes "weeks of records are" ∷ codes "week of promises is" ∷ codes "weeks of promises are" ∷ codes "order is" ∷ codes "orders are" ∷ codes "peg is" ∷ codes "pegs are" ∷ codes "entry is" ∷ codes "entries are" ∷ codes "1.000" ∷ []
+small_words = [] ∷ codes "0" ∷ codes "1" ∷ codes "message, perhaps an urgent one, is" ∷ codes "messages, urgent ones perhaps among them, are" ∷ codes "week of a work centre is" ∷ codes "weeks of work centres are" ∷ codes "item is" ∷ codes "items are" ∷ codes "week of a record is" ∷ codes "weeks of records are" ∷ codes "week of promises is" ∷ codes "weeks of promises are" ∷ codes "order is" ∷ codes "orders are" ∷ codes "peg is" ∷ codes "pegs are" ∷ codes "entry is" ∷ codes "entries are" ∷ codes "1.000" ∷ codes "entry of the history is" ∷ codes "entries of the history are" ∷ codes "is" ∷ codes "are" ∷ codes "open" ∷ codes "none" ∷ codes "late" ∷ codes "unkept" ∷ codes "not promised" ∷ codes "cancel" ∷ codes "not cancelled" ∷ codes "todo" ∷ codes "release" ∷ codes "in" ∷ codes "out" ∷ codes "past due" ∷ codes "reschedule in" ∷ codes "reschedule out" ∷ codes "centres" ∷ []
 
 -- a text is the title, a cell of a record, a number of what is not shown or of the items, or one of those words
 abbrev pub IsKnown : List ℕ → List Cells → Noted → List ℕ → Type 0

@@ -29,7 +29,7 @@ page_head =
     Text 4 ∷
     Mark (codes "</b>") ∷
     Where 4 (codes "0") (codes " (the plan has none, or none that was asked for)") ∷
-    Mark (codes "</p>\n</header>\n<main>\n") ∷ []
+    Mark (codes "</p>\n") ∷ []
 
 -- what a message begins with
 unfoldable pub task_head : List Drawn
@@ -46,10 +46,10 @@ task_head =
 unfoldable pub task_words : List Drawn
 task_words =
     Mark (codes "</th><td>") ∷
-    Where 3 (codes "PAST-DUE") (codes "Past due, start now: ") ∷
-    Where 3 (codes "RELEASE") (codes "Release now: ") ∷
-    Where 3 (codes "IN") (codes "Bring in: ") ∷
-    Where 3 (codes "OUT") (codes "Put off: ") ∷
+    Where 3 (codes "PAST-DUE") (codes "Past due: ") ∷
+    Where 3 (codes "RELEASE") (codes "Release: ") ∷
+    Where 3 (codes "IN") (codes "Reschedule in: ") ∷
+    Where 3 (codes "OUT") (codes "Reschedule out: ") ∷
     Where 3 (codes "CANCEL") (codes "Cancel: ") ∷
     Text 1 ∷
     Mark (codes " ") ∷
@@ -95,7 +95,9 @@ week =
 -- an entry of the history
 unfoldable pub entry : List Drawn
 entry =
-    Mark (codes "<tr><th scope=row>") ∷
+    Mark (codes "<tr id=\"e") ∷
+    Text 0 ∷
+    Mark (codes "\"><th scope=row>") ∷
     Text 0 ∷
     Mark (codes "</th>") ∷
     Number 1 ∷
@@ -238,14 +240,6 @@ point =
     Text 7 ∷
     Mark (codes " ") ∷ []
 
--- what the section *To do* begins with
-unfoldable pub todo_open : List ℕ
-todo_open = codes "<section id=todo>\n<h2>To do</h2>\n<table class=todo aria-label=\"What to do\"><thead><tr><th scope=col>Item</th><th scope=col>What to do</th></tr></thead>\n<tbody>"
-
--- what it ends with
-unfoldable pub todo_end : List ℕ
-todo_end = codes "</tbody></table>\n"
-
 -- what an item's messages begin with
 unfoldable pub item_tasks_open : List ℕ
 item_tasks_open = codes "<table class=todo aria-label=\"What to do for this item\"><thead><tr><th scope=col>Item</th><th scope=col>What to do</th></tr></thead>\n<tbody>"
@@ -362,3 +356,243 @@ history_end = codes "</details>\n</section>\n"
 -- what a page ends with
 unfoldable pub page_end : List ℕ
 page_end = codes "</main>\n</body>\n</html>\n"
+
+-- what a list's table ends with
+unfoldable pub table_end : List ℕ
+table_end = codes "</tbody></table>\n"
+
+-- what the rows that are folded end with
+unfoldable pub rest_end : List ℕ
+rest_end = codes "</details>\n"
+
+-- what a link to an entry of the history begins with, before the number in its address
+unfoldable pub entry_link_open : List ℕ
+entry_link_open = codes "<a href=\"#e"
+
+-- what the section *Not promised* begins with
+unfoldable pub refused_open : List ℕ
+refused_open = codes "<section id=unkept>\n<h2>Not promised</h2>\n"
+
+-- what stands there if each call was answered as it asked
+unfoldable pub none_refused : List ℕ
+none_refused = codes "<p>None: each booking was promised, and each cancellation done.</p>\n"
+
+-- what the table of the calls begins with
+unfoldable pub refused_front : List ℕ
+refused_front = codes "<table class=\"list even\" aria-label=\"Not promised\"><thead><tr><th class=t scope=col>Item</th><th class=t scope=col>Answer</th><th scope=col>Pieces</th><th scope=col>Week</th><th scope=col>Desk</th><th scope=col>Entry</th></tr></thead>\n<tbody>"
+
+-- what a call begins with, before its item
+unfoldable pub refused_row : List ℕ
+refused_row = codes "<tr><th scope=row>"
+
+-- what a call ends with
+unfoldable pub refused_end : List ℕ
+refused_end = codes "</td></tr>\n"
+
+-- what rows that are folded begin with: how many they are
+unfoldable pub rest_open : List Drawn
+rest_open =
+    Mark (codes "<details class=rest><summary>and ") ∷
+    Text 0 ∷
+    Mark (codes " more</summary>\n") ∷ []
+
+-- how a call was answered, before the entry that it names
+unfoldable pub refused_answer : List Drawn
+refused_answer =
+    Mark (codes "</th><td class=t>") ∷
+    Where 7 (codes "short") (codes "<b>short: ") ∷
+    Where 7 (codes "not-standing") (codes "not standing: entry ") ∷
+    Where 7 (codes "not-yours") (codes "not yours: entry ") ∷
+    Text 8 ∷
+    Where 7 (codes "short") (codes " available</b>") ∷ []
+
+-- the pieces and the week of a call
+unfoldable pub refused_asked : List Drawn
+refused_asked =
+    Mark (codes "</td>") ∷
+    Number 5 ∷
+    Number 4 ∷ []
+
+-- the desk of a call
+unfoldable pub refused_desk : List Drawn
+refused_desk =
+    Number 1 ∷
+    Mark (codes "<td>") ∷ []
+
+-- what stands in *To do* if the plan has no message
+unfoldable pub nothing_to_do : List ℕ
+nothing_to_do = codes "<p>Nothing to do: the plan has no message.</p>\n"
+
+-- what messages are
+unfoldable pub todo_note : List ℕ
+todo_note = codes "<p class=note>Each message speaks of the plan as it stands: change what can be changed, and plan again.</p>\n"
+
+-- what a message begins with, before its item
+unfoldable pub task_row : List ℕ
+task_row = codes "<tr><th scope=row>"
+
+-- what stands in place of the cells of an order that is not kept
+unfoldable pub order_unknown : List ℕ
+order_unknown = codes "<td></td><td></td><td></td>"
+
+-- what the table of a kind of messages begins with
+unfoldable pub late_front : List ℕ
+late_front = codes "<table class=\"list even\" aria-label=\"Past due\"><thead><tr><th class=t scope=col>Item</th><th class=t scope=col>Order</th><th scope=col>Pieces</th><th scope=col>Start</th><th scope=col>Due week</th><th scope=col>Weeks late</th></tr></thead>\n<tbody>"
+
+-- what the table of a kind of messages begins with
+unfoldable pub release_front : List ℕ
+release_front = codes "<table class=\"list even\" aria-label=\"Release\"><thead><tr><th class=t scope=col>Item</th><th class=t scope=col>Order</th><th scope=col>Pieces</th><th scope=col>Start</th><th scope=col>Due week</th><td></td></tr></thead>\n<tbody>"
+
+-- what the table of a kind of messages begins with
+unfoldable pub in_front : List ℕ
+in_front = codes "<table class=\"list even\" aria-label=\"Reschedule in\"><thead><tr><th class=t scope=col>Item</th><th class=t scope=col>Order</th><th scope=col>Pieces</th><td></td><th scope=col>Week</th><th scope=col>To week</th></tr></thead>\n<tbody>"
+
+-- what the table of a kind of messages begins with
+unfoldable pub out_front : List ℕ
+out_front = codes "<table class=\"list even\" aria-label=\"Reschedule out\"><thead><tr><th class=t scope=col>Item</th><th class=t scope=col>Order</th><th scope=col>Pieces</th><td></td><th scope=col>Week</th><th scope=col>To week</th></tr></thead>\n<tbody>"
+
+-- what the table of a kind of messages begins with
+unfoldable pub cancel_front : List ℕ
+cancel_front = codes "<table class=\"list even\" aria-label=\"Cancel\"><thead><tr><th class=t scope=col>Item</th><th class=t scope=col>Order</th><th scope=col>Pieces</th><td></td><th scope=col>Week</th><td></td></tr></thead>\n<tbody>"
+
+-- what the table of a kind of messages begins with
+unfoldable pub other_front : List ℕ
+other_front = codes "<table class=\"list even\" aria-label=\"Other messages\"><thead><tr><th class=t scope=col>Item</th><th class=t scope=col>Order</th><th scope=col>Pieces</th><td></td><th scope=col>Week</th><th scope=col>Message</th></tr></thead>\n<tbody>"
+
+-- what the section *To do* begins with
+unfoldable pub todo_open : List ℕ
+todo_open = codes "<section id=todo>\n<h2>To do</h2>\n"
+
+-- the supply that a message is about
+unfoldable pub task_supply : List Drawn
+task_supply =
+    Mark (codes "</th><td class=t>") ∷
+    Text 1 ∷
+    Mark (codes " ") ∷
+    Text 2 ∷
+    Mark (codes "</td>") ∷ []
+
+-- the pieces, the start and the due week of an order
+unfoldable pub order_start : List Drawn
+order_start =
+    Number 4 ∷
+    Number 5 ∷
+    Number 3 ∷ []
+
+-- the pieces and the due week of an order
+unfoldable pub order_week : List Drawn
+order_week =
+    Number 4 ∷
+    Mark (codes "<td></td>") ∷
+    Number 3 ∷ []
+
+-- how late an order is
+unfoldable pub weeks_late : List Drawn
+weeks_late =
+    Mark (codes "<td class=bad>") ∷
+    Text 4 ∷
+    Mark (codes "</td></tr>\n") ∷ []
+
+-- the week that an order should be due in
+unfoldable pub to_week : List Drawn
+to_week =
+    Number 4 ∷
+    Mark (codes "</tr>\n") ∷ []
+
+-- what the row of a message without a value ends with
+unfoldable pub row_end : List Drawn
+row_end =
+    Mark (codes "<td></td></tr>\n") ∷ []
+
+-- the word and the value of a message
+unfoldable pub other_cells : List Drawn
+other_cells =
+    Mark (codes "<td>") ∷
+    Text 3 ∷
+    Mark (codes " ") ∷
+    Text 4 ∷
+    Mark (codes "</td></tr>\n") ∷ []
+
+-- what the fold of a kind of messages begins with: how many they are
+unfoldable pub late_open : List Drawn
+late_open =
+    Mark (codes "<details class=\"kind late\" id=late open><summary><b>Past due: ") ∷
+    Text 0 ∷
+    Mark (codes "</b> <small>release now and expedite; from version 2 on, late by shop days</small></summary>\n") ∷ []
+
+-- what the fold of a kind of messages begins with: how many they are
+unfoldable pub release_open : List Drawn
+release_open =
+    Mark (codes "<details class=\"kind release\" id=release open><summary><b>Release: ") ∷
+    Text 0 ∷
+    Mark (codes "</b> <small>release this week</small></summary>\n") ∷ []
+
+-- what the fold of a kind of messages begins with: how many they are
+unfoldable pub in_open : List Drawn
+in_open =
+    Mark (codes "<details class=\"kind in\" id=in") ∷
+    Where 1 (codes "open") (codes " open") ∷
+    Mark (codes "><summary><b>Reschedule in: ") ∷
+    Text 0 ∷
+    Mark (codes "</b> <small>needed before its week</small></summary>\n") ∷ []
+
+-- what the fold of a kind of messages begins with: how many they are
+unfoldable pub out_open : List Drawn
+out_open =
+    Mark (codes "<details class=\"kind out\" id=out") ∷
+    Where 1 (codes "open") (codes " open") ∷
+    Mark (codes "><summary><b>Reschedule out: ") ∷
+    Text 0 ∷
+    Mark (codes "</b> <small>needed only after its week</small></summary>\n") ∷ []
+
+-- what the fold of a kind of messages begins with: how many they are
+unfoldable pub cancel_open : List Drawn
+cancel_open =
+    Mark (codes "<details class=\"kind cancel\" id=cancel") ∷
+    Where 1 (codes "open") (codes " open") ∷
+    Mark (codes "><summary><b>Cancel: ") ∷
+    Text 0 ∷
+    Mark (codes "</b> <small>not needed within these weeks</small></summary>\n") ∷ []
+
+-- what the fold of a kind of messages begins with: how many they are
+unfoldable pub other_open : List Drawn
+other_open =
+    Mark (codes "<details class=\"kind other\" id=other") ∷
+    Where 1 (codes "open") (codes " open") ∷
+    Mark (codes "><summary><b>Other messages: ") ∷
+    Text 0 ∷
+    Mark (codes "</b> <small>with words of their own</small></summary>\n") ∷ []
+
+-- what the counts of a page stand in
+unfoldable pub summary_open : List ℕ
+summary_open = codes "<p class=sum>"
+
+-- what comes between the head of a page and its parts: links to these
+unfoldable pub main_open : List ℕ
+main_open = codes "</p>\n</header>\n<nav><a href=\"#unkept\">Not promised</a><a href=\"#todo\">To do</a><a href=\"#centres\">Work centres</a><a href=\"#history\">History</a></nav>\n<main>\n"
+
+-- a count that leads to a part of the page
+unfoldable pub summary_tile : List Drawn
+summary_tile =
+    Mark (codes "<a class=\"") ∷
+    Text 1 ∷
+    Mark (codes "\" href=\"#") ∷
+    Text 2 ∷
+    Mark (codes "\"><b>") ∷
+    Text 0 ∷
+    Mark (codes "</b>") ∷
+    Text 3 ∷
+    Mark (codes "</a>") ∷ []
+
+-- how many of all work centres are over their capacity
+unfoldable pub centre_tile : List Drawn
+centre_tile =
+    Mark (codes "<a class=\"") ∷
+    Text 1 ∷
+    Mark (codes "\" href=\"#") ∷
+    Text 2 ∷
+    Mark (codes "\"><b>") ∷
+    Text 0 ∷
+    Mark (codes "</b>of ") ∷
+    Text 4 ∷
+    Mark (codes " centres over capacity</a>") ∷ []

@@ -2,13 +2,16 @@
 use Rattle.std.specs.Prelude.{ℕ, Bool, ◌++◌, not, List, [], ◌∷◌, flat_map, take, if◌then◌else◌}
 use Rattle.mrp_page.specs.declared.counts.Counts.{Counts}
 use Rattle.mrp_page.specs.declared.limits.TheConstants.{MOST_ITEMS}
-use Rattle.mrp_page.specs.Draw.{centres_html, has_none, history_html, items_html, more_items, todo_html}
+use Rattle.mrp_page.specs.Draw.{centres_html, has_none, history_html, items_html, more_items}
 use Rattle.mrp_page.specs.Frame.{heading}
 use Rattle.mrp_page.specs.ItemRows.{ItemLists, item_lists}
+use Rattle.mrp_page.specs.Kinds.{todo_html}
 use Rattle.mrp_page.specs.Layout.{page_end, page_head, page_top, style}
 use Rattle.mrp_page.specs.Notes.{Noted}
+use Rattle.mrp_page.specs.Refused.{refused_section}
 use Rattle.mrp_page.specs.Row.{RowView, cell_at}
 use Rattle.mrp_page.specs.Rows.{leaders, rows_in, rows_named}
+use Rattle.mrp_page.specs.Summary.{summary_html}
 use Rattle.mrp_page.specs.Template.{row_html}
 use Rattle.mrp_day.specs.declared.section.Section.TheVariants as s
 use Rattle.mrp_page.specs.Unshown.{unshown}
@@ -53,9 +56,11 @@ top_html title report items = head_html (heading title report items)
 unfoldable pub page_of : List ℕ → Noted → List RowView → List ℕ
 page_of title notes shown =
     top_html title notes.report notes.counts.items
-    ++ (todo_html shown (rows_in s.Messages notes.report) notes.counts.messages
+    ++ (summary_html notes.history (rows_in s.Messages notes.report) (rows_in s.Loads notes.report)
+    ++ (refused_section shown notes.history notes.counts.history
+    ++ (todo_html shown (rows_in s.Orders notes.report) (rows_in s.Messages notes.report) notes.counts.messages
     ++ (load_section (rows_in s.Loads notes.report) notes.counts.loads
-    ++ rest_html (item_lists notes.report) notes.counts shown notes.history))
+    ++ rest_html (item_lists notes.report) notes.counts shown notes.history))))
 
 -- a page
 unfoldable pub page_html : List ℕ → Noted → List ℕ

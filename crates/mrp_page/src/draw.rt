@@ -1,7 +1,7 @@
 //! Drawing the parts of a page.
 
 ghost use Rattle.std.specs.Prelude.{◌≡◌, ◌++◌, OnOk, map};
-ghost use Rattle.mrp_page.specs.Draw.{balance_html, bars_html, booked_html, centre_html, centre_rows_html, centres_html, each_centre, grid_html, has_firm, has_item, history_html, is_plain, item_html, item_lists_html, item_name_html, item_tasks, items_html, link_html, loads_html, measure_html, more_html, more_items, more_lists, more_rows, more_weeks, named_note, named_record, named_tasks, orders_html, other_if, other_tasks, pegs_html, planned_html, points_html, promised_html, promises_note, record_html, record_or_none, record_rows, supplies_html, table_html, task_html, task_if, task_table, tasks_html, tasks_with, todo_back, todo_html, weeks_html};
+ghost use Rattle.mrp_page.specs.Draw.{balance_html, bars_html, booked_html, centre_html, centre_rows_html, centres_html, each_centre, grid_html, has_firm, has_item, history_html, is_plain, item_html, item_lists_html, item_name_html, item_tasks, items_html, link_html, loads_html, measure_html, more_html, more_items, more_lists, more_rows, more_weeks, named_note, named_record, named_tasks, orders_html, other_if, other_tasks, pegs_html, planned_html, points_html, promised_html, promises_note, record_html, record_or_none, record_rows, supplies_html, table_html, task_html, task_if, task_table, tasks_html, tasks_with, weeks_html};
 ghost use Rattle.std.specs.List.{list_any};
 ghost use Rattle.mrp_page.specs.Row.{is_of};
 ghost use Rattle.mrp_page.specs.Template.{drawn_of};
@@ -16,7 +16,7 @@ use crate::layout::{
     item_head, item_tasks_end, item_tasks_open, link_end, link_middle, link_open, list_end,
     load_chart, load_label, more, no_promises, no_record, order, orders_open, other_words,
     over_label, peg, pegs_open, planned_label, point, points_end, record_head, scheduled_label,
-    section_end, starts_label, task_head, task_words, todo_end, todo_open, week, weeks_end,
+    section_end, starts_label, task_head, task_words, week, weeks_end,
 };
 use crate::row::Row;
 use crate::rows::{greatest, rows_named};
@@ -78,7 +78,7 @@ fn has_item(shown: &[&Row], name: &[u8]) -> bool
 
 // Adds the name of an item, as a link if the item is among those that are shown.
 #[tactic(auto, unfolding(crate::specs::Draw::item_name_html))]
-fn put_item_name(page: &mut Html, shown: &[&Row], name: &[u8]) -> Result<(), NoMemory>
+pub(crate) fn put_item_name(page: &mut Html, shown: &[&Row], name: &[u8]) -> Result<(), NoMemory>
     ensures { OnOk result (page.new ≡ page.old ++ item_name_html (map (λ r. r.now) shown.now) name.now) }
 {
     if has_item(shown, name) {
@@ -126,7 +126,7 @@ fn put_tasks_with(
 }
 
 // Whether a message has one of the words that a page puts into plain ones.
-fn is_plain(message: &Row) -> bool
+pub(crate) fn is_plain(message: &Row) -> bool
     ensures { result ≡ is_plain message.now }
 {
     has_word(3, b"PAST-DUE", message)
@@ -189,7 +189,7 @@ fn put_task_table(
 
 // Adds how many are not shown; nothing if that is none.
 #[tactic(auto, unfolding(crate::specs::Draw::more_html))]
-fn put_more(
+pub(crate) fn put_more(
     alloc: Global,
     page: &mut Html,
     count: u64,
@@ -203,36 +203,6 @@ fn put_more(
     }
     let row = count_row(alloc, count, one, many)?;
     put_row(page, more(), &row)
-}
-
-// Adds how many more messages there are. They may be of any urgency.
-#[tactic(auto, unfolding(crate::specs::Draw::todo_back))]
-fn put_todo_back(alloc: Global, page: &mut Html, missed: u64) -> Result<(), NoMemory>
-    ensures { OnOk result (page.new ≡ page.old ++ todo_back missed) }
-{
-    put_more(
-        alloc,
-        page,
-        missed,
-        b"message, perhaps an urgent one, is",
-        b"messages, urgent ones perhaps among them, are",
-    )?;
-    page.markup(section_end())
-}
-
-// Adds the section *To do*: the messages, each with a link to its item if that is shown.
-#[tactic(auto, unfolding(crate::specs::Draw::todo_html))]
-pub(crate) fn put_todo(
-    alloc: Global,
-    page: &mut Html,
-    shown: &[&Row],
-    messages: &[Row],
-    missed: u64,
-) -> Result<(), NoMemory>
-    ensures { OnOk result (page.new ≡ page.old ++ todo_html (map (λ r. r.now) shown.now) messages.now missed) }
-{
-    put_task_table(page, todo_open(), shown, messages, todo_end())?;
-    put_todo_back(alloc, page, missed)
 }
 
 // Adds the weeks of a table.

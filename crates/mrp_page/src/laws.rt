@@ -1,26 +1,35 @@
 //! What follows from the definitions alone, each law the contract of a function that does nothing.
 
-ghost use Rattle.std.specs.Prelude.{◌≡◌, ◌++◌, ◌+◌, ◌-◌, ◌^◌, ◌⊎◌, ◌<◌, ◌≤◌, ℕ, All, Contains, IsPermutation, List, Option, [], ◌∷◌, codes, flat_map, length};
+ghost use Rattle.std.specs.Prelude.{◌≡◌, ◌++◌, ◌+◌, ◌-◌, ◌^◌, ◌&&◌, ◌⊎◌, ◌<◌, ◌≤◌, ℕ, All, Contains, IsPermutation, List, Option, Some, false, [], ◌∷◌, codes, count_by, decimal, drop, filter, find, flat_map, length, slice_index_or, take};
+ghost use Rattle.mrp_page.specs.ByWord.{has_one_of, with_word};
 ghost use Rattle.mrp_page.specs.Columns.{column};
 ghost use Rattle.mrp_page.specs.Counted.{kept_of, missed_of, wanted_rows};
-ghost use Rattle.mrp_page.specs.Draw.{bars_html, booked_html, item_html, items_html, link_html, loads_html, measure_html, more_html, named_record, named_tasks, planned_html, points_html, promised_html, record_or_none, record_rows, supplies_html};
+ghost use Rattle.mrp_page.specs.Draw.{bars_html, booked_html, item_html, item_name_html, items_html, link_html, loads_html, measure_html, more_html, named_record, named_tasks, planned_html, points_html, promised_html, record_or_none, record_rows, supplies_html};
 ghost use Rattle.mrp_page.specs.Escaped.{escaped};
+ghost use Rattle.mrp_page.specs.Folded.{Listing, folded_html, hidden_html, listed_html};
 ghost use Rattle.mrp_page.specs.ItemRows.{ItemLists, item_lists};
-ghost use Rattle.mrp_page.specs.Known.{IsKnown, IsMadeOf, names_shown};
+ghost use Rattle.mrp_page.specs.Known.{IsKnown, IsMadeOf, entries_kept, names_shown};
 ghost use Rattle.mrp_page.specs.Labels.{AreFirm};
 ghost use Rattle.mrp_page.specs.Laws.{piece_html, pieces, shown};
-ghost use Rattle.mrp_page.specs.Layout.{available_label, balance_label, bars_end, booked_label, capacity_label, firm_label, grid_end, gross_label, item_tasks_end, item_tasks_open, load_label, other_words, over_label, planned_label, points_end, scheduled_label, starts_label, task_words, todo_end, todo_open};
+ghost use Rattle.mrp_page.specs.Layout.{available_label, balance_label, bars_end, booked_label, capacity_label, firm_label, grid_end, gross_label, item_tasks_end, item_tasks_open, load_label, none_refused, order_start, order_week, other_words, over_label, planned_label, points_end, refused_answer, refused_open, scheduled_label, section_end, starts_label, task_row, task_supply, task_words};
+ghost use Rattle.mrp_page.specs.Frame.{count_row};
+ghost use Rattle.mrp_page.specs.Kinds.{Kind, cancel, earlier, is_order_of, kind_html, kind_part, kinds, kinds_html, late, later, messages_of, other_messages, other_part, release, task_line, value_rank};
+ghost use Rattle.std.specs.List.Sorted.{IsNonDecreasingBy};
+ghost use Rattle.mrp_page.specs.Rows.{rank};
 ghost use Rattle.mrp_page.specs.Notes.{Noted, notes_of};
 ghost use Rattle.mrp_page.specs.Page.{page_html, shown_items};
 ghost use Rattle.mrp_page.specs.Pictures.{drawn_balance, drawn_load};
 ghost use Rattle.mrp_page.specs.Reading.{IsDayOf};
-ghost use Rattle.mrp_page.specs.Row.{Cells, RowView, cell_at};
+ghost use Rattle.mrp_page.specs.Refused.{asked_of, is_booking, refusals, refused_html, refused_rows, refused_section};
+ghost use Rattle.mrp_page.specs.Row.{Cells, RowView, cell_at, same_text};
 ghost use Rattle.mrp_page.specs.Rows.{rows_in, rows_named};
 ghost use Rattle.mrp_page.specs.Section.{place_of};
 ghost use Rattle.mrp_page.specs.Shown.{IsByItems, items_of_plan, items_to_show, rows_of, run_shown};
 ghost use Rattle.mrp_page.specs.Spot.{Names};
-ghost use Rattle.mrp_page.specs.Template.{Drawn, row_html};
+ghost use Rattle.mrp_page.specs.Summary.{count_with, is_undone, summary_html, tile_html};
+ghost use Rattle.mrp_page.specs.Template.{Drawn, has_word, number_at, row_html};
 ghost use Rattle.mrp_page.specs.Todo.{by_urgency, message_html, said, said_of_another, word_of};
+ghost use Rattle.mrp_page.specs.declared.limits.TheConstants.{FEW_ROWS, MOST_LINES, SOME_ROWS};
 ghost use Rattle.mrp_day.specs.declared.section.Section.{Section};
 ghost use Rattle.mrp_day.specs.declared.section.Section.TheVariants as section;
 
@@ -54,10 +63,11 @@ pub fn rows_are_kept_or_counted()
 {}
 
 /// A page consists of fixed markup, which is the same for every day, and of escaped texts that are known:
-/// each is the title, a cell of a record of the day, the number of items or of what is not shown, or the word
-/// for that. Its only links are names of items that are shown, each to its item.
+/// each is the title, a cell of a record of the day, the number of items, of what is folded or of what is not
+/// shown, or the word for that. Its only links to items and entries are names of items that are shown, each to
+/// its item, and numbers of entries that are kept of the history, each to its entry.
 pub fn pages_show_what_is_known()
-    ensures { (title : List ℕ) (items : Names) (asked : Option ℕ) (records : List Cells) → IsMadeOf (IsKnown title records (notes_of items asked records)) (Contains (names_shown (notes_of items asked records))) (page_html title (notes_of items asked records)) }
+    ensures { (title : List ℕ) (items : Names) (asked : Option ℕ) (records : List Cells) → IsMadeOf (IsKnown title records (notes_of items asked records)) (Contains (names_shown (notes_of items asked records))) (Contains (entries_kept (notes_of items asked records))) (page_html title (notes_of items asked records)) }
 {}
 
 /// An item's time-phased record shows its rows of the sections `plan` and `promises`. The numbers next to
@@ -87,21 +97,43 @@ pub fn supplies_have_one_label()
     ensures scheduled { (plan : List RowView) (firm : List ℕ) → AreFirm plan firm → All (λ pieces. pieces ≡ 0) firm → supplies_html plan [] ≡ measure_html scheduled_label (column section.Plan (codes "open")) plan }
 {}
 
-/// Each message that is kept is shown once in *To do*, and once more with its item if that is shown, the most
-/// urgent first.
+/// Each message that is kept is shown once in *To do*, in the fold of its kind, and once more with its item if
+/// that is shown, the most urgent first. A fold shows its messages one by one, up to the most that a list
+/// shows.
 pub fn messages_stand_once()
-    ensures once { (messages : List RowView) → IsPermutation messages (by_urgency messages) }
-    ensures todo { (title : List ℕ) (notes : Noted) → (front : List ℕ) × (back : List ℕ) × (page_html title notes ≡ front ++ (todo_open ++ (flat_map (message_html (shown_items (item_lists notes.report))) (by_urgency (rows_in section.Messages notes.report)) ++ (todo_end ++ back)))) }
+    ensures once { (messages : List RowView) → IsPermutation messages (flat_map (messages_of messages) kinds ++ other_messages messages) }
+    ensures todo { (title : List ℕ) (notes : Noted) → (front : List ℕ) × (back : List ℕ) × (page_html title notes ≡ front ++ (kinds_html (shown_items (item_lists notes.report)) (rows_in section.Orders notes.report) (rows_in section.Messages notes.report) ++ back)) }
+    ensures kinds { (shown orders messages : List RowView) → kinds_html shown orders messages ≡ flat_map (kind_part shown orders messages) kinds ++ other_part shown orders messages }
+    ensures kind { (kind : Kind) (shown orders : List RowView) (state : List ℕ) (r : RowView) (rows : List RowView) → (front : List ℕ) × (between : List ℕ) × (back : List ℕ) × (kind_html kind shown orders state (r ∷ rows) ≡ row_html kind.head (count_row (length (r ∷ rows)) state state) ++ (front ++ (flat_map (task_line kind shown orders) (take SOME_ROWS (take MOST_LINES (r ∷ rows))) ++ (between ++ (flat_map (task_line kind shown orders) (drop SOME_ROWS (take MOST_LINES (r ∷ rows))) ++ back))))) }
+    ensures urgency { (messages : List RowView) → IsPermutation messages (by_urgency messages) }
     ensures item { (rows : ItemLists) (leader : RowView) → named_tasks rows leader ≡ item_tasks_open ++ (flat_map (message_html (leader ∷ [])) (by_urgency (rows_named (cell_at leader 0) rows.messages)) ++ item_tasks_end) }
+{}
+
+/// The fold of each kind of messages begins with its standard word and with how many messages it has.
+pub fn kinds_have_their_words()
+    ensures past_due { (n : ℕ) (state : List ℕ) → row_html late.head (count_row n state state) ≡ codes "<details class=\"kind late\" id=late open><summary><b>Past due: " ++ (escaped (decimal n) ++ (codes "</b> <small>release now and expedite; from version 2 on, late by shop days</small></summary>\n" ++ [])) }
+    ensures release { (n : ℕ) (state : List ℕ) → row_html release.head (count_row n state state) ≡ codes "<details class=\"kind release\" id=release open><summary><b>Release: " ++ (escaped (decimal n) ++ (codes "</b> <small>release this week</small></summary>\n" ++ [])) }
+    ensures earlier { (n : ℕ) (state : List ℕ) → (front : List ℕ) × (row_html earlier.head (count_row n state state) ≡ front ++ (codes "><summary><b>Reschedule in: " ++ (escaped (decimal n) ++ (codes "</b> <small>needed before its week</small></summary>\n" ++ [])))) }
+    ensures later { (n : ℕ) (state : List ℕ) → (front : List ℕ) × (row_html later.head (count_row n state state) ≡ front ++ (codes "><summary><b>Reschedule out: " ++ (escaped (decimal n) ++ (codes "</b> <small>needed only after its week</small></summary>\n" ++ [])))) }
+    ensures cancel { (n : ℕ) (state : List ℕ) → (front : List ℕ) × (row_html cancel.head (count_row n state state) ≡ front ++ (codes "><summary><b>Cancel: " ++ (escaped (decimal n) ++ (codes "</b> <small>not needed within these weeks</small></summary>\n" ++ [])))) }
+{}
+
+/// The pieces, the start and the week of a message in *To do* are those of the first kept order of its item
+/// with its number and kind.
+pub fn messages_have_their_orders()
+    ensures order { (kind : Kind) (shown orders : List RowView) (message order : RowView) → find (is_order_of message) (rows_named (cell_at message 0) orders) ≡ Some order → task_line kind shown orders message ≡ task_row ++ (item_name_html shown (cell_at message 0) ++ (row_html task_supply message ++ (row_html kind.order order ++ row_html kind.value message))) }
+    ensures same { (message order : RowView) → is_order_of message order ≡ (same_text (cell_at order (column section.Orders (codes "item"))) (cell_at message (column section.Messages (codes "item"))) && (same_text (cell_at order (column section.Orders (codes "order"))) (cell_at message (column section.Messages (codes "source"))) && same_text (cell_at order (column section.Orders (codes "kind"))) (cell_at message (column section.Messages (codes "supply"))))) }
+    ensures start { (order : RowView) → row_html order_start order ≡ number_at (column section.Orders (codes "quantity")) order ++ (number_at (column section.Orders (codes "start")) order ++ (number_at (column section.Orders (codes "due")) order ++ [])) }
+    ensures week { (order : RowView) → row_html order_week order ≡ number_at (column section.Orders (codes "quantity")) order ++ (codes "<td></td>" ++ (number_at (column section.Orders (codes "due")) order ++ [])) }
 {}
 
 /// What the page says of a message comes from the message's word, its supply, and its value if that has a
 /// meaning: a week, or how many weeks the order is past due.
 pub fn messages_stand_under_their_words()
-    ensures past_due { (message : RowView) → word_of message ≡ codes "PAST-DUE" → row_html task_words message ≡ said (codes "Past due, start now: ") (codes ", weeks late (shop days from version 2 on): ") message }
-    ensures release { (message : RowView) → word_of message ≡ codes "RELEASE" → row_html task_words message ≡ said (codes "Release now: ") [] message }
-    ensures earlier { (message : RowView) → word_of message ≡ codes "IN" → row_html task_words message ≡ said (codes "Bring in: ") (codes " to week ") message }
-    ensures later { (message : RowView) → word_of message ≡ codes "OUT" → row_html task_words message ≡ said (codes "Put off: ") (codes " to week ") message }
+    ensures past_due { (message : RowView) → word_of message ≡ codes "PAST-DUE" → row_html task_words message ≡ said (codes "Past due: ") (codes ", weeks late (shop days from version 2 on): ") message }
+    ensures release { (message : RowView) → word_of message ≡ codes "RELEASE" → row_html task_words message ≡ said (codes "Release: ") [] message }
+    ensures earlier { (message : RowView) → word_of message ≡ codes "IN" → row_html task_words message ≡ said (codes "Reschedule in: ") (codes " to week ") message }
+    ensures later { (message : RowView) → word_of message ≡ codes "OUT" → row_html task_words message ≡ said (codes "Reschedule out: ") (codes " to week ") message }
     ensures cancel { (message : RowView) → word_of message ≡ codes "CANCEL" → row_html task_words message ≡ said (codes "Cancel: ") [] message }
     ensures another { (message : RowView) → row_html other_words message ≡ said_of_another message }
 {}
@@ -122,4 +154,47 @@ pub fn first_items_with_messages()
     ensures full { (items : Names) (run : ℕ) (records : List Cells) → 200 ≤ length (items_of_plan items run records) → length (items_to_show items run records) ≡ 200 }
     ensures count { (items : Names) (asked : Option ℕ) (records : List Cells) (notes : Noted) → IsDayOf items asked records notes → IsByItems records → notes.counts.items ≡ length (items_of_plan items (run_shown asked records) records) }
     ensures page { (title : List ℕ) (notes : Noted) → (front : List ℕ) × (back : List ℕ) × (page_html title notes ≡ front ++ (items_html (item_lists notes.report) notes.counts.promises (shown_items (item_lists notes.report)) ++ (more_html (notes.counts.items - length (shown_items (item_lists notes.report))) (codes "item is") (codes "items are") ++ back))) }
+{}
+
+/// A list that is folded shows each of its rows once: the first ones, and behind their number the others.
+pub fn folds_hide_no_row()
+    ensures drawn { (listing : Listing) (most : ℕ) (rows : List RowView) → (front : List ℕ) × (between : List ℕ) × (back : List ℕ) × (folded_html listing most rows ≡ front ++ (flat_map listing.line (take most rows) ++ (between ++ (flat_map listing.line (drop most rows) ++ back)))) }
+    ensures counted { (listing : Listing) (r : RowView) (rows : List RowView) → hidden_html listing (r ∷ rows) ≡ codes "<details class=rest><summary>and " ++ (escaped (decimal (length (r ∷ rows))) ++ (codes " more</summary>\n" ++ (listed_html listing (r ∷ rows) ++ codes "</details>\n"))) }
+{}
+
+/// Each call that is kept of the history and was not answered as it asked is shown once in *Not promised*: the
+/// bookings that were answered short first, then the cancellations of what is not standing, and of what is
+/// another desk's. If there is none, and the whole history is kept, the page says so.
+pub fn refused_calls_stand_once()
+    ensures once { (history : List RowView) → IsPermutation (filter (has_one_of (column section.History (codes "reply")) refusals) history) (refused_rows history) }
+    ensures page { (title : List ℕ) (notes : Noted) → (front : List ℕ) × (between : List ℕ) × (back : List ℕ) × (page_html title notes ≡ front ++ (flat_map (refused_html (shown_items (item_lists notes.report)) notes.history) (take FEW_ROWS (refused_rows notes.history)) ++ (between ++ (flat_map (refused_html (shown_items (item_lists notes.report)) notes.history) (drop FEW_ROWS (refused_rows notes.history)) ++ back)))) }
+    ensures none { (shown history : List RowView) → refused_rows history ≡ [] → refused_section shown history 0 ≡ refused_open ++ (none_refused ++ section_end) }
+{}
+
+/// What *Not promised* says of a call: how it was answered, with what is available or the entry that it names;
+/// and the item, pieces and week that it is about, which for a cancellation are those of the booking that it
+/// names, if the history has that.
+pub fn refused_calls_say_why()
+    ensures short { (call : RowView) → cell_at call (column section.History (codes "reply")) ≡ codes "short" → row_html refused_answer call ≡ codes "</th><td class=t><b>short: " ++ (escaped (cell_at call (column section.History (codes "value"))) ++ codes " available</b>") }
+    ensures not_standing { (call : RowView) → cell_at call (column section.History (codes "reply")) ≡ codes "not-standing" → row_html refused_answer call ≡ codes "</th><td class=t>not standing: entry " ++ (escaped (cell_at call (column section.History (codes "value"))) ++ []) }
+    ensures not_yours { (call : RowView) → cell_at call (column section.History (codes "reply")) ≡ codes "not-yours" → row_html refused_answer call ≡ codes "</th><td class=t>not yours: entry " ++ (escaped (cell_at call (column section.History (codes "value"))) ++ []) }
+    ensures booking { (call : RowView) (history : List RowView) (booking : RowView) → cell_at call (column section.History (codes "call")) ≡ codes "cancel" → find (is_booking (cell_at call (column section.History (codes "number")))) history ≡ Some booking → asked_of history call ≡ booking }
+    ensures itself { (call : RowView) (history : List RowView) → has_word (column section.History (codes "call")) (codes "cancel") call ≡ false → asked_of history call ≡ call }
+{}
+
+/// Messages past due stand by how late their orders are, the latest first; messages to reschedule in by the
+/// week that they are needed in, the earliest first. Decimals are compared by their numbers.
+pub fn messages_stand_in_order()
+    ensures past_due { (messages : List RowView) (i j : ℕ) (m : RowView) → i ≤ j → j < length (messages_of messages late) → value_rank (slice_index_or (messages_of messages late) j m) ≤ value_rank (slice_index_or (messages_of messages late) i m) }
+    ensures earlier { (messages : List RowView) → IsNonDecreasingBy value_rank (messages_of messages earlier) }
+    ensures value { (message : RowView) → value_rank message ≡ rank (cell_at message (column section.Messages (codes "value"))) }
+{}
+
+/// The counts of the summary are those of the rows of the parts that they lead to, and stand in links to these.
+pub fn counts_are_of_their_parts()
+    ensures kinds { (messages : List RowView) (kind : Kind) → count_with (column section.Messages (codes "message")) kind.word messages ≡ length (messages_of messages kind) }
+    ensures short { (history : List RowView) → count_with (column section.History (codes "reply")) (codes "short") history ≡ length (with_word (column section.History (codes "reply")) history (codes "short")) }
+    ensures undone { (history : List RowView) → count_by is_undone history ≡ length (filter is_undone history) }
+    ensures tile { (count : ℕ) (mark place what : List ℕ) → (front : List ℕ) × (tile_html count mark place what ≡ front ++ (codes "\" href=\"#" ++ (escaped place ++ (codes "\"><b>" ++ (escaped (decimal count) ++ (codes "</b>" ++ (escaped what ++ (codes "</a>" ++ [])))))))) }
+    ensures page { (title : List ℕ) (notes : Noted) → (front : List ℕ) × (back : List ℕ) × (page_html title notes ≡ front ++ (summary_html notes.history (rows_in section.Messages notes.report) (rows_in section.Loads notes.report) ++ back)) }
 {}

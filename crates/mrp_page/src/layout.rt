@@ -2,7 +2,7 @@
 
 ghost use Rattle.std.specs.Prelude.{◌≡◌, map};
 ghost use Rattle.mrp_page.specs.Template.{drawn_of};
-ghost use Rattle.mrp_page.specs.Layout.{available_label, balance_chart, balance_label, bar, bars_end, booked_label, capacity_label, centre_head, centres_open, entry, firm_label, grid_end, gross_label, history_end, history_open, item_head, item_tasks_end, item_tasks_open, link_end, link_middle, link_open, list_end, load_chart, load_label, more, no_promises, no_record, order, orders_open, other_words, over_label, page_end, page_head, page_top, peg, pegs_open, planned_label, point, points_end, record_head, scheduled_label, section_end, starts_label, task_head, task_words, todo_end, todo_open, week, weeks_end, style};
+ghost use Rattle.mrp_page.specs.Layout.{available_label, balance_chart, balance_label, bar, bars_end, booked_label, cancel_front, cancel_open, capacity_label, centre_head, centre_tile, centres_open, entry, entry_link_open, firm_label, grid_end, gross_label, history_end, history_open, in_front, in_open, item_head, item_tasks_end, item_tasks_open, late_front, late_open, link_end, link_middle, link_open, list_end, load_chart, load_label, main_open, more, no_promises, no_record, none_refused, nothing_to_do, order, order_start, order_unknown, order_week, orders_open, other_cells, other_front, other_open, other_words, out_front, out_open, over_label, page_end, page_head, page_top, peg, pegs_open, planned_label, point, points_end, record_head, refused_answer, refused_asked, refused_desk, refused_end, refused_front, refused_open, refused_row, release_front, release_open, rest_end, rest_open, row_end, scheduled_label, section_end, starts_label, style, summary_open, summary_tile, table_end, task_head, task_row, task_supply, task_words, to_week, todo_note, todo_open, week, weeks_end, weeks_late};
 
 use crate::style::STYLE;
 use crate::template::Part;
@@ -48,7 +48,7 @@ pub(crate) fn page_head() -> &'static [Part]
         Part::Cell(4),
         Part::Markup(b"</b>"),
         Part::If(4, b"0", b" (the plan has none, or none that was asked for)"),
-        Part::Markup(b"</p>\n</header>\n<main>\n"),
+        Part::Markup(b"</p>\n"),
     ]
 }
 
@@ -75,10 +75,10 @@ pub(crate) fn task_words() -> &'static [Part]
 {
     &[
         Part::Markup(b"</th><td>"),
-        Part::If(3, b"PAST-DUE", b"Past due, start now: "),
-        Part::If(3, b"RELEASE", b"Release now: "),
-        Part::If(3, b"IN", b"Bring in: "),
-        Part::If(3, b"OUT", b"Put off: "),
+        Part::If(3, b"PAST-DUE", b"Past due: "),
+        Part::If(3, b"RELEASE", b"Release: "),
+        Part::If(3, b"IN", b"Reschedule in: "),
+        Part::If(3, b"OUT", b"Reschedule out: "),
         Part::If(3, b"CANCEL", b"Cancel: "),
         Part::Cell(1),
         Part::Markup(b" "),
@@ -155,7 +155,9 @@ pub(crate) fn entry() -> &'static [Part]
     ensures { map drawn_of result.now ≡ entry }
 {
     &[
-        Part::Markup(b"<tr><th scope=row>"),
+        Part::Markup(b"<tr id=\"e"),
+        Part::Cell(0),
+        Part::Markup(b"\"><th scope=row>"),
         Part::Cell(0),
         Part::Markup(b"</th>"),
         Part::Number(1),
@@ -347,22 +349,6 @@ pub(crate) fn point() -> &'static [Part]
         Part::Cell(7),
         Part::Markup(b" "),
     ]
-}
-
-// What the section *To do* begins with.
-#[tactic(auto, unfolding(crate::specs::Layout::todo_open))]
-pub(crate) fn todo_open() -> &'static [u8]
-    ensures { result.now ≡ todo_open }
-{
-    b"<section id=todo>\n<h2>To do</h2>\n<table class=todo aria-label=\"What to do\"><thead><tr><th scope=col>Item</th><th scope=col>What to do</th></tr></thead>\n<tbody>"
-}
-
-// What it ends with.
-#[tactic(auto, unfolding(crate::specs::Layout::todo_end))]
-pub(crate) fn todo_end() -> &'static [u8]
-    ensures { result.now ≡ todo_end }
-{
-    b"</tbody></table>\n"
 }
 
 // What an item's messages begin with.
@@ -593,4 +579,405 @@ pub(crate) fn page_end() -> &'static [u8]
     ensures { result.now ≡ page_end }
 {
     b"</main>\n</body>\n</html>\n"
+}
+
+// What a list's table ends with.
+#[tactic(auto, unfolding(crate::specs::Layout::table_end))]
+pub(crate) fn table_end() -> &'static [u8]
+    ensures { result.now ≡ table_end }
+{
+    b"</tbody></table>\n"
+}
+
+// What the rows that are folded end with.
+#[tactic(auto, unfolding(crate::specs::Layout::rest_end))]
+pub(crate) fn rest_end() -> &'static [u8]
+    ensures { result.now ≡ rest_end }
+{
+    b"</details>\n"
+}
+
+// What a link to an entry of the history begins with, before the number in its address.
+#[tactic(auto, unfolding(crate::specs::Layout::entry_link_open))]
+pub(crate) fn entry_link_open() -> &'static [u8]
+    ensures { result.now ≡ entry_link_open }
+{
+    b"<a href=\"#e"
+}
+
+// What the section *Not promised* begins with.
+#[tactic(auto, unfolding(crate::specs::Layout::refused_open))]
+pub(crate) fn refused_open() -> &'static [u8]
+    ensures { result.now ≡ refused_open }
+{
+    b"<section id=unkept>\n<h2>Not promised</h2>\n"
+}
+
+// What stands there if each call was answered as it asked.
+#[tactic(auto, unfolding(crate::specs::Layout::none_refused))]
+pub(crate) fn none_refused() -> &'static [u8]
+    ensures { result.now ≡ none_refused }
+{
+    b"<p>None: each booking was promised, and each cancellation done.</p>\n"
+}
+
+// What the table of the calls begins with.
+#[tactic(auto, unfolding(crate::specs::Layout::refused_front))]
+pub(crate) fn refused_front() -> &'static [u8]
+    ensures { result.now ≡ refused_front }
+{
+    b"<table class=\"list even\" aria-label=\"Not promised\"><thead><tr><th class=t scope=col>Item</th><th class=t scope=col>Answer</th><th scope=col>Pieces</th><th scope=col>Week</th><th scope=col>Desk</th><th scope=col>Entry</th></tr></thead>\n<tbody>"
+}
+
+// What a call begins with, before its item.
+#[tactic(auto, unfolding(crate::specs::Layout::refused_row))]
+pub(crate) fn refused_row() -> &'static [u8]
+    ensures { result.now ≡ refused_row }
+{
+    b"<tr><th scope=row>"
+}
+
+// What a call ends with.
+#[tactic(auto, unfolding(crate::specs::Layout::refused_end))]
+pub(crate) fn refused_end() -> &'static [u8]
+    ensures { result.now ≡ refused_end }
+{
+    b"</td></tr>\n"
+}
+
+// What rows that are folded begin with: how many they are.
+#[tactic(auto, unfolding(crate::specs::Layout::rest_open))]
+pub(crate) fn rest_open() -> &'static [Part]
+    ensures { map drawn_of result.now ≡ rest_open }
+{
+    &[
+        Part::Markup(b"<details class=rest><summary>and "),
+        Part::Cell(0),
+        Part::Markup(b" more</summary>\n"),
+    ]
+}
+
+// How a call was answered, before the entry that it names.
+#[tactic(auto, unfolding(crate::specs::Layout::refused_answer))]
+pub(crate) fn refused_answer() -> &'static [Part]
+    ensures { map drawn_of result.now ≡ refused_answer }
+{
+    &[
+        Part::Markup(b"</th><td class=t>"),
+        Part::If(7, b"short", b"<b>short: "),
+        Part::If(7, b"not-standing", b"not standing: entry "),
+        Part::If(7, b"not-yours", b"not yours: entry "),
+        Part::Cell(8),
+        Part::If(7, b"short", b" available</b>"),
+    ]
+}
+
+// The pieces and the week of a call.
+#[tactic(auto, unfolding(crate::specs::Layout::refused_asked))]
+pub(crate) fn refused_asked() -> &'static [Part]
+    ensures { map drawn_of result.now ≡ refused_asked }
+{
+    &[Part::Markup(b"</td>"), Part::Number(5), Part::Number(4)]
+}
+
+// The desk of a call.
+#[tactic(auto, unfolding(crate::specs::Layout::refused_desk))]
+pub(crate) fn refused_desk() -> &'static [Part]
+    ensures { map drawn_of result.now ≡ refused_desk }
+{
+    &[Part::Number(1), Part::Markup(b"<td>")]
+}
+
+// What stands in *To do* if the plan has no message.
+#[tactic(auto, unfolding(crate::specs::Layout::nothing_to_do))]
+pub(crate) fn nothing_to_do() -> &'static [u8]
+    ensures { result.now ≡ nothing_to_do }
+{
+    b"<p>Nothing to do: the plan has no message.</p>\n"
+}
+
+// What messages are.
+#[tactic(auto, unfolding(crate::specs::Layout::todo_note))]
+pub(crate) fn todo_note() -> &'static [u8]
+    ensures { result.now ≡ todo_note }
+{
+    b"<p class=note>Each message speaks of the plan as it stands: change what can be changed, and plan again.</p>\n"
+}
+
+// What a message begins with, before its item.
+#[tactic(auto, unfolding(crate::specs::Layout::task_row))]
+pub(crate) fn task_row() -> &'static [u8]
+    ensures { result.now ≡ task_row }
+{
+    b"<tr><th scope=row>"
+}
+
+// What stands in place of the cells of an order that is not kept.
+#[tactic(auto, unfolding(crate::specs::Layout::order_unknown))]
+pub(crate) fn order_unknown() -> &'static [u8]
+    ensures { result.now ≡ order_unknown }
+{
+    b"<td></td><td></td><td></td>"
+}
+
+// What the table of a kind of messages begins with.
+#[tactic(auto, unfolding(crate::specs::Layout::late_front))]
+pub(crate) fn late_front() -> &'static [u8]
+    ensures { result.now ≡ late_front }
+{
+    b"<table class=\"list even\" aria-label=\"Past due\"><thead><tr><th class=t scope=col>Item</th><th class=t scope=col>Order</th><th scope=col>Pieces</th><th scope=col>Start</th><th scope=col>Due week</th><th scope=col>Weeks late</th></tr></thead>\n<tbody>"
+}
+
+// What the table of a kind of messages begins with.
+#[tactic(auto, unfolding(crate::specs::Layout::release_front))]
+pub(crate) fn release_front() -> &'static [u8]
+    ensures { result.now ≡ release_front }
+{
+    b"<table class=\"list even\" aria-label=\"Release\"><thead><tr><th class=t scope=col>Item</th><th class=t scope=col>Order</th><th scope=col>Pieces</th><th scope=col>Start</th><th scope=col>Due week</th><td></td></tr></thead>\n<tbody>"
+}
+
+// What the table of a kind of messages begins with.
+#[tactic(auto, unfolding(crate::specs::Layout::in_front))]
+pub(crate) fn in_front() -> &'static [u8]
+    ensures { result.now ≡ in_front }
+{
+    b"<table class=\"list even\" aria-label=\"Reschedule in\"><thead><tr><th class=t scope=col>Item</th><th class=t scope=col>Order</th><th scope=col>Pieces</th><td></td><th scope=col>Week</th><th scope=col>To week</th></tr></thead>\n<tbody>"
+}
+
+// What the table of a kind of messages begins with.
+#[tactic(auto, unfolding(crate::specs::Layout::out_front))]
+pub(crate) fn out_front() -> &'static [u8]
+    ensures { result.now ≡ out_front }
+{
+    b"<table class=\"list even\" aria-label=\"Reschedule out\"><thead><tr><th class=t scope=col>Item</th><th class=t scope=col>Order</th><th scope=col>Pieces</th><td></td><th scope=col>Week</th><th scope=col>To week</th></tr></thead>\n<tbody>"
+}
+
+// What the table of a kind of messages begins with.
+#[tactic(auto, unfolding(crate::specs::Layout::cancel_front))]
+pub(crate) fn cancel_front() -> &'static [u8]
+    ensures { result.now ≡ cancel_front }
+{
+    b"<table class=\"list even\" aria-label=\"Cancel\"><thead><tr><th class=t scope=col>Item</th><th class=t scope=col>Order</th><th scope=col>Pieces</th><td></td><th scope=col>Week</th><td></td></tr></thead>\n<tbody>"
+}
+
+// What the table of a kind of messages begins with.
+#[tactic(auto, unfolding(crate::specs::Layout::other_front))]
+pub(crate) fn other_front() -> &'static [u8]
+    ensures { result.now ≡ other_front }
+{
+    b"<table class=\"list even\" aria-label=\"Other messages\"><thead><tr><th class=t scope=col>Item</th><th class=t scope=col>Order</th><th scope=col>Pieces</th><td></td><th scope=col>Week</th><th scope=col>Message</th></tr></thead>\n<tbody>"
+}
+
+// What the section *To do* begins with.
+#[tactic(auto, unfolding(crate::specs::Layout::todo_open))]
+pub(crate) fn todo_open() -> &'static [u8]
+    ensures { result.now ≡ todo_open }
+{
+    b"<section id=todo>\n<h2>To do</h2>\n"
+}
+
+// The supply that a message is about.
+#[tactic(auto, unfolding(crate::specs::Layout::task_supply))]
+pub(crate) fn task_supply() -> &'static [Part]
+    ensures { map drawn_of result.now ≡ task_supply }
+{
+    &[
+        Part::Markup(b"</th><td class=t>"),
+        Part::Cell(1),
+        Part::Markup(b" "),
+        Part::Cell(2),
+        Part::Markup(b"</td>"),
+    ]
+}
+
+// The pieces, the start and the due week of an order.
+#[tactic(auto, unfolding(crate::specs::Layout::order_start))]
+pub(crate) fn order_start() -> &'static [Part]
+    ensures { map drawn_of result.now ≡ order_start }
+{
+    &[Part::Number(4), Part::Number(5), Part::Number(3)]
+}
+
+// The pieces and the due week of an order.
+#[tactic(auto, unfolding(crate::specs::Layout::order_week))]
+pub(crate) fn order_week() -> &'static [Part]
+    ensures { map drawn_of result.now ≡ order_week }
+{
+    &[Part::Number(4), Part::Markup(b"<td></td>"), Part::Number(3)]
+}
+
+// How late an order is.
+#[tactic(auto, unfolding(crate::specs::Layout::weeks_late))]
+pub(crate) fn weeks_late() -> &'static [Part]
+    ensures { map drawn_of result.now ≡ weeks_late }
+{
+    &[
+        Part::Markup(b"<td class=bad>"),
+        Part::Cell(4),
+        Part::Markup(b"</td></tr>\n"),
+    ]
+}
+
+// The week that an order should be due in.
+#[tactic(auto, unfolding(crate::specs::Layout::to_week))]
+pub(crate) fn to_week() -> &'static [Part]
+    ensures { map drawn_of result.now ≡ to_week }
+{
+    &[Part::Number(4), Part::Markup(b"</tr>\n")]
+}
+
+// What the row of a message without a value ends with.
+#[tactic(auto, unfolding(crate::specs::Layout::row_end))]
+pub(crate) fn row_end() -> &'static [Part]
+    ensures { map drawn_of result.now ≡ row_end }
+{
+    &[Part::Markup(b"<td></td></tr>\n")]
+}
+
+// The word and the value of a message.
+#[tactic(auto, unfolding(crate::specs::Layout::other_cells))]
+pub(crate) fn other_cells() -> &'static [Part]
+    ensures { map drawn_of result.now ≡ other_cells }
+{
+    &[
+        Part::Markup(b"<td>"),
+        Part::Cell(3),
+        Part::Markup(b" "),
+        Part::Cell(4),
+        Part::Markup(b"</td></tr>\n"),
+    ]
+}
+
+// What the fold of a kind of messages begins with: how many they are.
+#[tactic(auto, unfolding(crate::specs::Layout::late_open))]
+pub(crate) fn late_open() -> &'static [Part]
+    ensures { map drawn_of result.now ≡ late_open }
+{
+    &[
+        Part::Markup(b"<details class=\"kind late\" id=late open><summary><b>Past due: "),
+        Part::Cell(0),
+        Part::Markup(
+            b"</b> <small>release now and expedite; from version 2 on, late by shop days</small></summary>\n",
+        ),
+    ]
+}
+
+// What the fold of a kind of messages begins with: how many they are.
+#[tactic(auto, unfolding(crate::specs::Layout::release_open))]
+pub(crate) fn release_open() -> &'static [Part]
+    ensures { map drawn_of result.now ≡ release_open }
+{
+    &[
+        Part::Markup(b"<details class=\"kind release\" id=release open><summary><b>Release: "),
+        Part::Cell(0),
+        Part::Markup(b"</b> <small>release this week</small></summary>\n"),
+    ]
+}
+
+// What the fold of a kind of messages begins with: how many they are.
+#[tactic(auto, unfolding(crate::specs::Layout::in_open))]
+pub(crate) fn in_open() -> &'static [Part]
+    ensures { map drawn_of result.now ≡ in_open }
+{
+    &[
+        Part::Markup(b"<details class=\"kind in\" id=in"),
+        Part::If(1, b"open", b" open"),
+        Part::Markup(b"><summary><b>Reschedule in: "),
+        Part::Cell(0),
+        Part::Markup(b"</b> <small>needed before its week</small></summary>\n"),
+    ]
+}
+
+// What the fold of a kind of messages begins with: how many they are.
+#[tactic(auto, unfolding(crate::specs::Layout::out_open))]
+pub(crate) fn out_open() -> &'static [Part]
+    ensures { map drawn_of result.now ≡ out_open }
+{
+    &[
+        Part::Markup(b"<details class=\"kind out\" id=out"),
+        Part::If(1, b"open", b" open"),
+        Part::Markup(b"><summary><b>Reschedule out: "),
+        Part::Cell(0),
+        Part::Markup(b"</b> <small>needed only after its week</small></summary>\n"),
+    ]
+}
+
+// What the fold of a kind of messages begins with: how many they are.
+#[tactic(auto, unfolding(crate::specs::Layout::cancel_open))]
+pub(crate) fn cancel_open() -> &'static [Part]
+    ensures { map drawn_of result.now ≡ cancel_open }
+{
+    &[
+        Part::Markup(b"<details class=\"kind cancel\" id=cancel"),
+        Part::If(1, b"open", b" open"),
+        Part::Markup(b"><summary><b>Cancel: "),
+        Part::Cell(0),
+        Part::Markup(b"</b> <small>not needed within these weeks</small></summary>\n"),
+    ]
+}
+
+// What the fold of a kind of messages begins with: how many they are.
+#[tactic(auto, unfolding(crate::specs::Layout::other_open))]
+pub(crate) fn other_open() -> &'static [Part]
+    ensures { map drawn_of result.now ≡ other_open }
+{
+    &[
+        Part::Markup(b"<details class=\"kind other\" id=other"),
+        Part::If(1, b"open", b" open"),
+        Part::Markup(b"><summary><b>Other messages: "),
+        Part::Cell(0),
+        Part::Markup(b"</b> <small>with words of their own</small></summary>\n"),
+    ]
+}
+
+// What the counts of a page stand in.
+#[tactic(auto, unfolding(crate::specs::Layout::summary_open))]
+pub(crate) fn summary_open() -> &'static [u8]
+    ensures { result.now ≡ summary_open }
+{
+    b"<p class=sum>"
+}
+
+// What comes between the head of a page and its parts: links to these.
+#[tactic(auto, unfolding(crate::specs::Layout::main_open))]
+pub(crate) fn main_open() -> &'static [u8]
+    ensures { result.now ≡ main_open }
+{
+    b"</p>\n</header>\n<nav><a href=\"#unkept\">Not promised</a><a href=\"#todo\">To do</a><a href=\"#centres\">Work centres</a><a href=\"#history\">History</a></nav>\n<main>\n"
+}
+
+// A count that leads to a part of the page.
+#[tactic(auto, unfolding(crate::specs::Layout::summary_tile))]
+pub(crate) fn summary_tile() -> &'static [Part]
+    ensures { map drawn_of result.now ≡ summary_tile }
+{
+    &[
+        Part::Markup(b"<a class=\""),
+        Part::Cell(1),
+        Part::Markup(b"\" href=\"#"),
+        Part::Cell(2),
+        Part::Markup(b"\"><b>"),
+        Part::Cell(0),
+        Part::Markup(b"</b>"),
+        Part::Cell(3),
+        Part::Markup(b"</a>"),
+    ]
+}
+
+// How many of all work centres are over their capacity.
+#[tactic(auto, unfolding(crate::specs::Layout::centre_tile))]
+pub(crate) fn centre_tile() -> &'static [Part]
+    ensures { map drawn_of result.now ≡ centre_tile }
+{
+    &[
+        Part::Markup(b"<a class=\""),
+        Part::Cell(1),
+        Part::Markup(b"\" href=\"#"),
+        Part::Cell(2),
+        Part::Markup(b"\"><b>"),
+        Part::Cell(0),
+        Part::Markup(b"</b>of "),
+        Part::Cell(4),
+        Part::Markup(b" centres over capacity</a>"),
+    ]
 }

@@ -4,15 +4,19 @@ ghost use Rattle.std.specs.Prelude.{◌≡◌, ◌++◌, IfOk, OnOk, flat_map, m
 ghost use Rattle.mrp_page.specs.Page.{head_html, is_told, items_of, load_section, page_html, page_of, rest_html, told_first, top_html, untold_rows};
 
 use crate::counts::Counts;
-use crate::draw::{put_centres, put_history, put_items, put_more_items, put_todo};
+use crate::draw::{put_centres, put_history, put_items, put_more_items};
 use crate::frame::heading;
 use crate::html::Html;
 use crate::item_rows::ItemRows;
+use crate::kinds::{Tasks, put_todo};
 use crate::layout::{page_end, page_head, page_top, style};
 use crate::limits::MOST_ITEMS;
 use crate::notes::Notes;
+use crate::places::Places;
+use crate::refused::put_refused;
 use crate::row::Row;
 use crate::rows::{leaders, rows_in, rows_named};
+use crate::summary::put_summary;
 use crate::template::put_row;
 use crate::unshown::unshown;
 use mrp_day::Section;
@@ -164,7 +168,21 @@ fn put_page_of(
     let rows = ItemRows::of(report);
     let counts = notes.counts();
     put_top(alloc, page, title, report, counts.items)?;
-    put_todo(alloc, page, shown, rows.messages(), counts.messages)?;
+    put_summary(
+        alloc,
+        page,
+        notes.history(),
+        rows.messages(),
+        rows_in(report, Section::Loads),
+    )?;
+    put_refused(alloc, page, shown, notes.history(), counts.history)?;
+    let orders = Places::of(alloc, rows.orders())?;
+    let tasks = Tasks {
+        shown,
+        orders: &orders,
+        messages: rows.messages(),
+    };
+    put_todo(alloc, page, tasks, counts.messages)?;
     put_load_section(alloc, page, rows_in(report, Section::Loads), counts.loads)?;
     put_rest(alloc, page, &rows, counts, shown, notes.history())
 }

@@ -1,0 +1,14 @@
+use Rattle.mrp_page.proofs.TodoKinds.{order-is, order-of-is, start-is, week-is}
+use Rattle.mrp_page.proofs.laws.messages_have_their_orders.Goals as goal
+
+pub returns-clause-order : goal.returns-clause-order
+returns-clause-order c = order-is
+
+pub returns-clause-same : goal.returns-clause-same
+returns-clause-same c = order-of-is
+
+pub returns-clause-start : goal.returns-clause-start
+returns-clause-start c = start-is
+
+pub returns-clause-week : goal.returns-clause-week
+returns-clause-week c = week-is
