@@ -27,3 +27,5 @@ pub mod CentreCounts
 pub mod ByKey
 pub mod Tiles
 pub mod FirstRows
+pub mod ShareOf
+pub mod Overloads

@@ -6,7 +6,8 @@ use Rattle.mrp_page.specs.ItemRows.{ItemLists, item_lists}
 use Rattle.mrp_page.specs.Kinds.{todo_html}
 use Rattle.mrp_page.specs.Layout.{item_head, link_end, link_middle, link_open, page_end}
 use Rattle.mrp_page.specs.Notes.{Noted}
-use Rattle.mrp_page.specs.Page.{items_of, load_section, page_html, page_of, rest_html, shown_items, top_html}
+use Rattle.mrp_page.specs.Centres.{load_section}
+use Rattle.mrp_page.specs.Page.{items_of, page_html, page_of, rest_html, shown_items, top_html}
 use Rattle.mrp_page.specs.Refused.{refused_section}
 use Rattle.mrp_page.specs.Row.{RowView, cell_at}
 use Rattle.mrp_page.specs.Rows.{rows_in}

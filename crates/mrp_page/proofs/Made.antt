@@ -1,19 +1,20 @@
 -- Pages consist of fixed markup and of texts that are known.
-use Rattle.std.proofs.Common.{◌≡◌, ◌∙◌, ◌⊎◌, ◌-◌, ◌<◌, ◌≤◌, ℕ, zero, suc, Bool, true, false, Some, List, [], ◌∷◌, ◌++◌, codes, decimal, drop, get_or, length, refl, sym, ap, subst, take, unwrap_or, arith, inl, inr, not}
+use Rattle.std.proofs.Common.{◌≡◌, ◌∙◌, ◌⊎◌, ◌-◌, ◌<◌, ◌≤◌, ℕ, zero, suc, Bool, true, false, Some, List, [], ◌∷◌, ◌++◌, codes, decimal, drop, get_or, length, map, refl, sym, ap, subst, take, unwrap_or, arith, inl, inr, not}
 use Rattle.std.specs.Prelude.{if◌then◌else◌, ◌==◌, ◌&&◌, ◌||◌, ◌*◌, count_by, nat_le, nat_lt}
 use Rattle.std.proofs.lemmas.Bool.{cases_lt}
 use Rattle.std.proofs.lemmas.List.{append-nil, get_or_past}
 use Rattle.std.proofs.lemmas.List.Concat.{flat_map-append}
 use Rattle.std.proofs.lemmas.List.Folds.{Any-from_list_any}
 use Rattle.std.proofs.lemmas.Slice.Eq.{bytes_eq-Decides}
-use Rattle.std.proofs.lemmas.List.Elements.{All-append, All-cons, All-contains, All-contains_itself, All-drop, All-filter, All-nil, All-take, Contains-append_left, Contains-append_right}
+use Rattle.std.proofs.lemmas.List.Elements.{All-append, All-cons, All-contains, All-contains_itself, All-drop, All-filter, All-map, All-nil, All-take, Contains-append_left, Contains-append_right}
 use Rattle.std.specs.List.{All, Contains, find, flat_map, position_or_len}
 use Rattle.mrp_page.specs.ByWord.{by_word, with_word}
-use Rattle.mrp_page.specs.Draw.{balance_html, bars_html, booked_html, centre_html, centre_rows_html, centres_html, each_centre, grid_html, has_firm, has_item, has_none, history_html, is_plain, item_html, item_lists_html, item_name_html, item_tasks, items_html, link_html, loads_html, measure_html, more_html, more_items, more_lists, more_rows, more_weeks, named_note, named_record, named_tasks, orders_html, other_if, other_tasks, pegs_html, planned_html, points_html, promised_html, record_html, record_or_none, record_rows, supplies_html, table_html, task_html, task_if, task_table, tasks_html, tasks_with, weeks_html}
+use Rattle.mrp_page.specs.Centres.{all_loads, bars_html, centre_frame, centre_html, centres_back, each_centre, framed_centre, later_loads, load_section, loads_html, loads_table, over_listing, over_or_none, overload_html, picture_html, shares_html, times_html}
+use Rattle.mrp_page.specs.Draw.{all_weeks, amounts_html, balance_html, booked_html, framed_record, has_firm, has_item, has_none, history_html, is_plain, is_scheduled, item_html, item_lists_html, item_name_html, item_tasks, items_html, later_record, link_html, measure_html, more_html, more_items, more_lists, more_rows, more_weeks, named_note, named_record, named_tasks, orders_html, other_if, other_tasks, pegs_html, planned_html, points_html, promised_html, record_html, record_or_none, record_rows, record_table, supplies_html, table_html, task_html, task_if, task_table, tasks_html, tasks_with, weeks_html}
 use Rattle.mrp_page.specs.Escaped.{escaped}
 use Rattle.mrp_page.specs.Folded.{Listing, capped_html, folded_html, hidden_html, listed_html}
-use Rattle.mrp_page.specs.Frame.{count_row, frame_of, heading, last_week}
-use Rattle.mrp_page.specs.Html.{is_zero, number_html, number_tag}
+use Rattle.mrp_page.specs.Frame.{count_row, frame, frame_of, heading, last_week}
+use Rattle.mrp_page.specs.Html.{flow_html, is_zero, number_html, number_tag}
 use Rattle.mrp_page.specs.ItemRows.{ItemLists, item_lists}
 use Rattle.std.proofs.lemmas.List.Sorted.{All-permutation}
 use Rattle.mrp_page.specs.declared.kinds.Sorting.{Sorting}
@@ -21,17 +22,18 @@ use Rattle.mrp_page.specs.declared.kinds.Sorting.TheVariants as sorts
 use Rattle.mrp_page.specs.Sorted.{sorted_by}
 use Rattle.mrp_page.proofs.ByKey.{sorted-permutes}
 use Rattle.mrp_page.specs.Kinds.{Kind, cancel, earlier, falling_rank, in_order, is_order_of, kind_html, kind_listing, kind_part, kinds_html, late, later, messages_of, note_html, order_html, other, other_messages, other_part, release, state_of, task_line, todo_back, todo_html, value_rank}
-use Rattle.mrp_page.specs.Known.{IsMadeOf, IsPieceOf, count_texts, layouts, list_counts, marks_of, message_lists, own_counts, own_words, plain, small_words, summary_counts}
+use Rattle.mrp_page.specs.Known.{IsMadeOf, IsPieceOf, count_texts, layouts, list_counts, listed_texts, load_texts, marks_of, own_counts, own_words, plain, row_lists, small_words, summary_counts}
 use Rattle.mrp_page.specs.Laws.{Entry, Escaped, Link, Markup, piece_html}
-use Rattle.mrp_page.specs.Layout.{available_label, balance_chart, balance_label, bar, bars_end, booked_label, cancel_front, cancel_open, capacity_label, centre_head, centre_tile, centres_open, entry, firm_label, grid_end, gross_label, history_end, history_open, in_front, in_open, item_head, item_tasks_end, item_tasks_open, late_front, late_open, list_end, load_chart, load_label, main_open, more, no_promises, no_record, none_refused, nothing_to_do, order, order_start, order_unknown, order_week, orders_open, other_cells, other_front, other_open, other_words, out_front, out_open, over_label, page_end, page_head, page_top, peg, pegs_open, planned_label, point, points_end, record_head, refused_answer, refused_asked, refused_desk, refused_end, refused_front, refused_open, refused_row, release_front, release_open, rest_end, rest_open, row_end, scheduled_label, section_end, starts_label, style, summary_open, summary_tile, table_end, task_head, task_row, task_supply, task_words, to_week, todo_note, todo_open, week, weeks_end, weeks_late}
+use Rattle.mrp_page.specs.Layout.{above_bar, above_end, available_label, balance_chart, balance_label, booked_label, cancel_front, cancel_open, capacity_label, centre_head, centre_open, centre_tile, centres_open, cut_bar, entry, firm_label, grid_end, gross_label, history_end, history_open, hot_bar, hot_end, in_front, in_open, item_head, item_tasks_end, item_tasks_open, late_front, late_open, later_open, list_end, load_chart, load_end, load_label, low_bar, low_end, main_open, more, no_promises, no_record, none_over, none_refused, nothing_to_do, order, order_start, order_unknown, order_week, orders_open, other_cells, other_front, other_open, other_words, out_front, out_open, over_back, over_front, over_label, over_line, over_open, page_end, page_head, page_top, peg, pegs_open, planned_label, point, points_end, record_head, refused_answer, refused_asked, refused_desk, refused_end, refused_front, refused_open, refused_row, release_front, release_open, rest_end, rest_open, row_end, scheduled_label, section_end, share_cell, share_label, starts_label, style, summary_open, summary_tile, table_end, task_head, task_row, task_supply, task_words, to_week, todo_note, todo_open, week, weeks_end, weeks_late}
 use Rattle.mrp_page.specs.Notes.{Noted}
-use Rattle.mrp_page.specs.Page.{head_html, is_told, items_of, load_section, page_html, page_of, rest_html, shown_items, told_first, top_html, untold_rows}
+use Rattle.mrp_page.specs.Page.{head_html, is_told, items_of, page_html, page_of, rest_html, shown_items, told_first, top_html, untold_rows}
 use Rattle.mrp_page.specs.Refused.{answer_html, asked_of, call_html, caller_html, entry_link_html, entry_name_html, is_booking, refusals, refused_back, refused_lines, refused_listing, refused_or_none, refused_rows, refused_section}
-use Rattle.mrp_page.specs.Row.{Cells, RowView, cell_at, is_in, is_of}
+use Rattle.mrp_page.specs.Row.{Cells, RowView, cell_at, is_in, is_of, same_text}
 use Rattle.mrp_page.specs.Rows.{greatest, higher, leader_rows, leaders, rank, rows_in, rows_named, stretch}
-use Rattle.mrp_page.specs.Summary.{calls_tiles, centre_count, centres_tile, count_with, is_undone, kind_tile, kinds_tiles, overloads, place_or, summary_html, tile, tile_html}
-use Rattle.mrp_page.specs.Template.{Drawn, Mark, Number, Text, Where, has_word, number_at, numbers_html, part_html, row_html, rows_html}
-use Rattle.mrp_page.specs.declared.limits.TheConstants.{FEW_ROWS, MOST_ITEMS, MOST_LINES, SOME_ROWS}
+use Rattle.mrp_page.specs.Shares.{falling_share, from_point, minutes_at, minutes_html, minutes_tag, overloads_first, share_cells, share_of, share_row, week_rank, whole}
+use Rattle.mrp_page.specs.Summary.{calls_tiles, centre_count, centres_tile, count_with, is_over, is_undone, kind_tile, kinds_tiles, overloads, place_or, summary_html, tile, tile_html}
+use Rattle.mrp_page.specs.Template.{Drawn, Mark, Number, Text, Where, flow_at, flows_html, has_word, number_at, numbers_html, part_html, row_html, rows_html}
+use Rattle.mrp_page.specs.declared.limits.TheConstants.{FEW_ROWS, MOST_ITEMS, MOST_LINES, SOME_ROWS, TABLE_WEEKS}
 use Rattle.mrp_page.specs.declared.counts.Counts.{Counts}
 use Rattle.mrp_day.specs.declared.section.Section.{Section}
 use Rattle.mrp_day.specs.declared.section.Section.TheVariants as s
@@ -106,109 +108,141 @@ laid-load_chart : Contains layouts load_chart
 unfolding layouts
 laid-load_chart = (9, omega arith, refl)
 
-laid-bar : Contains layouts bar
-unfolding layouts
-laid-bar = (10, omega arith, refl)
-
 laid-item_head : Contains layouts item_head
 unfolding layouts
-laid-item_head = (11, omega arith, refl)
+laid-item_head = (10, omega arith, refl)
 
 laid-record_head : Contains layouts record_head
 unfolding layouts
-laid-record_head = (12, omega arith, refl)
+laid-record_head = (11, omega arith, refl)
 
 laid-balance_chart : Contains layouts balance_chart
 unfolding layouts
-laid-balance_chart = (13, omega arith, refl)
+laid-balance_chart = (12, omega arith, refl)
 
 laid-point : Contains layouts point
 unfolding layouts
-laid-point = (14, omega arith, refl)
+laid-point = (13, omega arith, refl)
 
 laid-more : Contains layouts more
 unfolding layouts
-laid-more = (15, omega arith, refl)
+laid-more = (14, omega arith, refl)
 
 laid-other_words : Contains layouts other_words
 unfolding layouts
-laid-other_words = (16, omega arith, refl)
+laid-other_words = (15, omega arith, refl)
 
 laid-rest_open : Contains layouts rest_open
 unfolding layouts
-laid-rest_open = (17, omega arith, refl)
+laid-rest_open = (16, omega arith, refl)
 
 laid-refused_answer : Contains layouts refused_answer
 unfolding layouts
-laid-refused_answer = (18, omega arith, refl)
+laid-refused_answer = (17, omega arith, refl)
 
 laid-refused_asked : Contains layouts refused_asked
 unfolding layouts
-laid-refused_asked = (19, omega arith, refl)
+laid-refused_asked = (18, omega arith, refl)
 
 laid-refused_desk : Contains layouts refused_desk
 unfolding layouts
-laid-refused_desk = (20, omega arith, refl)
+laid-refused_desk = (19, omega arith, refl)
 
 laid-task_supply : Contains layouts task_supply
 unfolding layouts
-laid-task_supply = (21, omega arith, refl)
+laid-task_supply = (20, omega arith, refl)
 
 laid-order_start : Contains layouts order_start
 unfolding layouts
-laid-order_start = (22, omega arith, refl)
+laid-order_start = (21, omega arith, refl)
 
 laid-order_week : Contains layouts order_week
 unfolding layouts
-laid-order_week = (23, omega arith, refl)
+laid-order_week = (22, omega arith, refl)
 
 laid-weeks_late : Contains layouts weeks_late
 unfolding layouts
-laid-weeks_late = (24, omega arith, refl)
+laid-weeks_late = (23, omega arith, refl)
 
 laid-to_week : Contains layouts to_week
 unfolding layouts
-laid-to_week = (25, omega arith, refl)
+laid-to_week = (24, omega arith, refl)
 
 laid-row_end : Contains layouts row_end
 unfolding layouts
-laid-row_end = (26, omega arith, refl)
+laid-row_end = (25, omega arith, refl)
 
 laid-other_cells : Contains layouts other_cells
 unfolding layouts
-laid-other_cells = (27, omega arith, refl)
+laid-other_cells = (26, omega arith, refl)
 
 laid-late_open : Contains layouts late_open
 unfolding layouts
-laid-late_open = (28, omega arith, refl)
+laid-late_open = (27, omega arith, refl)
 
 laid-release_open : Contains layouts release_open
 unfolding layouts
-laid-release_open = (29, omega arith, refl)
+laid-release_open = (28, omega arith, refl)
 
 laid-in_open : Contains layouts in_open
 unfolding layouts
-laid-in_open = (30, omega arith, refl)
+laid-in_open = (29, omega arith, refl)
 
 laid-out_open : Contains layouts out_open
 unfolding layouts
-laid-out_open = (31, omega arith, refl)
+laid-out_open = (30, omega arith, refl)
 
 laid-cancel_open : Contains layouts cancel_open
 unfolding layouts
-laid-cancel_open = (32, omega arith, refl)
+laid-cancel_open = (31, omega arith, refl)
 
 laid-other_open : Contains layouts other_open
 unfolding layouts
-laid-other_open = (33, omega arith, refl)
+laid-other_open = (32, omega arith, refl)
 
 laid-summary_tile : Contains layouts summary_tile
 unfolding layouts
-laid-summary_tile = (34, omega arith, refl)
+laid-summary_tile = (33, omega arith, refl)
 
 laid-centre_tile : Contains layouts centre_tile
 unfolding layouts
-laid-centre_tile = (35, omega arith, refl)
+laid-centre_tile = (34, omega arith, refl)
+
+laid-centre_open : Contains layouts centre_open
+unfolding layouts
+laid-centre_open = (35, omega arith, refl)
+
+laid-low_bar : Contains layouts low_bar
+unfolding layouts
+laid-low_bar = (36, omega arith, refl)
+
+laid-hot_bar : Contains layouts hot_bar
+unfolding layouts
+laid-hot_bar = (37, omega arith, refl)
+
+laid-above_bar : Contains layouts above_bar
+unfolding layouts
+laid-above_bar = (38, omega arith, refl)
+
+laid-cut_bar : Contains layouts cut_bar
+unfolding layouts
+laid-cut_bar = (39, omega arith, refl)
+
+laid-share_cell : Contains layouts share_cell
+unfolding layouts
+laid-share_cell = (40, omega arith, refl)
+
+laid-over_open : Contains layouts over_open
+unfolding layouts
+laid-over_open = (41, omega arith, refl)
+
+laid-over_line : Contains layouts over_line
+unfolding layouts
+laid-over_line = (42, omega arith, refl)
+
+laid-load_end : Contains layouts load_end
+unfolding layouts
+laid-load_end = (43, omega arith, refl)
 
 own-style : Contains own_words style
 unfolding plain
@@ -234,193 +268,233 @@ own-weeks_end : Contains own_words weeks_end
 unfolding plain
 own-weeks_end = own weeks_end 5 (omega arith) refl
 
-own-bars_end : Contains own_words bars_end
-unfolding plain
-own-bars_end = own bars_end 6 (omega arith) refl
-
 own-points_end : Contains own_words points_end
 unfolding plain
-own-points_end = own points_end 7 (omega arith) refl
+own-points_end = own points_end 6 (omega arith) refl
 
 own-load_label : Contains own_words load_label
 unfolding plain
-own-load_label = own load_label 8 (omega arith) refl
+own-load_label = own load_label 7 (omega arith) refl
 
 own-capacity_label : Contains own_words capacity_label
 unfolding plain
-own-capacity_label = own capacity_label 9 (omega arith) refl
+own-capacity_label = own capacity_label 8 (omega arith) refl
 
 own-over_label : Contains own_words over_label
 unfolding plain
-own-over_label = own over_label 10 (omega arith) refl
+own-over_label = own over_label 9 (omega arith) refl
 
 own-grid_end : Contains own_words grid_end
 unfolding plain
-own-grid_end = own grid_end 11 (omega arith) refl
+own-grid_end = own grid_end 10 (omega arith) refl
 
 own-centres_open : Contains own_words centres_open
 unfolding plain
-own-centres_open = own centres_open 12 (omega arith) refl
+own-centres_open = own centres_open 11 (omega arith) refl
 
 own-section_end : Contains own_words section_end
 unfolding plain
-own-section_end = own section_end 13 (omega arith) refl
+own-section_end = own section_end 12 (omega arith) refl
 
 own-scheduled_label : Contains own_words scheduled_label
 unfolding plain
-own-scheduled_label = own scheduled_label 14 (omega arith) refl
+own-scheduled_label = own scheduled_label 13 (omega arith) refl
 
 own-firm_label : Contains own_words firm_label
 unfolding plain
-own-firm_label = own firm_label 15 (omega arith) refl
+own-firm_label = own firm_label 14 (omega arith) refl
 
 own-booked_label : Contains own_words booked_label
 unfolding plain
-own-booked_label = own booked_label 16 (omega arith) refl
+own-booked_label = own booked_label 15 (omega arith) refl
 
 own-available_label : Contains own_words available_label
 unfolding plain
-own-available_label = own available_label 17 (omega arith) refl
+own-available_label = own available_label 16 (omega arith) refl
 
 own-gross_label : Contains own_words gross_label
 unfolding plain
-own-gross_label = own gross_label 18 (omega arith) refl
+own-gross_label = own gross_label 17 (omega arith) refl
 
 own-planned_label : Contains own_words planned_label
 unfolding plain
-own-planned_label = own planned_label 19 (omega arith) refl
+own-planned_label = own planned_label 18 (omega arith) refl
 
 own-starts_label : Contains own_words starts_label
 unfolding plain
-own-starts_label = own starts_label 20 (omega arith) refl
+own-starts_label = own starts_label 19 (omega arith) refl
 
 own-balance_label : Contains own_words balance_label
 unfolding plain
-own-balance_label = own balance_label 21 (omega arith) refl
+own-balance_label = own balance_label 20 (omega arith) refl
 
 own-orders_open : Contains own_words orders_open
 unfolding plain
-own-orders_open = own orders_open 22 (omega arith) refl
+own-orders_open = own orders_open 21 (omega arith) refl
 
 own-pegs_open : Contains own_words pegs_open
 unfolding plain
-own-pegs_open = own pegs_open 23 (omega arith) refl
+own-pegs_open = own pegs_open 22 (omega arith) refl
 
 own-list_end : Contains own_words list_end
 unfolding plain
-own-list_end = own list_end 24 (omega arith) refl
+own-list_end = own list_end 23 (omega arith) refl
 
 own-no_record : Contains own_words no_record
 unfolding plain
-own-no_record = own no_record 25 (omega arith) refl
+own-no_record = own no_record 24 (omega arith) refl
 
 own-history_open : Contains own_words history_open
 unfolding plain
-own-history_open = own history_open 26 (omega arith) refl
+own-history_open = own history_open 25 (omega arith) refl
 
 own-history_end : Contains own_words history_end
 unfolding plain
-own-history_end = own history_end 27 (omega arith) refl
+own-history_end = own history_end 26 (omega arith) refl
 
 own-page_end : Contains own_words page_end
 unfolding plain
-own-page_end = own page_end 28 (omega arith) refl
+own-page_end = own page_end 27 (omega arith) refl
 
 own-none : Contains own_words ([])
 unfolding plain
-own-none = own ([]) 29 (omega arith) refl
+own-none = own ([]) 28 (omega arith) refl
 
 own-cell : Contains own_words (codes "<td>")
 unfolding plain
-own-cell = own (codes "<td>") 30 (omega arith) refl
+own-cell = own (codes "<td>") 29 (omega arith) refl
 
 own-zero : Contains own_words (codes "<td class=z>")
 unfolding plain
-own-zero = own (codes "<td class=z>") 31 (omega arith) refl
+own-zero = own (codes "<td class=z>") 30 (omega arith) refl
 
 own-cell-end : Contains own_words (codes "</td>")
 unfolding plain
-own-cell-end = own (codes "</td>") 32 (omega arith) refl
+own-cell-end = own (codes "</td>") 31 (omega arith) refl
 
 own-row-end : Contains own_words (codes "</tr>\n")
 unfolding plain
-own-row-end = own (codes "</tr>\n") 33 (omega arith) refl
+own-row-end = own (codes "</tr>\n") 32 (omega arith) refl
 
 own-no_promises : Contains own_words no_promises
 unfolding plain
-own-no_promises = own no_promises 34 (omega arith) refl
+own-no_promises = own no_promises 33 (omega arith) refl
 
 own-table_end : Contains own_words table_end
 unfolding plain
-own-table_end = own table_end 35 (omega arith) refl
+own-table_end = own table_end 34 (omega arith) refl
 
 own-rest_end : Contains own_words rest_end
 unfolding plain
-own-rest_end = own rest_end 36 (omega arith) refl
+own-rest_end = own rest_end 35 (omega arith) refl
 
 own-refused_open : Contains own_words refused_open
 unfolding plain
-own-refused_open = own refused_open 37 (omega arith) refl
+own-refused_open = own refused_open 36 (omega arith) refl
 
 own-none_refused : Contains own_words none_refused
 unfolding plain
-own-none_refused = own none_refused 38 (omega arith) refl
+own-none_refused = own none_refused 37 (omega arith) refl
 
 own-refused_front : Contains own_words refused_front
 unfolding plain
-own-refused_front = own refused_front 39 (omega arith) refl
+own-refused_front = own refused_front 38 (omega arith) refl
 
 own-refused_row : Contains own_words refused_row
 unfolding plain
-own-refused_row = own refused_row 40 (omega arith) refl
+own-refused_row = own refused_row 39 (omega arith) refl
 
 own-refused_end : Contains own_words refused_end
 unfolding plain
-own-refused_end = own refused_end 41 (omega arith) refl
+own-refused_end = own refused_end 40 (omega arith) refl
 
 own-todo_note : Contains own_words todo_note
 unfolding plain
-own-todo_note = own todo_note 42 (omega arith) refl
+own-todo_note = own todo_note 41 (omega arith) refl
 
 own-task_row : Contains own_words task_row
 unfolding plain
-own-task_row = own task_row 43 (omega arith) refl
+own-task_row = own task_row 42 (omega arith) refl
 
 own-order_unknown : Contains own_words order_unknown
 unfolding plain
-own-order_unknown = own order_unknown 44 (omega arith) refl
+own-order_unknown = own order_unknown 43 (omega arith) refl
 
 own-late_front : Contains own_words late_front
 unfolding plain
-own-late_front = own late_front 45 (omega arith) refl
+own-late_front = own late_front 44 (omega arith) refl
 
 own-release_front : Contains own_words release_front
 unfolding plain
-own-release_front = own release_front 46 (omega arith) refl
+own-release_front = own release_front 45 (omega arith) refl
 
 own-in_front : Contains own_words in_front
 unfolding plain
-own-in_front = own in_front 47 (omega arith) refl
+own-in_front = own in_front 46 (omega arith) refl
 
 own-out_front : Contains own_words out_front
 unfolding plain
-own-out_front = own out_front 48 (omega arith) refl
+own-out_front = own out_front 47 (omega arith) refl
 
 own-cancel_front : Contains own_words cancel_front
 unfolding plain
-own-cancel_front = own cancel_front 49 (omega arith) refl
+own-cancel_front = own cancel_front 48 (omega arith) refl
 
 own-other_front : Contains own_words other_front
 unfolding plain
-own-other_front = own other_front 50 (omega arith) refl
+own-other_front = own other_front 49 (omega arith) refl
 
 own-summary_open : Contains own_words summary_open
 unfolding plain
-own-summary_open = own summary_open 51 (omega arith) refl
+own-summary_open = own summary_open 50 (omega arith) refl
 
 own-main_open : Contains own_words main_open
 unfolding plain
-own-main_open = own main_open 52 (omega arith) refl
+own-main_open = own main_open 51 (omega arith) refl
+
+own-low_end : Contains own_words low_end
+unfolding plain
+own-low_end = own low_end 52 (omega arith) refl
+
+own-hot_end : Contains own_words hot_end
+unfolding plain
+own-hot_end = own hot_end 53 (omega arith) refl
+
+own-above_end : Contains own_words above_end
+unfolding plain
+own-above_end = own above_end 54 (omega arith) refl
+
+own-share_label : Contains own_words share_label
+unfolding plain
+own-share_label = own share_label 55 (omega arith) refl
+
+own-later_open : Contains own_words later_open
+unfolding plain
+own-later_open = own later_open 56 (omega arith) refl
+
+own-none_over : Contains own_words none_over
+unfolding plain
+own-none_over = own none_over 57 (omega arith) refl
+
+own-over_front : Contains own_words over_front
+unfolding plain
+own-over_front = own over_front 58 (omega arith) refl
+
+own-over_back : Contains own_words over_back
+unfolding plain
+own-over_back = own over_back 59 (omega arith) refl
+
+own-empty : Contains own_words (codes "<td></td>")
+unfolding plain
+own-empty = own (codes "<td></td>") 60 (omega arith) refl
+
+own-titled : Contains own_words (codes "<td title=\"")
+unfolding plain
+own-titled = own (codes "<td title=\"") 61 (omega arith) refl
+
+own-tag-end : Contains own_words (codes "\">")
+unfolding plain
+own-tag-end = own (codes "\">") 62 (omega arith) refl
 
 -- the markup of a kind of messages is the page's own
 record OfKind (kind : Kind) : Type 0 where
@@ -576,6 +650,15 @@ module _ (K L E : List ℕ → Type 0) (words : (w : List ℕ) → Contains smal
   unfolding numbers_html
   numbers column rs all = each (λ (r : RowView). (column : ℕ) → K (cell_at r column)) (number_at column) (λ r known. number (cell_at r column) (known column)) rs all
 
+  flow : (t : List ℕ) → K t → IsMadeOf K L E (flow_html t)
+  flow t known =
+      either (is_zero t) (codes "<td></td>") (codes "<td>" ++ (escaped t ++ codes "</td>")) (mark (codes "<td></td>") own-empty)
+      (join (codes "<td>") (escaped t ++ codes "</td>") (mark (codes "<td>") own-cell) (join (escaped t) (codes "</td>") (text t known) (mark (codes "</td>") own-cell-end)))
+
+  flows : (column : ℕ) (rs : List RowView) → All (λ (r : RowView). (column : ℕ) → K (cell_at r column)) rs → IsMadeOf K L E (flows_html column rs)
+  unfolding flows_html
+  flows column rs all = each (λ (r : RowView). (column : ℕ) → K (cell_at r column)) (flow_at column) (λ r known. flow (cell_at r column) (known column)) rs all
+
   table : (front : List ℕ) (parts : List Drawn) (rs : List RowView) (back : List ℕ) → Contains own_words front → Contains layouts parts → All (λ (r : RowView). (column : ℕ) → K (cell_at r column)) rs → Contains own_words back → IsMadeOf K L E (table_html front parts rs back)
   unfolding table_html
   table front parts rs back of-front laid all of-back = join front (rows_html parts rs ++ back) (mark front of-front) (join (rows_html parts rs) back (rows parts rs laid all) (mark back of-back))
@@ -583,6 +666,10 @@ module _ (K L E : List ℕ → Type 0) (words : (w : List ℕ) → Contains smal
   measure : (label : List ℕ) (column : ℕ) (rs : List RowView) → Contains own_words label → All (λ (r : RowView). (column : ℕ) → K (cell_at r column)) rs → IsMadeOf K L E (measure_html label column rs)
   unfolding measure_html
   measure label column rs is all = join label (numbers_html column rs ++ codes "</tr>\n") (mark label is) (join (numbers_html column rs) (codes "</tr>\n") (numbers column rs all) (mark (codes "</tr>\n") own-row-end))
+
+  amounts : (label : List ℕ) (column : ℕ) (rs : List RowView) → Contains own_words label → All (λ (r : RowView). (column : ℕ) → K (cell_at r column)) rs → IsMadeOf K L E (amounts_html label column rs)
+  unfolding amounts_html
+  amounts label column rs is all = join label (flows_html column rs ++ codes "</tr>\n") (mark label is) (join (flows_html column rs) (codes "</tr>\n") (flows column rs all) (mark (codes "</tr>\n") own-row-end))
 
   link : (name : List ℕ) → L name → IsMadeOf K L E (link_html name)
   link name leads = (Link name ∷ [], All-cons (IsPieceOf K L E) (Link name) [] leads (All-nil (IsPieceOf K L E)), sym (append-nil (link_html name)))
@@ -650,25 +737,37 @@ module _ (K L E : List ℕ → Type 0) (words : (w : List ℕ) → Contains smal
       by true has = entry-link number (subst E (named-item history number has).2 (All-contains (λ (r : RowView). E (cell_at r 0)) history (named-item history number has).0 kept (named-item history number has).1))
       by false has = text number known
 
-  listed : (listing : Listing) (rs : List RowView) → Contains own_words listing.front → Contains own_words listing.back → ((r : RowView) → ((column : ℕ) → K (cell_at r column)) → IsMadeOf K L E (listing.line r))
-      → All (λ (r : RowView). (column : ℕ) → K (cell_at r column)) rs → IsMadeOf K L E (listed_html listing rs)
+  listed : (P : RowView → Type 0) (listing : Listing) (rs : List RowView) → Contains own_words listing.front → Contains own_words listing.back → ((r : RowView) → P r → IsMadeOf K L E (listing.line r)) → All P rs → IsMadeOf K L E (listed_html listing rs)
   unfolding listed_html
-  listed listing rs of-front of-back line all =
+  listed P listing rs of-front of-back line all =
       either (has_none rs) [] (listing.front ++ (flat_map listing.line rs ++ listing.back)) none
       (join listing.front (flat_map listing.line rs ++ listing.back) (mark listing.front of-front)
-      (join (flat_map listing.line rs) listing.back (each (λ (r : RowView). (column : ℕ) → K (cell_at r column)) listing.line line rs all) (mark listing.back of-back)))
+      (join (flat_map listing.line rs) listing.back (each P listing.line line rs all) (mark listing.back of-back)))
 
-  folded : (listing : Listing) (most : ℕ) (rs : List RowView) → Contains own_words listing.front → Contains own_words listing.back → ((r : RowView) → ((column : ℕ) → K (cell_at r column)) → IsMadeOf K L E (listing.line r))
-      → All (λ (r : RowView). (column : ℕ) → K (cell_at r column)) rs → K (decimal (length (drop most rs))) → IsMadeOf K L E (folded_html listing most rs)
+  folded : (P : RowView → Type 0) (listing : Listing) (most : ℕ) (rs : List RowView) → Contains own_words listing.front → Contains own_words listing.back → ((r : RowView) → P r → IsMadeOf K L E (listing.line r))
+      → All P rs → K (decimal (length (drop most rs))) → IsMadeOf K L E (folded_html listing most rs)
   unfolding folded_html hidden_html
-  folded listing most rs of-front of-back line all count =
+  folded P listing most rs of-front of-back line all count =
       let rest : List RowView = drop most rs in
-      let of-rest : All (λ (r : RowView). (column : ℕ) → K (cell_at r column)) rest = All-drop (λ (r : RowView). (column : ℕ) → K (cell_at r column)) most rs all in
       join (listed_html listing (take most rs)) (hidden_html listing rest)
-      (listed listing (take most rs) of-front of-back line (All-take (λ (r : RowView). (column : ℕ) → K (cell_at r column)) most rs all))
+      (listed P listing (take most rs) of-front of-back line (All-take P most rs all))
       (either (has_none rest) [] (row_html rest_open (count_row (length rest) [] []) ++ (listed_html listing rest ++ rest_end)) none
       (join (row_html rest_open (count_row (length rest) [] [])) (listed_html listing rest ++ rest_end) (row rest_open (count_row (length rest) [] []) laid-rest_open (counted (length rest) [] [] count nothing nothing))
-      (join (listed_html listing rest) rest_end (listed listing rest of-front of-back line of-rest) (mark rest_end own-rest_end))))
+      (join (listed_html listing rest) rest_end (listed P listing rest of-front of-back line (All-drop P most rs all)) (mark rest_end own-rest_end))))
+
+  -- the counts of a list are known
+  record Counted (rs : List RowView) : Type 0 where
+    all-of : K (decimal (length rs))
+    rest-of : K (decimal (length (drop SOME_ROWS (take MOST_LINES rs))))
+    past-of : K (decimal (length (drop MOST_LINES rs)))
+
+  capped : (P : RowView → Type 0) (listing : Listing) (rs : List RowView) → Contains own_words listing.front → Contains own_words listing.back → ((r : RowView) → P r → IsMadeOf K L E (listing.line r)) → All P rs → Counted rs → IsMadeOf K L E (capped_html listing SOME_ROWS rs)
+  unfolding capped_html small_words
+  capped P listing rs of-front of-back line all counts =
+      let kept : List RowView = take MOST_LINES rs in
+      join (folded_html listing SOME_ROWS kept) (more_html (length (drop MOST_LINES rs)) (codes "is") (codes "are"))
+      (folded P listing SOME_ROWS kept of-front of-back line (All-take P MOST_LINES rs all) counts.rest-of)
+      (further (length (drop MOST_LINES rs)) (codes "is") (codes "are") counts.past-of (small (codes "is") 22 (omega arith) refl) (small (codes "are") 23 (omega arith) refl))
 
   asked : (history : List RowView) (r : RowView) → All (λ (r : RowView). (column : ℕ) → K (cell_at r column)) history → ((column : ℕ) → K (cell_at r column)) → (column : ℕ) → K (cell_at (asked_of history r) column)
   unfolding asked_of
@@ -704,7 +803,7 @@ module _ (K L E : List ℕ → Type 0) (words : (w : List ℕ) → Contains smal
       join refused_open (lines ++ (more-of ++ section_end)) (mark refused_open own-refused_open)
       (join lines (more-of ++ section_end)
       (either (has_none calls && (missed == 0)) none_refused (folded_html (refused_listing shown history) FEW_ROWS calls) (mark none_refused own-none_refused)
-      (folded (refused_listing shown history) FEW_ROWS calls own-refused_front own-table_end (λ r known. call shown history (asked_of history r) r led kept (asked history r all known) known) (all-by-word (λ (r : RowView). (column : ℕ) → K (cell_at r column)) 7 refusals history all) of-rest))
+      (folded (λ (r : RowView). (column : ℕ) → K (cell_at r column)) (refused_listing shown history) FEW_ROWS calls own-refused_front own-table_end (λ r known. call shown history (asked_of history r) r led kept (asked history r all known) known) (all-by-word (λ (r : RowView). (column : ℕ) → K (cell_at r column)) 7 refusals history all) of-rest))
       (join more-of section_end (further missed (codes "entry of the history is") (codes "entries of the history are") of-missed (small (codes "entry of the history is") 20 (omega arith) refl) (small (codes "entries of the history are") 21 (omega arith) refl)) (mark section_end own-section_end)))
 
   tile-known : (count : ℕ) (mark-of place what : List ℕ) (all : ℕ) → K (decimal count) → K mark-of → K place → K what → K (decimal all) → (column : ℕ) → K (cell_at (tile count mark-of place what all) column)
@@ -787,26 +886,15 @@ module _ (K L E : List ℕ → Type 0) (words : (w : List ℕ) → Contains smal
       (join supply (order-of ++ value) (row task_supply r laid-task_supply known)
       (join order-of value (order-cells kind of (is_order_of r) (rows_named (cell_at r 0) orders) (all-named (λ (r : RowView). (column : ℕ) → K (cell_at r column)) (cell_at r 0) orders all)) (row kind.value r of.value-laid known))))
 
-  -- the counts of a list are known
-  record Counted (rs : List RowView) : Type 0 where
-    all-of : K (decimal (length rs))
-    rest-of : K (decimal (length (drop SOME_ROWS (take MOST_LINES rs))))
-    past-of : K (decimal (length (drop MOST_LINES rs)))
-
   kind-part-of : (kind : Kind) → OfKind kind → (shown orders : List RowView) (state : List ℕ) (rs : List RowView) → All (λ (r : RowView). L (cell_at r 0)) shown → All (λ (r : RowView). (column : ℕ) → K (cell_at r column)) orders → All (λ (r : RowView). (column : ℕ) → K (cell_at r column)) rs → K state → Counted rs → IsMadeOf K L E (kind_html kind shown orders state rs)
-  unfolding kind_html capped_html small_words
+  unfolding kind_html
   kind-part-of kind of shown orders state rs led of-orders all of-state counts =
       let head : List ℕ = row_html kind.head (count_row (length rs) state state) in
       let listing : Listing = kind_listing kind shown orders in
-      let kept : List RowView = take MOST_LINES rs in
-      let lines : List ℕ = folded_html listing SOME_ROWS kept in
-      let past : List ℕ = more_html (length (drop MOST_LINES rs)) (codes "is") (codes "are") in
-      either (has_none rs) [] (head ++ ((lines ++ past) ++ rest_end)) none
-      (join head ((lines ++ past) ++ rest_end) (row kind.head (count_row (length rs) state state) of.open-laid (counted (length rs) state state counts.all-of of-state of-state))
-      (join (lines ++ past) rest_end
-      (join lines past (folded listing SOME_ROWS kept of.front-own own-table_end (λ r known. line kind of shown orders r led of-orders known) (All-take (λ (r : RowView). (column : ℕ) → K (cell_at r column)) MOST_LINES rs all) counts.rest-of)
-      (further (length (drop MOST_LINES rs)) (codes "is") (codes "are") counts.past-of (small (codes "is") 22 (omega arith) refl) (small (codes "are") 23 (omega arith) refl)))
-      (mark rest_end own-rest_end)))
+      let lines : List ℕ = capped_html listing SOME_ROWS rs in
+      either (has_none rs) [] (head ++ (lines ++ rest_end)) none
+      (join head (lines ++ rest_end) (row kind.head (count_row (length rs) state state) of.open-laid (counted (length rs) state state counts.all-of of-state of-state))
+      (join lines rest_end (capped (λ (r : RowView). (column : ℕ) → K (cell_at r column)) listing rs of.front-own own-table_end (λ r known. line kind of shown orders r led of-orders known) all counts) (mark rest_end own-rest_end)))
 
   -- the counts of the messages, kind by kind, are known
   record AllCounted (ms : List RowView) : Type 0 where
@@ -862,18 +950,6 @@ module _ (K L E : List ℕ → Type 0) (words : (w : List ℕ) → Contains smal
   unfolding weeks_html
   weeks rs all = table [] week rs weeks_end own-none laid-week all own-weeks_end
 
-  grid : (head chart : List Drawn) (r : RowView) (rs : List RowView) → Contains layouts head → Contains layouts chart → ((column : ℕ) → K (cell_at r column)) → All (λ (r : RowView). (column : ℕ) → K (cell_at r column)) rs → IsMadeOf K L E (grid_html head chart r rs)
-  unfolding grid_html
-  grid head chart r rs of-head of-chart known all = (join (row_html head r) ((weeks_html rs) ++ (row_html chart r)) (row head r of-head known) (join (weeks_html rs) (row_html chart r) (weeks rs all) (row chart r of-chart known)))
-
-  bars : (rs : List RowView) → All (λ (r : RowView). (column : ℕ) → K (cell_at r column)) rs → IsMadeOf K L E (bars_html rs)
-  unfolding bars_html
-  bars rs all = table [] bar rs bars_end own-none laid-bar all own-bars_end
-
-  loads : (rs : List RowView) → All (λ (r : RowView). (column : ℕ) → K (cell_at r column)) rs → IsMadeOf K L E (loads_html rs)
-  unfolding loads_html
-  loads rs all = (join (measure_html load_label 2 rs) ((measure_html capacity_label 3 rs) ++ ((measure_html over_label 4 rs) ++ grid_end)) (measure load_label 2 rs own-load_label all) (join (measure_html capacity_label 3 rs) ((measure_html over_label 4 rs) ++ grid_end) (measure capacity_label 3 rs own-capacity_label all) (join (measure_html over_label 4 rs) grid_end (measure over_label 4 rs own-over_label all) (mark grid_end own-grid_end))))
-
   top-known : (column : ℕ) (least : List ℕ) (rs : List RowView) → K least → All (λ (r : RowView). (column : ℕ) → K (cell_at r column)) rs → K (greatest column least rs)
   unfolding greatest
   top-known column least [] known all = known
@@ -890,29 +966,147 @@ module _ (K L E : List ℕ → Type 0) (words : (w : List ℕ) → Contains smal
       knows s.Run (name ∷ weeks ∷ top ∷ []) (All-cons K name (weeks ∷ top ∷ []) known (All-cons K weeks (top ∷ []) (top-known 1 (codes "1") rs unit all)
       (All-cons K top [] (top-known b (greatest a least rs) rs (top-known a least rs of-least all) all) (All-nil K))))
 
-  centre-rows : (name : List ℕ) (rs : List RowView) → K name → All (λ (r : RowView). (column : ℕ) → K (cell_at r column)) rs → IsMadeOf K L E (centre_rows_html name rs)
-  unfolding centre_rows_html
-  centre-rows name rs known all = (join (grid_html centre_head load_chart (frame_of name rs 2 3 (codes "1.000")) rs) ((bars_html rs) ++ (loads_html rs)) (grid centre_head load_chart (frame_of name rs 2 3 (codes "1.000")) rs laid-centre_head laid-load_chart (framed name rs 2 3 (codes "1.000") known unit-minute all) all) (join (bars_html rs) (loads_html rs) (bars rs all) (loads rs all)))
+  -- a week of a work centre: its cells, and what is made of them
+  record LoadKnown (r : RowView) : Type 0 where
+    cells-of : (column : ℕ) → K (cell_at r column)
+    drawn-of : All K (load_texts r)
 
-  centre : (ls : List RowView) (r : RowView) → All (λ (r : RowView). (column : ℕ) → K (cell_at r column)) ls → ((column : ℕ) → K (cell_at r column)) → IsMadeOf K L E (centre_html ls r)
+  whole-load : (r : RowView) → LoadKnown r → K (whole (cell_at r 2))
+  whole-load r known = known.drawn-of 0 [] (omega arith)
+
+  whole-capacity : (r : RowView) → LoadKnown r → K (whole (cell_at r 3))
+  whole-capacity r known = known.drawn-of 1 [] (omega arith)
+
+  whole-over : (r : RowView) → LoadKnown r → K (whole (cell_at r 4))
+  whole-over r known = known.drawn-of 2 [] (omega arith)
+
+  share-known : (r : RowView) → LoadKnown r → (column : ℕ) → K (cell_at (share_row r) column)
+  share-known r known = knows s.Run (share_cells r (share_of r)) (λ k d within. known.drawn-of (suc (suc (suc k))) d (omega (arith, within)))
+
+  shares-known : (rs : List RowView) → All LoadKnown rs → All (λ (r : RowView). (column : ℕ) → K (cell_at r column)) (map share_row rs)
+  shares-known rs all = All-map (λ (r : RowView). (column : ℕ) → K (cell_at r column)) share_row rs (λ k d within. share-known (get_or rs k d) (all k d within))
+
+  cells-known : (rs : List RowView) → All LoadKnown rs → All (λ (r : RowView). (column : ℕ) → K (cell_at r column)) rs
+  cells-known rs all = λ k d within. (all k d within).cells-of
+
+  minutes-tag : (t : List ℕ) → K t → IsMadeOf K L E (minutes_tag t)
+  minutes-tag t known =
+      either (same_text (from_point t) (codes ".000")) (codes "<td>") (codes "<td title=\"" ++ (escaped t ++ codes "\">")) (mark (codes "<td>") own-cell)
+      (join (codes "<td title=\"") (escaped t ++ codes "\">") (mark (codes "<td title=\"") own-titled) (join (escaped t) (codes "\">") (text t known) (mark (codes "\">") own-tag-end)))
+
+  minutes : (t : List ℕ) → K t → K (whole t) → IsMadeOf K L E (minutes_html t)
+  minutes t known of-whole =
+      either (is_zero t) (codes "<td></td>") (minutes_tag t ++ (escaped (whole t) ++ codes "</td>")) (mark (codes "<td></td>") own-empty)
+      (join (minutes_tag t) (escaped (whole t) ++ codes "</td>") (minutes-tag t known) (join (escaped (whole t)) (codes "</td>") (text (whole t) of-whole) (mark (codes "</td>") own-cell-end)))
+
+  times : (label : List ℕ) (column : ℕ) (rs : List RowView) → Contains own_words label → ((r : RowView) → LoadKnown r → K (whole (cell_at r column))) → All LoadKnown rs → IsMadeOf K L E (times_html label column rs)
+  unfolding times_html
+  times label column rs is of-whole all =
+      join label (flat_map (minutes_at column) rs ++ codes "</tr>\n") (mark label is)
+      (join (flat_map (minutes_at column) rs) (codes "</tr>\n") (each LoadKnown (minutes_at column) (λ r known. minutes (cell_at r column) (known.cells-of column) (of-whole r known)) rs all) (mark (codes "</tr>\n") own-row-end))
+
+  bars : (ss : List RowView) → All (λ (r : RowView). (column : ℕ) → K (cell_at r column)) ss → IsMadeOf K L E (bars_html ss)
+  unfolding bars_html
+  bars ss all =
+      let low : List ℕ = table_html [] low_bar ss low_end in
+      let hot : List ℕ = table_html [] hot_bar ss hot_end in
+      let above : List ℕ = table_html [] above_bar ss above_end in
+      let cut : List ℕ = rows_html cut_bar ss in
+      join low (hot ++ (above ++ cut)) (table [] low_bar ss low_end own-none laid-low_bar all own-low_end)
+      (join hot (above ++ cut) (table [] hot_bar ss hot_end own-none laid-hot_bar all own-hot_end)
+      (join above cut (table [] above_bar ss above_end own-none laid-above_bar all own-above_end) (rows cut_bar ss laid-cut_bar all)))
+
+  picture : (f : RowView) (ss : List RowView) → ((column : ℕ) → K (cell_at f column)) → All (λ (r : RowView). (column : ℕ) → K (cell_at r column)) ss → IsMadeOf K L E (picture_html f ss)
+  unfolding picture_html
+  picture f ss known all = join (row_html load_chart f) (bars_html ss ++ row_html load_end f) (row load_chart f laid-load_chart known) (join (bars_html ss) (row_html load_end f) (bars ss all) (row load_end f laid-load_end known))
+
+  loads : (rs : List RowView) → All LoadKnown rs → IsMadeOf K L E (loads_html rs)
+  unfolding loads_html shares_html
+  loads rs all =
+      let load-of : List ℕ = times_html load_label 2 rs in
+      let capacity-of : List ℕ = times_html capacity_label 3 rs in
+      let share-row-of : List ℕ = table_html share_label share_cell (map share_row rs) (codes "</tr>\n") in
+      let over-of : List ℕ = times_html over_label 4 rs in
+      join load-of (capacity-of ++ (share-row-of ++ (over-of ++ grid_end))) (times load_label 2 rs own-load_label whole-load all)
+      (join capacity-of (share-row-of ++ (over-of ++ grid_end)) (times capacity_label 3 rs own-capacity_label whole-capacity all)
+      (join share-row-of (over-of ++ grid_end) (table share_label share_cell (map share_row rs) (codes "</tr>\n") own-share_label laid-share_cell (shares-known rs all) own-row-end)
+      (join over-of grid_end (times over_label 4 rs own-over_label whole-over all) (mark grid_end own-grid_end))))
+
+  loads-table : (f : RowView) (rs : List RowView) → ((column : ℕ) → K (cell_at f column)) → All LoadKnown rs → IsMadeOf K L E (loads_table f rs)
+  unfolding loads_table
+  loads-table f rs known all =
+      join (row_html centre_head f) (weeks_html rs ++ loads_html rs) (row centre_head f laid-centre_head known) (join (weeks_html rs) (loads_html rs) (weeks rs (cells-known rs all)) (loads rs all))
+
+  loads-later : (f : RowView) (rs : List RowView) → ((column : ℕ) → K (cell_at f column)) → All LoadKnown rs → IsMadeOf K L E (later_loads f rs)
+  unfolding later_loads
+  loads-later f rs known all =
+      either (has_none rs) [] (later_open ++ (loads_table f rs ++ rest_end)) none
+      (join later_open (loads_table f rs ++ rest_end) (mark later_open own-later_open) (join (loads_table f rs) rest_end (loads-table f rs known all) (mark rest_end own-rest_end)))
+
+  loads-all : (f : RowView) (rs : List RowView) → ((column : ℕ) → K (cell_at f column)) → All LoadKnown rs → IsMadeOf K L E (all_loads f rs)
+  unfolding all_loads
+  loads-all f rs known all =
+      join (loads_table f (take TABLE_WEEKS rs)) (later_loads f (drop TABLE_WEEKS rs)) (loads-table f (take TABLE_WEEKS rs) known (All-take LoadKnown TABLE_WEEKS rs all)) (loads-later f (drop TABLE_WEEKS rs) known (All-drop LoadKnown TABLE_WEEKS rs all))
+
+  centre-framed : (f : RowView) (rs : List RowView) → ((column : ℕ) → K (cell_at f column)) → All LoadKnown rs → IsMadeOf K L E (framed_centre f rs)
+  unfolding framed_centre
+  centre-framed f rs known all =
+      let drawn : List ℕ = picture_html f (map share_row rs) in
+      join (row_html centre_open f) (drawn ++ (all_loads f rs ++ section_end)) (row centre_open f laid-centre_open known)
+      (join drawn (all_loads f rs ++ section_end) (picture f (map share_row rs) known (shares-known rs all))
+      (join (all_loads f rs) section_end (loads-all f rs known all) (mark section_end own-section_end)))
+
+  centre-frame : (name : List ℕ) (rs : List RowView) → K name → All LoadKnown rs → (column : ℕ) → K (cell_at (centre_frame name rs) column)
+  centre-frame name rs known all =
+      let last : List ℕ = greatest 1 (codes "1") rs in
+      knows s.Run (name ∷ last ∷ [] ∷ []) (All-cons K name (last ∷ [] ∷ []) known (All-cons K last ([] ∷ []) (top-known 1 (codes "1") rs unit (cells-known rs all)) (All-cons K [] [] nothing (All-nil K))))
+
+  centre : (ls : List RowView) (r : RowView) → All LoadKnown ls → LoadKnown r → IsMadeOf K L E (centre_html ls r)
   unfolding centre_html
-  centre ls r all known = centre-rows (cell_at r 0) (rows_named (cell_at r 0) ls) (known 0) (all-named (λ (r : RowView). (column : ℕ) → K (cell_at r column)) (cell_at r 0) ls all)
+  centre ls r all known =
+      let name : List ℕ = cell_at r 0 in
+      let of : List RowView = rows_named name ls in
+      let of-known : All LoadKnown of = all-named LoadKnown name ls all in
+      centre-framed (centre_frame name of) of (centre-frame name of (known.cells-of 0) of-known) of-known
 
-  each-centre : (ls rs : List RowView) → All (λ (r : RowView). (column : ℕ) → K (cell_at r column)) ls → All (λ (r : RowView). (column : ℕ) → K (cell_at r column)) rs → IsMadeOf K L E (each_centre ls rs)
+  each-centre : (ls rs : List RowView) → All LoadKnown ls → All LoadKnown rs → IsMadeOf K L E (each_centre ls rs)
   unfolding each_centre
-  each-centre ls rs all leads = each (λ (r : RowView). (column : ℕ) → K (cell_at r column)) (centre_html ls) (λ r known. centre ls r all known) rs leads
+  each-centre ls rs all leads = each LoadKnown (centre_html ls) (λ r known. centre ls r all known) rs leads
 
-  centres : (ls rs : List RowView) (missed : ℕ) → All (λ (r : RowView). (column : ℕ) → K (cell_at r column)) ls → All (λ (r : RowView). (column : ℕ) → K (cell_at r column)) rs → K (decimal missed) → IsMadeOf K L E (centres_html ls rs missed)
-  unfolding centres_html small_words
-  centres ls rs missed all leads known = (join centres_open ((each_centre ls rs) ++ ((more_html missed (codes "week of a work centre is") (codes "weeks of work centres are")) ++ section_end)) (mark centres_open own-centres_open) (join (each_centre ls rs) ((more_html missed (codes "week of a work centre is") (codes "weeks of work centres are")) ++ section_end) (each-centre ls rs all leads) (join (more_html missed (codes "week of a work centre is") (codes "weeks of work centres are")) section_end (further missed (codes "week of a work centre is") (codes "weeks of work centres are") known (small (codes "week of a work centre is") 5 (omega arith) refl) (small (codes "weeks of work centres are") 6 (omega arith) refl)) (mark section_end own-section_end))))
+  over-or-none : (missed : ℕ) (rs : List RowView) → All LoadKnown rs → Counted rs → IsMadeOf K L E (over_or_none missed rs)
+  unfolding over_or_none
+  over-or-none missed rs all counts =
+      let head : List ℕ = row_html over_open (count_row (length rs) [] []) in
+      let lines : List ℕ = capped_html over_listing SOME_ROWS rs in
+      either (has_none rs && (missed == 0)) none_over (head ++ lines) (mark none_over own-none_over)
+      (join head lines (row over_open (count_row (length rs) [] []) laid-over_open (counted (length rs) [] [] counts.all-of nothing nothing))
+      (capped LoadKnown over_listing rs own-over_front own-over_back (λ r known. row over_line (share_row r) laid-over_line (share-known r known)) all counts))
 
-  supplies : (plan promises : List RowView) → All (λ (r : RowView). (column : ℕ) → K (cell_at r column)) plan → All (λ (r : RowView). (column : ℕ) → K (cell_at r column)) promises → IsMadeOf K L E (supplies_html plan promises)
+  over-known : (ls : List RowView) → All LoadKnown ls → All LoadKnown (overloads_first ls)
+  over-known ls all =
+      let over-of : List RowView = overloads ls in
+      let first : List RowView = sorted_by falling_share over-of in
+      All-permutation LoadKnown first (sorted_by week_rank first) (sorted-permutes week_rank first)
+      (All-permutation LoadKnown over-of first (sorted-permutes falling_share over-of) (All-filter is_over LoadKnown ls all))
+
+  centres : (ls : List RowView) (missed : ℕ) → All LoadKnown ls → Counted (overloads_first ls) → K (decimal missed) → IsMadeOf K L E (load_section ls missed)
+  unfolding load_section centres_back small_words
+  centres ls missed all counts known =
+      let over-of : List ℕ = over_or_none missed (overloads_first ls) in
+      let each-of : List ℕ = each_centre ls (leaders [] ls) in
+      let past : List ℕ = more_html missed (codes "week of a work centre is") (codes "weeks of work centres are") in
+      join centres_open (over-of ++ (each-of ++ (past ++ section_end))) (mark centres_open own-centres_open)
+      (join over-of (each-of ++ (past ++ section_end)) (over-or-none missed (overloads_first ls) (over-known ls all) counts)
+      (join each-of (past ++ section_end) (each-centre ls (leaders [] ls) all (all-leaders LoadKnown [] ls all))
+      (join past section_end (further missed (codes "week of a work centre is") (codes "weeks of work centres are") known (small (codes "week of a work centre is") 5 (omega arith) refl) (small (codes "weeks of work centres are") 6 (omega arith) refl)) (mark section_end own-section_end))))
+
+  supplies : (scheduled : Bool) (plan : List RowView) → All (λ (r : RowView). (column : ℕ) → K (cell_at r column)) plan → IsMadeOf K L E (supplies_html scheduled plan)
   unfolding supplies_html
-  supplies plan promises of-plan of-promises = either (has_none promises && not (has_firm plan)) (measure_html scheduled_label 3 plan) (measure_html firm_label 4 plan) (measure scheduled_label 3 plan own-scheduled_label of-plan) (measure firm_label 4 plan own-firm_label of-plan)
+  supplies scheduled plan all = either scheduled (amounts_html scheduled_label 3 plan) (amounts_html firm_label 4 plan) (amounts scheduled_label 3 plan own-scheduled_label all) (amounts firm_label 4 plan own-firm_label all)
 
   booked : (rs : List RowView) → All (λ (r : RowView). (column : ℕ) → K (cell_at r column)) rs → IsMadeOf K L E (booked_html rs)
   unfolding booked_html
-  booked rs all = (join (measure_html booked_label 3 rs) (measure_html available_label 5 rs) (measure booked_label 3 rs own-booked_label all) (measure available_label 5 rs own-available_label all))
+  booked rs all = (join (amounts_html booked_label 3 rs) (measure_html available_label 5 rs) (amounts booked_label 3 rs own-booked_label all) (measure available_label 5 rs own-available_label all))
 
   promised : (rs : List RowView) → All (λ (r : RowView). (column : ℕ) → K (cell_at r column)) rs → IsMadeOf K L E (promised_html rs)
   unfolding promised_html
@@ -922,21 +1116,43 @@ module _ (K L E : List ℕ → Type 0) (words : (w : List ℕ) → Contains smal
   unfolding points_html
   points rs all = table [] point rs points_end own-none laid-point all own-points_end
 
-  balance : (name : List ℕ) (rs : List RowView) → K name → All (λ (r : RowView). (column : ℕ) → K (cell_at r column)) rs → IsMadeOf K L E (balance_html name rs)
+  balance : (f : RowView) (rs : List RowView) → ((column : ℕ) → K (cell_at f column)) → All (λ (r : RowView). (column : ℕ) → K (cell_at r column)) rs → IsMadeOf K L E (balance_html f rs)
   unfolding balance_html
-  balance name rs known all = (join (grid_html record_head balance_chart (frame_of name rs 7 7 (codes "1")) rs) (points_html rs) (grid record_head balance_chart (frame_of name rs 7 7 (codes "1")) rs laid-record_head laid-balance_chart (framed name rs 7 7 (codes "1") known unit all) all) (points rs all))
+  balance f rs known all = join (row_html balance_chart f) (points_html rs) (row balance_chart f laid-balance_chart known) (points rs all)
 
   planned : (rs : List RowView) → All (λ (r : RowView). (column : ℕ) → K (cell_at r column)) rs → IsMadeOf K L E (planned_html rs)
   unfolding planned_html
-  planned rs all = (join (measure_html planned_label 5 rs) ((measure_html starts_label 6 rs) ++ (measure_html balance_label 7 rs)) (measure planned_label 5 rs own-planned_label all) (join (measure_html starts_label 6 rs) (measure_html balance_label 7 rs) (measure starts_label 6 rs own-starts_label all) (measure balance_label 7 rs own-balance_label all)))
+  planned rs all = (join (amounts_html planned_label 5 rs) ((amounts_html starts_label 6 rs) ++ (measure_html balance_label 7 rs)) (amounts planned_label 5 rs own-planned_label all) (join (amounts_html starts_label 6 rs) (measure_html balance_label 7 rs) (amounts starts_label 6 rs own-starts_label all) (measure balance_label 7 rs own-balance_label all)))
 
-  record-rows : (plan promises : List RowView) → All (λ (r : RowView). (column : ℕ) → K (cell_at r column)) plan → All (λ (r : RowView). (column : ℕ) → K (cell_at r column)) promises → IsMadeOf K L E (record_rows plan promises)
+  record-rows : (scheduled : Bool) (plan promises : List RowView) → All (λ (r : RowView). (column : ℕ) → K (cell_at r column)) plan → All (λ (r : RowView). (column : ℕ) → K (cell_at r column)) promises → IsMadeOf K L E (record_rows scheduled plan promises)
   unfolding record_rows
-  record-rows plan promises of-plan of-promises = (join (measure_html gross_label 2 plan) ((supplies_html plan promises) ++ ((planned_html plan) ++ (promised_html promises))) (measure gross_label 2 plan own-gross_label of-plan) (join (supplies_html plan promises) ((planned_html plan) ++ (promised_html promises)) (supplies plan promises of-plan of-promises) (join (planned_html plan) (promised_html promises) (planned plan of-plan) (promised promises of-promises))))
+  record-rows scheduled plan promises of-plan of-promises = (join (amounts_html gross_label 2 plan) ((supplies_html scheduled plan) ++ ((planned_html plan) ++ (promised_html promises))) (amounts gross_label 2 plan own-gross_label of-plan) (join (supplies_html scheduled plan) ((planned_html plan) ++ (promised_html promises)) (supplies scheduled plan of-plan) (join (planned_html plan) (promised_html promises) (planned plan of-plan) (promised promises of-promises))))
+
+  record-of : (f : RowView) (scheduled : Bool) (plan promises : List RowView) → ((column : ℕ) → K (cell_at f column)) → All (λ (r : RowView). (column : ℕ) → K (cell_at r column)) plan → All (λ (r : RowView). (column : ℕ) → K (cell_at r column)) promises → IsMadeOf K L E (record_table f scheduled plan promises)
+  unfolding record_table
+  record-of f scheduled plan promises known of-plan of-promises =
+      join (row_html record_head f) (weeks_html plan ++ (record_rows scheduled plan promises ++ grid_end)) (row record_head f laid-record_head known)
+      (join (weeks_html plan) (record_rows scheduled plan promises ++ grid_end) (weeks plan of-plan) (join (record_rows scheduled plan promises) grid_end (record-rows scheduled plan promises of-plan of-promises) (mark grid_end own-grid_end)))
+
+  record-later : (f : RowView) (scheduled : Bool) (plan promises : List RowView) → ((column : ℕ) → K (cell_at f column)) → All (λ (r : RowView). (column : ℕ) → K (cell_at r column)) plan → All (λ (r : RowView). (column : ℕ) → K (cell_at r column)) promises → IsMadeOf K L E (later_record f scheduled plan promises)
+  unfolding later_record
+  record-later f scheduled plan promises known of-plan of-promises =
+      let of : List ℕ = record_table f scheduled plan promises in
+      either (has_none plan) [] (later_open ++ (of ++ rest_end)) none (join later_open (of ++ rest_end) (mark later_open own-later_open) (join of rest_end (record-of f scheduled plan promises known of-plan of-promises) (mark rest_end own-rest_end)))
+
+  record-weeks : (f : RowView) (scheduled : Bool) (plan promises : List RowView) → ((column : ℕ) → K (cell_at f column)) → All (λ (r : RowView). (column : ℕ) → K (cell_at r column)) plan → All (λ (r : RowView). (column : ℕ) → K (cell_at r column)) promises → IsMadeOf K L E (all_weeks f scheduled plan promises)
+  unfolding all_weeks
+  record-weeks f scheduled plan promises known of-plan of-promises =
+      join (record_table f scheduled (take TABLE_WEEKS plan) (take TABLE_WEEKS promises)) (later_record f scheduled (drop TABLE_WEEKS plan) (drop TABLE_WEEKS promises))
+      (record-of f scheduled (take TABLE_WEEKS plan) (take TABLE_WEEKS promises) known (All-take (λ (r : RowView). (column : ℕ) → K (cell_at r column)) TABLE_WEEKS plan of-plan) (All-take (λ (r : RowView). (column : ℕ) → K (cell_at r column)) TABLE_WEEKS promises of-promises))
+      (record-later f scheduled (drop TABLE_WEEKS plan) (drop TABLE_WEEKS promises) known (All-drop (λ (r : RowView). (column : ℕ) → K (cell_at r column)) TABLE_WEEKS plan of-plan) (All-drop (λ (r : RowView). (column : ℕ) → K (cell_at r column)) TABLE_WEEKS promises of-promises))
 
   phased : (name : List ℕ) (plan promises : List RowView) → K name → All (λ (r : RowView). (column : ℕ) → K (cell_at r column)) plan → All (λ (r : RowView). (column : ℕ) → K (cell_at r column)) promises → IsMadeOf K L E (record_html name plan promises)
-  unfolding record_html
-  phased name plan promises known of-plan of-promises = (join (balance_html name plan) ((record_rows plan promises) ++ grid_end) (balance name plan known of-plan) (join (record_rows plan promises) grid_end (record-rows plan promises of-plan of-promises) (mark grid_end own-grid_end)))
+  unfolding record_html framed_record
+  phased name plan promises known of-plan of-promises =
+      let f : RowView = frame_of name plan 7 7 (codes "1") in
+      let of-frame : (column : ℕ) → K (cell_at f column) = framed name plan 7 7 (codes "1") known unit of-plan in
+      join (balance_html f plan) (all_weeks f (is_scheduled plan promises) plan promises) (balance f plan of-frame of-plan) (record-weeks f (is_scheduled plan promises) plan promises of-frame of-plan of-promises)
 
   record-or-none : (name : List ℕ) (plan promises : List RowView) → K name → All (λ (r : RowView). (column : ℕ) → K (cell_at r column)) plan → All (λ (r : RowView). (column : ℕ) → K (cell_at r column)) promises → IsMadeOf K L E (record_or_none name plan promises)
   unfolding record_or_none
@@ -1042,34 +1258,46 @@ module _ (K L E : List ℕ → Type 0) (words : (w : List ℕ) → Contains smal
       let first : List (List ℕ) = take 10 (own_counts notes) in
       Contains-append_right first counts (get_or counts k d) (All-contains_itself counts k d within)
 
-  counted-list : (notes : Noted) → All K (count_texts notes) → (rs : List RowView) → Contains (message_lists notes) rs → Counted rs
+  counted-list : (notes : Noted) → All K (count_texts notes) → (rs : List RowView) → Contains (row_lists notes) rs → Counted rs
   counted-list notes counts rs has =
-      let one : (t : List ℕ) → Contains (list_counts rs) t → K t = λ t is. All-contains K (count_texts notes) t counts (Contains-append_right (own_counts notes) (flat_map list_counts (message_lists notes)) t (contains-flat list_counts (message_lists notes) rs t has.0 has.1 has.2 is)) in
+      let one : (t : List ℕ) → Contains (list_counts rs) t → K t = λ t is. All-contains K (count_texts notes) t counts (Contains-append_right (own_counts notes) (listed_texts notes) t (Contains-append_left (flat_map list_counts (row_lists notes)) (flat_map load_texts (rows_in s.Loads notes.report)) t (contains-flat list_counts (row_lists notes) rs t has.0 has.1 has.2 is))) in
       record {
         all-of = one (decimal (length rs)) (0, omega arith, refl);
         rest-of = one (decimal (length (drop SOME_ROWS (take MOST_LINES rs)))) (1, omega arith, refl);
         past-of = one (decimal (length (drop MOST_LINES rs))) (2, omega arith, refl);
       }
 
+  loads-known : (notes : Noted) → All K (count_texts notes) → All (λ (r : RowView). (column : ℕ) → K (cell_at r column)) (rows_in s.Loads notes.report) → All LoadKnown (rows_in s.Loads notes.report)
+  loads-known notes counts all = λ k d within.
+      let loaded : List RowView = rows_in s.Loads notes.report in
+      let r : RowView = get_or loaded k d in
+      let has : Contains loaded r = All-contains_itself loaded k d within in
+      record {
+        cells-of = all k d within;
+        drawn-of = λ i t inside. All-contains K (count_texts notes) (get_or (load_texts r) i t) counts
+            (Contains-append_right (own_counts notes) (listed_texts notes) (get_or (load_texts r) i t) (Contains-append_right (flat_map list_counts (row_lists notes)) (flat_map load_texts loaded) (get_or (load_texts r) i t)
+            (contains-flat load_texts loaded r (get_or (load_texts r) i t) has.0 has.1 has.2 (All-contains_itself (load_texts r) i t inside))));
+      }
+
   pub page : (title : List ℕ) (notes : Noted) → K title → All (λ (r : RowView). (column : ℕ) → K (cell_at r column)) notes.history → All (λ (r : RowView). (column : ℕ) → K (cell_at r column)) notes.report → All K (count_texts notes)
       → All (λ (r : RowView). L (cell_at r 0)) (shown_items (item_lists notes.report)) → All (λ (r : RowView). E (cell_at r 0)) notes.history → IsMadeOf K L E (page_html title notes)
-  unfolding page_html page_of top_html load_section rest_html items_of
+  unfolding page_html page_of top_html rest_html items_of
   page title notes known entries all counts led kept =
-      let count : (k : ℕ) → k < 19 → K (get_or (own_counts notes) k []) = λ k within. All-contains K (count_texts notes) (get_or (own_counts notes) k []) counts (Contains-append_left (own_counts notes) (flat_map list_counts (message_lists notes)) (get_or (own_counts notes) k []) (All-contains_itself (own_counts notes) k [] (omega (arith, within)))) in
-      let of-list : (rs : List RowView) → Contains (message_lists notes) rs → Counted rs = λ rs has. counted-list notes counts rs has in
+      let count : (k : ℕ) → k < 19 → K (get_or (own_counts notes) k []) = λ k within. All-contains K (count_texts notes) (get_or (own_counts notes) k []) counts (Contains-append_left (own_counts notes) (listed_texts notes) (get_or (own_counts notes) k []) (All-contains_itself (own_counts notes) k [] (omega (arith, within)))) in
+      let of-list : (rs : List RowView) → Contains (row_lists notes) rs → Counted rs = λ rs has. counted-list notes counts rs has in
       let lists : ItemLists = item_lists notes.report in
       let of-lists : AllKnown lists = all-lists notes.report all in
       let shown : List RowView = shown_items lists in
       let of-shown : All (λ (r : RowView). (column : ℕ) → K (cell_at r column)) shown = all-shown (λ (r : RowView). (column : ℕ) → K (cell_at r column)) lists of-lists.messages of-lists.plan in
       let loaded : List RowView = rows_in s.Loads notes.report in
-      let of-loaded : All (λ (r : RowView). (column : ℕ) → K (cell_at r column)) loaded = all-in (λ (r : RowView). (column : ℕ) → K (cell_at r column)) s.Loads notes.report all in
+      let of-loaded : All LoadKnown loaded = loads-known notes counts (all-in (λ (r : RowView). (column : ℕ) → K (cell_at r column)) s.Loads notes.report all) in
       let top : List ℕ = head_html (heading title notes.report notes.counts.items) in
       let sums : List ℕ = summary_html notes.history lists.messages loaded in
-      let of-sums : All K (summary_counts notes.history lists.messages loaded) = λ k d within. All-contains K (count_texts notes) (get_or (summary_counts notes.history lists.messages loaded) k d) counts (Contains-append_left (own_counts notes) (flat_map list_counts (message_lists notes)) (get_or (summary_counts notes.history lists.messages loaded) k d) (later-counts notes k d within)) in
+      let of-sums : All K (summary_counts notes.history lists.messages loaded) = λ k d within. All-contains K (count_texts notes) (get_or (summary_counts notes.history lists.messages loaded) k d) counts (Contains-append_left (own_counts notes) (listed_texts notes) (get_or (summary_counts notes.history lists.messages loaded) k d) (later-counts notes k d within)) in
       let calls : List ℕ = refused_section shown notes.history notes.counts.history in
       let todos : List ℕ = todo_html shown lists.orders lists.messages notes.counts.messages in
-      let of-messages : AllCounted lists.messages = record { of-late = of-list (messages_of lists.messages late) (0, omega arith, refl); of-release = of-list (messages_of lists.messages release) (1, omega arith, refl); of-earlier = of-list (messages_of lists.messages earlier) (2, omega arith, refl); of-later = of-list (messages_of lists.messages later) (3, omega arith, refl); of-cancel = of-list (messages_of lists.messages cancel) (4, omega arith, refl); of-other = of-list (other_messages lists.messages) (5, omega arith, refl) } in
-      let centred : List ℕ = centres_html loaded (leaders [] loaded) notes.counts.loads in
+      let of-messages : AllCounted lists.messages = record { of-late = of-list (messages_of lists.messages late) (1, omega arith, refl); of-release = of-list (messages_of lists.messages release) (2, omega arith, refl); of-earlier = of-list (messages_of lists.messages earlier) (3, omega arith, refl); of-later = of-list (messages_of lists.messages later) (4, omega arith, refl); of-cancel = of-list (messages_of lists.messages cancel) (5, omega arith, refl); of-other = of-list (other_messages lists.messages) (6, omega arith, refl) } in
+      let centred : List ℕ = load_section loaded notes.counts.loads in
       let item-parts : List ℕ = items_html lists notes.counts.promises shown ++ more_items (unshown lists shown notes.counts) shown in
       let past : List ℕ = history_html notes.history notes.counts.history in
       join top (sums ++ (calls ++ (todos ++ (centred ++ (item-parts ++ (past ++ page_end))))))
@@ -1081,7 +1309,7 @@ module _ (K L E : List ℕ → Type 0) (words : (w : List ℕ) → Contains smal
       (join todos (centred ++ (item-parts ++ (past ++ page_end)))
       (todo shown lists.orders lists.messages notes.counts.messages led of-lists.orders of-lists.messages of-messages (count 0 (omega arith)))
       (join centred (item-parts ++ (past ++ page_end))
-      (centres loaded (leaders [] loaded) notes.counts.loads of-loaded (all-leaders (λ (r : RowView). (column : ℕ) → K (cell_at r column)) [] loaded of-loaded) (count 1 (omega arith)))
+      (centres loaded notes.counts.loads of-loaded (of-list (overloads_first loaded) (0, omega arith, refl)) (count 1 (omega arith)))
       (join item-parts (past ++ page_end)
       (join (items_html lists notes.counts.promises shown) (more_items (unshown lists shown notes.counts) shown) (items lists notes.counts.promises shown of-lists of-shown led)
       (more-items (unshown lists shown notes.counts) shown (count 2 (omega arith)) (count 3 (omega arith)) (count 4 (omega arith)) (count 5 (omega arith)) (count 6 (omega arith))))

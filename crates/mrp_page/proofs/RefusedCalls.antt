@@ -12,7 +12,8 @@ use Rattle.mrp_page.specs.ItemRows.{item_lists}
 use Rattle.mrp_page.specs.Kinds.{todo_html}
 use Rattle.mrp_page.specs.Layout.{none_refused, refused_answer, refused_open, section_end}
 use Rattle.mrp_page.specs.Notes.{Noted}
-use Rattle.mrp_page.specs.Page.{load_section, page_html, page_of, rest_html, shown_items, top_html}
+use Rattle.mrp_page.specs.Centres.{load_section}
+use Rattle.mrp_page.specs.Page.{page_html, page_of, rest_html, shown_items, top_html}
 use Rattle.mrp_page.specs.Refused.{asked_of, is_booking, refusals, refused_back, refused_html, refused_lines, refused_listing, refused_or_none, refused_rows, refused_section}
 use Rattle.mrp_page.specs.Row.{RowView, cell_at}
 use Rattle.mrp_page.specs.Rows.{rows_in}

@@ -11,7 +11,8 @@ use Rattle.mrp_page.specs.Laws.{part_pieces, piece_html, pieces, shown, text_of}
 use Rattle.mrp_page.specs.Kinds.{todo_html}
 use Rattle.mrp_page.specs.Layout.{page_end, page_top}
 use Rattle.mrp_page.specs.Notes.{Noted}
-use Rattle.mrp_page.specs.Page.{head_html, items_of, load_section, page_html, page_of, rest_html, shown_items, top_html}
+use Rattle.mrp_page.specs.Centres.{load_section}
+use Rattle.mrp_page.specs.Page.{head_html, items_of, page_html, page_of, rest_html, shown_items, top_html}
 use Rattle.mrp_page.specs.Refused.{refused_section}
 use Rattle.mrp_page.specs.Row.{RowView, cell_at}
 use Rattle.mrp_page.specs.Rows.{rows_in}

@@ -12,7 +12,8 @@ use Rattle.mrp_page.specs.Frame.{count_row}
 use Rattle.mrp_page.specs.Kinds.{Kind, cancel, earlier, falling_rank, is_order_of, kind_html, kind_listing, kind_part, kinds, kinds_html, late, later, messages_of, note_html, order_html, other_messages, other_part, release, task_line, todo_back, todo_html, value_rank}
 use Rattle.mrp_page.specs.Layout.{cancel_open, in_open, late_open, order_start, order_week, out_open, release_open, rest_end, section_end, task_row, task_supply, todo_open}
 use Rattle.mrp_page.specs.Notes.{Noted}
-use Rattle.mrp_page.specs.Page.{load_section, page_html, page_of, rest_html, shown_items, top_html}
+use Rattle.mrp_page.specs.Centres.{load_section}
+use Rattle.mrp_page.specs.Page.{page_html, page_of, rest_html, shown_items, top_html}
 use Rattle.mrp_page.specs.Refused.{refused_section}
 use Rattle.mrp_page.specs.Row.{RowView, cell_at, same_text}
 use Rattle.mrp_page.specs.Rows.{rows_in, rows_named}

@@ -4,12 +4,13 @@ use Rattle.std.specs.List.{All, Contains}
 use Rattle.mrp_page.specs.ItemRows.{item_lists}
 use Rattle.mrp_page.specs.Kinds.{kinds, messages_of, other_messages}
 use Rattle.mrp_page.specs.Laws.{Entry, Escaped, Link, Markup, Piece, piece_html}
-use Rattle.mrp_page.specs.Layout.{available_label, balance_chart, balance_label, bar, bars_end, booked_label, cancel_front, cancel_open, capacity_label, centre_head, centre_tile, centres_open, entry, firm_label, grid_end, gross_label, history_end, history_open, in_front, in_open, item_head, item_tasks_end, item_tasks_open, late_front, late_open, list_end, load_chart, load_label, main_open, more, no_promises, no_record, none_refused, nothing_to_do, order, order_start, order_unknown, order_week, orders_open, other_cells, other_front, other_open, other_words, out_front, out_open, over_label, page_end, page_head, page_top, peg, pegs_open, planned_label, point, points_end, record_head, refused_answer, refused_asked, refused_desk, refused_end, refused_front, refused_open, refused_row, release_front, release_open, rest_end, rest_open, row_end, scheduled_label, section_end, starts_label, style, summary_open, summary_tile, table_end, task_head, task_row, task_supply, task_words, to_week, todo_note, todo_open, week, weeks_end, weeks_late}
+use Rattle.mrp_page.specs.Layout.{above_bar, above_end, available_label, balance_chart, balance_label, booked_label, cancel_front, cancel_open, capacity_label, centre_head, centre_open, centre_tile, centres_open, cut_bar, entry, firm_label, grid_end, gross_label, history_end, history_open, hot_bar, hot_end, in_front, in_open, item_head, item_tasks_end, item_tasks_open, late_front, late_open, later_open, list_end, load_chart, load_end, load_label, low_bar, low_end, main_open, more, no_promises, no_record, none_over, none_refused, nothing_to_do, order, order_start, order_unknown, order_week, orders_open, other_cells, other_front, other_open, other_words, out_front, out_open, over_back, over_front, over_label, over_line, over_open, page_end, page_head, page_top, peg, pegs_open, planned_label, point, points_end, record_head, refused_answer, refused_asked, refused_desk, refused_end, refused_front, refused_open, refused_row, release_front, release_open, rest_end, rest_open, row_end, scheduled_label, section_end, share_cell, share_label, starts_label, style, summary_open, summary_tile, table_end, task_head, task_row, task_supply, task_words, to_week, todo_note, todo_open, week, weeks_end, weeks_late}
 use Rattle.mrp_page.specs.Notes.{Noted}
 use Rattle.mrp_page.specs.Page.{shown_items}
 use Rattle.mrp_page.specs.Refused.{refused_rows}
 use Rattle.mrp_page.specs.Row.{Cells, RowView, cell_at}
 use Rattle.mrp_page.specs.Rows.{rows_in}
+use Rattle.mrp_page.specs.Shares.{overloads_first, share_cells, share_of, whole}
 use Rattle.mrp_page.specs.Summary.{centre_count, count_with, is_undone, overloads}
 use Rattle.mrp_page.specs.Template.{Drawn, Mark, Number, Text, Where}
 use Rattle.mrp_page.specs.declared.counts.Counts.{Counts}
@@ -19,11 +20,11 @@ use Rattle.mrp_day.specs.declared.section.Section.TheVariants as s
 
 -- the markup that rows are drawn with
 unfoldable pub layouts : List (List Drawn)
-layouts = page_top ∷ page_head ∷ task_head ∷ task_words ∷ week ∷ entry ∷ order ∷ peg ∷ centre_head ∷ load_chart ∷ bar ∷ item_head ∷ record_head ∷ balance_chart ∷ point ∷ more ∷ other_words ∷ rest_open ∷ refused_answer ∷ refused_asked ∷ refused_desk ∷ task_supply ∷ order_start ∷ order_week ∷ weeks_late ∷ to_week ∷ row_end ∷ other_cells ∷ late_open ∷ release_open ∷ in_open ∷ out_open ∷ cancel_open ∷ other_open ∷ summary_tile ∷ centre_tile ∷ []
+layouts = page_top ∷ page_head ∷ task_head ∷ task_words ∷ week ∷ entry ∷ order ∷ peg ∷ centre_head ∷ load_chart ∷ item_head ∷ record_head ∷ balance_chart ∷ point ∷ more ∷ other_words ∷ rest_open ∷ refused_answer ∷ refused_asked ∷ refused_desk ∷ task_supply ∷ order_start ∷ order_week ∷ weeks_late ∷ to_week ∷ row_end ∷ other_cells ∷ late_open ∷ release_open ∷ in_open ∷ out_open ∷ cancel_open ∷ other_open ∷ summary_tile ∷ centre_tile ∷ centre_open ∷ low_bar ∷ hot_bar ∷ above_bar ∷ cut_bar ∷ share_cell ∷ over_open ∷ over_line ∷ load_end ∷ []
 
 -- markup that stands between rows
 unfoldable pub plain : List (List ℕ)
-plain = style ∷ todo_open ∷ nothing_to_do ∷ item_tasks_open ∷ item_tasks_end ∷ weeks_end ∷ bars_end ∷ points_end ∷ load_label ∷ capacity_label ∷ over_label ∷ grid_end ∷ centres_open ∷ section_end ∷ scheduled_label ∷ firm_label ∷ booked_label ∷ available_label ∷ gross_label ∷ planned_label ∷ starts_label ∷ balance_label ∷ orders_open ∷ pegs_open ∷ list_end ∷ no_record ∷ history_open ∷ history_end ∷ page_end ∷ [] ∷ codes "<td>" ∷ codes "<td class=z>" ∷ codes "</td>" ∷ codes "</tr>\n" ∷ no_promises ∷ table_end ∷ rest_end ∷ refused_open ∷ none_refused ∷ refused_front ∷ refused_row ∷ refused_end ∷ todo_note ∷ task_row ∷ order_unknown ∷ late_front ∷ release_front ∷ in_front ∷ out_front ∷ cancel_front ∷ other_front ∷ summary_open ∷ main_open ∷ []
+plain = style ∷ todo_open ∷ nothing_to_do ∷ item_tasks_open ∷ item_tasks_end ∷ weeks_end ∷ points_end ∷ load_label ∷ capacity_label ∷ over_label ∷ grid_end ∷ centres_open ∷ section_end ∷ scheduled_label ∷ firm_label ∷ booked_label ∷ available_label ∷ gross_label ∷ planned_label ∷ starts_label ∷ balance_label ∷ orders_open ∷ pegs_open ∷ list_end ∷ no_record ∷ history_open ∷ history_end ∷ page_end ∷ [] ∷ codes "<td>" ∷ codes "<td class=z>" ∷ codes "</td>" ∷ codes "</tr>\n" ∷ no_promises ∷ table_end ∷ rest_end ∷ refused_open ∷ none_refused ∷ refused_front ∷ refused_row ∷ refused_end ∷ todo_note ∷ task_row ∷ order_unknown ∷ late_front ∷ release_front ∷ in_front ∷ out_front ∷ cancel_front ∷ other_front ∷ summary_open ∷ main_open ∷ low_end ∷ hot_end ∷ above_end ∷ share_label ∷ later_open ∷ none_over ∷ over_front ∷ over_back ∷ codes "<td></td>" ∷ codes "<td title=\"" ∷ codes "\">" ∷ []
 
 -- the markup of a part
 abbrev pub marks_of : Drawn → List (List ℕ)
@@ -85,15 +86,27 @@ own_counts notes =
     decimal notes.counts.messages ∷ decimal notes.counts.loads ∷ decimal (notes.counts.items - length (shown_items (item_lists notes.report)))
     ∷ decimal (left_of notes).plan ∷ decimal (left_of notes).promises ∷ decimal (left_of notes).orders ∷ decimal (left_of notes).pegs ∷ decimal notes.counts.history ∷ decimal notes.counts.items ∷ decimal (length (drop FEW_ROWS (refused_rows notes.history))) ∷ summary_counts notes.history (rows_in s.Messages notes.report) (rows_in s.Loads notes.report)
 
--- those, and the counts of each list of messages
+-- the lists whose rows are counted
+abbrev pub row_lists : Noted → List (List RowView)
+row_lists notes = overloads_first (rows_in s.Loads notes.report) ∷ message_lists notes
+
+-- the texts of a week of a work centre that are none of its cells: its whole minutes, its share of capacity, and the heights
+-- of its bar
+abbrev pub load_texts : RowView → List (List ℕ)
+load_texts load = whole (cell_at load 2) ∷ whole (cell_at load 3) ∷ whole (cell_at load 4) ∷ share_cells load (share_of load)
+
+abbrev pub listed_texts : Noted → List (List ℕ)
+listed_texts notes = flat_map list_counts (row_lists notes) ++ flat_map load_texts (rows_in s.Loads notes.report)
+
+-- those, the counts of each list, and the texts of work centres
 abbrev pub count_texts : Noted → List (List ℕ)
-count_texts notes = own_counts notes ++ flat_map list_counts (message_lists notes)
+count_texts notes = own_counts notes ++ listed_texts notes
 
 -- texts of a page that come from no row: those of a table without rows, the words for what is counted, and that of a fold
 -- which stands open
 unfoldable pub small_words : List (List ℕ)
 small_words = [] ∷ codes "0" ∷ codes "1" ∷ codes "message, perhaps an urgent one, is" ∷ codes "messages, urgent ones perhaps among them, are" ∷ codes "week of a work centre is" ∷ codes "weeks of work centres are" ∷ codes "item is" ∷ codes "items are" ∷ codes "week of a record is" ∷ codes "weeks of records are" ∷ codes "week of promises is" ∷ codes "weeks of promises are" ∷ codes "order is" ∷ codes "orders are" ∷ codes "peg is" ∷ codes "pegs are" ∷ codes "entry is" ∷ codes "entries are" ∷ codes "1.000" ∷ codes "entry of the history is" ∷ codes "entries of the history are" ∷ codes "is" ∷ codes "are" ∷ codes "open" ∷ codes "none" ∷ codes "late" ∷ codes "unkept" ∷ codes "not promised" ∷ codes "cancel" ∷ codes "not cancelled" ∷ codes "todo" ∷ codes "release" ∷ codes "in" ∷ codes "out" ∷ codes "past due" ∷ codes "reschedule in" ∷ codes "reschedule out" ∷ codes "centres" ∷ []
 
--- a text is the title, a cell of a record, a number of what is not shown or of the items, or one of those words
+-- a text is the title, a cell of a record, a count, a number of a work centre, or one of those words
 abbrev pub IsKnown : List ℕ → List Cells → Noted → List ℕ → Type 0
 IsKnown title records notes text = (text ≡ title) ⊎ (StandsIn records text ⊎ (Contains (count_texts notes) text ⊎ Contains small_words text))

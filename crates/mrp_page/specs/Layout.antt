@@ -14,23 +14,6 @@ page_top =
     Text 0 ∷
     Mark (codes "</title>\n<style>\n") ∷ []
 
--- the head of a page: the title, the entry that the run plans from, the bookings that stand there, the weeks, the items
-unfoldable pub page_head : List Drawn
-page_head =
-    Mark (codes "</style>\n</head>\n<body>\n<header>\n<h1>") ∷
-    Text 0 ∷
-    Mark (codes "</h1>\n<p>Plan at entry <b>") ∷
-    Text 1 ∷
-    Mark (codes "</b> of the history; bookings standing: <b>") ∷
-    Text 2 ∷
-    Mark (codes "</b>; weeks: <b>") ∷
-    Text 3 ∷
-    Mark (codes "</b>; items: <b>") ∷
-    Text 4 ∷
-    Mark (codes "</b>") ∷
-    Where 4 (codes "0") (codes " (the plan has none, or none that was asked for)") ∷
-    Mark (codes "</p>\n") ∷ []
-
 -- what a message begins with
 unfoldable pub task_head : List Drawn
 task_head =
@@ -154,51 +137,6 @@ peg =
     Number 8 ∷
     Mark (codes "</tr>\n") ∷ []
 
--- the heading of a work centre, with its name
-unfoldable pub centre_head : List Drawn
-centre_head =
-    Mark (codes "<div class=scroll tabindex=0 role=region aria-label=\"Load and capacity of ") ∷
-    Text 0 ∷
-    Mark (codes ", week by week\"><table class=\"grid loads\">\n<caption><span>") ∷
-    Text 0 ∷
-    Mark (codes ", in minutes</span></caption>\n<thead><tr><th scope=col>Week</th>") ∷ []
-
--- the frame of the picture of loads, with the name, the weeks and the greatest number
-unfoldable pub load_chart : List Drawn
-load_chart =
-    Mark (codes "<tr class=chart><th scope=row>Load; the line is capacity</th><td colspan=\"") ∷
-    Text 1 ∷
-    Mark (codes "\"><svg role=\"img\" viewBox=\"0.5 -") ∷
-    Text 2 ∷
-    Mark (codes " ") ∷
-    Text 1 ∷
-    Mark (codes " ") ∷
-    Text 2 ∷
-    Mark (codes "\" preserveAspectRatio=\"none\"><title>Load against capacity of ") ∷
-    Text 0 ∷
-    Mark (codes "</title><g transform=\"translate(-.4) scale(1 -1)\">") ∷ []
-
--- the load of a week with its overload, and its capacity
-unfoldable pub bar : List Drawn
-bar =
-    Mark (codes "<path class=load d=\"M") ∷
-    Text 1 ∷
-    Mark (codes " 0v") ∷
-    Text 2 ∷
-    Mark (codes "h.8V0z\"/><path class=above d=\"M") ∷
-    Text 1 ∷
-    Mark (codes " ") ∷
-    Text 3 ∷
-    Mark (codes "v") ∷
-    Text 4 ∷
-    Mark (codes "h.8V") ∷
-    Text 3 ∷
-    Mark (codes "z\"/><path class=most d=\"M") ∷
-    Text 1 ∷
-    Mark (codes " ") ∷
-    Text 3 ∷
-    Mark (codes "h.8\"/>") ∷ []
-
 -- the heading of an item, with its name
 unfoldable pub item_head : List Drawn
 item_head =
@@ -207,30 +145,6 @@ item_head =
     Mark (codes "\">\n<h2>") ∷
     Text 0 ∷
     Mark (codes "</h2>\n") ∷ []
-
--- the heading of an item's time-phased record, with its name
-unfoldable pub record_head : List Drawn
-record_head =
-    Mark (codes "<div class=scroll tabindex=0 role=region aria-label=\"Record of ") ∷
-    Text 0 ∷
-    Mark (codes ", week by week\"><table class=grid>\n<caption><span>Time-phased record of ") ∷
-    Text 0 ∷
-    Mark (codes "</span></caption>\n<thead><tr><th scope=col>Week</th>") ∷ []
-
--- the frame of the picture of balances, with the name, the weeks and the greatest number
-unfoldable pub balance_chart : List Drawn
-balance_chart =
-    Mark (codes "<tr class=chart><th scope=row>Balance</th><td colspan=\"") ∷
-    Text 1 ∷
-    Mark (codes "\"><svg role=\"img\" viewBox=\"0.5 -") ∷
-    Text 2 ∷
-    Mark (codes " ") ∷
-    Text 1 ∷
-    Mark (codes " ") ∷
-    Text 2 ∷
-    Mark (codes "\" preserveAspectRatio=\"none\"><title>Projected available balance of ") ∷
-    Text 0 ∷
-    Mark (codes "</title><polyline transform=\"scale(1 -1)\" points=\"") ∷ []
 
 -- a week and its balance
 unfoldable pub point : List Drawn
@@ -252,33 +166,9 @@ item_tasks_end = codes "</tbody></table>\n"
 unfoldable pub weeks_end : List ℕ
 weeks_end = codes "</tr></thead>\n<tbody>\n"
 
--- what the picture of loads ends with
-unfoldable pub bars_end : List ℕ
-bars_end = codes "</g></svg></td></tr>\n"
-
--- what the picture of balances ends with
-unfoldable pub points_end : List ℕ
-points_end = codes "\"/></svg></td></tr>\n"
-
--- the label of a row
-unfoldable pub load_label : List ℕ
-load_label = codes "<tr><th scope=row>Load</th>"
-
--- the label of a row
-unfoldable pub capacity_label : List ℕ
-capacity_label = codes "<tr><th scope=row>Capacity</th>"
-
--- the label of a row
-unfoldable pub over_label : List ℕ
-over_label = codes "<tr class=over><th scope=row>Over</th>"
-
 -- what a table over the weeks ends with
 unfoldable pub grid_end : List ℕ
 grid_end = codes "</tbody></table></div>\n"
-
--- what the section of the work centres begins with
-unfoldable pub centres_open : List ℕ
-centres_open = codes "<section id=centres>\n<h2>Work centres</h2>\n"
 
 -- what a section ends with
 unfoldable pub section_end : List ℕ
@@ -596,3 +486,202 @@ centre_tile =
     Mark (codes "</b>of ") ∷
     Text 4 ∷
     Mark (codes " centres over capacity</a>") ∷ []
+
+-- the part of a work centre, with its name
+unfoldable pub centre_open : List Drawn
+centre_open =
+    Mark (codes "<section class=centre id=\"c-") ∷
+    Text 0 ∷
+    Mark (codes "\">\n<h3>") ∷
+    Text 0 ∷
+    Mark (codes "<a href=\"#centres\">all centres</a></h3>\n") ∷ []
+
+-- the frame of the picture of loads, with the name and the weeks; The line is at 100 %
+unfoldable pub load_chart : List Drawn
+load_chart =
+    Mark (codes "<div class=chart><p><span>200 %</span><span>100 %</span><span>0</span></p><svg role=\"img\" viewBox=\"0.5 -226 ") ∷
+    Text 1 ∷
+    Mark (codes " 226\" preserveAspectRatio=\"none\"><title>Load of ") ∷
+    Text 0 ∷
+    Mark (codes " as a share of its capacity, week by week</title><g transform=\"translate(-.4) scale(1 -1)\"><path class=load d=\"") ∷ []
+
+-- a week's bar up to its capacity
+unfoldable pub low_bar : List Drawn
+low_bar =
+    Mark (codes "M") ∷
+    Text 1 ∷
+    Mark (codes " 0v") ∷
+    Text 5 ∷
+    Mark (codes "h.8V0z") ∷ []
+
+-- what these bars end with
+unfoldable pub low_end : List ℕ
+low_end = codes "\"/><path class=hot d=\""
+
+-- the part of a week's bar up to its capacity, if there is more of it
+unfoldable pub hot_bar : List Drawn
+hot_bar =
+    Mark (codes "M") ∷
+    Text 1 ∷
+    Mark (codes " 0v") ∷
+    Text 6 ∷
+    Mark (codes "h.8V0z") ∷ []
+
+-- what these bars end with
+unfoldable pub hot_end : List ℕ
+hot_end = codes "\"/><path class=above d=\""
+
+-- the part of a week's bar above its capacity
+unfoldable pub above_bar : List Drawn
+above_bar =
+    Mark (codes "M") ∷
+    Text 1 ∷
+    Mark (codes " 100v") ∷
+    Text 7 ∷
+    Mark (codes "h.8V100z") ∷ []
+
+-- what these bars end with
+unfoldable pub above_end : List ℕ
+above_end = codes "\"/><path class=cut d=\""
+
+-- the mark of a week's bar that is cut
+unfoldable pub cut_bar : List Drawn
+cut_bar =
+    Mark (codes "M") ∷
+    Text 1 ∷
+    Mark (codes " 204h.8l-.4 ") ∷
+    Text 8 ∷
+    Mark (codes "z") ∷ []
+
+-- the heading of a table of a work centre, with its name
+unfoldable pub centre_head : List Drawn
+centre_head =
+    Mark (codes "<div class=scroll tabindex=0 role=region aria-label=\"Load and capacity of ") ∷
+    Text 0 ∷
+    Mark (codes ", week by week\"><table class=\"grid loads\" aria-label=\"Load and capacity of ") ∷
+    Text 0 ∷
+    Mark (codes "\">\n<thead><tr><th scope=col>Week</th>") ∷ []
+
+-- the label of a row
+unfoldable pub load_label : List ℕ
+load_label = codes "<tr><th scope=row>Load, minutes</th>"
+
+-- the label of a row
+unfoldable pub capacity_label : List ℕ
+capacity_label = codes "<tr><th scope=row>Capacity, minutes</th>"
+
+-- the label of a row
+unfoldable pub share_label : List ℕ
+share_label = codes "<tr class=strong><th scope=row>Share, per cent</th>"
+
+-- the label of a row
+unfoldable pub over_label : List ℕ
+over_label = codes "<tr class=over><th scope=row>Over, minutes</th>"
+
+-- a week's share of its capacity
+unfoldable pub share_cell : List Drawn
+share_cell =
+    Mark (codes "<td") ∷
+    Where 10 (codes "bad") (codes " class=bad") ∷
+    Mark (codes ">") ∷
+    Text 4 ∷
+    Mark (codes "</td>") ∷ []
+
+-- what the further weeks are folded behind
+unfoldable pub later_open : List ℕ
+later_open = codes "<details class=later><summary>Further weeks</summary>\n"
+
+-- what the section of the work centres begins with
+unfoldable pub centres_open : List ℕ
+centres_open = codes "<section id=centres>\n<h2>Work centres</h2>\n<p class=note>Week 1 holds all work that is late. Released (open) orders load nothing here. Shares of capacity are rounded up.</p>\n"
+
+-- what stands there if no work centre is over its capacity
+unfoldable pub none_over : List ℕ
+none_over = codes "<p>No work centre is over its capacity in any week.</p>\n"
+
+-- how many weeks of work centres are over their capacity
+unfoldable pub over_open : List Drawn
+over_open =
+    Mark (codes "<h3>Overloads: ") ∷
+    Text 0 ∷
+    Mark (codes "</h3>\n") ∷ []
+
+-- what the list of these begins with
+unfoldable pub over_front : List ℕ
+over_front = codes "<ul class=over>\n"
+
+-- what the list of these ends with
+unfoldable pub over_back : List ℕ
+over_back = codes "</ul>\n"
+
+-- a week of a work centre that is over its capacity
+unfoldable pub over_line : List Drawn
+over_line =
+    Mark (codes "<li><b>") ∷
+    Text 2 ∷
+    Text 3 ∷
+    Mark (codes "</b> <a href=\"#c-") ∷
+    Text 0 ∷
+    Mark (codes "\">") ∷
+    Text 0 ∷
+    Mark (codes "</a>, week ") ∷
+    Text 1 ∷
+    Mark (codes ": ") ∷
+    Text 9 ∷
+    Mark (codes " min over</li>\n") ∷ []
+
+-- what the picture of balances ends with
+unfoldable pub points_end : List ℕ
+points_end = codes "\"/></svg></div>\n"
+
+-- the heading of a table of an item's time-phased record, with its name
+unfoldable pub record_head : List Drawn
+record_head =
+    Mark (codes "<div class=scroll tabindex=0 role=region aria-label=\"Record of ") ∷
+    Text 0 ∷
+    Mark (codes ", week by week\"><table class=grid aria-label=\"Time-phased record of ") ∷
+    Text 0 ∷
+    Mark (codes "\">\n<thead><tr><th scope=col>Week</th>") ∷ []
+
+-- the head of a page: the title, the entry that the run plans from, the bookings that stand there, the weeks, the items
+unfoldable pub page_head : List Drawn
+page_head =
+    Mark (codes "</style>\n</head>\n<body style=\"--weeks:") ∷
+    Text 3 ∷
+    Mark (codes "\">\n<header>\n<h1>") ∷
+    Text 0 ∷
+    Mark (codes "</h1>\n<p>Plan at entry <b>") ∷
+    Text 1 ∷
+    Mark (codes "</b> of the history; bookings standing: <b>") ∷
+    Text 2 ∷
+    Mark (codes "</b>; weeks: <b>") ∷
+    Text 3 ∷
+    Mark (codes "</b>; items: <b>") ∷
+    Text 4 ∷
+    Mark (codes "</b>") ∷
+    Where 4 (codes "0") (codes " (the plan has none, or none that was asked for)") ∷
+    Mark (codes "</p>\n") ∷ []
+
+-- what the picture of loads ends with: the line of 100 %
+unfoldable pub load_end : List Drawn
+load_end =
+    Mark (codes "\"/></g><path class=full d=\"M.5 -100h") ∷
+    Text 1 ∷
+    Mark (codes "\"/></svg></div>\n") ∷ []
+
+-- the frame of the picture of balances, with the name, the weeks and the greatest number
+unfoldable pub balance_chart : List Drawn
+balance_chart =
+    Mark (codes "<div class=chart><p><span>") ∷
+    Text 2 ∷
+    Mark (codes "</span><span>0</span></p><svg role=\"img\" viewBox=\"0.5 -") ∷
+    Text 2 ∷
+    Mark (codes " ") ∷
+    Text 1 ∷
+    Mark (codes " ") ∷
+    Text 2 ∷
+    Mark (codes "\" preserveAspectRatio=\"none\"><title>Projected available balance of ") ∷
+    Text 0 ∷
+    Mark (codes "</title><path class=zero d=\"M.5 0h") ∷
+    Text 1 ∷
+    Mark (codes "\"/><polyline transform=\"scale(1 -1)\" points=\"") ∷ []

@@ -1,4 +1,6 @@
+pub mod Amounts
 pub mod ByWord
+pub mod Centres
 pub mod Columns
 pub mod Counted
 pub mod Counts
@@ -23,6 +25,7 @@ pub mod Refused
 pub mod Row
 pub mod Rows
 pub mod Section
+pub mod Shares
 pub mod Shown
 pub mod Sorted
 pub mod Spot

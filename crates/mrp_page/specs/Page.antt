@@ -2,7 +2,8 @@
 use Rattle.std.specs.Prelude.{ℕ, Bool, ◌++◌, not, List, [], ◌∷◌, flat_map, take, if◌then◌else◌}
 use Rattle.mrp_page.specs.declared.counts.Counts.{Counts}
 use Rattle.mrp_page.specs.declared.limits.TheConstants.{MOST_ITEMS}
-use Rattle.mrp_page.specs.Draw.{centres_html, has_none, history_html, items_html, more_items}
+use Rattle.mrp_page.specs.Centres.{load_section}
+use Rattle.mrp_page.specs.Draw.{has_none, history_html, items_html, more_items}
 use Rattle.mrp_page.specs.Frame.{heading}
 use Rattle.mrp_page.specs.ItemRows.{ItemLists, item_lists}
 use Rattle.mrp_page.specs.Kinds.{todo_html}
@@ -35,10 +36,6 @@ told_first messages plan = leaders [] messages ++ flat_map (untold_rows messages
 -- the items that a page has room for, those with messages first
 unfoldable pub shown_items : ItemLists → List RowView
 shown_items rows = take MOST_ITEMS (told_first rows.messages rows.plan)
-
--- the work centres
-unfoldable pub load_section : List RowView → ℕ → List ℕ
-load_section loads missed = centres_html loads (leaders [] loads) missed
 
 -- items, and how many more there are
 unfoldable pub items_of : ItemLists → Counts → List RowView → List ℕ

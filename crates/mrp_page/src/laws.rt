@@ -1,24 +1,28 @@
 //! What follows from the definitions alone, each law the contract of a function that does nothing.
 
-ghost use Rattle.std.specs.Prelude.{◌≡◌, ◌++◌, ◌+◌, ◌-◌, ◌^◌, ◌&&◌, ◌⊎◌, ◌<◌, ◌≤◌, ℕ, All, Contains, IsPermutation, List, Option, Some, false, [], ◌∷◌, codes, count_by, decimal, drop, filter, find, flat_map, length, slice_index_or, take};
+ghost use Rattle.std.specs.Prelude.{◌≡◌, ◌++◌, ◌+◌, ◌-◌, ◌^◌, ◌&&◌, ◌⊎◌, ◌<◌, ◌≤◌, ℕ, All, Contains, IsPermutation, List, Option, Some, false, [], ◌∷◌, codes, count_by, decimal, drop, filter, find, flat_map, length, slice_index_or, take, ◌*◌, Bool, None, true, min};
+ghost use Rattle.mrp_page.specs.Centres.{all_loads, bars_html, later_loads, loads_html, loads_table, over_listing, over_or_none, shares_html, times_html};
+ghost use Rattle.mrp_page.specs.Shares.{overloads_first, share, share_of, share_row, week_rank};
+ghost use Rattle.mrp_qty.specs.Minutes.{minutes_text_of};
+ghost use Rattle.mrp_page.specs.Amounts.{amount};
 ghost use Rattle.mrp_page.specs.ByWord.{has_one_of, with_word};
 ghost use Rattle.mrp_page.specs.Columns.{column};
 ghost use Rattle.mrp_page.specs.Counted.{kept_of, missed_of, wanted_rows};
-ghost use Rattle.mrp_page.specs.Draw.{bars_html, booked_html, item_html, item_name_html, items_html, link_html, loads_html, measure_html, more_html, named_record, named_tasks, planned_html, points_html, promised_html, record_or_none, record_rows, supplies_html};
+ghost use Rattle.mrp_page.specs.Draw.{all_weeks, amounts_html, balance_html, bars_html, booked_html, framed_record, is_scheduled, item_html, item_name_html, items_html, later_record, link_html, loads_html, measure_html, more_html, named_record, named_tasks, planned_html, points_html, promised_html, record_or_none, record_rows, record_table, supplies_html};
 ghost use Rattle.mrp_page.specs.Escaped.{escaped};
-ghost use Rattle.mrp_page.specs.Folded.{Listing, folded_html, hidden_html, listed_html};
+ghost use Rattle.mrp_page.specs.Folded.{Listing, capped_html, folded_html, hidden_html, listed_html};
 ghost use Rattle.mrp_page.specs.ItemRows.{ItemLists, item_lists};
 ghost use Rattle.mrp_page.specs.Known.{IsKnown, IsMadeOf, entries_kept, names_shown};
 ghost use Rattle.mrp_page.specs.Labels.{AreFirm};
 ghost use Rattle.mrp_page.specs.Laws.{piece_html, pieces, shown};
-ghost use Rattle.mrp_page.specs.Layout.{available_label, balance_label, bars_end, booked_label, capacity_label, firm_label, grid_end, gross_label, item_tasks_end, item_tasks_open, load_label, none_refused, order_start, order_week, other_words, over_label, planned_label, points_end, refused_answer, refused_open, scheduled_label, section_end, starts_label, task_row, task_supply, task_words};
+ghost use Rattle.mrp_page.specs.Layout.{above_bar, above_end, available_label, balance_label, booked_label, capacity_label, cut_bar, firm_label, grid_end, gross_label, hot_bar, hot_end, item_tasks_end, item_tasks_open, later_open, load_label, low_bar, low_end, none_refused, order_start, order_week, other_words, over_label, over_open, planned_label, points_end, refused_answer, refused_open, rest_end, scheduled_label, section_end, starts_label, task_row, task_supply, task_words};
 ghost use Rattle.mrp_page.specs.Frame.{count_row};
 ghost use Rattle.mrp_page.specs.Kinds.{Kind, cancel, earlier, is_order_of, kind_html, kind_part, kinds, kinds_html, late, later, messages_of, other_messages, other_part, release, task_line, value_rank};
 ghost use Rattle.std.specs.List.Sorted.{IsNonDecreasingBy};
 ghost use Rattle.mrp_page.specs.Rows.{rank};
 ghost use Rattle.mrp_page.specs.Notes.{Noted, notes_of};
 ghost use Rattle.mrp_page.specs.Page.{page_html, shown_items};
-ghost use Rattle.mrp_page.specs.Pictures.{drawn_balance, drawn_load};
+ghost use Rattle.mrp_page.specs.Pictures.{drawn_balance};
 ghost use Rattle.mrp_page.specs.Reading.{IsDayOf};
 ghost use Rattle.mrp_page.specs.Refused.{asked_of, is_booking, refusals, refused_html, refused_rows, refused_section};
 ghost use Rattle.mrp_page.specs.Row.{Cells, RowView, cell_at, same_text};
@@ -26,10 +30,10 @@ ghost use Rattle.mrp_page.specs.Rows.{rows_in, rows_named};
 ghost use Rattle.mrp_page.specs.Section.{place_of};
 ghost use Rattle.mrp_page.specs.Shown.{IsByItems, items_of_plan, items_to_show, rows_of, run_shown};
 ghost use Rattle.mrp_page.specs.Spot.{Names};
-ghost use Rattle.mrp_page.specs.Summary.{count_with, is_undone, summary_html, tile_html};
+ghost use Rattle.mrp_page.specs.Summary.{count_with, is_over, is_undone, summary_html, tile_html};
 ghost use Rattle.mrp_page.specs.Template.{Drawn, has_word, number_at, row_html};
 ghost use Rattle.mrp_page.specs.Todo.{by_urgency, message_html, said, said_of_another, word_of};
-ghost use Rattle.mrp_page.specs.declared.limits.TheConstants.{FEW_ROWS, MOST_LINES, SOME_ROWS};
+ghost use Rattle.mrp_page.specs.declared.limits.TheConstants.{FEW_ROWS, MOST_LINES, MOST_AMOUNT, SOME_ROWS, TABLE_WEEKS};
 ghost use Rattle.mrp_day.specs.declared.section.Section.{Section};
 ghost use Rattle.mrp_day.specs.declared.section.Section.TheVariants as section;
 
@@ -75,26 +79,62 @@ pub fn pages_show_what_is_known()
 /// by the column's name in the day.
 pub fn labels_stand_beside_their_columns()
     ensures record { (report : List RowView) (name : List ℕ) → named_record (item_lists report) name ≡ record_or_none name (rows_named name (rows_in section.Plan report)) (rows_named name (rows_in section.Promises report)) }
-    ensures needs { (plan promises : List RowView) → record_rows plan promises ≡ measure_html gross_label (column section.Plan (codes "gross")) plan ++ (supplies_html plan promises ++ (planned_html plan ++ promised_html promises)) }
-    ensures supplies { (plan promises : List RowView) → (supplies_html plan promises ≡ measure_html scheduled_label (column section.Plan (codes "open")) plan) ⊎ (supplies_html plan promises ≡ measure_html firm_label (column section.Plan (codes "firm")) plan) }
-    ensures planned { (plan : List RowView) → planned_html plan ≡ measure_html planned_label (column section.Plan (codes "planned")) plan ++ (measure_html starts_label (column section.Plan (codes "start")) plan ++ measure_html balance_label (column section.Plan (codes "balance")) plan) }
-    ensures booked { (promises : List RowView) → booked_html promises ≡ measure_html booked_label (column section.Promises (codes "booked")) promises ++ measure_html available_label (column section.Promises (codes "available")) promises }
-    ensures loads { (rows : List RowView) → loads_html rows ≡ measure_html load_label (column section.Loads (codes "load")) rows ++ (measure_html capacity_label (column section.Loads (codes "capacity")) rows ++ (measure_html over_label (column section.Loads (codes "over")) rows ++ grid_end)) }
+    ensures needs { (scheduled : Bool) (plan promises : List RowView) → record_rows scheduled plan promises ≡ amounts_html gross_label (column section.Plan (codes "gross")) plan ++ (supplies_html scheduled plan ++ (planned_html plan ++ promised_html promises)) }
+    ensures scheduled { (plan : List RowView) → supplies_html true plan ≡ amounts_html scheduled_label (column section.Plan (codes "open")) plan }
+    ensures firm { (plan : List RowView) → supplies_html false plan ≡ amounts_html firm_label (column section.Plan (codes "firm")) plan }
+    ensures planned { (plan : List RowView) → planned_html plan ≡ amounts_html planned_label (column section.Plan (codes "planned")) plan ++ (amounts_html starts_label (column section.Plan (codes "start")) plan ++ measure_html balance_label (column section.Plan (codes "balance")) plan) }
+    ensures booked { (promises : List RowView) → booked_html promises ≡ amounts_html booked_label (column section.Promises (codes "booked")) promises ++ measure_html available_label (column section.Promises (codes "available")) promises }
+    ensures loads { (rows : List RowView) → loads_html rows ≡ times_html load_label (column section.Loads (codes "load")) rows ++ (times_html capacity_label (column section.Loads (codes "capacity")) rows ++ (shares_html rows ++ (times_html over_label (column section.Loads (codes "over")) rows ++ grid_end))) }
 {}
 
-/// The picture of loads is drawn week by week from these columns: a bar up to the load, with the overload
-/// above the line of the capacity. The picture of balances is a line from week to week.
+/// The first weeks of a record, and of a work centre, stand in a table, and the further ones in one that is
+/// folded: each week once, in order.
+pub fn weeks_stand_once()
+    ensures record { (frame : RowView) (scheduled : Bool) (plan promises : List RowView) → all_weeks frame scheduled plan promises ≡ record_table frame scheduled (take TABLE_WEEKS plan) (take TABLE_WEEKS promises) ++ later_record frame scheduled (drop TABLE_WEEKS plan) (drop TABLE_WEEKS promises) }
+    ensures later { (frame : RowView) (scheduled : Bool) (row : RowView) (plan promises : List RowView) → later_record frame scheduled (row ∷ plan) promises ≡ later_open ++ (record_table frame scheduled (row ∷ plan) promises ++ rest_end) }
+    ensures centre { (frame : RowView) (rows : List RowView) → all_loads frame rows ≡ loads_table frame (take TABLE_WEEKS rows) ++ later_loads frame (drop TABLE_WEEKS rows) }
+    ensures later_loads { (frame row : RowView) (rows : List RowView) → later_loads frame (row ∷ rows) ≡ later_open ++ (loads_table frame (row ∷ rows) ++ rest_end) }
+    ensures all { (rows : List RowView) → take TABLE_WEEKS rows ++ drop TABLE_WEEKS rows ≡ rows }
+{}
+
+/// The picture of loads is drawn week by week: a bar as high as the share of the capacity, up to 200 %, with
+/// another colour where the share is above 100 %, and a mark where the bar is cut. The picture of balances is
+/// a line from week to week.
 pub fn pictures_are_drawn_from_their_columns()
-    ensures loads { (rows : List RowView) → bars_html rows ≡ flat_map drawn_load rows ++ bars_end }
+    ensures loads { (shares : List RowView) → bars_html shares ≡ (flat_map (row_html low_bar) shares ++ low_end) ++ ((flat_map (row_html hot_bar) shares ++ hot_end) ++ ((flat_map (row_html above_bar) shares ++ above_end) ++ flat_map (row_html cut_bar) shares)) }
+    ensures low { (load : RowView) (percent : ℕ) → share_of load ≡ Some percent → percent ≤ 100 → row_html low_bar (share_row load) ≡ codes "M" ++ (escaped (cell_at load 1) ++ (codes " 0v" ++ (escaped (decimal percent) ++ (codes "h.8V0z" ++ [])))) }
+    ensures hot { (load : RowView) (percent : ℕ) → share_of load ≡ Some percent → 100 < percent → row_html hot_bar (share_row load) ≡ codes "M" ++ (escaped (cell_at load 1) ++ (codes " 0v" ++ (escaped (codes "100") ++ (codes "h.8V0z" ++ [])))) }
+    ensures above { (load : RowView) (percent : ℕ) → share_of load ≡ Some percent → 100 < percent → row_html above_bar (share_row load) ≡ codes "M" ++ (escaped (cell_at load 1) ++ (codes " 100v" ++ (escaped (decimal (min percent 200 - 100)) ++ (codes "h.8V100z" ++ [])))) }
+    ensures cut { (load : RowView) (percent : ℕ) → share_of load ≡ Some percent → 200 < percent → row_html cut_bar (share_row load) ≡ codes "M" ++ (escaped (cell_at load 1) ++ (codes " 204h.8l-.4 " ++ (escaped (codes "20") ++ (codes "z" ++ [])))) }
+    ensures uncut { (load : RowView) (percent : ℕ) → share_of load ≡ Some percent → percent ≤ 200 → row_html cut_bar (share_row load) ≡ codes "M" ++ (escaped (cell_at load 1) ++ (codes " 204h.8l-.4 " ++ (escaped (codes "0") ++ (codes "z" ++ [])))) }
     ensures balances { (rows : List RowView) → points_html rows ≡ flat_map drawn_balance rows ++ points_end }
+{}
+
+/// A share of a capacity is its load in per cent, rounded up. It is above 100 % exactly if the load is above
+/// the capacity. A load without capacity has none.
+pub fn shares_are_exact()
+    ensures columns { (load : RowView) → share_of load ≡ share (amount (cell_at load (column section.Loads (codes "load")))) (amount (cell_at load (column section.Loads (codes "capacity")))) }
+    ensures minutes { (time : ℕ) → time ≤ MOST_AMOUNT → amount (minutes_text_of time) ≡ time }
+    ensures exact { (load capacity percent : ℕ) → 0 < capacity → share load capacity ≡ Some percent → (load * 100 ≤ percent * capacity) × (percent * capacity < load * 100 + capacity) }
+    ensures above { (load capacity percent : ℕ) → share load capacity ≡ Some percent → capacity < load → 100 < percent }
+    ensures within { (load capacity percent : ℕ) → share load capacity ≡ Some percent → load ≤ capacity → percent ≤ 100 }
+    ensures none { (load capacity : ℕ) → share load capacity ≡ None → (capacity ≡ 0) × (0 < load) }
+{}
+
+/// The weeks of work centres that are over their capacity stand by week, and each once.
+pub fn overloads_stand_in_order()
+    ensures once { (loads : List RowView) → IsPermutation (filter is_over loads) (overloads_first loads) }
+    ensures order { (loads : List RowView) → IsNonDecreasingBy week_rank (overloads_first loads) }
+    ensures shown { (missed : ℕ) (load : RowView) (rows : List RowView) → over_or_none missed (load ∷ rows) ≡ row_html over_open (count_row (length (load ∷ rows)) [] []) ++ capped_html over_listing SOME_ROWS (load ∷ rows) }
 {}
 
 /// The supplies of an item have one of two labels: *firm master schedule* for an item with promises or with
 /// firm pieces in some week, *scheduled receipts* for any other.
 pub fn supplies_have_one_label()
-    ensures promised { (plan : List RowView) (row : RowView) (promises : List RowView) → supplies_html plan (row ∷ promises) ≡ measure_html firm_label (column section.Plan (codes "firm")) plan }
-    ensures firm { (plan promises : List RowView) (firm : List ℕ) → AreFirm plan firm → (pieces : ℕ) → Contains firm pieces → 0 < pieces → supplies_html plan promises ≡ measure_html firm_label (column section.Plan (codes "firm")) plan }
-    ensures scheduled { (plan : List RowView) (firm : List ℕ) → AreFirm plan firm → All (λ pieces. pieces ≡ 0) firm → supplies_html plan [] ≡ measure_html scheduled_label (column section.Plan (codes "open")) plan }
+    ensures record { (frame : RowView) (plan promises : List RowView) → framed_record frame plan promises ≡ balance_html frame plan ++ all_weeks frame (is_scheduled plan promises) plan promises }
+    ensures promised { (plan : List RowView) (row : RowView) (promises : List RowView) → is_scheduled plan (row ∷ promises) ≡ false }
+    ensures firm { (plan promises : List RowView) (firm : List ℕ) → AreFirm plan firm → (pieces : ℕ) → Contains firm pieces → 0 < pieces → is_scheduled plan promises ≡ false }
+    ensures scheduled { (plan : List RowView) (firm : List ℕ) → AreFirm plan firm → All (λ pieces. pieces ≡ 0) firm → is_scheduled plan [] ≡ true }
 {}
 
 /// Each message that is kept is shown once in *To do*, in the fold of its kind, and once more with its item if

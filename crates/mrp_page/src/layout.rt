@@ -2,7 +2,7 @@
 
 ghost use Rattle.std.specs.Prelude.{◌≡◌, map};
 ghost use Rattle.mrp_page.specs.Template.{drawn_of};
-ghost use Rattle.mrp_page.specs.Layout.{available_label, balance_chart, balance_label, bar, bars_end, booked_label, cancel_front, cancel_open, capacity_label, centre_head, centre_tile, centres_open, entry, entry_link_open, firm_label, grid_end, gross_label, history_end, history_open, in_front, in_open, item_head, item_tasks_end, item_tasks_open, late_front, late_open, link_end, link_middle, link_open, list_end, load_chart, load_label, main_open, more, no_promises, no_record, none_refused, nothing_to_do, order, order_start, order_unknown, order_week, orders_open, other_cells, other_front, other_open, other_words, out_front, out_open, over_label, page_end, page_head, page_top, peg, pegs_open, planned_label, point, points_end, record_head, refused_answer, refused_asked, refused_desk, refused_end, refused_front, refused_open, refused_row, release_front, release_open, rest_end, rest_open, row_end, scheduled_label, section_end, starts_label, style, summary_open, summary_tile, table_end, task_head, task_row, task_supply, task_words, to_week, todo_note, todo_open, week, weeks_end, weeks_late};
+ghost use Rattle.mrp_page.specs.Layout.{above_bar, above_end, available_label, balance_chart, balance_label, booked_label, cancel_front, cancel_open, capacity_label, centre_head, centre_open, centre_tile, centres_open, cut_bar, entry, entry_link_open, firm_label, grid_end, gross_label, history_end, history_open, hot_bar, hot_end, in_front, in_open, item_head, item_tasks_end, item_tasks_open, late_front, late_open, later_open, link_end, link_middle, link_open, list_end, load_chart, load_end, load_label, low_bar, low_end, main_open, more, no_promises, no_record, none_over, none_refused, nothing_to_do, order, order_start, order_unknown, order_week, orders_open, other_cells, other_front, other_open, other_words, out_front, out_open, over_back, over_front, over_label, over_line, over_open, page_end, page_head, page_top, peg, pegs_open, planned_label, point, points_end, record_head, refused_answer, refused_asked, refused_desk, refused_end, refused_front, refused_open, refused_row, release_front, release_open, rest_end, rest_open, row_end, scheduled_label, section_end, share_cell, share_label, starts_label, style, summary_open, summary_tile, table_end, task_head, task_row, task_supply, task_words, to_week, todo_note, todo_open, week, weeks_end, weeks_late};
 
 use crate::style::STYLE;
 use crate::template::Part;
@@ -26,29 +26,6 @@ pub(crate) fn page_top() -> &'static [Part]
         ),
         Part::Cell(0),
         Part::Markup(b"</title>\n<style>\n"),
-    ]
-}
-
-// The head of a page: the title, the entry that the run plans from, the bookings that stand there, the
-// weeks, the items.
-#[tactic(auto, unfolding(crate::specs::Layout::page_head))]
-pub(crate) fn page_head() -> &'static [Part]
-    ensures { map drawn_of result.now ≡ page_head }
-{
-    &[
-        Part::Markup(b"</style>\n</head>\n<body>\n<header>\n<h1>"),
-        Part::Cell(0),
-        Part::Markup(b"</h1>\n<p>Plan at entry <b>"),
-        Part::Cell(1),
-        Part::Markup(b"</b> of the history; bookings standing: <b>"),
-        Part::Cell(2),
-        Part::Markup(b"</b>; weeks: <b>"),
-        Part::Cell(3),
-        Part::Markup(b"</b>; items: <b>"),
-        Part::Cell(4),
-        Part::Markup(b"</b>"),
-        Part::If(4, b"0", b" (the plan has none, or none that was asked for)"),
-        Part::Markup(b"</p>\n"),
     ]
 }
 
@@ -226,70 +203,6 @@ pub(crate) fn peg() -> &'static [Part]
     ]
 }
 
-// The heading of a work centre, with its name.
-#[tactic(auto, unfolding(crate::specs::Layout::centre_head))]
-pub(crate) fn centre_head() -> &'static [Part]
-    ensures { map drawn_of result.now ≡ centre_head }
-{
-    &[
-        Part::Markup(
-            b"<div class=scroll tabindex=0 role=region aria-label=\"Load and capacity of ",
-        ),
-        Part::Cell(0),
-        Part::Markup(b", week by week\"><table class=\"grid loads\">\n<caption><span>"),
-        Part::Cell(0),
-        Part::Markup(b", in minutes</span></caption>\n<thead><tr><th scope=col>Week</th>"),
-    ]
-}
-
-// The frame of the picture of loads, with the name, the weeks and the greatest number.
-#[tactic(auto, unfolding(crate::specs::Layout::load_chart))]
-pub(crate) fn load_chart() -> &'static [Part]
-    ensures { map drawn_of result.now ≡ load_chart }
-{
-    &[
-        Part::Markup(
-            b"<tr class=chart><th scope=row>Load; the line is capacity</th><td colspan=\"",
-        ),
-        Part::Cell(1),
-        Part::Markup(b"\"><svg role=\"img\" viewBox=\"0.5 -"),
-        Part::Cell(2),
-        Part::Markup(b" "),
-        Part::Cell(1),
-        Part::Markup(b" "),
-        Part::Cell(2),
-        Part::Markup(b"\" preserveAspectRatio=\"none\"><title>Load against capacity of "),
-        Part::Cell(0),
-        Part::Markup(b"</title><g transform=\"translate(-.4) scale(1 -1)\">"),
-    ]
-}
-
-// The load of a week with its overload, and its capacity.
-#[tactic(auto, unfolding(crate::specs::Layout::bar))]
-pub(crate) fn bar() -> &'static [Part]
-    ensures { map drawn_of result.now ≡ bar }
-{
-    &[
-        Part::Markup(b"<path class=load d=\"M"),
-        Part::Cell(1),
-        Part::Markup(b" 0v"),
-        Part::Cell(2),
-        Part::Markup(b"h.8V0z\"/><path class=above d=\"M"),
-        Part::Cell(1),
-        Part::Markup(b" "),
-        Part::Cell(3),
-        Part::Markup(b"v"),
-        Part::Cell(4),
-        Part::Markup(b"h.8V"),
-        Part::Cell(3),
-        Part::Markup(b"z\"/><path class=most d=\"M"),
-        Part::Cell(1),
-        Part::Markup(b" "),
-        Part::Cell(3),
-        Part::Markup(b"h.8\"/>"),
-    ]
-}
-
 // The heading of an item, with its name.
 #[tactic(auto, unfolding(crate::specs::Layout::item_head))]
 pub(crate) fn item_head() -> &'static [Part]
@@ -301,40 +214,6 @@ pub(crate) fn item_head() -> &'static [Part]
         Part::Markup(b"\">\n<h2>"),
         Part::Cell(0),
         Part::Markup(b"</h2>\n"),
-    ]
-}
-
-// The heading of an item's time-phased record, with its name.
-#[tactic(auto, unfolding(crate::specs::Layout::record_head))]
-pub(crate) fn record_head() -> &'static [Part]
-    ensures { map drawn_of result.now ≡ record_head }
-{
-    &[
-        Part::Markup(b"<div class=scroll tabindex=0 role=region aria-label=\"Record of "),
-        Part::Cell(0),
-        Part::Markup(b", week by week\"><table class=grid>\n<caption><span>Time-phased record of "),
-        Part::Cell(0),
-        Part::Markup(b"</span></caption>\n<thead><tr><th scope=col>Week</th>"),
-    ]
-}
-
-// The frame of the picture of balances, with the name, the weeks and the greatest number.
-#[tactic(auto, unfolding(crate::specs::Layout::balance_chart))]
-pub(crate) fn balance_chart() -> &'static [Part]
-    ensures { map drawn_of result.now ≡ balance_chart }
-{
-    &[
-        Part::Markup(b"<tr class=chart><th scope=row>Balance</th><td colspan=\""),
-        Part::Cell(1),
-        Part::Markup(b"\"><svg role=\"img\" viewBox=\"0.5 -"),
-        Part::Cell(2),
-        Part::Markup(b" "),
-        Part::Cell(1),
-        Part::Markup(b" "),
-        Part::Cell(2),
-        Part::Markup(b"\" preserveAspectRatio=\"none\"><title>Projected available balance of "),
-        Part::Cell(0),
-        Part::Markup(b"</title><polyline transform=\"scale(1 -1)\" points=\""),
     ]
 }
 
@@ -375,60 +254,12 @@ pub(crate) fn weeks_end() -> &'static [u8]
     b"</tr></thead>\n<tbody>\n"
 }
 
-// What the picture of loads ends with.
-#[tactic(auto, unfolding(crate::specs::Layout::bars_end))]
-pub(crate) fn bars_end() -> &'static [u8]
-    ensures { result.now ≡ bars_end }
-{
-    b"</g></svg></td></tr>\n"
-}
-
-// What the picture of balances ends with.
-#[tactic(auto, unfolding(crate::specs::Layout::points_end))]
-pub(crate) fn points_end() -> &'static [u8]
-    ensures { result.now ≡ points_end }
-{
-    b"\"/></svg></td></tr>\n"
-}
-
-// The label of a row.
-#[tactic(auto, unfolding(crate::specs::Layout::load_label))]
-pub(crate) fn load_label() -> &'static [u8]
-    ensures { result.now ≡ load_label }
-{
-    b"<tr><th scope=row>Load</th>"
-}
-
-// The label of a row.
-#[tactic(auto, unfolding(crate::specs::Layout::capacity_label))]
-pub(crate) fn capacity_label() -> &'static [u8]
-    ensures { result.now ≡ capacity_label }
-{
-    b"<tr><th scope=row>Capacity</th>"
-}
-
-// The label of a row.
-#[tactic(auto, unfolding(crate::specs::Layout::over_label))]
-pub(crate) fn over_label() -> &'static [u8]
-    ensures { result.now ≡ over_label }
-{
-    b"<tr class=over><th scope=row>Over</th>"
-}
-
 // What a table over the weeks ends with.
 #[tactic(auto, unfolding(crate::specs::Layout::grid_end))]
 pub(crate) fn grid_end() -> &'static [u8]
     ensures { result.now ≡ grid_end }
 {
     b"</tbody></table></div>\n"
-}
-
-// What the section of the work centres begins with.
-#[tactic(auto, unfolding(crate::specs::Layout::centres_open))]
-pub(crate) fn centres_open() -> &'static [u8]
-    ensures { result.now ≡ centres_open }
-{
-    b"<section id=centres>\n<h2>Work centres</h2>\n"
 }
 
 // What a section ends with.
@@ -979,5 +810,326 @@ pub(crate) fn centre_tile() -> &'static [Part]
         Part::Markup(b"</b>of "),
         Part::Cell(4),
         Part::Markup(b" centres over capacity</a>"),
+    ]
+}
+
+// The part of a work centre, with its name.
+#[tactic(auto, unfolding(crate::specs::Layout::centre_open))]
+pub(crate) fn centre_open() -> &'static [Part]
+    ensures { map drawn_of result.now ≡ centre_open }
+{
+    &[
+        Part::Markup(b"<section class=centre id=\"c-"),
+        Part::Cell(0),
+        Part::Markup(b"\">\n<h3>"),
+        Part::Cell(0),
+        Part::Markup(b"<a href=\"#centres\">all centres</a></h3>\n"),
+    ]
+}
+
+// The frame of the picture of loads, with the name and the weeks. The line is at 100 %.
+#[tactic(auto, unfolding(crate::specs::Layout::load_chart))]
+pub(crate) fn load_chart() -> &'static [Part]
+    ensures { map drawn_of result.now ≡ load_chart }
+{
+    &[
+        Part::Markup(b"<div class=chart><p><span>200 %</span><span>100 %</span><span>0</span></p><svg role=\"img\" viewBox=\"0.5 -226 "),
+        Part::Cell(1),
+        Part::Markup(b" 226\" preserveAspectRatio=\"none\"><title>Load of "),
+        Part::Cell(0),
+        Part::Markup(b" as a share of its capacity, week by week</title><g transform=\"translate(-.4) scale(1 -1)\"><path class=load d=\""),
+    ]
+}
+
+// A week's bar up to its capacity.
+#[tactic(auto, unfolding(crate::specs::Layout::low_bar))]
+pub(crate) fn low_bar() -> &'static [Part]
+    ensures { map drawn_of result.now ≡ low_bar }
+{
+    &[
+        Part::Markup(b"M"),
+        Part::Cell(1),
+        Part::Markup(b" 0v"),
+        Part::Cell(5),
+        Part::Markup(b"h.8V0z"),
+    ]
+}
+
+// What these bars end with.
+#[tactic(auto, unfolding(crate::specs::Layout::low_end))]
+pub(crate) fn low_end() -> &'static [u8]
+    ensures { result.now ≡ low_end }
+{
+    b"\"/><path class=hot d=\""
+}
+
+// The part of a week's bar up to its capacity, if there is more of it.
+#[tactic(auto, unfolding(crate::specs::Layout::hot_bar))]
+pub(crate) fn hot_bar() -> &'static [Part]
+    ensures { map drawn_of result.now ≡ hot_bar }
+{
+    &[
+        Part::Markup(b"M"),
+        Part::Cell(1),
+        Part::Markup(b" 0v"),
+        Part::Cell(6),
+        Part::Markup(b"h.8V0z"),
+    ]
+}
+
+// What these bars end with.
+#[tactic(auto, unfolding(crate::specs::Layout::hot_end))]
+pub(crate) fn hot_end() -> &'static [u8]
+    ensures { result.now ≡ hot_end }
+{
+    b"\"/><path class=above d=\""
+}
+
+// The part of a week's bar above its capacity.
+#[tactic(auto, unfolding(crate::specs::Layout::above_bar))]
+pub(crate) fn above_bar() -> &'static [Part]
+    ensures { map drawn_of result.now ≡ above_bar }
+{
+    &[
+        Part::Markup(b"M"),
+        Part::Cell(1),
+        Part::Markup(b" 100v"),
+        Part::Cell(7),
+        Part::Markup(b"h.8V100z"),
+    ]
+}
+
+// What these bars end with.
+#[tactic(auto, unfolding(crate::specs::Layout::above_end))]
+pub(crate) fn above_end() -> &'static [u8]
+    ensures { result.now ≡ above_end }
+{
+    b"\"/><path class=cut d=\""
+}
+
+// The mark of a week's bar that is cut.
+#[tactic(auto, unfolding(crate::specs::Layout::cut_bar))]
+pub(crate) fn cut_bar() -> &'static [Part]
+    ensures { map drawn_of result.now ≡ cut_bar }
+{
+    &[
+        Part::Markup(b"M"),
+        Part::Cell(1),
+        Part::Markup(b" 204h.8l-.4 "),
+        Part::Cell(8),
+        Part::Markup(b"z"),
+    ]
+}
+
+// The heading of a table of a work centre, with its name.
+#[tactic(auto, unfolding(crate::specs::Layout::centre_head))]
+pub(crate) fn centre_head() -> &'static [Part]
+    ensures { map drawn_of result.now ≡ centre_head }
+{
+    &[
+        Part::Markup(b"<div class=scroll tabindex=0 role=region aria-label=\"Load and capacity of "),
+        Part::Cell(0),
+        Part::Markup(b", week by week\"><table class=\"grid loads\" aria-label=\"Load and capacity of "),
+        Part::Cell(0),
+        Part::Markup(b"\">\n<thead><tr><th scope=col>Week</th>"),
+    ]
+}
+
+// The label of a row.
+#[tactic(auto, unfolding(crate::specs::Layout::load_label))]
+pub(crate) fn load_label() -> &'static [u8]
+    ensures { result.now ≡ load_label }
+{
+    b"<tr><th scope=row>Load, minutes</th>"
+}
+
+// The label of a row.
+#[tactic(auto, unfolding(crate::specs::Layout::capacity_label))]
+pub(crate) fn capacity_label() -> &'static [u8]
+    ensures { result.now ≡ capacity_label }
+{
+    b"<tr><th scope=row>Capacity, minutes</th>"
+}
+
+// The label of a row.
+#[tactic(auto, unfolding(crate::specs::Layout::share_label))]
+pub(crate) fn share_label() -> &'static [u8]
+    ensures { result.now ≡ share_label }
+{
+    b"<tr class=strong><th scope=row>Share, per cent</th>"
+}
+
+// The label of a row.
+#[tactic(auto, unfolding(crate::specs::Layout::over_label))]
+pub(crate) fn over_label() -> &'static [u8]
+    ensures { result.now ≡ over_label }
+{
+    b"<tr class=over><th scope=row>Over, minutes</th>"
+}
+
+// A week's share of its capacity.
+#[tactic(auto, unfolding(crate::specs::Layout::share_cell))]
+pub(crate) fn share_cell() -> &'static [Part]
+    ensures { map drawn_of result.now ≡ share_cell }
+{
+    &[
+        Part::Markup(b"<td"),
+        Part::If(10, b"bad", b" class=bad"),
+        Part::Markup(b">"),
+        Part::Cell(4),
+        Part::Markup(b"</td>"),
+    ]
+}
+
+// What the further weeks are folded behind.
+#[tactic(auto, unfolding(crate::specs::Layout::later_open))]
+pub(crate) fn later_open() -> &'static [u8]
+    ensures { result.now ≡ later_open }
+{
+    b"<details class=later><summary>Further weeks</summary>\n"
+}
+
+// What the section of the work centres begins with.
+#[tactic(auto, unfolding(crate::specs::Layout::centres_open))]
+pub(crate) fn centres_open() -> &'static [u8]
+    ensures { result.now ≡ centres_open }
+{
+    b"<section id=centres>\n<h2>Work centres</h2>\n<p class=note>Week 1 holds all work that is late. Released (open) orders load nothing here. Shares of capacity are rounded up.</p>\n"
+}
+
+// What stands there if no work centre is over its capacity.
+#[tactic(auto, unfolding(crate::specs::Layout::none_over))]
+pub(crate) fn none_over() -> &'static [u8]
+    ensures { result.now ≡ none_over }
+{
+    b"<p>No work centre is over its capacity in any week.</p>\n"
+}
+
+// How many weeks of work centres are over their capacity.
+#[tactic(auto, unfolding(crate::specs::Layout::over_open))]
+pub(crate) fn over_open() -> &'static [Part]
+    ensures { map drawn_of result.now ≡ over_open }
+{
+    &[
+        Part::Markup(b"<h3>Overloads: "),
+        Part::Cell(0),
+        Part::Markup(b"</h3>\n"),
+    ]
+}
+
+// What the list of these begins with.
+#[tactic(auto, unfolding(crate::specs::Layout::over_front))]
+pub(crate) fn over_front() -> &'static [u8]
+    ensures { result.now ≡ over_front }
+{
+    b"<ul class=over>\n"
+}
+
+// What the list of these ends with.
+#[tactic(auto, unfolding(crate::specs::Layout::over_back))]
+pub(crate) fn over_back() -> &'static [u8]
+    ensures { result.now ≡ over_back }
+{
+    b"</ul>\n"
+}
+
+// A week of a work centre that is over its capacity.
+#[tactic(auto, unfolding(crate::specs::Layout::over_line))]
+pub(crate) fn over_line() -> &'static [Part]
+    ensures { map drawn_of result.now ≡ over_line }
+{
+    &[
+        Part::Markup(b"<li><b>"),
+        Part::Cell(2),
+        Part::Cell(3),
+        Part::Markup(b"</b> <a href=\"#c-"),
+        Part::Cell(0),
+        Part::Markup(b"\">"),
+        Part::Cell(0),
+        Part::Markup(b"</a>, week "),
+        Part::Cell(1),
+        Part::Markup(b": "),
+        Part::Cell(9),
+        Part::Markup(b" min over</li>\n"),
+    ]
+}
+
+// What the picture of balances ends with.
+#[tactic(auto, unfolding(crate::specs::Layout::points_end))]
+pub(crate) fn points_end() -> &'static [u8]
+    ensures { result.now ≡ points_end }
+{
+    b"\"/></svg></div>\n"
+}
+
+// The heading of a table of an item's time-phased record, with its name.
+#[tactic(auto, unfolding(crate::specs::Layout::record_head))]
+pub(crate) fn record_head() -> &'static [Part]
+    ensures { map drawn_of result.now ≡ record_head }
+{
+    &[
+        Part::Markup(b"<div class=scroll tabindex=0 role=region aria-label=\"Record of "),
+        Part::Cell(0),
+        Part::Markup(b", week by week\"><table class=grid aria-label=\"Time-phased record of "),
+        Part::Cell(0),
+        Part::Markup(b"\">\n<thead><tr><th scope=col>Week</th>"),
+    ]
+}
+
+// The head of a page: the title, the entry that the run plans from, the bookings that stand there, the weeks, the items.
+#[tactic(auto, unfolding(crate::specs::Layout::page_head))]
+pub(crate) fn page_head() -> &'static [Part]
+    ensures { map drawn_of result.now ≡ page_head }
+{
+    &[
+        Part::Markup(b"</style>\n</head>\n<body style=\"--weeks:"),
+        Part::Cell(3),
+        Part::Markup(b"\">\n<header>\n<h1>"),
+        Part::Cell(0),
+        Part::Markup(b"</h1>\n<p>Plan at entry <b>"),
+        Part::Cell(1),
+        Part::Markup(b"</b> of the history; bookings standing: <b>"),
+        Part::Cell(2),
+        Part::Markup(b"</b>; weeks: <b>"),
+        Part::Cell(3),
+        Part::Markup(b"</b>; items: <b>"),
+        Part::Cell(4),
+        Part::Markup(b"</b>"),
+        Part::If(4, b"0", b" (the plan has none, or none that was asked for)"),
+        Part::Markup(b"</p>\n"),
+    ]
+}
+
+// What the picture of loads ends with: the line of 100 %.
+#[tactic(auto, unfolding(crate::specs::Layout::load_end))]
+pub(crate) fn load_end() -> &'static [Part]
+    ensures { map drawn_of result.now ≡ load_end }
+{
+    &[
+        Part::Markup(b"\"/></g><path class=full d=\"M.5 -100h"),
+        Part::Cell(1),
+        Part::Markup(b"\"/></svg></div>\n"),
+    ]
+}
+
+// The frame of the picture of balances, with the name, the weeks and the greatest number.
+#[tactic(auto, unfolding(crate::specs::Layout::balance_chart))]
+pub(crate) fn balance_chart() -> &'static [Part]
+    ensures { map drawn_of result.now ≡ balance_chart }
+{
+    &[
+        Part::Markup(b"<div class=chart><p><span>"),
+        Part::Cell(2),
+        Part::Markup(b"</span><span>0</span></p><svg role=\"img\" viewBox=\"0.5 -"),
+        Part::Cell(2),
+        Part::Markup(b" "),
+        Part::Cell(1),
+        Part::Markup(b" "),
+        Part::Cell(2),
+        Part::Markup(b"\" preserveAspectRatio=\"none\"><title>Projected available balance of "),
+        Part::Cell(0),
+        Part::Markup(b"</title><path class=zero d=\"M.5 0h"),
+        Part::Cell(1),
+        Part::Markup(b"\"/><polyline transform=\"scale(1 -1)\" points=\""),
     ]
 }

@@ -1,8 +1,10 @@
 //! The page that a planner opens: a day as one file of HTML that fetches nothing and runs nothing.
 #![tactic(auto)]
 
+mod amounts;
 mod by_word;
 mod cells;
+mod centres;
 mod counts;
 mod draw;
 mod escape;
@@ -24,6 +26,7 @@ mod refused;
 mod row;
 mod rows;
 mod section;
+mod shares;
 mod spot;
 mod steady;
 mod style;

@@ -22,3 +22,9 @@ pub const SOME_ROWS: usize = 10;
 
 /// The most rows of a list that a page shows, folded ones included.
 pub const MOST_LINES: usize = 1_000;
+
+/// How many weeks stand in a table. The further ones are folded.
+pub const TABLE_WEEKS: usize = 13;
+
+/// From this number on numbers count as equal, among them times in thousandths of a minute.
+pub const MOST_AMOUNT: u64 = 100_000_000_000_000_000;

@@ -1,10 +1,11 @@
 //! A page, drawn from what was kept of a day.
 
 ghost use Rattle.std.specs.Prelude.{◌≡◌, ◌++◌, IfOk, OnOk, flat_map, map, take};
-ghost use Rattle.mrp_page.specs.Page.{head_html, is_told, items_of, load_section, page_html, page_of, rest_html, told_first, top_html, untold_rows};
+ghost use Rattle.mrp_page.specs.Page.{head_html, is_told, items_of, page_html, page_of, rest_html, told_first, top_html, untold_rows};
 
+use crate::centres::put_centres;
 use crate::counts::Counts;
-use crate::draw::{put_centres, put_history, put_items, put_more_items};
+use crate::draw::{put_history, put_items, put_more_items};
 use crate::frame::heading;
 use crate::html::Html;
 use crate::item_rows::ItemRows;
@@ -81,20 +82,6 @@ fn told_first<'a>(
     let planned = leaders(alloc, plan)?;
     add_untold(&mut rows, planned.as_slice(), messages)?;
     Ok(rows)
-}
-
-// Adds the work centres.
-#[tactic(auto, unfolding(crate::specs::Page::load_section))]
-fn put_load_section(
-    alloc: Global,
-    page: &mut Html,
-    loads: &[Row],
-    missed: u64,
-) -> Result<(), NoMemory>
-    ensures { OnOk result (page.new ≡ page.old ++ load_section loads.now missed) }
-{
-    let centres = leaders(alloc, loads)?;
-    put_centres(alloc, page, loads, centres.as_slice(), missed)
 }
 
 // The first of these rows, as many as a page has room for.
@@ -183,7 +170,7 @@ fn put_page_of(
         messages: rows.messages(),
     };
     put_todo(alloc, page, tasks, counts.messages)?;
-    put_load_section(alloc, page, rows_in(report, Section::Loads), counts.loads)?;
+    put_centres(alloc, page, rows_in(report, Section::Loads), counts.loads)?;
     put_rest(alloc, page, &rows, counts, shown, notes.history())
 }
 

@@ -128,7 +128,7 @@ fn is_over(load: &Row) -> bool
 }
 
 // The weeks of work centres that are over their capacity.
-fn overloads<'a>(alloc: Global, loads: &'a [Row]) -> Result<Vec<&'a Row>, NoMemory>
+pub(crate) fn overloads<'a>(alloc: Global, loads: &'a [Row]) -> Result<Vec<&'a Row>, NoMemory>
     ensures { IfOk result (λ rows. map (λ r. r.now) rows.items ≡ overloads loads.now) }
 {
     let mut rows = Vec::new(alloc);

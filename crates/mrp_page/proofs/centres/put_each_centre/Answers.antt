@@ -1,8 +1,8 @@
 use Rattle.std.proofs.Common.{◌≡◌, ◌∙◌, ◌++◌, Bor, ap, arith, length}
-use Rattle.mrp_page.specs.Draw.{centre_html, each_centre}
+use Rattle.mrp_page.specs.Centres.{centre_html, each_centre}
 use Rattle.mrp_page.specs.Row.{RowView}
 use Rattle.mrp_page.proofs.Pieces.{flat_map-map, whole}
-use Rattle.mrp_page.proofs.draw.put_each_centre.Goals as goal
+use Rattle.mrp_page.proofs.centres.put_each_centre.Goals as goal
 
 pub returns : goal.returns
 unfolding each_centre
