@@ -29,3 +29,4 @@ pub mod Tiles
 pub mod FirstRows
 pub mod ShareOf
 pub mod Overloads
+pub mod PegLinks

@@ -12,7 +12,7 @@ use Rattle.mrp_page.specs.Kinds.{todo_html}
 use Rattle.mrp_page.specs.Layout.{page_end, page_top}
 use Rattle.mrp_page.specs.Notes.{Noted}
 use Rattle.mrp_page.specs.Centres.{load_section}
-use Rattle.mrp_page.specs.Page.{head_html, items_of, page_html, page_of, rest_html, shown_items, top_html}
+use Rattle.mrp_page.specs.Page.{head_html, items_of, page_html, page_of, rest_html, scene_in, shown_items, top_html}
 use Rattle.mrp_page.specs.Refused.{refused_section}
 use Rattle.mrp_page.specs.Row.{RowView, cell_at}
 use Rattle.mrp_page.specs.Rows.{rows_in}
@@ -78,9 +78,9 @@ ends title notes =
     let shown = shown_items (item_lists notes.report) in
     let sums = summary_html notes.history (rows_in s.Messages notes.report) (rows_in s.Loads notes.report) in
     let calls = refused_section shown notes.history notes.counts.history in
-    let todo = todo_html shown (rows_in s.Orders notes.report) (rows_in s.Messages notes.report) notes.counts.messages in
+    let todo = todo_html (scene_in notes) (rows_in s.Messages notes.report) notes.counts.messages in
     let loads = load_section (rows_in s.Loads notes.report) notes.counts.loads in
-    let items = items_of (item_lists notes.report) notes.counts shown in
+    let items = items_of (scene_in notes) (item_lists notes.report) notes.counts in
     let history = history_html notes.history notes.counts.history in
     let last = codes "</main>\n</body>\n" in (
       top ++ (sums ++ (calls ++ (todo ++ (loads ++ (items ++ (history ++ last)))))),

@@ -1,5 +1,5 @@
 -- Each message is in *To do* once, in the fold of its kind, with its order.
-use Rattle.std.proofs.Common.{◌≡◌, ◌∙◌, ◌<◌, ◌≤◌, ℕ, Option, Some, List, [], ◌∷◌, ◌++◌, codes, decimal, drop, get_or, length, take, arith, refl, sym, ap, append_assoc}
+use Rattle.std.proofs.Common.{◌≡◌, ◌∙◌, ◌<◌, ◌≤◌, ℕ, true, Option, Some, List, [], ◌∷◌, ◌++◌, codes, decimal, drop, get_or, length, take, arith, refl, sym, ap, append_assoc}
 use Rattle.std.specs.Prelude.{◌&&◌, IsPermutation}
 use Rattle.std.specs.List.{find, flat_map}
 use Rattle.std.proofs.lemmas.List.{append-nil}
@@ -9,15 +9,18 @@ use Rattle.mrp_page.specs.Draw.{item_name_html, more_html}
 use Rattle.mrp_page.specs.ItemRows.{ItemLists, item_lists}
 use Rattle.mrp_page.specs.Folded.{capped_html}
 use Rattle.mrp_page.specs.Frame.{count_row}
-use Rattle.mrp_page.specs.Kinds.{Kind, cancel, earlier, falling_rank, is_order_of, kind_html, kind_listing, kind_part, kinds, kinds_html, late, later, messages_of, note_html, order_html, other_messages, other_part, release, task_line, todo_back, todo_html, value_rank}
-use Rattle.mrp_page.specs.Layout.{cancel_open, in_open, late_open, order_start, order_week, out_open, release_open, rest_end, section_end, task_row, task_supply, todo_open}
+use Rattle.mrp_page.specs.Kinds.{Kind, cancel, earlier, falling_rank, kind_html, kind_listing, kind_part, kinds, kinds_html, late, later, messages_of, note_html, open_count, open_html, order_html, order_of, other_messages, other_part, release, task_line, todo_back, todo_html, value_rank}
+use Rattle.mrp_page.specs.Layout.{cancel_open, in_open, late_open, open_pieces, order_start, order_week, out_open, release_open, rest_end, section_end, task_middle, task_row, task_supply, todo_open}
 use Rattle.mrp_page.specs.Notes.{Noted}
 use Rattle.mrp_page.specs.Centres.{load_section}
-use Rattle.mrp_page.specs.Page.{page_html, page_of, rest_html, shown_items, top_html}
+use Rattle.mrp_page.specs.Page.{page_html, page_of, rest_html, scene_in, shown_items, top_html}
+use Rattle.mrp_page.specs.Html.{number_html}
+use Rattle.mrp_page.specs.Orders.{is_order, linked_html}
 use Rattle.mrp_page.specs.Refused.{refused_section}
 use Rattle.mrp_page.specs.Row.{RowView, cell_at, same_text}
 use Rattle.mrp_page.specs.Rows.{rows_in, rows_named}
 use Rattle.mrp_page.specs.Escaped.{escaped}
+use Rattle.mrp_page.specs.Scene.{SceneView}
 use Rattle.mrp_page.specs.Summary.{summary_html}
 use Rattle.mrp_page.specs.Template.{has_word, markup_if, number_at, row_html}
 use Rattle.mrp_page.specs.Todo.{by_urgency}
@@ -59,7 +62,7 @@ in-rises messages = sorted-non-decreasing value_rank (with_word 3 messages (code
 placed : (t u c o n k m r : List ℕ) → t ++ (u ++ (c ++ ((o ++ (n ++ (k ++ m))) ++ r))) ≡ (t ++ (u ++ (c ++ (o ++ n)))) ++ (k ++ (m ++ r))
 placed t u c o n k m r = simp append_assoc
 
-pub page-kinds : (title : List ℕ) (notes : Noted) → (front : List ℕ) × (back : List ℕ) × (page_html title notes ≡ front ++ (kinds_html (shown_items (item_lists notes.report)) (rows_in s.Orders notes.report) (rows_in s.Messages notes.report) ++ back))
+pub page-kinds : (title : List ℕ) (notes : Noted) → (front : List ℕ) × (back : List ℕ) × (page_html title notes ≡ front ++ (kinds_html (scene_in notes) (rows_in s.Messages notes.report) ++ back))
 unfolding page_html page_of todo_html todo_back
 page-kinds title notes =
     let lists : ItemLists = item_lists notes.report in
@@ -70,23 +73,23 @@ page-kinds title notes =
     let calls : List ℕ = refused_section shown notes.history notes.counts.history in
     let note : List ℕ = note_html messages notes.counts.messages in
     let last : List ℕ = more_html notes.counts.messages (codes "message, perhaps an urgent one, is") (codes "messages, urgent ones perhaps among them, are") ++ section_end in
-    let rest : List ℕ = load_section (rows_in s.Loads notes.report) notes.counts.loads ++ rest_html lists notes.counts shown notes.history in
-    (top ++ (sums ++ (calls ++ (todo_open ++ note))), last ++ rest, placed top sums calls todo_open note (kinds_html shown (rows_in s.Orders notes.report) messages) last rest)
+    let rest : List ℕ = load_section (rows_in s.Loads notes.report) notes.counts.loads ++ rest_html (scene_in notes) lists notes.counts in
+    (top ++ (sums ++ (calls ++ (todo_open ++ note))), last ++ rest, placed top sums calls todo_open note (kinds_html (scene_in notes) messages) last rest)
 
-pub kinds-are : (shown orders messages : List RowView) → kinds_html shown orders messages ≡ flat_map (kind_part shown orders messages) kinds ++ other_part shown orders messages
+pub kinds-are : (scene : SceneView) (messages : List RowView) → kinds_html scene messages ≡ flat_map (kind_part scene messages) kinds ++ other_part scene messages
 unfolding kinds_html
-kinds-are shown orders messages = sym (simp (append_assoc, append-nil))
+kinds-are scene messages = sym (simp (append_assoc, append-nil))
 
 -- the messages of a kind, one by one
-pub kind-lines : (kind : Kind) (shown orders : List RowView) (state : List ℕ) (r : RowView) (rows : List RowView) → (front : List ℕ) × (between : List ℕ) × (back : List ℕ) × (kind_html kind shown orders state (r ∷ rows)
-    ≡ row_html kind.head (count_row (length (r ∷ rows)) state state) ++ (front ++ (flat_map (task_line kind shown orders) (take SOME_ROWS (take MOST_LINES (r ∷ rows))) ++ (between ++ (flat_map (task_line kind shown orders) (drop SOME_ROWS (take MOST_LINES (r ∷ rows))) ++ back)))))
+pub kind-lines : (kind : Kind) (scene : SceneView) (state : List ℕ) (r : RowView) (rows : List RowView) → (front : List ℕ) × (between : List ℕ) × (back : List ℕ) × (kind_html kind scene state (r ∷ rows)
+    ≡ row_html kind.head (count_row (length (r ∷ rows)) state state) ++ (front ++ (flat_map (task_line kind scene) (take SOME_ROWS (take MOST_LINES (r ∷ rows))) ++ (between ++ (flat_map (task_line kind scene) (drop SOME_ROWS (take MOST_LINES (r ∷ rows))) ++ back)))))
 unfolding kind_html capped_html
-kind-lines kind shown orders state r rows =
+kind-lines kind scene state r rows =
     let kept : List RowView = take MOST_LINES (r ∷ rows) in
-    let line : RowView → List ℕ = task_line kind shown orders in
+    let line : RowView → List ℕ = task_line kind scene in
     let head : List ℕ = row_html kind.head (count_row (length (r ∷ rows)) state state) in
     let past : List ℕ = more_html (length (drop MOST_LINES (r ∷ rows))) (codes "is") (codes "are") in
-    let (front, between, back, is) = folded-is (kind_listing kind shown orders) SOME_ROWS kept in (
+    let (front, between, back, is) = folded-is (kind_listing kind scene) SOME_ROWS kept in (
       front,
       between,
       back ++ (past ++ rest_end),
@@ -97,14 +100,26 @@ kind-lines kind shown orders state r rows =
     ending h f l b n e p z = simp append_assoc
 
 -- the order that a message is about
-pub order-is : (kind : Kind) (shown orders : List RowView) (message order : RowView) → find (is_order_of message) (rows_named (cell_at message 0) orders) ≡ Some order
-    → task_line kind shown orders message ≡ task_row ++ (item_name_html shown (cell_at message 0) ++ (row_html task_supply message ++ (row_html kind.order order ++ row_html kind.value message)))
+pub order-is : (kind : Kind) (scene : SceneView) (message order : RowView) → order_of scene message ≡ Some order
+    → task_line kind scene message ≡ task_row ++ (item_name_html scene.shown (cell_at message 0) ++ (task_middle ++ (linked_html scene (Some order) (row_html task_supply message) ++ (codes "</td>" ++ (row_html kind.order order ++ row_html kind.value message)))))
 unfolding task_line
-order-is kind shown orders message order found = ap (λ (o : Option RowView). task_row ++ (item_name_html shown (cell_at message 0) ++ (row_html task_supply message ++ (order_html kind o ++ row_html kind.value message)))) found
+order-is kind scene message order found =
+    ap (λ (o : Option RowView). task_row ++ (item_name_html scene.shown (cell_at message 0) ++ (task_middle ++ (linked_html scene o (row_html task_supply message) ++ (codes "</td>" ++ (order_html kind scene message o ++ row_html kind.value message)))))) found
 
-pub order-of-is : (message order : RowView) → is_order_of message order
-    ≡ (same_text (cell_at order (column s.Orders (codes "item"))) (cell_at message (column s.Messages (codes "item"))) && (same_text (cell_at order (column s.Orders (codes "order"))) (cell_at message (column s.Messages (codes "source"))) && same_text (cell_at order (column s.Orders (codes "kind"))) (cell_at message (column s.Messages (codes "supply")))))
-order-of-is message order = refl
+pub order-of-is : (scene : SceneView) (message : RowView) → order_of scene message
+    ≡ find (is_order (cell_at message (column s.Messages (codes "item"))) (cell_at message (column s.Messages (codes "supply"))) (cell_at message (column s.Messages (codes "source")))) (rows_named (cell_at message (column s.Messages (codes "item"))) scene.orders)
+order-of-is scene message = refl
+
+pub is-order-is : (name kind number : List ℕ) (order : RowView) → is_order name kind number order
+    ≡ (same_text (cell_at order (column s.Orders (codes "item"))) name && (same_text (cell_at order (column s.Orders (codes "order"))) number && same_text (cell_at order (column s.Orders (codes "kind"))) kind))
+is-order-is name kind number order = refl
+
+-- the pieces of an open order are those of its pegs
+pub open-is : (scene : SceneView) (message : RowView) → scene.whole ≡ true → cell_at message (column s.Messages (codes "supply")) ≡ codes "open" → open_html scene message ≡ number_html (decimal (open_count scene message)) ++ (codes "<td></td><td></td>" ++ [])
+unfolding row_html open_pieces
+open-is scene message whole is =
+    let opened : has_word 1 (codes "open") message ≡ true = rw is refl in
+    rw (opened, whole) refl
 
 pub start-is : (order : RowView) → row_html order_start order ≡ number_at (column s.Orders (codes "quantity")) order ++ (number_at (column s.Orders (codes "start")) order ++ (number_at (column s.Orders (codes "due")) order ++ []))
 unfolding row_html order_start

@@ -7,7 +7,7 @@ use Rattle.mrp_page.specs.Escaped.{escaped}
 use Rattle.mrp_page.specs.Frame.{count_row, frame_of}
 use Rattle.mrp_page.specs.Html.{is_zero}
 use Rattle.mrp_page.specs.ItemRows.{ItemLists}
-use Rattle.mrp_page.specs.Layout.{available_label, balance_chart, balance_label, booked_label, entry, firm_label, grid_end, gross_label, history_end, history_open, item_head, item_tasks_end, item_tasks_open, later_open, link_end, link_middle, link_open, list_end, more, no_promises, no_record, order, orders_open, other_words, peg, pegs_open, planned_label, point, points_end, record_head, rest_end, scheduled_label, section_end, starts_label, task_head, task_words, week, weeks_end}
+use Rattle.mrp_page.specs.Layout.{available_label, balance_chart, balance_label, booked_label, entry, firm_label, grid_end, gross_label, history_end, history_open, item_tasks_end, item_tasks_open, later_open, link_end, link_middle, link_open, more, no_promises, no_record, order, other_words, peg, planned_label, point, points_end, record_head, rest_end, scheduled_label, starts_label, task_head, task_words, week, weeks_end}
 use Rattle.mrp_page.specs.Row.{RowView, cell_at, is_of}
 use Rattle.mrp_page.specs.Rows.{greatest, rows_named}
 use Rattle.mrp_page.specs.Template.{Drawn, flows_html, has_word, numbers_html, row_html, rows_html}
@@ -189,27 +189,10 @@ framed_record frame plan promises =
 unfoldable pub record_html : List ℕ → List RowView → List RowView → List ℕ
 record_html name plan promises = framed_record (frame_of name plan 7 7 (codes "1")) plan promises
 
--- the orders of an item, folded away
-unfoldable pub orders_html : List RowView → List ℕ
-orders_html orders =
-    table_html orders_open order orders list_end
-
--- the pegs of an item, folded away
-unfoldable pub pegs_html : List RowView → List ℕ
-pegs_html pegs =
-    table_html pegs_open peg pegs list_end
-
 -- the messages of the item that this is a row of
 unfoldable pub item_tasks : RowView → List RowView → List ℕ
 item_tasks leader messages =
     task_table item_tasks_open (leader ∷ []) messages item_tasks_end
-
--- what follows an item's record: its orders and its pegs
-unfoldable pub item_lists_html : ItemLists → List ℕ → List ℕ
-item_lists_html rows name =
-    orders_html (rows_named name rows.orders)
-    ++ (pegs_html (rows_named name rows.pegs)
-    ++ section_end)
 
 -- the record of an item, or a note that it is not kept
 unfoldable pub record_or_none : List ℕ → List RowView → List RowView → List ℕ
@@ -235,20 +218,6 @@ promises_note plan promises missed =
 unfoldable pub named_note : ItemLists → ℕ → List ℕ → List ℕ
 named_note rows missed name =
     promises_note (rows_named name rows.plan) (rows_named name rows.promises) missed
-
--- an item, by a row of it, given how many rows of promises are not kept
-unfoldable pub item_html : ItemLists → ℕ → RowView → List ℕ
-item_html rows missed leader =
-    row_html item_head leader
-    ++ (named_tasks rows leader
-    ++ (named_record rows (cell_at leader 0)
-    ++ (named_note rows missed (cell_at leader 0)
-    ++ item_lists_html rows (cell_at leader 0))))
-
--- items, by a row of each
-unfoldable pub items_html : ItemLists → ℕ → List RowView → List ℕ
-items_html rows missed leaders =
-    flat_map (item_html rows missed) leaders
 
 -- for how many more weeks there are records and promises
 unfoldable pub more_weeks : Counts → List ℕ

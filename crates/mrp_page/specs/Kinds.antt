@@ -1,6 +1,6 @@
 -- The section *To do*: the messages, kind by kind.
 use Rattle.std.specs.Prelude.{ℕ, Bool, List, [], ◌∷◌, ◌++◌, ◌==◌, ◌&&◌, ◌*◌, ◌-◌, ◌^◌, Option, None, Some, codes, length, map, nat_le, not, if◌then◌else◌}
-use Rattle.std.specs.List.{filter, find}
+use Rattle.std.specs.List.{filter}
 use Rattle.mrp_page.specs.declared.kinds.Kind.{Kind as Declared}
 use Rattle.mrp_page.specs.declared.kinds.Sorting.{Sorting}
 use Rattle.mrp_page.specs.declared.kinds.Sorting.TheVariants as sorts
@@ -9,9 +9,11 @@ use Rattle.mrp_page.specs.ByWord.{with_word}
 use Rattle.mrp_page.specs.Draw.{has_none, is_plain, item_name_html, more_html}
 use Rattle.mrp_page.specs.Folded.{Listing, capped_html}
 use Rattle.mrp_page.specs.Frame.{count_row}
-use Rattle.mrp_page.specs.Layout.{cancel_front, cancel_open, in_front, in_open, late_front, late_open, nothing_to_do, order_start, order_unknown, order_week, other_cells, other_front, other_open, out_front, out_open, release_front, release_open, rest_end, row_end, section_end, table_end, task_row, task_supply, to_week, todo_note, todo_open, weeks_late}
-use Rattle.mrp_page.specs.Row.{RowView, cell_at, is_of}
-use Rattle.mrp_page.specs.Rows.{rank, rows_named}
+use Rattle.mrp_page.specs.Layout.{cancel_front, cancel_open, in_front, in_open, late_front, late_open, nothing_to_do, open_pieces, order_start, order_unknown, order_week, other_cells, other_front, other_open, out_front, out_open, release_front, release_open, rest_end, row_end, section_end, table_end, task_middle, task_row, task_supply, to_week, todo_note, todo_open, weeks_late}
+use Rattle.mrp_page.specs.Orders.{linked_html, ordered, pieces_of}
+use Rattle.mrp_page.specs.Row.{RowView, cell_at}
+use Rattle.mrp_page.specs.Rows.{rank}
+use Rattle.mrp_page.specs.Scene.{SceneView}
 use Rattle.mrp_page.specs.Sorted.{sorted_by}
 use Rattle.mrp_page.specs.Template.{Drawn, drawn_of, has_word, row_html}
 
@@ -52,32 +54,43 @@ other = record { word = []; head = other_open; front = other_front; order = orde
 abbrev pub kinds : List Kind
 kinds = late ∷ release ∷ earlier ∷ later ∷ cancel ∷ []
 
--- a message is about this order: that of its item with its number and kind
-abbrev pub is_order_of : RowView → RowView → Bool
-is_order_of message order = is_of (cell_at message 0) order && (has_word 1 (cell_at message 2) order && has_word 2 (cell_at message 1) order)
+-- the order that a message is about, if it is kept: that of its item with its number and kind
+abbrev pub order_of : SceneView → RowView → Option RowView
+order_of scene message = ordered scene (cell_at message 0) (cell_at message 1) (cell_at message 2)
 
--- the cells of an order, or what stands in their place
-abbrev pub order_html : Kind → Option RowView → List ℕ
-order_html kind (Some order) = row_html kind.order order
-order_html kind None = order_unknown
+-- how many pieces the open order of a message has: those of its pegs
+abbrev pub open_count : SceneView → RowView → ℕ
+open_count scene message = pieces_of scene (cell_at message 0) (cell_at message 1) (cell_at message 2)
+
+-- the cells of an open order, if all pegs are kept, or what stands in their place
+abbrev pub open_html : SceneView → RowView → List ℕ
+open_html scene message =
+    if has_word 1 (codes "open") message && scene.whole then row_html open_pieces (count_row (open_count scene message) [] []) else order_unknown
+
+-- the cells of an order, or of an open one
+abbrev pub order_html : Kind → SceneView → RowView → Option RowView → List ℕ
+order_html kind scene message (Some order) = row_html kind.order order
+order_html kind scene message None = open_html scene message
 
 -- a message
-unfoldable pub task_line : Kind → List RowView → List RowView → RowView → List ℕ
-task_line kind shown orders message =
+unfoldable pub task_line : Kind → SceneView → RowView → List ℕ
+task_line kind scene message =
     task_row
-    ++ (item_name_html shown (cell_at message 0)
-    ++ (row_html task_supply message
-    ++ (order_html kind (find (is_order_of message) (rows_named (cell_at message 0) orders))
-    ++ row_html kind.value message)))
+    ++ (item_name_html scene.shown (cell_at message 0)
+    ++ (task_middle
+    ++ (linked_html scene (order_of scene message) (row_html task_supply message)
+    ++ (codes "</td>"
+    ++ (order_html kind scene message (order_of scene message)
+    ++ row_html kind.value message)))))
 
-abbrev pub kind_listing : Kind → List RowView → List RowView → Listing
-kind_listing kind shown orders = record { line = task_line kind shown orders; front = kind.front; back = table_end }
+abbrev pub kind_listing : Kind → SceneView → Listing
+kind_listing kind scene = record { line = task_line kind scene; front = kind.front; back = table_end }
 
 -- the messages of a kind, folded behind their number; nothing if there are none
-unfoldable pub kind_html : Kind → List RowView → List RowView → List ℕ → List RowView → List ℕ
-kind_html kind shown orders state rows =
+unfoldable pub kind_html : Kind → SceneView → List ℕ → List RowView → List ℕ
+kind_html kind scene state rows =
     if has_none rows then []
-    else row_html kind.head (count_row (length rows) state state) ++ (capped_html (kind_listing kind shown orders) SOME_ROWS rows ++ rest_end)
+    else row_html kind.head (count_row (length rows) state state) ++ (capped_html (kind_listing kind scene) SOME_ROWS rows ++ rest_end)
 
 -- whether the fold of a kind is open that is not always: if there are few messages
 abbrev pub state_of : List RowView → List ℕ
@@ -104,21 +117,21 @@ messages_of messages kind = in_order kind.sorting (with_word 3 messages kind.wor
 abbrev pub other_messages : List RowView → List RowView
 other_messages messages = filter (λ message. not (is_plain message)) messages
 
-unfoldable pub kind_part : List RowView → List RowView → List RowView → Kind → List ℕ
-kind_part shown orders messages kind = kind_html kind shown orders (state_of messages) (messages_of messages kind)
+unfoldable pub kind_part : SceneView → List RowView → Kind → List ℕ
+kind_part scene messages kind = kind_html kind scene (state_of messages) (messages_of messages kind)
 
-unfoldable pub other_part : List RowView → List RowView → List RowView → List ℕ
-other_part shown orders messages = kind_html other shown orders (state_of messages) (other_messages messages)
+unfoldable pub other_part : SceneView → List RowView → List ℕ
+other_part scene messages = kind_html other scene (state_of messages) (other_messages messages)
 
 -- the kinds of messages
-unfoldable pub kinds_html : List RowView → List RowView → List RowView → List ℕ
-kinds_html shown orders messages =
-    kind_part shown orders messages late
-    ++ (kind_part shown orders messages release
-    ++ (kind_part shown orders messages earlier
-    ++ (kind_part shown orders messages later
-    ++ (kind_part shown orders messages cancel
-    ++ other_part shown orders messages))))
+unfoldable pub kinds_html : SceneView → List RowView → List ℕ
+kinds_html scene messages =
+    kind_part scene messages late
+    ++ (kind_part scene messages release
+    ++ (kind_part scene messages earlier
+    ++ (kind_part scene messages later
+    ++ (kind_part scene messages cancel
+    ++ other_part scene messages))))
 
 -- what messages are; or that there are none, if all are kept
 abbrev pub note_html : List RowView → ℕ → List ℕ
@@ -131,9 +144,9 @@ todo_back missed =
     ++ section_end
 
 -- the section *To do*
-unfoldable pub todo_html : List RowView → List RowView → List RowView → ℕ → List ℕ
-todo_html shown orders messages missed =
+unfoldable pub todo_html : SceneView → List RowView → ℕ → List ℕ
+todo_html scene messages missed =
     todo_open
     ++ (note_html messages missed
-    ++ (kinds_html shown orders messages
+    ++ (kinds_html scene messages
     ++ todo_back missed))

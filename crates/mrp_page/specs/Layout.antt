@@ -64,10 +64,6 @@ link_open = codes "<a href=\"#i-"
 unfoldable pub link_middle : List ℕ
 link_middle = codes "\">"
 
--- what it ends with
-unfoldable pub link_end : List ℕ
-link_end = codes "</a>"
-
 -- a week of a table's heading
 unfoldable pub week : List Drawn
 week =
@@ -97,54 +93,6 @@ entry =
     Mark (codes "</td>") ∷
     Number 8 ∷
     Mark (codes "</tr>\n") ∷ []
-
--- an order
-unfoldable pub order : List Drawn
-order =
-    Mark (codes "<tr><th scope=row>") ∷
-    Text 1 ∷
-    Mark (codes "</th><td class=t>") ∷
-    Text 2 ∷
-    Mark (codes "</td>") ∷
-    Number 3 ∷
-    Number 4 ∷
-    Number 5 ∷
-    Number 6 ∷
-    Number 7 ∷
-    Mark (codes "</tr>\n") ∷ []
-
--- a peg: which supply serves which requirement
-unfoldable pub peg : List Drawn
-peg =
-    Mark (codes "<tr>") ∷
-    Number 1 ∷
-    Mark (codes "<th scope=row>") ∷
-    Where 2 (codes "booking") (codes "booking ") ∷
-    Where 2 (codes "forecast") (codes "forecast") ∷
-    Where 2 (codes "service") (codes "service part demand, master record ") ∷
-    Where 2 (codes "parent") (codes "order ") ∷
-    Where 2 (codes "surplus") (codes "surplus") ∷
-    Text 3 ∷
-    Where 2 (codes "parent") (codes " of ") ∷
-    Text 4 ∷
-    Where 2 (codes "parent") (codes ", bill line ") ∷
-    Text 5 ∷
-    Mark (codes "</th><td class=t>") ∷
-    Text 6 ∷
-    Mark (codes " ") ∷
-    Text 7 ∷
-    Mark (codes "</td>") ∷
-    Number 8 ∷
-    Mark (codes "</tr>\n") ∷ []
-
--- the heading of an item, with its name
-unfoldable pub item_head : List Drawn
-item_head =
-    Mark (codes "<section class=item id=\"i-") ∷
-    Text 0 ∷
-    Mark (codes "\">\n<h2>") ∷
-    Text 0 ∷
-    Mark (codes "</h2>\n") ∷ []
 
 -- a week and its balance
 unfoldable pub point : List Drawn
@@ -205,18 +153,6 @@ starts_label = codes "<tr><th scope=row>Order releases (starts)</th>"
 -- the label of a row
 unfoldable pub balance_label : List ℕ
 balance_label = codes "<tr class=strong><th scope=row>Projected available balance</th>"
-
--- what the orders of an item begin with
-unfoldable pub orders_open : List ℕ
-orders_open = codes "<details><summary>Orders</summary><div class=scroll tabindex=0 role=region aria-label=Orders><table class=list>\n<caption><span>Firm and planned orders</span></caption>\n<thead><tr><th class=t scope=col>Order</th><th class=t scope=col>Kind</th><th scope=col>Due week</th><th scope=col>Quantity</th><th scope=col>Starts</th><th scope=col>Release week</th><th scope=col>Weeks late (shop days from version 2 on)</th></tr></thead>\n<tbody>"
-
--- what the pegs of an item begin with
-unfoldable pub pegs_open : List ℕ
-pegs_open = codes "<details><summary>Where it goes (pegs)</summary><div class=scroll tabindex=0 role=region aria-label=Pegs><table class=list>\n<caption><span>Which supply serves which requirement</span></caption>\n<thead><tr><th scope=col>Week</th><th class=t scope=col>Requirement</th><th class=t scope=col>Supply</th><th scope=col>Pieces</th></tr></thead>\n<tbody>"
-
--- what orders and pegs end with
-unfoldable pub list_end : List ℕ
-list_end = codes "</tbody></table></div></details>\n"
 
 -- how many more are not shown, with the number and the words for it
 unfoldable pub more : List Drawn
@@ -353,15 +289,6 @@ other_front = codes "<table class=\"list even\" aria-label=\"Other messages\"><t
 unfoldable pub todo_open : List ℕ
 todo_open = codes "<section id=todo>\n<h2>To do</h2>\n"
 
--- the supply that a message is about
-unfoldable pub task_supply : List Drawn
-task_supply =
-    Mark (codes "</th><td class=t>") ∷
-    Text 1 ∷
-    Mark (codes " ") ∷
-    Text 2 ∷
-    Mark (codes "</td>") ∷ []
-
 -- the pieces, the start and the due week of an order
 unfoldable pub order_start : List Drawn
 order_start =
@@ -456,10 +383,6 @@ other_open =
 -- what the counts of a page stand in
 unfoldable pub summary_open : List ℕ
 summary_open = codes "<p class=sum>"
-
--- what comes between the head of a page and its parts: links to these
-unfoldable pub main_open : List ℕ
-main_open = codes "</p>\n</header>\n<nav><a href=\"#unkept\">Not promised</a><a href=\"#todo\">To do</a><a href=\"#centres\">Work centres</a><a href=\"#history\">History</a></nav>\n<main>\n"
 
 -- a count that leads to a part of the page
 unfoldable pub summary_tile : List Drawn
@@ -685,3 +608,174 @@ balance_chart =
     Mark (codes "</title><path class=zero d=\"M.5 0h") ∷
     Text 1 ∷
     Mark (codes "\"/><polyline transform=\"scale(1 -1)\" points=\"") ∷ []
+
+-- what a link to an order begins with, before its number
+unfoldable pub order_address : List ℕ
+order_address = codes "<a href=\"#o-"
+
+-- what comes between the item of a message and its supply
+unfoldable pub task_middle : List ℕ
+task_middle = codes "</th><td class=t>"
+
+-- the supply that a message is about
+unfoldable pub task_supply : List Drawn
+task_supply =
+    Text 1 ∷
+    Mark (codes " ") ∷
+    Text 2 ∷ []
+
+-- the pieces of an open order
+unfoldable pub open_pieces : List Drawn
+open_pieces =
+    Number 0 ∷
+    Mark (codes "<td></td><td></td>") ∷ []
+
+-- an order
+unfoldable pub order : List Drawn
+order =
+    Mark (codes "<tr id=\"o-") ∷
+    Text 1 ∷
+    Mark (codes "-") ∷
+    Text 0 ∷
+    Mark (codes "\"><th scope=row>") ∷
+    Text 1 ∷
+    Mark (codes "</th><td class=t>") ∷
+    Text 2 ∷
+    Mark (codes "</td>") ∷
+    Number 3 ∷
+    Number 4 ∷
+    Number 5 ∷
+    Number 6 ∷
+    Number 7 ∷
+    Mark (codes "</tr>\n") ∷ []
+
+-- the heading of an item, with its name
+unfoldable pub item_head : List Drawn
+item_head =
+    Mark (codes "<section class=item id=\"i-") ∷
+    Text 0 ∷
+    Mark (codes "\">\n<h2>") ∷
+    Text 0 ∷
+    Mark (codes "<a href=\"#items\">all items</a><a href=\"#todo\">to do</a></h2>\n") ∷ []
+
+-- what the index of the items begins with
+unfoldable pub items_open : List ℕ
+items_open = codes "<section id=items>\n<h2>Items</h2>\n<ul class=index>\n"
+
+-- what the index of the items ends with
+unfoldable pub items_end : List ℕ
+items_end = codes "</ul>\n</section>\n"
+
+-- what an item of the index begins with
+unfoldable pub index_open : List ℕ
+index_open = codes "<li>"
+
+-- how many messages an item has
+unfoldable pub index_count : List Drawn
+index_count =
+    Mark (codes " <small>") ∷
+    Text 0 ∷
+    Mark (codes "</small>") ∷ []
+
+-- what an item of the index ends with
+unfoldable pub index_end : List ℕ
+index_end = codes "</li>\n"
+
+-- what the orders and pegs of an item are folded behind
+unfoldable pub lists_open : List ℕ
+lists_open = codes "<details><summary>Orders and pegs</summary>\n"
+
+-- what the orders of an item begin with
+unfoldable pub orders_open : List ℕ
+orders_open = codes "<div class=scroll tabindex=0 role=region aria-label=Orders><table class=list>\n<caption><span>Firm and planned orders</span></caption>\n<thead><tr><th class=t scope=col>Order</th><th class=t scope=col>Kind</th><th scope=col>Due week</th><th scope=col>Quantity</th><th scope=col>Starts</th><th scope=col>Release week</th><th scope=col>Weeks late (shop days from version 2 on)</th></tr></thead>\n<tbody>"
+
+-- what the pegs of an item begin with
+unfoldable pub pegs_open : List ℕ
+pegs_open = codes "<div class=scroll tabindex=0 role=region aria-label=\"Where it goes\"><table class=list>\n<caption><span>Where it goes: which supply serves which requirement</span></caption>\n<thead><tr><th class=t scope=col>Supply</th><th scope=col>Pieces</th><th class=t scope=col>Requirement</th><th scope=col>Week</th></tr></thead>\n<tbody>"
+
+-- what a peg begins with, before its supply
+unfoldable pub peg_front : List ℕ
+peg_front = codes "<tr><th scope=row>"
+
+-- the supply of a peg
+unfoldable pub peg_supply : List Drawn
+peg_supply =
+    Text 6 ∷
+    Mark (codes " ") ∷
+    Text 7 ∷ []
+
+-- the pieces of a peg, before its requirement
+unfoldable pub peg_middle : List Drawn
+peg_middle =
+    Mark (codes "</th>") ∷
+    Number 8 ∷
+    Mark (codes "<td class=t>") ∷ []
+
+-- what stands before the number of a booking
+unfoldable pub peg_booking : List ℕ
+peg_booking = codes "booking "
+
+-- the order of a parent that a peg is for
+unfoldable pub peg_parent : List Drawn
+peg_parent =
+    Mark (codes "order ") ∷
+    Text 3 ∷
+    Mark (codes " of ") ∷
+    Text 4 ∷ []
+
+-- any other requirement of a peg
+unfoldable pub peg_need : List Drawn
+peg_need =
+    Where 2 (codes "forecast") (codes "forecast") ∷
+    Where 2 (codes "service") (codes "service part demand, master record ") ∷
+    Where 2 (codes "surplus") (codes "left over") ∷
+    Text 3 ∷ []
+
+-- the week of a peg
+unfoldable pub peg_back : List Drawn
+peg_back =
+    Where 2 (codes "parent") (codes ", bill line ") ∷
+    Text 5 ∷
+    Mark (codes "</td>") ∷
+    Number 1 ∷
+    Mark (codes "</tr>\n") ∷ []
+
+-- the order that waits for a component
+unfoldable pub wait_order : List Drawn
+wait_order =
+    Mark (codes "order ") ∷
+    Text 3 ∷ []
+
+-- the pieces that it waits for
+unfoldable pub wait_middle : List Drawn
+wait_middle =
+    Mark (codes "</th>") ∷
+    Number 8 ∷
+    Mark (codes "<td class=t>") ∷ []
+
+-- what comes between a component and its supply
+unfoldable pub wait_supply : List ℕ
+wait_supply = codes "</td><td class=t>"
+
+-- how late the supply of a component is
+unfoldable pub wait_late : List Drawn
+wait_late =
+    Mark (codes "</td>") ∷
+    Number 7 ∷
+    Mark (codes "</tr>\n") ∷ []
+
+-- what a component ends with whose supply is no firm or planned order
+unfoldable pub wait_end : List ℕ
+wait_end = codes "</td><td></td></tr>\n"
+
+-- what the components that an item's orders wait for begin with
+unfoldable pub waits_open : List ℕ
+waits_open = codes "<div class=scroll tabindex=0 role=region aria-label=\"What its orders wait for\"><table class=\"list waits\">\n<caption><span>What its orders wait for</span></caption>\n<thead><tr><th class=t scope=col>Order</th><th scope=col>Pieces</th><th class=t scope=col>Component</th><th class=t scope=col>Supply</th><th scope=col>Weeks late</th></tr></thead>\n<tbody>"
+
+-- what comes between the head of a page and its parts: links to these
+unfoldable pub main_open : List ℕ
+main_open = codes "</p>\n</header>\n<nav><a href=\"#unkept\">Not promised</a><a href=\"#todo\">To do</a><a href=\"#centres\">Work centres</a><a href=\"#items\">Items</a><a href=\"#history\">History</a></nav>\n<main>\n"
+
+-- what it ends with
+unfoldable pub link_end : List ℕ
+link_end = codes "</a>"

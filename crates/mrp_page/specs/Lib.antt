@@ -10,6 +10,7 @@ pub mod Folded
 pub mod Frame
 pub mod Html
 pub mod ItemRows
+pub mod Items
 pub mod Kinds
 pub mod Known
 pub mod Labels
@@ -17,6 +18,7 @@ pub mod Laws
 pub mod Layout
 pub mod Names
 pub mod Notes
+pub mod Orders
 pub mod Page
 pub mod Pictures
 pub mod Places
@@ -24,6 +26,7 @@ pub mod Reading
 pub mod Refused
 pub mod Row
 pub mod Rows
+pub mod Scene
 pub mod Section
 pub mod Shares
 pub mod Shown

@@ -1,7 +1,7 @@
 //! Drawing the parts of a page.
 
 ghost use Rattle.std.specs.Prelude.{◌≡◌, ◌++◌, OnOk, drop, map, take};
-ghost use Rattle.mrp_page.specs.Draw.{all_weeks, amounts_html, balance_html, booked_html, framed_record, has_firm, has_item, history_html, is_plain, is_scheduled, item_html, item_lists_html, item_name_html, item_tasks, items_html, later_record, link_html, measure_html, more_html, more_items, more_lists, more_rows, more_weeks, named_note, named_record, named_tasks, orders_html, other_if, other_tasks, pegs_html, planned_html, points_html, promised_html, promises_note, record_html, record_or_none, record_rows, record_table, supplies_html, table_html, task_html, task_if, task_table, tasks_html, tasks_with, weeks_html};
+ghost use Rattle.mrp_page.specs.Draw.{all_weeks, amounts_html, balance_html, booked_html, framed_record, has_firm, has_item, history_html, is_plain, is_scheduled, item_name_html, item_tasks, later_record, link_html, measure_html, more_html, more_items, more_lists, more_rows, more_weeks, named_note, named_record, named_tasks, other_if, other_tasks, planned_html, points_html, promised_html, promises_note, record_html, record_or_none, record_rows, record_table, supplies_html, table_html, task_html, task_if, task_table, tasks_html, tasks_with, weeks_html};
 ghost use Rattle.std.specs.List.{list_any};
 ghost use Rattle.mrp_page.specs.Row.{is_of};
 ghost use Rattle.mrp_page.specs.Template.{drawn_of};
@@ -12,10 +12,10 @@ use crate::html::{Html, is_zero};
 use crate::item_rows::ItemRows;
 use crate::layout::{
     available_label, balance_chart, balance_label, booked_label, entry, firm_label, grid_end,
-    gross_label, history_end, history_open, item_head, item_tasks_end, item_tasks_open, later_open,
-    link_end, link_middle, link_open, list_end, more, no_promises, no_record, order, orders_open,
-    other_words, peg, pegs_open, planned_label, point, points_end, record_head, rest_end,
-    scheduled_label, section_end, starts_label, task_head, task_words, week, weeks_end,
+    gross_label, history_end, history_open, item_tasks_end, item_tasks_open, later_open, link_end,
+    link_middle, link_open, more, no_promises, no_record, other_words, planned_label, point,
+    points_end, record_head, rest_end, scheduled_label, starts_label, task_head, task_words, week,
+    weeks_end,
 };
 use crate::limits::TABLE_WEEKS;
 use crate::row::Row;
@@ -62,7 +62,7 @@ fn put_amounts(page: &mut Html, label: &[u8], column: usize, rows: &[Row]) -> Re
 
 // Adds a name that links to its item on the same page.
 #[tactic(auto, unfolding(crate::specs::Draw::link_html))]
-fn put_link(page: &mut Html, name: &[u8]) -> Result<(), NoMemory>
+pub(crate) fn put_link(page: &mut Html, name: &[u8]) -> Result<(), NoMemory>
     ensures { OnOk result (page.new ≡ page.old ++ link_html name.now) }
 {
     page.markup(link_open())?;
@@ -80,7 +80,7 @@ fn is_one_of(shown: &[&Row], name: &[u8]) -> bool
 }
 
 // Whether this item is among those of these rows.
-fn has_item(shown: &[&Row], name: &[u8]) -> bool
+pub(crate) fn has_item(shown: &[&Row], name: &[u8]) -> bool
     ensures { result ≡ has_item (map (λ r. r.now) shown.now) name.now }
 {
     is_one_of(shown, name)
@@ -404,22 +404,6 @@ fn put_record(
     put_framed_record(page, &frame, plan, promises)
 }
 
-// Adds the orders of an item, folded away.
-#[tactic(auto, unfolding(crate::specs::Draw::orders_html))]
-fn put_orders(page: &mut Html, orders: &[Row]) -> Result<(), NoMemory>
-    ensures { OnOk result (page.new ≡ page.old ++ orders_html orders.now) }
-{
-    put_table(page, orders_open(), order(), orders, list_end())
-}
-
-// Adds the pegs of an item, folded away.
-#[tactic(auto, unfolding(crate::specs::Draw::pegs_html))]
-fn put_pegs(page: &mut Html, pegs: &[Row]) -> Result<(), NoMemory>
-    ensures { OnOk result (page.new ≡ page.old ++ pegs_html pegs.now) }
-{
-    put_table(page, pegs_open(), peg(), pegs, list_end())
-}
-
 // Adds the messages of the item that this is a row of.
 #[tactic(auto, unfolding(crate::specs::Draw::item_tasks))]
 fn put_item_tasks(page: &mut Html, leader: &Row, messages: &[Row]) -> Result<(), NoMemory>
@@ -432,16 +416,6 @@ fn put_item_tasks(page: &mut Html, leader: &Row, messages: &[Row]) -> Result<(),
         messages,
         item_tasks_end(),
     )
-}
-
-// Adds what follows an item's record: its orders and its pegs.
-#[tactic(auto, unfolding(crate::specs::Draw::item_lists_html))]
-fn put_item_lists(page: &mut Html, rows: &ItemRows<'_>, name: &[u8]) -> Result<(), NoMemory>
-    ensures { OnOk result (page.new ≡ page.old ++ item_lists_html rows.now name.now) }
-{
-    put_orders(page, rows_named(rows.orders(), name))?;
-    put_pegs(page, rows_named(rows.pegs(), name))?;
-    page.markup(section_end())
 }
 
 // Adds the record of an item, or a note that it is not kept.
@@ -464,7 +438,7 @@ fn put_record_or_none(
 
 // Adds the record of an item, by its name.
 #[tactic(auto, unfolding(crate::specs::Draw::named_record))]
-fn put_named_record(
+pub(crate) fn put_named_record(
     alloc: Global,
     page: &mut Html,
     rows: &ItemRows<'_>,
@@ -483,7 +457,7 @@ fn put_named_record(
 
 // Adds the messages of an item, given a row of the item.
 #[tactic(auto, unfolding(crate::specs::Draw::named_tasks))]
-fn put_named_tasks(page: &mut Html, rows: &ItemRows<'_>, leader: &Row) -> Result<(), NoMemory>
+pub(crate) fn put_named_tasks(page: &mut Html, rows: &ItemRows<'_>, leader: &Row) -> Result<(), NoMemory>
     ensures { OnOk result (page.new ≡ page.old ++ named_tasks rows.now leader.now) }
 {
     put_item_tasks(page, leader, rows_named(rows.messages(), leader.name()))
@@ -507,7 +481,7 @@ fn put_promises_note(
 
 // Adds the note on an item's promises, by its name.
 #[tactic(auto, unfolding(crate::specs::Draw::named_note))]
-fn put_named_note(
+pub(crate) fn put_named_note(
     page: &mut Html,
     rows: &ItemRows<'_>,
     missed: u64,
@@ -517,41 +491,6 @@ fn put_named_note(
 {
     let plan = rows_named(rows.plan(), name);
     put_promises_note(page, plan, rows_named(rows.promises(), name), missed)
-}
-
-// Adds an item, given how many rows of promises are not kept.
-#[tactic(auto, unfolding(crate::specs::Draw::item_html))]
-fn put_item(
-    alloc: Global,
-    page: &mut Html,
-    rows: &ItemRows<'_>,
-    missed: u64,
-    leader: &Row,
-) -> Result<(), NoMemory>
-    ensures { OnOk result (page.new ≡ page.old ++ item_html rows.now missed leader.now) }
-{
-    let name = leader.name();
-    put_row(page, item_head(), leader)?;
-    put_named_tasks(page, rows, leader)?;
-    put_named_record(alloc, page, rows, name)?;
-    put_named_note(page, rows, missed, name)?;
-    put_item_lists(page, rows, name)
-}
-
-// Adds items.
-pub(crate) fn put_items(
-    alloc: Global,
-    page: &mut Html,
-    rows: &ItemRows<'_>,
-    missed: u64,
-    leaders: &[&Row],
-) -> Result<(), NoMemory>
-    ensures { OnOk result (page.new ≡ page.old ++ items_html rows.now missed (map (λ r. r.now) leaders.now)) }
-{
-    for leader in leaders {
-        put_item(alloc, page, rows, missed, *leader)?;
-    }
-    Ok(())
 }
 
 // Adds for how many more weeks there are records and promises.

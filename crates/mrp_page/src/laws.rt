@@ -5,26 +5,30 @@ ghost use Rattle.mrp_page.specs.Centres.{all_loads, bars_html, later_loads, load
 ghost use Rattle.mrp_page.specs.Shares.{overloads_first, share, share_of, share_row, week_rank};
 ghost use Rattle.mrp_qty.specs.Minutes.{minutes_text_of};
 ghost use Rattle.mrp_page.specs.Amounts.{amount};
+ghost use Rattle.mrp_page.specs.Items.{item_html, item_lists_html, items_html, need_html, orders_html, peg_html, pegs_html, wait_html, waits_html, waits_of};
+ghost use Rattle.mrp_page.specs.Orders.{is_order, linked_html, numbered, order_link};
+ghost use Rattle.mrp_page.specs.Scene.{SceneView};
+ghost use Rattle.mrp_page.specs.Html.{number_html};
 ghost use Rattle.mrp_page.specs.ByWord.{has_one_of, with_word};
 ghost use Rattle.mrp_page.specs.Columns.{column};
 ghost use Rattle.mrp_page.specs.Counted.{kept_of, missed_of, wanted_rows};
-ghost use Rattle.mrp_page.specs.Draw.{all_weeks, amounts_html, balance_html, bars_html, booked_html, framed_record, is_scheduled, item_html, item_name_html, items_html, later_record, link_html, loads_html, measure_html, more_html, named_record, named_tasks, planned_html, points_html, promised_html, record_or_none, record_rows, record_table, supplies_html};
+ghost use Rattle.mrp_page.specs.Draw.{all_weeks, amounts_html, balance_html, booked_html, framed_record, has_item, is_scheduled, item_name_html, later_record, link_html, measure_html, more_html, named_record, named_tasks, planned_html, points_html, promised_html, record_or_none, record_rows, record_table, supplies_html};
 ghost use Rattle.mrp_page.specs.Escaped.{escaped};
 ghost use Rattle.mrp_page.specs.Folded.{Listing, capped_html, folded_html, hidden_html, listed_html};
 ghost use Rattle.mrp_page.specs.ItemRows.{ItemLists, item_lists};
-ghost use Rattle.mrp_page.specs.Known.{IsKnown, IsMadeOf, entries_kept, names_shown};
+ghost use Rattle.mrp_page.specs.Known.{IsKnown, IsMadeOf, IsOrderShown, entries_kept, names_shown};
 ghost use Rattle.mrp_page.specs.Labels.{AreFirm};
 ghost use Rattle.mrp_page.specs.Laws.{piece_html, pieces, shown};
-ghost use Rattle.mrp_page.specs.Layout.{above_bar, above_end, available_label, balance_label, booked_label, capacity_label, cut_bar, firm_label, grid_end, gross_label, hot_bar, hot_end, item_tasks_end, item_tasks_open, later_open, load_label, low_bar, low_end, none_refused, order_start, order_week, other_words, over_label, over_open, planned_label, points_end, refused_answer, refused_open, rest_end, scheduled_label, section_end, starts_label, task_row, task_supply, task_words};
+ghost use Rattle.mrp_page.specs.Layout.{above_bar, above_end, available_label, balance_label, booked_label, capacity_label, cut_bar, firm_label, grid_end, gross_label, hot_bar, hot_end, item_tasks_end, item_tasks_open, later_open, lists_open, load_label, low_bar, low_end, none_refused, order, order_start, order_week, orders_open, other_words, over_label, over_open, peg_parent, pegs_open, planned_label, points_end, refused_answer, refused_open, rest_end, scheduled_label, section_end, starts_label, task_middle, task_row, task_supply, task_words, waits_open};
 ghost use Rattle.mrp_page.specs.Frame.{count_row};
-ghost use Rattle.mrp_page.specs.Kinds.{Kind, cancel, earlier, is_order_of, kind_html, kind_part, kinds, kinds_html, late, later, messages_of, other_messages, other_part, release, task_line, value_rank};
+ghost use Rattle.mrp_page.specs.Kinds.{Kind, cancel, earlier, kind_html, kind_part, kinds, kinds_html, late, later, messages_of, open_count, open_html, order_of, other_messages, other_part, release, task_line, value_rank};
 ghost use Rattle.std.specs.List.Sorted.{IsNonDecreasingBy};
 ghost use Rattle.mrp_page.specs.Rows.{rank};
 ghost use Rattle.mrp_page.specs.Notes.{Noted, notes_of};
-ghost use Rattle.mrp_page.specs.Page.{page_html, shown_items};
+ghost use Rattle.mrp_page.specs.Page.{page_html, scene_in, shown_items};
 ghost use Rattle.mrp_page.specs.Pictures.{drawn_balance};
 ghost use Rattle.mrp_page.specs.Reading.{IsDayOf};
-ghost use Rattle.mrp_page.specs.Refused.{asked_of, is_booking, refusals, refused_html, refused_rows, refused_section};
+ghost use Rattle.mrp_page.specs.Refused.{asked_of, entry_name_html, is_booking, refusals, refused_html, refused_rows, refused_section};
 ghost use Rattle.mrp_page.specs.Row.{Cells, RowView, cell_at, same_text};
 ghost use Rattle.mrp_page.specs.Rows.{rows_in, rows_named};
 ghost use Rattle.mrp_page.specs.Section.{place_of};
@@ -68,10 +72,11 @@ pub fn rows_are_kept_or_counted()
 
 /// A page consists of fixed markup, which is the same for every day, and of escaped texts that are known:
 /// each is the title, a cell of a record of the day, the number of items, of what is folded or of what is not
-/// shown, or the word for that. Its only links to items and entries are names of items that are shown, each to
-/// its item, and numbers of entries that are kept of the history, each to its entry.
+/// shown, or the word for that. Its only links to items, entries and orders are names of items that are shown,
+/// each to its item, numbers of entries that are kept of the history, each to its entry, and links to orders
+/// that are on the page.
 pub fn pages_show_what_is_known()
-    ensures { (title : List ℕ) (items : Names) (asked : Option ℕ) (records : List Cells) → IsMadeOf (IsKnown title records (notes_of items asked records)) (Contains (names_shown (notes_of items asked records))) (Contains (entries_kept (notes_of items asked records))) (page_html title (notes_of items asked records)) }
+    ensures { (title : List ℕ) (items : Names) (asked : Option ℕ) (records : List Cells) → IsMadeOf (IsKnown title records (notes_of items asked records)) (Contains (names_shown (notes_of items asked records))) (Contains (entries_kept (notes_of items asked records))) (IsOrderShown (notes_of items asked records)) (page_html title (notes_of items asked records)) }
 {}
 
 /// An item's time-phased record shows its rows of the sections `plan` and `promises`. The numbers next to
@@ -142,9 +147,9 @@ pub fn supplies_have_one_label()
 /// shows.
 pub fn messages_stand_once()
     ensures once { (messages : List RowView) → IsPermutation messages (flat_map (messages_of messages) kinds ++ other_messages messages) }
-    ensures todo { (title : List ℕ) (notes : Noted) → (front : List ℕ) × (back : List ℕ) × (page_html title notes ≡ front ++ (kinds_html (shown_items (item_lists notes.report)) (rows_in section.Orders notes.report) (rows_in section.Messages notes.report) ++ back)) }
-    ensures kinds { (shown orders messages : List RowView) → kinds_html shown orders messages ≡ flat_map (kind_part shown orders messages) kinds ++ other_part shown orders messages }
-    ensures kind { (kind : Kind) (shown orders : List RowView) (state : List ℕ) (r : RowView) (rows : List RowView) → (front : List ℕ) × (between : List ℕ) × (back : List ℕ) × (kind_html kind shown orders state (r ∷ rows) ≡ row_html kind.head (count_row (length (r ∷ rows)) state state) ++ (front ++ (flat_map (task_line kind shown orders) (take SOME_ROWS (take MOST_LINES (r ∷ rows))) ++ (between ++ (flat_map (task_line kind shown orders) (drop SOME_ROWS (take MOST_LINES (r ∷ rows))) ++ back))))) }
+    ensures todo { (title : List ℕ) (notes : Noted) → (front : List ℕ) × (back : List ℕ) × (page_html title notes ≡ front ++ (kinds_html (scene_in notes) (rows_in section.Messages notes.report) ++ back)) }
+    ensures kinds { (scene : SceneView) (messages : List RowView) → kinds_html scene messages ≡ flat_map (kind_part scene messages) kinds ++ other_part scene messages }
+    ensures kind { (kind : Kind) (scene : SceneView) (state : List ℕ) (r : RowView) (rows : List RowView) → (front : List ℕ) × (between : List ℕ) × (back : List ℕ) × (kind_html kind scene state (r ∷ rows) ≡ row_html kind.head (count_row (length (r ∷ rows)) state state) ++ (front ++ (flat_map (task_line kind scene) (take SOME_ROWS (take MOST_LINES (r ∷ rows))) ++ (between ++ (flat_map (task_line kind scene) (drop SOME_ROWS (take MOST_LINES (r ∷ rows))) ++ back))))) }
     ensures urgency { (messages : List RowView) → IsPermutation messages (by_urgency messages) }
     ensures item { (rows : ItemLists) (leader : RowView) → named_tasks rows leader ≡ item_tasks_open ++ (flat_map (message_html (leader ∷ [])) (by_urgency (rows_named (cell_at leader 0) rows.messages)) ++ item_tasks_end) }
 {}
@@ -159,10 +164,12 @@ pub fn kinds_have_their_words()
 {}
 
 /// The pieces, the start and the week of a message in *To do* are those of the first kept order of its item
-/// with its number and kind.
+/// with its number and kind; those of an open order are what its pegs have together, if all pegs are kept.
 pub fn messages_have_their_orders()
-    ensures order { (kind : Kind) (shown orders : List RowView) (message order : RowView) → find (is_order_of message) (rows_named (cell_at message 0) orders) ≡ Some order → task_line kind shown orders message ≡ task_row ++ (item_name_html shown (cell_at message 0) ++ (row_html task_supply message ++ (row_html kind.order order ++ row_html kind.value message))) }
-    ensures same { (message order : RowView) → is_order_of message order ≡ (same_text (cell_at order (column section.Orders (codes "item"))) (cell_at message (column section.Messages (codes "item"))) && (same_text (cell_at order (column section.Orders (codes "order"))) (cell_at message (column section.Messages (codes "source"))) && same_text (cell_at order (column section.Orders (codes "kind"))) (cell_at message (column section.Messages (codes "supply"))))) }
+    ensures order { (kind : Kind) (scene : SceneView) (message order : RowView) → order_of scene message ≡ Some order → task_line kind scene message ≡ task_row ++ (item_name_html scene.shown (cell_at message 0) ++ (task_middle ++ (linked_html scene (Some order) (row_html task_supply message) ++ (codes "</td>" ++ (row_html kind.order order ++ row_html kind.value message))))) }
+    ensures found { (scene : SceneView) (message : RowView) → order_of scene message ≡ find (is_order (cell_at message (column section.Messages (codes "item"))) (cell_at message (column section.Messages (codes "supply"))) (cell_at message (column section.Messages (codes "source")))) (rows_named (cell_at message (column section.Messages (codes "item"))) scene.orders) }
+    ensures same { (name kind number : List ℕ) (order : RowView) → is_order name kind number order ≡ (same_text (cell_at order (column section.Orders (codes "item"))) name && (same_text (cell_at order (column section.Orders (codes "order"))) number && same_text (cell_at order (column section.Orders (codes "kind"))) kind)) }
+    ensures open { (scene : SceneView) (message : RowView) → scene.whole ≡ true → cell_at message (column section.Messages (codes "supply")) ≡ codes "open" → open_html scene message ≡ number_html (decimal (open_count scene message)) ++ (codes "<td></td><td></td>" ++ []) }
     ensures start { (order : RowView) → row_html order_start order ≡ number_at (column section.Orders (codes "quantity")) order ++ (number_at (column section.Orders (codes "start")) order ++ (number_at (column section.Orders (codes "due")) order ++ [])) }
     ensures week { (order : RowView) → row_html order_week order ≡ number_at (column section.Orders (codes "quantity")) order ++ (codes "<td></td>" ++ (number_at (column section.Orders (codes "due")) order ++ [])) }
 {}
@@ -178,10 +185,26 @@ pub fn messages_stand_under_their_words()
     ensures another { (message : RowView) → row_html other_words message ≡ said_of_another message }
 {}
 
-/// A link to an item leads to where that item's part of the page begins.
+/// A link to an item leads to where that item's part of the page begins, and one to an order to where the
+/// order stands among those of its item.
 pub fn links_lead_to_items()
     ensures link { (name : List ℕ) → link_html name ≡ codes "<a href=\"#i-" ++ (escaped name ++ (codes "\">" ++ (escaped name ++ codes "</a>"))) }
-    ensures item { (rows : ItemLists) (missed : ℕ) (leader : RowView) → (rest : List ℕ) × (item_html rows missed leader ≡ codes "<section class=item id=\"i-" ++ (escaped (cell_at leader 0) ++ (codes "\">" ++ rest))) }
+    ensures item { (scene : SceneView) (rows : ItemLists) (missed : ℕ) (leader : RowView) → (rest : List ℕ) × (item_html scene rows missed leader ≡ codes "<section class=item id=\"i-" ++ (escaped (cell_at leader 0) ++ (codes "\">" ++ rest))) }
+    ensures order_link { (number name : List ℕ) → order_link number name ≡ codes "<a href=\"#o-" ++ (escaped number ++ (codes "-" ++ (escaped name ++ codes "\">"))) }
+    ensures order { (row : RowView) → (rest : List ℕ) × (row_html order row ≡ codes "<tr id=\"o-" ++ (escaped (cell_at row 1) ++ (codes "-" ++ (escaped (cell_at row 0) ++ (codes "\">" ++ rest))))) }
+    ensures orders { (rows : List RowView) → orders_html rows ≡ orders_open ++ (flat_map (row_html order) rows ++ grid_end) }
+    ensures lists { (scene : SceneView) (name : List ℕ) → (rest : List ℕ) × (item_lists_html scene name ≡ lists_open ++ (orders_html (rows_named name scene.orders) ++ rest)) }
+{}
+
+/// Each peg of an item stands once under *Where it goes*. A peg to an order of a parent leads to that order,
+/// and stands once more among what the orders of that parent wait for, if the parent is shown.
+pub fn pegs_lead_both_ways()
+    ensures goes { (scene : SceneView) (pegs : List RowView) → pegs_html scene pegs ≡ pegs_open ++ (flat_map (peg_html scene) pegs ++ grid_end) }
+    ensures up { (scene : SceneView) (peg : RowView) → cell_at peg (column section.Pegs (codes "need")) ≡ codes "parent" → need_html scene peg ≡ linked_html scene (numbered scene (cell_at peg (column section.Pegs (codes "parent"))) (cell_at peg (column section.Pegs (codes "number")))) (row_html peg_parent peg) }
+    ensures booking { (scene : SceneView) (peg : RowView) → cell_at peg (column section.Pegs (codes "need")) ≡ codes "booking" → need_html scene peg ≡ codes "booking " ++ entry_name_html scene.history (cell_at peg (column section.Pegs (codes "number"))) }
+    ensures waits { (scene : SceneView) (name : List ℕ) → waits_of scene name ≡ filter (λ peg. same_text (cell_at peg (column section.Pegs (codes "parent"))) name && same_text (cell_at peg (column section.Pegs (codes "need"))) (codes "parent")) scene.pegs }
+    ensures down { (scene : SceneView) (peg : RowView) (pegs : List RowView) → waits_html scene (peg ∷ pegs) ≡ waits_open ++ (flat_map (wait_html scene) (peg ∷ pegs) ++ grid_end) }
+    ensures linked { (scene : SceneView) (order : RowView) (words : List ℕ) → has_item scene.shown (cell_at order 0) ≡ true → linked_html scene (Some order) words ≡ order_link (cell_at order 1) (cell_at order 0) ++ (words ++ codes "</a>") }
 {}
 
 /// Which items a page shows, if the rows of each item stand together in the day: 200, or all where the plan
@@ -193,7 +216,7 @@ pub fn first_items_with_messages()
     ensures most { (items : Names) (run : ℕ) (records : List Cells) → length (items_to_show items run records) ≤ 200 }
     ensures full { (items : Names) (run : ℕ) (records : List Cells) → 200 ≤ length (items_of_plan items run records) → length (items_to_show items run records) ≡ 200 }
     ensures count { (items : Names) (asked : Option ℕ) (records : List Cells) (notes : Noted) → IsDayOf items asked records notes → IsByItems records → notes.counts.items ≡ length (items_of_plan items (run_shown asked records) records) }
-    ensures page { (title : List ℕ) (notes : Noted) → (front : List ℕ) × (back : List ℕ) × (page_html title notes ≡ front ++ (items_html (item_lists notes.report) notes.counts.promises (shown_items (item_lists notes.report)) ++ (more_html (notes.counts.items - length (shown_items (item_lists notes.report))) (codes "item is") (codes "items are") ++ back))) }
+    ensures page { (title : List ℕ) (notes : Noted) → (front : List ℕ) × (back : List ℕ) × (page_html title notes ≡ front ++ (items_html (scene_in notes) (item_lists notes.report) notes.counts.promises (shown_items (item_lists notes.report)) ++ (more_html (notes.counts.items - length (shown_items (item_lists notes.report))) (codes "item is") (codes "items are") ++ back))) }
 {}
 
 /// A list that is folded shows each of its rows once: the first ones, and behind their number the others.

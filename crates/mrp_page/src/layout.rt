@@ -2,7 +2,7 @@
 
 ghost use Rattle.std.specs.Prelude.{◌≡◌, map};
 ghost use Rattle.mrp_page.specs.Template.{drawn_of};
-ghost use Rattle.mrp_page.specs.Layout.{above_bar, above_end, available_label, balance_chart, balance_label, booked_label, cancel_front, cancel_open, capacity_label, centre_head, centre_open, centre_tile, centres_open, cut_bar, entry, entry_link_open, firm_label, grid_end, gross_label, history_end, history_open, hot_bar, hot_end, in_front, in_open, item_head, item_tasks_end, item_tasks_open, late_front, late_open, later_open, link_end, link_middle, link_open, list_end, load_chart, load_end, load_label, low_bar, low_end, main_open, more, no_promises, no_record, none_over, none_refused, nothing_to_do, order, order_start, order_unknown, order_week, orders_open, other_cells, other_front, other_open, other_words, out_front, out_open, over_back, over_front, over_label, over_line, over_open, page_end, page_head, page_top, peg, pegs_open, planned_label, point, points_end, record_head, refused_answer, refused_asked, refused_desk, refused_end, refused_front, refused_open, refused_row, release_front, release_open, rest_end, rest_open, row_end, scheduled_label, section_end, share_cell, share_label, starts_label, style, summary_open, summary_tile, table_end, task_head, task_row, task_supply, task_words, to_week, todo_note, todo_open, week, weeks_end, weeks_late};
+ghost use Rattle.mrp_page.specs.Layout.{above_bar, above_end, available_label, balance_chart, balance_label, booked_label, cancel_front, cancel_open, capacity_label, centre_head, centre_open, centre_tile, centres_open, cut_bar, entry, entry_link_open, firm_label, grid_end, gross_label, history_end, history_open, hot_bar, hot_end, in_front, in_open, index_count, index_end, index_open, item_head, item_tasks_end, item_tasks_open, items_end, items_open, late_front, late_open, later_open, link_end, link_middle, link_open, lists_open, load_chart, load_end, load_label, low_bar, low_end, main_open, more, no_promises, no_record, none_over, none_refused, nothing_to_do, open_pieces, order, order_address, order_start, order_unknown, order_week, orders_open, other_cells, other_front, other_open, other_words, out_front, out_open, over_back, over_front, over_label, over_line, over_open, page_end, page_head, page_top, peg_back, peg_booking, peg_front, peg_middle, peg_need, peg_parent, peg_supply, pegs_open, planned_label, point, points_end, record_head, refused_answer, refused_asked, refused_desk, refused_end, refused_front, refused_open, refused_row, release_front, release_open, rest_end, rest_open, row_end, scheduled_label, section_end, share_cell, share_label, starts_label, style, summary_open, summary_tile, table_end, task_head, task_middle, task_row, task_supply, task_words, to_week, todo_note, todo_open, wait_end, wait_late, wait_middle, wait_order, wait_supply, waits_open, week, weeks_end, weeks_late};
 
 use crate::style::STYLE;
 use crate::template::Part;
@@ -106,14 +106,6 @@ pub(crate) fn link_middle() -> &'static [u8]
     b"\">"
 }
 
-// What it ends with.
-#[tactic(auto, unfolding(crate::specs::Layout::link_end))]
-pub(crate) fn link_end() -> &'static [u8]
-    ensures { result.now ≡ link_end }
-{
-    b"</a>"
-}
-
 // A week of a table's heading.
 #[tactic(auto, unfolding(crate::specs::Layout::week))]
 pub(crate) fn week() -> &'static [Part]
@@ -151,69 +143,6 @@ pub(crate) fn entry() -> &'static [Part]
         Part::Markup(b"</td>"),
         Part::Number(8),
         Part::Markup(b"</tr>\n"),
-    ]
-}
-
-// An order.
-#[tactic(auto, unfolding(crate::specs::Layout::order))]
-pub(crate) fn order() -> &'static [Part]
-    ensures { map drawn_of result.now ≡ order }
-{
-    &[
-        Part::Markup(b"<tr><th scope=row>"),
-        Part::Cell(1),
-        Part::Markup(b"</th><td class=t>"),
-        Part::Cell(2),
-        Part::Markup(b"</td>"),
-        Part::Number(3),
-        Part::Number(4),
-        Part::Number(5),
-        Part::Number(6),
-        Part::Number(7),
-        Part::Markup(b"</tr>\n"),
-    ]
-}
-
-// A peg: which supply serves which requirement.
-#[tactic(auto, unfolding(crate::specs::Layout::peg))]
-pub(crate) fn peg() -> &'static [Part]
-    ensures { map drawn_of result.now ≡ peg }
-{
-    &[
-        Part::Markup(b"<tr>"),
-        Part::Number(1),
-        Part::Markup(b"<th scope=row>"),
-        Part::If(2, b"booking", b"booking "),
-        Part::If(2, b"forecast", b"forecast"),
-        Part::If(2, b"service", b"service part demand, master record "),
-        Part::If(2, b"parent", b"order "),
-        Part::If(2, b"surplus", b"surplus"),
-        Part::Cell(3),
-        Part::If(2, b"parent", b" of "),
-        Part::Cell(4),
-        Part::If(2, b"parent", b", bill line "),
-        Part::Cell(5),
-        Part::Markup(b"</th><td class=t>"),
-        Part::Cell(6),
-        Part::Markup(b" "),
-        Part::Cell(7),
-        Part::Markup(b"</td>"),
-        Part::Number(8),
-        Part::Markup(b"</tr>\n"),
-    ]
-}
-
-// The heading of an item, with its name.
-#[tactic(auto, unfolding(crate::specs::Layout::item_head))]
-pub(crate) fn item_head() -> &'static [Part]
-    ensures { map drawn_of result.now ≡ item_head }
-{
-    &[
-        Part::Markup(b"<section class=item id=\"i-"),
-        Part::Cell(0),
-        Part::Markup(b"\">\n<h2>"),
-        Part::Cell(0),
-        Part::Markup(b"</h2>\n"),
     ]
 }
 
@@ -332,30 +261,6 @@ pub(crate) fn balance_label() -> &'static [u8]
     ensures { result.now ≡ balance_label }
 {
     b"<tr class=strong><th scope=row>Projected available balance</th>"
-}
-
-// What the orders of an item begin with.
-#[tactic(auto, unfolding(crate::specs::Layout::orders_open))]
-pub(crate) fn orders_open() -> &'static [u8]
-    ensures { result.now ≡ orders_open }
-{
-    b"<details><summary>Orders</summary><div class=scroll tabindex=0 role=region aria-label=Orders><table class=list>\n<caption><span>Firm and planned orders</span></caption>\n<thead><tr><th class=t scope=col>Order</th><th class=t scope=col>Kind</th><th scope=col>Due week</th><th scope=col>Quantity</th><th scope=col>Starts</th><th scope=col>Release week</th><th scope=col>Weeks late (shop days from version 2 on)</th></tr></thead>\n<tbody>"
-}
-
-// What the pegs of an item begin with.
-#[tactic(auto, unfolding(crate::specs::Layout::pegs_open))]
-pub(crate) fn pegs_open() -> &'static [u8]
-    ensures { result.now ≡ pegs_open }
-{
-    b"<details><summary>Where it goes (pegs)</summary><div class=scroll tabindex=0 role=region aria-label=Pegs><table class=list>\n<caption><span>Which supply serves which requirement</span></caption>\n<thead><tr><th scope=col>Week</th><th class=t scope=col>Requirement</th><th class=t scope=col>Supply</th><th scope=col>Pieces</th></tr></thead>\n<tbody>"
-}
-
-// What orders and pegs end with.
-#[tactic(auto, unfolding(crate::specs::Layout::list_end))]
-pub(crate) fn list_end() -> &'static [u8]
-    ensures { result.now ≡ list_end }
-{
-    b"</tbody></table></div></details>\n"
 }
 
 // How many more are not shown, with the number and the words for it.
@@ -607,20 +512,6 @@ pub(crate) fn todo_open() -> &'static [u8]
     b"<section id=todo>\n<h2>To do</h2>\n"
 }
 
-// The supply that a message is about.
-#[tactic(auto, unfolding(crate::specs::Layout::task_supply))]
-pub(crate) fn task_supply() -> &'static [Part]
-    ensures { map drawn_of result.now ≡ task_supply }
-{
-    &[
-        Part::Markup(b"</th><td class=t>"),
-        Part::Cell(1),
-        Part::Markup(b" "),
-        Part::Cell(2),
-        Part::Markup(b"</td>"),
-    ]
-}
-
 // The pieces, the start and the due week of an order.
 #[tactic(auto, unfolding(crate::specs::Layout::order_start))]
 pub(crate) fn order_start() -> &'static [Part]
@@ -767,14 +658,6 @@ pub(crate) fn summary_open() -> &'static [u8]
     ensures { result.now ≡ summary_open }
 {
     b"<p class=sum>"
-}
-
-// What comes between the head of a page and its parts: links to these.
-#[tactic(auto, unfolding(crate::specs::Layout::main_open))]
-pub(crate) fn main_open() -> &'static [u8]
-    ensures { result.now ≡ main_open }
-{
-    b"</p>\n</header>\n<nav><a href=\"#unkept\">Not promised</a><a href=\"#todo\">To do</a><a href=\"#centres\">Work centres</a><a href=\"#history\">History</a></nav>\n<main>\n"
 }
 
 // A count that leads to a part of the page.
@@ -1132,4 +1015,304 @@ pub(crate) fn balance_chart() -> &'static [Part]
         Part::Cell(1),
         Part::Markup(b"\"/><polyline transform=\"scale(1 -1)\" points=\""),
     ]
+}
+
+// What a link to an order begins with, before its number.
+#[tactic(auto, unfolding(crate::specs::Layout::order_address))]
+pub(crate) fn order_address() -> &'static [u8]
+    ensures { result.now ≡ order_address }
+{
+    b"<a href=\"#o-"
+}
+
+// What comes between the item of a message and its supply.
+#[tactic(auto, unfolding(crate::specs::Layout::task_middle))]
+pub(crate) fn task_middle() -> &'static [u8]
+    ensures { result.now ≡ task_middle }
+{
+    b"</th><td class=t>"
+}
+
+// The supply that a message is about.
+#[tactic(auto, unfolding(crate::specs::Layout::task_supply))]
+pub(crate) fn task_supply() -> &'static [Part]
+    ensures { map drawn_of result.now ≡ task_supply }
+{
+    &[
+        Part::Cell(1),
+        Part::Markup(b" "),
+        Part::Cell(2),
+    ]
+}
+
+// The pieces of an open order.
+#[tactic(auto, unfolding(crate::specs::Layout::open_pieces))]
+pub(crate) fn open_pieces() -> &'static [Part]
+    ensures { map drawn_of result.now ≡ open_pieces }
+{
+    &[
+        Part::Number(0),
+        Part::Markup(b"<td></td><td></td>"),
+    ]
+}
+
+// An order.
+#[tactic(auto, unfolding(crate::specs::Layout::order))]
+pub(crate) fn order() -> &'static [Part]
+    ensures { map drawn_of result.now ≡ order }
+{
+    &[
+        Part::Markup(b"<tr id=\"o-"),
+        Part::Cell(1),
+        Part::Markup(b"-"),
+        Part::Cell(0),
+        Part::Markup(b"\"><th scope=row>"),
+        Part::Cell(1),
+        Part::Markup(b"</th><td class=t>"),
+        Part::Cell(2),
+        Part::Markup(b"</td>"),
+        Part::Number(3),
+        Part::Number(4),
+        Part::Number(5),
+        Part::Number(6),
+        Part::Number(7),
+        Part::Markup(b"</tr>\n"),
+    ]
+}
+
+// The heading of an item, with its name.
+#[tactic(auto, unfolding(crate::specs::Layout::item_head))]
+pub(crate) fn item_head() -> &'static [Part]
+    ensures { map drawn_of result.now ≡ item_head }
+{
+    &[
+        Part::Markup(b"<section class=item id=\"i-"),
+        Part::Cell(0),
+        Part::Markup(b"\">\n<h2>"),
+        Part::Cell(0),
+        Part::Markup(b"<a href=\"#items\">all items</a><a href=\"#todo\">to do</a></h2>\n"),
+    ]
+}
+
+// What the index of the items begins with.
+#[tactic(auto, unfolding(crate::specs::Layout::items_open))]
+pub(crate) fn items_open() -> &'static [u8]
+    ensures { result.now ≡ items_open }
+{
+    b"<section id=items>\n<h2>Items</h2>\n<ul class=index>\n"
+}
+
+// What the index of the items ends with.
+#[tactic(auto, unfolding(crate::specs::Layout::items_end))]
+pub(crate) fn items_end() -> &'static [u8]
+    ensures { result.now ≡ items_end }
+{
+    b"</ul>\n</section>\n"
+}
+
+// What an item of the index begins with.
+#[tactic(auto, unfolding(crate::specs::Layout::index_open))]
+pub(crate) fn index_open() -> &'static [u8]
+    ensures { result.now ≡ index_open }
+{
+    b"<li>"
+}
+
+// How many messages an item has.
+#[tactic(auto, unfolding(crate::specs::Layout::index_count))]
+pub(crate) fn index_count() -> &'static [Part]
+    ensures { map drawn_of result.now ≡ index_count }
+{
+    &[
+        Part::Markup(b" <small>"),
+        Part::Cell(0),
+        Part::Markup(b"</small>"),
+    ]
+}
+
+// What an item of the index ends with.
+#[tactic(auto, unfolding(crate::specs::Layout::index_end))]
+pub(crate) fn index_end() -> &'static [u8]
+    ensures { result.now ≡ index_end }
+{
+    b"</li>\n"
+}
+
+// What the orders and pegs of an item are folded behind.
+#[tactic(auto, unfolding(crate::specs::Layout::lists_open))]
+pub(crate) fn lists_open() -> &'static [u8]
+    ensures { result.now ≡ lists_open }
+{
+    b"<details><summary>Orders and pegs</summary>\n"
+}
+
+// What the orders of an item begin with.
+#[tactic(auto, unfolding(crate::specs::Layout::orders_open))]
+pub(crate) fn orders_open() -> &'static [u8]
+    ensures { result.now ≡ orders_open }
+{
+    b"<div class=scroll tabindex=0 role=region aria-label=Orders><table class=list>\n<caption><span>Firm and planned orders</span></caption>\n<thead><tr><th class=t scope=col>Order</th><th class=t scope=col>Kind</th><th scope=col>Due week</th><th scope=col>Quantity</th><th scope=col>Starts</th><th scope=col>Release week</th><th scope=col>Weeks late (shop days from version 2 on)</th></tr></thead>\n<tbody>"
+}
+
+// What the pegs of an item begin with.
+#[tactic(auto, unfolding(crate::specs::Layout::pegs_open))]
+pub(crate) fn pegs_open() -> &'static [u8]
+    ensures { result.now ≡ pegs_open }
+{
+    b"<div class=scroll tabindex=0 role=region aria-label=\"Where it goes\"><table class=list>\n<caption><span>Where it goes: which supply serves which requirement</span></caption>\n<thead><tr><th class=t scope=col>Supply</th><th scope=col>Pieces</th><th class=t scope=col>Requirement</th><th scope=col>Week</th></tr></thead>\n<tbody>"
+}
+
+// What a peg begins with, before its supply.
+#[tactic(auto, unfolding(crate::specs::Layout::peg_front))]
+pub(crate) fn peg_front() -> &'static [u8]
+    ensures { result.now ≡ peg_front }
+{
+    b"<tr><th scope=row>"
+}
+
+// The supply of a peg.
+#[tactic(auto, unfolding(crate::specs::Layout::peg_supply))]
+pub(crate) fn peg_supply() -> &'static [Part]
+    ensures { map drawn_of result.now ≡ peg_supply }
+{
+    &[
+        Part::Cell(6),
+        Part::Markup(b" "),
+        Part::Cell(7),
+    ]
+}
+
+// The pieces of a peg, before its requirement.
+#[tactic(auto, unfolding(crate::specs::Layout::peg_middle))]
+pub(crate) fn peg_middle() -> &'static [Part]
+    ensures { map drawn_of result.now ≡ peg_middle }
+{
+    &[
+        Part::Markup(b"</th>"),
+        Part::Number(8),
+        Part::Markup(b"<td class=t>"),
+    ]
+}
+
+// What stands before the number of a booking.
+#[tactic(auto, unfolding(crate::specs::Layout::peg_booking))]
+pub(crate) fn peg_booking() -> &'static [u8]
+    ensures { result.now ≡ peg_booking }
+{
+    b"booking "
+}
+
+// The order of a parent that a peg is for.
+#[tactic(auto, unfolding(crate::specs::Layout::peg_parent))]
+pub(crate) fn peg_parent() -> &'static [Part]
+    ensures { map drawn_of result.now ≡ peg_parent }
+{
+    &[
+        Part::Markup(b"order "),
+        Part::Cell(3),
+        Part::Markup(b" of "),
+        Part::Cell(4),
+    ]
+}
+
+// Any other requirement of a peg.
+#[tactic(auto, unfolding(crate::specs::Layout::peg_need))]
+pub(crate) fn peg_need() -> &'static [Part]
+    ensures { map drawn_of result.now ≡ peg_need }
+{
+    &[
+        Part::If(2, b"forecast", b"forecast"),
+        Part::If(2, b"service", b"service part demand, master record "),
+        Part::If(2, b"surplus", b"left over"),
+        Part::Cell(3),
+    ]
+}
+
+// The week of a peg.
+#[tactic(auto, unfolding(crate::specs::Layout::peg_back))]
+pub(crate) fn peg_back() -> &'static [Part]
+    ensures { map drawn_of result.now ≡ peg_back }
+{
+    &[
+        Part::If(2, b"parent", b", bill line "),
+        Part::Cell(5),
+        Part::Markup(b"</td>"),
+        Part::Number(1),
+        Part::Markup(b"</tr>\n"),
+    ]
+}
+
+// The order that waits for a component.
+#[tactic(auto, unfolding(crate::specs::Layout::wait_order))]
+pub(crate) fn wait_order() -> &'static [Part]
+    ensures { map drawn_of result.now ≡ wait_order }
+{
+    &[
+        Part::Markup(b"order "),
+        Part::Cell(3),
+    ]
+}
+
+// The pieces that it waits for.
+#[tactic(auto, unfolding(crate::specs::Layout::wait_middle))]
+pub(crate) fn wait_middle() -> &'static [Part]
+    ensures { map drawn_of result.now ≡ wait_middle }
+{
+    &[
+        Part::Markup(b"</th>"),
+        Part::Number(8),
+        Part::Markup(b"<td class=t>"),
+    ]
+}
+
+// What comes between a component and its supply.
+#[tactic(auto, unfolding(crate::specs::Layout::wait_supply))]
+pub(crate) fn wait_supply() -> &'static [u8]
+    ensures { result.now ≡ wait_supply }
+{
+    b"</td><td class=t>"
+}
+
+// How late the supply of a component is.
+#[tactic(auto, unfolding(crate::specs::Layout::wait_late))]
+pub(crate) fn wait_late() -> &'static [Part]
+    ensures { map drawn_of result.now ≡ wait_late }
+{
+    &[
+        Part::Markup(b"</td>"),
+        Part::Number(7),
+        Part::Markup(b"</tr>\n"),
+    ]
+}
+
+// What a component ends with whose supply is no firm or planned order.
+#[tactic(auto, unfolding(crate::specs::Layout::wait_end))]
+pub(crate) fn wait_end() -> &'static [u8]
+    ensures { result.now ≡ wait_end }
+{
+    b"</td><td></td></tr>\n"
+}
+
+// What the components that an item's orders wait for begin with.
+#[tactic(auto, unfolding(crate::specs::Layout::waits_open))]
+pub(crate) fn waits_open() -> &'static [u8]
+    ensures { result.now ≡ waits_open }
+{
+    b"<div class=scroll tabindex=0 role=region aria-label=\"What its orders wait for\"><table class=\"list waits\">\n<caption><span>What its orders wait for</span></caption>\n<thead><tr><th class=t scope=col>Order</th><th scope=col>Pieces</th><th class=t scope=col>Component</th><th class=t scope=col>Supply</th><th scope=col>Weeks late</th></tr></thead>\n<tbody>"
+}
+
+// What comes between the head of a page and its parts: links to these.
+#[tactic(auto, unfolding(crate::specs::Layout::main_open))]
+pub(crate) fn main_open() -> &'static [u8]
+    ensures { result.now ≡ main_open }
+{
+    b"</p>\n</header>\n<nav><a href=\"#unkept\">Not promised</a><a href=\"#todo\">To do</a><a href=\"#centres\">Work centres</a><a href=\"#items\">Items</a><a href=\"#history\">History</a></nav>\n<main>\n"
+}
+
+// What it ends with.
+#[tactic(auto, unfolding(crate::specs::Layout::link_end))]
+pub(crate) fn link_end() -> &'static [u8]
+    ensures { result.now ≡ link_end }
+{
+    b"</a>"
 }

@@ -5,18 +5,19 @@ ghost use Rattle.mrp_page.specs.Page.{head_html, is_told, items_of, page_html, p
 
 use crate::centres::put_centres;
 use crate::counts::Counts;
-use crate::draw::{put_history, put_items, put_more_items};
+use crate::draw::{put_history, put_more_items};
 use crate::frame::heading;
 use crate::html::Html;
 use crate::item_rows::ItemRows;
-use crate::kinds::{Tasks, put_todo};
+use crate::items::{put_index, put_items};
+use crate::kinds::put_todo;
 use crate::layout::{page_end, page_head, page_top, style};
 use crate::limits::MOST_ITEMS;
 use crate::notes::Notes;
-use crate::places::Places;
 use crate::refused::put_refused;
 use crate::row::Row;
 use crate::rows::{leaders, rows_in, rows_named};
+use crate::scene::Scene;
 use crate::summary::put_summary;
 use crate::template::put_row;
 use crate::unshown::unshown;
@@ -93,18 +94,20 @@ fn first_rows<'a, 'b>(rows: &'b [&'a Row]) -> &'b [&'a Row]
     first
 }
 
-// Adds items, and how many more there are.
+// Adds an index of items, the items, and how many more there are.
 #[tactic(auto, unfolding(crate::specs::Page::items_of))]
 fn put_items_of(
     alloc: Global,
     page: &mut Html,
+    scene: &Scene<'_>,
     rows: &ItemRows<'_>,
     counts: Counts,
-    shown: &[&Row],
 ) -> Result<(), NoMemory>
-    ensures { OnOk result (page.new ≡ page.old ++ items_of rows.now counts (map (λ r. r.now) shown.now)) }
+    ensures { OnOk result (page.new ≡ page.old ++ items_of scene.now rows.now counts) }
 {
-    put_items(alloc, page, rows, counts.promises, shown)?;
+    let shown = scene.shown();
+    put_index(alloc, page, rows.messages(), shown)?;
+    put_items(alloc, page, scene, rows, counts.promises, shown)?;
     put_more_items(alloc, page, unshown(rows, shown, counts), shown)
 }
 
@@ -113,15 +116,14 @@ fn put_items_of(
 fn put_rest(
     alloc: Global,
     page: &mut Html,
+    scene: &Scene<'_>,
     rows: &ItemRows<'_>,
     counts: Counts,
-    shown: &[&Row],
-    history: &[Row],
 ) -> Result<(), NoMemory>
-    ensures { OnOk result (page.new ≡ page.old ++ rest_html rows.now counts (map (λ r. r.now) shown.now) history.now) }
+    ensures { OnOk result (page.new ≡ page.old ++ rest_html scene.now rows.now counts) }
 {
-    put_items_of(alloc, page, rows, counts, shown)?;
-    put_history(alloc, page, history, counts.history)?;
+    put_items_of(alloc, page, scene, rows, counts)?;
+    put_history(alloc, page, scene.history(), counts.history)?;
     page.markup(page_end())
 }
 
@@ -140,38 +142,33 @@ fn put_top(
     put_head(page, &heading)
 }
 
-// Adds a page that shows these items.
+// Adds a page, from what its parts are drawn from.
 #[tactic(auto, unfolding(crate::specs::Page::page_of))]
 fn put_page_of(
     alloc: Global,
     page: &mut Html,
     title: &[u8],
     notes: &Notes,
-    shown: &[&Row],
+    scene: &Scene<'_>,
 ) -> Result<(), NoMemory>
-    ensures { OnOk result (page.new ≡ page.old ++ page_of title.now notes.now (map (λ r. r.now) shown.now)) }
+    ensures { OnOk result (page.new ≡ page.old ++ page_of title.now notes.now scene.now) }
 {
     let report = notes.report();
     let rows = ItemRows::of(report);
+    let loads = rows_in(report, Section::Loads);
     let counts = notes.counts();
     put_top(alloc, page, title, report, counts.items)?;
-    put_summary(
+    put_summary(alloc, page, notes.history(), rows.messages(), loads)?;
+    put_refused(
         alloc,
         page,
+        scene.shown(),
         notes.history(),
-        rows.messages(),
-        rows_in(report, Section::Loads),
+        counts.history,
     )?;
-    put_refused(alloc, page, shown, notes.history(), counts.history)?;
-    let orders = Places::of(alloc, rows.orders())?;
-    let tasks = Tasks {
-        shown,
-        orders: &orders,
-        messages: rows.messages(),
-    };
-    put_todo(alloc, page, tasks, counts.messages)?;
-    put_centres(alloc, page, rows_in(report, Section::Loads), counts.loads)?;
-    put_rest(alloc, page, &rows, counts, shown, notes.history())
+    put_todo(alloc, page, scene, rows.messages(), counts.messages)?;
+    put_centres(alloc, page, loads, counts.loads)?;
+    put_rest(alloc, page, scene, &rows, counts)
 }
 
 // Adds a page.
@@ -188,5 +185,8 @@ pub(crate) fn put_page(
 {
     let rows = ItemRows::of(notes.report());
     let items = told_first(alloc, rows.messages(), rows.plan())?;
-    put_page_of(alloc, page, title, notes, first_rows(items.as_slice()))
+    let shown = first_rows(items.as_slice());
+    let missed = notes.counts().pegs;
+    let scene = Scene::of(alloc, shown, &rows, notes.history(), missed)?;
+    put_page_of(alloc, page, title, notes, &scene)
 }

@@ -90,4 +90,11 @@ impl<'a> Places<'a> {
         let first = self.firsts.get(name).copied();
         stretch_of(self.rows, first, name)
     }
+
+    // All rows.
+    pub(crate) fn rows(&self) -> &'a [Row]
+        ensures { result.now ≡ self.now }
+    {
+        self.rows
+    }
 }
