@@ -30,3 +30,4 @@ pub mod FirstRows
 pub mod ShareOf
 pub mod Overloads
 pub mod PegLinks
+pub mod OutRows

@@ -8,8 +8,7 @@ use Rattle.mrp_page.specs.ItemRows.{ItemLists, item_lists}
 use Rattle.mrp_page.specs.Kinds.{todo_html}
 use Rattle.mrp_page.specs.Layout.{grid_end, item_head, link_end, link_middle, link_open, lists_open, order, order_address, orders_open, page_end}
 use Rattle.mrp_page.specs.Notes.{Noted}
-use Rattle.mrp_page.specs.Centres.{load_section}
-use Rattle.mrp_page.specs.Page.{items_of, page_html, page_of, rest_html, scene_in, shown_items, top_html}
+use Rattle.mrp_page.specs.Page.{items_of, middle_html, page_html, page_of, rest_html, scene_in, shown_items, top_html}
 use Rattle.mrp_page.specs.Orders.{order_link}
 use Rattle.mrp_page.specs.Refused.{refused_section}
 use Rattle.mrp_page.specs.Row.{RowView, cell_at}
@@ -62,7 +61,7 @@ items-stand title notes =
     let sums : List ℕ = summary_html notes.history (rows_in s.Messages notes.report) (rows_in s.Loads notes.report) in
     let calls : List ℕ = refused_section shown notes.history notes.counts.history in
     let todo : List ℕ = todo_html (scene_in notes) (rows_in s.Messages notes.report) notes.counts.messages in
-    let loads : List ℕ = load_section (rows_in s.Loads notes.report) notes.counts.loads in
+    let loads : List ℕ = middle_html (scene_in notes) notes.report notes.counts in
     let indexed : List ℕ = index_html lists.messages shown in
     let more : List ℕ = more_html (notes.counts.items - length shown) (codes "item is") (codes "items are") in
     let last : List ℕ = history_html notes.history notes.counts.history ++ page_end in (

@@ -7,7 +7,8 @@ use Rattle.std.proofs.lemmas.List.Concat.{flat_map-append}
 use Rattle.std.proofs.lemmas.List.Folds.{Any-from_list_any}
 use Rattle.std.proofs.lemmas.Slice.Eq.{bytes_eq-Decides}
 use Rattle.std.proofs.lemmas.List.Elements.{All-append, All-cons, All-contains, All-contains_itself, All-drop, All-filter, All-map, All-nil, All-take, Contains-append_left, Contains-append_right}
-use Rattle.std.specs.List.{All, Contains, find, flat_map, position_or_len}
+use Rattle.std.specs.List.{All, Contains, filter, find, flat_map, position_or_len}
+use Rattle.mrp_page.specs.Amounts.{amount}
 use Rattle.mrp_page.specs.ByWord.{by_word, with_word}
 use Rattle.mrp_page.specs.Centres.{all_loads, bars_html, centre_frame, centre_html, centres_back, each_centre, framed_centre, later_loads, load_section, loads_html, loads_table, over_listing, over_or_none, overload_html, picture_html, shares_html, times_html}
 use Rattle.mrp_page.specs.Draw.{all_weeks, amounts_html, balance_html, booked_html, framed_record, has_firm, has_item, has_none, history_html, is_plain, is_scheduled, item_name_html, item_tasks, later_record, link_html, measure_html, more_html, more_items, more_lists, more_rows, more_weeks, named_note, named_record, named_tasks, other_if, other_tasks, planned_html, points_html, promised_html, record_html, record_or_none, record_rows, record_table, supplies_html, table_html, task_html, task_if, task_table, tasks_html, tasks_with, weeks_html}
@@ -23,11 +24,12 @@ use Rattle.mrp_page.specs.Sorted.{sorted_by}
 use Rattle.mrp_page.proofs.ByKey.{sorted-permutes}
 use Rattle.mrp_page.specs.Items.{count_html, index_html, index_line, is_wait, item_html, item_lists_html, items_html, late_html, message_count, need_html, orders_html, parent_of, peg_html, pegs_html, supplier_of, supply_html, wait_html, waits_html, waits_of}
 use Rattle.mrp_page.specs.Kinds.{Kind, cancel, earlier, falling_rank, in_order, kind_html, kind_listing, kind_part, kinds_html, late, later, messages_of, note_html, open_count, open_html, order_html, order_of, other, other_messages, other_part, release, state_of, task_line, todo_back, todo_html, value_rank}
-use Rattle.mrp_page.specs.Known.{IsMadeOf, IsPieceOf, count_texts, index_texts, item_texts, layouts, list_counts, listed_texts, load_texts, marks_of, open_texts, own_counts, own_words, plain, row_lists, small_words, summary_counts}
+use Rattle.mrp_page.specs.Known.{IsMadeOf, IsPieceOf, count_texts, index_texts, item_texts, layouts, list_counts, listed_texts, load_texts, marks_of, open_texts, out_texts, outs_texts, own_counts, own_words, plain, row_lists, small_words, summary_counts}
 use Rattle.mrp_page.specs.Laws.{Entry, Escaped, Link, Markup, Order, piece_html}
-use Rattle.mrp_page.specs.Layout.{above_bar, above_end, available_label, balance_chart, balance_label, booked_label, cancel_front, cancel_open, capacity_label, centre_head, centre_open, centre_tile, centres_open, cut_bar, entry, firm_label, grid_end, gross_label, history_end, history_open, hot_bar, hot_end, in_front, in_open, index_count, index_end, index_open, item_head, item_tasks_end, item_tasks_open, items_end, items_open, late_front, late_open, later_open, link_end, lists_open, load_chart, load_end, load_label, low_bar, low_end, main_open, more, no_promises, no_record, none_over, none_refused, nothing_to_do, open_pieces, order, order_address, order_start, order_unknown, order_week, orders_open, other_cells, other_front, other_open, other_words, out_front, out_open, over_back, over_front, over_label, over_line, over_open, page_end, page_head, page_top, peg_back, peg_booking, peg_front, peg_middle, peg_need, peg_parent, peg_supply, pegs_open, planned_label, point, points_end, record_head, refused_answer, refused_asked, refused_desk, refused_end, refused_front, refused_open, refused_row, release_front, release_open, rest_end, rest_open, row_end, scheduled_label, section_end, share_cell, share_label, starts_label, style, summary_open, summary_tile, table_end, task_head, task_middle, task_row, task_supply, task_words, to_week, todo_note, todo_open, wait_end, wait_late, wait_middle, wait_order, wait_supply, waits_open, week, weeks_end, weeks_late}
+use Rattle.mrp_page.specs.Layout.{above_bar, above_end, available_label, balance_chart, balance_label, booked_label, cancel_front, cancel_open, capacity_label, centre_head, centre_open, centre_tile, centres_open, cut_bar, entry, firm_label, grid_end, gross_label, history_end, history_open, hot_bar, hot_end, in_front, in_open, index_count, index_end, index_open, item_head, item_tasks_end, item_tasks_open, items_end, items_open, late_front, late_open, later_open, link_end, lists_open, load_chart, load_end, load_label, low_bar, low_end, main_open, more, no_promises, no_record, none_out, none_over, none_refused, nothing_to_do, open_pieces, order, order_address, order_start, order_unknown, order_week, orders_open, other_cells, other_front, other_open, other_words, out_cells, out_first_open, out_front, out_open, outs_front, outs_note, over_back, over_front, over_label, over_line, over_open, page_end, page_head, page_top, peg_back, peg_booking, peg_front, peg_middle, peg_need, peg_parent, peg_supply, pegs_open, planned_label, point, points_end, record_head, refused_answer, refused_asked, refused_desk, refused_end, refused_front, refused_open, refused_row, release_front, release_open, rest_end, rest_open, row_end, scheduled_label, section_end, share_cell, share_label, starts_label, style, summary_open, summary_tile, table_end, task_head, task_middle, task_row, task_supply, task_words, to_week, todo_note, todo_open, wait_end, wait_late, wait_middle, wait_order, wait_supply, waits_open, week, weeks_end, weeks_late}
 use Rattle.mrp_page.specs.Notes.{Noted}
-use Rattle.mrp_page.specs.Page.{head_html, is_told, items_of, page_html, page_of, rest_html, scene_in, shown_items, told_first, top_html, untold_rows}
+use Rattle.mrp_page.specs.Outs.{falling_late, first_planned, is_planned, lateness, left_in, out_line, out_row, outs_back, outs_first, outs_html, outs_section, short_weeks, sign}
+use Rattle.mrp_page.specs.Page.{head_html, is_told, items_of, middle_html, page_html, page_of, rest_html, scene_in, shown_items, told_first, top_html, untold_rows}
 use Rattle.mrp_page.specs.Orders.{is_numbered, is_order, linked_html, numbered, order_link, ordered}
 use Rattle.mrp_page.specs.Refused.{answer_html, asked_of, call_html, caller_html, entry_link_html, entry_name_html, is_booking, refusals, refused_back, refused_lines, refused_listing, refused_or_none, refused_rows, refused_section}
 use Rattle.mrp_page.specs.Row.{Cells, RowView, cell_at, is_in, is_of, same_text}
@@ -282,6 +284,14 @@ laid-wait_middle = (51, omega arith, refl)
 laid-wait_late : Contains layouts wait_late
 unfolding layouts
 laid-wait_late = (52, omega arith, refl)
+
+laid-outs_note : Contains layouts outs_note
+unfolding layouts
+laid-outs_note = (53, omega arith, refl)
+
+laid-out_cells : Contains layouts out_cells
+unfolding layouts
+laid-out_cells = (54, omega arith, refl)
 
 own-style : Contains own_words style
 unfolding plain
@@ -582,6 +592,18 @@ own-wait_end = own wait_end 73 (omega arith) refl
 own-link_end : Contains own_words link_end
 unfolding plain
 own-link_end = own link_end 74 (omega arith) refl
+
+own-out_first_open : Contains own_words out_first_open
+unfolding plain
+own-out_first_open = own out_first_open 75 (omega arith) refl
+
+own-none_out : Contains own_words none_out
+unfolding plain
+own-none_out = own none_out 76 (omega arith) refl
+
+own-outs_front : Contains own_words outs_front
+unfolding plain
+own-outs_front = own outs_front 77 (omega arith) refl
 
 -- the markup of a kind of messages is the page's own
 record OfKind (kind : Kind) : Type 0 where
@@ -1533,7 +1555,7 @@ module _ (K L E : List ℕ → Type 0) (O : List ℕ → List ℕ → Type 0) (w
       let has : Contains ms r = All-contains_itself ms k d within in
       record {
         cells-in = all k d within;
-        open-in = item-text notes counts t (Contains-append_left (flat_map (open_texts (scene_in notes)) ms) (flat_map (index_texts ms) (shown_items (item_lists notes.report))) t (contains-flat (open_texts (scene_in notes)) ms r t has.0 has.1 has.2 (0, omega arith, refl)));
+        open-in = item-text notes counts t (Contains-append_left (flat_map (open_texts (scene_in notes)) ms) (flat_map (index_texts ms) (shown_items (item_lists notes.report)) ++ outs_texts notes) t (contains-flat (open_texts (scene_in notes)) ms r t has.0 has.1 has.2 (0, omega arith, refl)));
       }
 
   index-known : (notes : Noted) → All K (count_texts notes) → All (λ (r : RowView). L (cell_at r 0)) (shown_items (item_lists notes.report)) → All (IndexKnown (rows_in s.Messages notes.report)) (shown_items (item_lists notes.report))
@@ -1545,13 +1567,92 @@ module _ (K L E : List ℕ → Type 0) (O : List ℕ → List ℕ → Type 0) (w
       let has : Contains rs r = All-contains_itself rs k d within in
       record {
         led-to = led k d within;
-        counted-of = item-text notes counts t (Contains-append_right (flat_map (open_texts (scene_in notes)) ms) (flat_map (index_texts ms) rs) t (contains-flat (index_texts ms) rs r t has.0 has.1 has.2 (0, omega arith, refl)));
+        counted-of = item-text notes counts t (Contains-append_right (flat_map (open_texts (scene_in notes)) ms) (flat_map (index_texts ms) rs ++ outs_texts notes) t
+            (Contains-append_left (flat_map (index_texts ms) rs) (outs_texts notes) t (contains-flat (index_texts ms) rs r t has.0 has.1 has.2 (0, omega arith, refl))));
       }
+
+  -- the texts of items that run out are known
+  outs-text : (notes : Noted) → All K (count_texts notes) → All K (outs_texts notes)
+  outs-text notes counts = λ k d within.
+      let ms : List RowView = rows_in s.Messages notes.report in
+      let rs : List RowView = shown_items (item_lists notes.report) in
+      let t : List ℕ = get_or (outs_texts notes) k d in
+      item-text notes counts t
+      (Contains-append_right (flat_map (open_texts (scene_in notes)) ms) (flat_map (index_texts ms) rs ++ outs_texts notes) t (Contains-append_right (flat_map (index_texts ms) rs) (outs_texts notes) t (All-contains_itself (outs_texts notes) k d within)))
+
+  -- what stands of an item that runs out is known
+  out-known : (scene : SceneView) → SceneKnown scene → (r : RowView) → ((column : ℕ) → K (cell_at r column)) → K (decimal (left_in r)) → (column : ℕ) → K (cell_at (out_row scene r) column)
+  unfolding small_words
+  out-known scene seen r known of-left =
+      let minus : List ℕ = sign (amount (cell_at r 7)) (amount (cell_at r 5)) in
+      let late-of : List ℕ = lateness (first_planned scene r) in
+      knows s.Run (cell_at r 0 ∷ cell_at r 1 ∷ minus ∷ decimal (left_in r) ∷ late-of ∷ [])
+      (All-cons K (cell_at r 0) (cell_at r 1 ∷ minus ∷ decimal (left_in r) ∷ late-of ∷ []) (known 0)
+      (All-cons K (cell_at r 1) (minus ∷ decimal (left_in r) ∷ late-of ∷ []) (known 1)
+      (All-cons K minus (decimal (left_in r) ∷ late-of ∷ []) (minus-is (nat_le (amount (cell_at r 5)) (amount (cell_at r 7))))
+      (All-cons K (decimal (left_in r)) (late-of ∷ []) of-left
+      (All-cons K late-of [] (late-in (rows_named (cell_at r 0) scene.orders) (all-named (λ (r : RowView). (column : ℕ) → K (cell_at r column)) (cell_at r 0) scene.orders seen.of-orders)) (All-nil K))))))
+    where
+      minus-is : (b : Bool) → K (if b then [] else codes "-")
+      minus-is true = nothing
+      minus-is false = small (codes "-") 39 (omega arith) refl
+
+      late-in : (rs : List RowView) → All (λ (r : RowView). (column : ℕ) → K (cell_at r column)) rs → K (lateness (find (has_word 2 (codes "planned")) rs))
+      late-in [] all = nothing
+      late-in (o ∷ rs) all = by (has_word 2 (codes "planned") o) (all 0 o (omega arith)) (late-in rs (λ k d within. all (suc k) d (omega arith)))
+        where
+          by : (b : Bool) → ((column : ℕ) → K (cell_at o column)) → K (lateness (find (has_word 2 (codes "planned")) rs)) → K (lateness (if b then Some o else find (has_word 2 (codes "planned")) rs))
+          by true here rest = here 7
+          by false here rest = rest
+
+  outs-known : (notes : Noted) → SceneKnown (scene_in notes) → All (λ (r : RowView). (column : ℕ) → K (cell_at r column)) (rows_in s.Plan notes.report) → All K (count_texts notes) → All (λ (r : RowView). (column : ℕ) → K (cell_at r column)) (outs_first (scene_in notes) (rows_in s.Plan notes.report))
+  outs-known notes seen all counts =
+      let scene : SceneView = scene_in notes in
+      let plan : List RowView = rows_in s.Plan notes.report in
+      let weeks-of : List RowView = short_weeks plan in
+      let of-weeks : All (λ (r : RowView). (column : ℕ) → K (cell_at r column)) weeks-of = all-leaders (λ (r : RowView). (column : ℕ) → K (cell_at r column)) [] (filter is_planned plan) (All-filter is_planned (λ (r : RowView). (column : ℕ) → K (cell_at r column)) plan all) in
+      let outs : List RowView = map (out_row scene) weeks-of in
+      let first : List RowView = sorted_by falling_late outs in
+      let of-outs : All (λ (r : RowView). (column : ℕ) → K (cell_at r column)) outs = All-map (λ (r : RowView). (column : ℕ) → K (cell_at r column)) (out_row scene) weeks-of
+      (λ k d within.
+          let r : RowView = get_or weeks-of k d in
+          let has : Contains weeks-of r = All-contains_itself weeks-of k d within in
+          let t : List ℕ = decimal (left_in r) in
+          let texts : List (List ℕ) = flat_map out_texts weeks-of in
+          out-known scene seen r (of-weeks k d within) (All-contains K (outs_texts notes) t (outs-text notes counts) (Contains-append_right (decimal notes.counts.plan ∷ decimal (length (outs_first scene plan)) ∷ []) texts t (contains-flat out_texts weeks-of r t has.0 has.1 has.2 (0, omega arith, refl))))) in
+      All-permutation (λ (r : RowView). (column : ℕ) → K (cell_at r column)) first (sorted_by week_rank first) (sorted-permutes week_rank first) (All-permutation (λ (r : RowView). (column : ℕ) → K (cell_at r column)) outs first (sorted-permutes falling_late outs) of-outs)
+
+  an-out : (shown : List RowView) → All (λ (r : RowView). L (cell_at r 0)) shown → (r : RowView) → ((column : ℕ) → K (cell_at r column)) → IsMadeOf K L E O (out_line shown r)
+  unfolding out_line
+  an-out shown led r known =
+      let name : List ℕ = item_name_html shown (cell_at r 0) in
+      join task_row (name ++ row_html out_cells r) (mark task_row own-task_row) (join name (row_html out_cells r) (item-name shown (cell_at r 0) led (known 0)) (row out_cells r laid-out_cells known))
+
+  outs-of : (shown : List RowView) (missed : ℕ) (rs : List RowView) → All (λ (r : RowView). L (cell_at r 0)) shown → All (λ (r : RowView). (column : ℕ) → K (cell_at r column)) rs → K (decimal (length rs)) → IsMadeOf K L E O (outs_html shown missed rs)
+  unfolding outs_html
+  outs-of shown missed rs led all known =
+      let note : List ℕ = row_html outs_note (count_row (length rs) [] []) in
+      let lines : List ℕ = flat_map (out_line shown) (take FEW_ROWS rs) in
+      either (has_none rs && (missed == 0)) none_out (note ++ (outs_front ++ (lines ++ table_end))) (mark none_out own-none_out)
+      (join note (outs_front ++ (lines ++ table_end)) (row outs_note (count_row (length rs) [] []) laid-outs_note (counted (length rs) [] [] known nothing nothing))
+      (join outs_front (lines ++ table_end) (mark outs_front own-outs_front)
+      (join lines table_end (each (λ (r : RowView). (column : ℕ) → K (cell_at r column)) (out_line shown) (λ r known. an-out shown led r known) (take FEW_ROWS rs) (All-take (λ (r : RowView). (column : ℕ) → K (cell_at r column)) FEW_ROWS rs all)) (mark table_end own-table_end))))
+
+  run-out : (notes : Noted) → SceneKnown (scene_in notes) → All (λ (r : RowView). (column : ℕ) → K (cell_at r column)) (rows_in s.Plan notes.report) → All K (count_texts notes) → (missed : ℕ) → K (decimal missed) → IsMadeOf K L E O (outs_section (scene_in notes) (rows_in s.Plan notes.report) missed)
+  unfolding outs_section outs_back small_words
+  run-out notes seen all counts missed known =
+      let scene : SceneView = scene_in notes in
+      let outs : List RowView = outs_first scene (rows_in s.Plan notes.report) in
+      let lines : List ℕ = outs_html scene.shown missed outs in
+      let past : List ℕ = more_html missed (codes "week of a record is") (codes "weeks of records are") in
+      join out_first_open (lines ++ (past ++ section_end)) (mark out_first_open own-out_first_open)
+      (join lines (past ++ section_end) (outs-of scene.shown missed outs seen.led (outs-known notes seen all counts) (outs-text notes counts 1 [] (omega arith)))
+      (join past section_end (further missed (codes "week of a record is") (codes "weeks of records are") known (small (codes "week of a record is") 9 (omega arith) refl) (small (codes "weeks of records are") 10 (omega arith) refl)) (mark section_end own-section_end)))
 
   pub page : (title : List ℕ) (notes : Noted) → K title → All (λ (r : RowView). (column : ℕ) → K (cell_at r column)) notes.history → All (λ (r : RowView). (column : ℕ) → K (cell_at r column)) notes.report → All K (count_texts notes)
       → All (λ (r : RowView). L (cell_at r 0)) (shown_items (item_lists notes.report)) → All (λ (r : RowView). E (cell_at r 0)) notes.history
       → ((name : List ℕ) → has_item (shown_items (item_lists notes.report)) name ≡ true → All (λ (r : RowView). O (cell_at r 1) name) (rows_named name (rows_in s.Orders notes.report))) → IsMadeOf K L E O (page_html title notes)
-  unfolding page_html page_of top_html rest_html items_of
+  unfolding page_html page_of top_html middle_html rest_html items_of
   page title notes known entries all counts led kept leads =
       let count : (k : ℕ) → k < 19 → K (get_or (own_counts notes) k []) = λ k within. All-contains K (count_texts notes) (get_or (own_counts notes) k []) counts (Contains-append_left (own_counts notes) (listed_texts notes) (get_or (own_counts notes) k []) (All-contains_itself (own_counts notes) k [] (omega (arith, within)))) in
       let of-list : (rs : List RowView) → Contains (row_lists notes) rs → Counted rs = λ rs has. counted-list notes counts rs has in
@@ -1569,7 +1670,9 @@ module _ (K L E : List ℕ → Type 0) (O : List ℕ → List ℕ → Type 0) (w
       let calls : List ℕ = refused_section shown notes.history notes.counts.history in
       let todos : List ℕ = todo_html scene lists.messages notes.counts.messages in
       let of-messages : AllCounted lists.messages = record { of-late = of-list (messages_of lists.messages late) (1, omega arith, refl); of-release = of-list (messages_of lists.messages release) (2, omega arith, refl); of-earlier = of-list (messages_of lists.messages earlier) (3, omega arith, refl); of-later = of-list (messages_of lists.messages later) (4, omega arith, refl); of-cancel = of-list (messages_of lists.messages cancel) (5, omega arith, refl); of-other = of-list (other_messages lists.messages) (6, omega arith, refl) } in
-      let centred : List ℕ = load_section loaded notes.counts.loads in
+      let run-outs : List ℕ = outs_section scene lists.plan notes.counts.plan in
+      let centred-of : List ℕ = load_section loaded notes.counts.loads in
+      let centred : List ℕ = run-outs ++ centred-of in
       let indexed : List ℕ = index_html lists.messages shown in
       let each-item : List ℕ = items_html scene lists notes.counts.promises shown in
       let item-parts : List ℕ = indexed ++ (each-item ++ more_items (unshown lists shown notes.counts) shown) in
@@ -1583,7 +1686,8 @@ module _ (K L E : List ℕ → Type 0) (O : List ℕ → List ℕ → Type 0) (w
       (join todos (centred ++ (item-parts ++ (past ++ page_end)))
       (todo scene seen lists.messages notes.counts.messages (messages-known notes counts of-lists.messages) of-messages (count 0 (omega arith)))
       (join centred (item-parts ++ (past ++ page_end))
-      (centres loaded notes.counts.loads of-loaded (of-list (overloads_first loaded) (0, omega arith, refl)) (count 1 (omega arith)))
+      (join run-outs centred-of (run-out notes seen of-lists.plan counts notes.counts.plan (outs-text notes counts 0 [] (omega arith)))
+      (centres loaded notes.counts.loads of-loaded (of-list (overloads_first loaded) (0, omega arith, refl)) (count 1 (omega arith))))
       (join item-parts (past ++ page_end)
       (join indexed (each-item ++ more_items (unshown lists shown notes.counts) shown) (index lists.messages shown (index-known notes counts led))
       (join each-item (more_items (unshown lists shown notes.counts) shown) (items scene seen lists notes.counts.promises shown of-lists of-shown led)

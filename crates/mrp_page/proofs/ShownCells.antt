@@ -11,8 +11,7 @@ use Rattle.mrp_page.specs.Laws.{part_pieces, piece_html, pieces, shown, text_of}
 use Rattle.mrp_page.specs.Kinds.{todo_html}
 use Rattle.mrp_page.specs.Layout.{page_end, page_top}
 use Rattle.mrp_page.specs.Notes.{Noted}
-use Rattle.mrp_page.specs.Centres.{load_section}
-use Rattle.mrp_page.specs.Page.{head_html, items_of, page_html, page_of, rest_html, scene_in, shown_items, top_html}
+use Rattle.mrp_page.specs.Page.{head_html, items_of, middle_html, page_html, page_of, rest_html, scene_in, shown_items, top_html}
 use Rattle.mrp_page.specs.Refused.{refused_section}
 use Rattle.mrp_page.specs.Row.{RowView, cell_at}
 use Rattle.mrp_page.specs.Rows.{rows_in}
@@ -79,7 +78,7 @@ ends title notes =
     let sums = summary_html notes.history (rows_in s.Messages notes.report) (rows_in s.Loads notes.report) in
     let calls = refused_section shown notes.history notes.counts.history in
     let todo = todo_html (scene_in notes) (rows_in s.Messages notes.report) notes.counts.messages in
-    let loads = load_section (rows_in s.Loads notes.report) notes.counts.loads in
+    let loads = middle_html (scene_in notes) notes.report notes.counts in
     let items = items_of (scene_in notes) (item_lists notes.report) notes.counts in
     let history = history_html notes.history notes.counts.history in
     let last = codes "</main>\n</body>\n" in (

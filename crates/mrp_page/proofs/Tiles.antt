@@ -11,8 +11,7 @@ use Rattle.mrp_page.specs.ItemRows.{item_lists}
 use Rattle.mrp_page.specs.Kinds.{Kind, falling_rank, in_order, messages_of, todo_html, value_rank}
 use Rattle.mrp_page.specs.Layout.{summary_tile}
 use Rattle.mrp_page.specs.Notes.{Noted}
-use Rattle.mrp_page.specs.Centres.{load_section}
-use Rattle.mrp_page.specs.Page.{page_html, page_of, rest_html, scene_in, shown_items, top_html}
+use Rattle.mrp_page.specs.Page.{middle_html, page_html, page_of, rest_html, scene_in, shown_items, top_html}
 use Rattle.mrp_page.specs.Refused.{refused_section}
 use Rattle.mrp_page.specs.Row.{RowView}
 use Rattle.mrp_page.specs.Rows.{rows_in}
@@ -47,6 +46,6 @@ unfolding page_html page_of
 summary-stands title notes =
     let shown : List RowView = shown_items (item_lists notes.report) in (
       top_html title notes.report notes.counts.items,
-      refused_section shown notes.history notes.counts.history ++ (todo_html (scene_in notes) (rows_in s.Messages notes.report) notes.counts.messages ++ (load_section (rows_in s.Loads notes.report) notes.counts.loads ++ rest_html (scene_in notes) (item_lists notes.report) notes.counts)),
+      refused_section shown notes.history notes.counts.history ++ (todo_html (scene_in notes) (rows_in s.Messages notes.report) notes.counts.messages ++ (middle_html (scene_in notes) notes.report notes.counts ++ rest_html (scene_in notes) (item_lists notes.report) notes.counts)),
       refl,
     )

@@ -12,8 +12,7 @@ use Rattle.mrp_page.specs.Frame.{count_row}
 use Rattle.mrp_page.specs.Kinds.{Kind, cancel, earlier, falling_rank, kind_html, kind_listing, kind_part, kinds, kinds_html, late, later, messages_of, note_html, open_count, open_html, order_html, order_of, other_messages, other_part, release, task_line, todo_back, todo_html, value_rank}
 use Rattle.mrp_page.specs.Layout.{cancel_open, in_open, late_open, open_pieces, order_start, order_week, out_open, release_open, rest_end, section_end, task_middle, task_row, task_supply, todo_open}
 use Rattle.mrp_page.specs.Notes.{Noted}
-use Rattle.mrp_page.specs.Centres.{load_section}
-use Rattle.mrp_page.specs.Page.{page_html, page_of, rest_html, scene_in, shown_items, top_html}
+use Rattle.mrp_page.specs.Page.{middle_html, page_html, page_of, rest_html, scene_in, shown_items, top_html}
 use Rattle.mrp_page.specs.Html.{number_html}
 use Rattle.mrp_page.specs.Orders.{is_order, linked_html}
 use Rattle.mrp_page.specs.Refused.{refused_section}
@@ -73,7 +72,7 @@ page-kinds title notes =
     let calls : List ℕ = refused_section shown notes.history notes.counts.history in
     let note : List ℕ = note_html messages notes.counts.messages in
     let last : List ℕ = more_html notes.counts.messages (codes "message, perhaps an urgent one, is") (codes "messages, urgent ones perhaps among them, are") ++ section_end in
-    let rest : List ℕ = load_section (rows_in s.Loads notes.report) notes.counts.loads ++ rest_html (scene_in notes) lists notes.counts in
+    let rest : List ℕ = middle_html (scene_in notes) notes.report notes.counts ++ rest_html (scene_in notes) lists notes.counts in
     (top ++ (sums ++ (calls ++ (todo_open ++ note))), last ++ rest, placed top sums calls todo_open note (kinds_html (scene_in notes) messages) last rest)
 
 pub kinds-are : (scene : SceneView) (messages : List RowView) → kinds_html scene messages ≡ flat_map (kind_part scene messages) kinds ++ other_part scene messages

@@ -772,10 +772,41 @@ wait_end = codes "</td><td></td></tr>\n"
 unfoldable pub waits_open : List ℕ
 waits_open = codes "<div class=scroll tabindex=0 role=region aria-label=\"What its orders wait for\"><table class=\"list waits\">\n<caption><span>What its orders wait for</span></caption>\n<thead><tr><th class=t scope=col>Order</th><th scope=col>Pieces</th><th class=t scope=col>Component</th><th class=t scope=col>Supply</th><th scope=col>Weeks late</th></tr></thead>\n<tbody>"
 
--- what comes between the head of a page and its parts: links to these
-unfoldable pub main_open : List ℕ
-main_open = codes "</p>\n</header>\n<nav><a href=\"#unkept\">Not promised</a><a href=\"#todo\">To do</a><a href=\"#centres\">Work centres</a><a href=\"#items\">Items</a><a href=\"#history\">History</a></nav>\n<main>\n"
-
 -- what it ends with
 unfoldable pub link_end : List ℕ
 link_end = codes "</a>"
+
+-- what the section *Runs out first* begins with
+unfoldable pub out_first_open : List ℕ
+out_first_open = codes "<section id=out-first>\n<h2>Runs out first</h2>\n"
+
+-- what stands there if no item runs out
+unfoldable pub none_out : List ℕ
+none_out = codes "<p>No item: stock and the orders that are placed are enough.</p>\n"
+
+-- what stands above the items that run out first: how many there are
+unfoldable pub outs_note : List Drawn
+outs_note =
+    Mark (codes "<p class=note>The first week in which stock and the orders that are placed are not enough, what is left then without planned orders, and how late the first of these is. Items: ") ∷
+    Text 0 ∷
+    Mark (codes ".</p>\n") ∷ []
+
+-- what the table of the items that run out first begins with
+unfoldable pub outs_front : List ℕ
+outs_front = codes "<table class=\"list even waits\" aria-label=\"Runs out first\"><thead><tr><th class=t scope=col>Item</th><th scope=col>Week</th><th scope=col>Left</th><th scope=col>Weeks late</th></tr></thead>\n<tbody>"
+
+-- an item that runs out, after its name
+unfoldable pub out_cells : List Drawn
+out_cells =
+    Mark (codes "</th>") ∷
+    Number 1 ∷
+    Mark (codes "<td>") ∷
+    Text 2 ∷
+    Text 3 ∷
+    Mark (codes "</td>") ∷
+    Number 4 ∷
+    Mark (codes "</tr>\n") ∷ []
+
+-- what comes between the head of a page and its parts: links to these
+unfoldable pub main_open : List ℕ
+main_open = codes "</p>\n</header>\n<nav><a href=\"#unkept\">Not promised</a><a href=\"#todo\">To do</a><a href=\"#out-first\">Runs out first</a><a href=\"#centres\">Work centres</a><a href=\"#items\">Items</a><a href=\"#history\">History</a></nav>\n<main>\n"

@@ -19,6 +19,7 @@ pub mod Layout
 pub mod Names
 pub mod Notes
 pub mod Orders
+pub mod Outs
 pub mod Page
 pub mod Pictures
 pub mod Places

@@ -10,6 +10,7 @@ use Rattle.mrp_page.specs.Items.{index_html, items_html}
 use Rattle.mrp_page.specs.Kinds.{todo_html}
 use Rattle.mrp_page.specs.Layout.{page_end, page_head, page_top, style}
 use Rattle.mrp_page.specs.Notes.{Noted}
+use Rattle.mrp_page.specs.Outs.{outs_section}
 use Rattle.mrp_page.specs.Refused.{refused_section}
 use Rattle.mrp_page.specs.Row.{RowView, cell_at}
 use Rattle.mrp_page.specs.Rows.{leaders, rows_in, rows_named}
@@ -54,6 +55,10 @@ rest_html scene rows counts = items_of scene rows counts ++ (history_html scene.
 unfoldable pub top_html : List ℕ → List RowView → ℕ → List ℕ
 top_html title report items = head_html (heading title report items)
 
+-- the items that run out first, and the work centres
+unfoldable pub middle_html : SceneView → List RowView → Counts → List ℕ
+middle_html scene report counts = outs_section scene (rows_in s.Plan report) counts.plan ++ load_section (rows_in s.Loads report) counts.loads
+
 -- a page, from what its parts are drawn from
 unfoldable pub page_of : List ℕ → Noted → SceneView → List ℕ
 page_of title notes scene =
@@ -61,7 +66,7 @@ page_of title notes scene =
     ++ (summary_html notes.history (rows_in s.Messages notes.report) (rows_in s.Loads notes.report)
     ++ (refused_section scene.shown notes.history notes.counts.history
     ++ (todo_html scene (rows_in s.Messages notes.report) notes.counts.messages
-    ++ (load_section (rows_in s.Loads notes.report) notes.counts.loads
+    ++ (middle_html scene notes.report notes.counts
     ++ rest_html scene (item_lists notes.report) notes.counts))))
 
 -- what a page is drawn from

@@ -1,6 +1,6 @@
 //! What follows from the definitions alone, each law the contract of a function that does nothing.
 
-ghost use Rattle.std.specs.Prelude.{◌≡◌, ◌++◌, ◌+◌, ◌-◌, ◌^◌, ◌&&◌, ◌⊎◌, ◌<◌, ◌≤◌, ℕ, All, Contains, IsPermutation, List, Option, Some, false, [], ◌∷◌, codes, count_by, decimal, drop, filter, find, flat_map, length, slice_index_or, take, ◌*◌, Bool, None, true, min};
+ghost use Rattle.std.specs.Prelude.{◌≡◌, ◌++◌, ◌+◌, ◌-◌, ◌^◌, ◌&&◌, ◌⊎◌, ◌<◌, ◌≤◌, ℕ, All, Contains, IsPermutation, List, Option, Some, false, [], ◌∷◌, codes, count_by, decimal, drop, filter, find, flat_map, length, slice_index_or, take, ◌*◌, Bool, None, true, min, map};
 ghost use Rattle.mrp_page.specs.Centres.{all_loads, bars_html, later_loads, loads_html, loads_table, over_listing, over_or_none, shares_html, times_html};
 ghost use Rattle.mrp_page.specs.Shares.{overloads_first, share, share_of, share_row, week_rank};
 ghost use Rattle.mrp_qty.specs.Minutes.{minutes_text_of};
@@ -9,6 +9,7 @@ ghost use Rattle.mrp_page.specs.Items.{item_html, item_lists_html, items_html, n
 ghost use Rattle.mrp_page.specs.Orders.{is_order, linked_html, numbered, order_link};
 ghost use Rattle.mrp_page.specs.Scene.{SceneView};
 ghost use Rattle.mrp_page.specs.Html.{number_html};
+ghost use Rattle.mrp_page.specs.Outs.{distance, is_planned, out_row, outs_first, sign};
 ghost use Rattle.mrp_page.specs.ByWord.{has_one_of, with_word};
 ghost use Rattle.mrp_page.specs.Columns.{column};
 ghost use Rattle.mrp_page.specs.Counted.{kept_of, missed_of, wanted_rows};
@@ -23,7 +24,7 @@ ghost use Rattle.mrp_page.specs.Layout.{above_bar, above_end, available_label, b
 ghost use Rattle.mrp_page.specs.Frame.{count_row};
 ghost use Rattle.mrp_page.specs.Kinds.{Kind, cancel, earlier, kind_html, kind_part, kinds, kinds_html, late, later, messages_of, open_count, open_html, order_of, other_messages, other_part, release, task_line, value_rank};
 ghost use Rattle.std.specs.List.Sorted.{IsNonDecreasingBy};
-ghost use Rattle.mrp_page.specs.Rows.{rank};
+ghost use Rattle.mrp_page.specs.Rows.{leaders, rank};
 ghost use Rattle.mrp_page.specs.Notes.{Noted, notes_of};
 ghost use Rattle.mrp_page.specs.Page.{page_html, scene_in, shown_items};
 ghost use Rattle.mrp_page.specs.Pictures.{drawn_balance};
@@ -131,6 +132,15 @@ pub fn overloads_stand_in_order()
     ensures once { (loads : List RowView) → IsPermutation (filter is_over loads) (overloads_first loads) }
     ensures order { (loads : List RowView) → IsNonDecreasingBy week_rank (overloads_first loads) }
     ensures shown { (missed : ℕ) (load : RowView) (rows : List RowView) → over_or_none missed (load ∷ rows) ≡ row_html over_open (count_row (length (load ∷ rows)) [] []) ++ capped_html over_listing SOME_ROWS (load ∷ rows) }
+{}
+
+/// The items that run out stand by week: each once, at the first week in which orders are planned to be
+/// received, with its balance less those.
+pub fn items_run_out_in_order()
+    ensures once { (scene : SceneView) (plan : List RowView) → IsPermutation (map (out_row scene) (leaders [] (filter is_planned plan))) (outs_first scene plan) }
+    ensures order { (scene : SceneView) (plan : List RowView) → IsNonDecreasingBy week_rank (outs_first scene plan) }
+    ensures over { (balance planned : ℕ) → planned ≤ balance → (sign balance planned ≡ []) × (distance balance planned ≡ balance - planned) }
+    ensures short { (balance planned : ℕ) → balance < planned → (sign balance planned ≡ codes "-") × (distance balance planned ≡ planned - balance) }
 {}
 
 /// The supplies of an item have one of two labels: *firm master schedule* for an item with promises or with

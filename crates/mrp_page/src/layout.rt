@@ -2,7 +2,7 @@
 
 ghost use Rattle.std.specs.Prelude.{◌≡◌, map};
 ghost use Rattle.mrp_page.specs.Template.{drawn_of};
-ghost use Rattle.mrp_page.specs.Layout.{above_bar, above_end, available_label, balance_chart, balance_label, booked_label, cancel_front, cancel_open, capacity_label, centre_head, centre_open, centre_tile, centres_open, cut_bar, entry, entry_link_open, firm_label, grid_end, gross_label, history_end, history_open, hot_bar, hot_end, in_front, in_open, index_count, index_end, index_open, item_head, item_tasks_end, item_tasks_open, items_end, items_open, late_front, late_open, later_open, link_end, link_middle, link_open, lists_open, load_chart, load_end, load_label, low_bar, low_end, main_open, more, no_promises, no_record, none_over, none_refused, nothing_to_do, open_pieces, order, order_address, order_start, order_unknown, order_week, orders_open, other_cells, other_front, other_open, other_words, out_front, out_open, over_back, over_front, over_label, over_line, over_open, page_end, page_head, page_top, peg_back, peg_booking, peg_front, peg_middle, peg_need, peg_parent, peg_supply, pegs_open, planned_label, point, points_end, record_head, refused_answer, refused_asked, refused_desk, refused_end, refused_front, refused_open, refused_row, release_front, release_open, rest_end, rest_open, row_end, scheduled_label, section_end, share_cell, share_label, starts_label, style, summary_open, summary_tile, table_end, task_head, task_middle, task_row, task_supply, task_words, to_week, todo_note, todo_open, wait_end, wait_late, wait_middle, wait_order, wait_supply, waits_open, week, weeks_end, weeks_late};
+ghost use Rattle.mrp_page.specs.Layout.{above_bar, above_end, available_label, balance_chart, balance_label, booked_label, cancel_front, cancel_open, capacity_label, centre_head, centre_open, centre_tile, centres_open, cut_bar, entry, entry_link_open, firm_label, grid_end, gross_label, history_end, history_open, hot_bar, hot_end, in_front, in_open, index_count, index_end, index_open, item_head, item_tasks_end, item_tasks_open, items_end, items_open, late_front, late_open, later_open, link_end, link_middle, link_open, lists_open, load_chart, load_end, load_label, low_bar, low_end, main_open, more, no_promises, no_record, none_out, none_over, none_refused, nothing_to_do, open_pieces, order, order_address, order_start, order_unknown, order_week, orders_open, other_cells, other_front, other_open, other_words, out_cells, out_first_open, out_front, out_open, outs_front, outs_note, over_back, over_front, over_label, over_line, over_open, page_end, page_head, page_top, peg_back, peg_booking, peg_front, peg_middle, peg_need, peg_parent, peg_supply, pegs_open, planned_label, point, points_end, record_head, refused_answer, refused_asked, refused_desk, refused_end, refused_front, refused_open, refused_row, release_front, release_open, rest_end, rest_open, row_end, scheduled_label, section_end, share_cell, share_label, starts_label, style, summary_open, summary_tile, table_end, task_head, task_middle, task_row, task_supply, task_words, to_week, todo_note, todo_open, wait_end, wait_late, wait_middle, wait_order, wait_supply, waits_open, week, weeks_end, weeks_late};
 
 use crate::style::STYLE;
 use crate::template::Part;
@@ -1301,18 +1301,71 @@ pub(crate) fn waits_open() -> &'static [u8]
     b"<div class=scroll tabindex=0 role=region aria-label=\"What its orders wait for\"><table class=\"list waits\">\n<caption><span>What its orders wait for</span></caption>\n<thead><tr><th class=t scope=col>Order</th><th scope=col>Pieces</th><th class=t scope=col>Component</th><th class=t scope=col>Supply</th><th scope=col>Weeks late</th></tr></thead>\n<tbody>"
 }
 
-// What comes between the head of a page and its parts: links to these.
-#[tactic(auto, unfolding(crate::specs::Layout::main_open))]
-pub(crate) fn main_open() -> &'static [u8]
-    ensures { result.now ≡ main_open }
-{
-    b"</p>\n</header>\n<nav><a href=\"#unkept\">Not promised</a><a href=\"#todo\">To do</a><a href=\"#centres\">Work centres</a><a href=\"#items\">Items</a><a href=\"#history\">History</a></nav>\n<main>\n"
-}
-
 // What it ends with.
 #[tactic(auto, unfolding(crate::specs::Layout::link_end))]
 pub(crate) fn link_end() -> &'static [u8]
     ensures { result.now ≡ link_end }
 {
     b"</a>"
+}
+
+// What the section *Runs out first* begins with.
+#[tactic(auto, unfolding(crate::specs::Layout::out_first_open))]
+pub(crate) fn out_first_open() -> &'static [u8]
+    ensures { result.now ≡ out_first_open }
+{
+    b"<section id=out-first>\n<h2>Runs out first</h2>\n"
+}
+
+// What stands there if no item runs out.
+#[tactic(auto, unfolding(crate::specs::Layout::none_out))]
+pub(crate) fn none_out() -> &'static [u8]
+    ensures { result.now ≡ none_out }
+{
+    b"<p>No item: stock and the orders that are placed are enough.</p>\n"
+}
+
+// What stands above the items that run out first: how many there are.
+#[tactic(auto, unfolding(crate::specs::Layout::outs_note))]
+pub(crate) fn outs_note() -> &'static [Part]
+    ensures { map drawn_of result.now ≡ outs_note }
+{
+    &[
+        Part::Markup(b"<p class=note>The first week in which stock and the orders that are placed are not enough, what is left then without planned orders, and how late the first of these is. Items: "),
+        Part::Cell(0),
+        Part::Markup(b".</p>\n"),
+    ]
+}
+
+// What the table of the items that run out first begins with.
+#[tactic(auto, unfolding(crate::specs::Layout::outs_front))]
+pub(crate) fn outs_front() -> &'static [u8]
+    ensures { result.now ≡ outs_front }
+{
+    b"<table class=\"list even waits\" aria-label=\"Runs out first\"><thead><tr><th class=t scope=col>Item</th><th scope=col>Week</th><th scope=col>Left</th><th scope=col>Weeks late</th></tr></thead>\n<tbody>"
+}
+
+// An item that runs out, after its name.
+#[tactic(auto, unfolding(crate::specs::Layout::out_cells))]
+pub(crate) fn out_cells() -> &'static [Part]
+    ensures { map drawn_of result.now ≡ out_cells }
+{
+    &[
+        Part::Markup(b"</th>"),
+        Part::Number(1),
+        Part::Markup(b"<td>"),
+        Part::Cell(2),
+        Part::Cell(3),
+        Part::Markup(b"</td>"),
+        Part::Number(4),
+        Part::Markup(b"</tr>\n"),
+    ]
+}
+
+// What comes between the head of a page and its parts: links to these.
+#[tactic(auto, unfolding(crate::specs::Layout::main_open))]
+pub(crate) fn main_open() -> &'static [u8]
+    ensures { result.now ≡ main_open }
+{
+    b"</p>\n</header>\n<nav><a href=\"#unkept\">Not promised</a><a href=\"#todo\">To do</a><a href=\"#out-first\">Runs out first</a><a href=\"#centres\">Work centres</a><a href=\"#items\">Items</a><a href=\"#history\">History</a></nav>\n<main>\n"
 }

@@ -21,6 +21,7 @@ pub mod limits;
 mod names;
 mod notes;
 mod orders;
+mod outs;
 mod page;
 mod places;
 mod read;

@@ -1,7 +1,7 @@
 //! A page, drawn from what was kept of a day.
 
 ghost use Rattle.std.specs.Prelude.{◌≡◌, ◌++◌, IfOk, OnOk, flat_map, map, take};
-ghost use Rattle.mrp_page.specs.Page.{head_html, is_told, items_of, page_html, page_of, rest_html, told_first, top_html, untold_rows};
+ghost use Rattle.mrp_page.specs.Page.{head_html, is_told, items_of, middle_html, page_html, page_of, rest_html, told_first, top_html, untold_rows};
 
 use crate::centres::put_centres;
 use crate::counts::Counts;
@@ -14,6 +14,7 @@ use crate::kinds::put_todo;
 use crate::layout::{page_end, page_head, page_top, style};
 use crate::limits::MOST_ITEMS;
 use crate::notes::Notes;
+use crate::outs::put_outs_section;
 use crate::refused::put_refused;
 use crate::row::Row;
 use crate::rows::{leaders, rows_in, rows_named};
@@ -142,6 +143,22 @@ fn put_top(
     put_head(page, &heading)
 }
 
+// Adds the items that run out first, and the work centres.
+#[tactic(auto, unfolding(crate::specs::Page::middle_html))]
+fn put_middle(
+    alloc: Global,
+    page: &mut Html,
+    scene: &Scene<'_>,
+    report: &[Row],
+    counts: Counts,
+) -> Result<(), NoMemory>
+    ensures { OnOk result (page.new ≡ page.old ++ middle_html scene.now report.now counts) }
+{
+    let plan = rows_in(report, Section::Plan);
+    put_outs_section(alloc, page, scene, plan, counts.plan)?;
+    put_centres(alloc, page, rows_in(report, Section::Loads), counts.loads)
+}
+
 // Adds a page, from what its parts are drawn from.
 #[tactic(auto, unfolding(crate::specs::Page::page_of))]
 fn put_page_of(
@@ -167,7 +184,7 @@ fn put_page_of(
         counts.history,
     )?;
     put_todo(alloc, page, scene, rows.messages(), counts.messages)?;
-    put_centres(alloc, page, loads, counts.loads)?;
+    put_middle(alloc, page, scene, report, counts)?;
     put_rest(alloc, page, scene, &rows, counts)
 }
 
