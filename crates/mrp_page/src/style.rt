@@ -52,6 +52,8 @@ th{font-weight:400;text-align:left}
 .even th,.even td{overflow-wrap:anywhere}
 .even th:first-child,.even .t{width:26%}
 .over b{display:inline-block;min-width:5.5em;text-align:right}
+.waits td:last-child{color:#b32626;font-weight:600}
+.waits td.z:last-child{color:#66727f;font-weight:400}
 .index{columns:12rem;column-gap:1.5rem}
 tr:target,section:target>h2,section:target>h3{background:#fff3c4}
 .scroll{overflow-x:auto}
@@ -74,5 +76,5 @@ polyline{stroke:#2b6cb0;stroke-width:2}
 .more{margin:.3rem 0}
 main:has(>.more) .item details .scroll::after{content:\"Orders and pegs that are not on this page are counted behind the items.\";color:#566472}
 @media (max-width:40rem){:root{--label:7rem}body{--week:4.2rem;padding:0 .6rem 2rem;font-size:13px}nav{margin:0 -.6rem;padding:.4rem .6rem}nav a{margin-right:.7rem}.sum a{padding:.1rem .5rem;flex:1 1 9rem}.even{font-size:.8rem}.even th,.even td{padding-right:.3rem}.even th:first-child,.even .t{width:25%}}
-@media print{@page{size:landscape;margin:1cm}body{--label:11rem;--week:4.1rem;padding:0;font-size:10px}nav,h2 a,h3 a{display:none}a{color:inherit;text-decoration:none}.scroll{overflow:visible}h2,h3,caption,summary,thead,.chart,.item .todo{break-after:avoid}tr,li,.grid,.chart{break-inside:avoid}section{padding:.5rem 0}svg{height:3rem}summary{list-style:none}.kind .rest>summary,#unkept .rest>summary{display:none}.kind::details-content,.rest::details-content{content-visibility:visible;block-size:auto}.load,.hot,.above,.cut,.todo td,.sum a,.kind{print-color-adjust:exact}}
+@media print{@page{size:landscape;margin:1cm}body{--label:11rem;--week:4.1rem;padding:0;font-size:10px}nav,h2 a,h3 a{display:none}a{color:inherit;text-decoration:none}.scroll{overflow:visible}h2,h3,caption,summary,thead,.chart,.item .todo{break-after:avoid}tr,li,.grid,.chart{break-inside:avoid}section{padding:.5rem 0}svg{height:3rem}summary{list-style:none}#todo .rest>summary,#unkept .rest>summary{display:none}#todo details::details-content,#unkept details::details-content{content-visibility:visible;block-size:auto}.load,.hot,.above,.cut,.todo td,.sum a,.kind{print-color-adjust:exact}}
 ";
