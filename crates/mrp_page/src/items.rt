@@ -56,7 +56,8 @@ fn put_need(page: &mut Html, scene: &Scene<'_>, peg: &Row) -> Result<(), NoMemor
         page.markup(peg_booking())?;
         put_entry_name(page, scene.history(), peg.cell(3))
     } else if has_word(2, b"parent", peg) {
-        put_linked(page, scene, parent_of(scene, peg), peg_parent(), peg)
+        let parent = parent_of(scene, peg);
+        put_linked(page, scene, parent, peg_parent(), peg)
     } else {
         put_row(page, peg_need(), peg)
     }
@@ -66,7 +67,8 @@ fn put_need(page: &mut Html, scene: &Scene<'_>, peg: &Row) -> Result<(), NoMemor
 fn put_supply(page: &mut Html, scene: &Scene<'_>, peg: &Row) -> Result<(), NoMemory>
     ensures { OnOk result (page.new ≡ page.old ++ supply_html scene.now peg.now) }
 {
-    put_linked(page, scene, supplier_of(scene, peg), peg_supply(), peg)
+    let supplier = supplier_of(scene, peg);
+    put_linked(page, scene, supplier, peg_supply(), peg)
 }
 
 // Adds a peg: where pieces of a supply go.
@@ -136,13 +138,15 @@ fn put_late(page: &mut Html, order: Option<&Row>) -> Result<(), NoMemory>
 fn put_wait(page: &mut Html, scene: &Scene<'_>, peg: &Row) -> Result<(), NoMemory>
     ensures { OnOk result (page.new ≡ page.old ++ wait_html scene.now peg.now) }
 {
+    let parent = parent_of(scene, peg);
+    let supplier = supplier_of(scene, peg);
     page.markup(peg_front())?;
-    put_linked(page, scene, parent_of(scene, peg), wait_order(), peg)?;
+    put_linked(page, scene, parent, wait_order(), peg)?;
     put_row(page, wait_middle(), peg)?;
     put_item_name(page, scene.shown(), peg.name())?;
     page.markup(wait_supply())?;
     put_supply(page, scene, peg)?;
-    put_late(page, supplier_of(scene, peg))
+    put_late(page, supplier)
 }
 
 // Adds components that orders wait for.
@@ -178,7 +182,8 @@ fn put_item_lists(
 ) -> Result<(), NoMemory>
     ensures { OnOk result (page.new ≡ page.old ++ item_lists_html scene.now name.now) }
 {
-    let waits = waits_among(alloc, scene.pegs(), name)?;
+    let pegs = scene.pegs();
+    let waits = waits_among(alloc, pegs, name)?;
     page.markup(lists_open())?;
     put_orders(page, scene.orders_of(name))?;
     put_pegs(page, scene, scene.pegs_of(name))?;

@@ -63,7 +63,8 @@ fn order_among<'a>(
 pub(crate) fn numbered<'a>(scene: &Scene<'a>, name: &[u8], number: &[u8]) -> Option<&'a Row>
     ensures { option_copied result ≡ numbered scene.now name.now number.now }
 {
-    numbered_among(scene.orders_of(name), name, number)
+    let orders = scene.orders_of(name);
+    numbered_among(orders, name, number)
 }
 
 // The order of an item with this number and kind, if it is kept.
@@ -75,7 +76,8 @@ pub(crate) fn ordered<'a>(
 ) -> Option<&'a Row>
     ensures { option_copied result ≡ ordered scene.now name.now kind.now number.now }
 {
-    order_among(scene.orders_of(name), name, kind, number)
+    let orders = scene.orders_of(name);
+    order_among(orders, name, kind, number)
 }
 
 // Adds what a link to an order begins with.
@@ -155,5 +157,6 @@ fn supplied(pegs: &[Row], supply: &[u8], source: &[u8]) -> u64
 pub(crate) fn pieces_of(scene: &Scene<'_>, name: &[u8], supply: &[u8], source: &[u8]) -> u64
     ensures { result ≡ pieces_of scene.now name.now supply.now source.now }
 {
-    supplied(scene.pegs_of(name), supply, source)
+    let pegs = scene.pegs_of(name);
+    supplied(pegs, supply, source)
 }
