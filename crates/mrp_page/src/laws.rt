@@ -8,7 +8,7 @@ ghost use Rattle.mrp_page.specs.Amounts.{amount};
 ghost use Rattle.mrp_page.specs.ByWord.{has_one_of, with_word};
 ghost use Rattle.mrp_page.specs.Columns.{column};
 ghost use Rattle.mrp_page.specs.Counted.{kept_of, missed_of, wanted_rows};
-ghost use Rattle.mrp_page.specs.Draw.{all_weeks, amounts_html, balance_html, bars_html, booked_html, framed_record, is_scheduled, item_html, item_name_html, items_html, later_record, link_html, loads_html, measure_html, more_html, named_record, named_tasks, planned_html, points_html, promised_html, record_or_none, record_rows, record_table, supplies_html};
+ghost use Rattle.mrp_page.specs.Draw.{all_weeks, amounts_html, balance_html, booked_html, framed_record, is_scheduled, item_html, item_name_html, items_html, later_record, link_html, measure_html, more_html, named_record, named_tasks, planned_html, points_html, promised_html, record_or_none, record_rows, record_table, supplies_html};
 ghost use Rattle.mrp_page.specs.Escaped.{escaped};
 ghost use Rattle.mrp_page.specs.Folded.{Listing, capped_html, folded_html, hidden_html, listed_html};
 ghost use Rattle.mrp_page.specs.ItemRows.{ItemLists, item_lists};
