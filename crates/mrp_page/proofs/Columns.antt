@@ -1,5 +1,5 @@
 -- Which columns of a day the rows of a record and of a work centre show.
-use Rattle.std.proofs.Common.{◌≡◌, Bool, true, false, List, ◌∷◌, ◌++◌, ℕ, codes, drop, take, refl, ap, ap₂}
+use Rattle.std.proofs.Common.{◌≡◌, Bool, true, false, List, [], ◌∷◌, ◌++◌, ℕ, codes, drop, take, refl, ap, ap₂}
 use Rattle.std.specs.List.{flat_map}
 use Rattle.mrp_page.specs.Columns.{column}
 use Rattle.mrp_page.specs.Centres.{all_loads, bars_html, later_loads, loads_html, loads_table, shares_html, times_html}

@@ -32,10 +32,10 @@ use Rattle.mrp_page.specs.Outs.{falling_late, first_planned, is_planned, latenes
 use Rattle.mrp_page.specs.Page.{head_html, is_told, items_of, middle_html, page_html, page_of, rest_html, scene_in, shown_items, told_first, top_html, untold_rows}
 use Rattle.mrp_page.specs.Orders.{is_numbered, is_order, linked_html, numbered, order_link, ordered}
 use Rattle.mrp_page.specs.Refused.{answer_html, asked_of, call_html, caller_html, entry_link_html, entry_name_html, is_booking, refusals, refused_back, refused_lines, refused_listing, refused_or_none, refused_rows, refused_section}
-use Rattle.mrp_page.specs.Row.{Cells, RowView, cell_at, is_in, is_of, same_text}
+use Rattle.mrp_page.specs.Row.{Cells, RowView, cell_at, is_in, is_of}
 use Rattle.mrp_page.specs.Rows.{greatest, higher, leader_rows, leaders, rank, rows_in, rows_named, stretch}
 use Rattle.mrp_page.specs.Scene.{SceneView}
-use Rattle.mrp_page.specs.Shares.{falling_share, from_point, minutes_at, minutes_html, minutes_tag, overloads_first, share_cells, share_of, share_row, week_rank, whole}
+use Rattle.mrp_page.specs.Shares.{falling_share, is_whole, minutes_at, minutes_html, minutes_tag, overloads_first, share_cells, share_of, share_row, week_rank, whole}
 use Rattle.mrp_page.specs.Summary.{calls_tiles, centre_count, centres_tile, count_with, is_over, is_undone, kind_tile, kinds_tiles, overloads, place_or, summary_html, tile, tile_html}
 use Rattle.mrp_page.specs.Template.{Drawn, Mark, Number, Text, Where, flow_at, flows_html, has_word, number_at, numbers_html, part_html, row_html, rows_html}
 use Rattle.mrp_page.specs.declared.limits.TheConstants.{FEW_ROWS, MOST_ITEMS, MOST_LINES, SOME_ROWS, TABLE_WEEKS}
@@ -1167,7 +1167,7 @@ module _ (K L E : List ℕ → Type 0) (O : List ℕ → List ℕ → Type 0) (w
 
   minutes-tag : (t : List ℕ) → K t → IsMadeOf K L E O (minutes_tag t)
   minutes-tag t known =
-      either (same_text (from_point t) (codes ".000")) (codes "<td>") (codes "<td title=\"" ++ (escaped t ++ codes "\">")) (mark (codes "<td>") own-cell)
+      either (is_whole t) (codes "<td>") (codes "<td title=\"" ++ (escaped t ++ codes "\">")) (mark (codes "<td>") own-cell)
       (join (codes "<td title=\"") (escaped t ++ codes "\">") (mark (codes "<td title=\"") own-titled) (join (escaped t) (codes "\">") (text t known) (mark (codes "\">") own-tag-end)))
 
   minutes : (t : List ℕ) → K t → K (whole t) → IsMadeOf K L E O (minutes_html t)

@@ -1,12 +1,11 @@
 -- Shares of a capacity are exact, and the numbers that they are made of are read from their texts.
-use Rattle.std.proofs.Common.{◌≡◌, ◌≢◌, ◌∙◌, ◌⊎◌, ◌+◌, ◌-◌, ◌*◌, ◌^◌, ◌<◌, ◌≤◌, ℕ, Bool, true, false, Option, Some, None, List, [], ◌∷◌, ◌++◌, codes, decimal, get_or, length, drop, drop-cons, add-one, min, refl, sym, ap, arith, inl, inr}
+use Rattle.std.proofs.Common.{◌≡◌, ◌≢◌, ◌∙◌, ◌⊎◌, ◌+◌, ◌-◌, ◌*◌, ◌^◌, ◌<◌, ◌≤◌, ℕ, Bool, true, false, Option, Some, None, List, [], ◌∷◌, ◌++◌, codes, decimal, min, refl, sym, ap, arith, inl, inr}
 use Rattle.std.specs.Prelude.{◌==◌, ◌/◌, ◌%◌, nat_le, if◌then◌else◌}
 use Rattle.std.specs.Char.{is_ascii_digit}
 use Rattle.std.specs.Int.{div_ceil}
-use Rattle.std.specs.List.{filter}
+use Rattle.std.specs.List.{filter, fold}
 use Rattle.std.proofs.lemmas.Bool.{cases_lt, eq-eqb, le-leb, lt-leb, ne_eqb}
 use Rattle.std.proofs.lemmas.Grind.{div_ceil_times}
-use Rattle.std.proofs.lemmas.List.{drop_all}
 use Rattle.std.proofs.lemmas.Nat.{mul-le}
 use Rattle.mrp_qty.specs.Digits.{value_after, value_of}
 use Rattle.mrp_qty.specs.Minutes.{minutes_text_of}
@@ -38,22 +37,21 @@ after-capped n most digits = by (cases_lt most n)
         let same : min n most ≡ n = omega (arith, within) in
         rw same refl
 
--- one more byte is read
-pub digit-next : (text : List ℕ) (k n m byte d : ℕ) → k < length text → byte ≡ get_or text k d → m ≡ with_digit n byte
-    → min (value_after m (filter is_ascii_digit (drop (k + 1) text))) MOST_AMOUNT ≡ min (value_after n (filter is_ascii_digit (drop k text))) MOST_AMOUNT
-digit-next text k n m byte d within is next = rw (drop-cons text k d within, sym is, add-one, next) (by (is_ascii_digit byte) refl)
+-- what is read byte by byte is what the digits stand for
+pub digits-are : (text : List ℕ) (n : ℕ) → n ≤ MOST_AMOUNT → fold with_digit n text ≡ min (value_after n (filter is_ascii_digit text)) MOST_AMOUNT
+digits-are [] n within = omega (arith, within)
+digits-are (byte ∷ text) n within = by (is_ascii_digit byte) (digits-are text n within) (digits-are text (min (n * 10 + (byte - 48)) MOST_AMOUNT) (omega arith))
   where
     rest : List ℕ
-    rest = filter is_ascii_digit (drop (k + 1) text)
+    rest = filter is_ascii_digit text
 
-    by : (b : Bool) → is_ascii_digit byte ≡ b
-        → min (value_after (if b then min (n * 10 + (byte - 48)) MOST_AMOUNT else n) rest) MOST_AMOUNT ≡ min (value_after n (if b then byte ∷ rest else rest)) MOST_AMOUNT
-    by true e = after-capped (n * 10 + (byte - 48)) MOST_AMOUNT rest
-    by false e = refl
+    next : ℕ
+    next = min (n * 10 + (byte - 48)) MOST_AMOUNT
 
--- all bytes are read
-pub all-read : (text : List ℕ) (k n : ℕ) → length text ≤ k → n ≤ MOST_AMOUNT → n ≡ min (value_after n (filter is_ascii_digit (drop k text))) MOST_AMOUNT
-all-read text k n past within = rw (drop_all k text past) (omega (arith, within))
+    by : (b : Bool) → fold with_digit n text ≡ min (value_after n rest) MOST_AMOUNT → fold with_digit next text ≡ min (value_after next rest) MOST_AMOUNT
+        → fold with_digit (if b then next else n) text ≡ min (value_after n (if b then byte ∷ rest else rest)) MOST_AMOUNT
+    by true same more = more ∙ after-capped (n * 10 + (byte - 48)) MOST_AMOUNT rest
+    by false same more = same
 
 pub minutes-read : (time : ℕ) → time ≤ MOST_AMOUNT → amount (minutes_text_of time) ≡ time
 minutes-read time small = rw (minutes_text-read time (omega (arith, small))) (omega (arith, small))

@@ -35,6 +35,29 @@ from_point minutes = drop (position_or_len is_point minutes) minutes
 abbrev pub whole : List ℕ → List ℕ
 whole minutes = if same_text (before_point minutes) (codes "0") then minutes else before_point minutes
 
+-- a share that is shown only if it is not 0
+abbrev pub shown_share : ℕ → List ℕ → List ℕ
+shown_share share percent = if share == 0 then [] else percent
+
+-- the height of a bar up to the capacity, if its share is more than that
+abbrev pub hot_height : ℕ → List ℕ
+hot_height share = if nat_le share 100 then codes "0" else codes "100"
+
+-- the height of the mark of a bar that is cut
+abbrev pub cut_height : ℕ → List ℕ
+cut_height share = if nat_le share 200 then codes "0" else codes "20"
+
+-- a mark of shares above 100
+abbrev pub share_mark : ℕ → List ℕ
+share_mark share = if nat_le share 100 then [] else codes "bad"
+
+-- how a week with this share is drawn, given the texts of the share and of the heights of its bar
+abbrev pub drawn_share : RowView → ℕ → List ℕ → List ℕ → List ℕ → RowView
+drawn_share load share percent low above = record {
+  section = s.Run;
+  cells = cell_at load 0 ∷ cell_at load 1 ∷ percent ∷ codes " %" ∷ shown_share share percent ∷ low ∷ hot_height share ∷ above ∷ cut_height share ∷ whole (cell_at load 4) ∷ share_mark share ∷ [];
+}
+
 -- how a week of a work centre is drawn: its centre, its week, its share and the sign of that, the share if it is not 0, the
 -- heights of its bar up to 100 if that is all of it, else up to 100, and from there to 200, that of the mark of a bar which is
 -- cut, the whole minutes that are over, and a mark if the share is above 100
@@ -42,9 +65,9 @@ abbrev pub share_cells : RowView → Option ℕ → Cells
 share_cells load None =
     cell_at load 0 ∷ cell_at load 1 ∷ codes "no capacity" ∷ [] ∷ codes "none" ∷ codes "0" ∷ codes "100" ∷ codes "100" ∷ codes "20" ∷ whole (cell_at load 4) ∷ codes "bad" ∷ []
 share_cells load (Some share) =
-    cell_at load 0 ∷ cell_at load 1 ∷ decimal share ∷ codes " %" ∷ (if share == 0 then [] else decimal share) ∷ decimal (if nat_le share 100 then share else 0)
-    ∷ (if nat_le share 100 then codes "0" else codes "100") ∷ decimal (min share 200 - 100) ∷ (if nat_le share 200 then codes "0" else codes "20") ∷ whole (cell_at load 4)
-    ∷ (if nat_le share 100 then [] else codes "bad") ∷ []
+    cell_at load 0 ∷ cell_at load 1 ∷ decimal share ∷ codes " %" ∷ shown_share share (decimal share) ∷ decimal (if nat_le share 100 then share else 0)
+    ∷ hot_height share ∷ decimal (min share 200 - 100) ∷ cut_height share ∷ whole (cell_at load 4)
+    ∷ share_mark share ∷ []
 
 abbrev pub share_row : RowView → RowView
 share_row load = record { section = s.Run; cells = share_cells load (share_of load) }
@@ -61,9 +84,13 @@ week_rank row = rank (cell_at row 1)
 abbrev pub overloads_first : List RowView → List RowView
 overloads_first loads = sorted_by week_rank (sorted_by falling_share (overloads loads))
 
+-- the decimals of minutes are all 0
+unfoldable pub is_whole : List ℕ → Bool
+is_whole minutes = same_text (from_point minutes) (codes ".000")
+
 -- the tag before minutes, with all decimals as its title if these count
 abbrev pub minutes_tag : List ℕ → List ℕ
-minutes_tag minutes = if same_text (from_point minutes) (codes ".000") then codes "<td>" else codes "<td title=\"" ++ (escaped minutes ++ codes "\">")
+minutes_tag minutes = if is_whole minutes then codes "<td>" else codes "<td title=\"" ++ (escaped minutes ++ codes "\">")
 
 -- a cell of a table with whole minutes; empty if there are none
 abbrev pub minutes_html : List ℕ → List ℕ

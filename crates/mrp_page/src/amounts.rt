@@ -1,6 +1,7 @@
 //! The numbers that texts stand for.
 
 ghost use Rattle.std.specs.Prelude.{◌≡◌, ◌≤◌};
+ghost use Rattle.std.specs.List.{fold};
 ghost use Rattle.mrp_page.specs.Amounts.{amount, with_digit};
 
 use crate::limits::MOST_AMOUNT;
@@ -18,10 +19,10 @@ fn with_digit(number: u64, byte: u8) -> u64
     }
 }
 
-// The number that the digits of a text stand for; minutes with three decimals stand for their
-// thousandths.
-pub(crate) fn amount(text: &[u8]) -> u64
-    ensures value { result ≡ amount text.now }
+// The number that is read byte by byte.
+#[tactic(auto, using(crate::proofs::RowLists::fold_next, crate::proofs::RowLists::fold_end))]
+fn read_digits(text: &[u8]) -> u64
+    ensures value { result ≡ fold with_digit 0 text.now }
     ensures most { result ≤ MOST_AMOUNT }
 {
     let mut number = 0;
@@ -29,4 +30,13 @@ pub(crate) fn amount(text: &[u8]) -> u64
         number = with_digit(number, *byte);
     }
     number
+}
+
+// The number that the digits of a text stand for; minutes with three decimals stand for their
+// thousandths.
+pub(crate) fn amount(text: &[u8]) -> u64
+    ensures value { result ≡ amount text.now }
+    ensures most { result ≤ MOST_AMOUNT }
+{
+    read_digits(text)
 }

@@ -156,10 +156,11 @@ fn put_framed_centre(
 }
 
 // The frame of a work centre: its name and its last week.
-fn centre_frame(alloc: Global, name: &[u8], rows: &[Row]) -> Result<Row, NoMemory>
+fn centre_frame<'x>(alloc: Global, name: &'x [u8], rows: &'x [Row]) -> Result<Row, NoMemory>
     ensures { IfOk result (λ row. row ≡ centre_frame name.now rows.now) }
 {
-    frame(alloc, name, greatest(rows, 1, b"1"), b"")
+    let last = greatest(rows, 1, b"1");
+    frame(alloc, name, last, b"")
 }
 
 // Adds a work centre: its loads against its capacities.
