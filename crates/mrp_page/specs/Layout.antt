@@ -419,15 +419,6 @@ centre_open =
     Text 0 ∷
     Mark (codes "<a href=\"#centres\">all centres</a></h3>\n") ∷ []
 
--- the frame of the picture of loads, with the name and the weeks; The line is at 100 %
-unfoldable pub load_chart : List Drawn
-load_chart =
-    Mark (codes "<div class=chart><p><span>200 %</span><span>100 %</span><span>0</span></p><svg role=\"img\" viewBox=\"0.5 -226 ") ∷
-    Text 1 ∷
-    Mark (codes " 226\" preserveAspectRatio=\"none\"><title>Load of ") ∷
-    Text 0 ∷
-    Mark (codes " as a share of its capacity, week by week</title><g transform=\"translate(-.4) scale(1 -1)\"><path class=load d=\"") ∷ []
-
 -- a week's bar up to its capacity
 unfoldable pub low_bar : List Drawn
 low_bar =
@@ -591,23 +582,6 @@ load_end =
     Mark (codes "\"/></g><path class=full d=\"M.5 -100h") ∷
     Text 1 ∷
     Mark (codes "\"/></svg></div>\n") ∷ []
-
--- the frame of the picture of balances, with the name, the weeks and the greatest number
-unfoldable pub balance_chart : List Drawn
-balance_chart =
-    Mark (codes "<div class=chart><p><span>") ∷
-    Text 2 ∷
-    Mark (codes "</span><span>0</span></p><svg role=\"img\" viewBox=\"0.5 -") ∷
-    Text 2 ∷
-    Mark (codes " ") ∷
-    Text 1 ∷
-    Mark (codes " ") ∷
-    Text 2 ∷
-    Mark (codes "\" preserveAspectRatio=\"none\"><title>Projected available balance of ") ∷
-    Text 0 ∷
-    Mark (codes "</title><path class=zero d=\"M.5 0h") ∷
-    Text 1 ∷
-    Mark (codes "\"/><polyline transform=\"scale(1 -1)\" points=\"") ∷ []
 
 -- what a link to an order begins with, before its number
 unfoldable pub order_address : List ℕ
@@ -810,3 +784,33 @@ out_cells =
 -- what comes between the head of a page and its parts: links to these
 unfoldable pub main_open : List ℕ
 main_open = codes "</p>\n</header>\n<nav><a href=\"#unkept\">Not promised</a><a href=\"#todo\">To do</a><a href=\"#out-first\">Runs out first</a><a href=\"#centres\">Work centres</a><a href=\"#items\">Items</a><a href=\"#history\">History</a></nav>\n<main>\n"
+
+-- the frame of the picture of loads, with the name and the weeks; The line is at 100 %
+unfoldable pub load_chart : List Drawn
+load_chart =
+    Mark (codes "<div class=chart><p><span>200 %</span><span>100 %</span><span>0</span></p><p class=axis><span>week 1</span><span>a line behind each thirteenth week</span><span>week ") ∷
+    Text 1 ∷
+    Mark (codes "</span></p><svg role=\"img\" viewBox=\"0.5 -226 ") ∷
+    Text 1 ∷
+    Mark (codes " 226\" preserveAspectRatio=\"none\"><title>Load of ") ∷
+    Text 0 ∷
+    Mark (codes " as a share of its capacity, week by week</title><g transform=\"translate(-.4) scale(1 -1)\"><path class=load d=\"") ∷ []
+
+-- the frame of the picture of balances, with the name, the weeks and the greatest number
+unfoldable pub balance_chart : List Drawn
+balance_chart =
+    Mark (codes "<div class=chart><p><span>") ∷
+    Text 2 ∷
+    Mark (codes "</span><span>0</span></p><p class=axis><span>week 1</span><span>a line behind each thirteenth week</span><span>week ") ∷
+    Text 1 ∷
+    Mark (codes "</span></p><svg role=\"img\" viewBox=\"0.5 -") ∷
+    Text 2 ∷
+    Mark (codes " ") ∷
+    Text 1 ∷
+    Mark (codes " ") ∷
+    Text 2 ∷
+    Mark (codes "\" preserveAspectRatio=\"none\"><title>Projected available balance of ") ∷
+    Text 0 ∷
+    Mark (codes "</title><path class=zero d=\"M.5 0h") ∷
+    Text 1 ∷
+    Mark (codes "\"/><polyline transform=\"scale(1 -1)\" points=\"") ∷ []

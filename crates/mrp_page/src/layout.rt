@@ -710,20 +710,6 @@ pub(crate) fn centre_open() -> &'static [Part]
     ]
 }
 
-// The frame of the picture of loads, with the name and the weeks. The line is at 100 %.
-#[tactic(auto, unfolding(crate::specs::Layout::load_chart))]
-pub(crate) fn load_chart() -> &'static [Part]
-    ensures { map drawn_of result.now ≡ load_chart }
-{
-    &[
-        Part::Markup(b"<div class=chart><p><span>200 %</span><span>100 %</span><span>0</span></p><svg role=\"img\" viewBox=\"0.5 -226 "),
-        Part::Cell(1),
-        Part::Markup(b" 226\" preserveAspectRatio=\"none\"><title>Load of "),
-        Part::Cell(0),
-        Part::Markup(b" as a share of its capacity, week by week</title><g transform=\"translate(-.4) scale(1 -1)\"><path class=load d=\""),
-    ]
-}
-
 // A week's bar up to its capacity.
 #[tactic(auto, unfolding(crate::specs::Layout::low_bar))]
 pub(crate) fn low_bar() -> &'static [Part]
@@ -992,28 +978,6 @@ pub(crate) fn load_end() -> &'static [Part]
         Part::Markup(b"\"/></g><path class=full d=\"M.5 -100h"),
         Part::Cell(1),
         Part::Markup(b"\"/></svg></div>\n"),
-    ]
-}
-
-// The frame of the picture of balances, with the name, the weeks and the greatest number.
-#[tactic(auto, unfolding(crate::specs::Layout::balance_chart))]
-pub(crate) fn balance_chart() -> &'static [Part]
-    ensures { map drawn_of result.now ≡ balance_chart }
-{
-    &[
-        Part::Markup(b"<div class=chart><p><span>"),
-        Part::Cell(2),
-        Part::Markup(b"</span><span>0</span></p><svg role=\"img\" viewBox=\"0.5 -"),
-        Part::Cell(2),
-        Part::Markup(b" "),
-        Part::Cell(1),
-        Part::Markup(b" "),
-        Part::Cell(2),
-        Part::Markup(b"\" preserveAspectRatio=\"none\"><title>Projected available balance of "),
-        Part::Cell(0),
-        Part::Markup(b"</title><path class=zero d=\"M.5 0h"),
-        Part::Cell(1),
-        Part::Markup(b"\"/><polyline transform=\"scale(1 -1)\" points=\""),
     ]
 }
 
@@ -1368,4 +1332,44 @@ pub(crate) fn main_open() -> &'static [u8]
     ensures { result.now ≡ main_open }
 {
     b"</p>\n</header>\n<nav><a href=\"#unkept\">Not promised</a><a href=\"#todo\">To do</a><a href=\"#out-first\">Runs out first</a><a href=\"#centres\">Work centres</a><a href=\"#items\">Items</a><a href=\"#history\">History</a></nav>\n<main>\n"
+}
+
+// The frame of the picture of loads, with the name and the weeks. The line is at 100 %.
+#[tactic(auto, unfolding(crate::specs::Layout::load_chart))]
+pub(crate) fn load_chart() -> &'static [Part]
+    ensures { map drawn_of result.now ≡ load_chart }
+{
+    &[
+        Part::Markup(b"<div class=chart><p><span>200 %</span><span>100 %</span><span>0</span></p><p class=axis><span>week 1</span><span>a line behind each thirteenth week</span><span>week "),
+        Part::Cell(1),
+        Part::Markup(b"</span></p><svg role=\"img\" viewBox=\"0.5 -226 "),
+        Part::Cell(1),
+        Part::Markup(b" 226\" preserveAspectRatio=\"none\"><title>Load of "),
+        Part::Cell(0),
+        Part::Markup(b" as a share of its capacity, week by week</title><g transform=\"translate(-.4) scale(1 -1)\"><path class=load d=\""),
+    ]
+}
+
+// The frame of the picture of balances, with the name, the weeks and the greatest number.
+#[tactic(auto, unfolding(crate::specs::Layout::balance_chart))]
+pub(crate) fn balance_chart() -> &'static [Part]
+    ensures { map drawn_of result.now ≡ balance_chart }
+{
+    &[
+        Part::Markup(b"<div class=chart><p><span>"),
+        Part::Cell(2),
+        Part::Markup(b"</span><span>0</span></p><p class=axis><span>week 1</span><span>a line behind each thirteenth week</span><span>week "),
+        Part::Cell(1),
+        Part::Markup(b"</span></p><svg role=\"img\" viewBox=\"0.5 -"),
+        Part::Cell(2),
+        Part::Markup(b" "),
+        Part::Cell(1),
+        Part::Markup(b" "),
+        Part::Cell(2),
+        Part::Markup(b"\" preserveAspectRatio=\"none\"><title>Projected available balance of "),
+        Part::Cell(0),
+        Part::Markup(b"</title><path class=zero d=\"M.5 0h"),
+        Part::Cell(1),
+        Part::Markup(b"\"/><polyline transform=\"scale(1 -1)\" points=\""),
+    ]
 }

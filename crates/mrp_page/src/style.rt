@@ -2,8 +2,8 @@
 
 // A constant of its own, since definitions cite it.
 pub(crate) const STYLE: &str = "*{box-sizing:border-box}
-:root{--label:13rem}
-body{--week:clamp(4.7rem,(100vw - var(--label) - 4rem)/min(13,var(--weeks)),8rem);font:14px/1.4 system-ui,sans-serif;margin:0;padding:0 1.2rem 3rem;color:#1d2733;background:#fff;font-variant-numeric:tabular-nums}
+:root{--label:14.5rem}
+body{--week:clamp(4.2rem,(100vw - var(--label) - 4rem)/min(13,var(--weeks)),8rem);font:14px/1.4 system-ui,sans-serif;margin:0;padding:0 1.2rem 3rem;color:#1d2733;background:#fff;font-variant-numeric:tabular-nums}
 html{scroll-padding-top:3rem}
 h1{font-size:1.5rem;margin:.6rem 0 0}
 h2{font-size:1.15rem;margin:0 0 .4rem}
@@ -21,7 +21,7 @@ section{border-top:1px solid #dde3ea;padding:.9rem 0}
 section section{padding:.5rem 0}
 summary{cursor:pointer}
 nav{position:sticky;top:0;z-index:3;background:#fff;border-bottom:1px solid #dde3ea;margin:0 -1.2rem;padding:.4rem 1.2rem;white-space:nowrap;overflow-x:auto}
-nav a{margin-right:1.2rem}
+nav a{margin-right:1.2rem;white-space:nowrap}
 .z{color:#66727f}
 .bad,.over b{color:#b32626;font-weight:600}
 .sum{display:flex;flex-wrap:wrap;gap:.5rem;margin:.5rem 0}
@@ -42,7 +42,8 @@ th{font-weight:400;text-align:left}
 .todo th,.todo td{padding-top:.08rem;padding-bottom:.08rem}
 .todo:has(tbody:empty) thead{display:none}
 .todo tbody:empty::after{content:\"Nothing to do\"}
-.item .todo th:first-child{display:none}
+.item .todo th:first-child,.item .todo thead{display:none}
+.item details>.scroll{display:inline-block;vertical-align:top;max-width:100%;margin-right:2.5rem}
 .list{margin:.2rem 0 .6rem}
 .list th,.list td{padding:.08rem 1rem .08rem 0;text-align:right;vertical-align:top}
 .list .t,.list th[scope=row]{text-align:left}
@@ -59,7 +60,8 @@ tr:target,section:target>h2,section:target>h3{background:#fff3c4}
 .scroll{overflow-x:auto}
 .chart{display:grid;grid-template-columns:calc(var(--label) - .4rem) minmax(0,calc(var(--weeks)*var(--week)));column-gap:.4rem;margin:.4rem 0 .1rem}
 .chart p{display:flex;flex-direction:column;justify-content:space-between;align-items:flex-end;margin:0;font-size:.85em;line-height:1.1}
-svg{display:block;overflow:visible;width:100%;height:4.6rem;background:#f8fafb}
+svg{display:block;overflow:visible;width:100%;height:4.6rem;background:repeating-linear-gradient(90deg,#b9c3cd 0 1px,#f8fafb 1px calc(1300%/var(--weeks)))}
+.chart .axis{grid-row:2;grid-column:2;flex-direction:row;height:clamp(0rem,(var(--weeks) - 13)*9rem,1.4em);overflow:hidden;padding-top:.1rem}
 .zero,.full,polyline{fill:none;vector-effect:non-scaling-stroke}
 .zero,.full{stroke:#1d2733;stroke-width:1.5}
 polyline{stroke:#2b6cb0;stroke-width:2}
@@ -75,6 +77,6 @@ polyline{stroke:#2b6cb0;stroke-width:2}
 .grid .over td{color:#b32626;font-weight:600}
 .more{margin:.3rem 0}
 main:has(>.more) .item details .scroll::after{content:\"Orders and pegs that are not on this page are counted behind the items.\";color:#566472}
-@media (max-width:40rem){:root{--label:7rem}body{--week:4.2rem;padding:0 .6rem 2rem;font-size:13px}nav{margin:0 -.6rem;padding:.4rem .6rem}nav a{margin-right:.7rem}.sum a{padding:.1rem .5rem;flex:1 1 9rem}.even{font-size:.8rem}.even th,.even td{padding-right:.3rem}.even th:first-child,.even .t{width:25%}}
-@media print{@page{size:landscape;margin:1cm}body{--label:11rem;--week:4.1rem;padding:0;font-size:10px}nav,h2 a,h3 a{display:none}a{color:inherit;text-decoration:none}.scroll{overflow:visible}h2,h3,caption,summary,thead,.chart,.item .todo{break-after:avoid}tr,li,.grid,.chart{break-inside:avoid}section{padding:.5rem 0}svg{height:3rem}summary{list-style:none}#todo .rest>summary,#unkept .rest>summary{display:none}#todo details::details-content,#unkept details::details-content{content-visibility:visible;block-size:auto}.load,.hot,.above,.cut,.todo td,.sum a,.kind{print-color-adjust:exact}}
+@media (max-width:40rem){:root{--label:7rem}body{--week:4.2rem;padding:0 .6rem 2rem;font-size:13px}nav{margin:0 -.6rem;padding:.4rem .6rem}nav a{margin-right:.7rem}.sum a{padding:.1rem .5rem;flex:1 1 9rem}.even{font-size:.78rem}.even th,.even td{padding-right:.25rem}.even th:first-child,.even .t{width:22%}}
+@media print{@page{size:landscape;margin:1cm}body{--label:11rem;--week:4.1rem;padding:0;font-size:10px}nav,h2 a,h3 a{display:none}a{color:inherit;text-decoration:none}.scroll{overflow:visible}h2,h3,caption,summary,thead,.note,.chart,.item .todo{break-after:avoid}.scroll+details{break-before:avoid}tr,li,.grid,.chart,.item .todo{break-inside:avoid}section{padding:.5rem 0}svg{height:3rem}summary{list-style:none}#todo .rest>summary,#unkept .rest>summary{display:none}#todo details::details-content,#unkept details::details-content{content-visibility:visible;block-size:auto}.load,.hot,.above,.cut,.todo td,.sum a,.kind{print-color-adjust:exact}}
 ";
