@@ -1,12 +1,12 @@
 -- Where the items are on a page, and how a name links to its item.
-use Rattle.std.proofs.Common.{◌≡◌, ◌-◌, ℕ, List, [], ◌++◌, codes, length, refl, ap, append_assoc}
+use Rattle.std.proofs.Common.{◌≡◌, ◌-◌, ℕ, List, [], ◌++◌, codes, drop, length, refl, ap, append_assoc}
 use Rattle.std.specs.List.{flat_map}
 use Rattle.mrp_page.specs.Draw.{history_html, link_html, more_html, more_items, more_rows, named_note, named_record, named_tasks, table_html}
-use Rattle.mrp_page.specs.Items.{index_html, item_html, item_lists_html, items_html, orders_html}
+use Rattle.mrp_page.specs.Items.{index_html, item_html, item_lists_html, items_html, orders_html, pegs_html, waits_html, waits_of}
 use Rattle.mrp_page.specs.Escaped.{escaped}
 use Rattle.mrp_page.specs.ItemRows.{ItemLists, item_lists}
 use Rattle.mrp_page.specs.Kinds.{todo_html}
-use Rattle.mrp_page.specs.Layout.{grid_end, item_head, link_end, link_middle, link_open, lists_open, order, order_address, orders_open, page_end}
+use Rattle.mrp_page.specs.Layout.{grid_end, item_head, link_end, link_middle, link_open, lists_open, order, order_address, orders_open, page_end, rest_end, section_end}
 use Rattle.mrp_page.specs.Notes.{Noted}
 use Rattle.mrp_page.specs.Page.{items_of, middle_html, page_html, page_of, rest_html, scene_in, shown_items, top_html}
 use Rattle.mrp_page.specs.Orders.{order_link}
@@ -34,7 +34,7 @@ item-begins scene rows missed leader =
 -- an order begins where a link to it leads
 pub order-begins : (row : RowView) → (rest : List ℕ) × (row_html order row ≡ codes "<tr id=\"o-" ++ (escaped (cell_at row 1) ++ (codes "-" ++ (escaped (cell_at row 0) ++ (codes "\">" ++ rest)))))
 unfolding row_html order
-order-begins row = (_, refl)
+order-begins row = (row_html (drop 5 order) row, refl)
 
 pub order-link-is : (number name : List ℕ) → order_link number name ≡ codes "<a href=\"#o-" ++ (escaped number ++ (codes "-" ++ (escaped name ++ codes "\">")))
 unfolding order_link order_address link_middle
@@ -46,7 +46,7 @@ orders-are rows = refl
 
 pub lists-have-orders : (scene : SceneView) (name : List ℕ) → (rest : List ℕ) × (item_lists_html scene name ≡ lists_open ++ (orders_html (rows_named name scene.orders) ++ rest))
 unfolding item_lists_html
-lists-have-orders scene name = (_, refl)
+lists-have-orders scene name = (pegs_html scene (rows_named name scene.pegs) ++ (waits_html scene (waits_of scene name) ++ (rest_end ++ section_end)), refl)
 
 placed : (a u o b c x d e f g : List ℕ) → a ++ (u ++ (o ++ (b ++ (c ++ ((x ++ (d ++ (e ++ f))) ++ g))))) ≡ (a ++ (u ++ (o ++ (b ++ (c ++ x))))) ++ (d ++ (e ++ (f ++ g)))
 placed a u o b c x d e f g = simp append_assoc

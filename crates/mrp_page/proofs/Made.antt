@@ -30,7 +30,7 @@ use Rattle.mrp_page.specs.Layout.{above_bar, above_end, available_label, balance
 use Rattle.mrp_page.specs.Notes.{Noted}
 use Rattle.mrp_page.specs.Outs.{falling_late, first_planned, is_planned, lateness, left_in, out_line, out_row, outs_back, outs_first, outs_html, outs_section, short_weeks, sign}
 use Rattle.mrp_page.specs.Page.{head_html, is_told, items_of, middle_html, page_html, page_of, rest_html, scene_in, shown_items, told_first, top_html, untold_rows}
-use Rattle.mrp_page.specs.Orders.{is_numbered, is_order, linked_html, numbered, order_link, ordered}
+use Rattle.mrp_page.specs.Orders.{is_numbered, is_order, linked_html, numbered, order_link, order_words, ordered}
 use Rattle.mrp_page.specs.Refused.{answer_html, asked_of, call_html, caller_html, entry_link_html, entry_name_html, is_booking, refusals, refused_back, refused_lines, refused_listing, refused_or_none, refused_rows, refused_section}
 use Rattle.mrp_page.specs.Row.{Cells, RowView, cell_at, is_in, is_of}
 use Rattle.mrp_page.specs.Rows.{greatest, higher, leader_rows, leaders, rank, rows_in, rows_named, stretch}
@@ -1001,6 +1001,7 @@ module _ (K L E : List ℕ → Type 0) (O : List ℕ → List ℕ → Type 0) (w
   -- what is found among orders leads to it if it is shown
   linked-in : (scene : SceneView) (p : RowView → Bool) (rs : List RowView) (says : List ℕ) → IsMadeOf K L E O says
       → All (λ (r : RowView). p r ≡ true → has_item scene.shown (cell_at r 0) ≡ true → O (cell_at r 1) (cell_at r 0)) rs → IsMadeOf K L E O (linked_html scene (find p rs) says)
+  unfolding order_words
   linked-in scene p [] says made all = made
   linked-in scene p (r ∷ rs) says made all = by (p r) refl (all 0 r (omega arith)) (linked-in scene p rs says made (λ k d within. all (suc k) d (omega arith)))
     where

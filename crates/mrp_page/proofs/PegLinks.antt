@@ -6,7 +6,7 @@ use Rattle.mrp_page.specs.Columns.{column}
 use Rattle.mrp_page.specs.Draw.{has_item}
 use Rattle.mrp_page.specs.Items.{need_html, peg_html, pegs_html, wait_html, waits_html, waits_of}
 use Rattle.mrp_page.specs.Layout.{grid_end, link_end, peg_booking, peg_parent, pegs_open, waits_open}
-use Rattle.mrp_page.specs.Orders.{linked_html, numbered, order_link}
+use Rattle.mrp_page.specs.Orders.{linked_html, numbered, order_link, order_words}
 use Rattle.mrp_page.specs.Refused.{entry_name_html}
 use Rattle.mrp_page.specs.Row.{RowView, cell_at, same_text}
 use Rattle.mrp_page.specs.Scene.{SceneView}
@@ -42,5 +42,5 @@ unfolding waits_html
 down-is scene peg pegs = rw (some-rows peg pegs) refl
 
 pub linked-is : (scene : SceneView) (order : RowView) (words : List ℕ) → has_item scene.shown (cell_at order 0) ≡ true → linked_html scene (Some order) words ≡ order_link (cell_at order 1) (cell_at order 0) ++ (words ++ codes "</a>")
-unfolding link_end
+unfolding link_end order_words
 linked-is scene order words has = rw has refl

@@ -604,25 +604,6 @@ open_pieces =
     Number 0 ∷
     Mark (codes "<td></td><td></td>") ∷ []
 
--- an order
-unfoldable pub order : List Drawn
-order =
-    Mark (codes "<tr id=\"o-") ∷
-    Text 1 ∷
-    Mark (codes "-") ∷
-    Text 0 ∷
-    Mark (codes "\"><th scope=row>") ∷
-    Text 1 ∷
-    Mark (codes "</th><td class=t>") ∷
-    Text 2 ∷
-    Mark (codes "</td>") ∷
-    Number 3 ∷
-    Number 4 ∷
-    Number 5 ∷
-    Number 6 ∷
-    Number 7 ∷
-    Mark (codes "</tr>\n") ∷ []
-
 -- the heading of an item, with its name
 unfoldable pub item_head : List Drawn
 item_head =
@@ -814,3 +795,23 @@ balance_chart =
     Mark (codes "</title><path class=zero d=\"M.5 0h") ∷
     Text 1 ∷
     Mark (codes "\"/><polyline transform=\"scale(1 -1)\" points=\"") ∷ []
+
+-- an order
+unfoldable pub order : List Drawn
+order =
+    Mark (codes "<tr id=\"o-") ∷
+    Text 1 ∷
+    Mark (codes "-") ∷
+    Text 0 ∷
+    Mark (codes "\">") ∷
+    Mark (codes "<th scope=row>") ∷
+    Text 1 ∷
+    Mark (codes "</th><td class=t>") ∷
+    Text 2 ∷
+    Mark (codes "</td>") ∷
+    Number 3 ∷
+    Number 4 ∷
+    Number 5 ∷
+    Number 6 ∷
+    Number 7 ∷
+    Mark (codes "</tr>\n") ∷ []

@@ -37,9 +37,14 @@ order_link number name =
     ++ link_middle)))
 
 -- what is said of an order, as a link to it if its item is shown
+unfoldable pub order_words : SceneView → RowView → List ℕ → List ℕ
+order_words scene order words =
+    if has_item scene.shown (cell_at order 0) then order_link (cell_at order 1) (cell_at order 0) ++ (words ++ link_end) else words
+
+-- the same of an order that is kept
 abbrev pub linked_html : SceneView → Option RowView → List ℕ → List ℕ
 linked_html scene None words = words
-linked_html scene (Some order) words = if has_item scene.shown (cell_at order 0) then order_link (cell_at order 1) (cell_at order 0) ++ (words ++ link_end) else words
+linked_html scene (Some order) words = order_words scene order words
 
 -- a peg is of this supply
 abbrev pub is_supplied : List ℕ → List ℕ → RowView → Bool

@@ -34,14 +34,14 @@ fn put_orders(page: &mut Html, orders: &[Row]) -> Result<(), NoMemory>
 }
 
 // The order of a parent that a peg is for, if it is kept.
-fn parent_of<'a>(scene: &Scene<'a>, peg: &Row) -> Option<&'a Row>
+fn parent_of<'a>(scene: &Scene<'_, 'a>, peg: &Row) -> Option<&'a Row>
     ensures { option_copied result ≡ parent_of scene.now peg.now }
 {
     numbered(scene, peg.cell(4), peg.cell(3))
 }
 
 // The order that is the supply of a peg, if it is one and is kept.
-fn supplier_of<'a>(scene: &Scene<'a>, peg: &Row) -> Option<&'a Row>
+fn supplier_of<'a>(scene: &Scene<'_, 'a>, peg: &Row) -> Option<&'a Row>
     ensures { option_copied result ≡ supplier_of scene.now peg.now }
 {
     ordered(scene, peg.name(), peg.cell(6), peg.cell(7))
@@ -49,7 +49,7 @@ fn supplier_of<'a>(scene: &Scene<'a>, peg: &Row) -> Option<&'a Row>
 
 // Adds what a peg is for: a booking, an order of a parent, or something else.
 #[tactic(auto, unfolding(crate::specs::Items::need_html))]
-fn put_need(page: &mut Html, scene: &Scene<'_>, peg: &Row) -> Result<(), NoMemory>
+fn put_need(page: &mut Html, scene: &Scene<'_, '_>, peg: &Row) -> Result<(), NoMemory>
     ensures { OnOk result (page.new ≡ page.old ++ need_html scene.now peg.now) }
 {
     if has_word(2, b"booking", peg) {
@@ -64,7 +64,7 @@ fn put_need(page: &mut Html, scene: &Scene<'_>, peg: &Row) -> Result<(), NoMemor
 }
 
 // Adds the supply of a peg.
-fn put_supply(page: &mut Html, scene: &Scene<'_>, peg: &Row) -> Result<(), NoMemory>
+fn put_supply(page: &mut Html, scene: &Scene<'_, '_>, peg: &Row) -> Result<(), NoMemory>
     ensures { OnOk result (page.new ≡ page.old ++ supply_html scene.now peg.now) }
 {
     let supplier = supplier_of(scene, peg);
@@ -73,7 +73,7 @@ fn put_supply(page: &mut Html, scene: &Scene<'_>, peg: &Row) -> Result<(), NoMem
 
 // Adds a peg: where pieces of a supply go.
 #[tactic(auto, unfolding(crate::specs::Items::peg_html))]
-fn put_peg(page: &mut Html, scene: &Scene<'_>, peg: &Row) -> Result<(), NoMemory>
+fn put_peg(page: &mut Html, scene: &Scene<'_, '_>, peg: &Row) -> Result<(), NoMemory>
     ensures { OnOk result (page.new ≡ page.old ++ peg_html scene.now peg.now) }
 {
     page.markup(peg_front())?;
@@ -84,7 +84,7 @@ fn put_peg(page: &mut Html, scene: &Scene<'_>, peg: &Row) -> Result<(), NoMemory
 }
 
 // Adds pegs.
-fn put_each_peg(page: &mut Html, scene: &Scene<'_>, pegs: &[Row]) -> Result<(), NoMemory>
+fn put_each_peg(page: &mut Html, scene: &Scene<'_, '_>, pegs: &[Row]) -> Result<(), NoMemory>
     ensures { OnOk result (page.new ≡ page.old ++ flat_map (peg_html scene.now) pegs.now) }
 {
     for peg in pegs {
@@ -95,7 +95,7 @@ fn put_each_peg(page: &mut Html, scene: &Scene<'_>, pegs: &[Row]) -> Result<(), 
 
 // Adds the pegs of an item.
 #[tactic(auto, unfolding(crate::specs::Items::pegs_html))]
-fn put_pegs(page: &mut Html, scene: &Scene<'_>, pegs: &[Row]) -> Result<(), NoMemory>
+fn put_pegs(page: &mut Html, scene: &Scene<'_, '_>, pegs: &[Row]) -> Result<(), NoMemory>
     ensures { OnOk result (page.new ≡ page.old ++ pegs_html scene.now pegs.now) }
 {
     page.markup(pegs_open())?;
@@ -135,7 +135,7 @@ fn put_late(page: &mut Html, order: Option<&Row>) -> Result<(), NoMemory>
 
 // Adds a component that an order waits for.
 #[tactic(auto, unfolding(crate::specs::Items::wait_html))]
-fn put_wait(page: &mut Html, scene: &Scene<'_>, peg: &Row) -> Result<(), NoMemory>
+fn put_wait(page: &mut Html, scene: &Scene<'_, '_>, peg: &Row) -> Result<(), NoMemory>
     ensures { OnOk result (page.new ≡ page.old ++ wait_html scene.now peg.now) }
 {
     let parent = parent_of(scene, peg);
@@ -150,7 +150,7 @@ fn put_wait(page: &mut Html, scene: &Scene<'_>, peg: &Row) -> Result<(), NoMemor
 }
 
 // Adds components that orders wait for.
-fn put_each_wait(page: &mut Html, scene: &Scene<'_>, pegs: &[&Row]) -> Result<(), NoMemory>
+fn put_each_wait(page: &mut Html, scene: &Scene<'_, '_>, pegs: &[&Row]) -> Result<(), NoMemory>
     ensures { OnOk result (page.new ≡ page.old ++ flat_map (wait_html scene.now) (map (λ r. r.now) pegs.now)) }
 {
     for peg in pegs {
@@ -161,7 +161,7 @@ fn put_each_wait(page: &mut Html, scene: &Scene<'_>, pegs: &[&Row]) -> Result<()
 
 // Adds what the orders of an item wait for; nothing if that is nothing.
 #[tactic(auto, unfolding(crate::specs::Items::waits_html))]
-fn put_waits(page: &mut Html, scene: &Scene<'_>, pegs: &[&Row]) -> Result<(), NoMemory>
+fn put_waits(page: &mut Html, scene: &Scene<'_, '_>, pegs: &[&Row]) -> Result<(), NoMemory>
     ensures { OnOk result (page.new ≡ page.old ++ waits_html scene.now (map (λ r. r.now) pegs.now)) }
 {
     if pegs.is_empty() {
@@ -177,7 +177,7 @@ fn put_waits(page: &mut Html, scene: &Scene<'_>, pegs: &[&Row]) -> Result<(), No
 fn put_item_lists(
     alloc: Global,
     page: &mut Html,
-    scene: &Scene<'_>,
+    scene: &Scene<'_, '_>,
     name: &[u8],
 ) -> Result<(), NoMemory>
     ensures { OnOk result (page.new ≡ page.old ++ item_lists_html scene.now name.now) }
@@ -197,7 +197,7 @@ fn put_item_lists(
 fn put_item(
     alloc: Global,
     page: &mut Html,
-    scene: &Scene<'_>,
+    scene: &Scene<'_, '_>,
     rows: &ItemRows<'_>,
     missed: u64,
     leader: &Row,
@@ -216,7 +216,7 @@ fn put_item(
 pub(crate) fn put_items(
     alloc: Global,
     page: &mut Html,
-    scene: &Scene<'_>,
+    scene: &Scene<'_, '_>,
     rows: &ItemRows<'_>,
     missed: u64,
     leaders: &[&Row],

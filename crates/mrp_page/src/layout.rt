@@ -1020,30 +1020,6 @@ pub(crate) fn open_pieces() -> &'static [Part]
     ]
 }
 
-// An order.
-#[tactic(auto, unfolding(crate::specs::Layout::order))]
-pub(crate) fn order() -> &'static [Part]
-    ensures { map drawn_of result.now ≡ order }
-{
-    &[
-        Part::Markup(b"<tr id=\"o-"),
-        Part::Cell(1),
-        Part::Markup(b"-"),
-        Part::Cell(0),
-        Part::Markup(b"\"><th scope=row>"),
-        Part::Cell(1),
-        Part::Markup(b"</th><td class=t>"),
-        Part::Cell(2),
-        Part::Markup(b"</td>"),
-        Part::Number(3),
-        Part::Number(4),
-        Part::Number(5),
-        Part::Number(6),
-        Part::Number(7),
-        Part::Markup(b"</tr>\n"),
-    ]
-}
-
 // The heading of an item, with its name.
 #[tactic(auto, unfolding(crate::specs::Layout::item_head))]
 pub(crate) fn item_head() -> &'static [Part]
@@ -1371,5 +1347,30 @@ pub(crate) fn balance_chart() -> &'static [Part]
         Part::Markup(b"</title><path class=zero d=\"M.5 0h"),
         Part::Cell(1),
         Part::Markup(b"\"/><polyline transform=\"scale(1 -1)\" points=\""),
+    ]
+}
+
+// An order.
+#[tactic(auto, unfolding(crate::specs::Layout::order))]
+pub(crate) fn order() -> &'static [Part]
+    ensures { map drawn_of result.now ≡ order }
+{
+    &[
+        Part::Markup(b"<tr id=\"o-"),
+        Part::Cell(1),
+        Part::Markup(b"-"),
+        Part::Cell(0),
+        Part::Markup(b"\">"),
+        Part::Markup(b"<th scope=row>"),
+        Part::Cell(1),
+        Part::Markup(b"</th><td class=t>"),
+        Part::Cell(2),
+        Part::Markup(b"</td>"),
+        Part::Number(3),
+        Part::Number(4),
+        Part::Number(5),
+        Part::Number(6),
+        Part::Number(7),
+        Part::Markup(b"</tr>\n"),
     ]
 }

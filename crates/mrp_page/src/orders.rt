@@ -3,7 +3,7 @@
 ghost use Rattle.std.specs.Prelude.{◌≡◌, ◌++◌, ◌≤◌, OnOk, map};
 ghost use Rattle.std.specs.List.{find, fold};
 ghost use Rattle.std.specs.Option.{option_copied};
-ghost use Rattle.mrp_page.specs.Orders.{is_numbered, is_order, is_supplied, linked_html, numbered, order_link, ordered, pieces_of, with_pieces, with_supplied};
+ghost use Rattle.mrp_page.specs.Orders.{is_numbered, is_order, is_supplied, linked_html, numbered, order_link, order_words, ordered, pieces_of, with_pieces, with_supplied};
 ghost use Rattle.mrp_page.specs.Template.{drawn_of, row_html};
 
 use crate::amounts::amount;
@@ -60,7 +60,7 @@ fn order_among<'a>(
 }
 
 // The order of an item with this number, if it is kept.
-pub(crate) fn numbered<'a>(scene: &Scene<'a>, name: &[u8], number: &[u8]) -> Option<&'a Row>
+pub(crate) fn numbered<'a>(scene: &Scene<'_, 'a>, name: &[u8], number: &[u8]) -> Option<&'a Row>
     ensures { option_copied result ≡ numbered scene.now name.now number.now }
 {
     let orders = scene.orders_of(name);
@@ -69,7 +69,7 @@ pub(crate) fn numbered<'a>(scene: &Scene<'a>, name: &[u8], number: &[u8]) -> Opt
 
 // The order of an item with this number and kind, if it is kept.
 pub(crate) fn ordered<'a>(
-    scene: &Scene<'a>,
+    scene: &Scene<'_, 'a>,
     name: &[u8],
     kind: &[u8],
     number: &[u8],
@@ -93,9 +93,28 @@ fn put_order_link(page: &mut Html, number: &[u8], name: &[u8]) -> Result<(), NoM
 }
 
 // Adds what is said of an order, as a link to it if its item is shown.
+#[tactic(auto, unfolding(crate::specs::Orders::order_words))]
+fn put_order_words(
+    page: &mut Html,
+    scene: &Scene<'_, '_>,
+    order: &Row,
+    words: &[Part],
+    row: &Row,
+) -> Result<(), NoMemory>
+    ensures { OnOk result (page.new ≡ page.old ++ order_words scene.now order.now (row_html (map drawn_of words.now) row.now)) }
+{
+    if !has_item(scene.shown(), order.name()) {
+        return put_row(page, words, row);
+    }
+    put_order_link(page, order.cell(1), order.name())?;
+    put_row(page, words, row)?;
+    page.markup(link_end())
+}
+
+// Adds what is said of an order, as a link to it if it is on the page.
 pub(crate) fn put_linked(
     page: &mut Html,
-    scene: &Scene<'_>,
+    scene: &Scene<'_, '_>,
     order: Option<&Row>,
     words: &[Part],
     row: &Row,
@@ -103,12 +122,8 @@ pub(crate) fn put_linked(
     ensures { OnOk result (page.new ≡ page.old ++ linked_html scene.now (option_copied order.entry) (row_html (map drawn_of words.now) row.now)) }
 {
     match order {
-        Some(order) if has_item(scene.shown(), order.name()) => {
-            put_order_link(page, order.cell(1), order.name())?;
-            put_row(page, words, row)?;
-            page.markup(link_end())
-        }
-        _ => put_row(page, words, row),
+        Some(order) => put_order_words(page, scene, order, words, row),
+        None => put_row(page, words, row),
     }
 }
 
@@ -154,7 +169,7 @@ fn supplied(pegs: &[Row], supply: &[u8], source: &[u8]) -> u64
 }
 
 // How many pieces the pegs of a supply have together.
-pub(crate) fn pieces_of(scene: &Scene<'_>, name: &[u8], supply: &[u8], source: &[u8]) -> u64
+pub(crate) fn pieces_of(scene: &Scene<'_, '_>, name: &[u8], supply: &[u8], source: &[u8]) -> u64
     ensures { result ≡ pieces_of scene.now name.now supply.now source.now }
 {
     let pegs = scene.pegs_of(name);

@@ -100,7 +100,7 @@ fn first_rows<'a, 'b>(rows: &'b [&'a Row]) -> &'b [&'a Row]
 fn put_items_of(
     alloc: Global,
     page: &mut Html,
-    scene: &Scene<'_>,
+    scene: &Scene<'_, '_>,
     rows: &ItemRows<'_>,
     counts: Counts,
 ) -> Result<(), NoMemory>
@@ -117,7 +117,7 @@ fn put_items_of(
 fn put_rest(
     alloc: Global,
     page: &mut Html,
-    scene: &Scene<'_>,
+    scene: &Scene<'_, '_>,
     rows: &ItemRows<'_>,
     counts: Counts,
 ) -> Result<(), NoMemory>
@@ -148,7 +148,7 @@ fn put_top(
 fn put_middle(
     alloc: Global,
     page: &mut Html,
-    scene: &Scene<'_>,
+    scene: &Scene<'_, '_>,
     report: &[Row],
     counts: Counts,
 ) -> Result<(), NoMemory>
@@ -166,7 +166,7 @@ fn put_page_of(
     page: &mut Html,
     title: &[u8],
     notes: &Notes,
-    scene: &Scene<'_>,
+    scene: &Scene<'_, '_>,
 ) -> Result<(), NoMemory>
     ensures { OnOk result (page.new ≡ page.old ++ page_of title.now notes.now scene.now) }
 {

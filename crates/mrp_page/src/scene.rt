@@ -14,15 +14,15 @@ use std::marker::Model;
 // The items that are shown, each by a row of it, the orders, the pegs and the entries of the history that
 // are kept, and whether all pegs are.
 #[derive(Drop)]
-pub(crate) struct Scene<'a> {
-    shown: &'a [&'a Row],
+pub(crate) struct Scene<'s, 'a> {
+    shown: &'s [&'a Row],
     orders: Places<'a>,
     pegs: Places<'a>,
     history: &'a [Row],
     whole: bool,
 }
 
-impl<'a> Model for Scene<'a> {
+impl<'s, 'a> Model for Scene<'s, 'a> {
     ghost use Rattle.std.specs.Prelude.{map};
     ghost use Rattle.mrp_page.specs.Scene.{SceneView};
 
@@ -31,15 +31,15 @@ impl<'a> Model for Scene<'a> {
     ghost view = { λ s. record { shown = map (λ r. r.now) s.shown.now; orders = s.orders; pegs = s.pegs; history = s.history.now; whole = s.whole } };
 }
 
-impl<'a> Scene<'a> {
+impl<'s, 'a> Scene<'s, 'a> {
     // What a page that shows these items is drawn from, given how many pegs are not kept.
     pub(crate) fn of(
         alloc: Global,
-        shown: &'a [&'a Row],
+        shown: &'s [&'a Row],
         rows: &ItemRows<'a>,
         history: &'a [Row],
         missed: u64,
-    ) -> Result<Scene<'a>, NoMemory>
+    ) -> Result<Scene<'s, 'a>, NoMemory>
         ensures { IfOk result (λ scene. scene ≡ scene_of (map (λ r. r.now) shown.now) rows.now history.now missed) }
     {
         let orders = Places::of(alloc, rows.orders())?;
@@ -54,7 +54,7 @@ impl<'a> Scene<'a> {
         })
     }
 
-    pub(crate) fn shown(&self) -> &'a [&'a Row]
+    pub(crate) fn shown(&self) -> &'s [&'a Row]
         ensures { map (λ r. r.now) result.now ≡ self.now.shown }
     {
         self.shown

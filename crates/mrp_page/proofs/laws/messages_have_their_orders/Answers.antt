@@ -10,8 +10,8 @@ returns-clause-found c = order-of-is
 pub returns-clause-same : goal.returns-clause-same
 returns-clause-same c = is-order-is
 
-pub returns-clause-open : goal.returns-clause-open
-returns-clause-open c = open-is
+pub returns-clause-pieces : goal.returns-clause-pieces
+returns-clause-pieces c = open-is
 
 pub returns-clause-start : goal.returns-clause-start
 returns-clause-start c = start-is
