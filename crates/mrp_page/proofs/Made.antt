@@ -35,7 +35,7 @@ use Rattle.mrp_page.specs.Refused.{answer_html, asked_of, call_html, caller_html
 use Rattle.mrp_page.specs.Row.{Cells, RowView, cell_at, is_in, is_of}
 use Rattle.mrp_page.specs.Rows.{greatest, higher, leader_rows, leaders, rank, rows_in, rows_named, stretch}
 use Rattle.mrp_page.specs.Scene.{SceneView}
-use Rattle.mrp_page.specs.Shares.{falling_share, is_whole, minutes_at, minutes_html, minutes_tag, overloads_first, share_cells, share_of, share_row, week_rank, whole}
+use Rattle.mrp_page.specs.Shares.{falling_share, is_whole, minutes_at, minutes_html, minutes_tag, overloads_first, share_cells, share_of, share_row, titled_tag, week_rank, whole}
 use Rattle.mrp_page.specs.Summary.{calls_tiles, centre_count, centres_tile, count_with, is_over, is_undone, kind_tile, kinds_tiles, overloads, place_or, summary_html, tile, tile_html}
 use Rattle.mrp_page.specs.Template.{Drawn, Mark, Number, Text, Where, flow_at, flows_html, has_word, number_at, numbers_html, part_html, row_html, rows_html}
 use Rattle.mrp_page.specs.declared.limits.TheConstants.{FEW_ROWS, MOST_ITEMS, MOST_LINES, SOME_ROWS, TABLE_WEEKS}
@@ -1166,10 +1166,12 @@ module _ (K L E : List ℕ → Type 0) (O : List ℕ → List ℕ → Type 0) (w
   cells-known : (rs : List RowView) → All LoadKnown rs → All (λ (r : RowView). (column : ℕ) → K (cell_at r column)) rs
   cells-known rs all = λ k d within. (all k d within).cells-of
 
+  titled : (t : List ℕ) → K t → IsMadeOf K L E O (titled_tag t)
+  unfolding titled_tag
+  titled t known = join (codes "<td title=\"") (escaped t ++ codes "\">") (mark (codes "<td title=\"") own-titled) (join (escaped t) (codes "\">") (text t known) (mark (codes "\">") own-tag-end))
+
   minutes-tag : (t : List ℕ) → K t → IsMadeOf K L E O (minutes_tag t)
-  minutes-tag t known =
-      either (is_whole t) (codes "<td>") (codes "<td title=\"" ++ (escaped t ++ codes "\">")) (mark (codes "<td>") own-cell)
-      (join (codes "<td title=\"") (escaped t ++ codes "\">") (mark (codes "<td title=\"") own-titled) (join (escaped t) (codes "\">") (text t known) (mark (codes "\">") own-tag-end)))
+  minutes-tag t known = either (is_whole t) (codes "<td>") (titled_tag t) (mark (codes "<td>") own-cell) (titled t known)
 
   minutes : (t : List ℕ) → K t → K (whole t) → IsMadeOf K L E O (minutes_html t)
   minutes t known of-whole =

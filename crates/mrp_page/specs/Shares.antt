@@ -52,10 +52,10 @@ abbrev pub share_mark : ℕ → List ℕ
 share_mark share = if nat_le share 100 then [] else codes "bad"
 
 -- how a week with this share is drawn, given the texts of the share and of the heights of its bar
-abbrev pub drawn_share : RowView → ℕ → List ℕ → List ℕ → List ℕ → RowView
-drawn_share load share percent low above = record {
+abbrev pub drawn_share : RowView → ℕ → List ℕ → List ℕ → List ℕ → List ℕ → RowView
+drawn_share load share percent shown low above = record {
   section = s.Run;
-  cells = cell_at load 0 ∷ cell_at load 1 ∷ percent ∷ codes " %" ∷ shown_share share percent ∷ low ∷ hot_height share ∷ above ∷ cut_height share ∷ whole (cell_at load 4) ∷ share_mark share ∷ [];
+  cells = cell_at load 0 ∷ cell_at load 1 ∷ percent ∷ codes " %" ∷ shown ∷ low ∷ hot_height share ∷ above ∷ cut_height share ∷ whole (cell_at load 4) ∷ share_mark share ∷ [];
 }
 
 -- how a week of a work centre is drawn: its centre, its week, its share and the sign of that, the share if it is not 0, the
@@ -88,9 +88,13 @@ overloads_first loads = sorted_by week_rank (sorted_by falling_share (overloads 
 unfoldable pub is_whole : List ℕ → Bool
 is_whole minutes = same_text (from_point minutes) (codes ".000")
 
+-- the tag before minutes, with all decimals as its title
+unfoldable pub titled_tag : List ℕ → List ℕ
+titled_tag minutes = codes "<td title=\"" ++ (escaped minutes ++ codes "\">")
+
 -- the tag before minutes, with all decimals as its title if these count
 abbrev pub minutes_tag : List ℕ → List ℕ
-minutes_tag minutes = if is_whole minutes then codes "<td>" else codes "<td title=\"" ++ (escaped minutes ++ codes "\">")
+minutes_tag minutes = if is_whole minutes then codes "<td>" else titled_tag minutes
 
 -- a cell of a table with whole minutes; empty if there are none
 abbrev pub minutes_html : List ℕ → List ℕ
