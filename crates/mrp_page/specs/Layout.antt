@@ -815,3 +815,11 @@ order =
     Number 6 ∷
     Number 7 ∷
     Mark (codes "</tr>\n") ∷ []
+
+-- what the tag of a cell begins with that has a title
+unfoldable pub title_open : List ℕ
+title_open = codes "<td title=\""
+
+-- what it ends with
+unfoldable pub title_end : List ℕ
+title_end = codes "\">"
