@@ -1,56 +1,71 @@
 -- Which columns of a day the rows of a record and of a work centre show.
-use Rattle.std.proofs.Common.{◌≡◌, ◌⊎◌, ℕ, Bool, true, false, List, [], ◌∷◌, ◌++◌, codes, not, refl, ap, ap₂, inl, inr}
-use Rattle.std.specs.Prelude.{◌&&◌, if◌then◌else◌}
+use Rattle.std.proofs.Common.{◌≡◌, Bool, true, false, List, [], ◌∷◌, ◌++◌, ℕ, codes, drop, take, refl, ap, ap₂}
 use Rattle.std.specs.List.{flat_map}
 use Rattle.mrp_page.specs.Columns.{column}
-use Rattle.mrp_page.specs.Draw.{bars_html, booked_html, has_firm, has_none, loads_html, measure_html, named_record, planned_html, points_html, promised_html, record_or_none, record_rows, supplies_html, table_html}
+use Rattle.mrp_page.specs.Centres.{all_loads, bars_html, later_loads, loads_html, loads_table, shares_html, times_html}
+use Rattle.mrp_page.specs.Draw.{all_weeks, amounts_html, booked_html, later_record, measure_html, named_record, planned_html, points_html, promised_html, record_or_none, record_rows, record_table, supplies_html, table_html}
 use Rattle.mrp_page.specs.ItemRows.{item_lists}
-use Rattle.mrp_page.specs.Layout.{available_label, balance_label, bar, bars_end, booked_label, capacity_label, firm_label, grid_end, gross_label, load_label, over_label, planned_label, point, points_end, scheduled_label, starts_label}
-use Rattle.mrp_page.specs.Pictures.{drawn_balance, drawn_load}
+use Rattle.mrp_page.specs.Layout.{above_bar, above_end, available_label, balance_label, booked_label, capacity_label, cut_bar, firm_label, grid_end, gross_label, hot_bar, hot_end, later_open, load_label, low_bar, low_end, over_label, planned_label, point, points_end, rest_end, scheduled_label, starts_label}
+use Rattle.mrp_page.specs.Pictures.{drawn_balance}
 use Rattle.mrp_page.specs.Row.{RowView}
 use Rattle.mrp_page.specs.Rows.{rows_in, rows_named}
 use Rattle.mrp_page.specs.Template.{row_html, rows_html}
+use Rattle.mrp_page.specs.declared.limits.TheConstants.{TABLE_WEEKS}
 use Rattle.mrp_day.specs.declared.section.Section.TheVariants as s
+use Rattle.mrp_page.proofs.Folds.{some-rows}
 
 pub record-is : (report : List RowView) (name : List ℕ) → named_record (item_lists report) name ≡ record_or_none name (rows_named name (rows_in s.Plan report)) (rows_named name (rows_in s.Promises report))
 unfolding named_record
 record-is report name = refl
 
-pub needs-are : (plan promises : List RowView) → record_rows plan promises ≡ measure_html gross_label (column s.Plan (codes "gross")) plan ++ (supplies_html plan promises ++ (planned_html plan ++ promised_html promises))
+pub needs-are : (scheduled : Bool) (plan promises : List RowView) → record_rows scheduled plan promises ≡ amounts_html gross_label (column s.Plan (codes "gross")) plan ++ (supplies_html scheduled plan ++ (planned_html plan ++ promised_html promises))
 unfolding record_rows
-needs-are plan promises = refl
+needs-are scheduled plan promises = refl
 
-pub supplies-are : (plan promises : List RowView) → (supplies_html plan promises ≡ measure_html scheduled_label (column s.Plan (codes "open")) plan) ⊎ (supplies_html plan promises ≡ measure_html firm_label (column s.Plan (codes "firm")) plan)
+pub scheduled-are : (plan : List RowView) → supplies_html true plan ≡ amounts_html scheduled_label (column s.Plan (codes "open")) plan
 unfolding supplies_html
-supplies-are plan promises = by (has_none promises && not (has_firm plan))
-  where
-    by : (b : Bool) → ((if b then measure_html scheduled_label 3 plan else measure_html firm_label 4 plan) ≡ measure_html scheduled_label 3 plan) ⊎ ((if b then measure_html scheduled_label 3 plan else measure_html firm_label 4 plan) ≡ measure_html firm_label 4 plan)
-    by true = inl refl
-    by false = inr refl
+scheduled-are plan = refl
 
-pub planned-is : (plan : List RowView) → planned_html plan ≡ measure_html planned_label (column s.Plan (codes "planned")) plan ++ (measure_html starts_label (column s.Plan (codes "start")) plan ++ measure_html balance_label (column s.Plan (codes "balance")) plan)
+pub firm-are : (plan : List RowView) → supplies_html false plan ≡ amounts_html firm_label (column s.Plan (codes "firm")) plan
+unfolding supplies_html
+firm-are plan = refl
+
+pub planned-is : (plan : List RowView) → planned_html plan ≡ amounts_html planned_label (column s.Plan (codes "planned")) plan ++ (amounts_html starts_label (column s.Plan (codes "start")) plan ++ measure_html balance_label (column s.Plan (codes "balance")) plan)
 unfolding planned_html
 planned-is plan = refl
 
-pub booked-is : (promises : List RowView) → booked_html promises ≡ measure_html booked_label (column s.Promises (codes "booked")) promises ++ measure_html available_label (column s.Promises (codes "available")) promises
+pub booked-is : (promises : List RowView) → booked_html promises ≡ amounts_html booked_label (column s.Promises (codes "booked")) promises ++ measure_html available_label (column s.Promises (codes "available")) promises
 unfolding booked_html
 booked-is promises = refl
 
-pub loads-are : (rows : List RowView) → loads_html rows ≡ measure_html load_label (column s.Loads (codes "load")) rows ++ (measure_html capacity_label (column s.Loads (codes "capacity")) rows ++ (measure_html over_label (column s.Loads (codes "over")) rows ++ grid_end))
+pub loads-are : (rows : List RowView) → loads_html rows ≡ times_html load_label (column s.Loads (codes "load")) rows ++ (times_html capacity_label (column s.Loads (codes "capacity")) rows ++ (shares_html rows ++ (times_html over_label (column s.Loads (codes "over")) rows ++ grid_end)))
 unfolding loads_html
 loads-are rows = refl
+
+-- the weeks of the first table, and those that are folded
+pub weeks-are : (frame : RowView) (scheduled : Bool) (plan promises : List RowView) → all_weeks frame scheduled plan promises ≡ record_table frame scheduled (take TABLE_WEEKS plan) (take TABLE_WEEKS promises) ++ later_record frame scheduled (drop TABLE_WEEKS plan) (drop TABLE_WEEKS promises)
+unfolding all_weeks
+weeks-are frame scheduled plan promises = refl
+
+pub load-weeks-are : (frame : RowView) (rows : List RowView) → all_loads frame rows ≡ loads_table frame (take TABLE_WEEKS rows) ++ later_loads frame (drop TABLE_WEEKS rows)
+unfolding all_loads
+load-weeks-are frame rows = refl
+
+pub later-is : (frame : RowView) (scheduled : Bool) (r : RowView) (plan promises : List RowView) → later_record frame scheduled (r ∷ plan) promises ≡ later_open ++ (record_table frame scheduled (r ∷ plan) promises ++ rest_end)
+unfolding later_record
+later-is frame scheduled r plan promises = rw (some-rows r plan) refl
+
+pub later-loads-are : (frame r : RowView) (rows : List RowView) → later_loads frame (r ∷ rows) ≡ later_open ++ (loads_table frame (r ∷ rows) ++ rest_end)
+unfolding later_loads
+later-loads-are frame r rows = rw (some-rows r rows) refl
 
 drawn-same : {X : Type 0} (f g : X → List ℕ) → ((x : X) → f x ≡ g x) → (xs : List X) → flat_map f xs ≡ flat_map g xs
 drawn-same f g same [] = refl
 drawn-same f g same (x ∷ xs) = ap₂ (λ (a b : List ℕ). a ++ b) (same x) (drawn-same f g same xs)
 
-bar-is : (row : RowView) → row_html bar row ≡ drawn_load row
-unfolding row_html bar
-bar-is row = refl
-
-pub bars-are : (rows : List RowView) → bars_html rows ≡ flat_map drawn_load rows ++ bars_end
+pub bars-are : (shares : List RowView) → bars_html shares ≡ (flat_map (row_html low_bar) shares ++ low_end) ++ ((flat_map (row_html hot_bar) shares ++ hot_end) ++ ((flat_map (row_html above_bar) shares ++ above_end) ++ flat_map (row_html cut_bar) shares))
 unfolding bars_html table_html rows_html
-bars-are rows = ap (λ (t : List ℕ). t ++ bars_end) (drawn-same (row_html bar) drawn_load bar-is rows)
+bars-are shares = refl
 
 point-is : (row : RowView) → row_html point row ≡ drawn_balance row
 unfolding row_html point

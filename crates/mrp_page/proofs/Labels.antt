@@ -1,18 +1,15 @@
 -- Which of the two labels the supplies have.
-use Rattle.std.proofs.Common.{◌≡◌, ◌∙◌, ◌⊎◌, ◌^◌, ◌<◌, ◌≤◌, ℕ, zero, suc, Bool, true, false, not, List, [], ◌∷◌, codes, decimal, get_or, length, map, nat_lt, refl, sym, ap, subst, arith, inl, inr}
+use Rattle.std.proofs.Common.{◌≡◌, ◌∙◌, ◌⊎◌, ◌^◌, ◌<◌, ◌≤◌, ℕ, zero, suc, Bool, true, false, not, List, [], ◌∷◌, ◌++◌, codes, decimal, get_or, length, map, nat_lt, refl, sym, ap, subst, arith, inl, inr}
 use Rattle.std.specs.Prelude.{◌&&◌, if◌then◌else◌}
 use Rattle.std.specs.List.{All, Contains, fold}
 use Rattle.std.proofs.lemmas.Bool.{and_right, cases_lt, false_from_ne_true, ltb-false, ltb-true, ne_eqb}
 use Rattle.std.proofs.lemmas.Fmt.{decimal_digit, first_decimal}
 use Rattle.std.proofs.lemmas.List.Elements.{All-head, All-tail}
-use Rattle.mrp_page.specs.Columns.{column}
-use Rattle.mrp_page.specs.Draw.{has_firm, has_none, measure_html, supplies_html}
+use Rattle.mrp_page.specs.Draw.{all_weeks, balance_html, framed_record, has_firm, has_none, is_scheduled}
 use Rattle.mrp_page.specs.Html.{is_zero}
 use Rattle.mrp_page.specs.Labels.{AreFirm}
-use Rattle.mrp_page.specs.Layout.{firm_label, scheduled_label}
 use Rattle.mrp_page.specs.Row.{RowView, cell_at, same_text}
 use Rattle.mrp_page.specs.Rows.{greatest, higher, rank, ranked}
-use Rattle.mrp_day.specs.declared.section.Section.TheVariants as s
 use Rattle.mrp_page.proofs.NamesOnce.{text-same}
 
 -- a number by which texts are compared does not fall with more digits
@@ -114,22 +111,21 @@ all-zero (n ∷ firm) none =
     same true = refl
     same false = refl
 
-labelled : (plan promises : List RowView) (b : Bool) → (has_none promises && not (has_firm plan)) ≡ b → supplies_html plan promises ≡ (if b then measure_html scheduled_label 3 plan else measure_html firm_label 4 plan)
-unfolding supplies_html
-labelled plan promises b e = ap (λ (c : Bool). if c then measure_html scheduled_label 3 plan else measure_html firm_label 4 plan) e
-
-pub promised-firm : (plan : List RowView) (row : RowView) (promises : List RowView) → supplies_html plan (row ∷ promises) ≡ measure_html firm_label (column s.Plan (codes "firm")) plan
-promised-firm plan row promises = labelled plan (row ∷ promises) false (ap (λ (b : Bool). b && not (has_firm plan)) (none (length promises)))
+pub promised-firm : (plan : List RowView) (row : RowView) (promises : List RowView) → is_scheduled plan (row ∷ promises) ≡ false
+promised-firm plan row promises = ap (λ (b : Bool). b && not (has_firm plan)) (none (length promises))
   where
     none : (n : ℕ) → has_none (row ∷ promises) ≡ false
     none n = ne_eqb (length (row ∷ promises)) 0 (λ e. omega arith)
 
-pub some-firm : (plan promises : List RowView) (firm : List ℕ) → AreFirm plan firm → (n : ℕ) → Contains firm n → 0 < n → supplies_html plan promises ≡ measure_html firm_label (column s.Plan (codes "firm")) plan
+pub some-firm : (plan promises : List RowView) (firm : List ℕ) → AreFirm plan firm → (n : ℕ) → Contains firm n → 0 < n → is_scheduled plan promises ≡ false
 some-firm plan promises firm are n has some =
     let (c, top) = greatest-is firm 0 (omega arith) are.small in
     let is : is_zero (greatest 4 (codes "0") plan) ≡ false = ap is_zero (greatest-firm plan firm are ∙ top.is) ∙ no-zero c (top.among n has some) top.small in
-    labelled plan promises false (and_right (has_none promises) (not (has_firm plan)) (ap (λ (b : Bool). not (not b)) is))
+    and_right (has_none promises) (not (has_firm plan)) (ap (λ (b : Bool). not (not b)) is)
 
-pub none-firm : (plan : List RowView) (firm : List ℕ) → AreFirm plan firm → All (λ n. n ≡ 0) firm → supplies_html plan [] ≡ measure_html scheduled_label (column s.Plan (codes "open")) plan
-none-firm plan firm are none =
-    labelled plan [] true (ap (λ (t : List ℕ). not (not (is_zero t))) (greatest-firm plan firm are ∙ all-zero firm none))
+pub none-firm : (plan : List RowView) (firm : List ℕ) → AreFirm plan firm → All (λ n. n ≡ 0) firm → is_scheduled plan [] ≡ true
+none-firm plan firm are none = ap (λ (t : List ℕ). not (not (is_zero t))) (greatest-firm plan firm are ∙ all-zero firm none)
+
+pub framed-is : (frame : RowView) (plan promises : List RowView) → framed_record frame plan promises ≡ balance_html frame plan ++ all_weeks frame (is_scheduled plan promises) plan promises
+unfolding framed_record
+framed-is frame plan promises = refl

@@ -19,3 +19,15 @@ pub mod Steps
 pub mod CountedRows
 pub mod CountedEntries
 pub mod OrderedRows
+pub mod ByWord
+pub mod Folds
+pub mod RefusedCalls
+pub mod TodoKinds
+pub mod CentreCounts
+pub mod ByKey
+pub mod Tiles
+pub mod FirstRows
+pub mod ShareOf
+pub mod Overloads
+pub mod PegLinks
+pub mod OutRows

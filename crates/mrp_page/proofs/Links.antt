@@ -1,14 +1,21 @@
 -- Where the items are on a page, and how a name links to its item.
-use Rattle.std.proofs.Common.{◌≡◌, ◌-◌, ℕ, List, [], ◌++◌, codes, length, refl, ap, append_assoc}
-use Rattle.mrp_page.specs.Draw.{history_html, item_html, item_lists_html, items_html, link_html, more_html, more_items, more_rows, named_note, named_record, named_tasks, todo_html}
+use Rattle.std.proofs.Common.{◌≡◌, ◌-◌, ℕ, List, [], ◌++◌, codes, drop, length, refl, ap, append_assoc}
+use Rattle.std.specs.List.{flat_map}
+use Rattle.mrp_page.specs.Draw.{history_html, link_html, more_html, more_items, more_rows, named_note, named_record, named_tasks, table_html}
+use Rattle.mrp_page.specs.Items.{index_html, item_html, item_lists_html, items_html, orders_html, pegs_html, waits_html, waits_of}
 use Rattle.mrp_page.specs.Escaped.{escaped}
 use Rattle.mrp_page.specs.ItemRows.{ItemLists, item_lists}
-use Rattle.mrp_page.specs.Layout.{item_head, link_end, link_middle, link_open, page_end}
+use Rattle.mrp_page.specs.Kinds.{todo_html}
+use Rattle.mrp_page.specs.Layout.{grid_end, item_head, link_end, link_middle, link_open, lists_open, order, order_address, orders_open, page_end, rest_end, section_end}
 use Rattle.mrp_page.specs.Notes.{Noted}
-use Rattle.mrp_page.specs.Page.{items_of, load_section, page_html, page_of, rest_html, shown_items, top_html}
+use Rattle.mrp_page.specs.Page.{items_of, middle_html, page_html, page_of, rest_html, scene_in, shown_items, top_html}
+use Rattle.mrp_page.specs.Orders.{order_link}
+use Rattle.mrp_page.specs.Refused.{refused_section}
 use Rattle.mrp_page.specs.Row.{RowView, cell_at}
-use Rattle.mrp_page.specs.Rows.{rows_in}
-use Rattle.mrp_page.specs.Template.{row_html}
+use Rattle.mrp_page.specs.Rows.{rows_in, rows_named}
+use Rattle.mrp_page.specs.Scene.{SceneView}
+use Rattle.mrp_page.specs.Summary.{summary_html}
+use Rattle.mrp_page.specs.Template.{row_html, rows_html}
 use Rattle.mrp_day.specs.declared.section.Section.TheVariants as s
 use Rattle.mrp_page.specs.Unshown.{unshown}
 
@@ -16,29 +23,49 @@ pub link-is : (name : List ℕ) → link_html name ≡ codes "<a href=\"#i-" ++ 
 unfolding link_html link_open link_middle link_end
 link-is name = refl
 
-pub item-begins : (rows : ItemLists) (missed : ℕ) (leader : RowView) → (rest : List ℕ) × (item_html rows missed leader ≡ codes "<section class=item id=\"i-" ++ (escaped (cell_at leader 0) ++ (codes "\">" ++ rest)))
+pub item-begins : (scene : SceneView) (rows : ItemLists) (missed : ℕ) (leader : RowView) → (rest : List ℕ) × (item_html scene rows missed leader ≡ codes "<section class=item id=\"i-" ++ (escaped (cell_at leader 0) ++ (codes "\">" ++ rest)))
 unfolding item_html row_html item_head
-item-begins rows missed leader =
+item-begins scene rows missed leader =
     let name : List ℕ = escaped (cell_at leader 0) in
-    let head : List ℕ = codes "\n<h2>" ++ (name ++ (codes "</h2>\n" ++ [])) in
-    let back : List ℕ = named_tasks rows leader ++ (named_record rows (cell_at leader 0) ++ (named_note rows missed (cell_at leader 0) ++ item_lists_html rows (cell_at leader 0))) in
+    let head : List ℕ = codes "\n<h2>" ++ (name ++ (codes "<a href=\"#items\">all items</a><a href=\"#todo\">to do</a></h2>\n" ++ [])) in
+    let back : List ℕ = named_tasks rows leader ++ (named_record rows (cell_at leader 0) ++ (named_note rows missed (cell_at leader 0) ++ item_lists_html scene (cell_at leader 0))) in
     (head ++ back, ap (λ (t : List ℕ). codes "<section class=item id=\"i-" ++ t) (append_assoc name (codes "\">" ++ head) back))
 
-placed : (a b c d e f g : List ℕ) → a ++ (b ++ (c ++ ((d ++ (e ++ f)) ++ g))) ≡ (a ++ (b ++ c)) ++ (d ++ (e ++ (f ++ g)))
-placed a b c d e f g = simp append_assoc
+-- an order begins where a link to it leads
+pub order-begins : (row : RowView) → (rest : List ℕ) × (row_html order row ≡ codes "<tr id=\"o-" ++ (escaped (cell_at row 1) ++ (codes "-" ++ (escaped (cell_at row 0) ++ (codes "\">" ++ rest)))))
+unfolding row_html order
+order-begins row = (row_html (drop 5 order) row, refl)
+
+pub order-link-is : (number name : List ℕ) → order_link number name ≡ codes "<a href=\"#o-" ++ (escaped number ++ (codes "-" ++ (escaped name ++ codes "\">")))
+unfolding order_link order_address link_middle
+order-link-is number name = refl
+
+pub orders-are : (rows : List RowView) → orders_html rows ≡ orders_open ++ (flat_map (row_html order) rows ++ grid_end)
+unfolding orders_html table_html rows_html
+orders-are rows = refl
+
+pub lists-have-orders : (scene : SceneView) (name : List ℕ) → (rest : List ℕ) × (item_lists_html scene name ≡ lists_open ++ (orders_html (rows_named name scene.orders) ++ rest))
+unfolding item_lists_html
+lists-have-orders scene name = (pegs_html scene (rows_named name scene.pegs) ++ (waits_html scene (waits_of scene name) ++ (rest_end ++ section_end)), refl)
+
+placed : (a u o b c x d e f g : List ℕ) → a ++ (u ++ (o ++ (b ++ (c ++ ((x ++ (d ++ (e ++ f))) ++ g))))) ≡ (a ++ (u ++ (o ++ (b ++ (c ++ x))))) ++ (d ++ (e ++ (f ++ g)))
+placed a u o b c x d e f g = simp append_assoc
 
 pub items-stand : (title : List ℕ) (notes : Noted) → (front : List ℕ) × (back : List ℕ) × (page_html title notes
-    ≡ front ++ (items_html (item_lists notes.report) notes.counts.promises (shown_items (item_lists notes.report)) ++ (more_html (notes.counts.items - length (shown_items (item_lists notes.report))) (codes "item is") (codes "items are") ++ back)))
+    ≡ front ++ (items_html (scene_in notes) (item_lists notes.report) notes.counts.promises (shown_items (item_lists notes.report)) ++ (more_html (notes.counts.items - length (shown_items (item_lists notes.report))) (codes "item is") (codes "items are") ++ back)))
 unfolding page_html page_of rest_html items_of more_items
 items-stand title notes =
     let lists : ItemLists = item_lists notes.report in
     let shown : List RowView = shown_items lists in
     let top : List ℕ = top_html title notes.report notes.counts.items in
-    let todo : List ℕ = todo_html shown (rows_in s.Messages notes.report) notes.counts.messages in
-    let loads : List ℕ = load_section (rows_in s.Loads notes.report) notes.counts.loads in
+    let sums : List ℕ = summary_html notes.history (rows_in s.Messages notes.report) (rows_in s.Loads notes.report) in
+    let calls : List ℕ = refused_section shown notes.history notes.counts.history in
+    let todo : List ℕ = todo_html (scene_in notes) (rows_in s.Messages notes.report) notes.counts.messages in
+    let loads : List ℕ = middle_html (scene_in notes) notes.report notes.counts in
+    let indexed : List ℕ = index_html lists.messages shown in
     let more : List ℕ = more_html (notes.counts.items - length shown) (codes "item is") (codes "items are") in
     let last : List ℕ = history_html notes.history notes.counts.history ++ page_end in (
-      top ++ (todo ++ loads),
+      top ++ (sums ++ (calls ++ (todo ++ (loads ++ indexed)))),
       more_rows (unshown lists shown notes.counts) ++ last,
-      placed top todo loads (items_html lists notes.counts.promises shown) more (more_rows (unshown lists shown notes.counts)) last,
+      placed top sums calls todo loads indexed (items_html (scene_in notes) lists notes.counts.promises shown) more (more_rows (unshown lists shown notes.counts)) last,
     )

@@ -5,14 +5,17 @@ use Rattle.std.proofs.lemmas.List.{append-nil, get_or_past}
 use Rattle.std.proofs.lemmas.List.Concat.{flat_map-append}
 use Rattle.std.proofs.lemmas.List.Elements.{All-append, All-cons, All-nil, Contains-get_or}
 use Rattle.std.specs.List.{All, Contains, flat_map}
-use Rattle.mrp_page.specs.Draw.{history_html, todo_html}
+use Rattle.mrp_page.specs.Draw.{history_html}
 use Rattle.mrp_page.specs.ItemRows.{item_lists}
 use Rattle.mrp_page.specs.Laws.{part_pieces, piece_html, pieces, shown, text_of}
+use Rattle.mrp_page.specs.Kinds.{todo_html}
 use Rattle.mrp_page.specs.Layout.{page_end, page_top}
 use Rattle.mrp_page.specs.Notes.{Noted}
-use Rattle.mrp_page.specs.Page.{head_html, items_of, load_section, page_html, page_of, rest_html, shown_items, top_html}
+use Rattle.mrp_page.specs.Page.{head_html, items_of, middle_html, page_html, page_of, rest_html, scene_in, shown_items, top_html}
+use Rattle.mrp_page.specs.Refused.{refused_section}
 use Rattle.mrp_page.specs.Row.{RowView, cell_at}
 use Rattle.mrp_page.specs.Rows.{rows_in}
+use Rattle.mrp_page.specs.Summary.{summary_html}
 use Rattle.mrp_page.specs.Template.{Drawn, Mark, Number, Text, Where, part_html, row_html}
 use Rattle.mrp_day.specs.declared.section.Section.TheVariants as s
 
@@ -63,8 +66,8 @@ pub begins : (title : List ℕ) (notes : Noted) → (rest : List ℕ) × (page_h
 unfolding page_html page_of top_html head_html row_html page_top
 begins title notes = (drop 15 (page_html title notes), refl)
 
-joined : (a b c d e f g : List ℕ) → a ++ (b ++ (c ++ (d ++ (e ++ (f ++ g))))) ≡ (a ++ (b ++ (c ++ (d ++ (e ++ f))))) ++ g
-joined a b c d e f g = sym (simp append_assoc)
+joined : (a o b c d e f g h : List ℕ) → a ++ (o ++ (b ++ (c ++ (d ++ (e ++ (f ++ (g ++ h))))))) ≡ (a ++ (o ++ (b ++ (c ++ (d ++ (e ++ (f ++ g))))))) ++ h
+joined a o b c d e f g h = sym (simp append_assoc)
 
 -- and ends with its end
 pub ends : (title : List ℕ) (notes : Noted) → (front : List ℕ) × (page_html title notes ≡ front ++ (codes "</html>" ++ 10 ∷ []))
@@ -72,11 +75,13 @@ unfolding page_html page_of rest_html page_end
 ends title notes =
     let top = top_html title notes.report notes.counts.items in
     let shown = shown_items (item_lists notes.report) in
-    let todo = todo_html shown (rows_in s.Messages notes.report) notes.counts.messages in
-    let loads = load_section (rows_in s.Loads notes.report) notes.counts.loads in
-    let items = items_of (item_lists notes.report) notes.counts shown in
+    let sums = summary_html notes.history (rows_in s.Messages notes.report) (rows_in s.Loads notes.report) in
+    let calls = refused_section shown notes.history notes.counts.history in
+    let todo = todo_html (scene_in notes) (rows_in s.Messages notes.report) notes.counts.messages in
+    let loads = middle_html (scene_in notes) notes.report notes.counts in
+    let items = items_of (scene_in notes) (item_lists notes.report) notes.counts in
     let history = history_html notes.history notes.counts.history in
     let last = codes "</main>\n</body>\n" in (
-      top ++ (todo ++ (loads ++ (items ++ (history ++ last)))),
-      joined top todo loads items history last (codes "</html>" ++ 10 ∷ []),
+      top ++ (sums ++ (calls ++ (todo ++ (loads ++ (items ++ (history ++ last)))))),
+      joined top sums calls todo loads items history last (codes "</html>" ++ 10 ∷ []),
     )

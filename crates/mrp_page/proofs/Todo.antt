@@ -1,49 +1,19 @@
 -- Each message is in *To do* once, under its own word.
 use Rattle.std.proofs.Common.{◌≡◌, ◌∙◌, ℕ, Bool, true, false, not, List, [], ◌∷◌, ◌++◌, codes, refl, sym, ap, ap₂, subst, append_assoc}
 use Rattle.std.specs.Prelude.{◌||◌, IsPermutation, if◌then◌else◌}
-use Rattle.std.specs.List.{filter, flat_map, list_any}
-use Rattle.std.proofs.lemmas.Bool.{both_ways}
+use Rattle.std.specs.List.{filter, flat_map}
 use Rattle.std.proofs.lemmas.List.{append-nil}
 use Rattle.std.proofs.lemmas.List.Concat.{flat_map-append}
 use Rattle.std.proofs.lemmas.List.Elements.{filter_agree}
-use Rattle.std.proofs.lemmas.List.Sorted.{IsPermutation-append_right, IsPermutation-filter_both, IsPermutation-refl, IsPermutation-trans}
-use Rattle.mrp_page.specs.Draw.{is_plain, item_tasks, named_tasks, other_if, other_tasks, task_html, task_if, task_table, tasks_html, tasks_with, todo_back, todo_html}
-use Rattle.mrp_page.specs.ItemRows.{ItemLists, item_lists}
-use Rattle.mrp_page.specs.Layout.{item_tasks_end, item_tasks_open, other_words, task_words, todo_end, todo_open}
-use Rattle.mrp_page.specs.Notes.{Noted}
-use Rattle.mrp_page.specs.Page.{load_section, page_html, page_of, rest_html, shown_items, top_html}
-use Rattle.mrp_page.specs.Row.{RowView, cell_at, same_text}
-use Rattle.mrp_page.specs.Rows.{rows_in, rows_named}
+use Rattle.mrp_page.specs.ByWord.{by_word, has_one_of}
+use Rattle.mrp_page.specs.Draw.{is_plain, item_tasks, named_tasks, other_if, other_tasks, task_html, task_if, task_table, tasks_html, tasks_with}
+use Rattle.mrp_page.specs.ItemRows.{ItemLists}
+use Rattle.mrp_page.specs.Layout.{item_tasks_end, item_tasks_open, other_words, task_words}
+use Rattle.mrp_page.specs.Row.{RowView, cell_at}
+use Rattle.mrp_page.specs.Rows.{rows_named}
 use Rattle.mrp_page.specs.Template.{has_word, row_html}
 use Rattle.mrp_page.specs.Todo.{by_urgency, message_html, of_word, said, said_of_another, urgent_words, word_of}
-use Rattle.mrp_day.specs.declared.section.Section.TheVariants as s
-use Rattle.mrp_page.proofs.NamesOnce.{text-same}
-
--- what passes a test, of what passes one that all of it passes
-narrowed : {X : Type 0} (p q : X → Bool) → ((x : X) → q x ≡ true → p x ≡ true) → (xs : List X) → filter q (filter p xs) ≡ filter q xs
-narrowed p q passes [] = refl
-narrowed {X} p q passes (x ∷ xs) = by (p x) refl (q x) refl (narrowed p q passes xs)
-  where
-    by : (b : Bool) → p x ≡ b → (c : Bool) → q x ≡ c → filter q (filter p xs) ≡ filter q xs → filter q (filter p (x ∷ xs)) ≡ filter q (x ∷ xs)
-    by true e true f rest = rw (e, f) (ap (λ (t : List X). x ∷ t) rest)
-    by true e false f rest = rw (e, f) rest
-    by false e true f rest = absurd (both_ways (p x) e (passes x f))
-    by false e false f rest = rw (e, f) rest
-
--- what passes neither of two tests
-passed-neither : {X : Type 0} (p q : X → Bool) (xs : List X) → filter (λ x. not (q x)) (filter (λ x. not (p x)) xs) ≡ filter (λ x. not (p x || q x)) xs
-passed-neither p q [] = refl
-passed-neither {X} p q (x ∷ xs) = by (p x) refl (q x) refl (passed-neither p q xs)
-  where
-    by : (b : Bool) → p x ≡ b → (c : Bool) → q x ≡ c → filter (λ y. not (q y)) (filter (λ y. not (p y)) xs) ≡ filter (λ y. not (p y || q y)) xs
-        → filter (λ y. not (q y)) (filter (λ y. not (p y)) (x ∷ xs)) ≡ filter (λ y. not (p y || q y)) (x ∷ xs)
-    by true e c f rest = rw e rest
-    by false e true f rest = rw (e, f) rest
-    by false e false f rest = rw (e, f) (ap (λ (t : List X). x ∷ t) rest)
-
-all-pass : {X : Type 0} (xs : List X) → filter (λ x. true) xs ≡ xs
-all-pass [] = refl
-all-pass {X} (x ∷ xs) = ap (λ (t : List X). x ∷ t) (all-pass xs)
+use Rattle.mrp_page.proofs.ByWord.{Differ, or-first, or-second, word-by-word}
 
 -- what is drawn of those alone that pass
 drawn-alone : {X Y : Type 0} (f g : X → List Y) (p : X → Bool) → ((x : X) → p x ≡ true → f x ≡ g x) → ((x : X) → p x ≡ false → f x ≡ []) → (xs : List X) → flat_map f xs ≡ flat_map g (filter p xs)
@@ -54,74 +24,22 @@ drawn-alone {X} {Y} f g p same none (x ∷ xs) = by (p x) refl (drawn-alone f g 
     by true e rest = rw e (ap₂ (λ (a b : List Y). a ++ b) (same x e) rest)
     by false e rest = rw e (ap (λ (t : List Y). t ++ flat_map f xs) (none x e) ∙ rest)
 
--- words that differ
-abbrev Others : List ℕ → List (List ℕ) → Type 0
-Others word [] = Unit {0}
-Others word (other ∷ words) = (same_text other word ≡ false) × Others word words
-
-abbrev Differ : List (List ℕ) → Type 0
-Differ [] = Unit {0}
-Differ (word ∷ words) = Others word words × Differ words
-
 urgent-differ : Differ urgent_words
 urgent-differ = ((refl, (refl, (refl, (refl, tt)))), ((refl, (refl, (refl, tt))), ((refl, (refl, tt)), ((refl, tt), (tt, tt)))))
-
--- a message has one of these words
-abbrev has_any : List (List ℕ) → RowView → Bool
-has_any words message = list_any (λ word. has_word 3 word message) words
-
-without : List ℕ → List RowView → List RowView
-without word messages = filter (λ message. not (has_word 3 word message)) messages
-
--- those of other words are all there without those of one
-still-there : (word : List ℕ) (words : List (List ℕ)) → Others word words → (messages : List RowView) → flat_map (of_word (without word messages)) words ≡ flat_map (of_word messages) words
-unfolding without
-still-there word [] others messages = refl
-still-there word (other ∷ words) others messages =
-    ap₂ (λ (a b : List RowView). a ++ b)
-    (narrowed (λ message. not (has_word 3 word message)) (has_word 3 other) (λ message has. ap (λ (t : List ℕ). not (same_text t word)) (text-same (cell_at message 3) other has) ∙ ap not others.0) messages)
-    (still-there word words others.1 messages)
-
--- messages, word by word, are all of them
-word-by-word : (words : List (List ℕ)) → Differ words → (messages : List RowView) → IsPermutation messages (flat_map (of_word messages) words ++ filter (λ message. not (has_any words message)) messages)
-unfolding without
-word-by-word [] differ messages = subst (IsPermutation messages) (sym (all-pass messages)) (IsPermutation-refl messages)
-word-by-word (word ∷ words) differ messages =
-    let left : List RowView = without word messages in
-    let first : List RowView = of_word messages word in
-    let rest : List RowView = flat_map (of_word left) words ++ filter (λ message. not (has_any words message)) left in
-    subst (IsPermutation messages) (joins word words differ.0 messages)
-    (IsPermutation-trans messages (first ++ left) (first ++ rest) (parts word messages) (IsPermutation-append_right first left rest (word-by-word words differ.1 left)))
-  where
-    parts : (word : List ℕ) (messages : List RowView) → IsPermutation messages (of_word messages word ++ without word messages)
-    parts word messages = IsPermutation-filter_both (has_word 3 word) (λ message. not (has_word 3 word message)) (λ message. refl) messages
-
-    joins : (word : List ℕ) (words : List (List ℕ)) → Others word words → (messages : List RowView) → of_word messages word ++ (flat_map (of_word (without word messages)) words ++ filter (λ message. not (has_any words message)) (without word messages))
-        ≡ flat_map (of_word messages) (word ∷ words) ++ filter (λ message. not (has_any (word ∷ words) message)) messages
-    joins word words others messages =
-        ap₂ (λ (a b : List RowView). of_word messages word ++ (a ++ b)) (still-there word words others messages) (passed-neither (has_word 3 word) (has_any words) messages)
-        ∙ sym (append_assoc (of_word messages word) (flat_map (of_word messages) words) (filter (λ message. not (has_any (word ∷ words) message)) messages))
 
 or-nil : (a : Bool) → (a || false) ≡ a
 or-nil true = refl
 or-nil false = refl
 
-plain-any : (message : RowView) → has_any urgent_words message ≡ is_plain message
+plain-any : (message : RowView) → has_one_of 3 urgent_words message ≡ is_plain message
 plain-any message =
     ap (λ (b : Bool). has_word 3 (codes "PAST-DUE") message || (has_word 3 (codes "RELEASE") message || (has_word 3 (codes "IN") message || (has_word 3 (codes "OUT") message || b)))) (or-nil (has_word 3 (codes "CANCEL") message))
 
 pub stand-once : (messages : List RowView) → IsPermutation messages (by_urgency messages)
-unfolding by_urgency
+unfolding by_urgency by_word
 stand-once messages =
-    subst (λ (t : List RowView). IsPermutation messages (flat_map (of_word messages) urgent_words ++ t)) (filter_agree (λ message. not (has_any urgent_words message)) (λ message. not (is_plain message)) (λ message. ap not (plain-any message)) messages)
-    (word-by-word urgent_words urgent-differ messages)
-
-or-first : (a b : Bool) → a ≡ true → (a || b) ≡ true
-or-first a b e = rw e refl
-
-or-second : (a b : Bool) → b ≡ true → (a || b) ≡ true
-or-second true b e = refl
-or-second false b e = e
+    subst (λ (t : List RowView). IsPermutation messages (flat_map (of_word messages) urgent_words ++ t)) (filter_agree (λ message. not (has_one_of 3 urgent_words message)) (λ message. not (is_plain message)) (λ message. ap not (plain-any message)) messages)
+    (word-by-word 3 urgent_words urgent-differ messages)
 
 -- a message with one of these words is put into plain ones
 module _ (message : RowView) where
@@ -204,39 +122,21 @@ pub item-messages : (rows : ItemLists) (leader : RowView)
 unfolding named_tasks item_tasks task_table
 item-messages rows leader = ap (λ (t : List ℕ). item_tasks_open ++ (t ++ item_tasks_end)) (tasks-are (leader ∷ []) (rows_named (cell_at leader 0) rows.messages))
 
-placed : (a b c d e f : List ℕ) → a ++ (((b ++ (c ++ d)) ++ e) ++ f) ≡ a ++ (b ++ (c ++ (d ++ (e ++ f))))
-placed a b c d e f = simp append_assoc
-
-pub page-messages : (title : List ℕ) (notes : Noted) → (front : List ℕ) × (back : List ℕ) × (page_html title notes
-    ≡ front ++ (todo_open ++ (flat_map (message_html (shown_items (item_lists notes.report))) (by_urgency (rows_in s.Messages notes.report)) ++ (todo_end ++ back))))
-unfolding page_html page_of todo_html task_table
-page-messages title notes =
-    let lists : ItemLists = item_lists notes.report in
-    let shown : List RowView = shown_items lists in
-    let messages : List RowView = rows_in s.Messages notes.report in
-    let top : List ℕ = top_html title notes.report notes.counts.items in
-    let rest : List ℕ = load_section (rows_in s.Loads notes.report) notes.counts.loads ++ rest_html lists notes.counts shown notes.history in (
-      top,
-      todo_back notes.counts.messages ++ rest,
-      placed top todo_open (tasks_html shown messages) todo_end (todo_back notes.counts.messages) rest
-          ∙ ap (λ (t : List ℕ). top ++ (todo_open ++ (t ++ (todo_end ++ (todo_back notes.counts.messages ++ rest))))) (tasks-are shown messages),
-    )
-
 -- the text of a message, word by word
 module _ (message : RowView) where
-  pub said-late : word_of message ≡ codes "PAST-DUE" → row_html task_words message ≡ said (codes "Past due, start now: ") (codes ", weeks late (shop days from version 2 on): ") message
+  pub said-late : word_of message ≡ codes "PAST-DUE" → row_html task_words message ≡ said (codes "Past due: ") (codes ", weeks late (shop days from version 2 on): ") message
   unfolding row_html task_words
   said-late e = rw e refl
 
-  pub said-release : word_of message ≡ codes "RELEASE" → row_html task_words message ≡ said (codes "Release now: ") [] message
+  pub said-release : word_of message ≡ codes "RELEASE" → row_html task_words message ≡ said (codes "Release: ") [] message
   unfolding row_html task_words
   said-release e = rw e refl
 
-  pub said-in : word_of message ≡ codes "IN" → row_html task_words message ≡ said (codes "Bring in: ") (codes " to week ") message
+  pub said-in : word_of message ≡ codes "IN" → row_html task_words message ≡ said (codes "Reschedule in: ") (codes " to week ") message
   unfolding row_html task_words
   said-in e = rw e refl
 
-  pub said-out : word_of message ≡ codes "OUT" → row_html task_words message ≡ said (codes "Put off: ") (codes " to week ") message
+  pub said-out : word_of message ≡ codes "OUT" → row_html task_words message ≡ said (codes "Reschedule out: ") (codes " to week ") message
   unfolding row_html task_words
   said-out e = rw e refl
 

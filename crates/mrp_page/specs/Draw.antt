@@ -1,15 +1,16 @@
 -- The parts of a page.
-use Rattle.std.specs.Prelude.{ℕ, Bool, List, [], ◌∷◌, ◌++◌, ◌==◌, ◌&&◌, ◌||◌, ◌-◌, not, length, codes, flat_map, if◌then◌else◌}
+use Rattle.std.specs.Prelude.{ℕ, Bool, List, [], ◌∷◌, ◌++◌, ◌==◌, ◌&&◌, ◌||◌, ◌-◌, not, length, codes, drop, flat_map, take, if◌then◌else◌}
 use Rattle.std.specs.List.{list_any}
 use Rattle.mrp_page.specs.declared.counts.Counts.{Counts}
+use Rattle.mrp_page.specs.declared.limits.TheConstants.{TABLE_WEEKS}
 use Rattle.mrp_page.specs.Escaped.{escaped}
 use Rattle.mrp_page.specs.Frame.{count_row, frame_of}
 use Rattle.mrp_page.specs.Html.{is_zero}
 use Rattle.mrp_page.specs.ItemRows.{ItemLists}
-use Rattle.mrp_page.specs.Layout.{available_label, balance_chart, balance_label, bar, bars_end, booked_label, capacity_label, centre_head, centres_open, entry, firm_label, grid_end, gross_label, history_end, history_open, item_head, item_tasks_end, item_tasks_open, link_end, link_middle, link_open, list_end, load_chart, load_label, more, no_promises, no_record, order, orders_open, other_words, over_label, peg, pegs_open, planned_label, point, points_end, record_head, scheduled_label, section_end, starts_label, task_head, task_words, todo_end, todo_open, week, weeks_end}
+use Rattle.mrp_page.specs.Layout.{available_label, balance_chart, balance_label, booked_label, entry, firm_label, grid_end, gross_label, history_end, history_open, item_tasks_end, item_tasks_open, later_open, link_end, link_middle, link_open, more, no_promises, no_record, other_words, planned_label, point, points_end, record_head, rest_end, scheduled_label, starts_label, task_head, task_words, week, weeks_end}
 use Rattle.mrp_page.specs.Row.{RowView, cell_at, is_of}
 use Rattle.mrp_page.specs.Rows.{greatest, rows_named}
-use Rattle.mrp_page.specs.Template.{Drawn, has_word, numbers_html, row_html, rows_html}
+use Rattle.mrp_page.specs.Template.{Drawn, flows_html, has_word, numbers_html, row_html, rows_html}
 
 -- rows between two pieces of markup
 unfoldable pub table_html : List ℕ → List Drawn → List RowView → List ℕ → List ℕ
@@ -23,6 +24,13 @@ unfoldable pub measure_html : List ℕ → ℕ → List RowView → List ℕ
 measure_html label column rows =
     label
     ++ (numbers_html column rows
+    ++ codes "</tr>\n")
+
+-- the same with the numbers that are 0 left empty
+unfoldable pub amounts_html : List ℕ → ℕ → List RowView → List ℕ
+amounts_html label column rows =
+    label
+    ++ (flows_html column rows
     ++ codes "</tr>\n")
 
 -- a name that links to its item on the same page
@@ -92,68 +100,10 @@ unfoldable pub more_html : ℕ → List ℕ → List ℕ → List ℕ
 more_html count one many =
     if count == 0 then [] else row_html more (count_row count one many)
 
--- how many more messages there are; they may be of any urgency
-unfoldable pub todo_back : ℕ → List ℕ
-todo_back missed =
-    more_html missed (codes "message, perhaps an urgent one, is") (codes "messages, urgent ones perhaps among them, are")
-    ++ section_end
-
--- the section *To do*
-unfoldable pub todo_html : List RowView → List RowView → ℕ → List ℕ
-todo_html shown messages missed =
-    task_table todo_open shown messages todo_end
-    ++ todo_back missed
-
 -- the weeks of a table
 unfoldable pub weeks_html : List RowView → List ℕ
 weeks_html rows =
     table_html [] week rows weeks_end
-
--- the weeks of a table, between the markup of its frame: its heading, and what its picture begins
--- with
-unfoldable pub grid_html : List Drawn → List Drawn → RowView → List RowView → List ℕ
-grid_html head chart frame rows =
-    row_html head frame
-    ++ (weeks_html rows
-    ++ row_html chart frame)
-
--- the bars of the picture of loads
-unfoldable pub bars_html : List RowView → List ℕ
-bars_html rows =
-    table_html [] bar rows bars_end
-
--- the rows of a work centre's table
-unfoldable pub loads_html : List RowView → List ℕ
-loads_html rows =
-    measure_html load_label 2 rows
-    ++ (measure_html capacity_label 3 rows
-    ++ (measure_html over_label 4 rows
-    ++ grid_end))
-
--- a work centre by its rows
-unfoldable pub centre_rows_html : List ℕ → List RowView → List ℕ
-centre_rows_html name rows =
-    grid_html centre_head load_chart (frame_of name rows 2 3 (codes "1.000")) rows
-    ++ (bars_html rows
-    ++ loads_html rows)
-
--- a work centre, by a row of it: its loads against its capacities
-unfoldable pub centre_html : List RowView → RowView → List ℕ
-centre_html loads leader =
-    centre_rows_html (cell_at leader 0) (rows_named (cell_at leader 0) loads)
-
--- work centres, by a row of each
-unfoldable pub each_centre : List RowView → List RowView → List ℕ
-each_centre loads leaders =
-    flat_map (centre_html loads) leaders
-
--- the section of the work centres, and for how many more weeks there are loads
-unfoldable pub centres_html : List RowView → List RowView → ℕ → List ℕ
-centres_html loads leaders missed =
-    centres_open
-    ++ (each_centre loads leaders
-    ++ (more_html missed (codes "week of a work centre is") (codes "weeks of work centres are")
-    ++ section_end))
 
 -- there is no row
 abbrev pub has_none : List RowView → Bool
@@ -163,16 +113,20 @@ has_none rows = length rows == 0
 abbrev pub has_firm : List RowView → Bool
 has_firm plan = not (is_zero (greatest 4 (codes "0") plan))
 
+-- what is due of an item are scheduled receipts: it has no promises and no firm schedule, as a part
+abbrev pub is_scheduled : List RowView → List RowView → Bool
+is_scheduled plan promises = has_none promises && not (has_firm plan)
+
 -- what is due: the firm schedule of a master item, the scheduled receipts of a part
-unfoldable pub supplies_html : List RowView → List RowView → List ℕ
-supplies_html plan promises =
-    if has_none promises && not (has_firm plan) then measure_html scheduled_label 3 plan
-    else measure_html firm_label 4 plan
+unfoldable pub supplies_html : Bool → List RowView → List ℕ
+supplies_html scheduled plan =
+    if scheduled then amounts_html scheduled_label 3 plan
+    else amounts_html firm_label 4 plan
 
 -- what is booked of a master item, and what is available to promise
 unfoldable pub booked_html : List RowView → List ℕ
 booked_html promises =
-    measure_html booked_label 3 promises
+    amounts_html booked_label 3 promises
     ++ measure_html available_label 5 promises
 
 -- what is promised of a master item; nothing for a part
@@ -186,54 +140,59 @@ points_html plan =
     table_html [] point plan points_end
 
 -- the picture of an item's balances, a line
-unfoldable pub balance_html : List ℕ → List RowView → List ℕ
-balance_html name plan =
-    grid_html record_head balance_chart (frame_of name plan 7 7 (codes "1")) plan
+unfoldable pub balance_html : RowView → List RowView → List ℕ
+balance_html frame plan =
+    row_html balance_chart frame
     ++ points_html plan
 
 -- what is planned of an item, and the balance that is left
 unfoldable pub planned_html : List RowView → List ℕ
 planned_html plan =
-    measure_html planned_label 5 plan
-    ++ (measure_html starts_label 6 plan
+    amounts_html planned_label 5 plan
+    ++ (amounts_html starts_label 6 plan
     ++ measure_html balance_label 7 plan)
 
 -- the rows of an item's time-phased record
-unfoldable pub record_rows : List RowView → List RowView → List ℕ
-record_rows plan promises =
-    measure_html gross_label 2 plan
-    ++ (supplies_html plan promises
+unfoldable pub record_rows : Bool → List RowView → List RowView → List ℕ
+record_rows scheduled plan promises =
+    amounts_html gross_label 2 plan
+    ++ (supplies_html scheduled plan
     ++ (planned_html plan
     ++ promised_html promises))
 
+-- a table of some weeks of an item's time-phased record
+unfoldable pub record_table : RowView → Bool → List RowView → List RowView → List ℕ
+record_table frame scheduled plan promises =
+    row_html record_head frame
+    ++ (weeks_html plan
+    ++ (record_rows scheduled plan promises
+    ++ grid_end))
+
+-- a table of its further weeks, folded
+unfoldable pub later_record : RowView → Bool → List RowView → List RowView → List ℕ
+later_record frame scheduled plan promises =
+    if has_none plan then [] else later_open ++ (record_table frame scheduled plan promises ++ rest_end)
+
+-- the weeks of an item's time-phased record
+unfoldable pub all_weeks : RowView → Bool → List RowView → List RowView → List ℕ
+all_weeks frame scheduled plan promises =
+    record_table frame scheduled (take TABLE_WEEKS plan) (take TABLE_WEEKS promises)
+    ++ later_record frame scheduled (drop TABLE_WEEKS plan) (drop TABLE_WEEKS promises)
+
+-- the time-phased record of an item, from its frame
+unfoldable pub framed_record : RowView → List RowView → List RowView → List ℕ
+framed_record frame plan promises =
+    balance_html frame plan
+    ++ all_weeks frame (is_scheduled plan promises) plan promises
+
 -- the time-phased record of an item
 unfoldable pub record_html : List ℕ → List RowView → List RowView → List ℕ
-record_html name plan promises =
-    balance_html name plan
-    ++ (record_rows plan promises
-    ++ grid_end)
-
--- the orders of an item, folded away
-unfoldable pub orders_html : List RowView → List ℕ
-orders_html orders =
-    table_html orders_open order orders list_end
-
--- the pegs of an item, folded away
-unfoldable pub pegs_html : List RowView → List ℕ
-pegs_html pegs =
-    table_html pegs_open peg pegs list_end
+record_html name plan promises = framed_record (frame_of name plan 7 7 (codes "1")) plan promises
 
 -- the messages of the item that this is a row of
 unfoldable pub item_tasks : RowView → List RowView → List ℕ
 item_tasks leader messages =
     task_table item_tasks_open (leader ∷ []) messages item_tasks_end
-
--- what follows an item's record: its orders and its pegs
-unfoldable pub item_lists_html : ItemLists → List ℕ → List ℕ
-item_lists_html rows name =
-    orders_html (rows_named name rows.orders)
-    ++ (pegs_html (rows_named name rows.pegs)
-    ++ section_end)
 
 -- the record of an item, or a note that it is not kept
 unfoldable pub record_or_none : List ℕ → List RowView → List RowView → List ℕ
@@ -259,20 +218,6 @@ promises_note plan promises missed =
 unfoldable pub named_note : ItemLists → ℕ → List ℕ → List ℕ
 named_note rows missed name =
     promises_note (rows_named name rows.plan) (rows_named name rows.promises) missed
-
--- an item, by a row of it, given how many rows of promises are not kept
-unfoldable pub item_html : ItemLists → ℕ → RowView → List ℕ
-item_html rows missed leader =
-    row_html item_head leader
-    ++ (named_tasks rows leader
-    ++ (named_record rows (cell_at leader 0)
-    ++ (named_note rows missed (cell_at leader 0)
-    ++ item_lists_html rows (cell_at leader 0))))
-
--- items, by a row of each
-unfoldable pub items_html : ItemLists → ℕ → List RowView → List ℕ
-items_html rows missed leaders =
-    flat_map (item_html rows missed) leaders
 
 -- for how many more weeks there are records and promises
 unfoldable pub more_weeks : Counts → List ℕ

@@ -14,3 +14,7 @@ number_tag text = if is_zero text then codes "<td class=z>" else codes "<td>"
 -- a cell of a table with a number
 abbrev pub number_html : List ℕ → List ℕ
 number_html text = number_tag text ++ (escaped text ++ codes "</td>")
+
+-- a cell of a table in which 0 is left empty
+abbrev pub flow_html : List ℕ → List ℕ
+flow_html text = if is_zero text then codes "<td></td>" else codes "<td>" ++ (escaped text ++ codes "</td>")

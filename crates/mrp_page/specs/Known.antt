@@ -1,23 +1,33 @@
 -- What pages consist of: fixed markup, and texts that are known.
-use Rattle.std.specs.Prelude.{ℕ, ◌≡◌, ◌⊎◌, ◌-◌, List, [], ◌∷◌, ◌++◌, codes, decimal, flat_map, length, map}
+use Rattle.std.specs.Prelude.{ℕ, ◌≡◌, ◌⊎◌, ◌-◌, List, [], ◌∷◌, ◌++◌, codes, count_by, decimal, drop, flat_map, length, map, take}
 use Rattle.std.specs.List.{All, Contains}
 use Rattle.mrp_page.specs.ItemRows.{item_lists}
-use Rattle.mrp_page.specs.Laws.{Escaped, Link, Markup, Piece, piece_html}
-use Rattle.mrp_page.specs.Layout.{available_label, balance_chart, balance_label, bar, bars_end, booked_label, capacity_label, centre_head, centres_open, entry, firm_label, grid_end, gross_label, history_end, history_open, item_head, item_tasks_end, item_tasks_open, list_end, load_chart, load_label, more, no_promises, no_record, order, orders_open, other_words, over_label, page_end, page_head, page_top, peg, pegs_open, planned_label, point, points_end, record_head, scheduled_label, section_end, starts_label, style, task_head, task_words, todo_end, todo_open, week, weeks_end}
+use Rattle.mrp_page.specs.Items.{message_count}
+use Rattle.mrp_page.specs.Kinds.{kinds, messages_of, open_count, other_messages}
+use Rattle.mrp_page.specs.Laws.{Entry, Escaped, Link, Markup, Order, Piece, piece_html}
+use Rattle.mrp_page.specs.Layout.{above_bar, above_end, available_label, balance_chart, balance_label, booked_label, cancel_front, cancel_open, capacity_label, centre_head, centre_open, centre_tile, centres_open, cut_bar, entry, firm_label, grid_end, gross_label, history_end, history_open, hot_bar, hot_end, in_front, in_open, index_count, index_end, index_open, item_head, item_tasks_end, item_tasks_open, items_end, items_open, late_front, late_open, later_open, link_end, lists_open, load_chart, load_end, load_label, low_bar, low_end, main_open, more, no_promises, no_record, none_out, none_over, none_refused, nothing_to_do, open_pieces, order, order_address, order_start, order_unknown, order_week, orders_open, other_cells, other_front, other_open, other_words, out_cells, out_first_open, out_front, out_open, outs_front, outs_note, over_back, over_front, over_label, over_line, over_open, page_end, page_head, page_top, peg_back, peg_booking, peg_front, peg_middle, peg_need, peg_parent, peg_supply, pegs_open, planned_label, point, points_end, record_head, refused_answer, refused_asked, refused_desk, refused_end, refused_front, refused_open, refused_row, release_front, release_open, rest_end, rest_open, row_end, scheduled_label, section_end, share_cell, share_label, starts_label, style, summary_open, summary_tile, table_end, task_head, task_middle, task_row, task_supply, task_words, title_end, title_open, to_week, todo_note, todo_open, wait_end, wait_late, wait_middle, wait_order, wait_supply, waits_open, week, weeks_end, weeks_late}
 use Rattle.mrp_page.specs.Notes.{Noted}
-use Rattle.mrp_page.specs.Page.{shown_items}
-use Rattle.mrp_page.specs.Row.{Cells, cell_at}
+use Rattle.mrp_page.specs.Outs.{left_in, outs_first, short_weeks}
+use Rattle.mrp_page.specs.Page.{scene_in, shown_items}
+use Rattle.mrp_page.specs.Refused.{refused_rows}
+use Rattle.mrp_page.specs.Row.{Cells, RowView, cell_at}
+use Rattle.mrp_page.specs.Rows.{rows_in, rows_named}
+use Rattle.mrp_page.specs.Scene.{SceneView}
+use Rattle.mrp_page.specs.Shares.{overloads_first, share_cells, share_of, whole}
+use Rattle.mrp_page.specs.Summary.{centre_count, count_with, is_undone, overloads}
 use Rattle.mrp_page.specs.Template.{Drawn, Mark, Number, Text, Where}
 use Rattle.mrp_page.specs.declared.counts.Counts.{Counts}
+use Rattle.mrp_page.specs.declared.limits.TheConstants.{FEW_ROWS, MOST_LINES, SOME_ROWS}
 use Rattle.mrp_page.specs.Unshown.{unshown}
+use Rattle.mrp_day.specs.declared.section.Section.TheVariants as s
 
 -- the markup that rows are drawn with
 unfoldable pub layouts : List (List Drawn)
-layouts = page_top ∷ page_head ∷ task_head ∷ task_words ∷ week ∷ entry ∷ order ∷ peg ∷ centre_head ∷ load_chart ∷ bar ∷ item_head ∷ record_head ∷ balance_chart ∷ point ∷ more ∷ other_words ∷ []
+layouts = page_top ∷ page_head ∷ task_head ∷ task_words ∷ week ∷ entry ∷ order ∷ centre_head ∷ load_chart ∷ item_head ∷ record_head ∷ balance_chart ∷ point ∷ more ∷ other_words ∷ rest_open ∷ refused_answer ∷ refused_asked ∷ refused_desk ∷ task_supply ∷ order_start ∷ order_week ∷ weeks_late ∷ to_week ∷ row_end ∷ other_cells ∷ late_open ∷ release_open ∷ in_open ∷ out_open ∷ cancel_open ∷ other_open ∷ summary_tile ∷ centre_tile ∷ centre_open ∷ low_bar ∷ hot_bar ∷ above_bar ∷ cut_bar ∷ share_cell ∷ over_open ∷ over_line ∷ load_end ∷ open_pieces ∷ index_count ∷ peg_supply ∷ peg_middle ∷ peg_parent ∷ peg_need ∷ peg_back ∷ wait_order ∷ wait_middle ∷ wait_late ∷ outs_note ∷ out_cells ∷ []
 
 -- markup that stands between rows
 unfoldable pub plain : List (List ℕ)
-plain = style ∷ todo_open ∷ todo_end ∷ item_tasks_open ∷ item_tasks_end ∷ weeks_end ∷ bars_end ∷ points_end ∷ load_label ∷ capacity_label ∷ over_label ∷ grid_end ∷ centres_open ∷ section_end ∷ scheduled_label ∷ firm_label ∷ booked_label ∷ available_label ∷ gross_label ∷ planned_label ∷ starts_label ∷ balance_label ∷ orders_open ∷ pegs_open ∷ list_end ∷ no_record ∷ history_open ∷ history_end ∷ page_end ∷ [] ∷ codes "<td>" ∷ codes "<td class=z>" ∷ codes "</td>" ∷ codes "</tr>\n" ∷ no_promises ∷ []
+plain = style ∷ todo_open ∷ nothing_to_do ∷ item_tasks_open ∷ item_tasks_end ∷ weeks_end ∷ points_end ∷ load_label ∷ capacity_label ∷ over_label ∷ grid_end ∷ centres_open ∷ section_end ∷ scheduled_label ∷ firm_label ∷ booked_label ∷ available_label ∷ gross_label ∷ planned_label ∷ starts_label ∷ balance_label ∷ orders_open ∷ pegs_open ∷ no_record ∷ history_open ∷ history_end ∷ page_end ∷ [] ∷ codes "<td>" ∷ codes "<td class=z>" ∷ codes "</td>" ∷ codes "</tr>\n" ∷ no_promises ∷ table_end ∷ rest_end ∷ refused_open ∷ none_refused ∷ refused_front ∷ refused_row ∷ refused_end ∷ todo_note ∷ task_row ∷ order_unknown ∷ late_front ∷ release_front ∷ in_front ∷ out_front ∷ cancel_front ∷ other_front ∷ summary_open ∷ main_open ∷ low_end ∷ hot_end ∷ above_end ∷ share_label ∷ later_open ∷ none_over ∷ over_front ∷ over_back ∷ codes "<td></td>" ∷ order_address ∷ task_middle ∷ items_open ∷ items_end ∷ index_open ∷ index_end ∷ lists_open ∷ waits_open ∷ peg_front ∷ peg_booking ∷ wait_supply ∷ wait_end ∷ link_end ∷ out_first_open ∷ none_out ∷ outs_front ∷ title_open ∷ title_end ∷ []
 
 -- the markup of a part
 abbrev pub marks_of : Drawn → List (List ℕ)
@@ -30,15 +40,18 @@ marks_of (Number column) = []
 unfoldable pub own_words : List (List ℕ)
 own_words = plain ++ flat_map (flat_map marks_of) layouts
 
--- a piece is such markup, a text that is known, or the name of an item that is shown, as a link to it
-abbrev pub IsPieceOf : (List ℕ → Type 0) → (List ℕ → Type 0) → Piece → Type 0
-IsPieceOf Known Shown (Markup markup) = Contains own_words markup
-IsPieceOf Known Shown (Escaped text) = Known text
-IsPieceOf Known Shown (Link name) = Shown name
+-- a piece is such markup, a text that is known, the name of an item that is shown, as a link to it, the number of an entry
+-- that is kept, as a link to it, or what a link to an order begins with that is shown
+abbrev pub IsPieceOf : (List ℕ → Type 0) → (List ℕ → Type 0) → (List ℕ → Type 0) → (List ℕ → List ℕ → Type 0) → Piece → Type 0
+IsPieceOf Known Shown Kept Ordered (Markup markup) = Contains own_words markup
+IsPieceOf Known Shown Kept Ordered (Escaped text) = Known text
+IsPieceOf Known Shown Kept Ordered (Link name) = Shown name
+IsPieceOf Known Shown Kept Ordered (Entry number) = Kept number
+IsPieceOf Known Shown Kept Ordered (Order number name) = Ordered number name
 
 -- a text consists of such pieces
-abbrev pub IsMadeOf : (List ℕ → Type 0) → (List ℕ → Type 0) → List ℕ → Type 0
-IsMadeOf Known Shown html = (pieces : List Piece) × All (IsPieceOf Known Shown) pieces × (html ≡ flat_map piece_html pieces)
+abbrev pub IsMadeOf : (List ℕ → Type 0) → (List ℕ → Type 0) → (List ℕ → Type 0) → (List ℕ → List ℕ → Type 0) → List ℕ → Type 0
+IsMadeOf Known Shown Kept Ordered html = (pieces : List Piece) × All (IsPieceOf Known Shown Kept Ordered) pieces × (html ≡ flat_map piece_html pieces)
 
 -- a text is a cell of one of these records
 abbrev pub StandsIn : List Cells → List ℕ → Type 0
@@ -48,21 +61,82 @@ StandsIn records text = (cells : Cells) × Contains records cells × Contains ce
 abbrev pub names_shown : Noted → List (List ℕ)
 names_shown notes = map (λ r. cell_at r 0) (shown_items (item_lists notes.report))
 
+-- the numbers of the entries that are kept of the history
+abbrev pub entries_kept : Noted → List (List ℕ)
+entries_kept notes = map (λ r. cell_at r 0) notes.history
+
+-- an order with this number is on the page: it is among the orders of an item of this name that is shown
+abbrev pub IsOrderShown : Noted → List ℕ → List ℕ → Type 0
+IsOrderShown notes number name = Contains (names_shown notes) name × Contains (map (λ r. cell_at r 1) (rows_named name (rows_in s.Orders notes.report))) number
+
 -- how many rows of items are not shown
 abbrev pub left_of : Noted → Counts
 left_of notes = unshown (item_lists notes.report) (shown_items (item_lists notes.report)) notes.counts
 
--- the counts of what is not shown, and of the items
-abbrev pub count_texts : Noted → List (List ℕ)
-count_texts notes =
+-- the counts of a list: its rows, those that are folded, and those past the most
+abbrev pub list_counts : List RowView → List (List ℕ)
+list_counts rows = decimal (length rows) ∷ decimal (length (drop SOME_ROWS (take MOST_LINES rows))) ∷ decimal (length (drop MOST_LINES rows)) ∷ []
+
+-- the lists of messages, kind by kind
+abbrev pub message_lists : Noted → List (List RowView)
+message_lists notes = map (messages_of (rows_in s.Messages notes.report)) kinds ++ (other_messages (rows_in s.Messages notes.report) ∷ [])
+
+-- the counts of the summary
+abbrev pub summary_counts : List RowView → List RowView → List RowView → List (List ℕ)
+summary_counts history messages loads =
+    decimal (count_with 7 (codes "short") history) ∷ decimal (count_by is_undone history)
+    ∷ decimal (count_with 3 (codes "PAST-DUE") messages) ∷ decimal (count_with 3 (codes "RELEASE") messages) ∷ decimal (count_with 3 (codes "IN") messages) ∷ decimal (count_with 3 (codes "OUT") messages) ∷ decimal (count_with 3 (codes "CANCEL") messages)
+    ∷ decimal (centre_count (overloads loads)) ∷ decimal (centre_count loads) ∷ []
+
+-- the counts of what is not shown, of the items, and of rows that are folded, and those of the summary
+abbrev pub own_counts : Noted → List (List ℕ)
+own_counts notes =
     decimal notes.counts.messages ∷ decimal notes.counts.loads ∷ decimal (notes.counts.items - length (shown_items (item_lists notes.report)))
-    ∷ decimal (left_of notes).plan ∷ decimal (left_of notes).promises ∷ decimal (left_of notes).orders ∷ decimal (left_of notes).pegs ∷ decimal notes.counts.history ∷ decimal notes.counts.items ∷ []
+    ∷ decimal (left_of notes).plan ∷ decimal (left_of notes).promises ∷ decimal (left_of notes).orders ∷ decimal (left_of notes).pegs ∷ decimal notes.counts.history ∷ decimal notes.counts.items ∷ decimal (length (drop FEW_ROWS (refused_rows notes.history))) ∷ summary_counts notes.history (rows_in s.Messages notes.report) (rows_in s.Loads notes.report)
 
--- texts of a page that come from no row: those of a table without rows, and the words for what is
--- counted
+-- the lists whose rows are counted
+abbrev pub row_lists : Noted → List (List RowView)
+row_lists notes = overloads_first (rows_in s.Loads notes.report) ∷ message_lists notes
+
+-- the texts of a week of a work centre that are none of its cells: its whole minutes, its share of capacity, and the heights
+-- of its bar
+abbrev pub load_texts : RowView → List (List ℕ)
+load_texts load = whole (cell_at load 2) ∷ whole (cell_at load 3) ∷ whole (cell_at load 4) ∷ share_cells load (share_of load)
+
+-- the pieces of an open order that a message is about
+abbrev pub open_texts : SceneView → RowView → List (List ℕ)
+open_texts scene message = decimal (open_count scene message) ∷ []
+
+-- how many messages an item has
+abbrev pub index_texts : List RowView → RowView → List (List ℕ)
+index_texts messages leader = decimal (message_count messages leader) ∷ []
+
+-- what is left of an item in the week in which it runs out
+abbrev pub out_texts : RowView → List (List ℕ)
+out_texts week = decimal (left_in week) ∷ []
+
+-- how many weeks of records are not kept, how many items run out, and what is left of each
+abbrev pub outs_texts : Noted → List (List ℕ)
+outs_texts notes = decimal notes.counts.plan ∷ decimal (length (outs_first (scene_in notes) (rows_in s.Plan notes.report))) ∷ flat_map out_texts (short_weeks (rows_in s.Plan notes.report))
+
+abbrev pub item_texts : Noted → List (List ℕ)
+item_texts notes =
+    flat_map (open_texts (scene_in notes)) (rows_in s.Messages notes.report)
+    ++ (flat_map (index_texts (rows_in s.Messages notes.report)) (shown_items (item_lists notes.report))
+    ++ outs_texts notes)
+
+abbrev pub listed_texts : Noted → List (List ℕ)
+listed_texts notes = flat_map list_counts (row_lists notes) ++ (flat_map load_texts (rows_in s.Loads notes.report) ++ item_texts notes)
+
+-- those, the counts of each list, the texts of work centres, the pieces of open orders, the counts of the index and what is left of items
+abbrev pub count_texts : Noted → List (List ℕ)
+count_texts notes = own_counts notes ++ listed_texts notes
+
+-- texts of a page that come from no row: those of a table without rows, the words for what is counted, and that of a fold
+-- which stands open
 unfoldable pub small_words : List (List ℕ)
-small_words = [] ∷ codes "0" ∷ codes "1" ∷ codes "message, perhaps an urgent one, is" ∷ codes "messages, urgent ones perhaps among them, are" ∷ codes "week of a work centre is" ∷ codes "weeks of work centres are" ∷ codes "item is" ∷ codes "items are" ∷ codes "week of a record is" ∷ codes "weeks of records are" ∷ codes "week of promises is" ∷ codes "weeks of promises are" ∷ codes "order is" ∷ codes "orders are" ∷ codes "peg is" ∷ codes "pegs are" ∷ codes "entry is" ∷ codes "entries are" ∷ codes "1.000" ∷ []
+small_words = [] ∷ codes "0" ∷ codes "1" ∷ codes "message, perhaps an urgent one, is" ∷ codes "messages, urgent ones perhaps among them, are" ∷ codes "week of a work centre is" ∷ codes "weeks of work centres are" ∷ codes "item is" ∷ codes "items are" ∷ codes "week of a record is" ∷ codes "weeks of records are" ∷ codes "week of promises is" ∷ codes "weeks of promises are" ∷ codes "order is" ∷ codes "orders are" ∷ codes "peg is" ∷ codes "pegs are" ∷ codes "entry is" ∷ codes "entries are" ∷ codes "1.000" ∷ codes "entry of the history is" ∷ codes "entries of the history are" ∷ codes "is" ∷ codes "are" ∷ codes "open" ∷ codes "none" ∷ codes "late" ∷ codes "unkept" ∷ codes "not promised" ∷ codes "cancel" ∷ codes "not cancelled" ∷ codes "todo" ∷ codes "release" ∷ codes "in" ∷ codes "out" ∷ codes "past due" ∷ codes "reschedule in" ∷ codes "reschedule out" ∷ codes "centres" ∷ codes "-" ∷ []
 
--- a text is the title, a cell of a record, a number of what is not shown or of the items, or one of those words
+-- a text is the title, a cell of a record, a count, a number of a work centre, or one of those words
 abbrev pub IsKnown : List ℕ → List Cells → Noted → List ℕ → Type 0
 IsKnown title records notes text = (text ≡ title) ⊎ (StandsIn records text ⊎ (Contains (count_texts notes) text ⊎ Contains small_words text))

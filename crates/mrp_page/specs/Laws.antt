@@ -3,26 +3,35 @@ use Rattle.std.specs.Prelude.{ℕ, List, [], ◌∷◌, codes, flat_map}
 use Rattle.mrp_page.specs.Draw.{link_html}
 use Rattle.mrp_page.specs.Escaped.{escaped}
 use Rattle.mrp_page.specs.Html.{number_tag}
+use Rattle.mrp_page.specs.Orders.{order_link}
+use Rattle.mrp_page.specs.Refused.{entry_link_html}
 use Rattle.mrp_page.specs.Row.{RowView, cell_at}
 use Rattle.mrp_page.specs.Template.{Drawn, Mark, Number, Text, Where, has_word, markup_if}
 
--- a piece of a page: markup, which is no text of a day; a text; or a name that links to its item
+-- a piece of a page: markup, which is no text of a day; a text; a name that links to its item; a number that links to its
+-- entry of the history; or what a link to an order begins with, from its number and the name of its item
 pub data Piece : Type 0 where
   Markup : List ℕ → Piece
   Escaped : List ℕ → Piece
   Link : List ℕ → Piece
+  Entry : List ℕ → Piece
+  Order : List ℕ → List ℕ → Piece
 
 -- markup as it is, a text escaped
 abbrev pub piece_html : Piece → List ℕ
 piece_html (Markup markup) = markup
 piece_html (Escaped text) = escaped text
 piece_html (Link name) = link_html name
+piece_html (Entry number) = entry_link_html number
+piece_html (Order number name) = order_link number name
 
 -- the text of a piece
 abbrev pub text_of : Piece → List (List ℕ)
 text_of (Markup markup) = []
 text_of (Escaped text) = text ∷ []
 text_of (Link name) = name ∷ []
+text_of (Entry number) = number ∷ []
+text_of (Order number name) = number ∷ name ∷ []
 
 -- the texts that pieces show
 unfoldable pub shown : List Piece → List (List ℕ)

@@ -2,13 +2,20 @@
 use Rattle.std.specs.Prelude.{ℕ, Bool, ◌++◌, not, List, [], ◌∷◌, flat_map, take, if◌then◌else◌}
 use Rattle.mrp_page.specs.declared.counts.Counts.{Counts}
 use Rattle.mrp_page.specs.declared.limits.TheConstants.{MOST_ITEMS}
-use Rattle.mrp_page.specs.Draw.{centres_html, has_none, history_html, items_html, more_items, todo_html}
+use Rattle.mrp_page.specs.Centres.{load_section}
+use Rattle.mrp_page.specs.Draw.{has_none, history_html, more_items}
 use Rattle.mrp_page.specs.Frame.{heading}
 use Rattle.mrp_page.specs.ItemRows.{ItemLists, item_lists}
+use Rattle.mrp_page.specs.Items.{index_html, items_html}
+use Rattle.mrp_page.specs.Kinds.{todo_html}
 use Rattle.mrp_page.specs.Layout.{page_end, page_head, page_top, style}
 use Rattle.mrp_page.specs.Notes.{Noted}
+use Rattle.mrp_page.specs.Outs.{outs_section}
+use Rattle.mrp_page.specs.Refused.{refused_section}
 use Rattle.mrp_page.specs.Row.{RowView, cell_at}
 use Rattle.mrp_page.specs.Rows.{leaders, rows_in, rows_named}
+use Rattle.mrp_page.specs.Scene.{SceneView, scene_of}
+use Rattle.mrp_page.specs.Summary.{summary_html}
 use Rattle.mrp_page.specs.Template.{row_html}
 use Rattle.mrp_day.specs.declared.section.Section.TheVariants as s
 use Rattle.mrp_page.specs.Unshown.{unshown}
@@ -33,30 +40,39 @@ told_first messages plan = leaders [] messages ++ flat_map (untold_rows messages
 unfoldable pub shown_items : ItemLists → List RowView
 shown_items rows = take MOST_ITEMS (told_first rows.messages rows.plan)
 
--- the work centres
-unfoldable pub load_section : List RowView → ℕ → List ℕ
-load_section loads missed = centres_html loads (leaders [] loads) missed
-
--- items, and how many more there are
-unfoldable pub items_of : ItemLists → Counts → List RowView → List ℕ
-items_of rows counts shown = items_html rows counts.promises shown ++ more_items (unshown rows shown counts) shown
+-- an index of items, the items, and how many more there are
+unfoldable pub items_of : SceneView → ItemLists → Counts → List ℕ
+items_of scene rows counts =
+    index_html rows.messages scene.shown
+    ++ (items_html scene rows counts.promises scene.shown
+    ++ more_items (unshown rows scene.shown counts) scene.shown)
 
 -- the items, the history and the end of a page
-unfoldable pub rest_html : ItemLists → Counts → List RowView → List RowView → List ℕ
-rest_html rows counts shown history = items_of rows counts shown ++ (history_html history counts.history ++ page_end)
+unfoldable pub rest_html : SceneView → ItemLists → Counts → List ℕ
+rest_html scene rows counts = items_of scene rows counts ++ (history_html scene.history counts.history ++ page_end)
 
 -- the head of a page, with its title, the report, and the number of items
 unfoldable pub top_html : List ℕ → List RowView → ℕ → List ℕ
 top_html title report items = head_html (heading title report items)
 
--- a page that shows these items
-unfoldable pub page_of : List ℕ → Noted → List RowView → List ℕ
-page_of title notes shown =
+-- the items that run out first, and the work centres
+unfoldable pub middle_html : SceneView → List RowView → Counts → List ℕ
+middle_html scene report counts = outs_section scene (rows_in s.Plan report) counts.plan ++ load_section (rows_in s.Loads report) counts.loads
+
+-- a page, from what its parts are drawn from
+unfoldable pub page_of : List ℕ → Noted → SceneView → List ℕ
+page_of title notes scene =
     top_html title notes.report notes.counts.items
-    ++ (todo_html shown (rows_in s.Messages notes.report) notes.counts.messages
-    ++ (load_section (rows_in s.Loads notes.report) notes.counts.loads
-    ++ rest_html (item_lists notes.report) notes.counts shown notes.history))
+    ++ (summary_html notes.history (rows_in s.Messages notes.report) (rows_in s.Loads notes.report)
+    ++ (refused_section scene.shown notes.history notes.counts.history
+    ++ (todo_html scene (rows_in s.Messages notes.report) notes.counts.messages
+    ++ (middle_html scene notes.report notes.counts
+    ++ rest_html scene (item_lists notes.report) notes.counts))))
+
+-- what a page is drawn from
+abbrev pub scene_in : Noted → SceneView
+scene_in notes = scene_of (shown_items (item_lists notes.report)) (item_lists notes.report) notes.history notes.counts.pegs
 
 -- a page
 unfoldable pub page_html : List ℕ → Noted → List ℕ
-page_html title notes = page_of title notes (shown_items (item_lists notes.report))
+page_html title notes = page_of title notes (scene_in notes)

@@ -3,7 +3,7 @@ use Rattle.std.specs.Prelude.{ℕ, Bool, List, [], if◌then◌else◌, flat_map
 use Rattle.mrp_page.specs.declared.template.Part.{Part}
 use Rattle.mrp_page.specs.declared.template.Part.TheVariants as part
 use Rattle.mrp_page.specs.Escaped.{escaped}
-use Rattle.mrp_page.specs.Html.{number_html}
+use Rattle.mrp_page.specs.Html.{flow_html, number_html}
 use Rattle.mrp_page.specs.Row.{RowView, cell_at, same_text}
 
 -- a part of the markup that a row is drawn with: markup, markup for the rows that have a word in a column, a cell's
@@ -49,3 +49,11 @@ number_at column row = number_html (cell_at row column)
 -- the numbers of a column
 unfoldable pub numbers_html : ℕ → List RowView → List ℕ
 numbers_html column rows = flat_map (number_at column) rows
+
+-- the number in a column, left empty if it is 0
+abbrev pub flow_at : ℕ → RowView → List ℕ
+flow_at column row = flow_html (cell_at row column)
+
+-- the numbers of a column, those that are 0 left empty
+unfoldable pub flows_html : ℕ → List RowView → List ℕ
+flows_html column rows = flat_map (flow_at column) rows

@@ -1,7 +1,7 @@
 //! Drawing the parts of a page.
 
-ghost use Rattle.std.specs.Prelude.{◌≡◌, ◌++◌, OnOk, map};
-ghost use Rattle.mrp_page.specs.Draw.{balance_html, bars_html, booked_html, centre_html, centre_rows_html, centres_html, each_centre, grid_html, has_firm, has_item, history_html, is_plain, item_html, item_lists_html, item_name_html, item_tasks, items_html, link_html, loads_html, measure_html, more_html, more_items, more_lists, more_rows, more_weeks, named_note, named_record, named_tasks, orders_html, other_if, other_tasks, pegs_html, planned_html, points_html, promised_html, promises_note, record_html, record_or_none, record_rows, supplies_html, table_html, task_html, task_if, task_table, tasks_html, tasks_with, todo_back, todo_html, weeks_html};
+ghost use Rattle.std.specs.Prelude.{◌≡◌, ◌++◌, OnOk, drop, map, take};
+ghost use Rattle.mrp_page.specs.Draw.{all_weeks, amounts_html, balance_html, booked_html, framed_record, has_firm, has_item, history_html, is_plain, is_scheduled, item_name_html, item_tasks, later_record, link_html, measure_html, more_html, more_items, more_lists, more_rows, more_weeks, named_note, named_record, named_tasks, other_if, other_tasks, planned_html, points_html, promised_html, promises_note, record_html, record_or_none, record_rows, record_table, supplies_html, table_html, task_html, task_if, task_table, tasks_html, tasks_with, weeks_html};
 ghost use Rattle.std.specs.List.{list_any};
 ghost use Rattle.mrp_page.specs.Row.{is_of};
 ghost use Rattle.mrp_page.specs.Template.{drawn_of};
@@ -11,22 +11,22 @@ use crate::frame::{count_row, frame_of};
 use crate::html::{Html, is_zero};
 use crate::item_rows::ItemRows;
 use crate::layout::{
-    available_label, balance_chart, balance_label, bar, bars_end, booked_label, capacity_label,
-    centre_head, centres_open, entry, firm_label, grid_end, gross_label, history_end, history_open,
-    item_head, item_tasks_end, item_tasks_open, link_end, link_middle, link_open, list_end,
-    load_chart, load_label, more, no_promises, no_record, order, orders_open, other_words,
-    over_label, peg, pegs_open, planned_label, point, points_end, record_head, scheduled_label,
-    section_end, starts_label, task_head, task_words, todo_end, todo_open, week, weeks_end,
+    available_label, balance_chart, balance_label, booked_label, entry, firm_label, grid_end,
+    gross_label, history_end, history_open, item_tasks_end, item_tasks_open, later_open, link_end,
+    link_middle, link_open, more, no_promises, no_record, other_words, planned_label, point,
+    points_end, record_head, rest_end, scheduled_label, starts_label, task_head, task_words, week,
+    weeks_end,
 };
+use crate::limits::TABLE_WEEKS;
 use crate::row::Row;
 use crate::rows::{greatest, rows_named};
-use crate::template::{Part, has_word, put_numbers, put_row, put_rows};
+use crate::template::{Part, has_word, put_flows, put_numbers, put_row, put_rows};
 use mrp_qty::NoMemory;
 use std::alloc::Global;
 
 // Adds rows between two pieces of markup.
 #[tactic(auto, unfolding(crate::specs::Draw::table_html))]
-fn put_table(
+pub(crate) fn put_table(
     page: &mut Html,
     front: &[u8],
     parts: &[Part],
@@ -50,9 +50,19 @@ fn put_measure(page: &mut Html, label: &[u8], column: usize, rows: &[Row]) -> Re
     page.markup(b"</tr>\n")
 }
 
+// Adds a row of a table over the weeks, and leaves the numbers empty that are 0.
+#[tactic(auto, unfolding(crate::specs::Draw::amounts_html))]
+fn put_amounts(page: &mut Html, label: &[u8], column: usize, rows: &[Row]) -> Result<(), NoMemory>
+    ensures { OnOk result (page.new ≡ page.old ++ amounts_html label.now column rows.now) }
+{
+    page.markup(label)?;
+    put_flows(page, column, rows)?;
+    page.markup(b"</tr>\n")
+}
+
 // Adds a name that links to its item on the same page.
 #[tactic(auto, unfolding(crate::specs::Draw::link_html))]
-fn put_link(page: &mut Html, name: &[u8]) -> Result<(), NoMemory>
+pub(crate) fn put_link(page: &mut Html, name: &[u8]) -> Result<(), NoMemory>
     ensures { OnOk result (page.new ≡ page.old ++ link_html name.now) }
 {
     page.markup(link_open())?;
@@ -70,7 +80,7 @@ fn is_one_of(shown: &[&Row], name: &[u8]) -> bool
 }
 
 // Whether this item is among those of these rows.
-fn has_item(shown: &[&Row], name: &[u8]) -> bool
+pub(crate) fn has_item(shown: &[&Row], name: &[u8]) -> bool
     ensures { result ≡ has_item (map (λ r. r.now) shown.now) name.now }
 {
     is_one_of(shown, name)
@@ -78,7 +88,7 @@ fn has_item(shown: &[&Row], name: &[u8]) -> bool
 
 // Adds the name of an item, as a link if the item is among those that are shown.
 #[tactic(auto, unfolding(crate::specs::Draw::item_name_html))]
-fn put_item_name(page: &mut Html, shown: &[&Row], name: &[u8]) -> Result<(), NoMemory>
+pub(crate) fn put_item_name(page: &mut Html, shown: &[&Row], name: &[u8]) -> Result<(), NoMemory>
     ensures { OnOk result (page.new ≡ page.old ++ item_name_html (map (λ r. r.now) shown.now) name.now) }
 {
     if has_item(shown, name) {
@@ -126,7 +136,7 @@ fn put_tasks_with(
 }
 
 // Whether a message has one of the words that a page puts into plain ones.
-fn is_plain(message: &Row) -> bool
+pub(crate) fn is_plain(message: &Row) -> bool
     ensures { result ≡ is_plain message.now }
 {
     has_word(3, b"PAST-DUE", message)
@@ -189,7 +199,7 @@ fn put_task_table(
 
 // Adds how many are not shown; nothing if that is none.
 #[tactic(auto, unfolding(crate::specs::Draw::more_html))]
-fn put_more(
+pub(crate) fn put_more(
     alloc: Global,
     page: &mut Html,
     count: u64,
@@ -205,140 +215,12 @@ fn put_more(
     put_row(page, more(), &row)
 }
 
-// Adds how many more messages there are. They may be of any urgency.
-#[tactic(auto, unfolding(crate::specs::Draw::todo_back))]
-fn put_todo_back(alloc: Global, page: &mut Html, missed: u64) -> Result<(), NoMemory>
-    ensures { OnOk result (page.new ≡ page.old ++ todo_back missed) }
-{
-    put_more(
-        alloc,
-        page,
-        missed,
-        b"message, perhaps an urgent one, is",
-        b"messages, urgent ones perhaps among them, are",
-    )?;
-    page.markup(section_end())
-}
-
-// Adds the section *To do*: the messages, each with a link to its item if that is shown.
-#[tactic(auto, unfolding(crate::specs::Draw::todo_html))]
-pub(crate) fn put_todo(
-    alloc: Global,
-    page: &mut Html,
-    shown: &[&Row],
-    messages: &[Row],
-    missed: u64,
-) -> Result<(), NoMemory>
-    ensures { OnOk result (page.new ≡ page.old ++ todo_html (map (λ r. r.now) shown.now) messages.now missed) }
-{
-    put_task_table(page, todo_open(), shown, messages, todo_end())?;
-    put_todo_back(alloc, page, missed)
-}
-
 // Adds the weeks of a table.
 #[tactic(auto, unfolding(crate::specs::Draw::weeks_html))]
-fn put_weeks(page: &mut Html, rows: &[Row]) -> Result<(), NoMemory>
+pub(crate) fn put_weeks(page: &mut Html, rows: &[Row]) -> Result<(), NoMemory>
     ensures { OnOk result (page.new ≡ page.old ++ weeks_html rows.now) }
 {
     put_table(page, b"", week(), rows, weeks_end())
-}
-
-// Adds the weeks of a table, between the markup of its frame.
-#[tactic(auto, unfolding(crate::specs::Draw::grid_html))]
-fn put_grid(
-    page: &mut Html,
-    head: &[Part],
-    chart: &[Part],
-    frame: &Row,
-    rows: &[Row],
-) -> Result<(), NoMemory>
-    ensures { OnOk result (page.new ≡ page.old ++ grid_html (map drawn_of head.now) (map drawn_of chart.now) frame.now rows.now) }
-{
-    put_row(page, head, frame)?;
-    put_weeks(page, rows)?;
-    put_row(page, chart, frame)
-}
-
-// Adds the bars of the picture of loads.
-#[tactic(auto, unfolding(crate::specs::Draw::bars_html))]
-fn put_bars(page: &mut Html, rows: &[Row]) -> Result<(), NoMemory>
-    ensures { OnOk result (page.new ≡ page.old ++ bars_html rows.now) }
-{
-    put_table(page, b"", bar(), rows, bars_end())
-}
-
-// Adds the rows of a work centre's table.
-#[tactic(auto, unfolding(crate::specs::Draw::loads_html))]
-fn put_loads(page: &mut Html, rows: &[Row]) -> Result<(), NoMemory>
-    ensures { OnOk result (page.new ≡ page.old ++ loads_html rows.now) }
-{
-    put_measure(page, load_label(), 2, rows)?;
-    put_measure(page, capacity_label(), 3, rows)?;
-    put_measure(page, over_label(), 4, rows)?;
-    page.markup(grid_end())
-}
-
-// Adds a work centre by its rows.
-#[tactic(auto, unfolding(crate::specs::Draw::centre_rows_html))]
-fn put_centre_rows(
-    alloc: Global,
-    page: &mut Html,
-    name: &[u8],
-    rows: &[Row],
-) -> Result<(), NoMemory>
-    ensures { OnOk result (page.new ≡ page.old ++ centre_rows_html name.now rows.now) }
-{
-    let frame = frame_of(alloc, name, rows, 2, 3, b"1.000")?;
-    put_grid(page, centre_head(), load_chart(), &frame, rows)?;
-    put_bars(page, rows)?;
-    put_loads(page, rows)
-}
-
-// Adds a work centre: its loads against its capacities.
-#[tactic(auto, unfolding(crate::specs::Draw::centre_html))]
-fn put_centre(alloc: Global, page: &mut Html, loads: &[Row], leader: &Row) -> Result<(), NoMemory>
-    ensures { OnOk result (page.new ≡ page.old ++ centre_html loads.now leader.now) }
-{
-    let name = leader.name();
-    put_centre_rows(alloc, page, name, rows_named(loads, name))
-}
-
-// Adds work centres.
-fn put_each_centre(
-    alloc: Global,
-    page: &mut Html,
-    loads: &[Row],
-    leaders: &[&Row],
-) -> Result<(), NoMemory>
-    ensures { OnOk result (page.new ≡ page.old ++ each_centre loads.now (map (λ r. r.now) leaders.now)) }
-{
-    for leader in leaders {
-        put_centre(alloc, page, loads, *leader)?;
-    }
-    Ok(())
-}
-
-// Adds the section of the work centres, and for how many more weeks there are loads.
-#[tactic(auto, unfolding(crate::specs::Draw::centres_html))]
-pub(crate) fn put_centres(
-    alloc: Global,
-    page: &mut Html,
-    loads: &[Row],
-    leaders: &[&Row],
-    missed: u64,
-) -> Result<(), NoMemory>
-    ensures { OnOk result (page.new ≡ page.old ++ centres_html loads.now (map (λ r. r.now) leaders.now) missed) }
-{
-    page.markup(centres_open())?;
-    put_each_centre(alloc, page, loads, leaders)?;
-    put_more(
-        alloc,
-        page,
-        missed,
-        b"week of a work centre is",
-        b"weeks of work centres are",
-    )?;
-    page.markup(section_end())
 }
 
 // Whether a plan has a firm schedule.
@@ -348,15 +230,23 @@ fn has_firm(plan: &[Row]) -> bool
     !is_zero(greatest(plan, 4, b"0"))
 }
 
+// Whether what is due of an item are scheduled receipts, as of a part: it has no promises and no firm
+// schedule.
+fn is_scheduled(plan: &[Row], promises: &[Row]) -> bool
+    ensures { result ≡ is_scheduled plan.now promises.now }
+{
+    promises.is_empty() && !has_firm(plan)
+}
+
 // Adds what is due: the firm schedule of a master item, the scheduled receipts of a part.
 #[tactic(auto, unfolding(crate::specs::Draw::supplies_html))]
-fn put_supplies(page: &mut Html, plan: &[Row], promises: &[Row]) -> Result<(), NoMemory>
-    ensures { OnOk result (page.new ≡ page.old ++ supplies_html plan.now promises.now) }
+fn put_supplies(page: &mut Html, scheduled: bool, plan: &[Row]) -> Result<(), NoMemory>
+    ensures { OnOk result (page.new ≡ page.old ++ supplies_html scheduled plan.now) }
 {
-    if promises.is_empty() && !has_firm(plan) {
-        put_measure(page, scheduled_label(), 3, plan)
+    if scheduled {
+        put_amounts(page, scheduled_label(), 3, plan)
     } else {
-        put_measure(page, firm_label(), 4, plan)
+        put_amounts(page, firm_label(), 4, plan)
     }
 }
 
@@ -365,7 +255,7 @@ fn put_supplies(page: &mut Html, plan: &[Row], promises: &[Row]) -> Result<(), N
 fn put_booked(page: &mut Html, promises: &[Row]) -> Result<(), NoMemory>
     ensures { OnOk result (page.new ≡ page.old ++ booked_html promises.now) }
 {
-    put_measure(page, booked_label(), 3, promises)?;
+    put_amounts(page, booked_label(), 3, promises)?;
     put_measure(page, available_label(), 5, promises)
 }
 
@@ -391,11 +281,10 @@ fn put_points(page: &mut Html, plan: &[Row]) -> Result<(), NoMemory>
 
 // Adds the picture of an item's balances, a line.
 #[tactic(auto, unfolding(crate::specs::Draw::balance_html))]
-fn put_balance(alloc: Global, page: &mut Html, name: &[u8], plan: &[Row]) -> Result<(), NoMemory>
-    ensures { OnOk result (page.new ≡ page.old ++ balance_html name.now plan.now) }
+fn put_balance(page: &mut Html, frame: &Row, plan: &[Row]) -> Result<(), NoMemory>
+    ensures { OnOk result (page.new ≡ page.old ++ balance_html frame.now plan.now) }
 {
-    let frame = frame_of(alloc, name, plan, 7, 7, b"1")?;
-    put_grid(page, record_head(), balance_chart(), &frame, plan)?;
+    put_row(page, balance_chart(), frame)?;
     put_points(page, plan)
 }
 
@@ -404,20 +293,100 @@ fn put_balance(alloc: Global, page: &mut Html, name: &[u8], plan: &[Row]) -> Res
 fn put_planned(page: &mut Html, plan: &[Row]) -> Result<(), NoMemory>
     ensures { OnOk result (page.new ≡ page.old ++ planned_html plan.now) }
 {
-    put_measure(page, planned_label(), 5, plan)?;
-    put_measure(page, starts_label(), 6, plan)?;
+    put_amounts(page, planned_label(), 5, plan)?;
+    put_amounts(page, starts_label(), 6, plan)?;
     put_measure(page, balance_label(), 7, plan)
 }
 
 // Adds the rows of an item's time-phased record.
 #[tactic(auto, unfolding(crate::specs::Draw::record_rows))]
-fn put_record_rows(page: &mut Html, plan: &[Row], promises: &[Row]) -> Result<(), NoMemory>
-    ensures { OnOk result (page.new ≡ page.old ++ record_rows plan.now promises.now) }
+fn put_record_rows(
+    page: &mut Html,
+    scheduled: bool,
+    plan: &[Row],
+    promises: &[Row],
+) -> Result<(), NoMemory>
+    ensures { OnOk result (page.new ≡ page.old ++ record_rows scheduled plan.now promises.now) }
 {
-    put_measure(page, gross_label(), 2, plan)?;
-    put_supplies(page, plan, promises)?;
+    put_amounts(page, gross_label(), 2, plan)?;
+    put_supplies(page, scheduled, plan)?;
     put_planned(page, plan)?;
     put_promised(page, promises)
+}
+
+// Adds a table of some weeks of an item's time-phased record.
+#[tactic(auto, unfolding(crate::specs::Draw::record_table))]
+fn put_record_table(
+    page: &mut Html,
+    frame: &Row,
+    scheduled: bool,
+    plan: &[Row],
+    promises: &[Row],
+) -> Result<(), NoMemory>
+    ensures { OnOk result (page.new ≡ page.old ++ record_table frame.now scheduled plan.now promises.now) }
+{
+    put_row(page, record_head(), frame)?;
+    put_weeks(page, plan)?;
+    put_record_rows(page, scheduled, plan, promises)?;
+    page.markup(grid_end())
+}
+
+// Adds a table of its further weeks, folded.
+#[tactic(auto, unfolding(crate::specs::Draw::later_record))]
+fn put_later_record(
+    page: &mut Html,
+    frame: &Row,
+    scheduled: bool,
+    plan: &[Row],
+    promises: &[Row],
+) -> Result<(), NoMemory>
+    ensures { OnOk result (page.new ≡ page.old ++ later_record frame.now scheduled plan.now promises.now) }
+{
+    if plan.is_empty() {
+        return Ok(());
+    }
+    page.markup(later_open())?;
+    put_record_table(page, frame, scheduled, plan, promises)?;
+    page.markup(rest_end())
+}
+
+// The weeks of the first table, and the others.
+pub(crate) fn cut_weeks(rows: &[Row]) -> (&[Row], &[Row])
+    ensures first { result.0.now ≡ take TABLE_WEEKS rows.now }
+    ensures rest { result.1.now ≡ drop TABLE_WEEKS rows.now }
+{
+    rows.split_at(TABLE_WEEKS.min(rows.len()))
+}
+
+// Adds the weeks of an item's time-phased record.
+#[tactic(auto, unfolding(crate::specs::Draw::all_weeks))]
+fn put_all_weeks(
+    page: &mut Html,
+    frame: &Row,
+    scheduled: bool,
+    plan: &[Row],
+    promises: &[Row],
+) -> Result<(), NoMemory>
+    ensures { OnOk result (page.new ≡ page.old ++ all_weeks frame.now scheduled plan.now promises.now) }
+{
+    let (first, later) = cut_weeks(plan);
+    let (first_promises, later_promises) = cut_weeks(promises);
+    put_record_table(page, frame, scheduled, first, first_promises)?;
+    put_later_record(page, frame, scheduled, later, later_promises)
+}
+
+// Adds the time-phased record of an item, given its frame.
+#[tactic(auto, unfolding(crate::specs::Draw::framed_record))]
+fn put_framed_record(
+    page: &mut Html,
+    frame: &Row,
+    plan: &[Row],
+    promises: &[Row],
+) -> Result<(), NoMemory>
+    ensures { OnOk result (page.new ≡ page.old ++ framed_record frame.now plan.now promises.now) }
+{
+    put_balance(page, frame, plan)?;
+    put_all_weeks(page, frame, is_scheduled(plan, promises), plan, promises)
 }
 
 // Adds the time-phased record of an item.
@@ -431,25 +400,8 @@ fn put_record(
 ) -> Result<(), NoMemory>
     ensures { OnOk result (page.new ≡ page.old ++ record_html name.now plan.now promises.now) }
 {
-    put_balance(alloc, page, name, plan)?;
-    put_record_rows(page, plan, promises)?;
-    page.markup(grid_end())
-}
-
-// Adds the orders of an item, folded away.
-#[tactic(auto, unfolding(crate::specs::Draw::orders_html))]
-fn put_orders(page: &mut Html, orders: &[Row]) -> Result<(), NoMemory>
-    ensures { OnOk result (page.new ≡ page.old ++ orders_html orders.now) }
-{
-    put_table(page, orders_open(), order(), orders, list_end())
-}
-
-// Adds the pegs of an item, folded away.
-#[tactic(auto, unfolding(crate::specs::Draw::pegs_html))]
-fn put_pegs(page: &mut Html, pegs: &[Row]) -> Result<(), NoMemory>
-    ensures { OnOk result (page.new ≡ page.old ++ pegs_html pegs.now) }
-{
-    put_table(page, pegs_open(), peg(), pegs, list_end())
+    let frame = frame_of(alloc, name, plan, 7, 7, b"1")?;
+    put_framed_record(page, &frame, plan, promises)
 }
 
 // Adds the messages of the item that this is a row of.
@@ -464,16 +416,6 @@ fn put_item_tasks(page: &mut Html, leader: &Row, messages: &[Row]) -> Result<(),
         messages,
         item_tasks_end(),
     )
-}
-
-// Adds what follows an item's record: its orders and its pegs.
-#[tactic(auto, unfolding(crate::specs::Draw::item_lists_html))]
-fn put_item_lists(page: &mut Html, rows: &ItemRows<'_>, name: &[u8]) -> Result<(), NoMemory>
-    ensures { OnOk result (page.new ≡ page.old ++ item_lists_html rows.now name.now) }
-{
-    put_orders(page, rows_named(rows.orders(), name))?;
-    put_pegs(page, rows_named(rows.pegs(), name))?;
-    page.markup(section_end())
 }
 
 // Adds the record of an item, or a note that it is not kept.
@@ -496,7 +438,7 @@ fn put_record_or_none(
 
 // Adds the record of an item, by its name.
 #[tactic(auto, unfolding(crate::specs::Draw::named_record))]
-fn put_named_record(
+pub(crate) fn put_named_record(
     alloc: Global,
     page: &mut Html,
     rows: &ItemRows<'_>,
@@ -515,7 +457,11 @@ fn put_named_record(
 
 // Adds the messages of an item, given a row of the item.
 #[tactic(auto, unfolding(crate::specs::Draw::named_tasks))]
-fn put_named_tasks(page: &mut Html, rows: &ItemRows<'_>, leader: &Row) -> Result<(), NoMemory>
+pub(crate) fn put_named_tasks(
+    page: &mut Html,
+    rows: &ItemRows<'_>,
+    leader: &Row,
+) -> Result<(), NoMemory>
     ensures { OnOk result (page.new ≡ page.old ++ named_tasks rows.now leader.now) }
 {
     put_item_tasks(page, leader, rows_named(rows.messages(), leader.name()))
@@ -539,7 +485,7 @@ fn put_promises_note(
 
 // Adds the note on an item's promises, by its name.
 #[tactic(auto, unfolding(crate::specs::Draw::named_note))]
-fn put_named_note(
+pub(crate) fn put_named_note(
     page: &mut Html,
     rows: &ItemRows<'_>,
     missed: u64,
@@ -549,41 +495,6 @@ fn put_named_note(
 {
     let plan = rows_named(rows.plan(), name);
     put_promises_note(page, plan, rows_named(rows.promises(), name), missed)
-}
-
-// Adds an item, given how many rows of promises are not kept.
-#[tactic(auto, unfolding(crate::specs::Draw::item_html))]
-fn put_item(
-    alloc: Global,
-    page: &mut Html,
-    rows: &ItemRows<'_>,
-    missed: u64,
-    leader: &Row,
-) -> Result<(), NoMemory>
-    ensures { OnOk result (page.new ≡ page.old ++ item_html rows.now missed leader.now) }
-{
-    let name = leader.name();
-    put_row(page, item_head(), leader)?;
-    put_named_tasks(page, rows, leader)?;
-    put_named_record(alloc, page, rows, name)?;
-    put_named_note(page, rows, missed, name)?;
-    put_item_lists(page, rows, name)
-}
-
-// Adds items.
-pub(crate) fn put_items(
-    alloc: Global,
-    page: &mut Html,
-    rows: &ItemRows<'_>,
-    missed: u64,
-    leaders: &[&Row],
-) -> Result<(), NoMemory>
-    ensures { OnOk result (page.new ≡ page.old ++ items_html rows.now missed (map (λ r. r.now) leaders.now)) }
-{
-    for leader in leaders {
-        put_item(alloc, page, rows, missed, *leader)?;
-    }
-    Ok(())
 }
 
 // Adds for how many more weeks there are records and promises.

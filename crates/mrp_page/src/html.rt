@@ -2,7 +2,7 @@
 
 ghost use Rattle.std.specs.Prelude.{◌≡◌, ◌++◌, [], OnOk};
 ghost use Rattle.mrp_page.specs.Escaped.{escaped};
-ghost use Rattle.mrp_page.specs.Html.{is_zero, number_html, number_tag};
+ghost use Rattle.mrp_page.specs.Html.{flow_html, is_zero, number_html, number_tag};
 
 use crate::escape::put_escaped;
 use mrp_qty::NoMemory;
@@ -78,6 +78,18 @@ impl Html {
         ensures { OnOk result (self.new ≡ self.old ++ number_html text.now) }
     {
         self.markup(number_tag(text))?;
+        self.text(text)?;
+        self.markup(b"</td>")
+    }
+
+    /// Adds a cell of a table with a number that is left empty if it is 0, escaped.
+    pub(crate) fn flow(&mut self, text: &[u8]) -> Result<(), NoMemory>
+        ensures { OnOk result (self.new ≡ self.old ++ flow_html text.now) }
+    {
+        if is_zero(text) {
+            return self.markup(b"<td></td>");
+        }
+        self.markup(b"<td>")?;
         self.text(text)?;
         self.markup(b"</td>")
     }

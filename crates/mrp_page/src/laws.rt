@@ -1,26 +1,44 @@
 //! What follows from the definitions alone, each law the contract of a function that does nothing.
 
-ghost use Rattle.std.specs.Prelude.{◌≡◌, ◌++◌, ◌+◌, ◌-◌, ◌^◌, ◌⊎◌, ◌<◌, ◌≤◌, ℕ, All, Contains, IsPermutation, List, Option, [], ◌∷◌, codes, flat_map, length};
+ghost use Rattle.std.specs.Prelude.{◌≡◌, ◌++◌, ◌+◌, ◌-◌, ◌^◌, ◌&&◌, ◌⊎◌, ◌<◌, ◌≤◌, ℕ, All, Contains, IsPermutation, List, Option, Some, false, [], ◌∷◌, codes, count_by, decimal, drop, filter, find, flat_map, length, slice_index_or, take, ◌*◌, Bool, None, true, min, map};
+ghost use Rattle.mrp_page.specs.Centres.{all_loads, bars_html, later_loads, loads_html, loads_table, over_listing, over_or_none, shares_html, times_html};
+ghost use Rattle.mrp_page.specs.Shares.{overloads_first, share, share_of, share_row, week_rank};
+ghost use Rattle.mrp_qty.specs.Minutes.{minutes_text_of};
+ghost use Rattle.mrp_page.specs.Amounts.{amount};
+ghost use Rattle.mrp_page.specs.Items.{item_html, item_lists_html, items_html, need_html, orders_html, peg_html, pegs_html, wait_html, waits_html, waits_of};
+ghost use Rattle.mrp_page.specs.Orders.{is_order, linked_html, numbered, order_link};
+ghost use Rattle.mrp_page.specs.Scene.{SceneView};
+ghost use Rattle.mrp_page.specs.Html.{number_html};
+ghost use Rattle.mrp_page.specs.Outs.{distance, is_planned, out_row, outs_first, sign};
+ghost use Rattle.mrp_page.specs.ByWord.{has_one_of, with_word};
 ghost use Rattle.mrp_page.specs.Columns.{column};
 ghost use Rattle.mrp_page.specs.Counted.{kept_of, missed_of, wanted_rows};
-ghost use Rattle.mrp_page.specs.Draw.{bars_html, booked_html, item_html, items_html, link_html, loads_html, measure_html, more_html, named_record, named_tasks, planned_html, points_html, promised_html, record_or_none, record_rows, supplies_html};
+ghost use Rattle.mrp_page.specs.Draw.{all_weeks, amounts_html, balance_html, booked_html, framed_record, has_item, is_scheduled, item_name_html, later_record, link_html, measure_html, more_html, named_record, named_tasks, planned_html, points_html, promised_html, record_or_none, record_rows, record_table, supplies_html};
 ghost use Rattle.mrp_page.specs.Escaped.{escaped};
+ghost use Rattle.mrp_page.specs.Folded.{Listing, capped_html, folded_html, hidden_html, listed_html};
 ghost use Rattle.mrp_page.specs.ItemRows.{ItemLists, item_lists};
-ghost use Rattle.mrp_page.specs.Known.{IsKnown, IsMadeOf, names_shown};
+ghost use Rattle.mrp_page.specs.Known.{IsKnown, IsMadeOf, IsOrderShown, entries_kept, names_shown};
 ghost use Rattle.mrp_page.specs.Labels.{AreFirm};
 ghost use Rattle.mrp_page.specs.Laws.{piece_html, pieces, shown};
-ghost use Rattle.mrp_page.specs.Layout.{available_label, balance_label, bars_end, booked_label, capacity_label, firm_label, grid_end, gross_label, item_tasks_end, item_tasks_open, load_label, other_words, over_label, planned_label, points_end, scheduled_label, starts_label, task_words, todo_end, todo_open};
+ghost use Rattle.mrp_page.specs.Layout.{above_bar, above_end, available_label, balance_label, booked_label, capacity_label, cut_bar, firm_label, grid_end, gross_label, hot_bar, hot_end, item_tasks_end, item_tasks_open, later_open, lists_open, load_label, low_bar, low_end, none_refused, order, order_start, order_week, orders_open, other_words, over_label, over_open, peg_parent, pegs_open, planned_label, points_end, refused_answer, refused_open, rest_end, scheduled_label, section_end, starts_label, task_middle, task_row, task_supply, task_words, waits_open};
+ghost use Rattle.mrp_page.specs.Frame.{count_row};
+ghost use Rattle.mrp_page.specs.Kinds.{Kind, cancel, earlier, kind_html, kind_part, kinds, kinds_html, late, later, messages_of, open_count, open_html, order_of, other_messages, other_part, release, task_line, value_rank};
+ghost use Rattle.std.specs.List.Sorted.{IsNonDecreasingBy};
+ghost use Rattle.mrp_page.specs.Rows.{leaders, rank};
 ghost use Rattle.mrp_page.specs.Notes.{Noted, notes_of};
-ghost use Rattle.mrp_page.specs.Page.{page_html, shown_items};
-ghost use Rattle.mrp_page.specs.Pictures.{drawn_balance, drawn_load};
+ghost use Rattle.mrp_page.specs.Page.{page_html, scene_in, shown_items};
+ghost use Rattle.mrp_page.specs.Pictures.{drawn_balance};
 ghost use Rattle.mrp_page.specs.Reading.{IsDayOf};
-ghost use Rattle.mrp_page.specs.Row.{Cells, RowView, cell_at};
+ghost use Rattle.mrp_page.specs.Refused.{asked_of, entry_name_html, is_booking, refusals, refused_html, refused_rows, refused_section};
+ghost use Rattle.mrp_page.specs.Row.{Cells, RowView, cell_at, same_text};
 ghost use Rattle.mrp_page.specs.Rows.{rows_in, rows_named};
 ghost use Rattle.mrp_page.specs.Section.{place_of};
 ghost use Rattle.mrp_page.specs.Shown.{IsByItems, items_of_plan, items_to_show, rows_of, run_shown};
 ghost use Rattle.mrp_page.specs.Spot.{Names};
-ghost use Rattle.mrp_page.specs.Template.{Drawn, row_html};
+ghost use Rattle.mrp_page.specs.Summary.{count_with, is_over, is_undone, summary_html, tile_html};
+ghost use Rattle.mrp_page.specs.Template.{Drawn, has_word, number_at, row_html};
 ghost use Rattle.mrp_page.specs.Todo.{by_urgency, message_html, said, said_of_another, word_of};
+ghost use Rattle.mrp_page.specs.declared.limits.TheConstants.{FEW_ROWS, MOST_LINES, MOST_AMOUNT, SOME_ROWS, TABLE_WEEKS};
 ghost use Rattle.mrp_day.specs.declared.section.Section.{Section};
 ghost use Rattle.mrp_day.specs.declared.section.Section.TheVariants as section;
 
@@ -54,10 +72,12 @@ pub fn rows_are_kept_or_counted()
 {}
 
 /// A page consists of fixed markup, which is the same for every day, and of escaped texts that are known:
-/// each is the title, a cell of a record of the day, the number of items or of what is not shown, or the word
-/// for that. Its only links are names of items that are shown, each to its item.
+/// each is the title, a cell of a record of the day, the number of items, of what is folded or of what is not
+/// shown, or the word for that. Its only links to items, entries and orders are names of items that are shown,
+/// each to its item, numbers of entries that are kept of the history, each to its entry, and links to orders
+/// that are on the page.
 pub fn pages_show_what_is_known()
-    ensures { (title : List ℕ) (items : Names) (asked : Option ℕ) (records : List Cells) → IsMadeOf (IsKnown title records (notes_of items asked records)) (Contains (names_shown (notes_of items asked records))) (page_html title (notes_of items asked records)) }
+    ensures { (title : List ℕ) (items : Names) (asked : Option ℕ) (records : List Cells) → IsMadeOf (IsKnown title records (notes_of items asked records)) (Contains (names_shown (notes_of items asked records))) (Contains (entries_kept (notes_of items asked records))) (IsOrderShown (notes_of items asked records)) (page_html title (notes_of items asked records)) }
 {}
 
 /// An item's time-phased record shows its rows of the sections `plan` and `promises`. The numbers next to
@@ -65,51 +85,136 @@ pub fn pages_show_what_is_known()
 /// by the column's name in the day.
 pub fn labels_stand_beside_their_columns()
     ensures record { (report : List RowView) (name : List ℕ) → named_record (item_lists report) name ≡ record_or_none name (rows_named name (rows_in section.Plan report)) (rows_named name (rows_in section.Promises report)) }
-    ensures needs { (plan promises : List RowView) → record_rows plan promises ≡ measure_html gross_label (column section.Plan (codes "gross")) plan ++ (supplies_html plan promises ++ (planned_html plan ++ promised_html promises)) }
-    ensures supplies { (plan promises : List RowView) → (supplies_html plan promises ≡ measure_html scheduled_label (column section.Plan (codes "open")) plan) ⊎ (supplies_html plan promises ≡ measure_html firm_label (column section.Plan (codes "firm")) plan) }
-    ensures planned { (plan : List RowView) → planned_html plan ≡ measure_html planned_label (column section.Plan (codes "planned")) plan ++ (measure_html starts_label (column section.Plan (codes "start")) plan ++ measure_html balance_label (column section.Plan (codes "balance")) plan) }
-    ensures booked { (promises : List RowView) → booked_html promises ≡ measure_html booked_label (column section.Promises (codes "booked")) promises ++ measure_html available_label (column section.Promises (codes "available")) promises }
-    ensures loads { (rows : List RowView) → loads_html rows ≡ measure_html load_label (column section.Loads (codes "load")) rows ++ (measure_html capacity_label (column section.Loads (codes "capacity")) rows ++ (measure_html over_label (column section.Loads (codes "over")) rows ++ grid_end)) }
+    ensures needs { (scheduled : Bool) (plan promises : List RowView) → record_rows scheduled plan promises ≡ amounts_html gross_label (column section.Plan (codes "gross")) plan ++ (supplies_html scheduled plan ++ (planned_html plan ++ promised_html promises)) }
+    ensures scheduled { (plan : List RowView) → supplies_html true plan ≡ amounts_html scheduled_label (column section.Plan (codes "open")) plan }
+    ensures firm { (plan : List RowView) → supplies_html false plan ≡ amounts_html firm_label (column section.Plan (codes "firm")) plan }
+    ensures planned { (plan : List RowView) → planned_html plan ≡ amounts_html planned_label (column section.Plan (codes "planned")) plan ++ (amounts_html starts_label (column section.Plan (codes "start")) plan ++ measure_html balance_label (column section.Plan (codes "balance")) plan) }
+    ensures booked { (promises : List RowView) → booked_html promises ≡ amounts_html booked_label (column section.Promises (codes "booked")) promises ++ measure_html available_label (column section.Promises (codes "available")) promises }
+    ensures loads { (rows : List RowView) → loads_html rows ≡ times_html load_label (column section.Loads (codes "load")) rows ++ (times_html capacity_label (column section.Loads (codes "capacity")) rows ++ (shares_html rows ++ (times_html over_label (column section.Loads (codes "over")) rows ++ grid_end))) }
 {}
 
-/// The picture of loads is drawn week by week from these columns: a bar up to the load, with the overload
-/// above the line of the capacity. The picture of balances is a line from week to week.
+/// The first weeks of a record, and of a work centre, stand in a table, and the further ones in one that is
+/// folded: each week once, in order.
+pub fn weeks_stand_once()
+    ensures record { (frame : RowView) (scheduled : Bool) (plan promises : List RowView) → all_weeks frame scheduled plan promises ≡ record_table frame scheduled (take TABLE_WEEKS plan) (take TABLE_WEEKS promises) ++ later_record frame scheduled (drop TABLE_WEEKS plan) (drop TABLE_WEEKS promises) }
+    ensures later { (frame : RowView) (scheduled : Bool) (row : RowView) (plan promises : List RowView) → later_record frame scheduled (row ∷ plan) promises ≡ later_open ++ (record_table frame scheduled (row ∷ plan) promises ++ rest_end) }
+    ensures centre { (frame : RowView) (rows : List RowView) → all_loads frame rows ≡ loads_table frame (take TABLE_WEEKS rows) ++ later_loads frame (drop TABLE_WEEKS rows) }
+    ensures later_loads { (frame row : RowView) (rows : List RowView) → later_loads frame (row ∷ rows) ≡ later_open ++ (loads_table frame (row ∷ rows) ++ rest_end) }
+    ensures all { (rows : List RowView) → take TABLE_WEEKS rows ++ drop TABLE_WEEKS rows ≡ rows }
+{}
+
+/// The picture of loads is drawn week by week: a bar as high as the share of the capacity, up to 200 %, with
+/// another colour where the share is above 100 %, and a mark where the bar is cut. The picture of balances is
+/// a line from week to week.
 pub fn pictures_are_drawn_from_their_columns()
-    ensures loads { (rows : List RowView) → bars_html rows ≡ flat_map drawn_load rows ++ bars_end }
+    ensures loads { (shares : List RowView) → bars_html shares ≡ (flat_map (row_html low_bar) shares ++ low_end) ++ ((flat_map (row_html hot_bar) shares ++ hot_end) ++ ((flat_map (row_html above_bar) shares ++ above_end) ++ flat_map (row_html cut_bar) shares)) }
+    ensures low { (load : RowView) (percent : ℕ) → share_of load ≡ Some percent → percent ≤ 100 → row_html low_bar (share_row load) ≡ codes "M" ++ (escaped (cell_at load 1) ++ (codes " 0v" ++ (escaped (decimal percent) ++ (codes "h.8V0z" ++ [])))) }
+    ensures hot { (load : RowView) (percent : ℕ) → share_of load ≡ Some percent → 100 < percent → row_html hot_bar (share_row load) ≡ codes "M" ++ (escaped (cell_at load 1) ++ (codes " 0v" ++ (escaped (codes "100") ++ (codes "h.8V0z" ++ [])))) }
+    ensures above { (load : RowView) (percent : ℕ) → share_of load ≡ Some percent → 100 < percent → row_html above_bar (share_row load) ≡ codes "M" ++ (escaped (cell_at load 1) ++ (codes " 100v" ++ (escaped (decimal (min percent 200 - 100)) ++ (codes "h.8V100z" ++ [])))) }
+    ensures cut { (load : RowView) (percent : ℕ) → share_of load ≡ Some percent → 200 < percent → row_html cut_bar (share_row load) ≡ codes "M" ++ (escaped (cell_at load 1) ++ (codes " 204h.8l-.4 " ++ (escaped (codes "20") ++ (codes "z" ++ [])))) }
+    ensures uncut { (load : RowView) (percent : ℕ) → share_of load ≡ Some percent → percent ≤ 200 → row_html cut_bar (share_row load) ≡ codes "M" ++ (escaped (cell_at load 1) ++ (codes " 204h.8l-.4 " ++ (escaped (codes "0") ++ (codes "z" ++ [])))) }
     ensures balances { (rows : List RowView) → points_html rows ≡ flat_map drawn_balance rows ++ points_end }
+{}
+
+/// A share of a capacity is its load in per cent, rounded up. It is above 100 % exactly if the load is above
+/// the capacity. A load without capacity has none.
+pub fn shares_are_exact()
+    ensures columns { (load : RowView) → share_of load ≡ share (amount (cell_at load (column section.Loads (codes "load")))) (amount (cell_at load (column section.Loads (codes "capacity")))) }
+    ensures minutes { (time : ℕ) → time ≤ MOST_AMOUNT → amount (minutes_text_of time) ≡ time }
+    ensures exact { (load capacity percent : ℕ) → 0 < capacity → share load capacity ≡ Some percent → (load * 100 ≤ percent * capacity) × (percent * capacity < load * 100 + capacity) }
+    ensures above { (load capacity percent : ℕ) → share load capacity ≡ Some percent → capacity < load → 100 < percent }
+    ensures within { (load capacity percent : ℕ) → share load capacity ≡ Some percent → load ≤ capacity → percent ≤ 100 }
+    ensures none { (load capacity : ℕ) → share load capacity ≡ None → (capacity ≡ 0) × (0 < load) }
+{}
+
+/// The weeks of work centres that are over their capacity stand by week, and each once.
+pub fn overloads_stand_in_order()
+    ensures once { (loads : List RowView) → IsPermutation (filter is_over loads) (overloads_first loads) }
+    ensures order { (loads : List RowView) → IsNonDecreasingBy week_rank (overloads_first loads) }
+    ensures shown { (missed : ℕ) (load : RowView) (rows : List RowView) → over_or_none missed (load ∷ rows) ≡ row_html over_open (count_row (length (load ∷ rows)) [] []) ++ capped_html over_listing SOME_ROWS (load ∷ rows) }
+{}
+
+/// The items that run out stand by week: each once, at the first week in which orders are planned to be
+/// received, with its balance less those.
+pub fn items_run_out_in_order()
+    ensures once { (scene : SceneView) (plan : List RowView) → IsPermutation (map (out_row scene) (leaders [] (filter is_planned plan))) (outs_first scene plan) }
+    ensures order { (scene : SceneView) (plan : List RowView) → IsNonDecreasingBy week_rank (outs_first scene plan) }
+    ensures over { (balance planned : ℕ) → planned ≤ balance → (sign balance planned ≡ []) × (distance balance planned ≡ balance - planned) }
+    ensures short { (balance planned : ℕ) → balance < planned → (sign balance planned ≡ codes "-") × (distance balance planned ≡ planned - balance) }
 {}
 
 /// The supplies of an item have one of two labels: *firm master schedule* for an item with promises or with
 /// firm pieces in some week, *scheduled receipts* for any other.
 pub fn supplies_have_one_label()
-    ensures promised { (plan : List RowView) (row : RowView) (promises : List RowView) → supplies_html plan (row ∷ promises) ≡ measure_html firm_label (column section.Plan (codes "firm")) plan }
-    ensures firm { (plan promises : List RowView) (firm : List ℕ) → AreFirm plan firm → (pieces : ℕ) → Contains firm pieces → 0 < pieces → supplies_html plan promises ≡ measure_html firm_label (column section.Plan (codes "firm")) plan }
-    ensures scheduled { (plan : List RowView) (firm : List ℕ) → AreFirm plan firm → All (λ pieces. pieces ≡ 0) firm → supplies_html plan [] ≡ measure_html scheduled_label (column section.Plan (codes "open")) plan }
+    ensures record { (frame : RowView) (plan promises : List RowView) → framed_record frame plan promises ≡ balance_html frame plan ++ all_weeks frame (is_scheduled plan promises) plan promises }
+    ensures promised { (plan : List RowView) (row : RowView) (promises : List RowView) → is_scheduled plan (row ∷ promises) ≡ false }
+    ensures firm { (plan promises : List RowView) (firm : List ℕ) → AreFirm plan firm → (pieces : ℕ) → Contains firm pieces → 0 < pieces → is_scheduled plan promises ≡ false }
+    ensures scheduled { (plan : List RowView) (firm : List ℕ) → AreFirm plan firm → All (λ pieces. pieces ≡ 0) firm → is_scheduled plan [] ≡ true }
 {}
 
-/// Each message that is kept is shown once in *To do*, and once more with its item if that is shown, the most
-/// urgent first.
+/// Each message that is kept is shown once in *To do*, in the fold of its kind, and once more with its item if
+/// that is shown, the most urgent first. A fold shows its messages one by one, up to the most that a list
+/// shows.
 pub fn messages_stand_once()
-    ensures once { (messages : List RowView) → IsPermutation messages (by_urgency messages) }
-    ensures todo { (title : List ℕ) (notes : Noted) → (front : List ℕ) × (back : List ℕ) × (page_html title notes ≡ front ++ (todo_open ++ (flat_map (message_html (shown_items (item_lists notes.report))) (by_urgency (rows_in section.Messages notes.report)) ++ (todo_end ++ back)))) }
+    ensures once { (messages : List RowView) → IsPermutation messages (flat_map (messages_of messages) kinds ++ other_messages messages) }
+    ensures todo { (title : List ℕ) (notes : Noted) → (front : List ℕ) × (back : List ℕ) × (page_html title notes ≡ front ++ (kinds_html (scene_in notes) (rows_in section.Messages notes.report) ++ back)) }
+    ensures kinds { (scene : SceneView) (messages : List RowView) → kinds_html scene messages ≡ flat_map (kind_part scene messages) kinds ++ other_part scene messages }
+    ensures kind { (kind : Kind) (scene : SceneView) (state : List ℕ) (r : RowView) (rows : List RowView) → (front : List ℕ) × (between : List ℕ) × (back : List ℕ) × (kind_html kind scene state (r ∷ rows) ≡ row_html kind.head (count_row (length (r ∷ rows)) state state) ++ (front ++ (flat_map (task_line kind scene) (take SOME_ROWS (take MOST_LINES (r ∷ rows))) ++ (between ++ (flat_map (task_line kind scene) (drop SOME_ROWS (take MOST_LINES (r ∷ rows))) ++ back))))) }
+    ensures urgency { (messages : List RowView) → IsPermutation messages (by_urgency messages) }
     ensures item { (rows : ItemLists) (leader : RowView) → named_tasks rows leader ≡ item_tasks_open ++ (flat_map (message_html (leader ∷ [])) (by_urgency (rows_named (cell_at leader 0) rows.messages)) ++ item_tasks_end) }
+{}
+
+/// The fold of each kind of messages begins with its standard word and with how many messages it has.
+pub fn kinds_have_their_words()
+    ensures past_due { (n : ℕ) (state : List ℕ) → row_html late.head (count_row n state state) ≡ codes "<details class=\"kind late\" id=late open><summary><b>Past due: " ++ (escaped (decimal n) ++ (codes "</b> <small>release now and expedite; from version 2 on, late by shop days</small></summary>\n" ++ [])) }
+    ensures release { (n : ℕ) (state : List ℕ) → row_html release.head (count_row n state state) ≡ codes "<details class=\"kind release\" id=release open><summary><b>Release: " ++ (escaped (decimal n) ++ (codes "</b> <small>release this week</small></summary>\n" ++ [])) }
+    ensures earlier { (n : ℕ) (state : List ℕ) → (front : List ℕ) × (row_html earlier.head (count_row n state state) ≡ front ++ (codes "><summary><b>Reschedule in: " ++ (escaped (decimal n) ++ (codes "</b> <small>needed before its week</small></summary>\n" ++ [])))) }
+    ensures later { (n : ℕ) (state : List ℕ) → (front : List ℕ) × (row_html later.head (count_row n state state) ≡ front ++ (codes "><summary><b>Reschedule out: " ++ (escaped (decimal n) ++ (codes "</b> <small>needed only after its week</small></summary>\n" ++ [])))) }
+    ensures cancel { (n : ℕ) (state : List ℕ) → (front : List ℕ) × (row_html cancel.head (count_row n state state) ≡ front ++ (codes "><summary><b>Cancel: " ++ (escaped (decimal n) ++ (codes "</b> <small>not needed within these weeks</small></summary>\n" ++ [])))) }
+{}
+
+/// The pieces, the start and the week of a message in *To do* are those of the first kept order of its item
+/// with its number and kind; those of an open order are what its pegs have together, if all pegs are kept.
+pub fn messages_have_their_orders()
+    ensures order { (kind : Kind) (scene : SceneView) (message order : RowView) → order_of scene message ≡ Some order → task_line kind scene message ≡ task_row ++ (item_name_html scene.shown (cell_at message 0) ++ (task_middle ++ (linked_html scene (Some order) (row_html task_supply message) ++ (codes "</td>" ++ (row_html kind.order order ++ row_html kind.value message))))) }
+    ensures found { (scene : SceneView) (message : RowView) → order_of scene message ≡ find (is_order (cell_at message (column section.Messages (codes "item"))) (cell_at message (column section.Messages (codes "supply"))) (cell_at message (column section.Messages (codes "source")))) (rows_named (cell_at message (column section.Messages (codes "item"))) scene.orders) }
+    ensures same { (name kind number : List ℕ) (order : RowView) → is_order name kind number order ≡ (same_text (cell_at order (column section.Orders (codes "item"))) name && (same_text (cell_at order (column section.Orders (codes "order"))) number && same_text (cell_at order (column section.Orders (codes "kind"))) kind)) }
+    ensures pieces { (scene : SceneView) (message : RowView) → scene.whole ≡ true → cell_at message (column section.Messages (codes "supply")) ≡ codes "open" → open_html scene message ≡ number_html (decimal (open_count scene message)) ++ (codes "<td></td><td></td>" ++ []) }
+    ensures start { (order : RowView) → row_html order_start order ≡ number_at (column section.Orders (codes "quantity")) order ++ (number_at (column section.Orders (codes "start")) order ++ (number_at (column section.Orders (codes "due")) order ++ [])) }
+    ensures week { (order : RowView) → row_html order_week order ≡ number_at (column section.Orders (codes "quantity")) order ++ (codes "<td></td>" ++ (number_at (column section.Orders (codes "due")) order ++ [])) }
 {}
 
 /// What the page says of a message comes from the message's word, its supply, and its value if that has a
 /// meaning: a week, or how many weeks the order is past due.
 pub fn messages_stand_under_their_words()
-    ensures past_due { (message : RowView) → word_of message ≡ codes "PAST-DUE" → row_html task_words message ≡ said (codes "Past due, start now: ") (codes ", weeks late (shop days from version 2 on): ") message }
-    ensures release { (message : RowView) → word_of message ≡ codes "RELEASE" → row_html task_words message ≡ said (codes "Release now: ") [] message }
-    ensures earlier { (message : RowView) → word_of message ≡ codes "IN" → row_html task_words message ≡ said (codes "Bring in: ") (codes " to week ") message }
-    ensures later { (message : RowView) → word_of message ≡ codes "OUT" → row_html task_words message ≡ said (codes "Put off: ") (codes " to week ") message }
+    ensures past_due { (message : RowView) → word_of message ≡ codes "PAST-DUE" → row_html task_words message ≡ said (codes "Past due: ") (codes ", weeks late (shop days from version 2 on): ") message }
+    ensures release { (message : RowView) → word_of message ≡ codes "RELEASE" → row_html task_words message ≡ said (codes "Release: ") [] message }
+    ensures earlier { (message : RowView) → word_of message ≡ codes "IN" → row_html task_words message ≡ said (codes "Reschedule in: ") (codes " to week ") message }
+    ensures later { (message : RowView) → word_of message ≡ codes "OUT" → row_html task_words message ≡ said (codes "Reschedule out: ") (codes " to week ") message }
     ensures cancel { (message : RowView) → word_of message ≡ codes "CANCEL" → row_html task_words message ≡ said (codes "Cancel: ") [] message }
     ensures another { (message : RowView) → row_html other_words message ≡ said_of_another message }
 {}
 
-/// A link to an item leads to where that item's part of the page begins.
+/// A link to an item leads to where that item's part of the page begins, and one to an order to where the
+/// order stands among those of its item.
 pub fn links_lead_to_items()
     ensures link { (name : List ℕ) → link_html name ≡ codes "<a href=\"#i-" ++ (escaped name ++ (codes "\">" ++ (escaped name ++ codes "</a>"))) }
-    ensures item { (rows : ItemLists) (missed : ℕ) (leader : RowView) → (rest : List ℕ) × (item_html rows missed leader ≡ codes "<section class=item id=\"i-" ++ (escaped (cell_at leader 0) ++ (codes "\">" ++ rest))) }
+    ensures item { (scene : SceneView) (rows : ItemLists) (missed : ℕ) (leader : RowView) → (rest : List ℕ) × (item_html scene rows missed leader ≡ codes "<section class=item id=\"i-" ++ (escaped (cell_at leader 0) ++ (codes "\">" ++ rest))) }
+    ensures order_link { (number name : List ℕ) → order_link number name ≡ codes "<a href=\"#o-" ++ (escaped number ++ (codes "-" ++ (escaped name ++ codes "\">"))) }
+    ensures order { (row : RowView) → (rest : List ℕ) × (row_html order row ≡ codes "<tr id=\"o-" ++ (escaped (cell_at row 1) ++ (codes "-" ++ (escaped (cell_at row 0) ++ (codes "\">" ++ rest))))) }
+    ensures orders { (rows : List RowView) → orders_html rows ≡ orders_open ++ (flat_map (row_html order) rows ++ grid_end) }
+    ensures lists { (scene : SceneView) (name : List ℕ) → (rest : List ℕ) × (item_lists_html scene name ≡ lists_open ++ (orders_html (rows_named name scene.orders) ++ rest)) }
+{}
+
+/// Each peg of an item stands once under *Where it goes*. A peg to an order of a parent leads to that order,
+/// and stands once more among what the orders of that parent wait for, if the parent is shown.
+pub fn pegs_lead_both_ways()
+    ensures goes { (scene : SceneView) (pegs : List RowView) → pegs_html scene pegs ≡ pegs_open ++ (flat_map (peg_html scene) pegs ++ grid_end) }
+    ensures up { (scene : SceneView) (peg : RowView) → cell_at peg (column section.Pegs (codes "need")) ≡ codes "parent" → need_html scene peg ≡ linked_html scene (numbered scene (cell_at peg (column section.Pegs (codes "parent"))) (cell_at peg (column section.Pegs (codes "number")))) (row_html peg_parent peg) }
+    ensures booking { (scene : SceneView) (peg : RowView) → cell_at peg (column section.Pegs (codes "need")) ≡ codes "booking" → need_html scene peg ≡ codes "booking " ++ entry_name_html scene.history (cell_at peg (column section.Pegs (codes "number"))) }
+    ensures waits { (scene : SceneView) (name : List ℕ) → waits_of scene name ≡ filter (λ peg. same_text (cell_at peg (column section.Pegs (codes "parent"))) name && same_text (cell_at peg (column section.Pegs (codes "need"))) (codes "parent")) scene.pegs }
+    ensures down { (scene : SceneView) (peg : RowView) (pegs : List RowView) → waits_html scene (peg ∷ pegs) ≡ waits_open ++ (flat_map (wait_html scene) (peg ∷ pegs) ++ grid_end) }
+    ensures linked { (scene : SceneView) (order : RowView) (words : List ℕ) → has_item scene.shown (cell_at order 0) ≡ true → linked_html scene (Some order) words ≡ order_link (cell_at order 1) (cell_at order 0) ++ (words ++ codes "</a>") }
 {}
 
 /// Which items a page shows, if the rows of each item stand together in the day: 200, or all where the plan
@@ -121,5 +226,48 @@ pub fn first_items_with_messages()
     ensures most { (items : Names) (run : ℕ) (records : List Cells) → length (items_to_show items run records) ≤ 200 }
     ensures full { (items : Names) (run : ℕ) (records : List Cells) → 200 ≤ length (items_of_plan items run records) → length (items_to_show items run records) ≡ 200 }
     ensures count { (items : Names) (asked : Option ℕ) (records : List Cells) (notes : Noted) → IsDayOf items asked records notes → IsByItems records → notes.counts.items ≡ length (items_of_plan items (run_shown asked records) records) }
-    ensures page { (title : List ℕ) (notes : Noted) → (front : List ℕ) × (back : List ℕ) × (page_html title notes ≡ front ++ (items_html (item_lists notes.report) notes.counts.promises (shown_items (item_lists notes.report)) ++ (more_html (notes.counts.items - length (shown_items (item_lists notes.report))) (codes "item is") (codes "items are") ++ back))) }
+    ensures page { (title : List ℕ) (notes : Noted) → (front : List ℕ) × (back : List ℕ) × (page_html title notes ≡ front ++ (items_html (scene_in notes) (item_lists notes.report) notes.counts.promises (shown_items (item_lists notes.report)) ++ (more_html (notes.counts.items - length (shown_items (item_lists notes.report))) (codes "item is") (codes "items are") ++ back))) }
+{}
+
+/// A list that is folded shows each of its rows once: the first ones, and behind their number the others.
+pub fn folds_hide_no_row()
+    ensures drawn { (listing : Listing) (most : ℕ) (rows : List RowView) → (front : List ℕ) × (between : List ℕ) × (back : List ℕ) × (folded_html listing most rows ≡ front ++ (flat_map listing.line (take most rows) ++ (between ++ (flat_map listing.line (drop most rows) ++ back)))) }
+    ensures counted { (listing : Listing) (r : RowView) (rows : List RowView) → hidden_html listing (r ∷ rows) ≡ codes "<details class=rest><summary>and " ++ (escaped (decimal (length (r ∷ rows))) ++ (codes " more</summary>\n" ++ (listed_html listing (r ∷ rows) ++ codes "</details>\n"))) }
+{}
+
+/// Each call that is kept of the history and was not answered as it asked is shown once in *Not promised*: the
+/// bookings that were answered short first, then the cancellations of what is not standing, and of what is
+/// another desk's. If there is none, and the whole history is kept, the page says so.
+pub fn refused_calls_stand_once()
+    ensures once { (history : List RowView) → IsPermutation (filter (has_one_of (column section.History (codes "reply")) refusals) history) (refused_rows history) }
+    ensures page { (title : List ℕ) (notes : Noted) → (front : List ℕ) × (between : List ℕ) × (back : List ℕ) × (page_html title notes ≡ front ++ (flat_map (refused_html (shown_items (item_lists notes.report)) notes.history) (take FEW_ROWS (refused_rows notes.history)) ++ (between ++ (flat_map (refused_html (shown_items (item_lists notes.report)) notes.history) (drop FEW_ROWS (refused_rows notes.history)) ++ back)))) }
+    ensures none { (shown history : List RowView) → refused_rows history ≡ [] → refused_section shown history 0 ≡ refused_open ++ (none_refused ++ section_end) }
+{}
+
+/// What *Not promised* says of a call: how it was answered, with what is available or the entry that it names;
+/// and the item, pieces and week that it is about, which for a cancellation are those of the booking that it
+/// names, if the history has that.
+pub fn refused_calls_say_why()
+    ensures short { (call : RowView) → cell_at call (column section.History (codes "reply")) ≡ codes "short" → row_html refused_answer call ≡ codes "</th><td class=t><b>short: " ++ (escaped (cell_at call (column section.History (codes "value"))) ++ codes " available</b>") }
+    ensures not_standing { (call : RowView) → cell_at call (column section.History (codes "reply")) ≡ codes "not-standing" → row_html refused_answer call ≡ codes "</th><td class=t>not standing: entry " ++ (escaped (cell_at call (column section.History (codes "value"))) ++ []) }
+    ensures not_yours { (call : RowView) → cell_at call (column section.History (codes "reply")) ≡ codes "not-yours" → row_html refused_answer call ≡ codes "</th><td class=t>not yours: entry " ++ (escaped (cell_at call (column section.History (codes "value"))) ++ []) }
+    ensures booking { (call : RowView) (history : List RowView) (booking : RowView) → cell_at call (column section.History (codes "call")) ≡ codes "cancel" → find (is_booking (cell_at call (column section.History (codes "number")))) history ≡ Some booking → asked_of history call ≡ booking }
+    ensures itself { (call : RowView) (history : List RowView) → has_word (column section.History (codes "call")) (codes "cancel") call ≡ false → asked_of history call ≡ call }
+{}
+
+/// Messages past due stand by how late their orders are, the latest first; messages to reschedule in by the
+/// week that they are needed in, the earliest first. Decimals are compared by their numbers.
+pub fn messages_stand_in_order()
+    ensures past_due { (messages : List RowView) (i j : ℕ) (m : RowView) → i ≤ j → j < length (messages_of messages late) → value_rank (slice_index_or (messages_of messages late) j m) ≤ value_rank (slice_index_or (messages_of messages late) i m) }
+    ensures earlier { (messages : List RowView) → IsNonDecreasingBy value_rank (messages_of messages earlier) }
+    ensures value { (message : RowView) → value_rank message ≡ rank (cell_at message (column section.Messages (codes "value"))) }
+{}
+
+/// The counts of the summary are those of the rows of the parts that they lead to, and stand in links to these.
+pub fn counts_are_of_their_parts()
+    ensures kinds { (messages : List RowView) (kind : Kind) → count_with (column section.Messages (codes "message")) kind.word messages ≡ length (messages_of messages kind) }
+    ensures short { (history : List RowView) → count_with (column section.History (codes "reply")) (codes "short") history ≡ length (with_word (column section.History (codes "reply")) history (codes "short")) }
+    ensures undone { (history : List RowView) → count_by is_undone history ≡ length (filter is_undone history) }
+    ensures tile { (count : ℕ) (mark place what : List ℕ) → (front : List ℕ) × (tile_html count mark place what ≡ front ++ (codes "\" href=\"#" ++ (escaped place ++ (codes "\"><b>" ++ (escaped (decimal count) ++ (codes "</b>" ++ (escaped what ++ (codes "</a>" ++ [])))))))) }
+    ensures page { (title : List ℕ) (notes : Noted) → (front : List ℕ) × (back : List ℕ) × (page_html title notes ≡ front ++ (summary_html notes.history (rows_in section.Messages notes.report) (rows_in section.Loads notes.report) ++ back)) }
 {}

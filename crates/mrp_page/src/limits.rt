@@ -13,3 +13,18 @@ pub const MOST_ROWS: u64 = MOST_ITEMS * 104;
 
 /// The most pegs that a page keeps: 300 for each of [`MOST_ITEMS`] items.
 pub const MOST_PEGS: u64 = MOST_ITEMS * 300;
+
+/// How many rows of a short list are not folded.
+pub const FEW_ROWS: usize = 5;
+
+/// How many rows of a longer list are not folded.
+pub const SOME_ROWS: usize = 10;
+
+/// The most rows of a list that a page shows, folded ones included.
+pub const MOST_LINES: usize = 1_000;
+
+/// How many weeks stand in a table. The further ones are folded.
+pub const TABLE_WEEKS: usize = 13;
+
+/// From this number on numbers count as equal, among them times in thousandths of a minute.
+pub const MOST_AMOUNT: u64 = 100_000_000_000_000_000;

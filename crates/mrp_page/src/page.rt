@@ -1,18 +1,25 @@
 //! A page, drawn from what was kept of a day.
 
 ghost use Rattle.std.specs.Prelude.{◌≡◌, ◌++◌, IfOk, OnOk, flat_map, map, take};
-ghost use Rattle.mrp_page.specs.Page.{head_html, is_told, items_of, load_section, page_html, page_of, rest_html, told_first, top_html, untold_rows};
+ghost use Rattle.mrp_page.specs.Page.{head_html, is_told, items_of, middle_html, page_html, page_of, rest_html, told_first, top_html, untold_rows};
 
+use crate::centres::put_centres;
 use crate::counts::Counts;
-use crate::draw::{put_centres, put_history, put_items, put_more_items, put_todo};
+use crate::draw::{put_history, put_more_items};
 use crate::frame::heading;
 use crate::html::Html;
 use crate::item_rows::ItemRows;
+use crate::items::{put_index, put_items};
+use crate::kinds::put_todo;
 use crate::layout::{page_end, page_head, page_top, style};
 use crate::limits::MOST_ITEMS;
 use crate::notes::Notes;
+use crate::outs::put_outs_section;
+use crate::refused::put_refused;
 use crate::row::Row;
 use crate::rows::{leaders, rows_in, rows_named};
+use crate::scene::Scene;
+use crate::summary::put_summary;
 use crate::template::put_row;
 use crate::unshown::unshown;
 use mrp_day::Section;
@@ -79,20 +86,6 @@ fn told_first<'a>(
     Ok(rows)
 }
 
-// Adds the work centres.
-#[tactic(auto, unfolding(crate::specs::Page::load_section))]
-fn put_load_section(
-    alloc: Global,
-    page: &mut Html,
-    loads: &[Row],
-    missed: u64,
-) -> Result<(), NoMemory>
-    ensures { OnOk result (page.new ≡ page.old ++ load_section loads.now missed) }
-{
-    let centres = leaders(alloc, loads)?;
-    put_centres(alloc, page, loads, centres.as_slice(), missed)
-}
-
 // The first of these rows, as many as a page has room for.
 fn first_rows<'a, 'b>(rows: &'b [&'a Row]) -> &'b [&'a Row]
     ensures { map (λ r. r.now) result.now ≡ take MOST_ITEMS (map (λ r. r.now) rows.now) }
@@ -102,18 +95,20 @@ fn first_rows<'a, 'b>(rows: &'b [&'a Row]) -> &'b [&'a Row]
     first
 }
 
-// Adds items, and how many more there are.
+// Adds an index of items, the items, and how many more there are.
 #[tactic(auto, unfolding(crate::specs::Page::items_of))]
 fn put_items_of(
     alloc: Global,
     page: &mut Html,
+    scene: &Scene<'_, '_>,
     rows: &ItemRows<'_>,
     counts: Counts,
-    shown: &[&Row],
 ) -> Result<(), NoMemory>
-    ensures { OnOk result (page.new ≡ page.old ++ items_of rows.now counts (map (λ r. r.now) shown.now)) }
+    ensures { OnOk result (page.new ≡ page.old ++ items_of scene.now rows.now counts) }
 {
-    put_items(alloc, page, rows, counts.promises, shown)?;
+    let shown = scene.shown();
+    put_index(alloc, page, rows.messages(), shown)?;
+    put_items(alloc, page, scene, rows, counts.promises, shown)?;
     put_more_items(alloc, page, unshown(rows, shown, counts), shown)
 }
 
@@ -122,15 +117,14 @@ fn put_items_of(
 fn put_rest(
     alloc: Global,
     page: &mut Html,
+    scene: &Scene<'_, '_>,
     rows: &ItemRows<'_>,
     counts: Counts,
-    shown: &[&Row],
-    history: &[Row],
 ) -> Result<(), NoMemory>
-    ensures { OnOk result (page.new ≡ page.old ++ rest_html rows.now counts (map (λ r. r.now) shown.now) history.now) }
+    ensures { OnOk result (page.new ≡ page.old ++ rest_html scene.now rows.now counts) }
 {
-    put_items_of(alloc, page, rows, counts, shown)?;
-    put_history(alloc, page, history, counts.history)?;
+    put_items_of(alloc, page, scene, rows, counts)?;
+    put_history(alloc, page, scene.history(), counts.history)?;
     page.markup(page_end())
 }
 
@@ -149,24 +143,43 @@ fn put_top(
     put_head(page, &heading)
 }
 
-// Adds a page that shows these items.
+// Adds the items that run out first, and the work centres.
+#[tactic(auto, unfolding(crate::specs::Page::middle_html))]
+fn put_middle(
+    alloc: Global,
+    page: &mut Html,
+    scene: &Scene<'_, '_>,
+    report: &[Row],
+    counts: Counts,
+) -> Result<(), NoMemory>
+    ensures { OnOk result (page.new ≡ page.old ++ middle_html scene.now report.now counts) }
+{
+    let plan = rows_in(report, Section::Plan);
+    put_outs_section(alloc, page, scene, plan, counts.plan)?;
+    put_centres(alloc, page, rows_in(report, Section::Loads), counts.loads)
+}
+
+// Adds a page, from what its parts are drawn from.
 #[tactic(auto, unfolding(crate::specs::Page::page_of))]
 fn put_page_of(
     alloc: Global,
     page: &mut Html,
     title: &[u8],
     notes: &Notes,
-    shown: &[&Row],
+    scene: &Scene<'_, '_>,
 ) -> Result<(), NoMemory>
-    ensures { OnOk result (page.new ≡ page.old ++ page_of title.now notes.now (map (λ r. r.now) shown.now)) }
+    ensures { OnOk result (page.new ≡ page.old ++ page_of title.now notes.now scene.now) }
 {
     let report = notes.report();
     let rows = ItemRows::of(report);
+    let loads = rows_in(report, Section::Loads);
     let counts = notes.counts();
     put_top(alloc, page, title, report, counts.items)?;
-    put_todo(alloc, page, shown, rows.messages(), counts.messages)?;
-    put_load_section(alloc, page, rows_in(report, Section::Loads), counts.loads)?;
-    put_rest(alloc, page, &rows, counts, shown, notes.history())
+    put_summary(alloc, page, notes.history(), rows.messages(), loads)?;
+    put_refused(alloc, page, scene.shown(), notes.history(), counts.history)?;
+    put_todo(alloc, page, scene, rows.messages(), counts.messages)?;
+    put_middle(alloc, page, scene, report, counts)?;
+    put_rest(alloc, page, scene, &rows, counts)
 }
 
 // Adds a page.
@@ -183,5 +196,8 @@ pub(crate) fn put_page(
 {
     let rows = ItemRows::of(notes.report());
     let items = told_first(alloc, rows.messages(), rows.plan())?;
-    put_page_of(alloc, page, title, notes, first_rows(items.as_slice()))
+    let shown = first_rows(items.as_slice());
+    let missed = notes.counts().pegs;
+    let scene = Scene::of(alloc, shown, &rows, notes.history(), missed)?;
+    put_page_of(alloc, page, title, notes, &scene)
 }

@@ -64,16 +64,28 @@ pub(crate) fn rows_in(rows: &[Row], section: Section) -> &[Row]
     rows_before(rest, first_out(rest, section))
 }
 
+// The rows of an item or a work centre, which stand together, given the place of the first.
+pub(crate) fn stretch_of<'a>(rows: &'a [Row], first: Option<usize>, name: &[u8]) -> &'a [Row]
+    requires { first ≡ position (is_of name.now) rows.now }
+    ensures { result.now ≡ rows_named name.now rows.now }
+{
+    let rest = rows_from(rows, first);
+    rows_before(rest, first_other(rest, name))
+}
+
 // The rows of an item or a work centre in a section, which stand together.
 pub(crate) fn rows_named<'a>(rows: &'a [Row], name: &[u8]) -> &'a [Row]
     ensures { result.now ≡ rows_named name.now rows.now }
 {
-    let rest = rows_from(rows, first_of(rows, name));
-    rows_before(rest, first_other(rest, name))
+    stretch_of(rows, first_of(rows, name), name)
 }
 
 // Adds a row that is not of the same item or work centre as the row before it.
-fn add_leader<'a>(found: &mut Vec<&'a Row>, previous: &[u8], row: &'a Row) -> Result<(), NoMemory>
+pub(crate) fn add_leader<'a>(
+    found: &mut Vec<&'a Row>,
+    previous: &[u8],
+    row: &'a Row,
+) -> Result<(), NoMemory>
     ensures { OnOk result (map (λ r. r.now) found.new.items ≡ map (λ r. r.now) found.old.items ++ leader_rows previous.now row.now) }
 {
     if !row.is_of(previous) {
@@ -105,7 +117,7 @@ fn ranked(rank: u64, byte: u8) -> u64
 
 // A number by which numbers with equally many decimals are compared.
 #[tactic(auto, using(crate::proofs::RowLists::fold_next, crate::proofs::RowLists::fold_end), unfolding(crate::specs::Rows::rank))]
-fn rank(text: &[u8]) -> u64
+pub(crate) fn rank(text: &[u8]) -> u64
     ensures { result ≡ rank text.now }
 {
     let mut rank = 0;

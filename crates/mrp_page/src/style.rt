@@ -2,53 +2,81 @@
 
 // A constant of its own, since definitions cite it.
 pub(crate) const STYLE: &str = "*{box-sizing:border-box}
-body{font:15px/1.45 system-ui,sans-serif;max-width:72rem;margin:0 auto;padding:1rem 1.2rem 3rem;color:#1d2733;background:#fff}
-h1{font-size:1.5rem;margin:.4rem 0 0}
+:root{--label:14.5rem}
+body{--week:clamp(4.2rem,(100vw - var(--label) - 4rem)/min(13,var(--weeks)),8rem);font:14px/1.4 system-ui,sans-serif;margin:0;padding:0 1.2rem 3rem;color:#1d2733;background:#fff;font-variant-numeric:tabular-nums}
+html{scroll-padding-top:3rem}
+h1{font-size:1.5rem;margin:.6rem 0 0}
 h2{font-size:1.15rem;margin:0 0 .4rem}
-header p,caption,thead th{color:#566472}
-header p{margin:.1rem 0 1rem}
+h3{font-size:1rem;margin:.4rem 0 .2rem}
+h1,h2,h3,th,td,a,b{white-space:pre-wrap}
+h1,h2,h3,a,tbody th{overflow-wrap:anywhere}
+h2 a,h3 a{font-size:.85rem;font-weight:400;margin-left:.8rem}
+p{margin:.2rem 0}
+ul{margin:.2rem 0;padding:0;list-style:none}
+a{color:#1f5fa8}
+header p,small,.note,.more,.rest>summary,.later>summary,.chart p,thead th,caption{color:#566472}
 header b{color:#1d2733}
-section{border-top:1px solid #dde3ea;padding:1rem 0}
-table{border-collapse:collapse;font-variant-numeric:tabular-nums}
+small{font-size:.85em}
+section{border-top:1px solid #dde3ea;padding:.9rem 0}
+section section{padding:.5rem 0}
+summary{cursor:pointer}
+nav{position:sticky;top:0;z-index:3;background:#fff;border-bottom:1px solid #dde3ea;margin:0 -1.2rem;padding:.4rem 1.2rem;white-space:nowrap;overflow-x:auto}
+nav a{margin-right:1.2rem;white-space:nowrap}
+.z{color:#66727f}
+.bad,.over b{color:#b32626;font-weight:600}
+.sum{display:flex;flex-wrap:wrap;gap:.5rem;margin:.5rem 0}
+.sum a{border-left:4px solid #b9c3cd;padding:.2rem .7rem .2rem .5rem;background:#f5f7f9;color:inherit;text-decoration:none}
+.sum b{font-size:1.35rem;margin-right:.3rem}
+.sum .none b{color:#66727f;font-weight:400}
+.kind,.todo td{border-left:4px solid #b9c3cd;padding-left:.6rem}
+.kind{margin:.5rem 0}
+.sum .late,.kind.late,.todo .late td{border-color:#c53030}
+.sum .release,.kind.release,.todo .release td{border-color:#2f855a}
+.sum .in,.kind.in,.todo .in td{border-color:#b7791f}
+.sum .out,.kind.out,.todo .out td{border-color:#2b6cb0}
+.sum .cancel,.kind.cancel,.todo .cancel td{border-color:#6b7785}
+table{border-collapse:collapse}
 caption{text-align:left;padding:.2rem 0}
 caption span{position:sticky;left:0}
 th{font-weight:400;text-align:left}
-h1,h2,caption,th,td{white-space:pre-wrap}
-h1,h2{overflow-wrap:anywhere}
-a{color:#2b6cb0}
-.scroll{overflow-x:auto;margin:.3rem 0 .6rem}
-.todo th,.todo td{padding:.12rem 1rem .12rem 0;vertical-align:top}
-.todo td{border-left:4px solid #cbd5e0;padding-left:.6rem}
-.todo thead th+th{padding-left:calc(.6rem + 4px)}
+.todo th,.todo td{padding-top:.08rem;padding-bottom:.08rem}
 .todo:has(tbody:empty) thead{display:none}
-.todo .late td{border-color:#c53030}
-.todo .release td{border-color:#2f855a}
-.todo .in td{border-color:#b7791f}
-.todo .out td{border-color:#2b6cb0}
 .todo tbody:empty::after{content:\"Nothing to do\"}
-.item .todo th:first-child{display:none}
-.item .todo thead th{padding-left:0}
-.grid th:first-child{position:sticky;left:0;z-index:1;background:#fff;padding-right:1rem;white-space:nowrap}
-.grid td,.grid thead th+th{min-width:5rem;padding:.1rem .4rem .1rem 0;text-align:right}
-.loads td,.loads thead th+th{min-width:7rem}
+.item .todo th:first-child,.item .todo thead{display:none}
+.item details>.scroll{display:inline-block;vertical-align:top;max-width:100%;margin-right:2.5rem}
+.list{margin:.2rem 0 .6rem}
+.list th,.list td{padding:.08rem 1rem .08rem 0;text-align:right;vertical-align:top}
+.list .t,.list th[scope=row]{text-align:left}
+.list tbody tr:hover{background:#f0f4f8}
+.list tbody:empty::after{content:\"None on this page\"}
+.even{table-layout:fixed;width:100%;max-width:64rem}
+.even th,.even td{overflow-wrap:anywhere}
+.even th:first-child,.even .t{width:26%}
+.over b{display:inline-block;min-width:5.5em;text-align:right}
+.waits td:last-child{color:#b32626;font-weight:600}
+.waits td.z:last-child{color:#66727f;font-weight:400}
+.index{columns:12rem;column-gap:1.5rem}
+tr:target,section:target>h2,section:target>h3{background:#fff3c4}
+.scroll{overflow-x:auto}
+.chart{display:grid;grid-template-columns:calc(var(--label) - .4rem) minmax(0,calc(var(--weeks)*var(--week)));column-gap:.4rem;margin:.4rem 0 .1rem}
+.chart p{display:flex;flex-direction:column;justify-content:space-between;align-items:flex-end;margin:0;font-size:.85em;line-height:1.1}
+svg{display:block;overflow:visible;width:100%;height:4.6rem;background:repeating-linear-gradient(90deg,#b9c3cd 0 1px,#f8fafb 1px calc(1300%/var(--weeks)))}
+.chart .axis{grid-row:2;grid-column:2;flex-direction:row;height:clamp(0rem,(var(--weeks) - 13)*9rem,1.4em);overflow:hidden;padding-top:.1rem}
+.zero,.full,polyline{fill:none;vector-effect:non-scaling-stroke}
+.zero,.full{stroke:#1d2733;stroke-width:1.5}
+polyline{stroke:#2b6cb0;stroke-width:2}
+.load{fill:#7fb0e3}
+.hot{fill:#eba9a4}
+.above{fill:#c53030}
+.cut{fill:#1d2733}
+.grid{margin:.2rem 0}
+.grid th:first-child{position:sticky;left:0;z-index:1;background:#fff;min-width:var(--label);max-width:var(--label);padding-right:.4rem;white-space:normal}
+.grid td,.grid thead th+th{min-width:var(--week);padding:.06rem max(.4rem,(var(--week) - 4.4rem)/2) .06rem 0;text-align:right;vertical-align:top}
 .grid thead th{border-bottom:1px solid #dde3ea}
 .grid .strong th,.grid .strong td:not(.z){font-weight:600}
-.z{color:#6b7785}
-.grid .over td:not(.z){color:#b32626;font-weight:600}
-.grid .over td:not(.z)::before{content:\"+\"}
-.grid .chart td{padding:.3rem 0}
-svg{display:block;width:100%;height:4.2rem;overflow:visible}
-polyline{fill:none;stroke:#2b6cb0;stroke-width:2;vector-effect:non-scaling-stroke}
-.load{fill:#7fb0e3}
-.above{fill:#c53030}
-.most{stroke:#1d2733;stroke-width:2;vector-effect:non-scaling-stroke}
-summary{cursor:pointer}
-.list{margin:.3rem 0 .8rem}
-.list th,.list td{padding:.1rem 1.2rem .1rem 0;text-align:right}
-.list .t,.list th[scope=row]{text-align:left}
-.list tbody:empty::after{content:\"None on this page\"}
-.more{margin:.3rem 0;color:#566472}
+.grid .over td{color:#b32626;font-weight:600}
+.more{margin:.3rem 0}
 main:has(>.more) .item details .scroll::after{content:\"Orders and pegs that are not on this page are counted behind the items.\";color:#566472}
-@media (max-width:30rem){body{padding:.6rem}.todo th{min-width:6rem;max-width:9rem;overflow-wrap:break-word}.grid{font-size:.9rem}.grid:not(.loads) td,.grid:not(.loads) thead th+th{min-width:4.4rem}.grid th:first-child{white-space:normal;min-width:6.5rem;max-width:8.5rem;padding-right:.5rem}}
-@media print{@page{size:landscape;margin:1cm}body{max-width:none;font-size:11px;padding:0;background:#fff}a{color:inherit;text-decoration:none}.scroll{overflow:visible}h2,caption,summary,.item .todo{break-after:avoid}tr,.item .todo{break-inside:avoid}.grid,.grid caption,.grid thead,.grid tbody,.grid tr{display:block}.grid{font:8px/1.2 Arial,sans-serif;break-inside:avoid}.grid tr{position:relative;padding-left:14em}.grid th:first-child{position:absolute;left:0;min-width:0;padding:.05rem 0;border:0}.grid thead tr{border-bottom:1px solid #dde3ea}.grid tbody tr+tr{border-top:1px solid #eef1f4}.grid td,.grid thead th+th{display:inline-block;vertical-align:top;width:4.4em;min-width:0;padding:.05rem 0 .05rem .2em;border:0;overflow-wrap:anywhere}.grid.loads td,.grid.loads thead th+th{width:6.6em}.grid tr.chart td{display:block;padding:.05rem 0;width:100%;width:min(100%,calc(attr(colspan type(<number>))*4.4em))}.grid.loads tr.chart td{width:min(100%,calc(attr(colspan type(<number>))*6.6em))}summary{list-style:none}details::details-content{content-visibility:visible;block-size:auto}.load,.above,.todo td{print-color-adjust:exact}}
+@media (max-width:40rem){:root{--label:7rem}body{--week:4.2rem;padding:0 .6rem 2rem;font-size:13px}nav{margin:0 -.6rem;padding:.4rem .6rem}nav a{margin-right:.7rem}.sum a{padding:.1rem .5rem;flex:1 1 9rem}.even{font-size:.78rem}.even th,.even td{padding-right:.25rem}.even th:first-child,.even .t{width:22%}}
+@media print{@page{size:landscape;margin:1cm}body{--label:11rem;--week:4.1rem;padding:0;font-size:10px}nav,h2 a,h3 a{display:none}a{color:inherit;text-decoration:none}.scroll{overflow:visible}h2,h3,caption,summary,thead,.note,.chart,.item .todo{break-after:avoid}.scroll+details{break-before:avoid}tr,li,.grid,.chart,.item .todo{break-inside:avoid}section{padding:.5rem 0}svg{height:3rem}summary{list-style:none}#todo .rest>summary,#unkept .rest>summary{display:none}#todo details::details-content,#unkept details::details-content{content-visibility:visible;block-size:auto}.load,.hot,.above,.cut,.todo td,.sum a,.kind{print-color-adjust:exact}}
 ";

@@ -1,7 +1,7 @@
 //! The markup that rows are drawn with.
 
 ghost use Rattle.std.specs.Prelude.{◌≡◌, ◌++◌, OnOk, map};
-ghost use Rattle.mrp_page.specs.Template.{drawn_of, has_word, markup_if, numbers_html, part_html, row_html, rows_html};
+ghost use Rattle.mrp_page.specs.Template.{drawn_of, flows_html, has_word, markup_if, numbers_html, part_html, row_html, rows_html};
 
 use crate::html::Html;
 use crate::row::Row;
@@ -74,6 +74,17 @@ pub(crate) fn put_numbers(page: &mut Html, column: usize, rows: &[Row]) -> Resul
 {
     for row in rows {
         page.number(row.cell(column))?;
+    }
+    Ok(())
+}
+
+// Adds the numbers of a column, and leaves those empty that are 0.
+#[tactic(auto, unfolding(crate::specs::Template::flows_html))]
+pub(crate) fn put_flows(page: &mut Html, column: usize, rows: &[Row]) -> Result<(), NoMemory>
+    ensures { OnOk result (page.new ≡ page.old ++ flows_html column rows.now) }
+{
+    for row in rows {
+        page.flow(row.cell(column))?;
     }
     Ok(())
 }

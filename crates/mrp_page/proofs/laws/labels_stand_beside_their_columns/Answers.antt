@@ -1,4 +1,4 @@
-use Rattle.mrp_page.proofs.Columns.{booked-is, loads-are, needs-are, planned-is, record-is, supplies-are}
+use Rattle.mrp_page.proofs.Columns.{booked-is, firm-are, loads-are, needs-are, planned-is, record-is, scheduled-are}
 use Rattle.mrp_page.proofs.laws.labels_stand_beside_their_columns.Goals as goal
 
 pub returns-clause-record : goal.returns-clause-record
@@ -7,8 +7,11 @@ returns-clause-record c = record-is
 pub returns-clause-needs : goal.returns-clause-needs
 returns-clause-needs c = needs-are
 
-pub returns-clause-supplies : goal.returns-clause-supplies
-returns-clause-supplies c = supplies-are
+pub returns-clause-scheduled : goal.returns-clause-scheduled
+returns-clause-scheduled c = scheduled-are
+
+pub returns-clause-firm : goal.returns-clause-firm
+returns-clause-firm c = firm-are
 
 pub returns-clause-planned : goal.returns-clause-planned
 returns-clause-planned c = planned-is

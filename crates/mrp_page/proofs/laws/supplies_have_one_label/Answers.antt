@@ -1,5 +1,8 @@
-use Rattle.mrp_page.proofs.Labels.{none-firm, promised-firm, some-firm}
+use Rattle.mrp_page.proofs.Labels.{framed-is, none-firm, promised-firm, some-firm}
 use Rattle.mrp_page.proofs.laws.supplies_have_one_label.Goals as goal
+
+pub returns-clause-record : goal.returns-clause-record
+returns-clause-record c = framed-is
 
 pub returns-clause-promised : goal.returns-clause-promised
 returns-clause-promised c = promised-firm

@@ -1,0 +1,90 @@
+-- Each call of the history that was not answered as it asked is in *Not promised* once.
+use Rattle.std.proofs.Common.{◌≡◌, ◌∙◌, ℕ, Bool, true, false, Some, List, [], ◌∷◌, ◌++◌, codes, drop, take, refl, sym, ap, append_assoc}
+use Rattle.std.specs.Prelude.{◌==◌, IsPermutation, if◌then◌else◌}
+use Rattle.std.specs.List.{filter, find, flat_map}
+use Rattle.std.proofs.lemmas.List.{append-nil}
+use Rattle.mrp_page.specs.ByWord.{has_one_of}
+use Rattle.mrp_page.specs.Columns.{column}
+use Rattle.mrp_page.specs.Draw.{more_html}
+use Rattle.mrp_page.specs.Escaped.{escaped}
+use Rattle.mrp_page.specs.Folded.{folded_html}
+use Rattle.mrp_page.specs.ItemRows.{item_lists}
+use Rattle.mrp_page.specs.Kinds.{todo_html}
+use Rattle.mrp_page.specs.Layout.{none_refused, refused_answer, refused_open, section_end}
+use Rattle.mrp_page.specs.Notes.{Noted}
+use Rattle.mrp_page.specs.Page.{middle_html, page_html, page_of, rest_html, scene_in, shown_items, top_html}
+use Rattle.mrp_page.specs.Refused.{asked_of, is_booking, refusals, refused_back, refused_html, refused_lines, refused_listing, refused_or_none, refused_rows, refused_section}
+use Rattle.mrp_page.specs.Row.{RowView, cell_at}
+use Rattle.mrp_page.specs.Rows.{rows_in}
+use Rattle.mrp_page.specs.Summary.{summary_html}
+use Rattle.mrp_page.specs.Template.{has_word, row_html}
+use Rattle.mrp_page.specs.declared.limits.TheConstants.{FEW_ROWS}
+use Rattle.mrp_day.specs.declared.section.Section.TheVariants as s
+use Rattle.mrp_page.proofs.ByWord.{Differ, once-each}
+use Rattle.mrp_page.proofs.Folds.{folded-is, some-rows}
+
+refusals-differ : Differ refusals
+refusals-differ = ((refl, (refl, tt)), ((refl, tt), (tt, tt)))
+
+pub refused-once : (history : List RowView) → IsPermutation (filter (has_one_of (column s.History (codes "reply")) refusals) history) (refused_rows history)
+refused-once history = once-each 7 refusals refusals-differ history
+
+lines-are : (shown history : List RowView) (missed : ℕ) (rows : List RowView) → (front : List ℕ) × (between : List ℕ) × (back : List ℕ) × (refused_or_none shown history missed rows
+    ≡ front ++ (flat_map (refused_html shown history) (take FEW_ROWS rows) ++ (between ++ (flat_map (refused_html shown history) (drop FEW_ROWS rows) ++ back))))
+unfolding refused_or_none
+lines-are shown history missed [] = by (missed == 0)
+  where
+    by : (b : Bool) → (front : List ℕ) × (between : List ℕ) × (back : List ℕ) × ((if b then none_refused else folded_html (refused_listing shown history) FEW_ROWS []) ≡ front ++ (flat_map (refused_html shown history) (take FEW_ROWS []) ++ (between ++ (flat_map (refused_html shown history) (drop FEW_ROWS []) ++ back))))
+    by true = (none_refused, [], [], sym (append-nil none_refused))
+    by false = folded-is (refused_listing shown history) FEW_ROWS []
+lines-are shown history missed (r ∷ rows) =
+    let (front, between, back, is) = folded-is (refused_listing shown history) FEW_ROWS (r ∷ rows) in
+    (front, between, back, rw (some-rows r rows) is)
+
+placed : (t u o f l b n m e d r : List ℕ) → t ++ (u ++ ((o ++ ((f ++ (l ++ (b ++ (n ++ m)))) ++ e)) ++ (d ++ r))) ≡ (((t ++ u) ++ o) ++ f) ++ (l ++ (b ++ (n ++ (m ++ (e ++ (d ++ r))))))
+placed t u o f l b n m e d r = simp append_assoc
+
+pub refused-stand : (title : List ℕ) (notes : Noted) → (front : List ℕ) × (between : List ℕ) × (back : List ℕ) × (page_html title notes
+    ≡ front ++ (flat_map (refused_html (shown_items (item_lists notes.report)) notes.history) (take FEW_ROWS (refused_rows notes.history))
+    ++ (between ++ (flat_map (refused_html (shown_items (item_lists notes.report)) notes.history) (drop FEW_ROWS (refused_rows notes.history)) ++ back))))
+unfolding page_html page_of refused_section refused_lines refused_back
+refused-stand title notes =
+    let shown : List RowView = shown_items (item_lists notes.report) in
+    let line : RowView → List ℕ = refused_html shown notes.history in
+    let rows : List RowView = refused_rows notes.history in
+    let top : List ℕ = top_html title notes.report notes.counts.items in
+    let sums : List ℕ = summary_html notes.history (rows_in s.Messages notes.report) (rows_in s.Loads notes.report) in
+    let last : List ℕ = more_html notes.counts.history (codes "entry of the history is") (codes "entries of the history are") ++ section_end in
+    let todo : List ℕ = todo_html (scene_in notes) (rows_in s.Messages notes.report) notes.counts.messages in
+    let rest : List ℕ = middle_html (scene_in notes) notes.report notes.counts ++ rest_html (scene_in notes) (item_lists notes.report) notes.counts in
+    let (front, between, back, is) = lines-are shown notes.history notes.counts.history rows in (
+      ((top ++ sums) ++ refused_open) ++ front,
+      between,
+      back ++ (last ++ (todo ++ rest)),
+      ap (λ (t : List ℕ). top ++ (sums ++ ((refused_open ++ (t ++ last)) ++ (todo ++ rest)))) is ∙ placed top sums refused_open front (flat_map line (take FEW_ROWS rows)) between (flat_map line (drop FEW_ROWS rows)) back last todo rest,
+    )
+
+pub none-is : (shown history : List RowView) → refused_rows history ≡ [] → refused_section shown history 0 ≡ refused_open ++ (none_refused ++ section_end)
+unfolding refused_section refused_lines refused_back refused_or_none more_html
+none-is shown history none = rw none refl
+
+module _ (call : RowView) where
+  pub says-short : cell_at call (column s.History (codes "reply")) ≡ codes "short" → row_html refused_answer call ≡ codes "</th><td class=t><b>short: " ++ (escaped (cell_at call (column s.History (codes "value"))) ++ codes " available</b>")
+  unfolding row_html refused_answer
+  says-short e = rw e refl
+
+  pub says-standing : cell_at call (column s.History (codes "reply")) ≡ codes "not-standing" → row_html refused_answer call ≡ codes "</th><td class=t>not standing: entry " ++ (escaped (cell_at call (column s.History (codes "value"))) ++ [])
+  unfolding row_html refused_answer
+  says-standing e = rw e refl
+
+  pub says-yours : cell_at call (column s.History (codes "reply")) ≡ codes "not-yours" → row_html refused_answer call ≡ codes "</th><td class=t>not yours: entry " ++ (escaped (cell_at call (column s.History (codes "value"))) ++ [])
+  unfolding row_html refused_answer
+  says-yours e = rw e refl
+
+  pub names-booking : (history : List RowView) (booking : RowView) → cell_at call (column s.History (codes "call")) ≡ codes "cancel" → find (is_booking (cell_at call (column s.History (codes "number")))) history ≡ Some booking → asked_of history call ≡ booking
+  unfolding asked_of
+  names-booking history booking e found = rw (e, found) refl
+
+  pub asks-itself : (history : List RowView) → has_word (column s.History (codes "call")) (codes "cancel") call ≡ false → asked_of history call ≡ call
+  unfolding asked_of
+  asks-itself history e = rw e refl

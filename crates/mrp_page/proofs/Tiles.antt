@@ -1,0 +1,51 @@
+-- The counts of the summary are those of the rows of the parts that they lead to.
+use Rattle.std.proofs.Common.{◌≡◌, ◌∙◌, ℕ, Bool, List, [], ◌++◌, codes, decimal, length, refl, sym, append_assoc}
+use Rattle.std.specs.Prelude.{◌==◌, count_by, if◌then◌else◌}
+use Rattle.std.specs.List.{filter}
+use Rattle.std.proofs.lemmas.List.Sums.{length-filter}
+use Rattle.std.proofs.lemmas.List.Sorted.{length_permutation}
+use Rattle.mrp_page.specs.ByWord.{with_word}
+use Rattle.mrp_page.specs.Columns.{column}
+use Rattle.mrp_page.specs.Escaped.{escaped}
+use Rattle.mrp_page.specs.ItemRows.{item_lists}
+use Rattle.mrp_page.specs.Kinds.{Kind, falling_rank, in_order, messages_of, todo_html, value_rank}
+use Rattle.mrp_page.specs.Layout.{summary_tile}
+use Rattle.mrp_page.specs.Notes.{Noted}
+use Rattle.mrp_page.specs.Page.{middle_html, page_html, page_of, rest_html, scene_in, shown_items, top_html}
+use Rattle.mrp_page.specs.Refused.{refused_section}
+use Rattle.mrp_page.specs.Row.{RowView}
+use Rattle.mrp_page.specs.Rows.{rows_in}
+use Rattle.mrp_page.specs.Sorted.{sorted_by}
+use Rattle.mrp_page.specs.Summary.{count_with, summary_html, tile_html}
+use Rattle.mrp_page.specs.Template.{has_word, row_html}
+use Rattle.mrp_page.specs.declared.kinds.Sorting.{Sorting}
+use Rattle.mrp_page.specs.declared.kinds.Sorting.TheVariants as sorts
+use Rattle.mrp_day.specs.declared.section.Section.TheVariants as s
+use Rattle.mrp_page.proofs.ByKey.{sorted-permutes}
+
+in-order-length : (sorting : Sorting) (rows : List RowView) → length (in_order sorting rows) ≡ length rows
+in-order-length sorts.Day rows = refl
+in-order-length sorts.Rising rows = length_permutation rows (sorted_by value_rank rows) (sorted-permutes value_rank rows)
+in-order-length sorts.Falling rows = length_permutation rows (sorted_by falling_rank rows) (sorted-permutes falling_rank rows)
+
+pub undone-is : (p : RowView → Bool) (rows : List RowView) → count_by p rows ≡ length (filter p rows)
+undone-is p rows = sym (length-filter p rows)
+
+pub kinds-counted : (messages : List RowView) (kind : Kind) → count_with (column s.Messages (codes "message")) kind.word messages ≡ length (messages_of messages kind)
+kinds-counted messages kind = undone-is (has_word 3 kind.word) messages ∙ sym (in-order-length kind.sorting (with_word 3 messages kind.word))
+
+pub tile-is : (count : ℕ) (mark place what : List ℕ) → (front : List ℕ) × (tile_html count mark place what ≡ front ++ (codes "\" href=\"#" ++ (escaped place ++ (codes "\"><b>" ++ (escaped (decimal count) ++ (codes "</b>" ++ (escaped what ++ (codes "</a>" ++ []))))))))
+unfolding tile_html row_html summary_tile
+tile-is count mark place what =
+    let shade : List ℕ = escaped (if count == 0 then codes "none" else mark) in
+    let rest : List ℕ = codes "\" href=\"#" ++ (escaped place ++ (codes "\"><b>" ++ (escaped (decimal count) ++ (codes "</b>" ++ (escaped what ++ (codes "</a>" ++ [])))))) in
+    (codes "<a class=\"" ++ shade, sym (append_assoc (codes "<a class=\"") shade rest))
+
+pub summary-stands : (title : List ℕ) (notes : Noted) → (front : List ℕ) × (back : List ℕ) × (page_html title notes ≡ front ++ (summary_html notes.history (rows_in s.Messages notes.report) (rows_in s.Loads notes.report) ++ back))
+unfolding page_html page_of
+summary-stands title notes =
+    let shown : List RowView = shown_items (item_lists notes.report) in (
+      top_html title notes.report notes.counts.items,
+      refused_section shown notes.history notes.counts.history ++ (todo_html (scene_in notes) (rows_in s.Messages notes.report) notes.counts.messages ++ (middle_html (scene_in notes) notes.report notes.counts ++ rest_html (scene_in notes) (item_lists notes.report) notes.counts)),
+      refl,
+    )

@@ -1,0 +1,14 @@
+use Rattle.mrp_page.proofs.OutRows.{left-over, left-short, outs-once, outs-rise}
+use Rattle.mrp_page.proofs.laws.items_run_out_in_order.Goals as goal
+
+pub returns-clause-once : goal.returns-clause-once
+returns-clause-once c = outs-once
+
+pub returns-clause-order : goal.returns-clause-order
+returns-clause-order c = outs-rise
+
+pub returns-clause-over : goal.returns-clause-over
+returns-clause-over c = left-over
+
+pub returns-clause-short : goal.returns-clause-short
+returns-clause-short c = left-short

@@ -1,0 +1,20 @@
+use Rattle.mrp_page.proofs.TodoKinds.{is-order-is, open-is, order-is, order-of-is, start-is, week-is}
+use Rattle.mrp_page.proofs.laws.messages_have_their_orders.Goals as goal
+
+pub returns-clause-order : goal.returns-clause-order
+returns-clause-order c = order-is
+
+pub returns-clause-found : goal.returns-clause-found
+returns-clause-found c = order-of-is
+
+pub returns-clause-same : goal.returns-clause-same
+returns-clause-same c = is-order-is
+
+pub returns-clause-pieces : goal.returns-clause-pieces
+returns-clause-pieces c = open-is
+
+pub returns-clause-start : goal.returns-clause-start
+returns-clause-start c = start-is
+
+pub returns-clause-week : goal.returns-clause-week
+returns-clause-week c = week-is

@@ -1,0 +1,120 @@
+-- The items of a page: an index, and each with its messages, its record, its orders and pegs.
+use Rattle.std.specs.Prelude.{ℕ, Bool, List, [], ◌++◌, ◌==◌, ◌&&◌, Option, None, Some, codes, filter, flat_map, length, if◌then◌else◌}
+use Rattle.mrp_page.specs.Draw.{has_none, item_name_html, link_html, named_note, named_record, named_tasks, table_html}
+use Rattle.mrp_page.specs.Frame.{count_row}
+use Rattle.mrp_page.specs.ItemRows.{ItemLists}
+use Rattle.mrp_page.specs.Layout.{grid_end, index_count, index_end, index_open, item_head, items_end, items_open, lists_open, order, orders_open, peg_back, peg_booking, peg_front, peg_middle, peg_need, peg_parent, peg_supply, pegs_open, rest_end, section_end, wait_end, wait_late, wait_middle, wait_order, wait_supply, waits_open}
+use Rattle.mrp_page.specs.Orders.{linked_html, numbered, ordered}
+use Rattle.mrp_page.specs.Refused.{entry_name_html}
+use Rattle.mrp_page.specs.Row.{RowView, cell_at}
+use Rattle.mrp_page.specs.Rows.{rows_named}
+use Rattle.mrp_page.specs.Scene.{SceneView}
+use Rattle.mrp_page.specs.Template.{has_word, row_html}
+
+-- the orders of an item
+unfoldable pub orders_html : List RowView → List ℕ
+orders_html orders = table_html orders_open order orders grid_end
+
+-- the order of a parent that a peg is for, if it is kept
+abbrev pub parent_of : SceneView → RowView → Option RowView
+parent_of scene peg = numbered scene (cell_at peg 4) (cell_at peg 3)
+
+-- the order that is the supply of a peg, if it is one and is kept
+abbrev pub supplier_of : SceneView → RowView → Option RowView
+supplier_of scene peg = ordered scene (cell_at peg 0) (cell_at peg 6) (cell_at peg 7)
+
+-- what a peg is for: a booking, an order of a parent, or something else
+unfoldable pub need_html : SceneView → RowView → List ℕ
+need_html scene peg =
+    if has_word 2 (codes "booking") peg then peg_booking ++ entry_name_html scene.history (cell_at peg 3)
+    else if has_word 2 (codes "parent") peg then linked_html scene (parent_of scene peg) (row_html peg_parent peg)
+    else row_html peg_need peg
+
+-- the supply of a peg
+abbrev pub supply_html : SceneView → RowView → List ℕ
+supply_html scene peg = linked_html scene (supplier_of scene peg) (row_html peg_supply peg)
+
+-- a peg: where pieces of a supply go
+unfoldable pub peg_html : SceneView → RowView → List ℕ
+peg_html scene peg =
+    peg_front
+    ++ (supply_html scene peg
+    ++ (row_html peg_middle peg
+    ++ (need_html scene peg
+    ++ row_html peg_back peg)))
+
+-- the pegs of an item
+unfoldable pub pegs_html : SceneView → List RowView → List ℕ
+pegs_html scene pegs = pegs_open ++ (flat_map (peg_html scene) pegs ++ grid_end)
+
+-- an order of this item waits for the supply of a peg
+abbrev pub is_wait : List ℕ → RowView → Bool
+is_wait name peg = has_word 4 name peg && has_word 2 (codes "parent") peg
+
+-- the pegs of components that the orders of an item wait for
+abbrev pub waits_of : SceneView → List ℕ → List RowView
+waits_of scene name = filter (is_wait name) scene.pegs
+
+-- how late an order is
+abbrev pub late_html : Option RowView → List ℕ
+late_html None = wait_end
+late_html (Some order) = row_html wait_late order
+
+-- a component that an order waits for
+unfoldable pub wait_html : SceneView → RowView → List ℕ
+wait_html scene peg =
+    peg_front
+    ++ (linked_html scene (parent_of scene peg) (row_html wait_order peg)
+    ++ (row_html wait_middle peg
+    ++ (item_name_html scene.shown (cell_at peg 0)
+    ++ (wait_supply
+    ++ (supply_html scene peg
+    ++ late_html (supplier_of scene peg))))))
+
+-- what the orders of an item wait for; nothing if that is nothing
+unfoldable pub waits_html : SceneView → List RowView → List ℕ
+waits_html scene pegs =
+    if has_none pegs then [] else waits_open ++ (flat_map (wait_html scene) pegs ++ grid_end)
+
+-- the orders of an item, where they go, and what they wait for
+unfoldable pub item_lists_html : SceneView → List ℕ → List ℕ
+item_lists_html scene name =
+    lists_open
+    ++ (orders_html (rows_named name scene.orders)
+    ++ (pegs_html scene (rows_named name scene.pegs)
+    ++ (waits_html scene (waits_of scene name)
+    ++ (rest_end
+    ++ section_end))))
+
+-- an item, by a row of it, given how many rows of promises are not kept
+unfoldable pub item_html : SceneView → ItemLists → ℕ → RowView → List ℕ
+item_html scene rows missed leader =
+    row_html item_head leader
+    ++ (named_tasks rows leader
+    ++ (named_record rows (cell_at leader 0)
+    ++ (named_note rows missed (cell_at leader 0)
+    ++ item_lists_html scene (cell_at leader 0))))
+
+-- items, by a row of each
+unfoldable pub items_html : SceneView → ItemLists → ℕ → List RowView → List ℕ
+items_html scene rows missed leaders = flat_map (item_html scene rows missed) leaders
+
+-- how many messages an item has
+abbrev pub message_count : List RowView → RowView → ℕ
+message_count messages leader = length (rows_named (cell_at leader 0) messages)
+
+-- a count behind a name; nothing if it is 0
+abbrev pub count_html : ℕ → List ℕ
+count_html count = if count == 0 then [] else row_html index_count (count_row count [] [])
+
+-- an item of the index
+unfoldable pub index_line : List RowView → RowView → List ℕ
+index_line messages leader =
+    index_open
+    ++ (link_html (cell_at leader 0)
+    ++ (count_html (message_count messages leader)
+    ++ index_end))
+
+-- the index of the items
+unfoldable pub index_html : List RowView → List RowView → List ℕ
+index_html messages leaders = items_open ++ (flat_map (index_line messages) leaders ++ items_end)

@@ -1,0 +1,294 @@
+//! The items of a page.
+
+ghost use Rattle.std.specs.Prelude.{◌≡◌, ◌++◌, IfOk, OnOk, filter, flat_map, map};
+ghost use Rattle.std.specs.Option.{option_copied};
+ghost use Rattle.mrp_page.specs.Items.{count_html, index_html, index_line, is_wait, item_html, item_lists_html, items_html, late_html, message_count, need_html, orders_html, parent_of, peg_html, pegs_html, supplier_of, supply_html, wait_html, waits_html, waits_of};
+
+use crate::draw::{
+    put_item_name, put_link, put_named_note, put_named_record, put_named_tasks, put_table,
+};
+use crate::frame::count_row;
+use crate::html::Html;
+use crate::item_rows::ItemRows;
+use crate::layout::{
+    grid_end, index_count, index_end, index_open, item_head, items_end, items_open, lists_open,
+    order, orders_open, peg_back, peg_booking, peg_front, peg_middle, peg_need, peg_parent,
+    peg_supply, pegs_open, rest_end, section_end, wait_end, wait_late, wait_middle, wait_order,
+    wait_supply, waits_open,
+};
+use crate::orders::{numbered, ordered, put_linked};
+use crate::refused::put_entry_name;
+use crate::row::Row;
+use crate::rows::rows_named;
+use crate::scene::Scene;
+use crate::template::{has_word, put_row};
+use mrp_qty::NoMemory;
+use std::alloc::Global;
+
+// Adds the orders of an item.
+#[tactic(auto, unfolding(crate::specs::Items::orders_html))]
+fn put_orders(page: &mut Html, orders: &[Row]) -> Result<(), NoMemory>
+    ensures { OnOk result (page.new ≡ page.old ++ orders_html orders.now) }
+{
+    put_table(page, orders_open(), order(), orders, grid_end())
+}
+
+// The order of a parent that a peg is for, if it is kept.
+fn parent_of<'a>(scene: &Scene<'_, 'a>, peg: &Row) -> Option<&'a Row>
+    ensures { option_copied result ≡ parent_of scene.now peg.now }
+{
+    numbered(scene, peg.cell(4), peg.cell(3))
+}
+
+// The order that is the supply of a peg, if it is one and is kept.
+fn supplier_of<'a>(scene: &Scene<'_, 'a>, peg: &Row) -> Option<&'a Row>
+    ensures { option_copied result ≡ supplier_of scene.now peg.now }
+{
+    ordered(scene, peg.name(), peg.cell(6), peg.cell(7))
+}
+
+// Adds what a peg is for: a booking, an order of a parent, or something else.
+#[tactic(auto, unfolding(crate::specs::Items::need_html))]
+fn put_need(page: &mut Html, scene: &Scene<'_, '_>, peg: &Row) -> Result<(), NoMemory>
+    ensures { OnOk result (page.new ≡ page.old ++ need_html scene.now peg.now) }
+{
+    if has_word(2, b"booking", peg) {
+        page.markup(peg_booking())?;
+        put_entry_name(page, scene.history(), peg.cell(3))
+    } else if has_word(2, b"parent", peg) {
+        let parent = parent_of(scene, peg);
+        put_linked(page, scene, parent, peg_parent(), peg)
+    } else {
+        put_row(page, peg_need(), peg)
+    }
+}
+
+// Adds the supply of a peg.
+fn put_supply(page: &mut Html, scene: &Scene<'_, '_>, peg: &Row) -> Result<(), NoMemory>
+    ensures { OnOk result (page.new ≡ page.old ++ supply_html scene.now peg.now) }
+{
+    let supplier = supplier_of(scene, peg);
+    put_linked(page, scene, supplier, peg_supply(), peg)
+}
+
+// Adds a peg: where pieces of a supply go.
+#[tactic(auto, unfolding(crate::specs::Items::peg_html))]
+fn put_peg(page: &mut Html, scene: &Scene<'_, '_>, peg: &Row) -> Result<(), NoMemory>
+    ensures { OnOk result (page.new ≡ page.old ++ peg_html scene.now peg.now) }
+{
+    page.markup(peg_front())?;
+    put_supply(page, scene, peg)?;
+    put_row(page, peg_middle(), peg)?;
+    put_need(page, scene, peg)?;
+    put_row(page, peg_back(), peg)
+}
+
+// Adds pegs.
+fn put_each_peg(page: &mut Html, scene: &Scene<'_, '_>, pegs: &[Row]) -> Result<(), NoMemory>
+    ensures { OnOk result (page.new ≡ page.old ++ flat_map (peg_html scene.now) pegs.now) }
+{
+    for peg in pegs {
+        put_peg(page, scene, peg)?;
+    }
+    Ok(())
+}
+
+// Adds the pegs of an item.
+#[tactic(auto, unfolding(crate::specs::Items::pegs_html))]
+fn put_pegs(page: &mut Html, scene: &Scene<'_, '_>, pegs: &[Row]) -> Result<(), NoMemory>
+    ensures { OnOk result (page.new ≡ page.old ++ pegs_html scene.now pegs.now) }
+{
+    page.markup(pegs_open())?;
+    put_each_peg(page, scene, pegs)?;
+    page.markup(grid_end())
+}
+
+// Whether an order of this item waits for the supply of a peg.
+fn is_wait(name: &[u8], peg: &Row) -> bool
+    ensures { result ≡ is_wait name.now peg.now }
+{
+    has_word(4, name, peg) && has_word(2, b"parent", peg)
+}
+
+// The pegs among these that are of components which the orders of an item wait for.
+fn waits_among<'a>(alloc: Global, pegs: &'a [Row], name: &[u8]) -> Result<Vec<&'a Row>, NoMemory>
+    ensures { IfOk result (λ rows. map (λ r. r.now) rows.items ≡ filter (is_wait name.now) pegs.now) }
+{
+    let mut rows = Vec::new(alloc);
+    for peg in pegs {
+        if is_wait(name, peg) {
+            rows.push(peg)?;
+        }
+    }
+    Ok(rows)
+}
+
+// Adds how late an order is.
+fn put_late(page: &mut Html, order: Option<&Row>) -> Result<(), NoMemory>
+    ensures { OnOk result (page.new ≡ page.old ++ late_html (option_copied order.entry)) }
+{
+    match order {
+        Some(order) => put_row(page, wait_late(), order),
+        None => page.markup(wait_end()),
+    }
+}
+
+// Adds a component that an order waits for.
+#[tactic(auto, unfolding(crate::specs::Items::wait_html))]
+fn put_wait(page: &mut Html, scene: &Scene<'_, '_>, peg: &Row) -> Result<(), NoMemory>
+    ensures { OnOk result (page.new ≡ page.old ++ wait_html scene.now peg.now) }
+{
+    let parent = parent_of(scene, peg);
+    let supplier = supplier_of(scene, peg);
+    page.markup(peg_front())?;
+    put_linked(page, scene, parent, wait_order(), peg)?;
+    put_row(page, wait_middle(), peg)?;
+    put_item_name(page, scene.shown(), peg.name())?;
+    page.markup(wait_supply())?;
+    put_supply(page, scene, peg)?;
+    put_late(page, supplier)
+}
+
+// Adds components that orders wait for.
+fn put_each_wait(page: &mut Html, scene: &Scene<'_, '_>, pegs: &[&Row]) -> Result<(), NoMemory>
+    ensures { OnOk result (page.new ≡ page.old ++ flat_map (wait_html scene.now) (map (λ r. r.now) pegs.now)) }
+{
+    for peg in pegs {
+        put_wait(page, scene, *peg)?;
+    }
+    Ok(())
+}
+
+// Adds what the orders of an item wait for; nothing if that is nothing.
+#[tactic(auto, unfolding(crate::specs::Items::waits_html))]
+fn put_waits(page: &mut Html, scene: &Scene<'_, '_>, pegs: &[&Row]) -> Result<(), NoMemory>
+    ensures { OnOk result (page.new ≡ page.old ++ waits_html scene.now (map (λ r. r.now) pegs.now)) }
+{
+    if pegs.is_empty() {
+        return Ok(());
+    }
+    page.markup(waits_open())?;
+    put_each_wait(page, scene, pegs)?;
+    page.markup(grid_end())
+}
+
+// Adds the orders of an item, where they go, and what they wait for.
+#[tactic(auto, unfolding(crate::specs::Items::item_lists_html))]
+fn put_item_lists(
+    alloc: Global,
+    page: &mut Html,
+    scene: &Scene<'_, '_>,
+    name: &[u8],
+) -> Result<(), NoMemory>
+    ensures { OnOk result (page.new ≡ page.old ++ item_lists_html scene.now name.now) }
+{
+    let pegs = scene.pegs();
+    let waits = waits_among(alloc, pegs, name)?;
+    page.markup(lists_open())?;
+    put_orders(page, scene.orders_of(name))?;
+    put_pegs(page, scene, scene.pegs_of(name))?;
+    put_waits(page, scene, waits.as_slice())?;
+    page.markup(rest_end())?;
+    page.markup(section_end())
+}
+
+// Adds an item, given how many rows of promises are not kept.
+#[tactic(auto, unfolding(crate::specs::Items::item_html))]
+fn put_item(
+    alloc: Global,
+    page: &mut Html,
+    scene: &Scene<'_, '_>,
+    rows: &ItemRows<'_>,
+    missed: u64,
+    leader: &Row,
+) -> Result<(), NoMemory>
+    ensures { OnOk result (page.new ≡ page.old ++ item_html scene.now rows.now missed leader.now) }
+{
+    let name = leader.name();
+    put_row(page, item_head(), leader)?;
+    put_named_tasks(page, rows, leader)?;
+    put_named_record(alloc, page, rows, name)?;
+    put_named_note(page, rows, missed, name)?;
+    put_item_lists(alloc, page, scene, name)
+}
+
+// Adds items.
+pub(crate) fn put_items(
+    alloc: Global,
+    page: &mut Html,
+    scene: &Scene<'_, '_>,
+    rows: &ItemRows<'_>,
+    missed: u64,
+    leaders: &[&Row],
+) -> Result<(), NoMemory>
+    ensures { OnOk result (page.new ≡ page.old ++ items_html scene.now rows.now missed (map (λ r. r.now) leaders.now)) }
+{
+    for leader in leaders {
+        put_item(alloc, page, scene, rows, missed, *leader)?;
+    }
+    Ok(())
+}
+
+// How many messages an item has.
+fn message_count(messages: &[Row], leader: &Row) -> usize
+    ensures { result ≡ message_count messages.now leader.now }
+{
+    rows_named(messages, leader.name()).len()
+}
+
+// Adds a count behind a name; nothing if it is 0.
+fn put_count(alloc: Global, page: &mut Html, count: u64) -> Result<(), NoMemory>
+    ensures { OnOk result (page.new ≡ page.old ++ count_html count) }
+{
+    if count == 0 {
+        return Ok(());
+    }
+    let row = count_row(alloc, count, b"", b"")?;
+    put_row(page, index_count(), &row)
+}
+
+// Adds an item of the index.
+#[tactic(auto, unfolding(crate::specs::Items::index_line))]
+fn put_index_line(
+    alloc: Global,
+    page: &mut Html,
+    messages: &[Row],
+    leader: &Row,
+) -> Result<(), NoMemory>
+    ensures { OnOk result (page.new ≡ page.old ++ index_line messages.now leader.now) }
+{
+    page.markup(index_open())?;
+    put_link(page, leader.name())?;
+    put_count(alloc, page, message_count(messages, leader) as u64)?;
+    page.markup(index_end())
+}
+
+// Adds items of the index.
+fn put_index_lines(
+    alloc: Global,
+    page: &mut Html,
+    messages: &[Row],
+    leaders: &[&Row],
+) -> Result<(), NoMemory>
+    ensures { OnOk result (page.new ≡ page.old ++ flat_map (index_line messages.now) (map (λ r. r.now) leaders.now)) }
+{
+    for leader in leaders {
+        put_index_line(alloc, page, messages, *leader)?;
+    }
+    Ok(())
+}
+
+// Adds the index of the items.
+#[tactic(auto, unfolding(crate::specs::Items::index_html))]
+pub(crate) fn put_index(
+    alloc: Global,
+    page: &mut Html,
+    messages: &[Row],
+    leaders: &[&Row],
+) -> Result<(), NoMemory>
+    ensures { OnOk result (page.new ≡ page.old ++ index_html messages.now (map (λ r. r.now) leaders.now)) }
+{
+    page.markup(items_open())?;
+    put_index_lines(alloc, page, messages, leaders)?;
+    page.markup(items_end())
+}
