@@ -425,3 +425,57 @@ fn as_many_workers_as_were_asked_for_plan_a_run(rt: HostRuntime) {
     same(&rt, gate.given_up.load(Ordering::SeqCst), 0);
     drop((day, gate));
 }
+
+// A desk's records so far, and how many items of its runs came while it was at its first.
+#[derive(Drop)]
+struct FirstRecord {
+    records: AtomicU64,
+    items: AtomicU64,
+}
+
+#[derive(Drop)]
+struct CountsRecords<'a>(&'a FirstRecord);
+
+impl Gate for CountsRecords<'_> {
+    fn pass<R: Wait>(&self, _rt: &R, _desk: usize) {
+        let _before = self.0.records.fetch_add(1, Ordering::SeqCst);
+    }
+}
+
+#[derive(Drop)]
+struct CountsItems<'a>(&'a FirstRecord);
+
+impl Gate for CountsItems<'_> {
+    fn pass<R: Wait>(&self, _rt: &R, _item: usize) {
+        if self.0.records.load(Ordering::SeqCst) == 1 {
+            let _before = self.0.items.fetch_add(1, Ordering::SeqCst);
+        }
+    }
+}
+
+#[test]
+fn a_desk_plans_its_run_before_its_next_record(rt: HostRuntime) {
+    let records = Records {
+        script: "1,run,,,,\n1,ask,BIKE,2025-01-06,,\n",
+        ..bicycles()
+    };
+    let first = FirstRecord {
+        records: AtomicU64::new(0),
+        items: AtomicU64::new(0),
+    };
+    let alloc = rt.alloc();
+    let shop = made(&rt, records.shop(alloc));
+    let day = answer_by_desks(
+        &rt,
+        alloc,
+        shop,
+        1,
+        &CountsRecords(&first),
+        &CountsItems(&first),
+    )
+    .expect(&rt, "memory");
+    same(&rt, day.history.entries().len(), 2);
+    same(&rt, first.records.load(Ordering::SeqCst), 2);
+    same(&rt, first.items.load(Ordering::SeqCst), 3);
+    drop((day, first));
+}

@@ -208,10 +208,11 @@ fn close(office: Office, desks: Vec<Desk>, end: Result<(), Refused>) -> Result<H
 
 /// The day that a shop's desks make, each in a thread of its own if one can be started. A desk makes the calls
 /// of its records in order, and passes its gate with its number before each. It plans each of its runs before
-/// its next call, by `workers` workers (1 to 64, as the caller guarantees), which pass their gate with an
-/// item's place before they plan it. Desks without a thread run one by one in the caller's thread, after all
-/// threaded desks have finished. A script without a run is taken with one more call after all others, a run of
-/// desk 1, which passes no gate of desks.
+/// its next call, which it makes also if the run is refused: by net change from its last run if that has a plan,
+/// otherwise by `workers` workers (1 to 64, as the caller guarantees), which pass their gate with an item's place
+/// before they plan it. Desks without a thread run one by one in the caller's thread, after all threaded desks
+/// have finished. A script without a run is taken with one more call after all others, a run of desk 1, which
+/// passes no gate of desks.
 ///
 /// Errors: `NoMemory` if an allocation fails; otherwise `TooLarge` with the first item in table order whose
 /// quantities get too large in the first run with such an item.

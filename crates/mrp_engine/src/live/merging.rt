@@ -1,7 +1,8 @@
 //! What came of the runs of all desks, in the order of the history.
 
-ghost use Rattle.std.specs.Prelude.{◌≡◌, ◌≢◌, ◌<◌, ◌≤◌, ◌-◌, ◌∷◌, ℕ, IfOk, List, length, map, slice_get};
+ghost use Rattle.std.specs.Prelude.{◌≡◌, ◌≢◌, ◌<◌, ◌≤◌, ◌-◌, ◌∷◌, ℕ, Err, IfOk, List, length, map, slice_get, true};
 ghost use Rattle.std.specs.List.{AllZip, list_any};
+ghost use Rattle.mrp_bill.specs.Lists.{listed};
 ghost use Rattle.mrp_master.specs.Supply.{supply_of};
 ghost use Rattle.mrp_item.specs.Inputs.{Inputs};
 ghost use Rattle.mrp_engine.specs.day.Planned.{PlansHistory, PlansRun};
@@ -49,7 +50,8 @@ fn refusal_among(runs: &[RunResult]) -> Option<DayFault>
 
 // The plans of runs, or why a day with these runs is refused.
 fn plans_of(alloc: Global, runs: Vec<RunResult>) -> Result<Vec<Plan>, DayFault>
-    ensures { (all : List Inputs) → AllZip PlansRun all runs.items → PlansAll all result }
+    ensures plans { (all : List Inputs) → AllZip PlansRun all runs.items → PlansAll all result }
+    ensures memory { list_any lacks_memory runs.items ≡ true → result ≡ Err DayFault.NoMemory }
 {
     if let Some(fault) = refusal_among(runs.as_slice()) {
         return Err(fault);
@@ -108,7 +110,9 @@ pub fn merge(
 ) -> Result<Day, DayFault>
     requires supply { history.supply ≡ supply_of rows.value.tables }
     requires runs { AreRunsOf rows.value.tables history.entries runs.items }
-    ensures { PlansHistory rows.value.tables history.entries result }
+    ensures day { PlansHistory rows.value.tables history.entries result }
+    // It is out of memory if a run was, also where an earlier one is too large.
+    ensures memory { (place : ℕ) → place < length runs.items → list_any lacks_memory (listed runs.items place) ≡ true → result ≡ Err DayFault.NoMemory }
 {
     let mut queues = queues_of(alloc, runs)?;
     let mut all = Vec::new(alloc);

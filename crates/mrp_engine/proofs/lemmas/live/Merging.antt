@@ -1,11 +1,12 @@
 -- The runs of a history are merged, entry by entry.
-use Rattle.std.proofs.Common.{◌≡◌, ◌≢◌, ◌∙◌, ℕ, ◌+◌, ◌-◌, ◌<◌, ◌≤◌, ◌++◌, Bool, cond, List, [], ◌∷◌, Vec, drop, get_or, length, map, set, take, ap, arith, inl, inr, refl, subst, sym}
+use Rattle.std.proofs.Common.{◌≡◌, ◌≢◌, ◌∙◌, ◌⊎◌, ◌||◌, ℕ, ◌+◌, ◌-◌, ◌<◌, ◌≤◌, ◌++◌, Bool, true, cond, List, [], ◌∷◌, Vec, drop, get_or, length, map, set, take, ap, arith, inl, inr, refl, subst, sym}
 use Rattle.std.specs.Prelude.{All}
 use Rattle.std.specs.declared.collections.VecDeque.{VecDeque}
-use Rattle.std.specs.List.{AllZip}
+use Rattle.std.specs.List.{AllZip, list_any}
 use Rattle.std.specs.declared.alloc.Global.{Global}
-use Rattle.std.proofs.lemmas.Bool.{cases_eq, eq-eqb, ne_eqb}
-use Rattle.std.proofs.lemmas.List.{append-nil, drop_more, get_or-map, get_or-set_other, get_or-set_same, length-map, map-set, take_all}
+use Rattle.std.proofs.lemmas.Bool.{cases_eq, eq-eqb, ne_eqb, or_left, or_right}
+use Rattle.std.proofs.lemmas.List.{append-nil, drop_all, drop_more, get_or-map, get_or-set_other, get_or-set_same, length-map, map-set, take_all}
+use Rattle.mrp_bill.specs.Lists.{listed}
 use Rattle.mrp_turn.specs.declared.log.Entry.{Entry}
 use Rattle.mrp_turn.specs.Log.{entries_by}
 use Rattle.mrp_tables.specs.Tables.{Tables}
@@ -14,10 +15,11 @@ use Rattle.mrp_book.specs.declared.reply.Reply.{Reply}
 use Rattle.mrp_book.specs.declared.reply.Reply.TheVariants as reply
 use Rattle.mrp_book.specs.Snapshot.{Snapshot}
 use Rattle.mrp_book.specs.Standing.{History}
+use Rattle.mrp_board.proofs.Tests.{any-more, either, no}
 use Rattle.mrp_item.specs.Inputs.{Inputs, inputs_of}
 use Rattle.mrp_engine.specs.day.Day.{planned_from, runs_of}
 use Rattle.mrp_engine.specs.day.Planned.{PlansRun}
-use Rattle.mrp_engine.specs.live.Runs.{AreRunsOf, RunResult, queued}
+use Rattle.mrp_engine.specs.live.Runs.{AreRunsOf, RunResult, lacks_memory, queued}
 use Rattle.mrp_engine.proofs.lemmas.day.RunsPlanned.{not-a-run, runs-more}
 use Rattle.mrp_engine.proofs.lemmas.live.DeskRuns.{zip-push}
 
@@ -145,3 +147,59 @@ module _ (t : Tables) (h : History) (k : ℕ) (e : Entry Call Reply) (queues : L
 -- all are merged
 pub all-merged : (t : Tables) (h given : History) (k : ℕ) (queues : List Queue) (all : List RunResult) → h ≡ given → length h ≤ k → AreMerged t h k queues all → AllZip PlansRun (runs_of t given) all
 all-merged t h given k queues all same past merged = subst (λ (x : History). AllZip PlansRun (runs_of t x) all) (take_all k h past ∙ same) merged.done
+
+-- Runs that were refused memory.
+
+zip-none : {A B : Type 0} (R : A → B → Type 0) (ys : List B) → AllZip R [] ys → ys ≡ []
+zip-none R [] all = refl
+zip-none R (y ∷ ys) all = absurd all
+
+-- each run that was refused memory is merged, or still in its desk's queue
+pub record KeepLacking (runs : List (Vec RunResult Global)) (queues : List Queue) (all : List RunResult) : Type 0 where
+  pub size : length queues ≡ length runs
+  pub kept : (place : ℕ) → list_any lacks_memory (listed runs place) ≡ true → (list_any lacks_memory all ≡ true) ⊎ (list_any lacks_memory (queued queues place) ≡ true)
+
+-- none is merged yet
+pub none-lost : (runs : List (Vec RunResult Global)) (queues : List Queue) (all : List RunResult) → map (λ (q : Queue). q.items) queues ≡ map (λ (v : Vec RunResult Global). v.items) runs → KeepLacking runs queues all
+none-lost runs queues all are = record {
+  size = sym (length-map queues (λ (q : Queue). q.items)) ∙ ap (length {A = List RunResult}) are ∙ length-map runs (λ (v : Vec RunResult Global). v.items);
+  kept = λ place lacks. inr (subst (λ (xs : List RunResult). list_any lacks_memory xs ≡ true) (sym (ap (λ (lists : List (List RunResult)). get_or lists place []) are)) lacks);
+}
+
+-- one more is merged
+pub one-kept : (runs : List (Vec RunResult Global)) (queues now : List Queue) (all more : List RunResult) (own : ℕ) (run : RunResult) → length now ≡ length queues → queued queues own ≡ run ∷ queued now own
+    → ((place : ℕ) → place ≢ own → queued now place ≡ queued queues place) → more ≡ all ++ run ∷ [] → KeepLacking runs queues all → KeepLacking runs now more
+one-kept runs queues now all more own run size next same adds keeps =
+    let any : list_any lacks_memory more ≡ (list_any lacks_memory all || lacks_memory run) = ap (list_any lacks_memory) adds ∙ any-more lacks_memory all run in
+    let earlier : list_any lacks_memory all ≡ true → list_any lacks_memory more ≡ true = λ e. any ∙ or_left (list_any lacks_memory all) (lacks_memory run) e in
+    let this : lacks_memory run ≡ true → list_any lacks_memory more ≡ true = λ e. any ∙ or_right (list_any lacks_memory all) (lacks_memory run) e in
+    record {
+      size = size ∙ keeps.size;
+      kept = λ place lacks. elim (keeps.kept place lacks) [
+        | inl merged ↦ inl (earlier merged)
+        | inr left ↦
+            elim (cases_eq place own) [
+              | inl here ↦
+                  let first : (lacks_memory run || list_any lacks_memory (queued now own)) ≡ true =
+                  subst (λ (xs : List RunResult). list_any lacks_memory xs ≡ true) next (subst (λ (p : ℕ). list_any lacks_memory (queued queues p) ≡ true) here left) in
+                  elim (either (lacks_memory run) (list_any lacks_memory (queued now own)) first) [
+                    | inl e ↦ inl (this e)
+                    | inr e ↦ inr (subst (λ (p : ℕ). list_any lacks_memory (queued now p) ≡ true) (sym here) e)
+                  ]
+              | inr apart ↦ inr (subst (λ (xs : List RunResult). list_any lacks_memory xs ≡ true) (sym (same place apart)) left)
+            ]
+      ];
+    }
+
+-- each that was refused memory is merged
+pub all-kept : (t : Tables) (h : History) (k : ℕ) (runs : List (Vec RunResult Global)) (queues : List Queue) (all : List RunResult) (place : ℕ) → length h ≤ k → AreMerged t h k queues all → KeepLacking runs queues all
+    → place < length runs → list_any lacks_memory (listed runs place) ≡ true → list_any lacks_memory all ≡ true
+all-kept t h k runs queues all place past merged keeps low lacks = elim (keeps.kept place lacks) [
+  | inl there ↦ there
+  | inr left ↦
+      let size = keeps.size in
+      let still : AllZip PlansRun (runs_of t (entries_by (place + 1) [])) (queued queues place) =
+      subst (λ (x : History). AllZip PlansRun (runs_of t (entries_by (place + 1) x)) (queued queues place)) (drop_all k h past) (merged.still place (omega (arith, low, size))) in
+      let none : list_any lacks_memory [] ≡ true = subst (λ (xs : List RunResult). list_any lacks_memory xs ≡ true) (zip-none PlansRun (queued queues place) still) left in
+      no none
+]

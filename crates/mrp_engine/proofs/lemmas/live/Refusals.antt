@@ -1,8 +1,9 @@
 -- Why a day is refused, by what came of its runs.
-use Rattle.std.proofs.Common.{◌≡◌, ◌∙◌, ◌++◌, Bool, true, false, cond, List, [], ◌∷◌, Some, None, Ok, Err, map, ap, refl, subst}
+use Rattle.std.proofs.Common.{◌≡◌, ◌∙◌, ◌++◌, Bool, true, false, cond, List, [], ◌∷◌, Some, None, Ok, Err, map, ap, refl, subst, sym}
 use Rattle.std.specs.Prelude.{All, slice_get}
 use Rattle.std.specs.List.{AllZip, list_any}
 use Rattle.std.proofs.lemmas.List.Elements.{All-cons, All-nil}
+use Rattle.mrp_board.proofs.Tests.{no}
 use Rattle.mrp_item.specs.Inputs.{Inputs}
 use Rattle.mrp_item.specs.Places.{WholePlan}
 use Rattle.mrp_engine.specs.declared.day.fault.DayFault.{DayFault}
@@ -54,6 +55,24 @@ none-refused results is = by (list_any lacks_memory results) is
     by : (b : Bool) → cond b (Some NoMemory) (first_refused results) ≡ None → first_refused results ≡ None
     by true e = absurd (cc)
     by false e = e
+
+-- for want of memory if a run was refused it
+pub memory-first : (results : List RunResult) (fault : DayFault) → refusal_among results ≡ Some fault → list_any lacks_memory results ≡ true → fault ≡ NoMemory
+memory-first results fault is lacks = by (list_any lacks_memory results) is lacks
+  where
+    by : (b : Bool) → cond b (Some NoMemory) (first_refused results) ≡ Some fault → b ≡ true → fault ≡ NoMemory
+    by true e t =
+        let same : NoMemory ≡ fault = cc in
+        sym same
+    by false e t = no t
+
+-- a day without a reason has no run that was refused memory
+pub none-lacks : {X : Type 0} (results : List RunResult) → refusal_among results ≡ None → list_any lacks_memory results ≡ true → X
+none-lacks {X} results is lacks = by (list_any lacks_memory results) is lacks
+  where
+    by : (b : Bool) → cond b (Some NoMemory) (first_refused results) ≡ None → b ≡ true → X
+    by true e t = absurd (cc)
+    by false e t = no t
 
 -- results that are plans
 abbrev pub planned : List WholePlan → List RunResult

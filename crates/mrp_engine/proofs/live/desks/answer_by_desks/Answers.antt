@@ -22,4 +22,4 @@ returns g c =
     let h = c.in_ok-history.history.entries in
     let same : c.in_ok-rows.rows.value ≡ office.about.object = search rules in
     answered-day AnswersDesks c.args.shop.tables h c.merge.result (subst (λ (shop : Shop). AnswersDesks shop.tables h) c.in_ok-office.ensures.shop c.in_ok-history.ensures.answers)
-    (subst (λ (shop : Shop). PlansHistory shop.tables h c.merge.result) (same ∙ c.in_ok-office.ensures.shop) c.merge.ensures)
+    (subst (λ (shop : Shop). PlansHistory shop.tables h c.merge.result) (same ∙ c.in_ok-office.ensures.shop) c.merge.ensures.day)
