@@ -186,7 +186,7 @@ fn items_with_messages_stand_first_and_the_others_are_counted(rt: HostRuntime) {
         (201, "and 1 more item is not shown", "id=\"i-P200\""),
         (
             20_900,
-            "<h2>Work centres</h2>\n</section>\n<section class=item id=\"i-URGENT\">\n",
+            "</ul>\n</section>\n<section class=item id=\"i-URGENT\">\n",
             "Time-phased record of LAST",
         ),
         (20_900, "Time-phased record of URGENT", "id=\"i-P200\""),
