@@ -31,3 +31,4 @@ pub mod ShareOf
 pub mod Overloads
 pub mod PegLinks
 pub mod OutRows
+pub mod HotRows

@@ -10,11 +10,12 @@ use Rattle.std.proofs.lemmas.List.Elements.{All-append, All-cons, All-contains, 
 use Rattle.std.specs.List.{All, Contains, filter, find, flat_map, position_or_len}
 use Rattle.mrp_page.specs.Amounts.{amount}
 use Rattle.mrp_page.specs.ByWord.{by_word, with_word}
-use Rattle.mrp_page.specs.Centres.{all_loads, bars_html, centre_frame, centre_html, centres_back, each_centre, framed_centre, later_loads, load_section, loads_html, loads_table, over_listing, over_or_none, overload_html, picture_html, shares_html, times_html}
+use Rattle.mrp_page.specs.Centres.{all_loads, centre_html, centres_back, each_centre, framed_centre, later_loads, load_section, loads_html, loads_table, over_listing, over_or_none, overload_html, shares_html, times_html}
 use Rattle.mrp_page.specs.Draw.{all_weeks, amounts_html, balance_html, booked_html, framed_record, has_firm, has_item, has_none, history_html, is_plain, is_scheduled, item_name_html, item_tasks, later_record, link_html, measure_html, more_html, more_items, more_lists, more_rows, more_weeks, named_note, named_record, named_tasks, other_if, other_tasks, planned_html, points_html, promised_html, record_html, record_or_none, record_rows, record_table, supplies_html, table_html, task_html, task_if, task_table, tasks_html, tasks_with, weeks_html}
 use Rattle.mrp_page.specs.Escaped.{escaped}
 use Rattle.mrp_page.specs.Folded.{Listing, capped_html, folded_html, hidden_html, listed_html}
 use Rattle.mrp_page.specs.Frame.{count_row, frame, frame_of, heading, last_week}
+use Rattle.mrp_page.specs.Hot.{falling_over, first_share, hot_first, hot_html, hot_of, hot_row, hots_html, over_of_all, share_of_all, share_sign, share_words, worst_week}
 use Rattle.mrp_page.specs.Html.{flow_html, is_zero, number_html, number_tag}
 use Rattle.mrp_page.specs.ItemRows.{ItemLists, item_lists}
 use Rattle.std.proofs.lemmas.List.Sorted.{All-permutation}
@@ -24,13 +25,14 @@ use Rattle.mrp_page.specs.Sorted.{sorted_by}
 use Rattle.mrp_page.proofs.ByKey.{sorted-permutes}
 use Rattle.mrp_page.specs.Items.{count_html, index_html, index_line, is_wait, item_html, item_lists_html, items_html, late_html, message_count, need_html, orders_html, parent_of, peg_html, pegs_html, supplier_of, supply_html, wait_html, waits_html, waits_of}
 use Rattle.mrp_page.specs.Kinds.{Kind, cancel, earlier, falling_rank, in_order, kind_html, kind_listing, kind_part, kinds_html, late, later, messages_of, note_html, open_count, open_html, order_html, order_of, other, other_messages, other_part, release, state_of, task_line, todo_back, todo_html, value_rank}
-use Rattle.mrp_page.specs.Known.{IsMadeOf, IsPieceOf, count_texts, index_texts, item_texts, layouts, list_counts, listed_texts, load_texts, marks_of, open_texts, out_texts, outs_texts, own_counts, own_words, plain, row_lists, small_words, summary_counts}
+use Rattle.mrp_page.specs.Known.{IsMadeOf, IsPieceOf, centre_texts, count_texts, hot_texts, hots_texts, index_texts, item_texts, layouts, list_counts, listed_texts, load_texts, marks_of, open_texts, out_texts, outs_texts, own_counts, own_words, plain, row_lists, small_words, summary_counts}
 use Rattle.mrp_page.specs.Laws.{Entry, Escaped, Link, Markup, Order, piece_html}
-use Rattle.mrp_page.specs.Layout.{above_bar, above_end, available_label, balance_chart, balance_label, booked_label, cancel_front, cancel_open, capacity_label, centre_head, centre_open, centre_tile, centres_open, cut_bar, entry, firm_label, grid_end, gross_label, history_end, history_open, hot_bar, hot_end, in_front, in_open, index_count, index_end, index_open, item_head, item_tasks_end, item_tasks_open, items_end, items_open, late_front, late_open, later_open, link_end, lists_open, load_chart, load_end, load_label, low_bar, low_end, main_open, more, no_promises, no_record, none_out, none_over, none_refused, nothing_to_do, open_pieces, order, order_address, order_start, order_unknown, order_week, orders_open, other_cells, other_front, other_open, other_words, out_cells, out_first_open, out_front, out_open, outs_front, outs_note, over_back, over_front, over_label, over_line, over_open, page_end, page_head, page_top, peg_back, peg_booking, peg_front, peg_middle, peg_need, peg_parent, peg_supply, pegs_open, planned_label, point, points_end, record_head, refused_answer, refused_asked, refused_desk, refused_end, refused_front, refused_open, refused_row, release_front, release_open, rest_end, rest_open, row_end, scheduled_label, section_end, share_cell, share_label, starts_label, style, summary_open, summary_tile, table_end, task_head, task_middle, task_row, task_supply, task_words, to_week, todo_note, todo_open, wait_end, wait_late, wait_middle, wait_order, wait_supply, waits_open, week, weeks_end, weeks_late}
+use Rattle.mrp_page.specs.Layout.{above_bar, above_end, available_label, balance_chart, balance_label, booked_label, cancel_front, cancel_open, capacity_label, centre_head, centre_open, centre_tile, centres_open, cut_bar, entry, firm_label, grid_end, gross_label, history_end, history_open, hot_bar, hot_end, hot_open, hot_words, in_front, in_open, index_count, index_end, index_open, item_head, item_tasks_end, item_tasks_open, items_end, items_open, late_front, late_open, later_open, link_end, lists_open, load_chart, load_end, load_label, low_bar, low_end, main_open, more, no_promises, no_record, none_out, none_over, none_refused, nothing_to_do, open_pieces, order, order_address, order_start, order_unknown, order_week, orders_open, other_cells, other_front, other_open, other_words, out_cells, out_first_open, out_front, out_open, outs_front, outs_note, over_back, over_front, over_label, over_line, over_open, page_end, page_head, page_top, peg_back, peg_booking, peg_front, peg_middle, peg_need, peg_parent, peg_supply, pegs_open, planned_label, point, points_end, record_head, refused_answer, refused_asked, refused_desk, refused_end, refused_front, refused_open, refused_row, release_front, release_open, rest_end, rest_open, row_end, scheduled_label, section_end, share_cell, share_label, starts_label, style, summary_open, summary_tile, table_end, task_head, task_middle, task_row, task_supply, task_words, to_week, todo_note, todo_open, wait_end, wait_late, wait_middle, wait_order, wait_supply, waits_open, week, weeks_end, weeks_late}
 use Rattle.mrp_page.specs.Notes.{Noted}
 use Rattle.mrp_page.specs.Outs.{falling_late, first_planned, is_planned, lateness, left_in, out_line, out_row, outs_back, outs_first, outs_html, outs_section, short_weeks, sign}
 use Rattle.mrp_page.specs.Page.{head_html, is_told, items_of, middle_html, page_html, page_of, rest_html, scene_in, shown_items, told_first, top_html, untold_rows}
 use Rattle.mrp_page.specs.Orders.{is_numbered, is_order, linked_html, numbered, order_link, order_words, ordered}
+use Rattle.mrp_page.specs.Pictured.{bars_html, centre_frame, picture_html}
 use Rattle.mrp_page.specs.Refused.{answer_html, asked_of, call_html, caller_html, entry_link_html, entry_name_html, is_booking, refusals, refused_back, refused_lines, refused_listing, refused_or_none, refused_rows, refused_section}
 use Rattle.mrp_page.specs.Row.{Cells, RowView, cell_at, is_in, is_of}
 use Rattle.mrp_page.specs.Rows.{greatest, higher, leader_rows, leaders, rank, rows_in, rows_named, stretch}
@@ -38,7 +40,7 @@ use Rattle.mrp_page.specs.Scene.{SceneView}
 use Rattle.mrp_page.specs.Shares.{falling_share, is_whole, minutes_at, minutes_html, minutes_tag, overloads_first, share_cells, share_of, share_row, titled_tag, week_rank, whole}
 use Rattle.mrp_page.specs.Summary.{calls_tiles, centre_count, centres_tile, count_with, is_over, is_undone, kind_tile, kinds_tiles, overloads, place_or, summary_html, tile, tile_html}
 use Rattle.mrp_page.specs.Template.{Drawn, Mark, Number, Text, Where, flow_at, flows_html, has_word, number_at, numbers_html, part_html, row_html, rows_html}
-use Rattle.mrp_page.specs.declared.limits.TheConstants.{FEW_ROWS, MOST_ITEMS, MOST_LINES, SOME_ROWS, TABLE_WEEKS}
+use Rattle.mrp_page.specs.declared.limits.TheConstants.{FEW_ROWS, HOT_CENTRES, MOST_ITEMS, MOST_LINES, SOME_ROWS, TABLE_WEEKS}
 use Rattle.mrp_page.specs.declared.counts.Counts.{Counts}
 use Rattle.mrp_day.specs.declared.section.Section.{Section}
 use Rattle.mrp_day.specs.declared.section.Section.TheVariants as s
@@ -292,6 +294,10 @@ laid-outs_note = (53, omega arith, refl)
 laid-out_cells : Contains layouts out_cells
 unfolding layouts
 laid-out_cells = (54, omega arith, refl)
+
+laid-hot_words : Contains layouts hot_words
+unfolding layouts
+laid-hot_words = (55, omega arith, refl)
 
 own-style : Contains own_words style
 unfolding plain
@@ -604,6 +610,10 @@ own-none_out = own none_out 76 (omega arith) refl
 own-outs_front : Contains own_words outs_front
 unfolding plain
 own-outs_front = own outs_front 77 (omega arith) refl
+
+own-hot_open : Contains own_words hot_open
+unfolding plain
+own-hot_open = own hot_open 78 (omega arith) refl
 
 -- the markup of a kind of messages is the page's own
 record OfKind (kind : Kind) : Type 0 where
@@ -1268,16 +1278,81 @@ module _ (K L E : List ℕ → Type 0) (O : List ℕ → List ℕ → Type 0) (w
       All-permutation LoadKnown first (sorted_by week_rank first) (sorted-permutes week_rank first)
       (All-permutation LoadKnown over-of first (sorted-permutes falling_share over-of) (All-filter is_over LoadKnown ls all))
 
-  centres : (ls : List RowView) (missed : ℕ) → All LoadKnown ls → Counted (overloads_first ls) → K (decimal missed) → IsMadeOf K L E O (load_section ls missed)
+  first-known : (rs : List RowView) → All LoadKnown rs → (column : ℕ) → K (cell_at (first_share rs) column)
+  first-known [] all column = nothing
+  first-known (r ∷ rs) all column = share-known r (all 0 r (omega arith)) column
+
+  hot-is : (name : List ℕ) (rs : List RowView) → K name → All LoadKnown rs → All K (centre_texts rs) → (column : ℕ) → K (cell_at (hot_of name rs) column)
+  unfolding small_words
+  hot-is name rs known all texts =
+      let over-of : List RowView = overloads rs in
+      let worst : RowView = worst_week rs in
+      let of-worst : (column : ℕ) → K (cell_at worst column) = first-known (sorted_by falling_share over-of) (All-permutation LoadKnown over-of (sorted_by falling_share over-of) (sorted-permutes falling_share over-of) (All-filter is_over LoadKnown rs all)) in
+      let a : List ℕ = decimal (length over-of) in
+      let b : List ℕ = decimal (length rs) in
+      let digits : List ℕ = decimal (unwrap_or (share_of_all rs) 0) in
+      let says : List ℕ = share_words (share_of_all rs) digits in
+      let sign-of : List ℕ = share_sign (share_of_all rs) in
+      let e : List ℕ = decimal (over_of_all rs) in
+      let x : List ℕ = cell_at worst 1 in
+      let y : List ℕ = cell_at worst 2 in
+      let z : List ℕ = cell_at worst 3 in
+      knows s.Run (name ∷ a ∷ b ∷ x ∷ y ∷ z ∷ says ∷ sign-of ∷ e ∷ [])
+      (All-cons K name (a ∷ b ∷ x ∷ y ∷ z ∷ says ∷ sign-of ∷ e ∷ []) known
+      (All-cons K a (b ∷ x ∷ y ∷ z ∷ says ∷ sign-of ∷ e ∷ []) (texts 0 [] (omega arith))
+      (All-cons K b (x ∷ y ∷ z ∷ says ∷ sign-of ∷ e ∷ []) (texts 1 [] (omega arith))
+      (All-cons K x (y ∷ z ∷ says ∷ sign-of ∷ e ∷ []) (of-worst 1)
+      (All-cons K y (z ∷ says ∷ sign-of ∷ e ∷ []) (of-worst 2)
+      (All-cons K z (says ∷ sign-of ∷ e ∷ []) (of-worst 3)
+      (All-cons K says (sign-of ∷ e ∷ []) (words-in (share_of_all rs) digits (texts 2 [] (omega arith)))
+      (All-cons K sign-of (e ∷ []) (sign-in (share_of_all rs))
+      (All-cons K e [] (texts 3 [] (omega arith)) (All-nil K))))))))))
+    where
+      words-in : (o : Option ℕ) (digits : List ℕ) → K digits → K (share_words o digits)
+      words-in None digits of = small (codes "no capacity") 40 (omega arith) refl
+      words-in (Some percent) digits of = of
+
+      sign-in : (o : Option ℕ) → K (share_sign o)
+      sign-in None = nothing
+      sign-in (Some percent) = small (codes " %") 41 (omega arith) refl
+
+  hots-of : (ls rs : List RowView) → All LoadKnown ls → All LoadKnown rs → All (λ (r : RowView). All K (hot_texts ls r)) rs → All (λ (r : RowView). (column : ℕ) → K (cell_at r column)) (map (hot_row ls) rs)
+  hots-of ls rs all leads texts = All-map (λ (r : RowView). (column : ℕ) → K (cell_at r column)) (hot_row ls) rs
+      (λ k d within.
+          let name : List ℕ = cell_at (get_or rs k d) 0 in
+          hot-is name (rows_named name ls) ((leads k d within).cells-of 0) (all-named LoadKnown name ls all) (texts k d within))
+
+  hot : (ls : List RowView) (h : RowView) → All LoadKnown ls → ((column : ℕ) → K (cell_at h column)) → IsMadeOf K L E O (hot_html ls h)
+  unfolding hot_html
+  hot ls h all known =
+      let name : List ℕ = cell_at h 0 in
+      let of : List RowView = rows_named name ls in
+      let of-known : All LoadKnown of = all-named LoadKnown name ls all in
+      join (row_html hot_words h) (picture_html (centre_frame name of) (map share_row of)) (row hot_words h laid-hot_words known) (picture (centre_frame name of) (map share_row of) (centre-frame name of (known 0) of-known) (shares-known of of-known))
+
+  hots : (ls hs : List RowView) → All LoadKnown ls → All (λ (r : RowView). (column : ℕ) → K (cell_at r column)) hs → IsMadeOf K L E O (hots_html ls hs)
+  unfolding hots_html
+  hots ls hs all known =
+      let first : List RowView = take HOT_CENTRES hs in
+      let lines : List ℕ = flat_map (hot_html ls) first in
+      either (has_none hs) [] (hot_open ++ lines) none (join hot_open lines (mark hot_open own-hot_open) (each (λ (r : RowView). (column : ℕ) → K (cell_at r column)) (hot_html ls) (λ h of. hot ls h all of) first (All-take (λ (r : RowView). (column : ℕ) → K (cell_at r column)) HOT_CENTRES hs known)))
+
+  centres : (ls : List RowView) (missed : ℕ) → All LoadKnown ls → All (λ (r : RowView). All K (hot_texts ls r)) (leaders [] (overloads ls)) → Counted (overloads_first ls) → K (decimal missed) → IsMadeOf K L E O (load_section ls missed)
   unfolding load_section centres_back small_words
-  centres ls missed all counts known =
+  centres ls missed all texts counts known =
+      let leads : List RowView = leaders [] (overloads ls) in
+      let of-leads : All LoadKnown leads = all-leaders LoadKnown [] (overloads ls) (All-filter is_over LoadKnown ls all) in
+      let rows-of : List RowView = map (hot_row ls) leads in
+      let of-hots : All (λ (r : RowView). (column : ℕ) → K (cell_at r column)) (hot_first ls) = All-permutation (λ (r : RowView). (column : ℕ) → K (cell_at r column)) rows-of (sorted_by falling_over rows-of) (sorted-permutes falling_over rows-of) (hots-of ls leads all of-leads texts) in
+      let hot-of : List ℕ = hots_html ls (hot_first ls) in
       let over-of : List ℕ = over_or_none missed (overloads_first ls) in
       let each-of : List ℕ = each_centre ls (leaders [] ls) in
       let past : List ℕ = more_html missed (codes "week of a work centre is") (codes "weeks of work centres are") in
-      join centres_open (over-of ++ (each-of ++ (past ++ section_end))) (mark centres_open own-centres_open)
+      join centres_open (hot-of ++ (over-of ++ (each-of ++ (past ++ section_end)))) (mark centres_open own-centres_open)
+      (join hot-of (over-of ++ (each-of ++ (past ++ section_end))) (hots ls (hot_first ls) all of-hots)
       (join over-of (each-of ++ (past ++ section_end)) (over-or-none missed (overloads_first ls) (over-known ls all) counts)
       (join each-of (past ++ section_end) (each-centre ls (leaders [] ls) all (all-leaders LoadKnown [] ls all))
-      (join past section_end (further missed (codes "week of a work centre is") (codes "weeks of work centres are") known (small (codes "week of a work centre is") 5 (omega arith) refl) (small (codes "weeks of work centres are") 6 (omega arith) refl)) (mark section_end own-section_end))))
+      (join past section_end (further missed (codes "week of a work centre is") (codes "weeks of work centres are") known (small (codes "week of a work centre is") 5 (omega arith) refl) (small (codes "weeks of work centres are") 6 (omega arith) refl)) (mark section_end own-section_end)))))
 
   supplies : (scheduled : Bool) (plan : List RowView) → All (λ (r : RowView). (column : ℕ) → K (cell_at r column)) plan → IsMadeOf K L E O (supplies_html scheduled plan)
   unfolding supplies_html
@@ -1525,7 +1600,7 @@ module _ (K L E : List ℕ → Type 0) (O : List ℕ → List ℕ → Type 0) (w
 
   counted-list : (notes : Noted) → All K (count_texts notes) → (rs : List RowView) → Contains (row_lists notes) rs → Counted rs
   counted-list notes counts rs has =
-      let one : (t : List ℕ) → Contains (list_counts rs) t → K t = λ t is. All-contains K (count_texts notes) t counts (Contains-append_right (own_counts notes) (listed_texts notes) t (Contains-append_left (flat_map list_counts (row_lists notes)) (flat_map load_texts (rows_in s.Loads notes.report) ++ item_texts notes) t (contains-flat list_counts (row_lists notes) rs t has.0 has.1 has.2 is))) in
+      let one : (t : List ℕ) → Contains (list_counts rs) t → K t = λ t is. All-contains K (count_texts notes) t counts (Contains-append_right (own_counts notes) (listed_texts notes) t (Contains-append_left (flat_map list_counts (row_lists notes)) (flat_map load_texts (rows_in s.Loads notes.report) ++ (item_texts notes ++ hots_texts notes)) t (contains-flat list_counts (row_lists notes) rs t has.0 has.1 has.2 is))) in
       record {
         all-of = one (decimal (length rs)) (0, omega arith, refl);
         rest-of = one (decimal (length (drop SOME_ROWS (take MOST_LINES rs)))) (1, omega arith, refl);
@@ -1540,15 +1615,28 @@ module _ (K L E : List ℕ → Type 0) (O : List ℕ → List ℕ → Type 0) (w
       record {
         cells-of = all k d within;
         drawn-of = λ i t inside. All-contains K (count_texts notes) (get_or (load_texts r) i t) counts
-            (Contains-append_right (own_counts notes) (listed_texts notes) (get_or (load_texts r) i t) (Contains-append_right (flat_map list_counts (row_lists notes)) (flat_map load_texts loaded ++ item_texts notes) (get_or (load_texts r) i t)
-            (Contains-append_left (flat_map load_texts loaded) (item_texts notes) (get_or (load_texts r) i t) (contains-flat load_texts loaded r (get_or (load_texts r) i t) has.0 has.1 has.2 (All-contains_itself (load_texts r) i t inside)))));
+            (Contains-append_right (own_counts notes) (listed_texts notes) (get_or (load_texts r) i t) (Contains-append_right (flat_map list_counts (row_lists notes)) (flat_map load_texts loaded ++ (item_texts notes ++ hots_texts notes)) (get_or (load_texts r) i t)
+            (Contains-append_left (flat_map load_texts loaded) (item_texts notes ++ hots_texts notes) (get_or (load_texts r) i t) (contains-flat load_texts loaded r (get_or (load_texts r) i t) has.0 has.1 has.2 (All-contains_itself (load_texts r) i t inside)))));
       }
+
+  -- the numbers of work centres that are over their capacity are known
+  hots-known : (notes : Noted) → All K (count_texts notes) → All (λ (r : RowView). All K (hot_texts (rows_in s.Loads notes.report) r)) (leaders [] (overloads (rows_in s.Loads notes.report)))
+  hots-known notes counts = λ k d within i e inside.
+      let loaded : List RowView = rows_in s.Loads notes.report in
+      let texts : List (List ℕ) = flat_map load_texts loaded in
+      let leads : List RowView = leaders [] (overloads loaded) in
+      let r : RowView = get_or leads k d in
+      let t : List ℕ = get_or (hot_texts loaded r) i e in
+      let has : Contains leads r = All-contains_itself leads k d within in
+      All-contains K (count_texts notes) t counts (Contains-append_right (own_counts notes) (listed_texts notes) t (Contains-append_right (flat_map list_counts (row_lists notes)) (texts ++ (item_texts notes ++ hots_texts notes)) t
+      (Contains-append_right texts (item_texts notes ++ hots_texts notes) t (Contains-append_right (item_texts notes) (hots_texts notes) t (contains-flat (hot_texts loaded) leads r t has.0 has.1 has.2 (All-contains_itself (hot_texts loaded r) i e inside))))))
 
   -- the texts of items are known
   item-text : (notes : Noted) → All K (count_texts notes) → (t : List ℕ) → Contains (item_texts notes) t → K t
   item-text notes counts t has =
       let loaded : List (List ℕ) = flat_map load_texts (rows_in s.Loads notes.report) in
-      All-contains K (count_texts notes) t counts (Contains-append_right (own_counts notes) (listed_texts notes) t (Contains-append_right (flat_map list_counts (row_lists notes)) (loaded ++ item_texts notes) t (Contains-append_right loaded (item_texts notes) t has)))
+      All-contains K (count_texts notes) t counts (Contains-append_right (own_counts notes) (listed_texts notes) t (Contains-append_right (flat_map list_counts (row_lists notes)) (loaded ++ (item_texts notes ++ hots_texts notes)) t
+      (Contains-append_right loaded (item_texts notes ++ hots_texts notes) t (Contains-append_left (item_texts notes) (hots_texts notes) t has))))
 
   messages-known : (notes : Noted) → All K (count_texts notes) → All (λ (r : RowView). (column : ℕ) → K (cell_at r column)) (rows_in s.Messages notes.report) → All (MessageKnown (scene_in notes)) (rows_in s.Messages notes.report)
   messages-known notes counts all = λ k d within.
@@ -1690,7 +1778,7 @@ module _ (K L E : List ℕ → Type 0) (O : List ℕ → List ℕ → Type 0) (w
       (todo scene seen lists.messages notes.counts.messages (messages-known notes counts of-lists.messages) of-messages (count 0 (omega arith)))
       (join centred (item-parts ++ (past ++ page_end))
       (join run-outs centred-of (run-out notes seen of-lists.plan counts notes.counts.plan (outs-text notes counts 0 [] (omega arith)))
-      (centres loaded notes.counts.loads of-loaded (of-list (overloads_first loaded) (0, omega arith, refl)) (count 1 (omega arith))))
+      (centres loaded notes.counts.loads of-loaded (hots-known notes counts) (of-list (overloads_first loaded) (0, omega arith, refl)) (count 1 (omega arith))))
       (join item-parts (past ++ page_end)
       (join indexed (each-item ++ more_items (unshown lists shown notes.counts) shown) (index lists.messages shown (index-known notes counts led))
       (join each-item (more_items (unshown lists shown notes.counts) shown) (items scene seen lists notes.counts.promises shown of-lists of-shown led)

@@ -3,32 +3,18 @@ use Rattle.std.specs.Prelude.{ℕ, List, [], ◌++◌, ◌==◌, ◌&&◌, codes
 use Rattle.mrp_page.specs.declared.limits.TheConstants.{SOME_ROWS, TABLE_WEEKS}
 use Rattle.mrp_page.specs.Draw.{has_none, more_html, table_html, weeks_html}
 use Rattle.mrp_page.specs.Folded.{Listing, capped_html}
-use Rattle.mrp_page.specs.Frame.{count_row, frame}
-use Rattle.mrp_page.specs.Layout.{above_bar, above_end, capacity_label, centre_head, centre_open, centres_open, cut_bar, grid_end, hot_bar, hot_end, later_open, load_chart, load_end, load_label, low_bar, low_end, none_over, over_back, over_front, over_label, over_line, over_open, rest_end, section_end, share_cell, share_label}
+use Rattle.mrp_page.specs.Frame.{count_row}
+use Rattle.mrp_page.specs.Layout.{capacity_label, centre_head, centre_open, centres_open, grid_end, later_open, load_label, none_over, over_back, over_front, over_label, over_line, over_open, rest_end, section_end, share_cell, share_label}
+use Rattle.mrp_page.specs.Hot.{hot_first, hots_html}
+use Rattle.mrp_page.specs.Pictured.{centre_frame, picture_html}
 use Rattle.mrp_page.specs.Row.{RowView, cell_at}
-use Rattle.mrp_page.specs.Rows.{greatest, leaders, rows_named}
+use Rattle.mrp_page.specs.Rows.{leaders, rows_named}
 use Rattle.mrp_page.specs.Shares.{minutes_at, overloads_first, share_row}
-use Rattle.mrp_page.specs.Template.{row_html, rows_html}
+use Rattle.mrp_page.specs.Template.{row_html}
 
 -- a row of a table over the weeks: the minutes of a column
 unfoldable pub times_html : List ℕ → ℕ → List RowView → List ℕ
 times_html label column rows = label ++ (flat_map (minutes_at column) rows ++ codes "</tr>\n")
-
--- the bars of the picture of loads: up to the capacity, to there where there is more, what is above, and a mark where that is
--- cut
-unfoldable pub bars_html : List RowView → List ℕ
-bars_html shares =
-    table_html [] low_bar shares low_end
-    ++ (table_html [] hot_bar shares hot_end
-    ++ (table_html [] above_bar shares above_end
-    ++ rows_html cut_bar shares))
-
--- the picture of a work centre's loads, from its frame and its shares
-unfoldable pub picture_html : RowView → List RowView → List ℕ
-picture_html frame shares =
-    row_html load_chart frame
-    ++ (bars_html shares
-    ++ row_html load_end frame)
 
 -- the shares of a table
 unfoldable pub shares_html : List RowView → List ℕ
@@ -67,10 +53,6 @@ framed_centre frame rows =
     ++ (all_loads frame rows
     ++ section_end))
 
--- the frame of a work centre: its name and its last week
-abbrev pub centre_frame : List ℕ → List RowView → RowView
-centre_frame name rows = frame name (greatest 1 (codes "1") rows) []
-
 -- a work centre, by a row of it
 unfoldable pub centre_html : List RowView → RowView → List ℕ
 centre_html loads leader =
@@ -103,6 +85,7 @@ centres_back missed =
 unfoldable pub load_section : List RowView → ℕ → List ℕ
 load_section loads missed =
     centres_open
+    ++ (hots_html loads (hot_first loads)
     ++ (over_or_none missed (overloads_first loads)
     ++ (each_centre loads (leaders [] loads)
-    ++ centres_back missed))
+    ++ centres_back missed)))

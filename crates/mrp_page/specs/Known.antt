@@ -1,17 +1,18 @@
 -- What pages consist of: fixed markup, and texts that are known.
-use Rattle.std.specs.Prelude.{ℕ, ◌≡◌, ◌⊎◌, ◌-◌, List, [], ◌∷◌, ◌++◌, codes, count_by, decimal, drop, flat_map, length, map, take}
+use Rattle.std.specs.Prelude.{ℕ, ◌≡◌, ◌⊎◌, ◌-◌, List, [], ◌∷◌, ◌++◌, codes, count_by, decimal, drop, flat_map, length, map, take, unwrap_or}
 use Rattle.std.specs.List.{All, Contains}
+use Rattle.mrp_page.specs.Hot.{over_of_all, share_of_all}
 use Rattle.mrp_page.specs.ItemRows.{item_lists}
 use Rattle.mrp_page.specs.Items.{message_count}
 use Rattle.mrp_page.specs.Kinds.{kinds, messages_of, open_count, other_messages}
 use Rattle.mrp_page.specs.Laws.{Entry, Escaped, Link, Markup, Order, Piece, piece_html}
-use Rattle.mrp_page.specs.Layout.{above_bar, above_end, available_label, balance_chart, balance_label, booked_label, cancel_front, cancel_open, capacity_label, centre_head, centre_open, centre_tile, centres_open, cut_bar, entry, firm_label, grid_end, gross_label, history_end, history_open, hot_bar, hot_end, in_front, in_open, index_count, index_end, index_open, item_head, item_tasks_end, item_tasks_open, items_end, items_open, late_front, late_open, later_open, link_end, lists_open, load_chart, load_end, load_label, low_bar, low_end, main_open, more, no_promises, no_record, none_out, none_over, none_refused, nothing_to_do, open_pieces, order, order_address, order_start, order_unknown, order_week, orders_open, other_cells, other_front, other_open, other_words, out_cells, out_first_open, out_front, out_open, outs_front, outs_note, over_back, over_front, over_label, over_line, over_open, page_end, page_head, page_top, peg_back, peg_booking, peg_front, peg_middle, peg_need, peg_parent, peg_supply, pegs_open, planned_label, point, points_end, record_head, refused_answer, refused_asked, refused_desk, refused_end, refused_front, refused_open, refused_row, release_front, release_open, rest_end, rest_open, row_end, scheduled_label, section_end, share_cell, share_label, starts_label, style, summary_open, summary_tile, table_end, task_head, task_middle, task_row, task_supply, task_words, to_week, todo_note, todo_open, wait_end, wait_late, wait_middle, wait_order, wait_supply, waits_open, week, weeks_end, weeks_late}
+use Rattle.mrp_page.specs.Layout.{above_bar, above_end, available_label, balance_chart, balance_label, booked_label, cancel_front, cancel_open, capacity_label, centre_head, centre_open, centre_tile, centres_open, cut_bar, entry, firm_label, grid_end, gross_label, history_end, history_open, hot_bar, hot_end, hot_open, hot_words, in_front, in_open, index_count, index_end, index_open, item_head, item_tasks_end, item_tasks_open, items_end, items_open, late_front, late_open, later_open, link_end, lists_open, load_chart, load_end, load_label, low_bar, low_end, main_open, more, no_promises, no_record, none_out, none_over, none_refused, nothing_to_do, open_pieces, order, order_address, order_start, order_unknown, order_week, orders_open, other_cells, other_front, other_open, other_words, out_cells, out_first_open, out_front, out_open, outs_front, outs_note, over_back, over_front, over_label, over_line, over_open, page_end, page_head, page_top, peg_back, peg_booking, peg_front, peg_middle, peg_need, peg_parent, peg_supply, pegs_open, planned_label, point, points_end, record_head, refused_answer, refused_asked, refused_desk, refused_end, refused_front, refused_open, refused_row, release_front, release_open, rest_end, rest_open, row_end, scheduled_label, section_end, share_cell, share_label, starts_label, style, summary_open, summary_tile, table_end, task_head, task_middle, task_row, task_supply, task_words, to_week, todo_note, todo_open, wait_end, wait_late, wait_middle, wait_order, wait_supply, waits_open, week, weeks_end, weeks_late}
 use Rattle.mrp_page.specs.Notes.{Noted}
 use Rattle.mrp_page.specs.Outs.{left_in, outs_first, short_weeks}
 use Rattle.mrp_page.specs.Page.{scene_in, shown_items}
 use Rattle.mrp_page.specs.Refused.{refused_rows}
 use Rattle.mrp_page.specs.Row.{Cells, RowView, cell_at}
-use Rattle.mrp_page.specs.Rows.{rows_in, rows_named}
+use Rattle.mrp_page.specs.Rows.{leaders, rows_in, rows_named}
 use Rattle.mrp_page.specs.Scene.{SceneView}
 use Rattle.mrp_page.specs.Shares.{overloads_first, share_cells, share_of, whole}
 use Rattle.mrp_page.specs.Summary.{centre_count, count_with, is_undone, overloads}
@@ -23,11 +24,11 @@ use Rattle.mrp_day.specs.declared.section.Section.TheVariants as s
 
 -- the markup that rows are drawn with
 unfoldable pub layouts : List (List Drawn)
-layouts = page_top ∷ page_head ∷ task_head ∷ task_words ∷ week ∷ entry ∷ order ∷ centre_head ∷ load_chart ∷ item_head ∷ record_head ∷ balance_chart ∷ point ∷ more ∷ other_words ∷ rest_open ∷ refused_answer ∷ refused_asked ∷ refused_desk ∷ task_supply ∷ order_start ∷ order_week ∷ weeks_late ∷ to_week ∷ row_end ∷ other_cells ∷ late_open ∷ release_open ∷ in_open ∷ out_open ∷ cancel_open ∷ other_open ∷ summary_tile ∷ centre_tile ∷ centre_open ∷ low_bar ∷ hot_bar ∷ above_bar ∷ cut_bar ∷ share_cell ∷ over_open ∷ over_line ∷ load_end ∷ open_pieces ∷ index_count ∷ peg_supply ∷ peg_middle ∷ peg_parent ∷ peg_need ∷ peg_back ∷ wait_order ∷ wait_middle ∷ wait_late ∷ outs_note ∷ out_cells ∷ []
+layouts = page_top ∷ page_head ∷ task_head ∷ task_words ∷ week ∷ entry ∷ order ∷ centre_head ∷ load_chart ∷ item_head ∷ record_head ∷ balance_chart ∷ point ∷ more ∷ other_words ∷ rest_open ∷ refused_answer ∷ refused_asked ∷ refused_desk ∷ task_supply ∷ order_start ∷ order_week ∷ weeks_late ∷ to_week ∷ row_end ∷ other_cells ∷ late_open ∷ release_open ∷ in_open ∷ out_open ∷ cancel_open ∷ other_open ∷ summary_tile ∷ centre_tile ∷ centre_open ∷ low_bar ∷ hot_bar ∷ above_bar ∷ cut_bar ∷ share_cell ∷ over_open ∷ over_line ∷ load_end ∷ open_pieces ∷ index_count ∷ peg_supply ∷ peg_middle ∷ peg_parent ∷ peg_need ∷ peg_back ∷ wait_order ∷ wait_middle ∷ wait_late ∷ outs_note ∷ out_cells ∷ hot_words ∷ []
 
 -- markup that stands between rows
 unfoldable pub plain : List (List ℕ)
-plain = style ∷ todo_open ∷ nothing_to_do ∷ item_tasks_open ∷ item_tasks_end ∷ weeks_end ∷ points_end ∷ load_label ∷ capacity_label ∷ over_label ∷ grid_end ∷ centres_open ∷ section_end ∷ scheduled_label ∷ firm_label ∷ booked_label ∷ available_label ∷ gross_label ∷ planned_label ∷ starts_label ∷ balance_label ∷ orders_open ∷ pegs_open ∷ no_record ∷ history_open ∷ history_end ∷ page_end ∷ [] ∷ codes "<td>" ∷ codes "<td class=z>" ∷ codes "</td>" ∷ codes "</tr>\n" ∷ no_promises ∷ table_end ∷ rest_end ∷ refused_open ∷ none_refused ∷ refused_front ∷ refused_row ∷ refused_end ∷ todo_note ∷ task_row ∷ order_unknown ∷ late_front ∷ release_front ∷ in_front ∷ out_front ∷ cancel_front ∷ other_front ∷ summary_open ∷ main_open ∷ low_end ∷ hot_end ∷ above_end ∷ share_label ∷ later_open ∷ none_over ∷ over_front ∷ over_back ∷ codes "<td></td>" ∷ codes "<td title=\"" ∷ codes "\">" ∷ order_address ∷ task_middle ∷ items_open ∷ items_end ∷ index_open ∷ index_end ∷ lists_open ∷ waits_open ∷ peg_front ∷ peg_booking ∷ wait_supply ∷ wait_end ∷ link_end ∷ out_first_open ∷ none_out ∷ outs_front ∷ []
+plain = style ∷ todo_open ∷ nothing_to_do ∷ item_tasks_open ∷ item_tasks_end ∷ weeks_end ∷ points_end ∷ load_label ∷ capacity_label ∷ over_label ∷ grid_end ∷ centres_open ∷ section_end ∷ scheduled_label ∷ firm_label ∷ booked_label ∷ available_label ∷ gross_label ∷ planned_label ∷ starts_label ∷ balance_label ∷ orders_open ∷ pegs_open ∷ no_record ∷ history_open ∷ history_end ∷ page_end ∷ [] ∷ codes "<td>" ∷ codes "<td class=z>" ∷ codes "</td>" ∷ codes "</tr>\n" ∷ no_promises ∷ table_end ∷ rest_end ∷ refused_open ∷ none_refused ∷ refused_front ∷ refused_row ∷ refused_end ∷ todo_note ∷ task_row ∷ order_unknown ∷ late_front ∷ release_front ∷ in_front ∷ out_front ∷ cancel_front ∷ other_front ∷ summary_open ∷ main_open ∷ low_end ∷ hot_end ∷ above_end ∷ share_label ∷ later_open ∷ none_over ∷ over_front ∷ over_back ∷ codes "<td></td>" ∷ codes "<td title=\"" ∷ codes "\">" ∷ order_address ∷ task_middle ∷ items_open ∷ items_end ∷ index_open ∷ index_end ∷ lists_open ∷ waits_open ∷ peg_front ∷ peg_booking ∷ wait_supply ∷ wait_end ∷ link_end ∷ out_first_open ∷ none_out ∷ outs_front ∷ hot_open ∷ []
 
 -- the markup of a part
 abbrev pub marks_of : Drawn → List (List ℕ)
@@ -125,8 +126,18 @@ item_texts notes =
     ++ (flat_map (index_texts (rows_in s.Messages notes.report)) (shown_items (item_lists notes.report))
     ++ outs_texts notes)
 
+-- the numbers of a work centre that is over its capacity
+abbrev pub centre_texts : List RowView → List (List ℕ)
+centre_texts rows = decimal (length (overloads rows)) ∷ decimal (length rows) ∷ decimal (unwrap_or (share_of_all rows) 0) ∷ decimal (over_of_all rows) ∷ []
+
+abbrev pub hot_texts : List RowView → RowView → List (List ℕ)
+hot_texts loads leader = centre_texts (rows_named (cell_at leader 0) loads)
+
+abbrev pub hots_texts : Noted → List (List ℕ)
+hots_texts notes = flat_map (hot_texts (rows_in s.Loads notes.report)) (leaders [] (overloads (rows_in s.Loads notes.report)))
+
 abbrev pub listed_texts : Noted → List (List ℕ)
-listed_texts notes = flat_map list_counts (row_lists notes) ++ (flat_map load_texts (rows_in s.Loads notes.report) ++ item_texts notes)
+listed_texts notes = flat_map list_counts (row_lists notes) ++ (flat_map load_texts (rows_in s.Loads notes.report) ++ (item_texts notes ++ hots_texts notes))
 
 -- those, the counts of each list, the texts of work centres, the pieces of open orders, the counts of the index and what is left of items
 abbrev pub count_texts : Noted → List (List ℕ)
@@ -135,7 +146,7 @@ count_texts notes = own_counts notes ++ listed_texts notes
 -- texts of a page that come from no row: those of a table without rows, the words for what is counted, and that of a fold
 -- which stands open
 unfoldable pub small_words : List (List ℕ)
-small_words = [] ∷ codes "0" ∷ codes "1" ∷ codes "message, perhaps an urgent one, is" ∷ codes "messages, urgent ones perhaps among them, are" ∷ codes "week of a work centre is" ∷ codes "weeks of work centres are" ∷ codes "item is" ∷ codes "items are" ∷ codes "week of a record is" ∷ codes "weeks of records are" ∷ codes "week of promises is" ∷ codes "weeks of promises are" ∷ codes "order is" ∷ codes "orders are" ∷ codes "peg is" ∷ codes "pegs are" ∷ codes "entry is" ∷ codes "entries are" ∷ codes "1.000" ∷ codes "entry of the history is" ∷ codes "entries of the history are" ∷ codes "is" ∷ codes "are" ∷ codes "open" ∷ codes "none" ∷ codes "late" ∷ codes "unkept" ∷ codes "not promised" ∷ codes "cancel" ∷ codes "not cancelled" ∷ codes "todo" ∷ codes "release" ∷ codes "in" ∷ codes "out" ∷ codes "past due" ∷ codes "reschedule in" ∷ codes "reschedule out" ∷ codes "centres" ∷ codes "-" ∷ []
+small_words = [] ∷ codes "0" ∷ codes "1" ∷ codes "message, perhaps an urgent one, is" ∷ codes "messages, urgent ones perhaps among them, are" ∷ codes "week of a work centre is" ∷ codes "weeks of work centres are" ∷ codes "item is" ∷ codes "items are" ∷ codes "week of a record is" ∷ codes "weeks of records are" ∷ codes "week of promises is" ∷ codes "weeks of promises are" ∷ codes "order is" ∷ codes "orders are" ∷ codes "peg is" ∷ codes "pegs are" ∷ codes "entry is" ∷ codes "entries are" ∷ codes "1.000" ∷ codes "entry of the history is" ∷ codes "entries of the history are" ∷ codes "is" ∷ codes "are" ∷ codes "open" ∷ codes "none" ∷ codes "late" ∷ codes "unkept" ∷ codes "not promised" ∷ codes "cancel" ∷ codes "not cancelled" ∷ codes "todo" ∷ codes "release" ∷ codes "in" ∷ codes "out" ∷ codes "past due" ∷ codes "reschedule in" ∷ codes "reschedule out" ∷ codes "centres" ∷ codes "-" ∷ codes "no capacity" ∷ codes " %" ∷ []
 
 -- a text is the title, a cell of a record, a count, a number of a work centre, or one of those words
 abbrev pub IsKnown : List ℕ → List Cells → Noted → List ℕ → Type 0

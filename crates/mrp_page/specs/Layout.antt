@@ -815,3 +815,28 @@ order =
     Number 6 ∷
     Number 7 ∷
     Mark (codes "</tr>\n") ∷ []
+
+-- what stands above the most overloaded work centres
+unfoldable pub hot_open : List ℕ
+hot_open = codes "<h3>Most overloaded</h3>\n"
+
+-- a work centre that is over its capacity
+unfoldable pub hot_words : List Drawn
+hot_words =
+    Mark (codes "<p><a href=\"#c-") ∷
+    Text 0 ∷
+    Mark (codes "\">") ∷
+    Text 0 ∷
+    Mark (codes "</a>: over in ") ∷
+    Text 1 ∷
+    Mark (codes " of ") ∷
+    Text 2 ∷
+    Mark (codes " weeks, at most <b class=bad>") ∷
+    Text 4 ∷
+    Text 5 ∷
+    Mark (codes "</b>, in week ") ∷
+    Text 3 ∷
+    Mark (codes "; ") ∷
+    Text 6 ∷
+    Text 7 ∷
+    Mark (codes " over all weeks</p>\n") ∷ []

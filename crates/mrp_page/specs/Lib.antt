@@ -8,6 +8,7 @@ pub mod Draw
 pub mod Escaped
 pub mod Folded
 pub mod Frame
+pub mod Hot
 pub mod Html
 pub mod ItemRows
 pub mod Items
@@ -21,6 +22,7 @@ pub mod Notes
 pub mod Orders
 pub mod Outs
 pub mod Page
+pub mod Pictured
 pub mod Pictures
 pub mod Places
 pub mod Reading

@@ -1,24 +1,25 @@
 //! The section of the work centres.
 
 ghost use Rattle.std.specs.Prelude.{◌≡◌, ◌++◌, IfOk, OnOk, flat_map, map};
-ghost use Rattle.mrp_page.specs.Centres.{all_loads, bars_html, centre_frame, centre_html, centres_back, each_centre, framed_centre, later_loads, load_section, loads_html, loads_table, over_or_none, picture_html, shares_html, times_html};
+ghost use Rattle.mrp_page.specs.Centres.{all_loads, centre_html, centres_back, each_centre, framed_centre, later_loads, load_section, loads_html, loads_table, over_or_none, shares_html, times_html};
 ghost use Rattle.mrp_page.specs.Shares.{minutes_at};
 
 use crate::draw::{cut_weeks, put_more, put_table, put_weeks};
 use crate::folded::{Lines, put_capped};
-use crate::frame::{count_row, frame};
+use crate::frame::count_row;
 use crate::html::Html;
 use crate::layout::{
-    above_bar, above_end, capacity_label, centre_head, centre_open, centres_open, cut_bar,
-    grid_end, hot_bar, hot_end, later_open, load_chart, load_end, load_label, low_bar, low_end,
+    capacity_label, centre_head, centre_open, centres_open, grid_end, later_open, load_label,
     none_over, over_back, over_front, over_label, over_line, over_open, rest_end, section_end,
     share_cell, share_label,
 };
+use crate::hot::{hot_first, hot_rows, put_hots};
 use crate::limits::SOME_ROWS;
+use crate::pictured::{centre_frame, put_picture};
 use crate::row::Row;
-use crate::rows::{greatest, leaders, rows_named};
+use crate::rows::{leaders, rows_named};
 use crate::shares::{overloads_first, put_minutes, share_row, share_rows};
-use crate::template::{put_row, put_rows};
+use crate::template::put_row;
 use mrp_qty::NoMemory;
 use std::alloc::Global;
 
@@ -40,27 +41,6 @@ fn put_times(page: &mut Html, label: &[u8], column: usize, rows: &[Row]) -> Resu
     page.markup(label)?;
     put_each_time(page, column, rows)?;
     page.markup(b"</tr>\n")
-}
-
-// Adds the bars of the picture of loads.
-#[tactic(auto, unfolding(crate::specs::Centres::bars_html))]
-fn put_bars(page: &mut Html, shares: &[Row]) -> Result<(), NoMemory>
-    ensures { OnOk result (page.new ≡ page.old ++ bars_html shares.now) }
-{
-    put_table(page, b"", low_bar(), shares, low_end())?;
-    put_table(page, b"", hot_bar(), shares, hot_end())?;
-    put_table(page, b"", above_bar(), shares, above_end())?;
-    put_rows(page, cut_bar(), shares)
-}
-
-// Adds the picture of a work centre's loads.
-#[tactic(auto, unfolding(crate::specs::Centres::picture_html))]
-fn put_picture(page: &mut Html, frame: &Row, shares: &[Row]) -> Result<(), NoMemory>
-    ensures { OnOk result (page.new ≡ page.old ++ picture_html frame.now shares.now) }
-{
-    put_row(page, load_chart(), frame)?;
-    put_bars(page, shares)?;
-    put_row(page, load_end(), frame)
 }
 
 // Adds the shares of a table.
@@ -153,14 +133,6 @@ fn put_framed_centre(
     put_picture(page, frame, shares.as_slice())?;
     put_all_loads(alloc, page, frame, rows)?;
     page.markup(section_end())
-}
-
-// The frame of a work centre: its name and its last week.
-fn centre_frame<'x>(alloc: Global, name: &'x [u8], rows: &'x [Row]) -> Result<Row, NoMemory>
-    ensures { IfOk result (λ row. row ≡ centre_frame name.now rows.now) }
-{
-    let last = greatest(rows, 1, b"1");
-    frame(alloc, name, last, b"")
 }
 
 // Adds a work centre: its loads against its capacities.
@@ -256,9 +228,12 @@ pub(crate) fn put_centres(
 ) -> Result<(), NoMemory>
     ensures { OnOk result (page.new ≡ page.old ++ load_section loads.now missed) }
 {
+    let rows = hot_rows(alloc, loads)?;
+    let hots = hot_first(alloc, rows.as_slice())?;
     let over = overloads_first(alloc, loads)?;
     let centres = leaders(alloc, loads)?;
     page.markup(centres_open())?;
+    put_hots(alloc, page, loads, hots.as_slice())?;
     put_over_or_none(alloc, page, missed, over.as_slice())?;
     put_each_centre(alloc, page, loads, centres.as_slice())?;
     put_centres_back(alloc, page, missed)

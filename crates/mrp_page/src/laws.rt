@@ -1,13 +1,14 @@
 //! What follows from the definitions alone, each law the contract of a function that does nothing.
 
 ghost use Rattle.std.specs.Prelude.{◌≡◌, ◌++◌, ◌+◌, ◌-◌, ◌^◌, ◌&&◌, ◌⊎◌, ◌<◌, ◌≤◌, ℕ, All, Contains, IsPermutation, List, Option, Some, false, [], ◌∷◌, codes, count_by, decimal, drop, filter, find, flat_map, length, slice_index_or, take, ◌*◌, Bool, None, true, min, map};
-ghost use Rattle.mrp_page.specs.Centres.{all_loads, bars_html, later_loads, loads_html, loads_table, over_listing, over_or_none, shares_html, times_html};
+ghost use Rattle.mrp_page.specs.Centres.{all_loads, later_loads, loads_html, loads_table, over_listing, over_or_none, shares_html, times_html};
 ghost use Rattle.mrp_page.specs.Shares.{overloads_first, share, share_of, share_row, week_rank};
 ghost use Rattle.mrp_qty.specs.Minutes.{minutes_text_of};
 ghost use Rattle.mrp_page.specs.Amounts.{amount};
 ghost use Rattle.mrp_page.specs.Items.{item_html, item_lists_html, items_html, need_html, orders_html, peg_html, pegs_html, wait_html, waits_html, waits_of};
 ghost use Rattle.mrp_page.specs.Orders.{is_order, linked_html, numbered, order_link};
 ghost use Rattle.mrp_page.specs.Scene.{SceneView};
+ghost use Rattle.mrp_page.specs.Hot.{hot_first, hot_row};
 ghost use Rattle.mrp_page.specs.Html.{number_html};
 ghost use Rattle.mrp_page.specs.Outs.{distance, is_planned, out_row, outs_first, sign};
 ghost use Rattle.mrp_page.specs.ByWord.{has_one_of, with_word};
@@ -27,6 +28,7 @@ ghost use Rattle.std.specs.List.Sorted.{IsNonDecreasingBy};
 ghost use Rattle.mrp_page.specs.Rows.{leaders, rank};
 ghost use Rattle.mrp_page.specs.Notes.{Noted, notes_of};
 ghost use Rattle.mrp_page.specs.Page.{page_html, scene_in, shown_items};
+ghost use Rattle.mrp_page.specs.Pictured.{bars_html};
 ghost use Rattle.mrp_page.specs.Pictures.{drawn_balance};
 ghost use Rattle.mrp_page.specs.Reading.{IsDayOf};
 ghost use Rattle.mrp_page.specs.Refused.{asked_of, entry_name_html, is_booking, refusals, refused_html, refused_rows, refused_section};
@@ -35,7 +37,7 @@ ghost use Rattle.mrp_page.specs.Rows.{rows_in, rows_named};
 ghost use Rattle.mrp_page.specs.Section.{place_of};
 ghost use Rattle.mrp_page.specs.Shown.{IsByItems, items_of_plan, items_to_show, rows_of, run_shown};
 ghost use Rattle.mrp_page.specs.Spot.{Names};
-ghost use Rattle.mrp_page.specs.Summary.{count_with, is_over, is_undone, summary_html, tile_html};
+ghost use Rattle.mrp_page.specs.Summary.{count_with, is_over, is_undone, overloads, summary_html, tile_html};
 ghost use Rattle.mrp_page.specs.Template.{Drawn, has_word, number_at, row_html};
 ghost use Rattle.mrp_page.specs.Todo.{by_urgency, message_html, said, said_of_another, word_of};
 ghost use Rattle.mrp_page.specs.declared.limits.TheConstants.{FEW_ROWS, MOST_LINES, MOST_AMOUNT, SOME_ROWS, TABLE_WEEKS};
@@ -127,8 +129,10 @@ pub fn shares_are_exact()
     ensures none { (load capacity : ℕ) → share load capacity ≡ None → (capacity ≡ 0) × (0 < load) }
 {}
 
-/// The weeks of work centres that are over their capacity stand by week, and each once.
+/// The weeks of work centres that are over their capacity stand by week, and each once; the work centres
+/// themselves by what is over as a share of all their capacity.
 pub fn overloads_stand_in_order()
+    ensures centres { (loads : List RowView) → IsPermutation (map (hot_row loads) (leaders [] (overloads loads))) (hot_first loads) }
     ensures once { (loads : List RowView) → IsPermutation (filter is_over loads) (overloads_first loads) }
     ensures order { (loads : List RowView) → IsNonDecreasingBy week_rank (overloads_first loads) }
     ensures shown { (missed : ℕ) (load : RowView) (rows : List RowView) → over_or_none missed (load ∷ rows) ≡ row_html over_open (count_row (length (load ∷ rows)) [] []) ++ capped_html over_listing SOME_ROWS (load ∷ rows) }

@@ -2,7 +2,7 @@
 
 ghost use Rattle.std.specs.Prelude.{◌≡◌, map};
 ghost use Rattle.mrp_page.specs.Template.{drawn_of};
-ghost use Rattle.mrp_page.specs.Layout.{above_bar, above_end, available_label, balance_chart, balance_label, booked_label, cancel_front, cancel_open, capacity_label, centre_head, centre_open, centre_tile, centres_open, cut_bar, entry, entry_link_open, firm_label, grid_end, gross_label, history_end, history_open, hot_bar, hot_end, in_front, in_open, index_count, index_end, index_open, item_head, item_tasks_end, item_tasks_open, items_end, items_open, late_front, late_open, later_open, link_end, link_middle, link_open, lists_open, load_chart, load_end, load_label, low_bar, low_end, main_open, more, no_promises, no_record, none_out, none_over, none_refused, nothing_to_do, open_pieces, order, order_address, order_start, order_unknown, order_week, orders_open, other_cells, other_front, other_open, other_words, out_cells, out_first_open, out_front, out_open, outs_front, outs_note, over_back, over_front, over_label, over_line, over_open, page_end, page_head, page_top, peg_back, peg_booking, peg_front, peg_middle, peg_need, peg_parent, peg_supply, pegs_open, planned_label, point, points_end, record_head, refused_answer, refused_asked, refused_desk, refused_end, refused_front, refused_open, refused_row, release_front, release_open, rest_end, rest_open, row_end, scheduled_label, section_end, share_cell, share_label, starts_label, style, summary_open, summary_tile, table_end, task_head, task_middle, task_row, task_supply, task_words, to_week, todo_note, todo_open, wait_end, wait_late, wait_middle, wait_order, wait_supply, waits_open, week, weeks_end, weeks_late};
+ghost use Rattle.mrp_page.specs.Layout.{above_bar, above_end, available_label, balance_chart, balance_label, booked_label, cancel_front, cancel_open, capacity_label, centre_head, centre_open, centre_tile, centres_open, cut_bar, entry, entry_link_open, firm_label, grid_end, gross_label, history_end, history_open, hot_bar, hot_end, hot_open, hot_words, in_front, in_open, index_count, index_end, index_open, item_head, item_tasks_end, item_tasks_open, items_end, items_open, late_front, late_open, later_open, link_end, link_middle, link_open, lists_open, load_chart, load_end, load_label, low_bar, low_end, main_open, more, no_promises, no_record, none_out, none_over, none_refused, nothing_to_do, open_pieces, order, order_address, order_start, order_unknown, order_week, orders_open, other_cells, other_front, other_open, other_words, out_cells, out_first_open, out_front, out_open, outs_front, outs_note, over_back, over_front, over_label, over_line, over_open, page_end, page_head, page_top, peg_back, peg_booking, peg_front, peg_middle, peg_need, peg_parent, peg_supply, pegs_open, planned_label, point, points_end, record_head, refused_answer, refused_asked, refused_desk, refused_end, refused_front, refused_open, refused_row, release_front, release_open, rest_end, rest_open, row_end, scheduled_label, section_end, share_cell, share_label, starts_label, style, summary_open, summary_tile, table_end, task_head, task_middle, task_row, task_supply, task_words, to_week, todo_note, todo_open, wait_end, wait_late, wait_middle, wait_order, wait_supply, waits_open, week, weeks_end, weeks_late};
 
 use crate::style::STYLE;
 use crate::template::Part;
@@ -1372,5 +1372,39 @@ pub(crate) fn order() -> &'static [Part]
         Part::Number(6),
         Part::Number(7),
         Part::Markup(b"</tr>\n"),
+    ]
+}
+
+// What stands above the most overloaded work centres.
+#[tactic(auto, unfolding(crate::specs::Layout::hot_open))]
+pub(crate) fn hot_open() -> &'static [u8]
+    ensures { result.now ≡ hot_open }
+{
+    b"<h3>Most overloaded</h3>\n"
+}
+
+// A work centre that is over its capacity.
+#[tactic(auto, unfolding(crate::specs::Layout::hot_words))]
+pub(crate) fn hot_words() -> &'static [Part]
+    ensures { map drawn_of result.now ≡ hot_words }
+{
+    &[
+        Part::Markup(b"<p><a href=\"#c-"),
+        Part::Cell(0),
+        Part::Markup(b"\">"),
+        Part::Cell(0),
+        Part::Markup(b"</a>: over in "),
+        Part::Cell(1),
+        Part::Markup(b" of "),
+        Part::Cell(2),
+        Part::Markup(b" weeks, at most <b class=bad>"),
+        Part::Cell(4),
+        Part::Cell(5),
+        Part::Markup(b"</b>, in week "),
+        Part::Cell(3),
+        Part::Markup(b"; "),
+        Part::Cell(6),
+        Part::Cell(7),
+        Part::Markup(b" over all weeks</p>\n"),
     ]
 }

@@ -28,3 +28,6 @@ pub const TABLE_WEEKS: usize = 13;
 
 /// From this number on numbers count as equal, among them times in thousandths of a minute.
 pub const MOST_AMOUNT: u64 = 100_000_000_000_000_000;
+
+/// How many work centres stand among the most overloaded.
+pub const HOT_CENTRES: usize = 3;

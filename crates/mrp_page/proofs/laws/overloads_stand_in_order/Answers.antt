@@ -1,3 +1,4 @@
+use Rattle.mrp_page.proofs.HotRows.{hots-once}
 use Rattle.mrp_page.proofs.Overloads.{in-order, once, shown-is}
 use Rattle.mrp_page.proofs.laws.overloads_stand_in_order.Goals as goal
 
@@ -9,3 +10,6 @@ returns-clause-order c = in-order
 
 pub returns-clause-shown : goal.returns-clause-shown
 returns-clause-shown c = shown-is
+
+pub returns-clause-centres : goal.returns-clause-centres
+returns-clause-centres c = hots-once
