@@ -27,7 +27,7 @@ use Rattle.mrp_page.specs.Items.{count_html, index_html, index_line, is_wait, it
 use Rattle.mrp_page.specs.Kinds.{Kind, cancel, earlier, falling_rank, in_order, kind_html, kind_listing, kind_part, kinds_html, late, later, messages_of, note_html, open_count, open_html, order_html, order_of, other, other_messages, other_part, release, state_of, task_line, todo_back, todo_html, value_rank}
 use Rattle.mrp_page.specs.Known.{IsMadeOf, IsPieceOf, centre_texts, count_texts, hot_texts, hots_texts, index_texts, item_texts, layouts, list_counts, listed_texts, load_texts, marks_of, open_texts, out_texts, outs_texts, own_counts, own_words, plain, row_lists, small_words, summary_counts}
 use Rattle.mrp_page.specs.Laws.{Entry, Escaped, Link, Markup, Order, piece_html}
-use Rattle.mrp_page.specs.Layout.{above_bar, above_end, available_label, balance_chart, balance_label, booked_label, cancel_front, cancel_open, capacity_label, centre_head, centre_open, centre_tile, centres_open, cut_bar, entry, firm_label, grid_end, gross_label, history_end, history_open, hot_bar, hot_end, hot_open, hot_words, in_front, in_open, index_count, index_end, index_open, item_head, item_tasks_end, item_tasks_open, items_end, items_open, late_front, late_open, later_open, link_end, lists_open, load_chart, load_end, load_label, low_bar, low_end, main_open, more, no_promises, no_record, none_out, none_over, none_refused, nothing_to_do, open_pieces, order, order_address, order_start, order_unknown, order_week, orders_open, other_cells, other_front, other_open, other_words, out_cells, out_first_open, out_front, out_open, outs_front, outs_note, over_back, over_front, over_label, over_line, over_open, page_end, page_head, page_top, peg_back, peg_booking, peg_front, peg_middle, peg_need, peg_parent, peg_supply, pegs_open, planned_label, point, points_end, record_head, refused_answer, refused_asked, refused_desk, refused_end, refused_front, refused_open, refused_row, release_front, release_open, rest_end, rest_open, row_end, scheduled_label, section_end, share_cell, share_label, starts_label, style, summary_open, summary_tile, table_end, task_head, task_middle, task_row, task_supply, task_words, to_week, todo_note, todo_open, wait_end, wait_late, wait_middle, wait_order, wait_supply, waits_open, week, weeks_end, weeks_late}
+use Rattle.mrp_page.specs.Layout.{above_bar, above_end, available_label, balance_chart, balance_label, booked_label, cancel_front, cancel_open, capacity_label, centre_head, centre_open, centre_tile, centres_open, cut_bar, entry, firm_label, grid_end, gross_label, history_end, history_open, hot_bar, hot_end, hot_open, hot_words, in_front, in_open, index_count, index_end, index_open, item_head, item_tasks_end, item_tasks_open, items_end, items_open, late_front, late_open, later_open, link_end, lists_open, load_chart, load_end, load_label, low_bar, low_end, main_open, more, no_promises, no_record, none_out, none_over, none_refused, nothing_to_do, open_pieces, order, order_address, order_start, order_unknown, order_week, orders_open, other_cells, other_front, other_open, other_words, out_cells, out_first_open, out_front, out_open, outs_front, outs_note, over_back, over_front, over_label, over_line, over_open, page_end, page_head, page_top, peg_back, peg_booking, peg_front, peg_middle, peg_need, peg_parent, peg_supply, pegs_open, planned_label, point, points_end, record_head, refused_answer, refused_asked, refused_desk, refused_end, refused_front, refused_open, refused_row, release_front, release_open, rest_end, rest_open, row_end, scheduled_label, section_end, share_cell, share_label, starts_label, style, summary_open, summary_tile, table_end, task_head, task_middle, task_row, task_supply, task_words, title_end, title_open, to_week, todo_note, todo_open, wait_end, wait_late, wait_middle, wait_order, wait_supply, waits_open, week, weeks_end, weeks_late}
 use Rattle.mrp_page.specs.Notes.{Noted}
 use Rattle.mrp_page.specs.Outs.{falling_late, first_planned, is_planned, lateness, left_in, out_line, out_row, outs_back, outs_first, outs_html, outs_section, short_weeks, sign}
 use Rattle.mrp_page.specs.Page.{head_html, is_told, items_of, middle_html, page_html, page_of, rest_html, scene_in, shown_items, told_first, top_html, untold_rows}
@@ -539,77 +539,77 @@ own-empty : Contains own_words (codes "<td></td>")
 unfolding plain
 own-empty = own (codes "<td></td>") 59 (omega arith) refl
 
-own-titled : Contains own_words (codes "<td title=\"")
-unfolding plain
-own-titled = own (codes "<td title=\"") 60 (omega arith) refl
-
-own-tag-end : Contains own_words (codes "\">")
-unfolding plain
-own-tag-end = own (codes "\">") 61 (omega arith) refl
-
 own-order_address : Contains own_words order_address
 unfolding plain
-own-order_address = own order_address 62 (omega arith) refl
+own-order_address = own order_address 60 (omega arith) refl
 
 own-task_middle : Contains own_words task_middle
 unfolding plain
-own-task_middle = own task_middle 63 (omega arith) refl
+own-task_middle = own task_middle 61 (omega arith) refl
 
 own-items_open : Contains own_words items_open
 unfolding plain
-own-items_open = own items_open 64 (omega arith) refl
+own-items_open = own items_open 62 (omega arith) refl
 
 own-items_end : Contains own_words items_end
 unfolding plain
-own-items_end = own items_end 65 (omega arith) refl
+own-items_end = own items_end 63 (omega arith) refl
 
 own-index_open : Contains own_words index_open
 unfolding plain
-own-index_open = own index_open 66 (omega arith) refl
+own-index_open = own index_open 64 (omega arith) refl
 
 own-index_end : Contains own_words index_end
 unfolding plain
-own-index_end = own index_end 67 (omega arith) refl
+own-index_end = own index_end 65 (omega arith) refl
 
 own-lists_open : Contains own_words lists_open
 unfolding plain
-own-lists_open = own lists_open 68 (omega arith) refl
+own-lists_open = own lists_open 66 (omega arith) refl
 
 own-waits_open : Contains own_words waits_open
 unfolding plain
-own-waits_open = own waits_open 69 (omega arith) refl
+own-waits_open = own waits_open 67 (omega arith) refl
 
 own-peg_front : Contains own_words peg_front
 unfolding plain
-own-peg_front = own peg_front 70 (omega arith) refl
+own-peg_front = own peg_front 68 (omega arith) refl
 
 own-peg_booking : Contains own_words peg_booking
 unfolding plain
-own-peg_booking = own peg_booking 71 (omega arith) refl
+own-peg_booking = own peg_booking 69 (omega arith) refl
 
 own-wait_supply : Contains own_words wait_supply
 unfolding plain
-own-wait_supply = own wait_supply 72 (omega arith) refl
+own-wait_supply = own wait_supply 70 (omega arith) refl
 
 own-wait_end : Contains own_words wait_end
 unfolding plain
-own-wait_end = own wait_end 73 (omega arith) refl
+own-wait_end = own wait_end 71 (omega arith) refl
 
 own-link_end : Contains own_words link_end
 unfolding plain
-own-link_end = own link_end 74 (omega arith) refl
+own-link_end = own link_end 72 (omega arith) refl
 
 own-out_first_open : Contains own_words out_first_open
 unfolding plain
-own-out_first_open = own out_first_open 75 (omega arith) refl
+own-out_first_open = own out_first_open 73 (omega arith) refl
 
 own-none_out : Contains own_words none_out
 unfolding plain
-own-none_out = own none_out 76 (omega arith) refl
+own-none_out = own none_out 74 (omega arith) refl
 
 own-outs_front : Contains own_words outs_front
 unfolding plain
-own-outs_front = own outs_front 77 (omega arith) refl
+own-outs_front = own outs_front 75 (omega arith) refl
+
+own-title_open : Contains own_words title_open
+unfolding plain
+own-title_open = own title_open 76 (omega arith) refl
+
+own-title_end : Contains own_words title_end
+unfolding plain
+own-title_end = own title_end 77 (omega arith) refl
 
 own-hot_open : Contains own_words hot_open
 unfolding plain
@@ -1178,7 +1178,7 @@ module _ (K L E : List ℕ → Type 0) (O : List ℕ → List ℕ → Type 0) (w
 
   titled : (t : List ℕ) → K t → IsMadeOf K L E O (titled_tag t)
   unfolding titled_tag
-  titled t known = join (codes "<td title=\"") (escaped t ++ codes "\">") (mark (codes "<td title=\"") own-titled) (join (escaped t) (codes "\">") (text t known) (mark (codes "\">") own-tag-end))
+  titled t known = join title_open (escaped t ++ title_end) (mark title_open own-title_open) (join (escaped t) title_end (text t known) (mark title_end own-title_end))
 
   minutes-tag : (t : List ℕ) → K t → IsMadeOf K L E O (minutes_tag t)
   minutes-tag t known = either (is_whole t) (codes "<td>") (titled_tag t) (mark (codes "<td>") own-cell) (titled t known)

@@ -6,7 +6,7 @@ use Rattle.mrp_page.specs.ItemRows.{item_lists}
 use Rattle.mrp_page.specs.Items.{message_count}
 use Rattle.mrp_page.specs.Kinds.{kinds, messages_of, open_count, other_messages}
 use Rattle.mrp_page.specs.Laws.{Entry, Escaped, Link, Markup, Order, Piece, piece_html}
-use Rattle.mrp_page.specs.Layout.{above_bar, above_end, available_label, balance_chart, balance_label, booked_label, cancel_front, cancel_open, capacity_label, centre_head, centre_open, centre_tile, centres_open, cut_bar, entry, firm_label, grid_end, gross_label, history_end, history_open, hot_bar, hot_end, hot_open, hot_words, in_front, in_open, index_count, index_end, index_open, item_head, item_tasks_end, item_tasks_open, items_end, items_open, late_front, late_open, later_open, link_end, lists_open, load_chart, load_end, load_label, low_bar, low_end, main_open, more, no_promises, no_record, none_out, none_over, none_refused, nothing_to_do, open_pieces, order, order_address, order_start, order_unknown, order_week, orders_open, other_cells, other_front, other_open, other_words, out_cells, out_first_open, out_front, out_open, outs_front, outs_note, over_back, over_front, over_label, over_line, over_open, page_end, page_head, page_top, peg_back, peg_booking, peg_front, peg_middle, peg_need, peg_parent, peg_supply, pegs_open, planned_label, point, points_end, record_head, refused_answer, refused_asked, refused_desk, refused_end, refused_front, refused_open, refused_row, release_front, release_open, rest_end, rest_open, row_end, scheduled_label, section_end, share_cell, share_label, starts_label, style, summary_open, summary_tile, table_end, task_head, task_middle, task_row, task_supply, task_words, to_week, todo_note, todo_open, wait_end, wait_late, wait_middle, wait_order, wait_supply, waits_open, week, weeks_end, weeks_late}
+use Rattle.mrp_page.specs.Layout.{above_bar, above_end, available_label, balance_chart, balance_label, booked_label, cancel_front, cancel_open, capacity_label, centre_head, centre_open, centre_tile, centres_open, cut_bar, entry, firm_label, grid_end, gross_label, history_end, history_open, hot_bar, hot_end, hot_open, hot_words, in_front, in_open, index_count, index_end, index_open, item_head, item_tasks_end, item_tasks_open, items_end, items_open, late_front, late_open, later_open, link_end, lists_open, load_chart, load_end, load_label, low_bar, low_end, main_open, more, no_promises, no_record, none_out, none_over, none_refused, nothing_to_do, open_pieces, order, order_address, order_start, order_unknown, order_week, orders_open, other_cells, other_front, other_open, other_words, out_cells, out_first_open, out_front, out_open, outs_front, outs_note, over_back, over_front, over_label, over_line, over_open, page_end, page_head, page_top, peg_back, peg_booking, peg_front, peg_middle, peg_need, peg_parent, peg_supply, pegs_open, planned_label, point, points_end, record_head, refused_answer, refused_asked, refused_desk, refused_end, refused_front, refused_open, refused_row, release_front, release_open, rest_end, rest_open, row_end, scheduled_label, section_end, share_cell, share_label, starts_label, style, summary_open, summary_tile, table_end, task_head, task_middle, task_row, task_supply, task_words, title_end, title_open, to_week, todo_note, todo_open, wait_end, wait_late, wait_middle, wait_order, wait_supply, waits_open, week, weeks_end, weeks_late}
 use Rattle.mrp_page.specs.Notes.{Noted}
 use Rattle.mrp_page.specs.Outs.{left_in, outs_first, short_weeks}
 use Rattle.mrp_page.specs.Page.{scene_in, shown_items}
@@ -28,7 +28,7 @@ layouts = page_top ∷ page_head ∷ task_head ∷ task_words ∷ week ∷ entry
 
 -- markup that stands between rows
 unfoldable pub plain : List (List ℕ)
-plain = style ∷ todo_open ∷ nothing_to_do ∷ item_tasks_open ∷ item_tasks_end ∷ weeks_end ∷ points_end ∷ load_label ∷ capacity_label ∷ over_label ∷ grid_end ∷ centres_open ∷ section_end ∷ scheduled_label ∷ firm_label ∷ booked_label ∷ available_label ∷ gross_label ∷ planned_label ∷ starts_label ∷ balance_label ∷ orders_open ∷ pegs_open ∷ no_record ∷ history_open ∷ history_end ∷ page_end ∷ [] ∷ codes "<td>" ∷ codes "<td class=z>" ∷ codes "</td>" ∷ codes "</tr>\n" ∷ no_promises ∷ table_end ∷ rest_end ∷ refused_open ∷ none_refused ∷ refused_front ∷ refused_row ∷ refused_end ∷ todo_note ∷ task_row ∷ order_unknown ∷ late_front ∷ release_front ∷ in_front ∷ out_front ∷ cancel_front ∷ other_front ∷ summary_open ∷ main_open ∷ low_end ∷ hot_end ∷ above_end ∷ share_label ∷ later_open ∷ none_over ∷ over_front ∷ over_back ∷ codes "<td></td>" ∷ codes "<td title=\"" ∷ codes "\">" ∷ order_address ∷ task_middle ∷ items_open ∷ items_end ∷ index_open ∷ index_end ∷ lists_open ∷ waits_open ∷ peg_front ∷ peg_booking ∷ wait_supply ∷ wait_end ∷ link_end ∷ out_first_open ∷ none_out ∷ outs_front ∷ hot_open ∷ []
+plain = style ∷ todo_open ∷ nothing_to_do ∷ item_tasks_open ∷ item_tasks_end ∷ weeks_end ∷ points_end ∷ load_label ∷ capacity_label ∷ over_label ∷ grid_end ∷ centres_open ∷ section_end ∷ scheduled_label ∷ firm_label ∷ booked_label ∷ available_label ∷ gross_label ∷ planned_label ∷ starts_label ∷ balance_label ∷ orders_open ∷ pegs_open ∷ no_record ∷ history_open ∷ history_end ∷ page_end ∷ [] ∷ codes "<td>" ∷ codes "<td class=z>" ∷ codes "</td>" ∷ codes "</tr>\n" ∷ no_promises ∷ table_end ∷ rest_end ∷ refused_open ∷ none_refused ∷ refused_front ∷ refused_row ∷ refused_end ∷ todo_note ∷ task_row ∷ order_unknown ∷ late_front ∷ release_front ∷ in_front ∷ out_front ∷ cancel_front ∷ other_front ∷ summary_open ∷ main_open ∷ low_end ∷ hot_end ∷ above_end ∷ share_label ∷ later_open ∷ none_over ∷ over_front ∷ over_back ∷ codes "<td></td>" ∷ order_address ∷ task_middle ∷ items_open ∷ items_end ∷ index_open ∷ index_end ∷ lists_open ∷ waits_open ∷ peg_front ∷ peg_booking ∷ wait_supply ∷ wait_end ∷ link_end ∷ out_first_open ∷ none_out ∷ outs_front ∷ title_open ∷ title_end ∷ hot_open ∷ []
 
 -- the markup of a part
 abbrev pub marks_of : Drawn → List (List ℕ)

@@ -840,3 +840,11 @@ hot_words =
     Text 6 ∷
     Text 7 ∷
     Mark (codes " over all weeks</p>\n") ∷ []
+
+-- what the tag of a cell begins with that has a title
+unfoldable pub title_open : List ℕ
+title_open = codes "<td title=\""
+
+-- what it ends with
+unfoldable pub title_end : List ℕ
+title_end = codes "\">"

@@ -45,14 +45,14 @@ first_planned scene week = find (has_word 2 (codes "planned")) (rows_named (cell
 
 -- what stands of an item that runs out: its name, the week, what is left then without planned orders, and how late the first
 -- of these is
-abbrev pub drawn_out : RowView → List ℕ → List ℕ → RowView
-drawn_out week left late = record {
+abbrev pub drawn_out : RowView → List ℕ → List ℕ → List ℕ → RowView
+drawn_out week minus left late = record {
   section = s.Run;
-  cells = cell_at week 0 ∷ cell_at week 1 ∷ sign (amount (cell_at week 7)) (amount (cell_at week 5)) ∷ left ∷ late ∷ [];
+  cells = cell_at week 0 ∷ cell_at week 1 ∷ minus ∷ left ∷ late ∷ [];
 }
 
 abbrev pub out_row : SceneView → RowView → RowView
-out_row scene week = drawn_out week (decimal (left_in week)) (lateness (first_planned scene week))
+out_row scene week = drawn_out week (sign (amount (cell_at week 7)) (amount (cell_at week 5))) (decimal (left_in week)) (lateness (first_planned scene week))
 
 -- a number that falls as an item's order is later
 abbrev pub falling_late : RowView → ℕ

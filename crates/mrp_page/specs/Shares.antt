@@ -5,6 +5,7 @@ use Rattle.std.specs.List.{before_first, position_or_len}
 use Rattle.mrp_page.specs.Amounts.{amount}
 use Rattle.mrp_page.specs.Escaped.{escaped}
 use Rattle.mrp_page.specs.Html.{is_zero}
+use Rattle.mrp_page.specs.Layout.{title_end, title_open}
 use Rattle.mrp_page.specs.Row.{Cells, RowView, cell_at, same_text}
 use Rattle.mrp_page.specs.Rows.{rank}
 use Rattle.mrp_page.specs.Sorted.{sorted_by}
@@ -52,10 +53,10 @@ abbrev pub share_mark : ℕ → List ℕ
 share_mark share = if nat_le share 100 then [] else codes "bad"
 
 -- how a week with this share is drawn, given the texts of the share and of the heights of its bar
-abbrev pub drawn_share : RowView → ℕ → List ℕ → List ℕ → List ℕ → List ℕ → RowView
-drawn_share load share percent shown low above = record {
+abbrev pub drawn_share : RowView → List ℕ → List ℕ → List ℕ → List ℕ → List ℕ → List ℕ → List ℕ → RowView
+drawn_share load percent shown low hot above cut mark = record {
   section = s.Run;
-  cells = cell_at load 0 ∷ cell_at load 1 ∷ percent ∷ codes " %" ∷ shown ∷ low ∷ hot_height share ∷ above ∷ cut_height share ∷ whole (cell_at load 4) ∷ share_mark share ∷ [];
+  cells = cell_at load 0 ∷ cell_at load 1 ∷ percent ∷ codes " %" ∷ shown ∷ low ∷ hot ∷ above ∷ cut ∷ whole (cell_at load 4) ∷ mark ∷ [];
 }
 
 -- how a week of a work centre is drawn: its centre, its week, its share and the sign of that, the share if it is not 0, the
@@ -90,7 +91,7 @@ is_whole minutes = same_text (from_point minutes) (codes ".000")
 
 -- the tag before minutes, with all decimals as its title
 unfoldable pub titled_tag : List ℕ → List ℕ
-titled_tag minutes = codes "<td title=\"" ++ (escaped minutes ++ codes "\">")
+titled_tag minutes = title_open ++ (escaped minutes ++ title_end)
 
 -- the tag before minutes, with all decimals as its title if these count
 abbrev pub minutes_tag : List ℕ → List ℕ
