@@ -1407,6 +1407,7 @@ pub(crate) fn hot_words() -> &'static [Part]
         Part::Cell(7),
         Part::Markup(b" over all weeks</p>\n"),
     ]
+}
 
 // What the tag of a cell begins with that has a title.
 #[tactic(auto, unfolding(crate::specs::Layout::title_open))]
