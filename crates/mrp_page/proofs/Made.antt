@@ -15,7 +15,7 @@ use Rattle.mrp_page.specs.Draw.{all_weeks, amounts_html, balance_html, booked_ht
 use Rattle.mrp_page.specs.Escaped.{escaped}
 use Rattle.mrp_page.specs.Folded.{Listing, capped_html, folded_html, hidden_html, listed_html}
 use Rattle.mrp_page.specs.Frame.{count_row, frame, frame_of, heading, last_week}
-use Rattle.mrp_page.specs.Hot.{falling_over, first_share, hot_first, hot_html, hot_of, hot_row, hots_html, over_of_all, share_of_all, share_sign, share_words, worst_week}
+use Rattle.mrp_page.specs.Hot.{falling_over, first_share, hot_first, hot_of, hot_row, hots_html, over_of_all, share_of_all, share_sign, share_words, worst_week}
 use Rattle.mrp_page.specs.Html.{flow_html, is_zero, number_html, number_tag}
 use Rattle.mrp_page.specs.ItemRows.{ItemLists, item_lists}
 use Rattle.std.proofs.lemmas.List.Sorted.{All-permutation}
@@ -1322,20 +1322,14 @@ module _ (K L E : List ℕ → Type 0) (O : List ℕ → List ℕ → Type 0) (w
           let name : List ℕ = cell_at (get_or rs k d) 0 in
           hot-is name (rows_named name ls) ((leads k d within).cells-of 0) (all-named LoadKnown name ls all) (texts k d within))
 
-  hot : (ls : List RowView) (h : RowView) → All LoadKnown ls → ((column : ℕ) → K (cell_at h column)) → IsMadeOf K L E O (hot_html ls h)
-  unfolding hot_html
-  hot ls h all known =
-      let name : List ℕ = cell_at h 0 in
-      let of : List RowView = rows_named name ls in
-      let of-known : All LoadKnown of = all-named LoadKnown name ls all in
-      join (row_html hot_words h) (picture_html (centre_frame name of) (map share_row of)) (row hot_words h laid-hot_words known) (picture (centre_frame name of) (map share_row of) (centre-frame name of (known 0) of-known) (shares-known of of-known))
-
-  hots : (ls hs : List RowView) → All LoadKnown ls → All (λ (r : RowView). (column : ℕ) → K (cell_at r column)) hs → IsMadeOf K L E O (hots_html ls hs)
+  hots : (hs : List RowView) → All (λ (r : RowView). (column : ℕ) → K (cell_at r column)) hs → IsMadeOf K L E O (hots_html hs)
   unfolding hots_html
-  hots ls hs all known =
+  hots hs known =
       let first : List RowView = take HOT_CENTRES hs in
-      let lines : List ℕ = flat_map (hot_html ls) first in
-      either (has_none hs) [] (hot_open ++ lines) none (join hot_open lines (mark hot_open own-hot_open) (each (λ (r : RowView). (column : ℕ) → K (cell_at r column)) (hot_html ls) (λ h of. hot ls h all of) first (All-take (λ (r : RowView). (column : ℕ) → K (cell_at r column)) HOT_CENTRES hs known)))
+      let lines : List ℕ = flat_map (row_html hot_words) first in
+      either (has_none hs) [] (hot_open ++ (lines ++ over_back)) none
+      (join hot_open (lines ++ over_back) (mark hot_open own-hot_open)
+      (join lines over_back (each (λ (r : RowView). (column : ℕ) → K (cell_at r column)) (row_html hot_words) (λ h of. row hot_words h laid-hot_words of) first (All-take (λ (r : RowView). (column : ℕ) → K (cell_at r column)) HOT_CENTRES hs known)) (mark over_back own-over_back)))
 
   centres : (ls : List RowView) (missed : ℕ) → All LoadKnown ls → All (λ (r : RowView). All K (hot_texts ls r)) (leaders [] (overloads ls)) → Counted (overloads_first ls) → K (decimal missed) → IsMadeOf K L E O (load_section ls missed)
   unfolding load_section centres_back small_words
@@ -1344,12 +1338,12 @@ module _ (K L E : List ℕ → Type 0) (O : List ℕ → List ℕ → Type 0) (w
       let of-leads : All LoadKnown leads = all-leaders LoadKnown [] (overloads ls) (All-filter is_over LoadKnown ls all) in
       let rows-of : List RowView = map (hot_row ls) leads in
       let of-hots : All (λ (r : RowView). (column : ℕ) → K (cell_at r column)) (hot_first ls) = All-permutation (λ (r : RowView). (column : ℕ) → K (cell_at r column)) rows-of (sorted_by falling_over rows-of) (sorted-permutes falling_over rows-of) (hots-of ls leads all of-leads texts) in
-      let hot-of : List ℕ = hots_html ls (hot_first ls) in
+      let hot-of : List ℕ = hots_html (hot_first ls) in
       let over-of : List ℕ = over_or_none missed (overloads_first ls) in
       let each-of : List ℕ = each_centre ls (leaders [] ls) in
       let past : List ℕ = more_html missed (codes "week of a work centre is") (codes "weeks of work centres are") in
       join centres_open (hot-of ++ (over-of ++ (each-of ++ (past ++ section_end)))) (mark centres_open own-centres_open)
-      (join hot-of (over-of ++ (each-of ++ (past ++ section_end))) (hots ls (hot_first ls) all of-hots)
+      (join hot-of (over-of ++ (each-of ++ (past ++ section_end))) (hots (hot_first ls) of-hots)
       (join over-of (each-of ++ (past ++ section_end)) (over-or-none missed (overloads_first ls) (over-known ls all) counts)
       (join each-of (past ++ section_end) (each-centre ls (leaders [] ls) all (all-leaders LoadKnown [] ls all))
       (join past section_end (further missed (codes "week of a work centre is") (codes "weeks of work centres are") known (small (codes "week of a work centre is") 5 (omega arith) refl) (small (codes "weeks of work centres are") 6 (omega arith) refl)) (mark section_end own-section_end)))))

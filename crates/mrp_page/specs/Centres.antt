@@ -85,7 +85,7 @@ centres_back missed =
 unfoldable pub load_section : List RowView → ℕ → List ℕ
 load_section loads missed =
     centres_open
-    ++ (hots_html loads (hot_first loads)
+    ++ (hots_html (hot_first loads)
     ++ (over_or_none missed (overloads_first loads)
     ++ (each_centre loads (leaders [] loads)
     ++ centres_back missed)))

@@ -3,8 +3,7 @@ use Rattle.std.specs.Prelude.{ℕ, ◌+◌, ◌-◌, ◌^◌, min, List, [], ◌
 use Rattle.std.specs.List.{fold}
 use Rattle.mrp_page.specs.Amounts.{amount}
 use Rattle.mrp_page.specs.Draw.{has_none}
-use Rattle.mrp_page.specs.Layout.{hot_open, hot_words}
-use Rattle.mrp_page.specs.Pictured.{centre_frame, picture_html}
+use Rattle.mrp_page.specs.Layout.{hot_open, hot_words, over_back}
 use Rattle.mrp_page.specs.Row.{RowView, cell_at}
 use Rattle.mrp_page.specs.Rows.{leaders, rank, rows_named}
 use Rattle.mrp_page.specs.Shares.{falling_share, share, share_row}
@@ -71,13 +70,7 @@ falling_over hot = 2 ^ 64 - 1 - rank (cell_at hot 8)
 abbrev pub hot_first : List RowView → List RowView
 hot_first loads = sorted_by falling_over (map (hot_row loads) (leaders [] (overloads loads)))
 
--- a work centre that is over its capacity, with its picture
-unfoldable pub hot_html : List RowView → RowView → List ℕ
-hot_html loads hot =
-    row_html hot_words hot
-    ++ picture_html (centre_frame (cell_at hot 0) (rows_named (cell_at hot 0) loads)) (map share_row (rows_named (cell_at hot 0) loads))
-
 -- the most overloaded work centres; nothing if there are none
-unfoldable pub hots_html : List RowView → List RowView → List ℕ
-hots_html loads hots =
-    if has_none hots then [] else hot_open ++ flat_map (hot_html loads) (take HOT_CENTRES hots)
+unfoldable pub hots_html : List RowView → List ℕ
+hots_html hots =
+    if has_none hots then [] else hot_open ++ (flat_map (row_html hot_words) (take HOT_CENTRES hots) ++ over_back)

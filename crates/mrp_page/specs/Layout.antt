@@ -816,31 +816,6 @@ order =
     Number 7 ∷
     Mark (codes "</tr>\n") ∷ []
 
--- what stands above the most overloaded work centres
-unfoldable pub hot_open : List ℕ
-hot_open = codes "<h3>Most overloaded</h3>\n"
-
--- a work centre that is over its capacity
-unfoldable pub hot_words : List Drawn
-hot_words =
-    Mark (codes "<p><a href=\"#c-") ∷
-    Text 0 ∷
-    Mark (codes "\">") ∷
-    Text 0 ∷
-    Mark (codes "</a>: over in ") ∷
-    Text 1 ∷
-    Mark (codes " of ") ∷
-    Text 2 ∷
-    Mark (codes " weeks, at most <b class=bad>") ∷
-    Text 4 ∷
-    Text 5 ∷
-    Mark (codes "</b>, in week ") ∷
-    Text 3 ∷
-    Mark (codes "; ") ∷
-    Text 6 ∷
-    Text 7 ∷
-    Mark (codes " over all weeks</p>\n") ∷ []
-
 -- what the tag of a cell begins with that has a title
 unfoldable pub title_open : List ℕ
 title_open = codes "<td title=\""
@@ -848,3 +823,28 @@ title_open = codes "<td title=\""
 -- what it ends with
 unfoldable pub title_end : List ℕ
 title_end = codes "\">"
+
+-- a work centre that is over its capacity
+unfoldable pub hot_words : List Drawn
+hot_words =
+    Mark (codes "<li><b>") ∷
+    Text 4 ∷
+    Text 5 ∷
+    Mark (codes "</b> <a href=\"#c-") ∷
+    Text 0 ∷
+    Mark (codes "\">") ∷
+    Text 0 ∷
+    Mark (codes "</a>, at most, in week ") ∷
+    Text 3 ∷
+    Mark (codes "; over in ") ∷
+    Text 1 ∷
+    Mark (codes " of ") ∷
+    Text 2 ∷
+    Mark (codes " weeks; ") ∷
+    Text 6 ∷
+    Text 7 ∷
+    Mark (codes " over all weeks</li>\n") ∷ []
+
+-- what stands above the most overloaded work centres
+unfoldable pub hot_open : List ℕ
+hot_open = codes "<h3>Most overloaded</h3>\n<ul class=over>\n"

@@ -233,7 +233,7 @@ pub(crate) fn put_centres(
     let over = overloads_first(alloc, loads)?;
     let centres = leaders(alloc, loads)?;
     page.markup(centres_open())?;
-    put_hots(alloc, page, loads, hots.as_slice())?;
+    put_hots(page, hots.as_slice())?;
     put_over_or_none(alloc, page, missed, over.as_slice())?;
     put_each_centre(alloc, page, loads, centres.as_slice())?;
     put_centres_back(alloc, page, missed)

@@ -1375,40 +1375,6 @@ pub(crate) fn order() -> &'static [Part]
     ]
 }
 
-// What stands above the most overloaded work centres.
-#[tactic(auto, unfolding(crate::specs::Layout::hot_open))]
-pub(crate) fn hot_open() -> &'static [u8]
-    ensures { result.now ≡ hot_open }
-{
-    b"<h3>Most overloaded</h3>\n"
-}
-
-// A work centre that is over its capacity.
-#[tactic(auto, unfolding(crate::specs::Layout::hot_words))]
-pub(crate) fn hot_words() -> &'static [Part]
-    ensures { map drawn_of result.now ≡ hot_words }
-{
-    &[
-        Part::Markup(b"<p><a href=\"#c-"),
-        Part::Cell(0),
-        Part::Markup(b"\">"),
-        Part::Cell(0),
-        Part::Markup(b"</a>: over in "),
-        Part::Cell(1),
-        Part::Markup(b" of "),
-        Part::Cell(2),
-        Part::Markup(b" weeks, at most <b class=bad>"),
-        Part::Cell(4),
-        Part::Cell(5),
-        Part::Markup(b"</b>, in week "),
-        Part::Cell(3),
-        Part::Markup(b"; "),
-        Part::Cell(6),
-        Part::Cell(7),
-        Part::Markup(b" over all weeks</p>\n"),
-    ]
-}
-
 // What the tag of a cell begins with that has a title.
 #[tactic(auto, unfolding(crate::specs::Layout::title_open))]
 pub(crate) fn title_open() -> &'static [u8]
@@ -1423,4 +1389,38 @@ pub(crate) fn title_end() -> &'static [u8]
     ensures { result.now ≡ title_end }
 {
     b"\">"
+}
+
+// A work centre that is over its capacity.
+#[tactic(auto, unfolding(crate::specs::Layout::hot_words))]
+pub(crate) fn hot_words() -> &'static [Part]
+    ensures { map drawn_of result.now ≡ hot_words }
+{
+    &[
+        Part::Markup(b"<li><b>"),
+        Part::Cell(4),
+        Part::Cell(5),
+        Part::Markup(b"</b> <a href=\"#c-"),
+        Part::Cell(0),
+        Part::Markup(b"\">"),
+        Part::Cell(0),
+        Part::Markup(b"</a>, at most, in week "),
+        Part::Cell(3),
+        Part::Markup(b"; over in "),
+        Part::Cell(1),
+        Part::Markup(b" of "),
+        Part::Cell(2),
+        Part::Markup(b" weeks; "),
+        Part::Cell(6),
+        Part::Cell(7),
+        Part::Markup(b" over all weeks</li>\n"),
+    ]
+}
+
+// What stands above the most overloaded work centres.
+#[tactic(auto, unfolding(crate::specs::Layout::hot_open))]
+pub(crate) fn hot_open() -> &'static [u8]
+    ensures { result.now ≡ hot_open }
+{
+    b"<h3>Most overloaded</h3>\n<ul class=over>\n"
 }
