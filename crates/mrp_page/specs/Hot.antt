@@ -49,15 +49,15 @@ over_of_all rows = unwrap_or (share (total 4 rows) (total 3 rows)) (2 ^ 64 - 1)
 
 -- what stands of a work centre that is over its capacity: its name, in how many weeks it is, of how many, the week with the
 -- greatest share, that share and its sign, the share of all weeks and its sign, and what is over
-abbrev pub drawn_hot : List ℕ → List ℕ → List ℕ → RowView → Option ℕ → List ℕ → List ℕ → RowView
-drawn_hot name over_weeks weeks worst all digits over = record {
+abbrev pub drawn_hot : List ℕ → List ℕ → List ℕ → RowView → List ℕ → List ℕ → List ℕ → RowView
+drawn_hot name over_weeks weeks worst words sign over = record {
   section = s.Run;
-  cells = name ∷ over_weeks ∷ weeks ∷ cell_at worst 1 ∷ cell_at worst 2 ∷ cell_at worst 3 ∷ share_words all digits ∷ share_sign all ∷ over ∷ [];
+  cells = name ∷ over_weeks ∷ weeks ∷ cell_at worst 1 ∷ cell_at worst 2 ∷ cell_at worst 3 ∷ words ∷ sign ∷ over ∷ [];
 }
 
 abbrev pub hot_of : List ℕ → List RowView → RowView
 hot_of name rows =
-    drawn_hot name (decimal (length (overloads rows))) (decimal (length rows)) (worst_week rows) (share_of_all rows) (decimal (unwrap_or (share_of_all rows) 0)) (decimal (over_of_all rows))
+    drawn_hot name (decimal (length (overloads rows))) (decimal (length rows)) (worst_week rows) (share_words (share_of_all rows) (decimal (unwrap_or (share_of_all rows) 0))) (share_sign (share_of_all rows)) (decimal (over_of_all rows))
 
 abbrev pub hot_row : List RowView → RowView → RowView
 hot_row loads leader = hot_of (cell_at leader 0) (rows_named (cell_at leader 0) loads)
