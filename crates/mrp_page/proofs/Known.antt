@@ -41,10 +41,10 @@ shows-known title items asked records =
     (shown-names (shown_items (item_lists notes.report)))
     (shown-names notes.history)
     (λ name has k d within.
-        let orders : List RowView = rows_named name (rows_in s.Orders notes.report) in
-        let (r, at, is) = named-item (shown_items (item_lists notes.report)) name has in
-        let names : Contains (names_shown notes) (cell_at r 0) = All-contains (λ (r : RowView). Contains (names_shown notes) (cell_at r 0)) (shown_items (item_lists notes.report)) r (shown-names (shown_items (item_lists notes.report))) at in
-        let long : k < length (map (λ (r : RowView). cell_at r 1) orders) = rw (length-map orders (λ (r : RowView). cell_at r 1)) within in (
-          subst (λ (t : List ℕ). Contains (names_shown notes) t) is names,
-          subst (λ (t : List ℕ). Contains (map (λ (r : RowView). cell_at r 1) orders) t) (get_or-map (λ (r : RowView). cell_at r 1) orders k d [] within) (Contains-get_or (map (λ (r : RowView). cell_at r 1) orders) k [] long),
-        ))
+    let orders : List RowView = rows_named name (rows_in s.Orders notes.report) in
+    let (r, at, is) = named-item (shown_items (item_lists notes.report)) name has in
+    let names : Contains (names_shown notes) (cell_at r 0) = All-contains (λ (r : RowView). Contains (names_shown notes) (cell_at r 0)) (shown_items (item_lists notes.report)) r (shown-names (shown_items (item_lists notes.report))) at in
+    let long : k < length (map (λ (r : RowView). cell_at r 1) orders) = rw (length-map orders (λ (r : RowView). cell_at r 1)) within in (
+      subst (λ (t : List ℕ). Contains (names_shown notes) t) is names,
+      subst (λ (t : List ℕ). Contains (map (λ (r : RowView). cell_at r 1) orders) t) (get_or-map (λ (r : RowView). cell_at r 1) orders k d [] within) (Contains-get_or (map (λ (r : RowView). cell_at r 1) orders) k [] long),
+    ))

@@ -1,5 +1,5 @@
 -- Pages consist of fixed markup and of texts that are known.
-use Rattle.std.proofs.Common.{◌≡◌, ◌∙◌, ◌⊎◌, ◌-◌, ◌<◌, ◌≤◌, ℕ, zero, suc, Bool, true, false, Option, None, Some, List, [], ◌∷◌, ◌++◌, codes, decimal, drop, get_or, length, map, refl, sym, ap, subst, take, unwrap_or, arith, inl, inr, not}
+use Rattle.std.proofs.Common.{◌≡◌, ◌∙◌, ◌⊎◌, ◌-◌, ◌<◌, ◌≤◌, ℕ, zero, suc, Bool, true, false, Some, List, [], ◌∷◌, ◌++◌, codes, decimal, drop, get_or, length, map, refl, sym, ap, subst, take, unwrap_or, arith, inl, inr, not}
 use Rattle.std.specs.Prelude.{if◌then◌else◌, ◌==◌, ◌&&◌, ◌||◌, ◌*◌, count_by, nat_le, nat_lt}
 use Rattle.std.proofs.lemmas.Bool.{cases_lt}
 use Rattle.std.proofs.lemmas.List.{append-nil, get_or_past}
@@ -11,7 +11,7 @@ use Rattle.std.specs.List.{All, Contains, filter, find, flat_map, position_or_le
 use Rattle.mrp_page.specs.Amounts.{amount}
 use Rattle.mrp_page.specs.ByWord.{by_word, with_word}
 use Rattle.mrp_page.specs.Centres.{all_loads, centre_html, centres_back, each_centre, framed_centre, later_loads, load_section, loads_html, loads_table, over_listing, over_or_none, overload_html, shares_html, times_html}
-use Rattle.mrp_page.specs.Draw.{all_weeks, amounts_html, balance_html, booked_html, framed_record, has_firm, has_item, has_none, history_html, is_plain, is_scheduled, item_name_html, item_tasks, later_record, link_html, measure_html, more_html, more_items, more_lists, more_rows, more_weeks, named_note, named_record, named_tasks, other_if, other_tasks, planned_html, points_html, promised_html, record_html, record_or_none, record_rows, record_table, supplies_html, table_html, task_html, task_if, task_table, tasks_html, tasks_with, weeks_html}
+use Rattle.mrp_page.specs.Draw.{all_weeks, amounts_html, balance_html, booked_html, framed_record, has_item, has_none, history_html, is_plain, is_scheduled, item_name_html, item_tasks, later_record, link_html, measure_html, more_html, more_items, more_lists, more_rows, more_weeks, named_note, named_record, named_tasks, other_if, other_tasks, planned_html, points_html, promised_html, record_html, record_or_none, record_rows, record_table, supplies_html, table_html, task_html, task_if, task_table, tasks_html, tasks_with, weeks_html}
 use Rattle.mrp_page.specs.Escaped.{escaped}
 use Rattle.mrp_page.specs.Folded.{Listing, capped_html, folded_html, hidden_html, listed_html}
 use Rattle.mrp_page.specs.Frame.{count_row, frame, frame_of, heading, last_week}
@@ -1028,9 +1028,9 @@ module _ (K L E : List ℕ → Type 0) (O : List ℕ → List ℕ → Type 0) (w
   linked scene of name p named says made =
       linked-in scene p (rows_named name scene.orders) says made
       (λ k d within passes has.
-          let r : RowView = get_or (rows_named name scene.orders) k d in
-          let is : cell_at r 0 ≡ name = named r passes in
-          subst (λ (t : List ℕ). O (cell_at r 1) t) (sym is) (of.leads-to name (subst (λ (t : List ℕ). has_item scene.shown t ≡ true) is has) k d within))
+      let r : RowView = get_or (rows_named name scene.orders) k d in
+      let is : cell_at r 0 ≡ name = named r passes in
+      subst (λ (t : List ℕ). O (cell_at r 1) t) (sym is) (of.leads-to name (subst (λ (t : List ℕ). has_item scene.shown t ≡ true) is has) k d within))
 
   linked-number : (scene : SceneView) → SceneKnown scene → (name number says : List ℕ) → IsMadeOf K L E O says → IsMadeOf K L E O (linked_html scene (numbered scene name number) says)
   linked-number scene of name number says made = linked scene of name (is_numbered name number) (λ r passes. numbered-name name number r passes) says made
@@ -1700,11 +1700,11 @@ module _ (K L E : List ℕ → Type 0) (O : List ℕ → List ℕ → Type 0) (w
       let first : List RowView = sorted_by falling_late outs in
       let of-outs : All (λ (r : RowView). (column : ℕ) → K (cell_at r column)) outs = All-map (λ (r : RowView). (column : ℕ) → K (cell_at r column)) (out_row scene) weeks-of
       (λ k d within.
-          let r : RowView = get_or weeks-of k d in
-          let has : Contains weeks-of r = All-contains_itself weeks-of k d within in
-          let t : List ℕ = decimal (left_in r) in
-          let texts : List (List ℕ) = flat_map out_texts weeks-of in
-          out-known scene seen r (of-weeks k d within) (All-contains K (outs_texts notes) t (outs-text notes counts) (Contains-append_right (decimal notes.counts.plan ∷ decimal (length (outs_first scene plan)) ∷ []) texts t (contains-flat out_texts weeks-of r t has.0 has.1 has.2 (0, omega arith, refl))))) in
+      let r : RowView = get_or weeks-of k d in
+      let has : Contains weeks-of r = All-contains_itself weeks-of k d within in
+      let t : List ℕ = decimal (left_in r) in
+      let texts : List (List ℕ) = flat_map out_texts weeks-of in
+      out-known scene seen r (of-weeks k d within) (All-contains K (outs_texts notes) t (outs-text notes counts) (Contains-append_right (decimal notes.counts.plan ∷ decimal (length (outs_first scene plan)) ∷ []) texts t (contains-flat out_texts weeks-of r t has.0 has.1 has.2 (0, omega arith, refl))))) in
       All-permutation (λ (r : RowView). (column : ℕ) → K (cell_at r column)) first (sorted_by week_rank first) (sorted-permutes week_rank first) (All-permutation (λ (r : RowView). (column : ℕ) → K (cell_at r column)) outs first (sorted-permutes falling_late outs) of-outs)
 
   an-out : (shown : List RowView) → All (λ (r : RowView). L (cell_at r 0)) shown → (r : RowView) → ((column : ℕ) → K (cell_at r column)) → IsMadeOf K L E O (out_line shown r)

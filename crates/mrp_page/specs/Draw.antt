@@ -7,7 +7,7 @@ use Rattle.mrp_page.specs.Escaped.{escaped}
 use Rattle.mrp_page.specs.Frame.{count_row, frame_of}
 use Rattle.mrp_page.specs.Html.{is_zero}
 use Rattle.mrp_page.specs.ItemRows.{ItemLists}
-use Rattle.mrp_page.specs.Layout.{available_label, balance_chart, balance_label, booked_label, entry, firm_label, grid_end, gross_label, history_end, history_open, item_tasks_end, item_tasks_open, later_open, link_end, link_middle, link_open, more, no_promises, no_record, order, other_words, planned_label, point, points_end, record_head, rest_end, scheduled_label, starts_label, task_head, task_words, week, weeks_end}
+use Rattle.mrp_page.specs.Layout.{available_label, balance_chart, balance_label, booked_label, entry, firm_label, grid_end, gross_label, history_end, history_open, item_tasks_end, item_tasks_open, later_open, link_end, link_middle, link_open, more, no_promises, no_record, other_words, planned_label, point, points_end, record_head, rest_end, scheduled_label, starts_label, task_head, task_words, week, weeks_end}
 use Rattle.mrp_page.specs.Row.{RowView, cell_at, is_of}
 use Rattle.mrp_page.specs.Rows.{greatest, rows_named}
 use Rattle.mrp_page.specs.Template.{Drawn, flows_html, has_word, numbers_html, row_html, rows_html}

@@ -1,5 +1,5 @@
 -- The section *To do*: the messages, kind by kind.
-use Rattle.std.specs.Prelude.{ℕ, Bool, List, [], ◌∷◌, ◌++◌, ◌==◌, ◌&&◌, ◌*◌, ◌-◌, ◌^◌, Option, None, Some, codes, length, map, nat_le, not, if◌then◌else◌}
+use Rattle.std.specs.Prelude.{ℕ, List, [], ◌∷◌, ◌++◌, ◌==◌, ◌&&◌, ◌*◌, ◌-◌, ◌^◌, Option, None, Some, codes, length, map, nat_le, not, if◌then◌else◌}
 use Rattle.std.specs.List.{filter}
 use Rattle.mrp_page.specs.declared.kinds.Kind.{Kind as Declared}
 use Rattle.mrp_page.specs.declared.kinds.Sorting.{Sorting}

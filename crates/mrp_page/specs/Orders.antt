@@ -9,7 +9,7 @@ use Rattle.mrp_page.specs.Layout.{link_end, link_middle, order_address}
 use Rattle.mrp_page.specs.Row.{RowView, cell_at, is_of}
 use Rattle.mrp_page.specs.Rows.{rows_named}
 use Rattle.mrp_page.specs.Scene.{SceneView}
-use Rattle.mrp_page.specs.Template.{Drawn, has_word, row_html}
+use Rattle.mrp_page.specs.Template.{has_word}
 
 -- an order is that of this item with this number
 abbrev pub is_numbered : List ℕ → List ℕ → RowView → Bool

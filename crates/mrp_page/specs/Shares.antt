@@ -1,5 +1,5 @@
 -- Loads of work centres, as shares of their capacities.
-use Rattle.std.specs.Prelude.{ℕ, Bool, ◌*◌, ◌-◌, ◌^◌, ◌==◌, min, nat_le, not, List, [], ◌∷◌, ◌++◌, Option, Some, None, codes, decimal, drop, unwrap_or, if◌then◌else◌}
+use Rattle.std.specs.Prelude.{ℕ, Bool, ◌*◌, ◌-◌, ◌^◌, ◌==◌, min, nat_le, List, [], ◌∷◌, ◌++◌, Option, Some, None, codes, decimal, drop, unwrap_or, if◌then◌else◌}
 use Rattle.std.specs.Int.{div_ceil}
 use Rattle.std.specs.List.{before_first, position_or_len}
 use Rattle.mrp_page.specs.Amounts.{amount}

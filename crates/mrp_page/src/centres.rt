@@ -105,12 +105,7 @@ fn put_later_loads(
 
 // Adds the weeks of a work centre.
 #[tactic(auto, unfolding(crate::specs::Centres::all_loads))]
-fn put_all_loads(
-    alloc: Global,
-    page: &mut Html,
-    frame: &Row,
-    rows: &[Row],
-) -> Result<(), NoMemory>
+fn put_all_loads(alloc: Global, page: &mut Html, frame: &Row, rows: &[Row]) -> Result<(), NoMemory>
     ensures { OnOk result (page.new ≡ page.old ++ all_loads frame.now rows.now) }
 {
     let (first, later) = cut_weeks(rows);

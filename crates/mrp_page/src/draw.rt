@@ -457,7 +457,11 @@ pub(crate) fn put_named_record(
 
 // Adds the messages of an item, given a row of the item.
 #[tactic(auto, unfolding(crate::specs::Draw::named_tasks))]
-pub(crate) fn put_named_tasks(page: &mut Html, rows: &ItemRows<'_>, leader: &Row) -> Result<(), NoMemory>
+pub(crate) fn put_named_tasks(
+    page: &mut Html,
+    rows: &ItemRows<'_>,
+    leader: &Row,
+) -> Result<(), NoMemory>
     ensures { OnOk result (page.new ≡ page.old ++ named_tasks rows.now leader.now) }
 {
     put_item_tasks(page, leader, rows_named(rows.messages(), leader.name()))

@@ -11,7 +11,12 @@ use mrp_qty::{NoMemory, number_text};
 use std::alloc::Global;
 
 // A frame: the name, the weeks and the greatest number of a table.
-pub(crate) fn frame<'x>(alloc: Global, name: &'x [u8], weeks: &'x [u8], top: &'x [u8]) -> Result<Row, NoMemory>
+pub(crate) fn frame<'x>(
+    alloc: Global,
+    name: &'x [u8],
+    weeks: &'x [u8],
+    top: &'x [u8],
+) -> Result<Row, NoMemory>
     ensures { IfOk result (λ row. row ≡ frame name.now weeks.now top.now) }
 {
     let cells = ByteRecord::from_fields(alloc, &[name, weeks, top])?;

@@ -796,9 +796,13 @@ pub(crate) fn centre_head() -> &'static [Part]
     ensures { map drawn_of result.now ≡ centre_head }
 {
     &[
-        Part::Markup(b"<div class=scroll tabindex=0 role=region aria-label=\"Load and capacity of "),
+        Part::Markup(
+            b"<div class=scroll tabindex=0 role=region aria-label=\"Load and capacity of ",
+        ),
         Part::Cell(0),
-        Part::Markup(b", week by week\"><table class=\"grid loads\" aria-label=\"Load and capacity of "),
+        Part::Markup(
+            b", week by week\"><table class=\"grid loads\" aria-label=\"Load and capacity of ",
+        ),
         Part::Cell(0),
         Part::Markup(b"\">\n<thead><tr><th scope=col>Week</th>"),
     ]
@@ -1002,11 +1006,7 @@ pub(crate) fn task_middle() -> &'static [u8]
 pub(crate) fn task_supply() -> &'static [Part]
     ensures { map drawn_of result.now ≡ task_supply }
 {
-    &[
-        Part::Cell(1),
-        Part::Markup(b" "),
-        Part::Cell(2),
-    ]
+    &[Part::Cell(1), Part::Markup(b" "), Part::Cell(2)]
 }
 
 // The pieces of an open order.
@@ -1014,10 +1014,7 @@ pub(crate) fn task_supply() -> &'static [Part]
 pub(crate) fn open_pieces() -> &'static [Part]
     ensures { map drawn_of result.now ≡ open_pieces }
 {
-    &[
-        Part::Number(0),
-        Part::Markup(b"<td></td><td></td>"),
-    ]
+    &[Part::Number(0), Part::Markup(b"<td></td><td></td>")]
 }
 
 // The heading of an item, with its name.
@@ -1115,11 +1112,7 @@ pub(crate) fn peg_front() -> &'static [u8]
 pub(crate) fn peg_supply() -> &'static [Part]
     ensures { map drawn_of result.now ≡ peg_supply }
 {
-    &[
-        Part::Cell(6),
-        Part::Markup(b" "),
-        Part::Cell(7),
-    ]
+    &[Part::Cell(6), Part::Markup(b" "), Part::Cell(7)]
 }
 
 // The pieces of a peg, before its requirement.
@@ -1187,10 +1180,7 @@ pub(crate) fn peg_back() -> &'static [Part]
 pub(crate) fn wait_order() -> &'static [Part]
     ensures { map drawn_of result.now ≡ wait_order }
 {
-    &[
-        Part::Markup(b"order "),
-        Part::Cell(3),
-    ]
+    &[Part::Markup(b"order "), Part::Cell(3)]
 }
 
 // The pieces that it waits for.
@@ -1271,7 +1261,9 @@ pub(crate) fn outs_note() -> &'static [Part]
     ensures { map drawn_of result.now ≡ outs_note }
 {
     &[
-        Part::Markup(b"<p class=note>The first week in which stock and the orders that are placed are not enough, what is left then without planned orders, and how late the first of these is. Items: "),
+        Part::Markup(
+            b"<p class=note>The first week in which stock and the orders that are placed are not enough, what is left then without planned orders, and how late the first of these is. Items: ",
+        ),
         Part::Cell(0),
         Part::Markup(b".</p>\n"),
     ]
@@ -1316,13 +1308,17 @@ pub(crate) fn load_chart() -> &'static [Part]
     ensures { map drawn_of result.now ≡ load_chart }
 {
     &[
-        Part::Markup(b"<div class=chart><p><span>200 %</span><span>100 %</span><span>0</span></p><p class=axis><span>week 1</span><span>a line behind each thirteenth week</span><span>week "),
+        Part::Markup(
+            b"<div class=chart><p><span>200 %</span><span>100 %</span><span>0</span></p><p class=axis><span>week 1</span><span>a line behind each thirteenth week</span><span>week ",
+        ),
         Part::Cell(1),
         Part::Markup(b"</span></p><svg role=\"img\" viewBox=\"0.5 -226 "),
         Part::Cell(1),
         Part::Markup(b" 226\" preserveAspectRatio=\"none\"><title>Load of "),
         Part::Cell(0),
-        Part::Markup(b" as a share of its capacity, week by week</title><g transform=\"translate(-.4) scale(1 -1)\"><path class=load d=\""),
+        Part::Markup(
+            b" as a share of its capacity, week by week</title><g transform=\"translate(-.4) scale(1 -1)\"><path class=load d=\"",
+        ),
     ]
 }
 
@@ -1334,7 +1330,9 @@ pub(crate) fn balance_chart() -> &'static [Part]
     &[
         Part::Markup(b"<div class=chart><p><span>"),
         Part::Cell(2),
-        Part::Markup(b"</span><span>0</span></p><p class=axis><span>week 1</span><span>a line behind each thirteenth week</span><span>week "),
+        Part::Markup(
+            b"</span><span>0</span></p><p class=axis><span>week 1</span><span>a line behind each thirteenth week</span><span>week ",
+        ),
         Part::Cell(1),
         Part::Markup(b"</span></p><svg role=\"img\" viewBox=\"0.5 -"),
         Part::Cell(2),

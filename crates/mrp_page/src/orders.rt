@@ -43,12 +43,7 @@ fn numbered_among<'a>(orders: &'a [Row], name: &[u8], number: &[u8]) -> Option<&
 }
 
 // The order among these of an item with this number and kind.
-fn order_among<'a>(
-    orders: &'a [Row],
-    name: &[u8],
-    kind: &[u8],
-    number: &[u8],
-) -> Option<&'a Row>
+fn order_among<'a>(orders: &'a [Row], name: &[u8], kind: &[u8], number: &[u8]) -> Option<&'a Row>
     ensures { option_copied result ≡ find (is_order name.now kind.now number.now) orders.now }
 {
     for order in orders {

@@ -176,13 +176,7 @@ fn put_page_of(
     let counts = notes.counts();
     put_top(alloc, page, title, report, counts.items)?;
     put_summary(alloc, page, notes.history(), rows.messages(), loads)?;
-    put_refused(
-        alloc,
-        page,
-        scene.shown(),
-        notes.history(),
-        counts.history,
-    )?;
+    put_refused(alloc, page, scene.shown(), notes.history(), counts.history)?;
     put_todo(alloc, page, scene, rows.messages(), counts.messages)?;
     put_middle(alloc, page, scene, report, counts)?;
     put_rest(alloc, page, scene, &rows, counts)

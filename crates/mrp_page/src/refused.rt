@@ -86,7 +86,11 @@ fn has_entry(history: &[Row], number: &[u8]) -> bool
 
 // Adds the number of an entry, as a link if the entry is on the page.
 #[tactic(auto, unfolding(crate::specs::Refused::entry_name_html))]
-pub(crate) fn put_entry_name(page: &mut Html, history: &[Row], number: &[u8]) -> Result<(), NoMemory>
+pub(crate) fn put_entry_name(
+    page: &mut Html,
+    history: &[Row],
+    number: &[u8],
+) -> Result<(), NoMemory>
     ensures { OnOk result (page.new ≡ page.old ++ entry_name_html history.now number.now) }
 {
     if has_entry(history, number) {

@@ -81,7 +81,11 @@ pub(crate) fn rows_named<'a>(rows: &'a [Row], name: &[u8]) -> &'a [Row]
 }
 
 // Adds a row that is not of the same item or work centre as the row before it.
-pub(crate) fn add_leader<'a>(found: &mut Vec<&'a Row>, previous: &[u8], row: &'a Row) -> Result<(), NoMemory>
+pub(crate) fn add_leader<'a>(
+    found: &mut Vec<&'a Row>,
+    previous: &[u8],
+    row: &'a Row,
+) -> Result<(), NoMemory>
     ensures { OnOk result (map (λ r. r.now) found.new.items ≡ map (λ r. r.now) found.old.items ++ leader_rows previous.now row.now) }
 {
     if !row.is_of(previous) {
