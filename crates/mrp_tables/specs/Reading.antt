@@ -93,7 +93,7 @@ pub record IsNotAdmitted (limit : Option ℕ) (old : Left) (f : Fault) : Type 0 
   pub left : old.left ≡ cells ∷ rest
   pub refused : admitted limit old.layout (record { table = old.layout.table; number = old.number; cells = cells }) ≡ Err f
 
--- the next record of a table, admitted; none where none is left; or why it is refused: for want of memory no record is taken
+-- the next record of a table, admitted; none where none is left; or why it is refused; out of memory, no record is taken
 abbrev pub NextAdmitted : Option ℕ → Left → Result (Option Cells) Fault → Left → Type 0
 NextAdmitted limit old (Ok None) new = old.left ≡ []
 NextAdmitted limit old (Ok (Some r)) new = IsAdmitted limit old r new

@@ -78,6 +78,6 @@ first_refused [] = None
 first_refused (Ok plan ∷ runs) = first_refused runs
 first_refused (Err fault ∷ runs) = Some fault
 
--- why a day with these runs is refused: for want of memory if a run was refused it, otherwise as the first refused one is
+-- why a day with these runs is refused: out of memory if a run was refused it, otherwise as the first refused one is
 abbrev pub refusal_among : List RunResult → Option DayFault
 refusal_among runs = if list_any lacks_memory runs then Some NoMemory else first_refused runs

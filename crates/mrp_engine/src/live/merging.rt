@@ -36,7 +36,7 @@ fn has_lacked(runs: &[RunResult]) -> bool
         .any(|run| matches!(run, Err(DayFault::NoMemory)))
 }
 
-// Why a day with these runs is refused, if it is: for want of memory if a run was refused it, otherwise as the
+// Why a day with these runs is refused, if it is: out of memory if a run was refused it, otherwise as the
 // first refused run is. It takes no memory.
 fn refusal_among(runs: &[RunResult]) -> Option<DayFault>
     ensures { result ≡ refusal_among runs.now }

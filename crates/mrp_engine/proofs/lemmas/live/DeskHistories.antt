@@ -145,7 +145,7 @@ run-fewer records d = added (list_any (λ r. is_run r.1) records)
     added true = omega arith
     added false = run-more records d
 
--- desks that have made the calls of their records, where the run that is added is not made for want of memory
+-- desks that have made the calls of their records, where the run that is added is not made, out of memory
 pub none-made : (records : Script) (desks : List Desk) → HaveServed records desks {U = Unit {0}} (Ok (tt {0})) → HaveServed (with_run records) desks {U = Unit {0}} (Err NoMemory)
 none-made records desks have = record {
   served = tt;

@@ -56,7 +56,7 @@ none-refused results is = by (list_any lacks_memory results) is
     by true e = absurd (cc)
     by false e = e
 
--- for want of memory if a run was refused it
+-- out of memory if a run was refused it
 pub memory-first : (results : List RunResult) (fault : DayFault) → refusal_among results ≡ Some fault → list_any lacks_memory results ≡ true → fault ≡ NoMemory
 memory-first results fault is lacks = by (list_any lacks_memory results) is lacks
   where
