@@ -3,7 +3,7 @@
 ghost use Rattle.std.specs.Prelude.{◌≡◌, IfOk, IfSome};
 
 use mrp_engine::replan;
-use mrp_explode::{RunFault, explode_serial};
+use mrp_explode::{RunFault, explode_serial, plan_from};
 use mrp_item::{Inputs, Plan, Planner, Work};
 use mrp_qty::NoMemory;
 use sample_shops::{Asked, inputs_after};
@@ -58,8 +58,5 @@ pub(crate) fn plan_next(alloc: Global, last: &Plan, other: &Inputs) -> Result<(P
     let inputs = same_inputs(alloc, other)?;
     let mut work = Work::new();
     let outcomes = replan(alloc, last, &inputs, &mut work)?;
-    match Plan::of(inputs, outcomes) {
-        Ok(plan) => Ok((plan, work.count())),
-        Err(item) => Err(RunFault::TooLarge { item }),
-    }
+    Ok((plan_from(inputs, outcomes)?, work.count()))
 }
