@@ -13,6 +13,7 @@ import importlib.util
 import os
 import shutil
 import subprocess
+import threading
 
 # The first word of what `rt version` prints, of each toolchain that the runner was tried with.
 KNOWN = ("rattle-kit-13b", "rattle-kit-13f")
@@ -38,6 +39,26 @@ def require_known(found):
         raise OtherToolchain(f"{what}: tools/edits_runner/toolchain.py says what to do")
 
 
+class Stamps:
+    """How the toolchain sums what a library is made from. A crate's sum asks for those of the crates that it stands on, and theirs
+    for theirs: once for each way down, of which there are thousands. Here each crate is summed once in a sum."""
+
+    def __init__(self, summed):
+        self.summed, self.known = summed, threading.local()
+
+    def of(self, crate):
+        found = getattr(self.known, "sums", None)
+        if found is None:
+            self.known.sums = {}
+            try:
+                return self.summed(crate)
+            finally:
+                self.known.sums = None
+        if crate.folder not in found:
+            found[crate.folder] = self.summed(crate)
+        return found[crate.folder]
+
+
 @functools.cache
 def script():
     """The toolchain's `rt` as a module. Raises OtherToolchain."""
@@ -47,6 +68,8 @@ def script():
     loader.exec_module(made)
     # (the first call sets a signal's handler, which only the main thread may do)
     made.rtlib.guarded()
+    stamps = Stamps(made.rtlib.Crate.stamp)
+    made.rtlib.Crate.stamp = lambda crate: stamps.of(crate)
     return made
 
 

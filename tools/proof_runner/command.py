@@ -18,10 +18,10 @@ from .schedule import MOST_JOBS, Plan, rate_seen, seconds_left, told
 
 TOP = os.path.dirname(os.path.dirname(os.path.dirname(os.path.realpath(__file__))))
 BUILT = os.path.join(TOP, "bin", PROGRAM)
+# The toolchain's script, as tools/edits_runner/toolchain.py loads it, in a process of its own.
+AS_A_MODULE = [sys.executable, "-B", "-c", "import sys; from edits_runner import toolchain; sys.exit(toolchain.script().main(sys.argv[1:]))"]
 # What the proof of a crate may take of the memory, and what each process of several takes.
 MEMORY_OF_A_PROOF, MEMORY_OF_A_PROCESS = 4_500_000_000, 3_000_000_000
-# How far those crates give way for which no other waits.
-NICE = 10
 
 
 class NotProved(Exception):
@@ -83,12 +83,20 @@ class Libraries:
             return crate.build_rlib(["--jobs", str(jobs)], anew=False) == 0
 
 
-def build_program(jobs):
-    """Proves and builds the program over its libraries, which are built, and returns whether it could."""
+def build_program(jobs, rt):
+    """Proves and builds the program over its libraries, which are built, and returns whether it could. `rt` is the command by which
+    the toolchain is called."""
     how = {"cwd": f"{TOP}/crates/{PROGRAM}", "stdin": subprocess.DEVNULL, "stderr": subprocess.STDOUT, "check": False}
+    how["env"] = {**os.environ, "PYTHONPATH": f"{TOP}/tools"}
     # (the toolchain builds a program to run it, and this ends at once)
     with open(log_of(PROGRAM), "w", encoding="utf-8") as log:
-        return subprocess.run(["rt", "run", "--jobs", str(jobs), "--", "--version"], stdout=log, **how).returncode == 0
+        return subprocess.run([*rt, "run", "--jobs", str(jobs), "--", "--version"], stdout=log, **how).returncode == 0
+
+
+def give_way():
+    """Has this thread, and the processes that it starts, run where no other would."""
+    if hasattr(os, "SCHED_IDLE"):
+        os.sched_setscheduler(0, os.SCHED_IDLE, os.sched_param(0))
 
 
 class Proving:
@@ -104,11 +112,11 @@ class Proving:
         seconds = seconds_left(self.plan, spent, rate_seen(self.proved))
         say(told(len(self.plan.done), len(self.plan.below), seconds))
 
-    def prove(self, name, jobs, nice):
+    def prove(self, name, jobs, is_urgent):
         is_well = False
         try:
-            # (on Linux that is for this thread and the processes that it starts)
-            os.nice(nice)
+            if not is_urgent:
+                give_way()
             is_well = self.build(name, jobs)
         finally:
             with self.changed:
@@ -123,8 +131,8 @@ class Proving:
             while len(self.plan.done) < len(self.plan.below) and not self.failed:
                 for name, jobs in self.plan.start().items():
                     self.begun[name] = time.time()
-                    nice = 0 if name == self.plan.first() else NICE
-                    threading.Thread(target=self.prove, args=(name, jobs, nice), daemon=True).start()
+                    urgent = self.plan.is_urgent(name)
+                    threading.Thread(target=self.prove, args=(name, jobs, urgent), daemon=True).start()
                 self.say()
                 self.changed.wait(60)
             if self.failed:
@@ -153,14 +161,14 @@ def prove_in_parallel(lanes):
         if name != PROGRAM:
             return libraries.build(name, jobs)
         libraries.unlock()
-        return build_program(jobs)
+        return build_program(jobs, AS_A_MODULE)
 
     Proving(plan, build).run()
 
 
 def prove_in_turn(lanes):
     """The same by the toolchain's own command, which proves one crate after the other."""
-    if not build_program(min(lanes or MOST_JOBS, MOST_JOBS)):
+    if not build_program(min(lanes or MOST_JOBS, MOST_JOBS), ["rt"]):
         raise NotProved(PROGRAM)
 
 

@@ -6,6 +6,8 @@ from dataclasses import dataclass, field
 MOST_JOBS = 4
 # How much faster a crate is proved by so many processes: each of them loads what stands below it.
 SPEED = {1: 1.0, 2: 1.4, 3: 1.65, 4: 1.8}
+# A way up that is so much of the longest one may prove the longest, since costs are reckoned.
+NEAR = 0.85
 # What is taken for the rate before much is proved: lines of proof a second, as if so many had been proved at it.
 FIRST_RATE, FIRST_LINES = 30.0, 6000.0
 
@@ -13,7 +15,7 @@ FIRST_RATE, FIRST_LINES = 30.0, 6000.0
 @dataclass
 class Plan:
     """Crates with what each stands on and what it costs, those that are proved, and those that are being proved, each with its
-    processes: at most `lanes` for one, for which all the others wait, and `room` for all."""
+    processes: at most `lanes` for one, for which the others wait, and `room` for all."""
 
     below: dict
     weights: dict
@@ -36,26 +38,24 @@ class Plan:
         self.ways = {name: self.way_up(name) for name in self.below}
         self.room = max(self.room, self.lanes)
 
-    def leads(self, name):
-        """Whether a crate has a longer way up than all that are being proved."""
-        return all(self.ways[name] > self.ways[it] for it in self.running)
-
-    def first(self):
-        """The crate with the longest way up of those that are being proved."""
-        return max(self.running, key=self.ways.get)
+    def is_urgent(self, name):
+        """Whether no crate that is being proved, or can be now, has a much longer way up."""
+        return self.ways[name] >= NEAR * max(self.ways[it] for it in [*self.ready(), *self.running])
 
     def start(self):
-        """Takes those that go next, and returns them with their processes: one each, and all lanes to the one that all the others
-        wait for. Where there is no more room, up to half of the lanes are for the others."""
+        """Takes those that go next, and returns them with their processes: one each, and all lanes to an urgent one. Where there is
+        no more room, up to half of the lanes are for the others."""
         begun, ready = {}, self.ready()
+        aside = max(self.room - self.lanes, self.lanes // 2)
+        urgent = {it for it in [*ready, *self.running] if self.is_urgent(it)}
         for place, name in enumerate(ready):
-            leads, others = self.leads(name), sum(self.running.values())
-            aside = max(self.room - self.lanes, self.lanes // 2)
-            if leads:
+            others = sum(self.running.values())
+            if name in urgent:
                 wanted = self.room - min(aside, others + len(ready) - place - 1)
                 jobs = min(self.lanes, MOST_JOBS, wanted, self.room - others)
             else:
-                jobs = min(1, aside - others + self.running[self.first()], self.room - others)
+                waited = sum(jobs for it, jobs in self.running.items() if it not in urgent)
+                jobs = min(1, aside - waited, self.room - others)
             if jobs > 0:
                 begun[name] = self.running[name] = jobs
         return begun

@@ -1,7 +1,7 @@
 //! The folder of cases, in which the program is run. A case is the file NAME.bundle, or the folder
 //! NAME.files with its tables, and with it either NAME.day, the day that planning it writes, or
 //! NAME.said, the words with which it is refused. A day that is drawn is the file NAME.drawn, and
-//! with it NAME.html, its page.
+//! with it NAME.html, its page; it may have a folder NAME.tables with the tables that it was planned from.
 
 use crate::ending::Ending;
 use std::alloc::Global;
@@ -11,6 +11,9 @@ use std::{fs, io};
 
 /// The suffix of the name of a case's folder of tables.
 pub const FILES: &str = ".files";
+
+/// The suffix of the name of the folder of tables of a day that is drawn.
+pub const TABLES: &str = ".tables";
 
 const BUNDLE: &str = ".bundle";
 
@@ -116,6 +119,12 @@ pub fn wanted_of<R: Files + AllocGlobal>(rt: &R, name: &str) -> io::Result<Optio
 pub fn drawn_day<R: Files + AllocGlobal>(rt: &R, name: &str) -> io::Result<Vec<u8>> {
     let file = format!(in rt.alloc(); "{name}{DRAWN}")?;
     fs::read(rt, &file)
+}
+
+/// Whether a day that is drawn has a folder of tables.
+pub fn has_tables<R: Files + AllocGlobal>(rt: &R, name: &str) -> io::Result<bool> {
+    let folder = format!(in rt.alloc(); "{name}{TABLES}")?;
+    fs::exists(rt, &folder)
 }
 
 /// How drawing a day has to end: its page is written. `None` if it has no page.

@@ -9,7 +9,9 @@ mod ending;
 mod folder;
 
 use self::ending::Ending;
-use self::folder::{FILES, Folder, bundle_of, drawn_day, wanted_of, wanted_page};
+use self::folder::{
+    FILES, Folder, TABLES, bundle_of, drawn_day, has_tables, wanted_of, wanted_page,
+};
 use mrp_audit::check;
 use mrp_main::run_words;
 use mrp_rows::Told;
@@ -146,6 +148,20 @@ fn compare<R: Files + AllocGlobal + Print + Threads + Wait + Sync>(
     }
 }
 
+// How drawing a day ends, with the tables that it was planned from if it has a folder of them.
+fn drawn_by<R: Files + AllocGlobal + Threads + Wait + Sync>(
+    rt: &R,
+    name: &str,
+    day: &[u8],
+) -> io::Result<Ending> {
+    if !has_tables(rt, name)? {
+        return ended(rt, rt.alloc(), &["page", "--title", name], day);
+    }
+    let folder = format!(in rt.alloc(); "{name}{TABLES}")?;
+    let words = ["page", "--title", name, "--dir", folder.as_str()];
+    ended(rt, rt.alloc(), &words, day)
+}
+
 // Whether the page of a day is the expected one.
 fn is_drawn_right<R: Files + AllocGlobal + Print + Threads + Wait + Sync>(
     rt: &R,
@@ -156,7 +172,7 @@ fn is_drawn_right<R: Files + AllocGlobal + Print + Threads + Wait + Sync>(
         return Ok(false);
     };
     let day = drawn_day(rt, name)?;
-    let drawn = ended(rt, rt.alloc(), &["page", "--title", name], &day)?;
+    let drawn = drawn_by(rt, name, &day)?;
     is_as_wanted(rt, "page", name, &drawn, &wanted)
 }
 

@@ -1,6 +1,6 @@
 -- How a command ends: what it leaves of its input and its output, and what it writes to its error stream
 -- (profile).
-use Rattle.std.specs.Prelude.{ℕ, ◌≡◌, ◌≢◌, ◌⊎◌, List, [], ◌∷◌, ◌++◌, Option, Some, None, Result, Ok, Err, ⊤, codes, string_bytes}
+use Rattle.std.specs.Prelude.{ℕ, ◌≡◌, ◌≢◌, ◌⊎◌, List, [], ◌∷◌, ◌++◌, Option, Some, None, Result, Ok, Err, ⊤, codes, option_map, string_bytes}
 use Rattle.std.specs.Io.KnownBytes.{IsAtEnd}
 use Rattle.mrp_rows.specs.FaultText.{text_of_fault}
 use Rattle.mrp_rows.specs.declared.fault.Fault.{Fault}
@@ -18,18 +18,19 @@ use Rattle.mrp_engine.specs.day.Run.{HasNotFailed, HasPassedLimits, HasTakenAll,
 use Rattle.mrp_engine.specs.declared.day.fault.DayFault.{DayFault}
 use Rattle.mrp_engine.specs.declared.day.fault.DayFault.TheVariants as fault
 use Rattle.mrp_words.specs.declared.command.Request.{Request}
-use Rattle.mrp_words.specs.declared.command.Request.TheVariants.{Check, Day, Page}
+use Rattle.mrp_words.specs.declared.command.Request.TheVariants.{Carry, Check, Day, Page}
 use Rattle.mrp_words.specs.declared.day.DayCommand.{DayCommand}
 use Rattle.mrp_words.specs.declared.day.DayCommand.TheVariants.{Plan, Live}
 use Rattle.mrp_words.specs.declared.command.NoRequest.{NoRequest}
 use Rattle.mrp_words.specs.declared.command.NoRequest.TheVariants as none
 use Rattle.mrp_main.specs.declared.ending.Ending.{Ending}
-use Rattle.mrp_main.specs.declared.ending.Ending.TheVariants.{Done, Refused, TooLarge, WrongShape, Wrong, NoRun, Usage, NoMemory, Read, Write}
+use Rattle.mrp_main.specs.declared.ending.Ending.TheVariants.{Done, LeftBehind, Refused, TooLarge, WrongShape, Wrong, NoRun, NoStart, Usage, NoMemory, Read, Write, WrongTables}
 use Rattle.mrp_main.specs.declared.status.Status.TheVariants as status
 use Rattle.mrp_main.specs.Status.{code_of, status_of}
 use Rattle.mrp_words.specs.Folder.{IsReadFrom, Known, nothing_known}
-use Rattle.mrp_main.specs.PageEnds.{PageEnds}
+use Rattle.mrp_main.specs.PageEnds.{AskedPageEnds}
 use Rattle.mrp_main.specs.Refusal.{TellsFault}
+use Rattle.mrp_main.specs.CarryEnds.{CarryEndsBy}
 use Rattle.mrp_main.specs.CheckEnds.{CheckEnds}
 use Rattle.mrp_words.specs.Words.{Asks}
 
@@ -54,8 +55,11 @@ DayWrites command contents given ended failed output written Done = (text : List
 DayWrites command contents given ended failed output written (Refused text) = IsRefusedAs given (string_bytes text) × (written ≡ output)
 DayWrites command contents given ended failed output written (TooLarge name) = IsTooLargeAt command given name × (written ≡ output)
 DayWrites command contents given ended failed output written WrongShape = ⊥
+DayWrites command contents given ended failed output written WrongTables = ⊥
 DayWrites command contents given ended failed output written Wrong = ⊥
 DayWrites command contents given ended failed output written NoRun = ⊥
+DayWrites command contents given ended failed output written (LeftBehind text) = ⊥
+DayWrites command contents given ended failed output written (NoStart range) = ⊥
 DayWrites command contents given ended failed output written (Usage text) = ⊥
 DayWrites command contents given ended failed output written NoMemory = (written ≡ output) ⊎ (ended × WritesFrontBy (answering command) contents given output written)
 DayWrites command contents given ended failed output written Read = failed × (written ≡ output)
@@ -72,8 +76,11 @@ HasReadAll Done = ⊤
 HasReadAll (Refused text) = ⊤
 HasReadAll (TooLarge name) = ⊤
 HasReadAll WrongShape = ⊥
+HasReadAll WrongTables = ⊥
 HasReadAll Wrong = ⊥
 HasReadAll NoRun = ⊥
+HasReadAll (LeftBehind text) = ⊥
+HasReadAll (NoStart range) = ⊥
 HasReadAll (Usage text) = ⊥
 HasReadAll NoMemory = ⊥
 HasReadAll Read = ⊥
@@ -102,13 +109,14 @@ pub record FolderEnds {W : Type 0} (command : DayCommand) (known : Known) (folde
   pub ends : BundleEnds command contents output written read end
 
 -- how a request ends: a day of a folder's files leaves the input as it was; a page and a check are of the day that the
--- input had left; words ask for no check without a folder
+-- input had left; carrying leaves the input as it was; words ask for no check without a folder
 abbrev pub RequestEnds : Known → {R W : Type 0} → (R → Option (List ℕ)) → (W → Option (List ℕ)) → Told R → Told R → Told W → Told W → Request → Ending → Type 0
 RequestEnds known remaining contents input read output written (Day command workers None) end = DayEnds command remaining contents input read output written end
 RequestEnds known remaining contents input read output written (Day command workers (Some folder)) end = (read ≡ input) × FolderEnds command known (string_bytes folder) contents output written end
-RequestEnds known remaining contents input read output written (Page words) end = PageEnds words remaining contents input read output written end
+RequestEnds known remaining contents input read output written (Page words) end = AskedPageEnds known words (option_map string_bytes words.folder) remaining contents input read output written end
 RequestEnds known remaining contents input read output written (Check (Some folder)) end = CheckEnds known (string_bytes folder) remaining contents input read output written end
 RequestEnds known remaining contents input read output written (Check None) end = (read ≡ input) × (written ≡ output) × (status_of end ≡ status.Usage)
+RequestEnds known remaining contents input read output written (Carry words) end = (read ≡ input) × CarryEndsBy known words contents output written end
 
 -- how help ends: it was written, or a prefix of it
 abbrev pub HelpEnds : {W : Type 0} → (W → Option (List ℕ)) → Told W → Told W → List ℕ → Ending → Type 0
@@ -135,11 +143,14 @@ IsEndOf fault.NoMemory end = end ≡ NoMemory
 -- what is written to the error stream for an ending
 abbrev pub words_of : Ending → List ℕ
 words_of Done = []
+words_of (LeftBehind text) = string_bytes text ++ 10 ∷ []
 words_of (Refused text) = codes "refused: " ++ string_bytes text ++ 10 ∷ []
 words_of (TooLarge name) = codes "too large: " ++ name ++ 10 ∷ []
 words_of WrongShape = codes "wrong: shape" ++ 10 ∷ []
+words_of WrongTables = codes "wrong: tables" ++ 10 ∷ []
 words_of Wrong = []
 words_of NoRun = codes "no such run" ++ 10 ∷ []
+words_of (NoStart range) = codes "no such start: expected a Monday from " ++ string_bytes range ++ 10 ∷ []
 words_of (Usage text) = string_bytes text
 words_of NoMemory = codes "no memory" ++ 10 ∷ []
 words_of Read = codes "read failed" ++ 10 ∷ []

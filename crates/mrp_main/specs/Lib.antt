@@ -1,5 +1,6 @@
 pub mod Status
 pub mod PageEnds
 pub mod Refusal
+pub mod CarryEnds
 pub mod CheckEnds
 pub mod Ends

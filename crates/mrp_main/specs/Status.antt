@@ -16,11 +16,14 @@ code_of Stream = 4
 -- the status of each end
 abbrev pub status_of : Ending → Status
 status_of ending.Done = Done
+status_of (ending.LeftBehind text) = Done
 status_of (ending.Refused text) = Refused
 status_of (ending.TooLarge name) = Refused
 status_of ending.WrongShape = Refused
+status_of ending.WrongTables = Refused
 status_of ending.Wrong = Refused
 status_of ending.NoRun = Usage
+status_of (ending.NoStart range) = Usage
 status_of (ending.Usage text) = Usage
 status_of ending.NoMemory = NoMemory
 status_of ending.Read = Stream

@@ -5,7 +5,7 @@ ghost use Rattle.mrp_report.specs.Written.{HasGivenUp, HasTakenFront};
 ghost use Rattle.mrp_engine.specs.day.Run.{HasTakenAll};
 
 use crate::status::Status;
-use mrp_engine::DayFault;
+use mrp_engine::{DayFault, OpenFault};
 use mrp_page::PageFault;
 use mrp_qty::NoMemory;
 use mrp_rows::{Name, ReadFault, Told, Tries, WRITE_TRIES, WriteFault, fault_text, write_text};
@@ -17,16 +17,22 @@ use std::io::Write;
 pub enum Ending {
     /// The command succeeded.
     Done,
+    /// Bookings were carried, but not all; this text says how many are not.
+    LeftBehind(String),
     /// The bundle has a fault; this text names it.
     Refused(String),
     /// The quantities of the item with this name get too large.
     TooLarge(Name),
     /// The text is no day.
     WrongShape,
+    /// The tables cannot be those of the day.
+    WrongTables,
     /// The day that was checked is wrong; the output says how.
     Wrong,
     /// The day has fewer runs than the number asked for.
     NoRun,
+    /// Bookings cannot be carried from the day that was named; they can from the Mondays of this range.
+    NoStart(String),
     /// The words are wrong; this text says how.
     Usage(String),
     /// Out of memory.
@@ -37,8 +43,8 @@ pub enum Ending {
     Write,
 }
 
-// Writes a text to the error stream.
-fn write_whole<E: Write>(errors: &mut Told<E>, text: &[u8]) -> Result<(), WriteFault>
+// Writes a text.
+pub(crate) fn write_whole<E: Write>(errors: &mut Told<E>, text: &[u8]) -> Result<(), WriteFault>
     ensures whole { OnOk result (HasTakenAll E.contents errors.old errors.new text.now) }
     ensures front { OnErr result (HasTakenFront E.contents errors.old errors.new text.now) }
     ensures gave_up { OnErr result (HasGivenUp errors.old errors.new WRITE_TRIES) }
@@ -67,7 +73,7 @@ impl Ending {
     ghost use Rattle.mrp_engine.specs.day.Run.{HasTakenAll};
     ghost use Rattle.mrp_main.specs.Ends.{IsEndOf, words_of};
     ghost use Rattle.mrp_main.specs.PageEnds.{end_of};
-    ghost use Rattle.mrp_main.specs.Refusal.{end_of_read};
+    ghost use Rattle.mrp_main.specs.Refusal.{TellsOpening, end_of_read};
     ghost use Rattle.mrp_main.specs.Status.{status_of};
 
     // A bundle was refused: the text of its fault, or no memory for the text.
@@ -90,6 +96,16 @@ impl Ending {
             DayFault::Read => Ending::Read,
             DayFault::Write => Ending::Write,
             DayFault::NoMemory => Ending::NoMemory,
+        }
+    }
+
+    /// How it ended that the shop of a bundle was not opened. The text of a fault takes memory.
+    pub(crate) fn of_open(alloc: Global, fault: &OpenFault) -> Ending
+        ensures { TellsOpening fault.now result }
+    {
+        match fault {
+            OpenFault::Refused(fault) => Ending::of_text(fault_text(alloc, fault)),
+            OpenFault::NoMemory => Ending::NoMemory,
         }
     }
 
@@ -120,6 +136,7 @@ impl Ending {
         match page {
             Ok(()) => Ending::Done,
             Err(PageFault::Shape) => Ending::WrongShape,
+            Err(PageFault::Tables) => Ending::WrongTables,
             Err(PageFault::NoRun) => Ending::NoRun,
             Err(PageFault::NoMemory) => Ending::NoMemory,
             Err(PageFault::Read) => Ending::Read,
@@ -132,17 +149,19 @@ impl Ending {
         ensures { result ≡ status_of self.now }
     {
         match self {
-            Ending::Done => Status::Done,
-            Ending::Refused(_) | Ending::TooLarge(_) | Ending::WrongShape | Ending::Wrong =>
-                Status::Refused,
+            Ending::Done | Ending::LeftBehind(_) => Status::Done,
+            Ending::Refused(_) | Ending::TooLarge(_) => Status::Refused,
+            Ending::WrongShape | Ending::WrongTables | Ending::Wrong => Status::Refused,
             Ending::NoRun => Status::Usage,
+            Ending::NoStart(_) => Status::Usage,
             Ending::Usage(_) => Status::Usage,
             Ending::NoMemory => Status::NoMemory,
             Ending::Read | Ending::Write => Status::Stream,
         }
     }
 
-    /// Writes to the error stream how the command ended: nothing if it succeeded, or if the output says it.
+    /// Writes to the error stream how the command ended: nothing if it succeeded, or if the output says it; but how many
+    /// bookings were not carried.
     ///
     /// Errors: if a write failed. A prefix of the line has been written then.
     pub fn tell<E: Write>(&self, errors: &mut Told<E>) -> Result<(), WriteFault>
@@ -152,10 +171,17 @@ impl Ending {
     {
         match self {
             Ending::Done | Ending::Wrong => Ok(()),
+            Ending::LeftBehind(text) => write_line(errors, text.as_bytes(), b""),
             Ending::Refused(text) => write_line(errors, b"refused: ", text.as_bytes()),
             Ending::TooLarge(name) => write_line(errors, b"too large: ", name.as_bytes()),
             Ending::WrongShape => write_line(errors, b"wrong: shape", b""),
+            Ending::WrongTables => write_line(errors, b"wrong: tables", b""),
             Ending::NoRun => write_line(errors, b"no such run", b""),
+            Ending::NoStart(range) => write_line(
+                errors,
+                b"no such start: expected a Monday from ",
+                range.as_bytes(),
+            ),
             Ending::Usage(text) => write_whole(errors, text.as_bytes()),
             Ending::NoMemory => write_line(errors, b"no memory", b""),
             Ending::Read => write_line(errors, b"read failed", b""),

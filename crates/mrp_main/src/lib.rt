@@ -2,6 +2,7 @@
 //! status.
 #![tactic(auto)]
 
+mod carry;
 mod check;
 mod ending;
 mod page;

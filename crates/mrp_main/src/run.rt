@@ -8,6 +8,7 @@ ghost use Rattle.mrp_main.specs.Ends.{BundleEnds, DayEnds, Ends, FolderEnds, Hel
 ghost use Rattle.mrp_words.specs.Words.{HasWorkers};
 ghost use Rattle.mrp_words.specs.declared.day.DayCommand.TheVariants as day;
 
+use crate::carry::carry_asked;
 use crate::check::check_day;
 use crate::ending::Ending;
 use crate::page::make_page;
@@ -140,11 +141,12 @@ fn answer<F: FileStore, R: Read, W: Write>(
                 make_day_of_folder(rt, alloc, files, command, workers, &folder, output)
             }
         },
-        Request::Page(words) => make_page(alloc, &words, input, output),
+        Request::Page(words) => make_page(rt, alloc, files, &words, input, output),
         Request::Check(folder) => match folder {
             Some(folder) => check_day(rt, alloc, files, &folder, input, output),
             None => Ending::Usage(String::new(alloc)),
         },
+        Request::Carry(words) => carry_asked(rt, alloc, files, &words, output),
     }
 }
 
@@ -168,13 +170,13 @@ fn carry_out<F: FileStore, R: Read, W: Write>(
     }
 }
 
-/// Does what the words after the program's name ask for, such as `plan --workers 2`, `live`, `page` or
-/// `check --dir D`, with an input, an output and an error stream, and returns the exit status. `plan` and
+/// Does what the words after the program's name ask for, such as `plan --workers 2`, `live`, `page`,
+/// `check --dir D` or `carry --dir D --start DATE`, with an input, an output and an error stream, and returns the exit status. `plan` and
 /// `live` with `--dir D` take the files of the folder D instead of the input.
 ///
 /// The status is 0 on success; 1 if the bundle was refused or its plan gets too large, if the text for a page
-/// is no day, or if the day that was checked is wrong; 2 for wrong words, including a run that the day does
-/// not have; 3 when out of memory; and 4 if reading or writing failed. A line on the error stream says why; a
+/// is no day or not one of the tables, or if the day that was checked is wrong; 2 for wrong words, including a run that the day does
+/// not have and a start that is no Monday of the horizon; 3 when out of memory; and 4 if reading or writing failed. A line on the error stream says why; a
 /// failure to write it does not change the status.
 ///
 /// `plan` answers the script in row order; `live` answers it desk by desk, in an order between desks that is
@@ -183,12 +185,16 @@ fn carry_out<F: FileStore, R: Read, W: Write>(
 /// bundle of its files: for each table one section with the bytes of its file, or none. No contract says
 /// which bytes the files have.
 ///
-/// `page` draws the page of the day that the input had left: at 0 the whole page has been written; if writing
-/// failed, a prefix of it; otherwise nothing.
+/// `page` draws the page of the day that the input had left, with `--dir D` with what the tables of the folder D
+/// say: at 0 the whole page has been written; if writing failed, a prefix of it; otherwise nothing.
 ///
 /// `check` checks the day that the input had left against the bundle of a folder's files: at 0 the line
 /// `right` has been written, and it is a right day; at 1 the line of its first fault, or nothing if the
 /// bundle was refused; if writing failed, a prefix of a line; otherwise nothing.
+///
+/// `carry` carries the bookings of the bundle of a folder's files into the next period: at 0 the script or the
+/// list was written, and a line on the error stream says how many bookings were due before the start, if
+/// any were; if writing failed, a prefix of it; otherwise nothing.
 ///
 /// Words that ask for help or the version have it written; wrong words have nothing written. Only days, pages and checks
 /// that take the input read it.

@@ -1,8 +1,10 @@
 -- Which columns of a day the rows of a record and of a work centre show.
-use Rattle.std.proofs.Common.{◌≡◌, Bool, true, false, List, [], ◌∷◌, ◌++◌, ℕ, codes, drop, take, refl, ap, ap₂}
+use Rattle.mrp_facts.specs.Facts.{Facts}
+use Rattle.std.proofs.Common.{Option, ◌≡◌, Bool, true, false, List, [], ◌∷◌, ◌++◌, ℕ, codes, drop, take, refl, ap, ap₂}
 use Rattle.std.specs.List.{flat_map}
 use Rattle.mrp_page.specs.Columns.{column}
-use Rattle.mrp_page.specs.Centres.{all_loads, bars_html, later_loads, loads_html, loads_table, shares_html, times_html}
+use Rattle.mrp_page.specs.Centres.{all_loads, later_loads, loads_html, loads_table, shares_html, times_html}
+use Rattle.mrp_page.specs.Pictured.{bars_html}
 use Rattle.mrp_page.specs.Draw.{all_weeks, amounts_html, booked_html, later_record, measure_html, named_record, planned_html, points_html, promised_html, record_or_none, record_rows, record_table, supplies_html, table_html}
 use Rattle.mrp_page.specs.ItemRows.{item_lists}
 use Rattle.mrp_page.specs.Layout.{above_bar, above_end, available_label, balance_label, booked_label, capacity_label, cut_bar, firm_label, grid_end, gross_label, hot_bar, hot_end, later_open, load_label, low_bar, low_end, over_label, planned_label, point, points_end, rest_end, scheduled_label, starts_label}
@@ -14,9 +16,9 @@ use Rattle.mrp_page.specs.declared.limits.TheConstants.{TABLE_WEEKS}
 use Rattle.mrp_day.specs.declared.section.Section.TheVariants as s
 use Rattle.mrp_page.proofs.Folds.{some-rows}
 
-pub record-is : (report : List RowView) (name : List ℕ) → named_record (item_lists report) name ≡ record_or_none name (rows_named name (rows_in s.Plan report)) (rows_named name (rows_in s.Promises report))
+pub record-is : (tables : Option Facts) (report : List RowView) (name : List ℕ) → named_record tables (item_lists report) name ≡ record_or_none tables name (rows_named name (rows_in s.Plan report)) (rows_named name (rows_in s.Promises report))
 unfolding named_record
-record-is report name = refl
+record-is tables report name = refl
 
 pub needs-are : (scheduled : Bool) (plan promises : List RowView) → record_rows scheduled plan promises ≡ amounts_html gross_label (column s.Plan (codes "gross")) plan ++ (supplies_html scheduled plan ++ (planned_html plan ++ promised_html promises))
 unfolding record_rows
@@ -43,21 +45,21 @@ unfolding loads_html
 loads-are rows = refl
 
 -- the weeks of the first table, and those that are folded
-pub weeks-are : (frame : RowView) (scheduled : Bool) (plan promises : List RowView) → all_weeks frame scheduled plan promises ≡ record_table frame scheduled (take TABLE_WEEKS plan) (take TABLE_WEEKS promises) ++ later_record frame scheduled (drop TABLE_WEEKS plan) (drop TABLE_WEEKS promises)
+pub weeks-are : (tables : Option Facts) (frame : RowView) (scheduled : Bool) (plan promises : List RowView) → all_weeks tables frame scheduled plan promises ≡ record_table tables frame scheduled (take TABLE_WEEKS plan) (take TABLE_WEEKS promises) ++ later_record tables frame scheduled (drop TABLE_WEEKS plan) (drop TABLE_WEEKS promises)
 unfolding all_weeks
-weeks-are frame scheduled plan promises = refl
+weeks-are tables frame scheduled plan promises = refl
 
-pub load-weeks-are : (frame : RowView) (rows : List RowView) → all_loads frame rows ≡ loads_table frame (take TABLE_WEEKS rows) ++ later_loads frame (drop TABLE_WEEKS rows)
+pub load-weeks-are : (tables : Option Facts) (frame : RowView) (rows : List RowView) → all_loads tables frame rows ≡ loads_table tables frame (take TABLE_WEEKS rows) ++ later_loads tables frame (drop TABLE_WEEKS rows)
 unfolding all_loads
-load-weeks-are frame rows = refl
+load-weeks-are tables frame rows = refl
 
-pub later-is : (frame : RowView) (scheduled : Bool) (r : RowView) (plan promises : List RowView) → later_record frame scheduled (r ∷ plan) promises ≡ later_open ++ (record_table frame scheduled (r ∷ plan) promises ++ rest_end)
+pub later-is : (tables : Option Facts) (frame : RowView) (scheduled : Bool) (r : RowView) (plan promises : List RowView) → later_record tables frame scheduled (r ∷ plan) promises ≡ later_open ++ (record_table tables frame scheduled (r ∷ plan) promises ++ rest_end)
 unfolding later_record
-later-is frame scheduled r plan promises = rw (some-rows r plan) refl
+later-is tables frame scheduled r plan promises = rw (some-rows r plan) refl
 
-pub later-loads-are : (frame r : RowView) (rows : List RowView) → later_loads frame (r ∷ rows) ≡ later_open ++ (loads_table frame (r ∷ rows) ++ rest_end)
+pub later-loads-are : (tables : Option Facts) (frame r : RowView) (rows : List RowView) → later_loads tables frame (r ∷ rows) ≡ later_open ++ (loads_table tables frame (r ∷ rows) ++ rest_end)
 unfolding later_loads
-later-loads-are frame r rows = rw (some-rows r rows) refl
+later-loads-are tables frame r rows = rw (some-rows r rows) refl
 
 drawn-same : {X : Type 0} (f g : X → List ℕ) → ((x : X) → f x ≡ g x) → (xs : List X) → flat_map f xs ≡ flat_map g xs
 drawn-same f g same [] = refl

@@ -49,9 +49,9 @@ wants-asked items S cells of = rw of (by (length items == 0))
     by true = refl
     by false = refl
 
--- the last of these rows stands at a spot, or there is none yet
-abbrev pub EndsAt : List Cells → Spot → Cells → Type 0
-EndsAt rows spot last = ((rows ≡ []) × (is_row spot.place ≡ false)) ⊎ ((front : List Cells) × (rows ≡ front ++ (last ∷ [])) × (is_row spot.place ≡ true))
+-- the last of these rows stands at a spot and has this name, or there is none yet
+abbrev pub EndsAt : List Cells → Spot → List ℕ → Type 0
+EndsAt rows spot last = ((rows ≡ []) × (is_row spot.place ≡ false)) ⊎ ((front : List Cells) × (r : Cells) × (rows ≡ front ++ (r ∷ [])) × (name_of r ≡ last) × (is_row spot.place ≡ true))
 
 -- a name that occurs again occurs after itself
 last-again : (names front : List (List ℕ)) (last name : List ℕ) → StandTogether (names ++ (name ∷ [])) → names ≡ front ++ (last ∷ []) → has_name names name ≡ true → last ≡ name
@@ -66,44 +66,44 @@ last-again names front last name stand is has =
     sym at-last ∙ stand.together i (length front) (length names) (omega arith) (omega arith) (omega arith) (at-i ∙ sym here) ∙ here
 
 -- a row that leads those of an item is of another one than all before it
-lead-new : (rows : List Cells) (spot : Spot) (last cells : Cells) → EndsAt rows spot last → StandTogether (row_names rows ++ (name_of cells ∷ [])) → leads spot last cells ≡ true → has_name (row_names rows) (name_of cells) ≡ false
+lead-new : (rows : List Cells) (spot : Spot) (last : List ℕ) (cells : Cells) → EndsAt rows spot last → StandTogether (row_names rows ++ (name_of cells ∷ [])) → leads spot last cells ≡ true → has_name (row_names rows) (name_of cells) ≡ false
 lead-new rows spot last cells (inl none) stand is = rw none.0 refl
-lead-new rows spot last cells (inr (front, ends, row)) stand is =
-    let differs : same_text (name_of last) (name_of cells) ≡ false = not-true (same_text (name_of last) (name_of cells)) (rw row at is) in
+lead-new rows spot last cells (inr (front, r, ends, named, row)) stand is =
+    let differs : same_text last (name_of cells) ≡ false = not-true (same_text last (name_of cells)) (rw row at is) in
     false_from_ne_true _ (λ has.
-    both_ways (same_text (name_of last) (name_of cells)) differs
-    (same-text (name_of last) (name_of cells)
-    (last-again (row_names rows) (row_names front) (name_of last) (name_of cells) stand (ap row_names ends ∙ map_push (λ (c : Cells). name_of c) front last) has)))
+    both_ways (same_text last (name_of cells)) differs
+    (same-text last (name_of cells)
+    (sym named ∙ last-again (row_names rows) (row_names front) (name_of r) (name_of cells) stand (ap row_names ends ∙ map_push (λ (c : Cells). name_of c) front r) has)))
 
-record Follows (rows : List Cells) (spot : Spot) (last cells : Cells) : Type 0 where
+record Follows (rows : List Cells) (spot : Spot) (last : List ℕ) (cells : Cells) : Type 0 where
   row : is_row spot.place ≡ true
-  same : name_of last ≡ name_of cells
+  same : last ≡ name_of cells
   again : has_name (row_names rows) (name_of cells) ≡ true
 
 -- a row that does not is of the last one
-lead-old : (rows : List Cells) (spot : Spot) (last cells : Cells) → EndsAt rows spot last → leads spot last cells ≡ false → Follows rows spot last cells
+lead-old : (rows : List Cells) (spot : Spot) (last : List ℕ) (cells : Cells) → EndsAt rows spot last → leads spot last cells ≡ false → Follows rows spot last cells
 lead-old rows spot last cells (inl none) is =
     let never : true ≡ false = rw none.1 at is in
     absurd cc
-lead-old rows spot last cells (inr (front, ends, row)) is =
-    let same : name_of last ≡ name_of cells = text-same (name_of last) (name_of cells) (not-false (same_text (name_of last) (name_of cells)) (rw row at is)) in
-    let names : row_names rows ≡ row_names front ++ (name_of last ∷ []) = ap row_names ends ∙ map_push (λ (c : Cells). name_of c) front last in
-    let long = length_push (row_names front) (name_of last) in
+lead-old rows spot last cells (inr (front, r, ends, named, row)) is =
+    let same : last ≡ name_of cells = text-same last (name_of cells) (not-false (same_text last (name_of cells)) (rw row at is)) in
+    let names : row_names rows ≡ row_names front ++ (name_of r ∷ []) = ap row_names ends ∙ map_push (λ (c : Cells). name_of c) front r in
+    let long = length_push (row_names front) (name_of r) in
     record {
       row = row;
       same = same;
       again = rw names
-          (has-at (row_names front ++ (name_of last ∷ [])) (name_of cells) (length (row_names front)) (omega arith) (get_or_push (row_names front) (name_of last) [] (length (row_names front)) refl ∙ same));
+          (has-at (row_names front ++ (name_of r ∷ [])) (name_of cells) (length (row_names front)) (omega arith) (get_or_push (row_names front) (name_of r) [] (length (row_names front)) refl ∙ named ∙ same));
     }
 
--- what is kept of the rows of a section up to a spot, and the rows up to there
-pub record Inside (items : Names) (S : Section) (count : ℕ) (rows : List Cells) (kept : List RowView) (spot : Spot) (last : Cells) : Type 0 where
+-- what is kept of the rows of a section up to a spot, the rows up to there, and the name of the last
+pub record Inside (items : Names) (S : Section) (count : ℕ) (rows : List Cells) (kept : List RowView) (spot : Spot) (last : List ℕ) : Type 0 where
   pub keeps : Keeps (items_in items rows) (leader_names kept)
   pub named : All (λ r. cell_at r 0 ≢ []) kept
   pub counts : spot.items ≡ length (items_in items rows)
   pub few : length (items_in items rows) ≤ count
   pub ends : EndsAt rows spot last
-  pub here : is_row spot.place ≡ true → is_asked items (name_of last) ≡ true → (spot.taken < room_of S) ⊎ (is_some spot.takes ≡ true) → last_name [] kept ≡ name_of last
+  pub here : is_row spot.place ≡ true → is_asked items last ≡ true → (spot.taken < room_of S) ⊎ (is_some spot.takes ≡ true) → last_name [] kept ≡ last
   pub among : (last_name [] kept ≡ []) ⊎ (has_name (row_names rows) (last_name [] kept) ≡ true)
 
 -- one more row, of another item than the last, or of the same
@@ -142,7 +142,7 @@ room-same S spot u room = by (or_cases _ _ room)
     by (inr more) = inr (and_parts _ _ more).1
 
 -- before the first row
-pub inside-none : (items : Names) (S : Section) (count : ℕ) (spot : Spot) (last : Cells) → spot.items ≡ 0 → is_row spot.place ≡ false → Inside items S count [] [] spot last
+pub inside-none : (items : Names) (S : Section) (count : ℕ) (spot : Spot) (last : List ℕ) → spot.items ≡ 0 → is_row spot.place ≡ false → Inside items S count [] [] spot last
 unfolding items_in each_once last_name leaders
 inside-none items S count spot last none front = record {
   keeps = keeps-none;
@@ -158,18 +158,18 @@ inside-none items S count spot last none front = record {
 abbrev pub with_row : Section → List RowView → Cells → Bool → List RowView
 with_row S kept cells takes = kept ++ (if takes then record { section = S; cells = cells } ∷ [] else [])
 
-module _ (items : Names) (S : Section) (is : IsItemSection S) (count : ℕ) (rows : List Cells) (kept : List RowView) (spot : Spot) (last cells : Cells) (so_far : Inside items S count rows kept spot last) (stand : StandTogether (row_names rows ++ (name_of cells ∷ []))) (countable : count + 1 < 2 ^ 64) where
+module _ (items : Names) (S : Section) (is : IsItemSection S) (count : ℕ) (rows : List Cells) (kept : List RowView) (spot : Spot) (last : List ℕ) (cells : Cells) (so_far : Inside items S count rows kept spot last) (stand : StandTogether (row_names rows ++ (name_of cells ∷ []))) (countable : count + 1 < 2 ^ 64) where
   named-here : name_of cells ≢ []
   named-here = subst (λ (t : List ℕ). t ≢ []) (get_or_push (row_names rows) (name_of cells) [] (length (row_names rows)) refl) (stand.named (length (row_names rows)) [] (omega (arith, length_push (row_names rows) (name_of cells))))
 
   -- not taken, and of no item that is new
-  stays : (u w l : Bool) → items_in items (rows ++ (cells ∷ [])) ≡ items_in items rows → (w && l) ≡ false → (is_asked items (name_of cells) ≡ true → room_of S ≤ spot.taken) → Inside items S (count + 1) (rows ++ (cells ∷ [])) kept (spot_with spot (place.Row S) w (w && l) u false) cells
+  stays : (u w l : Bool) → items_in items (rows ++ (cells ∷ [])) ≡ items_in items rows → (w && l) ≡ false → (is_asked items (name_of cells) ≡ true → room_of S ≤ spot.taken) → Inside items S (count + 1) (rows ++ (cells ∷ [])) kept (spot_with spot (place.Row S) w (w && l) u false) (name_of cells)
   stays u w l same old full = record {
     keeps = subst (λ (t : List (List ℕ)). Keeps t (leader_names kept)) (sym same) so_far.keeps;
     named = so_far.named;
     counts = rw old (omega (arith, so_far.counts, so_far.few, ap length same));
     few = omega (arith, so_far.few, ap length same);
-    ends = inr (rows, refl, refl);
+    ends = inr (rows, cells, refl, refl, refl);
     here = λ row asked room. absurd (never (full asked) room);
     among = has-still rows cells (last_name [] kept) so_far.among;
   }
@@ -179,7 +179,7 @@ module _ (items : Names) (S : Section) (is : IsItemSection S) (count : ℕ) (row
       never above (inr e) = cc
 
   -- not taken, of a new item
-  left-out : (u : Bool) → items_in items (rows ++ (cells ∷ [])) ≡ items_in items rows ++ (name_of cells ∷ []) → MOST_ITEMS ≤ spot.items → room_of S ≤ spot.taken → Inside items S (count + 1) (rows ++ (cells ∷ [])) kept (spot_with spot (place.Row S) true true u false) cells
+  left-out : (u : Bool) → items_in items (rows ++ (cells ∷ [])) ≡ items_in items rows ++ (name_of cells ∷ []) → MOST_ITEMS ≤ spot.items → room_of S ≤ spot.taken → Inside items S (count + 1) (rows ++ (cells ∷ [])) kept (spot_with spot (place.Row S) true true u false) (name_of cells)
   left-out u new many full =
       let long = ap length new ∙ length_push (items_in items rows) (name_of cells) in
       record {
@@ -187,7 +187,7 @@ module _ (items : Names) (S : Section) (is : IsItemSection S) (count : ℕ) (row
         named = so_far.named;
         counts = omega (arith, so_far.counts, so_far.few);
         few = omega (arith, so_far.few);
-        ends = inr (rows, refl, refl);
+        ends = inr (rows, cells, refl, refl, refl);
         here = λ row asked room. absurd (never room);
         among = has-still rows cells (last_name [] kept) so_far.among;
       }
@@ -200,7 +200,7 @@ module _ (items : Names) (S : Section) (is : IsItemSection S) (count : ℕ) (row
   row = record { section = S; cells = cells }
 
   -- taken, of a new item
-  taken-new : (u : Bool) → items_in items (rows ++ (cells ∷ [])) ≡ items_in items rows ++ (name_of cells ∷ []) → has_name (row_names rows) (name_of cells) ≡ false → Inside items S (count + 1) (rows ++ (cells ∷ [])) (kept ++ (row ∷ [])) (spot_with spot (place.Row S) true true u true) cells
+  taken-new : (u : Bool) → items_in items (rows ++ (cells ∷ [])) ≡ items_in items rows ++ (name_of cells ∷ []) → has_name (row_names rows) (name_of cells) ≡ false → Inside items S (count + 1) (rows ++ (cells ∷ [])) (kept ++ (row ∷ [])) (spot_with spot (place.Row S) true true u true) (name_of cells)
   unfolding row
   taken-new u new first =
       let long = ap length new ∙ length_push (items_in items rows) (name_of cells) in
@@ -211,7 +211,7 @@ module _ (items : Names) (S : Section) (is : IsItemSection S) (count : ℕ) (row
         named = All-push (λ (r : RowView). cell_at r 0 ≢ []) kept row so_far.named named-here;
         counts = omega (arith, so_far.counts, so_far.few);
         few = omega (arith, so_far.few);
-        ends = inr (rows, refl, refl);
+        ends = inr (rows, cells, refl, refl, refl);
         here = λ at asked room. last-more [] kept row;
         among = inr (rw (last-more [] kept row) (has-last rows cells));
       }
@@ -221,7 +221,7 @@ module _ (items : Names) (S : Section) (is : IsItemSection S) (count : ℕ) (row
       differs (inr has) e = both_ways (has_name (row_names rows) (name_of cells)) first (subst (λ (t : List ℕ). has_name (row_names rows) t ≡ true) (sym e) has)
 
   -- taken, of the last item
-  taken-old : (u : Bool) → items_in items (rows ++ (cells ∷ [])) ≡ items_in items rows → last_name [] kept ≡ name_of cells → Inside items S (count + 1) (rows ++ (cells ∷ [])) (kept ++ (row ∷ [])) (spot_with spot (place.Row S) true false u true) cells
+  taken-old : (u : Bool) → items_in items (rows ++ (cells ∷ [])) ≡ items_in items rows → last_name [] kept ≡ name_of cells → Inside items S (count + 1) (rows ++ (cells ∷ [])) (kept ++ (row ∷ [])) (spot_with spot (place.Row S) true false u true) (name_of cells)
   unfolding row
   taken-old u same ends = record {
     keeps = subst (λ (t : List (List ℕ)). Keeps t (leader_names (kept ++ (row ∷ [])))) (sym same)
@@ -229,7 +229,7 @@ module _ (items : Names) (S : Section) (is : IsItemSection S) (count : ℕ) (row
     named = All-push (λ (r : RowView). cell_at r 0 ≢ []) kept row so_far.named named-here;
     counts = omega (arith, so_far.counts, so_far.few, ap length same);
     few = omega (arith, so_far.few, ap length same);
-    ends = inr (rows, refl, refl);
+    ends = inr (rows, cells, refl, refl, refl);
     here = λ at asked room. last-more [] kept row;
     among = inr (rw (last-more [] kept row) (has-last rows cells));
   }
@@ -249,19 +249,19 @@ module _ (items : Names) (S : Section) (is : IsItemSection S) (count : ℕ) (row
 
   -- one more row
   pub inside-more : (w l u t : Bool) → is_asked items (name_of cells) ≡ w → leads spot last cells ≡ l → (w && has_room S spot (w && l) u) ≡ t
-      → Inside items S (count + 1) (rows ++ (cells ∷ [])) (with_row S kept cells t) (spot_with spot (place.Row S) w (w && l) u t) cells
+      → Inside items S (count + 1) (rows ++ (cells ∷ [])) (with_row S kept cells t) (spot_with spot (place.Row S) w (w && l) u t) (name_of cells)
   unfolding row
   inside-more false l u true asked first room = absurd cc
   inside-more false l u false asked first room =
-      subst (λ (ks : List RowView). Inside items S (count + 1) (rows ++ (cells ∷ [])) ks (spot_with spot (place.Row S) false false u false) cells) (sym (append-nil kept))
+      subst (λ (ks : List RowView). Inside items S (count + 1) (rows ++ (cells ∷ [])) ks (spot_with spot (place.Row S) false false u false) (name_of cells)) (sym (append-nil kept))
       (stays u false l (not-asked asked) refl (λ e. absurd (both_ways (is_asked items (name_of cells)) asked e)))
   inside-more true true u true asked first room = taken-new u (new-item asked first) (lead-new rows spot last cells so_far.ends stand first)
   inside-more true true u false asked first room =
-      subst (λ (ks : List RowView). Inside items S (count + 1) (rows ++ (cells ∷ [])) ks (spot_with spot (place.Row S) true true u false) cells) (sym (append-nil kept))
+      subst (λ (ks : List RowView). Inside items S (count + 1) (rows ++ (cells ∷ [])) ks (spot_with spot (place.Row S) true true u false) (name_of cells)) (sym (append-nil kept))
       (left-out u (new-item asked first) (no-room-lead S spot u is room) (no-room S spot true u room))
   inside-more true false u true asked first room =
       let after = lead-old rows spot last cells so_far.ends first in
       taken-old u (old-item first) (so_far.here after.row (ap (is_asked items) after.same ∙ asked) (room-same S spot u room) ∙ after.same)
   inside-more true false u false asked first room =
-      subst (λ (ks : List RowView). Inside items S (count + 1) (rows ++ (cells ∷ [])) ks (spot_with spot (place.Row S) true false u false) cells) (sym (append-nil kept))
+      subst (λ (ks : List RowView). Inside items S (count + 1) (rows ++ (cells ∷ [])) ks (spot_with spot (place.Row S) true false u false) (name_of cells)) (sym (append-nil kept))
       (stays u true false (old-item first) refl (λ e. no-room S spot false u room))

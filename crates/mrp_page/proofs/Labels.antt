@@ -1,5 +1,6 @@
 -- Which of the two labels the supplies have.
-use Rattle.std.proofs.Common.{◌≡◌, ◌∙◌, ◌⊎◌, ◌^◌, ◌<◌, ◌≤◌, ℕ, zero, suc, Bool, true, false, not, List, [], ◌∷◌, ◌++◌, codes, decimal, get_or, length, map, nat_lt, refl, sym, ap, subst, arith, inl, inr}
+use Rattle.mrp_facts.specs.Facts.{Facts}
+use Rattle.std.proofs.Common.{Option, ◌≡◌, ◌∙◌, ◌⊎◌, ◌^◌, ◌<◌, ◌≤◌, ℕ, zero, suc, Bool, true, false, not, List, [], ◌∷◌, ◌++◌, codes, decimal, get_or, length, map, nat_lt, refl, sym, ap, subst, arith, inl, inr}
 use Rattle.std.specs.Prelude.{◌&&◌, if◌then◌else◌}
 use Rattle.std.specs.List.{All, Contains, fold}
 use Rattle.std.proofs.lemmas.Bool.{and_right, cases_lt, false_from_ne_true, ltb-false, ltb-true, ne_eqb}
@@ -126,6 +127,6 @@ some-firm plan promises firm are n has some =
 pub none-firm : (plan : List RowView) (firm : List ℕ) → AreFirm plan firm → All (λ n. n ≡ 0) firm → is_scheduled plan [] ≡ true
 none-firm plan firm are none = ap (λ (t : List ℕ). not (not (is_zero t))) (greatest-firm plan firm are ∙ all-zero firm none)
 
-pub framed-is : (frame : RowView) (plan promises : List RowView) → framed_record frame plan promises ≡ balance_html frame plan ++ all_weeks frame (is_scheduled plan promises) plan promises
+pub framed-is : (tables : Option Facts) (frame : RowView) (plan promises : List RowView) → framed_record tables frame plan promises ≡ balance_html tables frame plan ++ all_weeks tables frame (is_scheduled plan promises) plan promises
 unfolding framed_record
-framed-is frame plan promises = refl
+framed-is tables frame plan promises = refl

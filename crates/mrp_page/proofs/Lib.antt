@@ -9,6 +9,7 @@ pub mod Made
 pub mod Known
 pub mod Links
 pub mod Columns
+mod Dated
 pub mod NamesOnce
 pub mod KeptItems
 pub mod SectionRows
@@ -29,5 +30,10 @@ pub mod Tiles
 pub mod FirstRows
 pub mod ShareOf
 pub mod Overloads
+pub mod OverloadedCentres
 pub mod PegLinks
+pub mod PegMaps
+pub mod Placed
 pub mod OutRows
+pub mod RiskRows
+pub mod Worked

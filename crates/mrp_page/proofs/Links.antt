@@ -1,18 +1,24 @@
 -- Where the items are on a page, and how a name links to its item.
-use Rattle.std.proofs.Common.{◌≡◌, ◌-◌, ℕ, List, [], ◌++◌, codes, drop, length, refl, ap, append_assoc}
+use Rattle.mrp_page.specs.ItemFacts.{item_facts_html}
+use Rattle.mrp_facts.specs.Facts.{Facts}
+use Rattle.std.proofs.Common.{Option, ◌≡◌, ◌-◌, ℕ, List, [], ◌++◌, codes, drop, length, refl, ap, append_assoc}
 use Rattle.std.specs.List.{flat_map}
-use Rattle.mrp_page.specs.Draw.{history_html, link_html, more_html, more_items, more_rows, named_note, named_record, named_tasks, table_html}
-use Rattle.mrp_page.specs.Items.{index_html, item_html, item_lists_html, items_html, orders_html, pegs_html, waits_html, waits_of}
+use Rattle.mrp_page.specs.Draw.{history_html, link_html, more_html, more_items, more_rows, named_note, named_record, table_html}
+use Rattle.mrp_page.specs.Items.{index_html, item_html, item_lists_html, items_html, orders_html, pegs_html, waits_html}
+use Rattle.mrp_page.specs.Pegs.{waits_for}
 use Rattle.mrp_page.specs.Escaped.{escaped}
 use Rattle.mrp_page.specs.ItemRows.{ItemLists, item_lists}
 use Rattle.mrp_page.specs.Kinds.{todo_html}
 use Rattle.mrp_page.specs.Layout.{grid_end, item_head, link_end, link_middle, link_open, lists_open, order, order_address, orders_open, page_end, rest_end, section_end}
 use Rattle.mrp_page.specs.Notes.{Noted}
+use Rattle.mrp_page.specs.AtRisk.{RisksView}
+use Rattle.mrp_page.specs.Promises.{risks_html}
 use Rattle.mrp_page.specs.Page.{items_of, middle_html, page_html, page_of, rest_html, scene_in, shown_items, top_html}
 use Rattle.mrp_page.specs.Orders.{order_link}
 use Rattle.mrp_page.specs.Refused.{refused_section}
 use Rattle.mrp_page.specs.Row.{RowView, cell_at}
 use Rattle.mrp_page.specs.Rows.{rows_in, rows_named}
+use Rattle.mrp_page.specs.Said.{item_messages}
 use Rattle.mrp_page.specs.Scene.{SceneView}
 use Rattle.mrp_page.specs.Summary.{summary_html}
 use Rattle.mrp_page.specs.Template.{row_html, rows_html}
@@ -28,7 +34,7 @@ unfolding item_html row_html item_head
 item-begins scene rows missed leader =
     let name : List ℕ = escaped (cell_at leader 0) in
     let head : List ℕ = codes "\n<h2>" ++ (name ++ (codes "<a href=\"#items\">all items</a><a href=\"#todo\">to do</a></h2>\n" ++ [])) in
-    let back : List ℕ = named_tasks rows leader ++ (named_record rows (cell_at leader 0) ++ (named_note rows missed (cell_at leader 0) ++ item_lists_html scene (cell_at leader 0))) in
+    let back : List ℕ = item_facts_html scene.tables (cell_at leader 0) ++ (item_messages scene rows leader ++ (named_record scene.tables rows (cell_at leader 0) ++ (named_note rows missed (cell_at leader 0) ++ item_lists_html scene (cell_at leader 0)))) in
     (head ++ back, ap (λ (t : List ℕ). codes "<section class=item id=\"i-" ++ t) (append_assoc name (codes "\">" ++ head) back))
 
 -- an order begins where a link to it leads
@@ -46,26 +52,27 @@ orders-are rows = refl
 
 pub lists-have-orders : (scene : SceneView) (name : List ℕ) → (rest : List ℕ) × (item_lists_html scene name ≡ lists_open ++ (orders_html (rows_named name scene.orders) ++ rest))
 unfolding item_lists_html
-lists-have-orders scene name = (pegs_html scene (rows_named name scene.pegs) ++ (waits_html scene (waits_of scene name) ++ (rest_end ++ section_end)), refl)
+lists-have-orders scene name = (pegs_html scene (rows_named name scene.pegs) ++ (waits_html scene (waits_for scene.pegs name) ++ (rest_end ++ section_end)), refl)
 
-placed : (a u o b c x d e f g : List ℕ) → a ++ (u ++ (o ++ (b ++ (c ++ ((x ++ (d ++ (e ++ f))) ++ g))))) ≡ (a ++ (u ++ (o ++ (b ++ (c ++ x))))) ++ (d ++ (e ++ (f ++ g)))
-placed a u o b c x d e f g = simp append_assoc
+placed : (a u o p b c x d e f g : List ℕ) → a ++ (u ++ (o ++ (p ++ (b ++ (c ++ ((x ++ (d ++ (e ++ f))) ++ g)))))) ≡ (a ++ (u ++ (o ++ (p ++ (b ++ (c ++ x)))))) ++ (d ++ (e ++ (f ++ g)))
+placed a u o p b c x d e f g = simp append_assoc
 
-pub items-stand : (title : List ℕ) (notes : Noted) → (front : List ℕ) × (back : List ℕ) × (page_html title notes
-    ≡ front ++ (items_html (scene_in notes) (item_lists notes.report) notes.counts.promises (shown_items (item_lists notes.report)) ++ (more_html (notes.counts.items - length (shown_items (item_lists notes.report))) (codes "item is") (codes "items are") ++ back)))
+pub items-stand : (title : List ℕ) (tables : Option Facts) (notes : Noted) (risks : RisksView) → (front : List ℕ) × (back : List ℕ) × (page_html title tables notes risks
+    ≡ front ++ (items_html (scene_in tables notes) (item_lists notes.report) notes.counts.promises (shown_items (item_lists notes.report)) ++ (more_html (notes.counts.items - length (shown_items (item_lists notes.report))) (codes "item is") (codes "items are") ++ back)))
 unfolding page_html page_of rest_html items_of more_items
-items-stand title notes =
+items-stand title tables notes risks =
     let lists : ItemLists = item_lists notes.report in
     let shown : List RowView = shown_items lists in
-    let top : List ℕ = top_html title notes.report notes.counts.items in
-    let sums : List ℕ = summary_html notes.history (rows_in s.Messages notes.report) (rows_in s.Loads notes.report) in
+    let top : List ℕ = top_html title tables notes.report notes.counts.items in
+    let sums : List ℕ = summary_html notes.history (rows_in s.Messages notes.report) (rows_in s.Loads notes.report) risks in
     let calls : List ℕ = refused_section shown notes.history notes.counts.history in
-    let todo : List ℕ = todo_html (scene_in notes) (rows_in s.Messages notes.report) notes.counts.messages in
-    let loads : List ℕ = middle_html (scene_in notes) notes.report notes.counts in
+    let promises : List ℕ = risks_html (scene_in tables notes) risks in
+    let todo : List ℕ = todo_html (scene_in tables notes) (rows_in s.Messages notes.report) notes.counts.messages in
+    let loads : List ℕ = middle_html (scene_in tables notes) notes.report notes.counts in
     let indexed : List ℕ = index_html lists.messages shown in
     let more : List ℕ = more_html (notes.counts.items - length shown) (codes "item is") (codes "items are") in
     let last : List ℕ = history_html notes.history notes.counts.history ++ page_end in (
-      top ++ (sums ++ (calls ++ (todo ++ (loads ++ indexed)))),
+      top ++ (sums ++ (calls ++ (promises ++ (todo ++ (loads ++ indexed))))),
       more_rows (unshown lists shown notes.counts) ++ last,
-      placed top sums calls todo loads indexed (items_html (scene_in notes) lists notes.counts.promises shown) more (more_rows (unshown lists shown notes.counts)) last,
+      placed top sums calls promises todo loads indexed (items_html (scene_in tables notes) lists notes.counts.promises shown) more (more_rows (unshown lists shown notes.counts)) last,
     )

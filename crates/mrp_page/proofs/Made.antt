@@ -1,5 +1,15 @@
 -- Pages consist of fixed markup and of texts that are known.
-use Rattle.std.proofs.Common.{◌≡◌, ◌∙◌, ◌⊎◌, ◌-◌, ◌<◌, ◌≤◌, ℕ, zero, suc, Bool, true, false, Some, List, [], ◌∷◌, ◌++◌, codes, decimal, drop, get_or, length, map, refl, sym, ap, subst, take, unwrap_or, arith, inl, inr, not}
+use Rattle.std.proofs.Common.{◌≡◌, ◌∙◌, ◌⊎◌, ◌-◌, ◌<◌, ◌≤◌, ℕ, zero, suc, Bool, true, false, Option, None, Some, List, [], ◌∷◌, ◌++◌, codes, decimal, drop, get_or, length, map, refl, sym, ap, subst, take, unwrap_or, arith, inl, inr, not}
+use Rattle.mrp_facts.specs.Dates.{in_week}
+use Rattle.mrp_facts.specs.Facts.{Facts, item_facts, open_order}
+use Rattle.mrp_facts.specs.declared.facts.ItemFacts.{ItemFacts}
+use Rattle.mrp_tables.specs.Versions.{lead_unit}
+use Rattle.mrp_tables.specs.declared.item.Item.{Item}
+use Rattle.mrp_tables.specs.declared.rows.Receipt.{Receipt}
+use Rattle.mrp_tables.specs.declared.version.LeadUnit.{LeadUnit}
+use Rattle.mrp_page.specs.ItemFacts.{facts_cells, facts_html, facts_or_none, facts_row, item_facts_html, safety_html, safety_line_html, safety_or_none, steps_html}
+use Rattle.mrp_page.specs.Receipts.{receipt_cells, receipt_of, receipt_row}
+use Rattle.mrp_page.specs.Weeks.{date_html, date_in, start_html, week_html, weeks_html}
 use Rattle.std.specs.Prelude.{if◌then◌else◌, ◌==◌, ◌&&◌, ◌||◌, ◌*◌, count_by, nat_le, nat_lt}
 use Rattle.std.proofs.lemmas.Bool.{cases_lt}
 use Rattle.std.proofs.lemmas.List.{append-nil, get_or_past}
@@ -7,12 +17,14 @@ use Rattle.std.proofs.lemmas.List.Concat.{flat_map-append}
 use Rattle.std.proofs.lemmas.List.Folds.{Any-from_list_any}
 use Rattle.std.proofs.lemmas.Slice.Eq.{bytes_eq-Decides}
 use Rattle.std.proofs.lemmas.List.Elements.{All-append, All-cons, All-contains, All-contains_itself, All-drop, All-filter, All-map, All-nil, All-take, Contains-append_left, Contains-append_right}
-use Rattle.std.specs.List.{All, Contains, filter, find, flat_map, position_or_len}
+use Rattle.std.specs.List.{All, Contains, filter, find, flat_map, position_or_len, slice_get}
+use Rattle.std.proofs.lemmas.Option.{get_or_from_slice_get, slice_get_within}
 use Rattle.mrp_page.specs.Amounts.{amount}
 use Rattle.mrp_page.specs.ByWord.{by_word, with_word}
-use Rattle.mrp_page.specs.Centres.{all_loads, bars_html, centre_frame, centre_html, centres_back, each_centre, framed_centre, later_loads, load_section, loads_html, loads_table, over_listing, over_or_none, picture_html, shares_html, times_html}
-use Rattle.mrp_page.specs.Draw.{all_weeks, amounts_html, balance_html, booked_html, framed_record, has_item, has_none, history_html, is_plain, is_scheduled, item_name_html, item_tasks, later_record, link_html, measure_html, more_html, more_items, more_lists, more_rows, more_weeks, named_note, named_record, named_tasks, other_if, other_tasks, planned_html, points_html, promised_html, record_html, record_or_none, record_rows, record_table, supplies_html, table_html, task_html, task_if, task_table, tasks_html, tasks_with, weeks_html}
+use Rattle.mrp_page.specs.Centres.{all_loads, centre_html, centres_back, each_centre, explained_note, framed_centre, later_loads, load_section, loads_html, loads_table, over_listing, over_or_none, shares_html, times_html, work_in}
+use Rattle.mrp_page.specs.Draw.{all_weeks, amounts_html, balance_html, booked_html, framed_record, has_item, has_none, history_html, is_plain, is_scheduled, item_name_html, later_record, link_html, measure_html, more_html, more_items, more_lists, more_rows, more_weeks, named_note, named_record, planned_html, points_html, promised_html, record_html, record_or_none, record_rows, record_table, supplies_html, table_html}
 use Rattle.mrp_page.specs.Escaped.{escaped}
+use Rattle.mrp_page.specs.Explained.{explained_html, explained_or_plain, explained_texts, order_name_html, order_work, left_html, overload_html, more_works_html, time_html, time_share, time_share_row, time_texts, work_line, work_texts, works_first, works_or_none, works_table, falling_time}
 use Rattle.mrp_page.specs.Folded.{Listing, capped_html, folded_html, hidden_html, listed_html}
 use Rattle.mrp_page.specs.Frame.{count_row, frame_of, heading, last_week}
 use Rattle.mrp_page.specs.Html.{flow_html, is_zero, number_html, number_tag}
@@ -22,27 +34,39 @@ use Rattle.mrp_page.specs.declared.kinds.Sorting.{Sorting}
 use Rattle.mrp_page.specs.declared.kinds.Sorting.TheVariants as sorts
 use Rattle.mrp_page.specs.Sorted.{sorted_by}
 use Rattle.mrp_page.proofs.ByKey.{sorted-permutes}
-use Rattle.mrp_page.specs.Items.{count_html, index_html, index_line, is_wait, item_html, item_lists_html, items_html, late_html, message_count, need_html, orders_html, parent_of, peg_html, pegs_html, supplier_of, supply_html, wait_html, waits_html, waits_of}
-use Rattle.mrp_page.specs.Kinds.{Kind, cancel, earlier, falling_rank, in_order, kind_html, kind_listing, kind_part, kinds_html, late, later, messages_of, note_html, open_count, open_html, order_html, order_of, other, other_messages, other_part, release, state_of, task_line, todo_back, todo_html, value_rank}
-use Rattle.mrp_page.specs.Known.{IsMadeOf, IsPieceOf, count_texts, index_texts, item_texts, layouts, list_counts, listed_texts, load_texts, marks_of, open_texts, out_texts, outs_texts, own_counts, own_words, plain, row_lists, small_words, summary_counts}
+use Rattle.mrp_page.specs.Items.{count_html, index_html, index_line, item_html, item_lists_html, items_html, late_html, message_count, need_html, orders_html, parent_of, peg_html, pegs_html, supplier_of, supply_html, wait_html, waits_html}
+use Rattle.mrp_page.specs.Kinds.{Kind, cancel, earlier, falling_rank, in_order, kind_html, kind_listing, kind_part, kinds_html, late, later, messages_of, note_html, open_count, open_html, order_html, order_of, other, other_messages, other_part, release, state_of, task_line, todo_back, todo_html, value_rank, pegged_html, received_html}
+use Rattle.mrp_page.specs.Known.{IsMadeOf, IsPieceOf, centre_texts, count_texts, index_texts, item_texts, layouts, list_counts, listed_texts, load_texts, marks_of, open_texts, out_texts, outs_texts, overloaded_texts, own_counts, own_words, plain, row_lists, small_words, summary_counts, own_scene, tables_layouts, tables_plain, risk_texts}
 use Rattle.mrp_page.specs.Laws.{Entry, Escaped, Link, Markup, Order, piece_html}
-use Rattle.mrp_page.specs.Layout.{above_bar, above_end, available_label, balance_chart, balance_label, booked_label, cancel_front, cancel_open, capacity_label, centre_head, centre_open, centre_tile, centres_open, cut_bar, entry, firm_label, grid_end, gross_label, history_end, history_open, hot_bar, hot_end, in_front, in_open, index_count, index_end, index_open, item_head, item_tasks_end, item_tasks_open, items_end, items_open, late_front, late_open, later_open, link_end, lists_open, load_chart, load_end, load_label, low_bar, low_end, main_open, more, no_promises, no_record, none_out, none_over, none_refused, nothing_to_do, open_pieces, order, order_address, order_start, order_unknown, order_week, orders_open, other_cells, other_front, other_open, other_words, out_cells, out_first_open, out_front, out_open, outs_front, outs_note, over_back, over_front, over_label, over_line, over_open, page_end, page_head, page_top, peg_back, peg_booking, peg_front, peg_middle, peg_need, peg_parent, peg_supply, pegs_open, planned_label, point, points_end, record_head, refused_answer, refused_asked, refused_desk, refused_end, refused_front, refused_open, refused_row, release_front, release_open, rest_end, rest_open, row_end, scheduled_label, section_end, share_cell, share_label, starts_label, style, summary_open, summary_tile, table_end, task_head, task_middle, task_row, task_supply, task_words, title_end, title_open, to_week, todo_note, todo_open, wait_end, wait_late, wait_middle, wait_order, wait_supply, waits_open, week, weeks_end, weeks_late}
+use Rattle.mrp_page.specs.Layout.{above_bar, above_end, available_label, balance_chart, balance_label, booked_label, cancel_front, cancel_open, capacity_label, centre_head, centre_open, centre_tile, centres_open, cut_bar, entry, firm_label, grid_end, gross_label, history_end, history_open, hot_bar, hot_end, in_front, in_open, index_count, index_end, index_open, item_head, items_end, items_open, late_front, late_open, later_open, link_end, lists_open, load_chart, load_end, load_label, low_bar, low_end, main_open, more, no_promises, no_record, none_out, none_over, none_refused, nothing_to_do, open_pieces, order, order_address, order_start, order_unknown, order_week, orders_open, other_cells, other_front, other_open, out_cells, out_first_open, out_front, out_open, outs_front, outs_note, over_back, over_front, over_label, over_line, over_open, overloaded_line, overloaded_open, page_end, page_head, page_top, peg_back, peg_booking, peg_front, peg_middle, peg_need, peg_parent, peg_supply, pegs_open, planned_label, point, points_end, record_head, refused_answer, refused_asked, refused_desk, refused_end, refused_front, refused_open, refused_row, release_front, release_open, rest_end, rest_open, row_end, scheduled_label, section_end, share_cell, share_label, starts_label, style, summary_open, summary_tile, table_end, task_middle, task_row, task_supply, title_end, title_open, to_week, todo_note, todo_open, wait_end, wait_late, wait_middle, wait_order, wait_supply, waits_open, week, weeks_end, weeks_late, week_end, date_open, date_end, start_open, start_end, page_items, line_open, safety_line, facts_open, facts_steps, facts_end, open_receipt, no_message, none_at_risk, risk_booking, risk_front, risk_middle, risk_note, risk_open, risk_order, risks_unknown, said_back, said_close, said_front, said_open, said_other_back, said_other_front, said_pieces, said_start, said_week, work_back, work_blank, work_count, work_end, work_head, work_name, work_note, work_open, work_operation, work_other, work_rest, work_share, work_table_end, work_unknown}
 use Rattle.mrp_page.specs.Notes.{Noted}
 use Rattle.mrp_page.specs.Outs.{falling_late, first_planned, is_planned, lateness, left_in, out_line, out_row, outs_back, outs_first, outs_html, outs_section, short_weeks, sign}
 use Rattle.mrp_page.specs.Page.{head_html, is_told, items_of, middle_html, page_html, page_of, rest_html, scene_in, shown_items, told_first, top_html, untold_rows}
-use Rattle.mrp_page.specs.Orders.{is_numbered, is_order, linked_html, numbered, order_link, order_words, ordered}
+use Rattle.mrp_page.specs.Orders.{is_numbered, is_order, linked_html, numbered, order_link, order_words, ordered, passing, place_of}
+use Rattle.mrp_page.specs.Overloaded.{falling_rate, first_share, most_overloaded, name_of, overloaded, overloaded_first, overloaded_html, overloaded_row, share_of_all, share_sign, share_words, weeks_of, worst_week}
+use Rattle.mrp_page.specs.Pegs.{is_wait, waits_for}
+use Rattle.mrp_page.specs.Pictured.{bars_html, centre_frame, picture_html}
+use Rattle.mrp_page.specs.AtRisk.{RisksView}
+use Rattle.mrp_page.specs.Promises.{risk_end, risk_line, risk_listing, risks_first, risks_html, risks_or_none}
 use Rattle.mrp_page.specs.Refused.{answer_html, asked_of, call_html, caller_html, entry_link_html, entry_name_html, is_booking, refusals, refused_back, refused_lines, refused_listing, refused_or_none, refused_rows, refused_section}
-use Rattle.mrp_page.specs.Row.{Cells, RowView, cell_at, is_in, is_of}
+use Rattle.mrp_page.specs.Row.{Cells, RowView, cell_at, is_in, is_of, same_text}
 use Rattle.mrp_page.specs.Rows.{greatest, higher, leader_rows, leaders, rank, rows_in, rows_named, stretch}
+use Rattle.mrp_page.specs.Said.{back_of, by_urgency, front_of, is_release, item_messages, messages_at, pieces_row, said_html, said_known, said_listing, said_of_open, said_or_none, said_order, weeks_of_order}
+use Rattle.mrp_page.proofs.Todo.{stand-once}
 use Rattle.mrp_page.specs.Scene.{SceneView}
 use Rattle.mrp_page.specs.Shares.{falling_share, is_whole, minutes_at, minutes_html, minutes_tag, overloads_first, share_cells, share_of, share_row, titled_tag, week_rank, whole}
-use Rattle.mrp_page.specs.Summary.{calls_tiles, centre_count, centres_tile, count_with, is_over, is_undone, kind_tile, kinds_tiles, overloads, place_or, summary_html, tile, tile_html}
+use Rattle.mrp_page.specs.Summary.{calls_tiles, centre_count, centres_tile, count_with, is_over, is_undone, kind_tile, kinds_tiles, overloads, place_or, risk_tile, summary_html, tile, tile_html}
 use Rattle.mrp_page.specs.Template.{Drawn, Mark, Number, Text, Where, flow_at, flows_html, has_word, number_at, numbers_html, part_html, row_html, rows_html}
-use Rattle.mrp_page.specs.declared.limits.TheConstants.{FEW_ROWS, MOST_ITEMS, MOST_LINES, SOME_ROWS, TABLE_WEEKS}
+use Rattle.mrp_page.specs.declared.limits.TheConstants.{FEW_ROWS, MOST_EXPLAINED, MOST_ITEMS, MOST_LINES, MOST_OVERLOADED, SOME_ROWS, TABLE_WEEKS}
 use Rattle.mrp_page.specs.declared.counts.Counts.{Counts}
 use Rattle.mrp_day.specs.declared.section.Section.{Section}
 use Rattle.mrp_day.specs.declared.section.Section.TheVariants as s
 use Rattle.mrp_page.specs.Unshown.{unshown}
+use Rattle.mrp_page.specs.Work.{WorkView, work_view, works_of}
+use Rattle.mrp_page.specs.Numbering.{row_at}
+use Rattle.mrp_work.specs.declared.order.Work.{Work}
+use Rattle.mrp_work.specs.Work.{total}
+use Rattle.mrp_qty.specs.Minutes.{minutes_text_of}
 
 -- what one of the parts has, all of them have
 pub contains-flat : {X A : Type 0} (f : X → List A) (xs : List X) (x : X) (y : A) (k : ℕ) → k < length xs → get_or xs k x ≡ x → Contains (f x) y → Contains (flat_map f xs) y
@@ -61,17 +85,143 @@ IsOwn part = All (Contains own_words) (marks_of part)
 own-mark : (parts : List Drawn) (part : Drawn) (mark : List ℕ) → Contains layouts parts → Contains parts part → Contains (marks_of part) mark → Contains own_words mark
 unfolding own_words
 own-mark parts part mark laid has is =
-    Contains-append_right plain (flat_map (flat_map marks_of) layouts) mark
-    (contains-flat (flat_map marks_of) layouts parts mark laid.0 laid.1 laid.2 (contains-flat marks_of parts part mark has.0 has.1 has.2 is))
+    Contains-append_left (plain ++ flat_map (flat_map marks_of) layouts) (tables_plain ++ flat_map (flat_map marks_of) tables_layouts) mark
+    (Contains-append_right plain (flat_map (flat_map marks_of) layouts) mark
+    (contains-flat (flat_map marks_of) layouts parts mark laid.0 laid.1 laid.2 (contains-flat marks_of parts part mark has.0 has.1 has.2 is)))
+
+-- so is that of what the tables add
+own-table-mark : (parts : List Drawn) (part : Drawn) (mark : List ℕ) → Contains tables_layouts parts → Contains parts part → Contains (marks_of part) mark → Contains own_words mark
+unfolding own_words
+own-table-mark parts part mark laid has is =
+    Contains-append_right (plain ++ flat_map (flat_map marks_of) layouts) (tables_plain ++ flat_map (flat_map marks_of) tables_layouts) mark
+    (Contains-append_right tables_plain (flat_map (flat_map marks_of) tables_layouts) mark
+    (contains-flat (flat_map marks_of) tables_layouts parts mark laid.0 laid.1 laid.2 (contains-flat marks_of parts part mark has.0 has.1 has.2 is)))
 
 own-parts : (parts : List Drawn) → Contains layouts parts → All IsOwn parts
 own-parts parts laid = λ k d within.
     let has : Contains parts (get_or parts k d) = All-contains_itself parts k d within in
     λ i m inside. own-mark parts (get_or parts k d) (get_or (marks_of (get_or parts k d)) i m) laid has (All-contains_itself (marks_of (get_or parts k d)) i m inside)
 
+own-table-parts : (parts : List Drawn) → Contains tables_layouts parts → All IsOwn parts
+own-table-parts parts laid = λ k d within.
+    let has : Contains parts (get_or parts k d) = All-contains_itself parts k d within in
+    λ i m inside. own-table-mark parts (get_or parts k d) (get_or (marks_of (get_or parts k d)) i m) laid has (All-contains_itself (marks_of (get_or parts k d)) i m inside)
+
 own : (m : List ℕ) (k : ℕ) → k < length plain → get_or plain k m ≡ m → Contains own_words m
 unfolding own_words
-own m k within is = Contains-append_left plain (flat_map (flat_map marks_of) layouts) m (k, within, is)
+own m k within is =
+    Contains-append_left (plain ++ flat_map (flat_map marks_of) layouts) (tables_plain ++ flat_map (flat_map marks_of) tables_layouts) m
+    (Contains-append_left plain (flat_map (flat_map marks_of) layouts) m (k, within, is))
+
+own-table : (m : List ℕ) (k : ℕ) → k < length tables_plain → get_or tables_plain k m ≡ m → Contains own_words m
+unfolding own_words
+own-table m k within is =
+    Contains-append_right (plain ++ flat_map (flat_map marks_of) layouts) (tables_plain ++ flat_map (flat_map marks_of) tables_layouts) m
+    (Contains-append_left tables_plain (flat_map (flat_map marks_of) tables_layouts) m (k, within, is))
+
+laid-page_items : Contains tables_layouts page_items
+unfolding tables_layouts
+laid-page_items = (0, omega arith, refl)
+
+laid-facts_open : Contains tables_layouts facts_open
+unfolding tables_layouts
+laid-facts_open = (1, omega arith, refl)
+
+laid-facts_steps : Contains tables_layouts facts_steps
+unfolding tables_layouts
+laid-facts_steps = (2, omega arith, refl)
+
+laid-facts_end : Contains tables_layouts facts_end
+unfolding tables_layouts
+laid-facts_end = (3, omega arith, refl)
+
+laid-safety_line : Contains tables_layouts safety_line
+unfolding tables_layouts
+laid-safety_line = (4, omega arith, refl)
+
+laid-open_receipt : Contains tables_layouts open_receipt
+unfolding tables_layouts
+laid-open_receipt = (5, omega arith, refl)
+
+laid-work_open : Contains tables_layouts work_open
+unfolding tables_layouts
+laid-work_open = (6, omega arith, refl)
+
+laid-work_count : Contains tables_layouts work_count
+unfolding tables_layouts
+laid-work_count = (7, omega arith, refl)
+
+laid-work_head : Contains tables_layouts work_head
+unfolding tables_layouts
+laid-work_head = (8, omega arith, refl)
+
+laid-work_name : Contains tables_layouts work_name
+unfolding tables_layouts
+laid-work_name = (9, omega arith, refl)
+
+laid-work_operation : Contains tables_layouts work_operation
+unfolding tables_layouts
+laid-work_operation = (10, omega arith, refl)
+
+laid-work_share : Contains tables_layouts work_share
+unfolding tables_layouts
+laid-work_share = (11, omega arith, refl)
+
+laid-work_back : Contains tables_layouts work_back
+unfolding tables_layouts
+laid-work_back = (12, omega arith, refl)
+
+laid-work_rest : Contains tables_layouts work_rest
+unfolding tables_layouts
+laid-work_rest = (13, omega arith, refl)
+
+own-week_end : Contains own_words week_end
+unfolding tables_plain
+own-week_end = own-table week_end 0 (omega arith) refl
+
+own-date_open : Contains own_words date_open
+unfolding tables_plain
+own-date_open = own-table date_open 1 (omega arith) refl
+
+own-date_end : Contains own_words date_end
+unfolding tables_plain
+own-date_end = own-table date_end 2 (omega arith) refl
+
+own-start_open : Contains own_words start_open
+unfolding tables_plain
+own-start_open = own-table start_open 3 (omega arith) refl
+
+own-start_end : Contains own_words start_end
+unfolding tables_plain
+own-start_end = own-table start_end 4 (omega arith) refl
+
+own-line_open : Contains own_words line_open
+unfolding tables_plain
+own-line_open = own-table line_open 5 (omega arith) refl
+
+own-work_note : Contains own_words work_note
+unfolding tables_plain
+own-work_note = own-table work_note 6 (omega arith) refl
+
+own-work_other : Contains own_words work_other
+unfolding tables_plain
+own-work_other = own-table work_other 7 (omega arith) refl
+
+own-work_blank : Contains own_words work_blank
+unfolding tables_plain
+own-work_blank = own-table work_blank 8 (omega arith) refl
+
+own-work_table_end : Contains own_words work_table_end
+unfolding tables_plain
+own-work_table_end = own-table work_table_end 9 (omega arith) refl
+
+own-work_unknown : Contains own_words work_unknown
+unfolding tables_plain
+own-work_unknown = own-table work_unknown 10 (omega arith) refl
+
+own-work_end : Contains own_words work_end
+unfolding tables_plain
+own-work_end = own-table work_end 11 (omega arith) refl
 
 laid-page_top : Contains layouts page_top
 unfolding layouts
@@ -81,13 +231,13 @@ laid-page_head : Contains layouts page_head
 unfolding layouts
 laid-page_head = (1, omega arith, refl)
 
-laid-task_head : Contains layouts task_head
+laid-said_front : Contains layouts said_front
 unfolding layouts
-laid-task_head = (2, omega arith, refl)
+laid-said_front = (2, omega arith, refl)
 
-laid-task_words : Contains layouts task_words
+laid-said_back : Contains layouts said_back
 unfolding layouts
-laid-task_words = (3, omega arith, refl)
+laid-said_back = (3, omega arith, refl)
 
 laid-week : Contains layouts week
 unfolding layouts
@@ -129,9 +279,9 @@ laid-more : Contains layouts more
 unfolding layouts
 laid-more = (13, omega arith, refl)
 
-laid-other_words : Contains layouts other_words
+laid-said_other_front : Contains layouts said_other_front
 unfolding layouts
-laid-other_words = (14, omega arith, refl)
+laid-said_other_front = (14, omega arith, refl)
 
 laid-rest_open : Contains layouts rest_open
 unfolding layouts
@@ -293,6 +443,34 @@ laid-out_cells : Contains layouts out_cells
 unfolding layouts
 laid-out_cells = (54, omega arith, refl)
 
+laid-overloaded_line : Contains layouts overloaded_line
+unfolding layouts
+laid-overloaded_line = (55, omega arith, refl)
+
+laid-said_other_back : Contains layouts said_other_back
+unfolding layouts
+laid-said_other_back = (56, omega arith, refl)
+
+laid-said_pieces : Contains layouts said_pieces
+unfolding layouts
+laid-said_pieces = (57, omega arith, refl)
+
+laid-said_start : Contains layouts said_start
+unfolding layouts
+laid-said_start = (58, omega arith, refl)
+
+laid-said_week : Contains layouts said_week
+unfolding layouts
+laid-said_week = (59, omega arith, refl)
+
+laid-risk_middle : Contains layouts risk_middle
+unfolding layouts
+laid-risk_middle = (60, omega arith, refl)
+
+laid-risk_order : Contains layouts risk_order
+unfolding layouts
+laid-risk_order = (61, omega arith, refl)
+
 own-style : Contains own_words style
 unfolding plain
 own-style = own style 0 (omega arith) refl
@@ -305,13 +483,13 @@ own-nothing_to_do : Contains own_words nothing_to_do
 unfolding plain
 own-nothing_to_do = own nothing_to_do 2 (omega arith) refl
 
-own-item_tasks_open : Contains own_words item_tasks_open
+own-said_open : Contains own_words said_open
 unfolding plain
-own-item_tasks_open = own item_tasks_open 3 (omega arith) refl
+own-said_open = own said_open 3 (omega arith) refl
 
-own-item_tasks_end : Contains own_words item_tasks_end
+own-said_close : Contains own_words said_close
 unfolding plain
-own-item_tasks_end = own item_tasks_end 4 (omega arith) refl
+own-said_close = own said_close 4 (omega arith) refl
 
 own-weeks_end : Contains own_words weeks_end
 unfolding plain
@@ -605,6 +783,38 @@ own-title_end : Contains own_words title_end
 unfolding plain
 own-title_end = own title_end 77 (omega arith) refl
 
+own-overloaded_open : Contains own_words overloaded_open
+unfolding plain
+own-overloaded_open = own overloaded_open 78 (omega arith) refl
+
+own-no_message : Contains own_words no_message
+unfolding plain
+own-no_message = own no_message 79 (omega arith) refl
+
+own-risk_open : Contains own_words risk_open
+unfolding plain
+own-risk_open = own risk_open 80 (omega arith) refl
+
+own-risk_note : Contains own_words risk_note
+unfolding plain
+own-risk_note = own risk_note 81 (omega arith) refl
+
+own-none_at_risk : Contains own_words none_at_risk
+unfolding plain
+own-none_at_risk = own none_at_risk 82 (omega arith) refl
+
+own-risks_unknown : Contains own_words risks_unknown
+unfolding plain
+own-risks_unknown = own risks_unknown 83 (omega arith) refl
+
+own-risk_front : Contains own_words risk_front
+unfolding plain
+own-risk_front = own risk_front 84 (omega arith) refl
+
+own-risk_booking : Contains own_words risk_booking
+unfolding plain
+own-risk_booking = own risk_booking 85 (omega arith) refl
+
 -- the markup of a kind of messages is the page's own
 record OfKind (kind : Kind) : Type 0 where
   open-laid : Contains layouts kind.head
@@ -684,6 +894,10 @@ named-item shown name has =
     let (k, r, within, at, is) = Any-from_list_any (is_of name) shown has in
     (r, (k, within, at), (bytes_eq-Decides (cell_at r 0) name).0 is)
 
+-- what stands at a place among rows has what all of them have
+at-place : (P : RowView → Type 0) (rs : List RowView) (k : ℕ) → All P rs → (r : RowView) → slice_get rs k ≡ Some r → P r
+at-place P rs k all r at = subst P (get_or_from_slice_get rs k r r at) (all k r (slice_get_within rs k r at))
+
 left : (a b : Bool) → (a && b) ≡ true → a ≡ true
 left true b e = refl
 left false b e = absurd cc
@@ -693,6 +907,21 @@ numbered-name name number r passes = (bytes_eq-Decides (cell_at r 0) name).0 (le
 
 ordered-name : (name kind number : List ℕ) (r : RowView) → is_order name kind number r ≡ true → cell_at r 0 ≡ name
 ordered-name name kind number r passes = (bytes_eq-Decides (cell_at r 0) name).0 (left (is_of name r) (has_word 1 number r && has_word 2 kind r) passes)
+
+-- what the tables say is known: dates of weeks, facts of items, receipts of open orders
+pub record FactsKnown (K : List ℕ → Type 0) (facts : Facts) : Type 0 where
+  pub dated : (week : ℕ) → K (in_week facts.dates week)
+  pub of-items : (name : List ℕ) (own : ItemFacts) → item_facts facts.tables name ≡ Some own → All K (facts_cells (lead_unit facts.tables.version) own)
+  pub of-orders : (name order : List ℕ) (own : Receipt) → open_order facts.tables name order ≡ Some own → All K (receipt_cells own)
+
+abbrev pub TablesKnown : (List ℕ → Type 0) → Option Facts → Type 0
+TablesKnown K None = Unit {0}
+TablesKnown K (Some facts) = FactsKnown K facts
+
+-- so are the texts of the operations that load overloads
+abbrev pub WorksKnown : (List ℕ → Type 0) → Option WorkView → List RowView → Type 0
+WorksKnown K None ls = Unit {0}
+WorksKnown K (Some work) ls = (load : RowView) → Contains ls load → (works : List Work) → works_of work load ≡ Some works → All K (explained_texts load works)
 
 module _ (K L E : List ℕ → Type 0) (O : List ℕ → List ℕ → Type 0) (words : (w : List ℕ) → Contains small_words w → K w) where
   none : IsMadeOf K L E O []
@@ -761,6 +990,10 @@ module _ (K L E : List ℕ → Type 0) (O : List ℕ → List ℕ → Type 0) (w
   unfolding row_html
   row parts r laid known = each IsOwn (part_html r) (λ p is. part r p known is) parts (own-parts parts laid)
 
+  table-row : (parts : List Drawn) (r : RowView) → Contains tables_layouts parts → ((column : ℕ) → K (cell_at r column)) → IsMadeOf K L E O (row_html parts r)
+  unfolding row_html
+  table-row parts r laid known = each IsOwn (part_html r) (λ p is. part r p known is) parts (own-table-parts parts laid)
+
   rows : (parts : List Drawn) (rs : List RowView) → Contains layouts parts → All (λ (r : RowView). (column : ℕ) → K (cell_at r column)) rs → IsMadeOf K L E O (rows_html parts rs)
   unfolding rows_html
   rows parts rs laid all = each (λ (r : RowView). (column : ℕ) → K (cell_at r column)) (row_html parts) (λ r known. row parts r laid known) rs all
@@ -800,38 +1033,6 @@ module _ (K L E : List ℕ → Type 0) (O : List ℕ → List ℕ → Type 0) (w
       by : (b : Bool) → has_item shown name ≡ b → IsMadeOf K L E O (if b then link_html name else escaped name)
       by true has = link name (subst L (named-item shown name has).2 (All-contains (λ (r : RowView). L (cell_at r 0)) shown (named-item shown name has).0 led (named-item shown name has).1))
       by false has = text name known
-
-  task : (shown : List RowView) (says : List Drawn) (r : RowView) → Contains layouts says → All (λ (r : RowView). L (cell_at r 0)) shown → ((column : ℕ) → K (cell_at r column)) → IsMadeOf K L E O (task_html shown says r)
-  unfolding task_html
-  task shown says r laid led known =
-      join (row_html task_head r) (item_name_html shown (cell_at r 0) ++ row_html says r) (row task_head r laid-task_head known)
-      (join (item_name_html shown (cell_at r 0)) (row_html says r) (item-name shown (cell_at r 0) led (known 0)) (row says r laid known))
-
-  tasks-word : (shown : List RowView) (word : List ℕ) (ms : List RowView) → All (λ (r : RowView). L (cell_at r 0)) shown → All (λ (r : RowView). (column : ℕ) → K (cell_at r column)) ms → IsMadeOf K L E O (tasks_with shown word ms)
-  unfolding tasks_with
-  tasks-word shown word ms led all = each (λ (r : RowView). (column : ℕ) → K (cell_at r column)) (task_if shown word) (λ r known. either (has_word 3 word r) (task_html shown task_words r) [] (task shown task_words r laid-task_words led known) none) ms all
-
-  tasks-other : (shown ms : List RowView) → All (λ (r : RowView). L (cell_at r 0)) shown → All (λ (r : RowView). (column : ℕ) → K (cell_at r column)) ms → IsMadeOf K L E O (other_tasks shown ms)
-  unfolding other_tasks
-  tasks-other shown ms led all = each (λ (r : RowView). (column : ℕ) → K (cell_at r column)) (other_if shown) (λ r known. either (is_plain r) [] (task_html shown other_words r) none (task shown other_words r laid-other_words led known)) ms all
-
-  tasks : (shown ms : List RowView) → All (λ (r : RowView). L (cell_at r 0)) shown → All (λ (r : RowView). (column : ℕ) → K (cell_at r column)) ms → IsMadeOf K L E O (tasks_html shown ms)
-  unfolding tasks_html
-  tasks shown ms led all =
-      let of : (word : List ℕ) → IsMadeOf K L E O (tasks_with shown word ms) = λ word. tasks-word shown word ms led all in
-      let late : List ℕ = tasks_with shown (codes "PAST-DUE") ms in
-      let release : List ℕ = tasks_with shown (codes "RELEASE") ms in
-      let sooner : List ℕ = tasks_with shown (codes "IN") ms in
-      let later : List ℕ = tasks_with shown (codes "OUT") ms in
-      let cancel : List ℕ = tasks_with shown (codes "CANCEL") ms in
-      let other : List ℕ = other_tasks shown ms in
-      join late (release ++ (sooner ++ (later ++ (cancel ++ other)))) (of (codes "PAST-DUE"))
-      (join release (sooner ++ (later ++ (cancel ++ other))) (of (codes "RELEASE"))
-      (join sooner (later ++ (cancel ++ other)) (of (codes "IN")) (join later (cancel ++ other) (of (codes "OUT")) (join cancel other (of (codes "CANCEL")) (tasks-other shown ms led all)))))
-
-  told : (front : List ℕ) (shown ms : List RowView) (back : List ℕ) → Contains own_words front → All (λ (r : RowView). L (cell_at r 0)) shown → All (λ (r : RowView). (column : ℕ) → K (cell_at r column)) ms → Contains own_words back → IsMadeOf K L E O (task_table front shown ms back)
-  unfolding task_table
-  told front shown ms back of-front led all of-back = join front (tasks_html shown ms ++ back) (mark front of-front) (join (tasks_html shown ms) back (tasks shown ms led all) (mark back of-back))
 
   counted : (count : ℕ) (one many : List ℕ) → K (decimal count) → K one → K many → (column : ℕ) → K (cell_at (count_row count one many) column)
   counted count one many of-count of-one of-many = knows s.Run (decimal count ∷ (if count == 1 then one else many) ∷ [])
@@ -973,17 +1174,24 @@ module _ (K L E : List ℕ → Type 0) (O : List ℕ → List ℕ → Type 0) (w
       (join fourth fifth (kind-tile messages (codes "OUT") (codes "out") (codes "reschedule out") d (small (codes "out") 34 (omega arith) refl) (small (codes "reschedule out") 37 (omega arith) refl))
       (kind-tile messages (codes "CANCEL") (codes "cancel") (codes "cancel") e (small (codes "cancel") 29 (omega arith) refl) (small (codes "cancel") 29 (omega arith) refl)))))
 
-  summed : (history messages loads-of : List RowView) → All K (summary_counts history messages loads-of) → IsMadeOf K L E O (summary_html history messages loads-of)
+  risk-tile : (risks : RisksView) → K (decimal (length risks.rows)) → IsMadeOf K L E O (risk_tile risks)
+  unfolding risk_tile small_words
+  risk-tile risks known =
+      either risks.known (tile_html (length risks.rows) (codes "late") (codes "risk") (codes "at risk")) []
+      (a-tile (length risks.rows) (codes "late") (codes "risk") (codes "at risk") known (small (codes "late") 26 (omega arith) refl) (small (codes "risk") 44 (omega arith) refl) (small (codes "at risk") 45 (omega arith) refl)) none
+
+  summed : (history messages loads-of : List RowView) (risks : RisksView) → All K (summary_counts history messages loads-of) → K (decimal (length risks.rows)) → IsMadeOf K L E O (summary_html history messages loads-of risks)
   unfolding summary_html centres_tile small_words
-  summed history messages loads-of counts =
+  summed history messages loads-of risks counts risk-count =
       let count : (k : ℕ) → k < 9 → K (get_or (summary_counts history messages loads-of) k []) = λ k within. counts k [] (omega (arith, within)) in
       let over : List ℕ = row_html centre_tile (tile (centre_count (overloads loads-of)) (codes "late") (codes "centres") [] (centre_count loads-of)) in
-      join summary_open (calls_tiles history ++ (kinds_tiles messages ++ (over ++ main_open))) (mark summary_open own-summary_open)
-      (join (calls_tiles history) (kinds_tiles messages ++ (over ++ main_open)) (calls-tiles history (count 0 (omega arith)) (count 1 (omega arith)))
+      join summary_open (calls_tiles history ++ (risk_tile risks ++ (kinds_tiles messages ++ (over ++ main_open)))) (mark summary_open own-summary_open)
+      (join (calls_tiles history) (risk_tile risks ++ (kinds_tiles messages ++ (over ++ main_open))) (calls-tiles history (count 0 (omega arith)) (count 1 (omega arith)))
+      (join (risk_tile risks) (kinds_tiles messages ++ (over ++ main_open)) (risk-tile risks risk-count)
       (join (kinds_tiles messages) (over ++ main_open) (kinds-tiles messages (count 2 (omega arith)) (count 3 (omega arith)) (count 4 (omega arith)) (count 5 (omega arith)) (count 6 (omega arith)))
       (join over main_open (row centre_tile (tile (centre_count (overloads loads-of)) (codes "late") (codes "centres") [] (centre_count loads-of)) laid-centre_tile
       (tile-known (centre_count (overloads loads-of)) (codes "late") (codes "centres") [] (centre_count loads-of) (count 7 (omega arith)) (small (codes "late") 26 (omega arith) refl) (small (codes "centres") 38 (omega arith) refl) nothing (count 8 (omega arith))))
-      (mark main_open own-main_open))))
+      (mark main_open own-main_open)))))
 
   -- what a page is drawn from is known, and its links lead to what is shown
   record SceneKnown (scene : SceneView) : Type 0 where
@@ -994,57 +1202,82 @@ module _ (K L E : List ℕ → Type 0) (O : List ℕ → List ℕ → Type 0) (w
     of-entries : All (λ (r : RowView). (column : ℕ) → K (cell_at r column)) scene.history
     kept : All (λ (r : RowView). E (cell_at r 0)) scene.history
     leads-to : (name : List ℕ) → has_item scene.shown name ≡ true → All (λ (r : RowView). O (cell_at r 1) name) (rows_named name scene.orders)
+    of-tables : TablesKnown K scene.tables
+
+  -- the orders that overloads are explained by
+  abbrev OrdersKnown : Option WorkView → Type 0
+  OrdersKnown None = Unit {0}
+  OrdersKnown (Some work) = All (λ (r : RowView). (column : ℕ) → K (cell_at r column)) work.orders
 
   order-link : (number name : List ℕ) → O number name → IsMadeOf K L E O (order_link number name)
   order-link number name leads = (Order number name ∷ [], All-cons (IsPieceOf K L E O) (Order number name) [] leads (All-nil (IsPieceOf K L E O)), sym (append-nil (order_link number name)))
 
-  -- what is found among orders leads to it if it is shown
-  linked-in : (scene : SceneView) (p : RowView → Bool) (rs : List RowView) (says : List ℕ) → IsMadeOf K L E O says
-      → All (λ (r : RowView). p r ≡ true → has_item scene.shown (cell_at r 0) ≡ true → O (cell_at r 1) (cell_at r 0)) rs → IsMadeOf K L E O (linked_html scene (find p rs) says)
+  -- an order that passes leads to it if it is shown
+  linked-at : (scene : SceneView) (p : RowView → Bool) (o : Option RowView) (says : List ℕ) → IsMadeOf K L E O says
+      → ((r : RowView) → o ≡ Some r → p r ≡ true → has_item scene.shown (cell_at r 0) ≡ true → O (cell_at r 1) (cell_at r 0)) → IsMadeOf K L E O (linked_html scene (passing p o) says)
   unfolding order_words
-  linked-in scene p [] says made all = made
-  linked-in scene p (r ∷ rs) says made all = by (p r) refl (all 0 r (omega arith)) (linked-in scene p rs says made (λ k d within. all (suc k) d (omega arith)))
+  linked-at scene p None says made leads = made
+  linked-at scene p (Some r) says made leads = by (p r) refl
     where
       here : (b : Bool) → has_item scene.shown (cell_at r 0) ≡ b → (has_item scene.shown (cell_at r 0) ≡ true → O (cell_at r 1) (cell_at r 0)) → IsMadeOf K L E O (if b then order_link (cell_at r 1) (cell_at r 0) ++ (says ++ link_end) else says)
       here true has leads =
           join (order_link (cell_at r 1) (cell_at r 0)) (says ++ link_end) (order-link (cell_at r 1) (cell_at r 0) (leads has)) (join says link_end made (mark link_end own-link_end))
       here false has leads = made
 
-      by : (b : Bool) → p r ≡ b → (p r ≡ true → has_item scene.shown (cell_at r 0) ≡ true → O (cell_at r 1) (cell_at r 0)) → IsMadeOf K L E O (linked_html scene (find p rs) says) → IsMadeOf K L E O (linked_html scene (if b then Some r else find p rs) says)
-      by true passes leads rest = here (has_item scene.shown (cell_at r 0)) refl (leads passes)
-      by false passes leads rest = rest
+      by : (b : Bool) → p r ≡ b → IsMadeOf K L E O (linked_html scene (if b then Some r else None) says)
+      by true passes = here (has_item scene.shown (cell_at r 0)) refl (leads r refl passes)
+      by false passes = made
 
-  linked : (scene : SceneView) → SceneKnown scene → (name : List ℕ) (p : RowView → Bool) → ((r : RowView) → p r ≡ true → cell_at r 0 ≡ name) → (says : List ℕ) → IsMadeOf K L E O says → IsMadeOf K L E O (linked_html scene (find p (rows_named name scene.orders)) says)
-  linked scene of name p named says made =
-      linked-in scene p (rows_named name scene.orders) says made
-      (λ k d within passes has.
-      let r : RowView = get_or (rows_named name scene.orders) k d in
+  linked : (scene : SceneView) → SceneKnown scene → (name : List ℕ) (p : RowView → Bool) → ((r : RowView) → p r ≡ true → cell_at r 0 ≡ name) → (k : ℕ) (says : List ℕ) → IsMadeOf K L E O says
+      → IsMadeOf K L E O (linked_html scene (passing p (slice_get (rows_named name scene.orders) k)) says)
+  linked scene of name p named k says made =
+      linked-at scene p (slice_get (rows_named name scene.orders) k) says made
+      (λ r at passes has.
       let is : cell_at r 0 ≡ name = named r passes in
-      subst (λ (t : List ℕ). O (cell_at r 1) t) (sym is) (of.leads-to name (subst (λ (t : List ℕ). has_item scene.shown t ≡ true) is has) k d within))
+      subst (λ (t : List ℕ). O (cell_at r 1) t) (sym is) (at-place (λ (r : RowView). O (cell_at r 1) name) (rows_named name scene.orders) k (of.leads-to name (subst (λ (t : List ℕ). has_item scene.shown t ≡ true) is has)) r at))
+
+  order-known : (scene : SceneView) → SceneKnown scene → (name : List ℕ) (k : ℕ) (r : RowView) → slice_get (rows_named name scene.orders) k ≡ Some r → (column : ℕ) → K (cell_at r column)
+  order-known scene of name k r at = at-place (λ (r : RowView). (column : ℕ) → K (cell_at r column)) (rows_named name scene.orders) k (all-named (λ (r : RowView). (column : ℕ) → K (cell_at r column)) name scene.orders of.of-orders) r at
 
   linked-number : (scene : SceneView) → SceneKnown scene → (name number says : List ℕ) → IsMadeOf K L E O says → IsMadeOf K L E O (linked_html scene (numbered scene name number) says)
-  linked-number scene of name number says made = linked scene of name (is_numbered name number) (λ r passes. numbered-name name number r passes) says made
+  linked-number scene of name number says made = linked scene of name (is_numbered name number) (λ r passes. numbered-name name number r passes) (place_of number) says made
 
   linked-order : (scene : SceneView) → SceneKnown scene → (name kind number says : List ℕ) → IsMadeOf K L E O says → IsMadeOf K L E O (linked_html scene (ordered scene name kind number) says)
-  linked-order scene of name kind number says made = linked scene of name (is_order name kind number) (λ r passes. ordered-name name kind number r passes) says made
+  linked-order scene of name kind number says made = linked scene of name (is_order name kind number) (λ r passes. ordered-name name kind number r passes) (place_of number) says made
 
   -- a message: its cells, and the pieces of the open order that it is about
   record MessageKnown (scene : SceneView) (r : RowView) : Type 0 where
     cells-in : (column : ℕ) → K (cell_at r column)
     open-in : K (decimal (open_count scene r))
 
-  open-cells : (scene : SceneView) (r : RowView) → K (decimal (open_count scene r)) → IsMadeOf K L E O (open_html scene r)
-  open-cells scene r known =
+  pegged-cells : (scene : SceneView) (r : RowView) → K (decimal (open_count scene r)) → IsMadeOf K L E O (pegged_html scene r)
+  pegged-cells scene r known =
       let count : RowView = count_row (open_count scene r) [] [] in
       either (has_word 1 (codes "open") r && scene.whole) (row_html open_pieces count) order_unknown (row open_pieces count laid-open_pieces (counted (open_count scene r) [] [] known nothing nothing)) (mark order_unknown own-order_unknown)
 
-  order-cells : (kind : Kind) → OfKind kind → (scene : SceneView) (r : RowView) → K (decimal (open_count scene r)) → (p : RowView → Bool) (orders : List RowView) → All (λ (r : RowView). (column : ℕ) → K (cell_at r column)) orders → IsMadeOf K L E O (order_html kind scene r (find p orders))
-  order-cells kind of scene r known p [] all = open-cells scene r known
-  order-cells kind of scene r known p (o ∷ orders) all = by (p o) (all 0 o (omega arith)) (order-cells kind of scene r known p orders (λ k d within. all (suc k) d (omega arith)))
+  -- an open order's receipt, if there is one
+  received-cells : (scene : SceneView) (r : RowView) → K (decimal (open_count scene r)) → (o : Option Receipt) → ((own : Receipt) → o ≡ Some own → All K (receipt_cells own)) → IsMadeOf K L E O (received_html scene r o)
+  received-cells scene r known None of = pegged-cells scene r known
+  received-cells scene r known (Some own) of = table-row open_receipt (receipt_row own) laid-open_receipt (knows s.Run (receipt_cells own) (of own refl))
+
+  receipt-in : (tables : Option Facts) → TablesKnown K tables → (r : RowView) (own : Receipt) → receipt_of tables r ≡ Some own → All K (receipt_cells own)
+  receipt-in None of r own is = absurd cc
+  receipt-in (Some facts) of r own is = by (has_word 1 (codes "open") r) is
     where
-      by : (b : Bool) → ((column : ℕ) → K (cell_at o column)) → IsMadeOf K L E O (order_html kind scene r (find p orders)) → IsMadeOf K L E O (order_html kind scene r (if b then Some o else find p orders))
-      by true here rest = row kind.order o of.order-laid here
-      by false here rest = rest
+      by : (b : Bool) → (if b then open_order facts.tables (cell_at r 0) (cell_at r 2) else None) ≡ Some own → All K (receipt_cells own)
+      by true found = of.of-orders (cell_at r 0) (cell_at r 2) own found
+      by false found = absurd cc
+
+  open-cells : (scene : SceneView) → SceneKnown scene → (r : RowView) → K (decimal (open_count scene r)) → IsMadeOf K L E O (open_html scene r)
+  open-cells scene seen r known = received-cells scene r known (receipt_of scene.tables r) (λ own is. receipt-in scene.tables seen.of-tables r own is)
+
+  order-cells : (kind : Kind) → OfKind kind → (scene : SceneView) → SceneKnown scene → (r : RowView) → K (decimal (open_count scene r)) → (p : RowView → Bool) (o : Option RowView) → ((q : RowView) → o ≡ Some q → (column : ℕ) → K (cell_at q column)) → IsMadeOf K L E O (order_html kind scene r (passing p o))
+  order-cells kind of scene seen r known p None all = open-cells scene seen r known
+  order-cells kind of scene seen r known p (Some q) all = by (p q)
+    where
+      by : (b : Bool) → IsMadeOf K L E O (order_html kind scene r (if b then Some q else None))
+      by true = row kind.order q of.order-laid (all q refl)
+      by false = open-cells scene seen r known
 
   line : (kind : Kind) → OfKind kind → (scene : SceneView) → SceneKnown scene → (r : RowView) → MessageKnown scene r → IsMadeOf K L E O (task_line kind scene r)
   unfolding task_line
@@ -1060,8 +1293,74 @@ module _ (K L E : List ℕ → Type 0) (O : List ℕ → List ℕ → Type 0) (w
       (join supply (codes "</td>" ++ (of-order ++ value)) (linked-order scene seen (cell_at r 0) (cell_at r 1) (cell_at r 2) says (row task_supply r laid-task_supply known.cells-in))
       (join (codes "</td>") (of-order ++ value) (mark (codes "</td>") own-cell-end)
       (join of-order value
-      (order-cells kind of scene r known.open-in (is_order (cell_at r 0) (cell_at r 1) (cell_at r 2)) (rows_named (cell_at r 0) scene.orders) (all-named (λ (r : RowView). (column : ℕ) → K (cell_at r column)) (cell_at r 0) scene.orders seen.of-orders))
+      (order-cells kind of scene seen r known.open-in (is_order (cell_at r 0) (cell_at r 1) (cell_at r 2)) (slice_get (rows_named (cell_at r 0) scene.orders) (place_of (cell_at r 2))) (order-known scene seen (cell_at r 0) (place_of (cell_at r 2))))
       (row kind.value r of.value-laid known.cells-in))))))
+
+  quantity-known : (t : List ℕ) → K t → (column : ℕ) → K (cell_at (pieces_row t) column)
+  unfolding small_words
+  quantity-known t known =
+      let word : List ℕ = if same_text t (codes "1") then codes " piece" else codes " pieces" in
+      knows s.Run (t ∷ word ∷ []) (All-cons K t (word ∷ []) known (All-cons K word [] (by (same_text t (codes "1"))) (All-nil K)))
+    where
+      by : (b : Bool) → K (if b then codes " piece" else codes " pieces")
+      by true = small (codes " piece") 42 (omega arith) refl
+      by false = small (codes " pieces") 43 (omega arith) refl
+
+  said-of-order : (r o : RowView) → ((column : ℕ) → K (cell_at o column)) → IsMadeOf K L E O (said_order r o)
+  unfolding said_order
+  said-of-order r o known =
+      join (row_html said_pieces (pieces_row (cell_at o 4))) (row_html (weeks_of_order r) o) (row said_pieces (pieces_row (cell_at o 4)) laid-said_pieces (quantity-known (cell_at o 4) (known 4))) (row (weeks_of_order r) o (laid (is_release r)) known)
+    where
+      laid : (b : Bool) → Contains layouts (if b then said_start else said_week)
+      laid true = laid-said_start
+      laid false = laid-said_week
+
+  said-open-of : (scene : SceneView) (r : RowView) → K (decimal (open_count scene r)) → IsMadeOf K L E O (said_of_open scene r)
+  unfolding said_of_open
+  said-open-of scene r known =
+      let pieces-of : RowView = pieces_row (decimal (open_count scene r)) in
+      either (has_word 1 (codes "open") r && scene.whole) (row_html said_pieces pieces-of) [] (row said_pieces pieces-of laid-said_pieces (quantity-known (decimal (open_count scene r)) known)) none
+
+  said-known-of : (scene : SceneView) (r : RowView) → K (decimal (open_count scene r)) → (p : RowView → Bool) (o : Option RowView) → ((q : RowView) → o ≡ Some q → (column : ℕ) → K (cell_at q column)) → IsMadeOf K L E O (said_known scene r (passing p o))
+  said-known-of scene r known p None all = said-open-of scene r known
+  said-known-of scene r known p (Some q) all = by (p q)
+    where
+      by : (b : Bool) → IsMadeOf K L E O (said_known scene r (if b then Some q else None))
+      by true = said-of-order r q (all q refl)
+      by false = said-open-of scene r known
+
+  sentence : (scene : SceneView) → SceneKnown scene → (r : RowView) → MessageKnown scene r → IsMadeOf K L E O (said_html scene r)
+  unfolding said_html
+  sentence scene seen r known =
+      let front : List ℕ = row_html (front_of r) r in
+      let supply : List ℕ = linked_html scene (order_of scene r) (row_html task_supply r) in
+      let of-order : List ℕ = said_known scene r (order_of scene r) in
+      let back : List ℕ = row_html (back_of r) r in
+      join front (supply ++ (of-order ++ back)) (row (front_of r) r (laid-front (is_plain r)) known.cells-in)
+      (join supply (of-order ++ back) (linked-order scene seen (cell_at r 0) (cell_at r 1) (cell_at r 2) (row_html task_supply r) (row task_supply r laid-task_supply known.cells-in))
+      (join of-order back
+      (said-known-of scene r known.open-in (is_order (cell_at r 0) (cell_at r 1) (cell_at r 2)) (slice_get (rows_named (cell_at r 0) scene.orders) (place_of (cell_at r 2))) (order-known scene seen (cell_at r 0) (place_of (cell_at r 2))))
+      (row (back_of r) r (laid-back (is_plain r)) known.cells-in)))
+    where
+      laid-front : (b : Bool) → Contains layouts (if b then said_front else said_other_front)
+      laid-front true = laid-said_front
+      laid-front false = laid-said_other_front
+
+      laid-back : (b : Bool) → Contains layouts (if b then said_back else said_other_back)
+      laid-back true = laid-said_back
+      laid-back false = laid-said_other_back
+
+  said-messages : (scene : SceneView) → SceneKnown scene → (ms : List RowView) → All (MessageKnown scene) ms → K (decimal (length (drop FEW_ROWS ms))) → IsMadeOf K L E O (said_or_none scene ms)
+  unfolding said_or_none
+  said-messages scene seen ms all count =
+      either (has_none ms) no_message (folded_html (said_listing scene) FEW_ROWS ms) (mark no_message own-no_message)
+      (folded (MessageKnown scene) (said_listing scene) FEW_ROWS ms own-said_open own-said_close (λ r known. sentence scene seen r known) all count)
+
+  said-named : (scene : SceneView) → SceneKnown scene → (rows : ItemLists) (r : RowView) → All (MessageKnown scene) rows.messages → K (decimal (length (drop FEW_ROWS (messages_at rows r)))) → IsMadeOf K L E O (item_messages scene rows r)
+  unfolding item_messages
+  said-named scene seen rows r all count =
+      let of-item : List RowView = rows_named (cell_at r 0) rows.messages in
+      said-messages scene seen (messages_at rows r) (All-permutation (MessageKnown scene) of-item (by_urgency of-item) (stand-once of-item) (all-named (MessageKnown scene) (cell_at r 0) rows.messages all)) count
 
   kind-part-of : (kind : Kind) → OfKind kind → (scene : SceneView) → SceneKnown scene → (state : List ℕ) (rs : List RowView) → All (MessageKnown scene) rs → K state → Counted rs → IsMadeOf K L E O (kind_html kind scene state rs)
   unfolding kind_html
@@ -1123,9 +1422,63 @@ module _ (K L E : List ℕ → Type 0) (O : List ℕ → List ℕ → Type 0) (w
       (join parts (past ++ section_end) (every-kind scene seen ms all counts)
       (join past section_end (further missed (codes "message, perhaps an urgent one, is") (codes "messages, urgent ones perhaps among them, are") known (small (codes "message, perhaps an urgent one, is") 3 (omega arith) refl) (small (codes "messages, urgent ones perhaps among them, are") 4 (omega arith) refl)) (mark section_end own-section_end))))
 
-  weeks : (rs : List RowView) → All (λ (r : RowView). (column : ℕ) → K (cell_at r column)) rs → IsMadeOf K L E O (weeks_html rs)
+  -- the date of a week
+  date-known : (tables : Option Facts) → TablesKnown K tables → (number : List ℕ) → K (date_in tables number)
+  date-known None of number = nothing
+  date-known (Some facts) of number = of.dated (amount number)
+
+  a-date : (date : List ℕ) → K date → IsMadeOf K L E O (date_html date)
+  a-date date known =
+      either (length date == 0) [] (date_open ++ (escaped date ++ date_end)) none
+      (join date_open (escaped date ++ date_end) (mark date_open own-date_open) (join (escaped date) date_end (text date known) (mark date_end own-date_end)))
+
+  a-week : (tables : Option Facts) → TablesKnown K tables → (r : RowView) → ((column : ℕ) → K (cell_at r column)) → IsMadeOf K L E O (week_html tables r)
+  a-week tables of r known =
+      let dated : List ℕ = date_html (date_in tables (cell_at r 1)) in
+      join (row_html week r) (dated ++ week_end) (row week r laid-week known)
+      (join dated week_end (a-date (date_in tables (cell_at r 1)) (date-known tables of (cell_at r 1))) (mark week_end own-week_end))
+
+  weeks : (tables : Option Facts) → TablesKnown K tables → (rs : List RowView) → All (λ (r : RowView). (column : ℕ) → K (cell_at r column)) rs → IsMadeOf K L E O (weeks_html tables rs)
   unfolding weeks_html
-  weeks rs all = table [] week rs weeks_end own-none laid-week all own-weeks_end
+  weeks tables of rs all =
+      join (flat_map (week_html tables) rs) weeks_end (each (λ (r : RowView). (column : ℕ) → K (cell_at r column)) (week_html tables) (λ r known. a-week tables of r known) rs all) (mark weeks_end own-weeks_end)
+
+  a-start : (date : List ℕ) → K date → IsMadeOf K L E O (start_html date)
+  a-start date known =
+      either (length date == 0) [] (start_open ++ (escaped date ++ start_end)) none
+      (join start_open (escaped date ++ start_end) (mark start_open own-start_open) (join (escaped date) start_end (text date known) (mark start_end own-start_end)))
+
+  -- what the tables say of an item
+  steps : (item : Item) (r : RowView) → ((column : ℕ) → K (cell_at r column)) → IsMadeOf K L E O (steps_html item r)
+  steps item r known = either (nat_lt 0 item.least || nat_lt 1 item.step) (row_html facts_steps r) [] (table-row facts_steps r laid-facts_steps known) none
+
+  facts-of : (counted_in : LeadUnit) (own : ItemFacts) → All K (facts_cells counted_in own) → IsMadeOf K L E O (facts_html counted_in own)
+  unfolding facts_html facts_row
+  facts-of counted_in own all =
+      let r : RowView = facts_row counted_in own in
+      let known : (column : ℕ) → K (cell_at r column) = knows s.Run (facts_cells counted_in own) all in
+      join (row_html facts_open r) (steps_html own.item r ++ row_html facts_end r) (table-row facts_open r laid-facts_open known)
+      (join (steps_html own.item r) (row_html facts_end r) (steps own.item r known) (table-row facts_end r laid-facts_end known))
+
+  facts-or-none : (counted_in : LeadUnit) (o : Option ItemFacts) → ((own : ItemFacts) → o ≡ Some own → All K (facts_cells counted_in own)) → IsMadeOf K L E O (facts_or_none counted_in o)
+  facts-or-none counted_in None of = none
+  facts-or-none counted_in (Some own) of = facts-of counted_in own (of own refl)
+
+  item-facts-of : (tables : Option Facts) → TablesKnown K tables → (name : List ℕ) → IsMadeOf K L E O (item_facts_html tables name)
+  item-facts-of None of name = none
+  item-facts-of (Some facts) of name = facts-or-none (lead_unit facts.tables.version) (item_facts facts.tables name) (λ own is. of.of-items name own is)
+
+  safety-or-none : (counted_in : LeadUnit) (o : Option ItemFacts) (f : RowView) → ((own : ItemFacts) → o ≡ Some own → All K (facts_cells counted_in own)) → ((column : ℕ) → K (cell_at f column)) → IsMadeOf K L E O (safety_or_none o f)
+  safety-or-none counted_in None f of known = none
+  safety-or-none counted_in (Some own) f of known =
+      let pieces : List ℕ = decimal own.item.safety in
+      let of-pieces : K pieces = of own refl 9 [] (omega arith) in
+      either (nat_lt 0 own.item.safety) (safety_line_html own.item.safety f) []
+      (table-row safety_line (record { section = s.Run; cells = pieces ∷ cell_at f 1 ∷ [] }) laid-safety_line (knows s.Run (pieces ∷ cell_at f 1 ∷ []) (All-cons K pieces (cell_at f 1 ∷ []) of-pieces (All-cons K (cell_at f 1) [] (known 1) (All-nil K))))) none
+
+  safety : (tables : Option Facts) → TablesKnown K tables → (f : RowView) → ((column : ℕ) → K (cell_at f column)) → IsMadeOf K L E O (safety_html tables f)
+  safety None of f known = none
+  safety (Some facts) of f known = safety-or-none (lead_unit facts.tables.version) (item_facts facts.tables (cell_at f 0)) f (λ own is. of.of-items (cell_at f 0) own is) known
 
   top-known : (column : ℕ) (least : List ℕ) (rs : List RowView) → K least → All (λ (r : RowView). (column : ℕ) → K (cell_at r column)) rs → K (greatest column least rs)
   unfolding greatest
@@ -1211,73 +1564,276 @@ module _ (K L E : List ℕ → Type 0) (O : List ℕ → List ℕ → Type 0) (w
       (join share-row-of (over-of ++ grid_end) (table share_label share_cell (map share_row rs) (codes "</tr>\n") own-share_label laid-share_cell (shares-known rs all) own-row-end)
       (join over-of grid_end (times over_label 4 rs own-over_label whole-over all) (mark grid_end own-grid_end))))
 
-  loads-table : (f : RowView) (rs : List RowView) → ((column : ℕ) → K (cell_at f column)) → All LoadKnown rs → IsMadeOf K L E O (loads_table f rs)
+  loads-table : (tables : Option Facts) → TablesKnown K tables → (f : RowView) (rs : List RowView) → ((column : ℕ) → K (cell_at f column)) → All LoadKnown rs → IsMadeOf K L E O (loads_table tables f rs)
   unfolding loads_table
-  loads-table f rs known all =
-      join (row_html centre_head f) (weeks_html rs ++ loads_html rs) (row centre_head f laid-centre_head known) (join (weeks_html rs) (loads_html rs) (weeks rs (cells-known rs all)) (loads rs all))
+  loads-table tables of f rs known all =
+      join (row_html centre_head f) (weeks_html tables rs ++ loads_html rs) (row centre_head f laid-centre_head known) (join (weeks_html tables rs) (loads_html rs) (weeks tables of rs (cells-known rs all)) (loads rs all))
 
-  loads-later : (f : RowView) (rs : List RowView) → ((column : ℕ) → K (cell_at f column)) → All LoadKnown rs → IsMadeOf K L E O (later_loads f rs)
+  loads-later : (tables : Option Facts) → TablesKnown K tables → (f : RowView) (rs : List RowView) → ((column : ℕ) → K (cell_at f column)) → All LoadKnown rs → IsMadeOf K L E O (later_loads tables f rs)
   unfolding later_loads
-  loads-later f rs known all =
-      either (has_none rs) [] (later_open ++ (loads_table f rs ++ rest_end)) none
-      (join later_open (loads_table f rs ++ rest_end) (mark later_open own-later_open) (join (loads_table f rs) rest_end (loads-table f rs known all) (mark rest_end own-rest_end)))
+  loads-later tables of f rs known all =
+      either (has_none rs) [] (later_open ++ (loads_table tables f rs ++ rest_end)) none
+      (join later_open (loads_table tables f rs ++ rest_end) (mark later_open own-later_open) (join (loads_table tables f rs) rest_end (loads-table tables of f rs known all) (mark rest_end own-rest_end)))
 
-  loads-all : (f : RowView) (rs : List RowView) → ((column : ℕ) → K (cell_at f column)) → All LoadKnown rs → IsMadeOf K L E O (all_loads f rs)
+  loads-all : (tables : Option Facts) → TablesKnown K tables → (f : RowView) (rs : List RowView) → ((column : ℕ) → K (cell_at f column)) → All LoadKnown rs → IsMadeOf K L E O (all_loads tables f rs)
   unfolding all_loads
-  loads-all f rs known all =
-      join (loads_table f (take TABLE_WEEKS rs)) (later_loads f (drop TABLE_WEEKS rs)) (loads-table f (take TABLE_WEEKS rs) known (All-take LoadKnown TABLE_WEEKS rs all)) (loads-later f (drop TABLE_WEEKS rs) known (All-drop LoadKnown TABLE_WEEKS rs all))
+  loads-all tables of f rs known all =
+      join (loads_table tables f (take TABLE_WEEKS rs)) (later_loads tables f (drop TABLE_WEEKS rs)) (loads-table tables of f (take TABLE_WEEKS rs) known (All-take LoadKnown TABLE_WEEKS rs all)) (loads-later tables of f (drop TABLE_WEEKS rs) known (All-drop LoadKnown TABLE_WEEKS rs all))
 
-  centre-framed : (f : RowView) (rs : List RowView) → ((column : ℕ) → K (cell_at f column)) → All LoadKnown rs → IsMadeOf K L E O (framed_centre f rs)
+  centre-framed : (tables : Option Facts) → TablesKnown K tables → (f : RowView) (rs : List RowView) → ((column : ℕ) → K (cell_at f column)) → All LoadKnown rs → IsMadeOf K L E O (framed_centre tables f rs)
   unfolding framed_centre
-  centre-framed f rs known all =
+  centre-framed tables of f rs known all =
       let drawn : List ℕ = picture_html f (map share_row rs) in
-      join (row_html centre_open f) (drawn ++ (all_loads f rs ++ section_end)) (row centre_open f laid-centre_open known)
-      (join drawn (all_loads f rs ++ section_end) (picture f (map share_row rs) known (shares-known rs all))
-      (join (all_loads f rs) section_end (loads-all f rs known all) (mark section_end own-section_end)))
+      join (row_html centre_open f) (drawn ++ (all_loads tables f rs ++ section_end)) (row centre_open f laid-centre_open known)
+      (join drawn (all_loads tables f rs ++ section_end) (picture f (map share_row rs) known (shares-known rs all))
+      (join (all_loads tables f rs) section_end (loads-all tables of f rs known all) (mark section_end own-section_end)))
 
   centre-frame : (name : List ℕ) (rs : List RowView) → K name → All LoadKnown rs → (column : ℕ) → K (cell_at (centre_frame name rs) column)
   centre-frame name rs known all =
       let last : List ℕ = greatest 1 (codes "1") rs in
       knows s.Run (name ∷ last ∷ [] ∷ []) (All-cons K name (last ∷ [] ∷ []) known (All-cons K last ([] ∷ []) (top-known 1 (codes "1") rs unit (cells-known rs all)) (All-cons K [] [] nothing (All-nil K))))
 
-  centre : (ls : List RowView) (r : RowView) → All LoadKnown ls → LoadKnown r → IsMadeOf K L E O (centre_html ls r)
+  centre : (tables : Option Facts) → TablesKnown K tables → (ls : List RowView) (r : RowView) → All LoadKnown ls → LoadKnown r → IsMadeOf K L E O (centre_html tables ls r)
   unfolding centre_html
-  centre ls r all known =
+  centre tables of ls r all known =
       let name : List ℕ = cell_at r 0 in
-      let of : List RowView = rows_named name ls in
-      let of-known : All LoadKnown of = all-named LoadKnown name ls all in
-      centre-framed (centre_frame name of) of (centre-frame name of (known.cells-of 0) of-known) of-known
+      let own-loads : List RowView = rows_named name ls in
+      let of-loads : All LoadKnown own-loads = all-named LoadKnown name ls all in
+      centre-framed tables of (centre_frame name own-loads) own-loads (centre-frame name own-loads (known.cells-of 0) of-loads) of-loads
 
-  each-centre : (ls rs : List RowView) → All LoadKnown ls → All LoadKnown rs → IsMadeOf K L E O (each_centre ls rs)
+  each-centre : (tables : Option Facts) → TablesKnown K tables → (ls rs : List RowView) → All LoadKnown ls → All LoadKnown rs → IsMadeOf K L E O (each_centre tables ls rs)
   unfolding each_centre
-  each-centre ls rs all leads = each LoadKnown (centre_html ls) (λ r known. centre ls r all known) rs leads
+  each-centre tables of ls rs all leads = each LoadKnown (centre_html tables ls) (λ r known. centre tables of ls r all known) rs leads
 
-  over-or-none : (missed : ℕ) (rs : List RowView) → All LoadKnown rs → Counted rs → IsMadeOf K L E O (over_or_none missed rs)
+  share-words : (o : Option ℕ) (digits : List ℕ) → K digits → K (share_words o digits)
+  unfolding small_words
+  share-words None digits known = small (codes "no capacity") 40 (omega arith) refl
+  share-words (Some percent) digits known = known
+
+  share-sign : (o : Option ℕ) → K (share_sign o)
+  unfolding small_words
+  share-sign None = nothing
+  share-sign (Some percent) = small (codes " %") 41 (omega arith) refl
+
+  -- The operations that load an overload.
+
+  a-share : (load : RowView) (time : ℕ) → All K (time_texts load time) → (column : ℕ) → K (cell_at (time_share_row load time) column)
+  a-share load time texts =
+      let digits : List ℕ = decimal (unwrap_or (time_share load time) 0) in
+      let words-of : List ℕ = share_words (time_share load time) digits in
+      let sign-of : List ℕ = share_sign (time_share load time) in
+      knows s.Run (words-of ∷ sign-of ∷ [])
+      (All-cons K words-of (sign-of ∷ []) (share-words (time_share load time) digits (texts 2 [] (omega arith))) (All-cons K sign-of [] (share-sign (time_share load time)) (All-nil K)))
+
+  a-time : (load : RowView) (time : ℕ) → All K (time_texts load time) → IsMadeOf K L E O (time_html load time)
+  unfolding time_html
+  a-time load time texts =
+      join (minutes_html (minutes_text_of time)) (row_html work_share (time_share_row load time)) (minutes (minutes_text_of time) (texts 0 [] (omega arith)) (texts 1 [] (omega arith)))
+      (table-row work_share (time_share_row load time) laid-work_share (a-share load time texts))
+
+  order-named : (scene : SceneView) → SceneKnown scene → (r : RowView) → ((column : ℕ) → K (cell_at r column)) → IsMadeOf K L E O (order_name_html scene r)
+  order-named scene seen r known = linked-order scene seen (cell_at r 0) (cell_at r 2) (cell_at r 1) (row_html work_name r) (table-row work_name r laid-work_name known)
+
+  a-work : (scene : SceneView) → SceneKnown scene → (r load : RowView) (work : Work) → ((column : ℕ) → K (cell_at r column)) → All K (work_texts load work) → IsMadeOf K L E O (order_work scene r load work)
+  unfolding order_work
+  a-work scene seen r load work known texts =
+      let named : List ℕ = order_name_html scene r in
+      let numbered-of : List ℕ = row_html work_operation (count_row work.operation [] []) in
+      let timed : List ℕ = time_html load work.time in
+      let back : List ℕ = row_html work_back r in
+      join task_row (named ++ (numbered-of ++ (timed ++ back))) (mark task_row own-task_row)
+      (join named (numbered-of ++ (timed ++ back)) (order-named scene seen r known)
+      (join numbered-of (timed ++ back) (table-row work_operation (count_row work.operation [] []) laid-work_operation (counted work.operation [] [] (texts 0 [] (omega arith)) nothing nothing))
+      (join timed back (a-time load work.time (λ k d within. texts (suc k) d (omega (arith, within)))) (table-row work_back r laid-work_back known))))
+
+  row-known : (rs : List RowView) → All (λ (r : RowView). (column : ℕ) → K (cell_at r column)) rs → (place : ℕ) → (column : ℕ) → K (cell_at (row_at rs place) column)
+  row-known rs all place = by (cases_lt place (length rs))
+    where
+      by : (place < length rs) ⊎ (length rs ≤ place) → (column : ℕ) → K (cell_at (row_at rs place) column)
+      by (inl within) = all place (record { section = s.Run; cells = [] }) within
+      by (inr past) = subst (λ (r : RowView). (column : ℕ) → K (cell_at r column)) (sym (get_or_past rs place (record { section = s.Run; cells = [] }) past)) (knows s.Run [] (All-nil K))
+
+  the-rest : (load : RowView) (works : List Work) → K (decimal (length works)) → All K (time_texts load (total works)) → IsMadeOf K L E O (more_works_html load works)
+  unfolding more_works_html
+  the-rest load works count texts =
+      let head : List ℕ = row_html work_rest (count_row (length works) [] []) in
+      let timed : List ℕ = time_html load (total works) in
+      either (length works == 0) [] (head ++ (timed ++ work_blank)) none
+      (join head (timed ++ work_blank) (table-row work_rest (count_row (length works) [] []) laid-work_rest (counted (length works) [] [] count nothing nothing))
+      (join timed work_blank (a-time load (total works) texts) (mark work_blank own-work_blank)))
+
+  what-else : (load : RowView) (time : ℕ) → All K (time_texts load time) → IsMadeOf K L E O (left_html load time)
+  unfolding left_html
+  what-else load time texts =
+      let timed : List ℕ = time_html load time in
+      either (time == 0) [] (work_other ++ (timed ++ work_blank)) none
+      (join work_other (timed ++ work_blank) (mark work_other own-work_other) (join timed work_blank (a-time load time texts) (mark work_blank own-work_blank)))
+
+  -- the texts of an overload, part by part
+  record WorkKnown (load : RowView) (works : List Work) : Type 0 where
+    all-of : K (decimal (length works))
+    rest-of : K (decimal (length (drop SOME_ROWS (works_first works))))
+    rest-time : All K (time_texts load (total (drop SOME_ROWS (works_first works))))
+    other-time : All K (time_texts load (amount (cell_at load 2) - total works))
+    each-of : All (λ (work : Work). All K (work_texts load work)) works
+
+  work-known : (load : RowView) (works : List Work) → All K (explained_texts load works) → WorkKnown load works
+  work-known load works texts =
+      let counts : List (List ℕ) = decimal (length works) ∷ decimal (length (drop SOME_ROWS (works_first works))) ∷ [] in
+      let rest-texts : List (List ℕ) = time_texts load (total (drop SOME_ROWS (works_first works))) in
+      let other-texts : List (List ℕ) = time_texts load (amount (cell_at load 2) - total works) in
+      let each-texts : List (List ℕ) = flat_map (work_texts load) works in
+      let has : (t : List ℕ) → Contains (explained_texts load works) t → K t = λ t is. All-contains K (explained_texts load works) t texts is in
+      let after : (t : List ℕ) → Contains (rest-texts ++ (other-texts ++ each-texts)) t → Contains (explained_texts load works) t = λ t is. Contains-append_right counts (rest-texts ++ (other-texts ++ each-texts)) t is in
+      record {
+        all-of = texts 0 [] (omega arith);
+        rest-of = texts 1 [] (omega arith);
+        rest-time = λ k d within. has (get_or rest-texts k d) (after (get_or rest-texts k d) (Contains-append_left rest-texts (other-texts ++ each-texts) (get_or rest-texts k d) (All-contains_itself rest-texts k d within)));
+        other-time = λ k d within. has (get_or other-texts k d) (after (get_or other-texts k d) (Contains-append_right rest-texts (other-texts ++ each-texts) (get_or other-texts k d) (Contains-append_left other-texts each-texts (get_or other-texts k d) (All-contains_itself other-texts k d within))));
+        each-of = λ k d within i t inside.
+            let work : Work = get_or works k d in
+            let own-text : List ℕ = get_or (work_texts load work) i t in
+            let at : Contains works work = All-contains_itself works k d within in
+            has own-text (after own-text (Contains-append_right rest-texts (other-texts ++ each-texts) own-text (Contains-append_right other-texts each-texts own-text (contains-flat (work_texts load) works work own-text at.0 at.1 at.2 (All-contains_itself (work_texts load work) i t inside)))));
+      }
+
+  the-works : (scene : SceneView) → SceneKnown scene → (orders : List RowView) → All (λ (r : RowView). (column : ℕ) → K (cell_at r column)) orders → (load : RowView) → LoadKnown load → (works : List Work) → WorkKnown load works → IsMadeOf K L E O (works_table scene orders load works)
+  unfolding works_table
+  the-works scene seen orders of-orders load known works texts =
+      let first : List Work = works_first works in
+      let of-first : All (λ (work : Work). All K (work_texts load work)) first = All-permutation (λ (work : Work). All K (work_texts load work)) works first (sorted-permutes falling_time works) texts.each-of in
+      let head : List ℕ = row_html work_head (share_row load) in
+      let lines : List ℕ = flat_map (work_line scene orders load) (take SOME_ROWS first) in
+      let rest : List ℕ = more_works_html load (drop SOME_ROWS first) in
+      let other-of : List ℕ = left_html load (amount (cell_at load 2) - total works) in
+      join head (lines ++ (rest ++ (other-of ++ work_table_end))) (table-row work_head (share_row load) laid-work_head (share-known load known))
+      (join lines (rest ++ (other-of ++ work_table_end))
+      (each (λ (work : Work). All K (work_texts load work)) (work_line scene orders load) (λ work is. a-work scene seen (row_at orders work.order) load work (row-known orders of-orders work.order) is) (take SOME_ROWS first) (All-take (λ (work : Work). All K (work_texts load work)) SOME_ROWS first of-first))
+      (join rest (other-of ++ work_table_end) (the-rest load (drop SOME_ROWS first) texts.rest-of texts.rest-time)
+      (join other-of work_table_end (what-else load (amount (cell_at load 2) - total works) texts.other-time) (mark work_table_end own-work_table_end))))
+
+  explained : (scene : SceneView) → SceneKnown scene → (orders : List RowView) → All (λ (r : RowView). (column : ℕ) → K (cell_at r column)) orders → (load : RowView) → LoadKnown load → (works : List Work) → WorkKnown load works → IsMadeOf K L E O (explained_html scene orders load works)
+  unfolding explained_html works_or_none small_words
+  explained scene seen orders of-orders load known works texts =
+      let head : List ℕ = row_html work_open (share_row load) in
+      let count : List ℕ = row_html work_count (count_row (length works) (codes "operation") (codes "operations")) in
+      let inner : List ℕ = works_or_none scene orders load works in
+      join head (count ++ (inner ++ work_end)) (table-row work_open (share_row load) laid-work_open (share-known load known))
+      (join count (inner ++ work_end) (table-row work_count (count_row (length works) (codes "operation") (codes "operations")) laid-work_count (counted (length works) (codes "operation") (codes "operations") texts.all-of (small (codes "operation") 46 (omega arith) refl) (small (codes "operations") 47 (omega arith) refl)))
+      (join inner work_end
+      (either (nat_le (total works) (amount (cell_at load 2))) (works_table scene orders load works) work_unknown (the-works scene seen orders of-orders load known works texts) (mark work_unknown own-work_unknown))
+      (mark work_end own-work_end)))
+
+  -- an overload: its cells, and what is known of the operations that load it
+  record OverKnown (ls : List RowView) (r : RowView) : Type 0 where
+    load-of : LoadKnown r
+    kept-in : Contains ls r
+
+  plain-over : (r : RowView) → LoadKnown r → IsMadeOf K L E O (row_html over_line (share_row r))
+  plain-over r known = row over_line (share_row r) laid-over_line (share-known r known)
+
+  an-over : (scene : SceneView) → SceneKnown scene → (work : Option WorkView) (ls : List RowView) → OrdersKnown work → WorksKnown K work ls → (r : RowView) → OverKnown ls r → IsMadeOf K L E O (overload_html scene work r)
+  an-over scene seen None ls of-orders of-works r known = plain-over r known.load-of
+  an-over scene seen (Some work) ls of-orders of-works r known = by (works_of work r) refl
+    where
+      by : (o : Option (List Work)) → works_of work r ≡ o → IsMadeOf K L E O (explained_or_plain scene work.orders r o)
+      by None is = plain-over r known.load-of
+      by (Some works) is = explained scene seen work.orders of-orders r known.load-of works (work-known r works (of-works r known.kept-in works is))
+
+  over-or-none : (scene : SceneView) → SceneKnown scene → (work : Option WorkView) (ls : List RowView) → OrdersKnown work → WorksKnown K work ls → (missed : ℕ) (rs : List RowView) → All (OverKnown ls) rs → Counted rs → IsMadeOf K L E O (over_or_none scene work missed rs)
   unfolding over_or_none
-  over-or-none missed rs all counts =
+  over-or-none scene seen work ls of-orders of-works missed rs all counts =
       let head : List ℕ = row_html over_open (count_row (length rs) [] []) in
-      let lines : List ℕ = capped_html over_listing SOME_ROWS rs in
-      either (has_none rs && (missed == 0)) none_over (head ++ lines) (mark none_over own-none_over)
-      (join head lines (row over_open (count_row (length rs) [] []) laid-over_open (counted (length rs) [] [] counts.all-of nothing nothing))
-      (capped LoadKnown over_listing rs own-over_front own-over_back (λ r known. row over_line (share_row r) laid-over_line (share-known r known)) all counts))
+      let lines : List ℕ = capped_html (over_listing scene work) SOME_ROWS rs in
+      either (has_none rs && (missed == 0)) none_over (head ++ (explained_note work ++ lines)) (mark none_over own-none_over)
+      (join head (explained_note work ++ lines) (row over_open (count_row (length rs) [] []) laid-over_open (counted (length rs) [] [] counts.all-of nothing nothing))
+      (join (explained_note work) lines (note work)
+      (capped (OverKnown ls) (over_listing scene work) rs own-over_front own-over_back (λ r known. an-over scene seen work ls of-orders of-works r known) all counts)))
+    where
+      note : (o : Option WorkView) → IsMadeOf K L E O (explained_note o)
+      note None = none
+      note (Some view) = mark work_note own-work_note
 
-  over-known : (ls : List RowView) → All LoadKnown ls → All LoadKnown (overloads_first ls)
+  name-known : (rs : List RowView) → All LoadKnown rs → K (name_of rs)
+  name-known [] all = nothing
+  name-known (r ∷ rs) all = (all 0 r (omega arith)).cells-of 0
+
+  first-known : (rs : List RowView) → All LoadKnown rs → (column : ℕ) → K (cell_at (first_share rs) column)
+  first-known [] all = knows s.Run [] (All-nil K)
+  first-known (r ∷ rs) all = share-known r (all 0 r (omega arith))
+
+  worst-known : (rs : List RowView) → All LoadKnown rs → (column : ℕ) → K (cell_at (worst_week rs) column)
+  worst-known rs all = first-known (sorted_by falling_share (overloads rs)) (All-permutation LoadKnown (overloads rs) (sorted_by falling_share (overloads rs)) (sorted-permutes falling_share (overloads rs)) (All-filter is_over LoadKnown rs all))
+
+  -- a work centre that is over its capacity: its weeks, and what is counted of them
+  record CentreKnown (rs : List RowView) : Type 0 where
+    weeks-known : All LoadKnown rs
+    texts-known : All K (centre_texts rs)
+
+  overloaded-known : (rs : List RowView) → CentreKnown rs → (column : ℕ) → K (cell_at (overloaded_row rs) column)
+  overloaded-known rs known =
+      let over : List ℕ = decimal (count_by is_over rs) in
+      let weeks-of : List ℕ = decimal (length rs) in
+      let digits : List ℕ = decimal (unwrap_or (share_of_all rs) 0) in
+      let worst : RowView = worst_week rs in
+      let words-of : List ℕ = share_words (share_of_all rs) digits in
+      let sign-of : List ℕ = share_sign (share_of_all rs) in
+      knows s.Run (name_of rs ∷ over ∷ weeks-of ∷ cell_at worst 2 ∷ cell_at worst 3 ∷ cell_at worst 1 ∷ words-of ∷ sign-of ∷ [])
+      (All-cons K (name_of rs) (over ∷ weeks-of ∷ cell_at worst 2 ∷ cell_at worst 3 ∷ cell_at worst 1 ∷ words-of ∷ sign-of ∷ []) (name-known rs known.weeks-known)
+      (All-cons K over (weeks-of ∷ cell_at worst 2 ∷ cell_at worst 3 ∷ cell_at worst 1 ∷ words-of ∷ sign-of ∷ []) (known.texts-known 0 [] (omega arith))
+      (All-cons K weeks-of (cell_at worst 2 ∷ cell_at worst 3 ∷ cell_at worst 1 ∷ words-of ∷ sign-of ∷ []) (known.texts-known 1 [] (omega arith))
+      (All-cons K (cell_at worst 2) (cell_at worst 3 ∷ cell_at worst 1 ∷ words-of ∷ sign-of ∷ []) (worst-known rs known.weeks-known 2)
+      (All-cons K (cell_at worst 3) (cell_at worst 1 ∷ words-of ∷ sign-of ∷ []) (worst-known rs known.weeks-known 3)
+      (All-cons K (cell_at worst 1) (words-of ∷ sign-of ∷ []) (worst-known rs known.weeks-known 1)
+      (All-cons K words-of (sign-of ∷ []) (share-words (share_of_all rs) digits (known.texts-known 2 [] (omega arith)))
+      (All-cons K sign-of [] (share-sign (share_of_all rs)) (All-nil K)))))))))
+
+  an-overloaded : (rs : List RowView) → CentreKnown rs → IsMadeOf K L E O (overloaded_html rs)
+  unfolding overloaded_html
+  an-overloaded rs known =
+      let f : RowView = centre_frame (name_of rs) rs in
+      join (row_html overloaded_line (overloaded_row rs)) (picture_html f (map share_row rs)) (row overloaded_line (overloaded_row rs) laid-overloaded_line (overloaded-known rs known))
+      (picture f (map share_row rs) (centre-frame (name_of rs) rs (name-known rs known.weeks-known) known.weeks-known) (shares-known rs known.weeks-known))
+
+  most-of : (cs : List (List RowView)) → All CentreKnown cs → IsMadeOf K L E O (most_overloaded cs)
+  unfolding most_overloaded
+  most-of cs all =
+      let lines : List ℕ = flat_map overloaded_html (take MOST_OVERLOADED cs) in
+      either (length cs == 0) [] (overloaded_open ++ lines) none
+      (join overloaded_open lines (mark overloaded_open own-overloaded_open) (each CentreKnown overloaded_html (λ rs known. an-overloaded rs known) (take MOST_OVERLOADED cs) (All-take CentreKnown MOST_OVERLOADED cs all)))
+
+  most-known : (ls : List RowView) → All LoadKnown ls → All (λ (rs : List RowView). All K (centre_texts rs)) (overloaded ls) → All CentreKnown (overloaded_first ls)
+  most-known ls all texts =
+      let leads : List RowView = leaders [] (overloads ls) in
+      let weeks-in : All (All LoadKnown) (overloaded ls) = All-map (All LoadKnown) (weeks_of ls) leads (λ k d within. all-named LoadKnown (cell_at (get_or leads k d) 0) ls all) in
+      All-permutation CentreKnown (overloaded ls) (overloaded_first ls) (sorted-permutes falling_rate (overloaded ls))
+      (λ k d within. record { weeks-known = weeks-in k d within; texts-known = texts k d within })
+
+  over-known : (ls : List RowView) → All LoadKnown ls → All (OverKnown ls) (overloads_first ls)
   over-known ls all =
       let over-of : List RowView = overloads ls in
       let first : List RowView = sorted_by falling_share over-of in
-      All-permutation LoadKnown first (sorted_by week_rank first) (sorted-permutes week_rank first)
-      (All-permutation LoadKnown over-of first (sorted-permutes falling_share over-of) (All-filter is_over LoadKnown ls all))
+      let each-of : All (OverKnown ls) ls = λ k d within. record { load-of = all k d within; kept-in = All-contains_itself ls k d within } in
+      All-permutation (OverKnown ls) first (sorted_by week_rank first) (sorted-permutes week_rank first)
+      (All-permutation (OverKnown ls) over-of first (sorted-permutes falling_share over-of) (All-filter is_over (OverKnown ls) ls each-of))
 
-  centres : (ls : List RowView) (missed : ℕ) → All LoadKnown ls → Counted (overloads_first ls) → K (decimal missed) → IsMadeOf K L E O (load_section ls missed)
+  orders-known : (tables : Option Facts) (orders asked : List RowView) → All (λ (r : RowView). (column : ℕ) → K (cell_at r column)) orders → OrdersKnown (work_view tables orders asked)
+  orders-known None orders asked all = tt
+  orders-known (Some facts) orders asked all = all
+
+  centres : (scene : SceneView) → SceneKnown scene → (ls : List RowView) (missed : ℕ) → WorksKnown K (work_in scene ls) ls → All LoadKnown ls → All (λ (rs : List RowView). All K (centre_texts rs)) (overloaded ls) → Counted (overloads_first ls) → K (decimal missed) → IsMadeOf K L E O (load_section scene ls missed)
   unfolding load_section centres_back small_words
-  centres ls missed all counts known =
-      let over-of : List ℕ = over_or_none missed (overloads_first ls) in
-      let each-of : List ℕ = each_centre ls (leaders [] ls) in
+  centres scene seen ls missed of-works all texts counts known =
+      let most : List ℕ = most_overloaded (overloaded_first ls) in
+      let over-of : List ℕ = over_or_none scene (work_in scene ls) missed (overloads_first ls) in
+      let each-of : List ℕ = each_centre scene.tables ls (leaders [] ls) in
       let past : List ℕ = more_html missed (codes "week of a work centre is") (codes "weeks of work centres are") in
-      join centres_open (over-of ++ (each-of ++ (past ++ section_end))) (mark centres_open own-centres_open)
-      (join over-of (each-of ++ (past ++ section_end)) (over-or-none missed (overloads_first ls) (over-known ls all) counts)
-      (join each-of (past ++ section_end) (each-centre ls (leaders [] ls) all (all-leaders LoadKnown [] ls all))
-      (join past section_end (further missed (codes "week of a work centre is") (codes "weeks of work centres are") known (small (codes "week of a work centre is") 5 (omega arith) refl) (small (codes "weeks of work centres are") 6 (omega arith) refl)) (mark section_end own-section_end))))
+      join centres_open (most ++ (over-of ++ (each-of ++ (past ++ section_end)))) (mark centres_open own-centres_open)
+      (join most (over-of ++ (each-of ++ (past ++ section_end))) (most-of (overloaded_first ls) (most-known ls all texts))
+      (join over-of (each-of ++ (past ++ section_end))
+      (over-or-none scene seen (work_in scene ls) ls (orders-known scene.tables scene.orders (take MOST_EXPLAINED (overloads_first ls)) seen.of-orders) of-works missed (overloads_first ls) (over-known ls all) counts)
+      (join each-of (past ++ section_end) (each-centre scene.tables seen.of-tables ls (leaders [] ls) all (all-leaders LoadKnown [] ls all))
+      (join past section_end (further missed (codes "week of a work centre is") (codes "weeks of work centres are") known (small (codes "week of a work centre is") 5 (omega arith) refl) (small (codes "weeks of work centres are") 6 (omega arith) refl)) (mark section_end own-section_end)))))
 
   supplies : (scheduled : Bool) (plan : List RowView) → All (λ (r : RowView). (column : ℕ) → K (cell_at r column)) plan → IsMadeOf K L E O (supplies_html scheduled plan)
   unfolding supplies_html
@@ -1295,9 +1851,12 @@ module _ (K L E : List ℕ → Type 0) (O : List ℕ → List ℕ → Type 0) (w
   unfolding points_html
   points rs all = table [] point rs points_end own-none laid-point all own-points_end
 
-  balance : (f : RowView) (rs : List RowView) → ((column : ℕ) → K (cell_at f column)) → All (λ (r : RowView). (column : ℕ) → K (cell_at r column)) rs → IsMadeOf K L E O (balance_html f rs)
+  balance : (tables : Option Facts) → TablesKnown K tables → (f : RowView) (rs : List RowView) → ((column : ℕ) → K (cell_at f column)) → All (λ (r : RowView). (column : ℕ) → K (cell_at r column)) rs → IsMadeOf K L E O (balance_html tables f rs)
   unfolding balance_html
-  balance f rs known all = join (row_html balance_chart f) (points_html rs) (row balance_chart f laid-balance_chart known) (points rs all)
+  balance tables of f rs known all =
+      let line-of : List ℕ = safety_html tables f in
+      join (row_html balance_chart f) (line-of ++ (line_open ++ points_html rs)) (row balance_chart f laid-balance_chart known)
+      (join line-of (line_open ++ points_html rs) (safety tables of f known) (join line_open (points_html rs) (mark line_open own-line_open) (points rs all)))
 
   planned : (rs : List RowView) → All (λ (r : RowView). (column : ℕ) → K (cell_at r column)) rs → IsMadeOf K L E O (planned_html rs)
   unfolding planned_html
@@ -1307,35 +1866,35 @@ module _ (K L E : List ℕ → Type 0) (O : List ℕ → List ℕ → Type 0) (w
   unfolding record_rows
   record-rows scheduled plan promises of-plan of-promises = (join (amounts_html gross_label 2 plan) ((supplies_html scheduled plan) ++ ((planned_html plan) ++ (promised_html promises))) (amounts gross_label 2 plan own-gross_label of-plan) (join (supplies_html scheduled plan) ((planned_html plan) ++ (promised_html promises)) (supplies scheduled plan of-plan) (join (planned_html plan) (promised_html promises) (planned plan of-plan) (promised promises of-promises))))
 
-  record-of : (f : RowView) (scheduled : Bool) (plan promises : List RowView) → ((column : ℕ) → K (cell_at f column)) → All (λ (r : RowView). (column : ℕ) → K (cell_at r column)) plan → All (λ (r : RowView). (column : ℕ) → K (cell_at r column)) promises → IsMadeOf K L E O (record_table f scheduled plan promises)
+  record-of : (tables : Option Facts) → TablesKnown K tables → (f : RowView) (scheduled : Bool) (plan promises : List RowView) → ((column : ℕ) → K (cell_at f column)) → All (λ (r : RowView). (column : ℕ) → K (cell_at r column)) plan → All (λ (r : RowView). (column : ℕ) → K (cell_at r column)) promises → IsMadeOf K L E O (record_table tables f scheduled plan promises)
   unfolding record_table
-  record-of f scheduled plan promises known of-plan of-promises =
-      join (row_html record_head f) (weeks_html plan ++ (record_rows scheduled plan promises ++ grid_end)) (row record_head f laid-record_head known)
-      (join (weeks_html plan) (record_rows scheduled plan promises ++ grid_end) (weeks plan of-plan) (join (record_rows scheduled plan promises) grid_end (record-rows scheduled plan promises of-plan of-promises) (mark grid_end own-grid_end)))
+  record-of tables of f scheduled plan promises known of-plan of-promises =
+      join (row_html record_head f) (weeks_html tables plan ++ (record_rows scheduled plan promises ++ grid_end)) (row record_head f laid-record_head known)
+      (join (weeks_html tables plan) (record_rows scheduled plan promises ++ grid_end) (weeks tables of plan of-plan) (join (record_rows scheduled plan promises) grid_end (record-rows scheduled plan promises of-plan of-promises) (mark grid_end own-grid_end)))
 
-  record-later : (f : RowView) (scheduled : Bool) (plan promises : List RowView) → ((column : ℕ) → K (cell_at f column)) → All (λ (r : RowView). (column : ℕ) → K (cell_at r column)) plan → All (λ (r : RowView). (column : ℕ) → K (cell_at r column)) promises → IsMadeOf K L E O (later_record f scheduled plan promises)
+  record-later : (tables : Option Facts) → TablesKnown K tables → (f : RowView) (scheduled : Bool) (plan promises : List RowView) → ((column : ℕ) → K (cell_at f column)) → All (λ (r : RowView). (column : ℕ) → K (cell_at r column)) plan → All (λ (r : RowView). (column : ℕ) → K (cell_at r column)) promises → IsMadeOf K L E O (later_record tables f scheduled plan promises)
   unfolding later_record
-  record-later f scheduled plan promises known of-plan of-promises =
-      let of : List ℕ = record_table f scheduled plan promises in
-      either (has_none plan) [] (later_open ++ (of ++ rest_end)) none (join later_open (of ++ rest_end) (mark later_open own-later_open) (join of rest_end (record-of f scheduled plan promises known of-plan of-promises) (mark rest_end own-rest_end)))
+  record-later tables of f scheduled plan promises known of-plan of-promises =
+      let recorded : List ℕ = record_table tables f scheduled plan promises in
+      either (has_none plan) [] (later_open ++ (recorded ++ rest_end)) none (join later_open (recorded ++ rest_end) (mark later_open own-later_open) (join recorded rest_end (record-of tables of f scheduled plan promises known of-plan of-promises) (mark rest_end own-rest_end)))
 
-  record-weeks : (f : RowView) (scheduled : Bool) (plan promises : List RowView) → ((column : ℕ) → K (cell_at f column)) → All (λ (r : RowView). (column : ℕ) → K (cell_at r column)) plan → All (λ (r : RowView). (column : ℕ) → K (cell_at r column)) promises → IsMadeOf K L E O (all_weeks f scheduled plan promises)
+  record-weeks : (tables : Option Facts) → TablesKnown K tables → (f : RowView) (scheduled : Bool) (plan promises : List RowView) → ((column : ℕ) → K (cell_at f column)) → All (λ (r : RowView). (column : ℕ) → K (cell_at r column)) plan → All (λ (r : RowView). (column : ℕ) → K (cell_at r column)) promises → IsMadeOf K L E O (all_weeks tables f scheduled plan promises)
   unfolding all_weeks
-  record-weeks f scheduled plan promises known of-plan of-promises =
-      join (record_table f scheduled (take TABLE_WEEKS plan) (take TABLE_WEEKS promises)) (later_record f scheduled (drop TABLE_WEEKS plan) (drop TABLE_WEEKS promises))
-      (record-of f scheduled (take TABLE_WEEKS plan) (take TABLE_WEEKS promises) known (All-take (λ (r : RowView). (column : ℕ) → K (cell_at r column)) TABLE_WEEKS plan of-plan) (All-take (λ (r : RowView). (column : ℕ) → K (cell_at r column)) TABLE_WEEKS promises of-promises))
-      (record-later f scheduled (drop TABLE_WEEKS plan) (drop TABLE_WEEKS promises) known (All-drop (λ (r : RowView). (column : ℕ) → K (cell_at r column)) TABLE_WEEKS plan of-plan) (All-drop (λ (r : RowView). (column : ℕ) → K (cell_at r column)) TABLE_WEEKS promises of-promises))
+  record-weeks tables of f scheduled plan promises known of-plan of-promises =
+      join (record_table tables f scheduled (take TABLE_WEEKS plan) (take TABLE_WEEKS promises)) (later_record tables f scheduled (drop TABLE_WEEKS plan) (drop TABLE_WEEKS promises))
+      (record-of tables of f scheduled (take TABLE_WEEKS plan) (take TABLE_WEEKS promises) known (All-take (λ (r : RowView). (column : ℕ) → K (cell_at r column)) TABLE_WEEKS plan of-plan) (All-take (λ (r : RowView). (column : ℕ) → K (cell_at r column)) TABLE_WEEKS promises of-promises))
+      (record-later tables of f scheduled (drop TABLE_WEEKS plan) (drop TABLE_WEEKS promises) known (All-drop (λ (r : RowView). (column : ℕ) → K (cell_at r column)) TABLE_WEEKS plan of-plan) (All-drop (λ (r : RowView). (column : ℕ) → K (cell_at r column)) TABLE_WEEKS promises of-promises))
 
-  phased : (name : List ℕ) (plan promises : List RowView) → K name → All (λ (r : RowView). (column : ℕ) → K (cell_at r column)) plan → All (λ (r : RowView). (column : ℕ) → K (cell_at r column)) promises → IsMadeOf K L E O (record_html name plan promises)
+  phased : (tables : Option Facts) → TablesKnown K tables → (name : List ℕ) (plan promises : List RowView) → K name → All (λ (r : RowView). (column : ℕ) → K (cell_at r column)) plan → All (λ (r : RowView). (column : ℕ) → K (cell_at r column)) promises → IsMadeOf K L E O (record_html tables name plan promises)
   unfolding record_html framed_record
-  phased name plan promises known of-plan of-promises =
+  phased tables of name plan promises known of-plan of-promises =
       let f : RowView = frame_of name plan 7 7 (codes "1") in
       let of-frame : (column : ℕ) → K (cell_at f column) = framed name plan 7 7 (codes "1") known unit of-plan in
-      join (balance_html f plan) (all_weeks f (is_scheduled plan promises) plan promises) (balance f plan of-frame of-plan) (record-weeks f (is_scheduled plan promises) plan promises of-frame of-plan of-promises)
+      join (balance_html tables f plan) (all_weeks tables f (is_scheduled plan promises) plan promises) (balance tables of f plan of-frame of-plan) (record-weeks tables of f (is_scheduled plan promises) plan promises of-frame of-plan of-promises)
 
-  record-or-none : (name : List ℕ) (plan promises : List RowView) → K name → All (λ (r : RowView). (column : ℕ) → K (cell_at r column)) plan → All (λ (r : RowView). (column : ℕ) → K (cell_at r column)) promises → IsMadeOf K L E O (record_or_none name plan promises)
+  record-or-none : (tables : Option Facts) → TablesKnown K tables → (name : List ℕ) (plan promises : List RowView) → K name → All (λ (r : RowView). (column : ℕ) → K (cell_at r column)) plan → All (λ (r : RowView). (column : ℕ) → K (cell_at r column)) promises → IsMadeOf K L E O (record_or_none tables name plan promises)
   unfolding record_or_none
-  record-or-none name plan promises known of-plan of-promises = either (has_none plan) no_record (record_html name plan promises) (mark no_record own-no_record) (phased name plan promises known of-plan of-promises)
+  record-or-none tables of name plan promises known of-plan of-promises = either (has_none plan) no_record (record_html tables name plan promises) (mark no_record own-no_record) (phased tables of name plan promises known of-plan of-promises)
 
   orders : (rs : List RowView) → All (λ (r : RowView). (column : ℕ) → K (cell_at r column)) rs → IsMadeOf K L E O (orders_html rs)
   unfolding orders_html
@@ -1370,13 +1929,13 @@ module _ (K L E : List ℕ → Type 0) (O : List ℕ → List ℕ → Type 0) (w
   pegs scene seen rs all =
       join pegs_open (flat_map (peg_html scene) rs ++ grid_end) (mark pegs_open own-pegs_open) (join (flat_map (peg_html scene) rs) grid_end (each (λ (r : RowView). (column : ℕ) → K (cell_at r column)) (peg_html scene) (λ r known. a-peg scene seen r known) rs all) (mark grid_end own-grid_end))
 
-  late-cells : (p : RowView → Bool) (rs : List RowView) → All (λ (r : RowView). (column : ℕ) → K (cell_at r column)) rs → IsMadeOf K L E O (late_html (find p rs))
-  late-cells p [] all = mark wait_end own-wait_end
-  late-cells p (o ∷ rs) all = by (p o) (all 0 o (omega arith)) (late-cells p rs (λ k d within. all (suc k) d (omega arith)))
+  late-cells : (p : RowView → Bool) (o : Option RowView) → ((q : RowView) → o ≡ Some q → (column : ℕ) → K (cell_at q column)) → IsMadeOf K L E O (late_html (passing p o))
+  late-cells p None all = mark wait_end own-wait_end
+  late-cells p (Some q) all = by (p q)
     where
-      by : (b : Bool) → ((column : ℕ) → K (cell_at o column)) → IsMadeOf K L E O (late_html (find p rs)) → IsMadeOf K L E O (late_html (if b then Some o else find p rs))
-      by true here rest = row wait_late o laid-wait_late here
-      by false here rest = rest
+      by : (b : Bool) → IsMadeOf K L E O (late_html (if b then Some q else None))
+      by true = row wait_late q laid-wait_late (all q refl)
+      by false = mark wait_end own-wait_end
 
   a-wait : (scene : SceneView) → SceneKnown scene → (r : RowView) → ((column : ℕ) → K (cell_at r column)) → IsMadeOf K L E O (wait_html scene r)
   unfolding wait_html
@@ -1393,7 +1952,7 @@ module _ (K L E : List ℕ → Type 0) (O : List ℕ → List ℕ → Type 0) (w
       (join name (wait_supply ++ (supply ++ lateness)) (item-name scene.shown (cell_at r 0) seen.led (known 0))
       (join wait_supply (supply ++ lateness) (mark wait_supply own-wait_supply)
       (join supply lateness (supply-of scene seen r known)
-      (late-cells (is_order (cell_at r 0) (cell_at r 6) (cell_at r 7)) (rows_named (cell_at r 0) scene.orders) (all-named (λ (r : RowView). (column : ℕ) → K (cell_at r column)) (cell_at r 0) scene.orders seen.of-orders)))))))
+      (late-cells (is_order (cell_at r 0) (cell_at r 6) (cell_at r 7)) (slice_get (rows_named (cell_at r 0) scene.orders) (place_of (cell_at r 7))) (order-known scene seen (cell_at r 0) (place_of (cell_at r 7)))))))))
 
   waits : (scene : SceneView) → SceneKnown scene → (rs : List RowView) → All (λ (r : RowView). (column : ℕ) → K (cell_at r column)) rs → IsMadeOf K L E O (waits_html scene rs)
   unfolding waits_html
@@ -1414,43 +1973,39 @@ module _ (K L E : List ℕ → Type 0) (O : List ℕ → List ℕ → Type 0) (w
   item-lists scene seen name =
       let of-orders : List ℕ = orders_html (rows_named name scene.orders) in
       let of-pegs : List ℕ = pegs_html scene (rows_named name scene.pegs) in
-      let of-waits : List ℕ = waits_html scene (waits_of scene name) in
+      let of-waits : List ℕ = waits_html scene (waits_for scene.pegs name) in
       join lists_open (of-orders ++ (of-pegs ++ (of-waits ++ (rest_end ++ section_end)))) (mark lists_open own-lists_open)
       (join of-orders (of-pegs ++ (of-waits ++ (rest_end ++ section_end))) (orders (rows_named name scene.orders) (all-named (λ (r : RowView). (column : ℕ) → K (cell_at r column)) name scene.orders seen.of-orders))
       (join of-pegs (of-waits ++ (rest_end ++ section_end)) (pegs scene seen (rows_named name scene.pegs) (all-named (λ (r : RowView). (column : ℕ) → K (cell_at r column)) name scene.pegs seen.of-pegs))
-      (join of-waits (rest_end ++ section_end) (waits scene seen (waits_of scene name) (All-filter (is_wait name) (λ (r : RowView). (column : ℕ) → K (cell_at r column)) scene.pegs seen.of-pegs))
+      (join of-waits (rest_end ++ section_end) (waits scene seen (waits_for scene.pegs name) (All-filter (is_wait name) (λ (r : RowView). (column : ℕ) → K (cell_at r column)) scene.pegs seen.of-pegs))
       (join rest_end section_end (mark rest_end own-rest_end) (mark section_end own-section_end)))))
 
-  record-named : (rows : ItemLists) (name : List ℕ) → AllKnown rows → K name → IsMadeOf K L E O (named_record rows name)
+  record-named : (tables : Option Facts) → TablesKnown K tables → (rows : ItemLists) (name : List ℕ) → AllKnown rows → K name → IsMadeOf K L E O (named_record tables rows name)
   unfolding named_record
-  record-named rows name all known = record-or-none name (rows_named name rows.plan) (rows_named name rows.promises) known (all-named (λ (r : RowView). (column : ℕ) → K (cell_at r column)) name rows.plan all.plan) (all-named (λ (r : RowView). (column : ℕ) → K (cell_at r column)) name rows.promises all.promises)
-
-  tasks-named : (rows : ItemLists) (r : RowView) → AllKnown rows → L (cell_at r 0) → IsMadeOf K L E O (named_tasks rows r)
-  unfolding named_tasks item_tasks
-  tasks-named rows r all leads =
-      told item_tasks_open (r ∷ []) (rows_named (cell_at r 0) rows.messages) item_tasks_end own-item_tasks_open (All-cons (λ (r : RowView). L (cell_at r 0)) r [] leads (All-nil (λ (r : RowView). L (cell_at r 0))))
-      (all-named (λ (r : RowView). (column : ℕ) → K (cell_at r column)) (cell_at r 0) rows.messages all.messages) own-item_tasks_end
+  record-named tables of rows name all known = record-or-none tables of name (rows_named name rows.plan) (rows_named name rows.promises) known (all-named (λ (r : RowView). (column : ℕ) → K (cell_at r column)) name rows.plan all.plan) (all-named (λ (r : RowView). (column : ℕ) → K (cell_at r column)) name rows.promises all.promises)
 
   noted : (rows : ItemLists) (missed : ℕ) (name : List ℕ) → IsMadeOf K L E O (named_note rows missed name)
   unfolding named_note
   noted rows missed name = either ((missed == 0) || (has_none (rows_named name rows.plan) || not (has_none (rows_named name rows.promises)))) [] no_promises none (mark no_promises own-no_promises)
 
-  item : (scene : SceneView) → SceneKnown scene → (rows : ItemLists) (missed : ℕ) (r : RowView) → AllKnown rows → ((column : ℕ) → K (cell_at r column)) → L (cell_at r 0) → IsMadeOf K L E O (item_html scene rows missed r)
+  item : (scene : SceneView) → SceneKnown scene → (rows : ItemLists) (missed : ℕ) (r : RowView) → AllKnown rows → All (MessageKnown scene) rows.messages → ((column : ℕ) → K (cell_at r column)) → K (decimal (length (drop FEW_ROWS (messages_at rows r)))) → IsMadeOf K L E O (item_html scene rows missed r)
   unfolding item_html
-  item scene seen rows missed r all known leads =
+  item scene seen rows missed r all messages known folds =
       let name : List ℕ = cell_at r 0 in
-      let told-of : List ℕ = named_tasks rows r in
-      let recorded : List ℕ = named_record rows name in
+      let facts-are : List ℕ = item_facts_html scene.tables name in
+      let told-of : List ℕ = item_messages scene rows r in
+      let recorded : List ℕ = named_record scene.tables rows name in
       let note : List ℕ = named_note rows missed name in
       let listed-of : List ℕ = item_lists_html scene name in
-      join (row_html item_head r) (told-of ++ (recorded ++ (note ++ listed-of))) (row item_head r laid-item_head known)
-      (join told-of (recorded ++ (note ++ listed-of)) (tasks-named rows r all leads)
-      (join recorded (note ++ listed-of) (record-named rows name all (known 0)) (join note listed-of (noted rows missed name) (item-lists scene seen name))))
+      join (row_html item_head r) (facts-are ++ (told-of ++ (recorded ++ (note ++ listed-of)))) (row item_head r laid-item_head known)
+      (join facts-are (told-of ++ (recorded ++ (note ++ listed-of))) (item-facts-of scene.tables seen.of-tables name)
+      (join told-of (recorded ++ (note ++ listed-of)) (said-named scene seen rows r messages folds)
+      (join recorded (note ++ listed-of) (record-named scene.tables seen.of-tables rows name all (known 0)) (join note listed-of (noted rows missed name) (item-lists scene seen name)))))
 
-  items : (scene : SceneView) → SceneKnown scene → (rows : ItemLists) (missed : ℕ) (rs : List RowView) → AllKnown rows → All (λ (r : RowView). (column : ℕ) → K (cell_at r column)) rs → All (λ (r : RowView). L (cell_at r 0)) rs → IsMadeOf K L E O (items_html scene rows missed rs)
+  items : (scene : SceneView) → SceneKnown scene → (rows : ItemLists) (missed : ℕ) (rs : List RowView) → AllKnown rows → All (MessageKnown scene) rows.messages → All (λ (r : RowView). (column : ℕ) → K (cell_at r column)) rs → All (λ (r : RowView). K (decimal (length (drop FEW_ROWS (messages_at rows r))))) rs → IsMadeOf K L E O (items_html scene rows missed rs)
   unfolding items_html
-  items scene seen rows missed rs all leads led =
-      each (λ (r : RowView). ((column : ℕ) → K (cell_at r column)) × L (cell_at r 0)) (item_html scene rows missed) (λ r known. item scene seen rows missed r all known.0 known.1) rs (λ k d within. (leads k d within, led k d within))
+  items scene seen rows missed rs all messages leads folds =
+      each (λ (r : RowView). ((column : ℕ) → K (cell_at r column)) × K (decimal (length (drop FEW_ROWS (messages_at rows r))))) (item_html scene rows missed) (λ r known. item scene seen rows missed r all messages known.0 known.1) rs (λ k d within. (leads k d within, folds k d within))
 
   -- an item of the index: its name, and how many messages it has
   record IndexKnown (ms : List RowView) (r : RowView) : Type 0 where
@@ -1489,9 +2044,14 @@ module _ (K L E : List ℕ → Type 0) (O : List ℕ → List ℕ → Type 0) (w
   unfolding history_html small_words
   history rs missed all known = (join (table_html history_open entry rs grid_end) ((more_html missed (codes "entry is") (codes "entries are")) ++ history_end) (table history_open entry rs grid_end own-history_open laid-entry all own-grid_end) (join (more_html missed (codes "entry is") (codes "entries are")) history_end (further missed (codes "entry is") (codes "entries are") known (small (codes "entry is") 17 (omega arith) refl) (small (codes "entries are") 18 (omega arith) refl)) (mark history_end own-history_end)))
 
-  head : (r : RowView) → ((column : ℕ) → K (cell_at r column)) → IsMadeOf K L E O (head_html r)
+  head : (tables : Option Facts) → TablesKnown K tables → (r : RowView) → ((column : ℕ) → K (cell_at r column)) → IsMadeOf K L E O (head_html tables r)
   unfolding head_html
-  head r known = (join (row_html page_top r) (style ++ (row_html page_head r)) (row page_top r laid-page_top known) (join style (row_html page_head r) (mark style own-style) (row page_head r laid-page_head known)))
+  head tables of r known =
+      let start : List ℕ = start_html (date_in tables (codes "1")) in
+      join (row_html page_top r) (style ++ (row_html page_head r ++ (start ++ row_html page_items r))) (row page_top r laid-page_top known)
+      (join style (row_html page_head r ++ (start ++ row_html page_items r)) (mark style own-style)
+      (join (row_html page_head r) (start ++ row_html page_items r) (row page_head r laid-page_head known)
+      (join start (row_html page_items r) (a-start (date_in tables (codes "1")) (date-known tables of (codes "1"))) (table-row page_items r laid-page_items known))))
 
   weeks-known : (report : List RowView) → All (λ (r : RowView). (column : ℕ) → K (cell_at r column)) report → K (last_week report)
   weeks-known report all =
@@ -1550,15 +2110,15 @@ module _ (K L E : List ℕ → Type 0) (O : List ℕ → List ℕ → Type 0) (w
       let loaded : List (List ℕ) = flat_map load_texts (rows_in s.Loads notes.report) in
       All-contains K (count_texts notes) t counts (Contains-append_right (own_counts notes) (listed_texts notes) t (Contains-append_right (flat_map list_counts (row_lists notes)) (loaded ++ item_texts notes) t (Contains-append_right loaded (item_texts notes) t has)))
 
-  messages-known : (notes : Noted) → All K (count_texts notes) → All (λ (r : RowView). (column : ℕ) → K (cell_at r column)) (rows_in s.Messages notes.report) → All (MessageKnown (scene_in notes)) (rows_in s.Messages notes.report)
-  messages-known notes counts all = λ k d within.
+  messages-known : (tables : Option Facts) (notes : Noted) → All K (count_texts notes) → All (λ (r : RowView). (column : ℕ) → K (cell_at r column)) (rows_in s.Messages notes.report) → All (MessageKnown (scene_in tables notes)) (rows_in s.Messages notes.report)
+  messages-known tables notes counts all = λ k d within.
       let ms : List RowView = rows_in s.Messages notes.report in
       let r : RowView = get_or ms k d in
-      let t : List ℕ = decimal (open_count (scene_in notes) r) in
+      let t : List ℕ = decimal (open_count (own_scene notes) r) in
       let has : Contains ms r = All-contains_itself ms k d within in
       record {
         cells-in = all k d within;
-        open-in = item-text notes counts t (Contains-append_left (flat_map (open_texts (scene_in notes)) ms) (flat_map (index_texts ms) (shown_items (item_lists notes.report)) ++ outs_texts notes) t (contains-flat (open_texts (scene_in notes)) ms r t has.0 has.1 has.2 (0, omega arith, refl)));
+        open-in = item-text notes counts t (Contains-append_left (flat_map (open_texts (own_scene notes)) ms) (flat_map (index_texts ms) (shown_items (item_lists notes.report)) ++ (outs_texts notes ++ overloaded_texts notes)) t (contains-flat (open_texts (own_scene notes)) ms r t has.0 has.1 has.2 (0, omega arith, refl)));
       }
 
   index-known : (notes : Noted) → All K (count_texts notes) → All (λ (r : RowView). L (cell_at r 0)) (shown_items (item_lists notes.report)) → All (IndexKnown (rows_in s.Messages notes.report)) (shown_items (item_lists notes.report))
@@ -1570,9 +2130,21 @@ module _ (K L E : List ℕ → Type 0) (O : List ℕ → List ℕ → Type 0) (w
       let has : Contains rs r = All-contains_itself rs k d within in
       record {
         led-to = led k d within;
-        counted-of = item-text notes counts t (Contains-append_right (flat_map (open_texts (scene_in notes)) ms) (flat_map (index_texts ms) rs ++ outs_texts notes) t
-            (Contains-append_left (flat_map (index_texts ms) rs) (outs_texts notes) t (contains-flat (index_texts ms) rs r t has.0 has.1 has.2 (0, omega arith, refl))));
+        counted-of = item-text notes counts t (Contains-append_right (flat_map (open_texts (own_scene notes)) ms) (flat_map (index_texts ms) rs ++ (outs_texts notes ++ overloaded_texts notes)) t
+            (Contains-append_left (flat_map (index_texts ms) rs) (outs_texts notes ++ overloaded_texts notes) t (contains-flat (index_texts ms) rs r t has.0 has.1 has.2 (0, omega arith, refl))));
       }
+
+  -- how many messages of each item are folded is known
+  folds-known : (notes : Noted) → All K (count_texts notes) → All (λ (r : RowView). K (decimal (length (drop FEW_ROWS (messages_at (item_lists notes.report) r))))) (shown_items (item_lists notes.report))
+  folds-known notes counts = λ k d within.
+      let ms : List RowView = rows_in s.Messages notes.report in
+      let rs : List RowView = shown_items (item_lists notes.report) in
+      let r : RowView = get_or rs k d in
+      let t : List ℕ = decimal (length (drop FEW_ROWS (messages_at (item_lists notes.report) r))) in
+      let has : Contains rs r = All-contains_itself rs k d within in
+      item-text notes counts t
+      (Contains-append_right (flat_map (open_texts (own_scene notes)) ms) (flat_map (index_texts ms) rs ++ (outs_texts notes ++ overloaded_texts notes)) t
+      (Contains-append_left (flat_map (index_texts ms) rs) (outs_texts notes ++ overloaded_texts notes) t (contains-flat (index_texts ms) rs r t has.0 has.1 has.2 (1, omega arith, refl))))
 
   -- the texts of items that run out are known
   outs-text : (notes : Noted) → All K (count_texts notes) → All K (outs_texts notes)
@@ -1581,7 +2153,22 @@ module _ (K L E : List ℕ → Type 0) (O : List ℕ → List ℕ → Type 0) (w
       let rs : List RowView = shown_items (item_lists notes.report) in
       let t : List ℕ = get_or (outs_texts notes) k d in
       item-text notes counts t
-      (Contains-append_right (flat_map (open_texts (scene_in notes)) ms) (flat_map (index_texts ms) rs ++ outs_texts notes) t (Contains-append_right (flat_map (index_texts ms) rs) (outs_texts notes) t (All-contains_itself (outs_texts notes) k d within)))
+      (Contains-append_right (flat_map (open_texts (own_scene notes)) ms) (flat_map (index_texts ms) rs ++ (outs_texts notes ++ overloaded_texts notes)) t
+      (Contains-append_right (flat_map (index_texts ms) rs) (outs_texts notes ++ overloaded_texts notes) t (Contains-append_left (outs_texts notes) (overloaded_texts notes) t (All-contains_itself (outs_texts notes) k d within))))
+
+  -- the texts of overloaded work centres are known
+  overloaded-texts : (notes : Noted) → All K (count_texts notes) → All (λ (rs : List RowView). All K (centre_texts rs)) (overloaded (rows_in s.Loads notes.report))
+  overloaded-texts notes counts = λ k d within i e inside.
+      let ms : List RowView = rows_in s.Messages notes.report in
+      let rs : List RowView = shown_items (item_lists notes.report) in
+      let cs : List (List RowView) = overloaded (rows_in s.Loads notes.report) in
+      let c : List RowView = get_or cs k d in
+      let t : List ℕ = get_or (centre_texts c) i e in
+      let has : Contains cs c = All-contains_itself cs k d within in
+      item-text notes counts t
+      (Contains-append_right (flat_map (open_texts (own_scene notes)) ms) (flat_map (index_texts ms) rs ++ (outs_texts notes ++ overloaded_texts notes)) t
+      (Contains-append_right (flat_map (index_texts ms) rs) (outs_texts notes ++ overloaded_texts notes) t (Contains-append_right (outs_texts notes) (overloaded_texts notes) t
+      (contains-flat centre_texts cs c t has.0 has.1 has.2 (All-contains_itself (centre_texts c) i e inside)))))
 
   -- what stands of an item that runs out is known
   out-known : (scene : SceneView) → SceneKnown scene → (r : RowView) → ((column : ℕ) → K (cell_at r column)) → K (decimal (left_in r)) → (column : ℕ) → K (cell_at (out_row scene r) column)
@@ -1608,9 +2195,9 @@ module _ (K L E : List ℕ → Type 0) (O : List ℕ → List ℕ → Type 0) (w
           by true here rest = here 7
           by false here rest = rest
 
-  outs-known : (notes : Noted) → SceneKnown (scene_in notes) → All (λ (r : RowView). (column : ℕ) → K (cell_at r column)) (rows_in s.Plan notes.report) → All K (count_texts notes) → All (λ (r : RowView). (column : ℕ) → K (cell_at r column)) (outs_first (scene_in notes) (rows_in s.Plan notes.report))
-  outs-known notes seen all counts =
-      let scene : SceneView = scene_in notes in
+  outs-known : (tables : Option Facts) (notes : Noted) → SceneKnown (scene_in tables notes) → All (λ (r : RowView). (column : ℕ) → K (cell_at r column)) (rows_in s.Plan notes.report) → All K (count_texts notes) → All (λ (r : RowView). (column : ℕ) → K (cell_at r column)) (outs_first (scene_in tables notes) (rows_in s.Plan notes.report))
+  outs-known tables notes seen all counts =
+      let scene : SceneView = scene_in tables notes in
       let plan : List RowView = rows_in s.Plan notes.report in
       let weeks-of : List RowView = short_weeks plan in
       let of-weeks : All (λ (r : RowView). (column : ℕ) → K (cell_at r column)) weeks-of = all-leaders (λ (r : RowView). (column : ℕ) → K (cell_at r column)) [] (filter is_planned plan) (All-filter is_planned (λ (r : RowView). (column : ℕ) → K (cell_at r column)) plan all) in
@@ -1641,58 +2228,106 @@ module _ (K L E : List ℕ → Type 0) (O : List ℕ → List ℕ → Type 0) (w
       (join outs_front (lines ++ table_end) (mark outs_front own-outs_front)
       (join lines table_end (each (λ (r : RowView). (column : ℕ) → K (cell_at r column)) (out_line shown) (λ r known. an-out shown led r known) (take FEW_ROWS rs) (All-take (λ (r : RowView). (column : ℕ) → K (cell_at r column)) FEW_ROWS rs all)) (mark table_end own-table_end))))
 
-  run-out : (notes : Noted) → SceneKnown (scene_in notes) → All (λ (r : RowView). (column : ℕ) → K (cell_at r column)) (rows_in s.Plan notes.report) → All K (count_texts notes) → (missed : ℕ) → K (decimal missed) → IsMadeOf K L E O (outs_section (scene_in notes) (rows_in s.Plan notes.report) missed)
+  run-out : (tables : Option Facts) (notes : Noted) → SceneKnown (scene_in tables notes) → All (λ (r : RowView). (column : ℕ) → K (cell_at r column)) (rows_in s.Plan notes.report) → All K (count_texts notes) → (missed : ℕ) → K (decimal missed) → IsMadeOf K L E O (outs_section (scene_in tables notes) (rows_in s.Plan notes.report) missed)
   unfolding outs_section outs_back small_words
-  run-out notes seen all counts missed known =
-      let scene : SceneView = scene_in notes in
+  run-out tables notes seen all counts missed known =
+      let scene : SceneView = scene_in tables notes in
       let outs : List RowView = outs_first scene (rows_in s.Plan notes.report) in
       let lines : List ℕ = outs_html scene.shown missed outs in
       let past : List ℕ = more_html missed (codes "week of a record is") (codes "weeks of records are") in
       join out_first_open (lines ++ (past ++ section_end)) (mark out_first_open own-out_first_open)
-      (join lines (past ++ section_end) (outs-of scene.shown missed outs seen.led (outs-known notes seen all counts) (outs-text notes counts 1 [] (omega arith)))
+      (join lines (past ++ section_end) (outs-of scene.shown missed outs seen.led (outs-known tables notes seen all counts) (outs-text notes counts 1 [] (omega arith)))
       (join past section_end (further missed (codes "week of a record is") (codes "weeks of records are") known (small (codes "week of a record is") 9 (omega arith) refl) (small (codes "weeks of records are") 10 (omega arith) refl)) (mark section_end own-section_end)))
 
-  pub page : (title : List ℕ) (notes : Noted) → K title → All (λ (r : RowView). (column : ℕ) → K (cell_at r column)) notes.history → All (λ (r : RowView). (column : ℕ) → K (cell_at r column)) notes.report → All K (count_texts notes)
+  -- The bookings at risk.
+
+  a-risk : (scene : SceneView) → SceneKnown scene → (r : RowView) → ((column : ℕ) → K (cell_at r column)) → IsMadeOf K L E O (risk_line scene r)
+  unfolding risk_line risk_end
+  a-risk scene seen r known =
+      let name : List ℕ = item_name_html scene.shown (cell_at r 0) in
+      let booking : List ℕ = entry_name_html scene.history (cell_at r 2) in
+      let cells : List ℕ = row_html risk_middle r in
+      let says : List ℕ = row_html risk_order r in
+      let waits-for : List ℕ = linked_html scene (ordered scene (cell_at r 5) (cell_at r 7) (cell_at r 6)) says in
+      let weeks-of : List ℕ = row_html weeks_late r in
+      join refused_row (name ++ (risk_booking ++ (booking ++ (cells ++ (waits-for ++ (codes "</td>" ++ weeks-of)))))) (mark refused_row own-refused_row)
+      (join name (risk_booking ++ (booking ++ (cells ++ (waits-for ++ (codes "</td>" ++ weeks-of))))) (item-name scene.shown (cell_at r 0) seen.led (known 0))
+      (join risk_booking (booking ++ (cells ++ (waits-for ++ (codes "</td>" ++ weeks-of)))) (mark risk_booking own-risk_booking)
+      (join booking (cells ++ (waits-for ++ (codes "</td>" ++ weeks-of))) (entry-name scene.history (cell_at r 2) seen.kept (known 2))
+      (join cells (waits-for ++ (codes "</td>" ++ weeks-of)) (row risk_middle r laid-risk_middle known)
+      (join waits-for (codes "</td>" ++ weeks-of) (linked-order scene seen (cell_at r 5) (cell_at r 7) (cell_at r 6) says (row risk_order r laid-risk_order known))
+      (join (codes "</td>") weeks-of (mark (codes "</td>") own-cell-end) (row weeks_late r laid-weeks_late known)))))))
+
+  -- what stands of them is known
+  risks-known : (risks : RisksView) → All K (risk_texts risks) → All (λ (r : RowView). (column : ℕ) → K (cell_at r column)) (risks_first risks.rows)
+  risks-known risks texts =
+      let rs : List RowView = risks.rows in
+      let each-known : All (λ (r : RowView). (column : ℕ) → K (cell_at r column)) rs = λ k d within.
+      let r : RowView = get_or rs k d in
+      let has : Contains rs r = All-contains_itself rs k d within in
+      knows r.section r.cells (λ i t inside. All-contains K (risk_texts risks) (get_or r.cells i t) texts
+      (Contains-append_right (decimal (length rs) ∷ list_counts (risks_first rs)) (flat_map (λ (risk : RowView). risk.cells) rs) (get_or r.cells i t)
+      (contains-flat (λ (risk : RowView). risk.cells) rs r (get_or r.cells i t) has.0 has.1 has.2 (All-contains_itself r.cells i t inside)))) in
+      All-permutation (λ (r : RowView). (column : ℕ) → K (cell_at r column)) (sorted_by week_rank rs) (risks_first rs) (sorted-permutes falling_late (sorted_by week_rank rs))
+      (All-permutation (λ (r : RowView). (column : ℕ) → K (cell_at r column)) rs (sorted_by week_rank rs) (sorted-permutes week_rank rs) each-known)
+
+  at-risk : (scene : SceneView) → SceneKnown scene → (risks : RisksView) → All K (risk_texts risks) → IsMadeOf K L E O (risks_html scene risks)
+  unfolding risks_html risks_or_none
+  at-risk scene seen risks texts =
+      let rs : List RowView = risks_first risks.rows in
+      let listed-of : List ℕ = risk_note ++ capped_html (risk_listing scene) SOME_ROWS rs in
+      let counts : Counted rs = record { all-of = texts 1 [] (omega arith); rest-of = texts 2 [] (omega arith); past-of = texts 3 [] (omega arith) } in
+      join risk_open (risks_or_none scene risks.known rs ++ section_end) (mark risk_open own-risk_open)
+      (join (risks_or_none scene risks.known rs) section_end
+      (either (not risks.known) risks_unknown (if has_none rs then none_at_risk else listed-of) (mark risks_unknown own-risks_unknown)
+      (either (has_none rs) none_at_risk listed-of (mark none_at_risk own-none_at_risk)
+      (join risk_note (capped_html (risk_listing scene) SOME_ROWS rs) (mark risk_note own-risk_note)
+      (capped (λ (r : RowView). (column : ℕ) → K (cell_at r column)) (risk_listing scene) rs own-risk_front own-table_end (λ r known. a-risk scene seen r known) (risks-known risks texts) counts))))
+      (mark section_end own-section_end))
+
+  pub page : (title : List ℕ) (tables : Option Facts) (notes : Noted) (risks : RisksView) → TablesKnown K tables → WorksKnown K (work_in (scene_in tables notes) (rows_in s.Loads notes.report)) (rows_in s.Loads notes.report) → K title → All (λ (r : RowView). (column : ℕ) → K (cell_at r column)) notes.history → All (λ (r : RowView). (column : ℕ) → K (cell_at r column)) notes.report → All K (count_texts notes) → All K (risk_texts risks)
       → All (λ (r : RowView). L (cell_at r 0)) (shown_items (item_lists notes.report)) → All (λ (r : RowView). E (cell_at r 0)) notes.history
-      → ((name : List ℕ) → has_item (shown_items (item_lists notes.report)) name ≡ true → All (λ (r : RowView). O (cell_at r 1) name) (rows_named name (rows_in s.Orders notes.report))) → IsMadeOf K L E O (page_html title notes)
+      → ((name : List ℕ) → has_item (shown_items (item_lists notes.report)) name ≡ true → All (λ (r : RowView). O (cell_at r 1) name) (rows_named name (rows_in s.Orders notes.report))) → IsMadeOf K L E O (page_html title tables notes risks)
   unfolding page_html page_of top_html middle_html rest_html items_of
-  page title notes known entries all counts led kept leads =
+  page title tables notes risks of of-works known entries all counts risk-texts led kept leads =
       let count : (k : ℕ) → k < 19 → K (get_or (own_counts notes) k []) = λ k within. All-contains K (count_texts notes) (get_or (own_counts notes) k []) counts (Contains-append_left (own_counts notes) (listed_texts notes) (get_or (own_counts notes) k []) (All-contains_itself (own_counts notes) k [] (omega (arith, within)))) in
       let of-list : (rs : List RowView) → Contains (row_lists notes) rs → Counted rs = λ rs has. counted-list notes counts rs has in
       let lists : ItemLists = item_lists notes.report in
       let of-lists : AllKnown lists = all-lists notes.report all in
       let shown : List RowView = shown_items lists in
       let of-shown : All (λ (r : RowView). (column : ℕ) → K (cell_at r column)) shown = all-shown (λ (r : RowView). (column : ℕ) → K (cell_at r column)) lists of-lists.messages of-lists.plan in
-      let scene : SceneView = scene_in notes in
-      let seen : SceneKnown scene = record { led = led; of-shown = of-shown; of-orders = of-lists.orders; of-pegs = of-lists.pegs; of-entries = entries; kept = kept; leads-to = leads } in
+      let scene : SceneView = scene_in tables notes in
+      let seen : SceneKnown scene = record { led = led; of-shown = of-shown; of-orders = of-lists.orders; of-pegs = of-lists.pegs; of-entries = entries; kept = kept; leads-to = leads; of-tables = of } in
       let loaded : List RowView = rows_in s.Loads notes.report in
       let of-loaded : All LoadKnown loaded = loads-known notes counts (all-in (λ (r : RowView). (column : ℕ) → K (cell_at r column)) s.Loads notes.report all) in
-      let top : List ℕ = head_html (heading title notes.report notes.counts.items) in
-      let sums : List ℕ = summary_html notes.history lists.messages loaded in
+      let top : List ℕ = head_html tables (heading title notes.report notes.counts.items) in
+      let sums : List ℕ = summary_html notes.history lists.messages loaded risks in
       let of-sums : All K (summary_counts notes.history lists.messages loaded) = λ k d within. All-contains K (count_texts notes) (get_or (summary_counts notes.history lists.messages loaded) k d) counts (Contains-append_left (own_counts notes) (listed_texts notes) (get_or (summary_counts notes.history lists.messages loaded) k d) (later-counts notes k d within)) in
       let calls : List ℕ = refused_section shown notes.history notes.counts.history in
+      let promises : List ℕ = risks_html scene risks in
       let todos : List ℕ = todo_html scene lists.messages notes.counts.messages in
       let of-messages : AllCounted lists.messages = record { of-late = of-list (messages_of lists.messages late) (1, omega arith, refl); of-release = of-list (messages_of lists.messages release) (2, omega arith, refl); of-earlier = of-list (messages_of lists.messages earlier) (3, omega arith, refl); of-later = of-list (messages_of lists.messages later) (4, omega arith, refl); of-cancel = of-list (messages_of lists.messages cancel) (5, omega arith, refl); of-other = of-list (other_messages lists.messages) (6, omega arith, refl) } in
       let run-outs : List ℕ = outs_section scene lists.plan notes.counts.plan in
-      let centred-of : List ℕ = load_section loaded notes.counts.loads in
+      let centred-of : List ℕ = load_section scene loaded notes.counts.loads in
       let centred : List ℕ = run-outs ++ centred-of in
       let indexed : List ℕ = index_html lists.messages shown in
       let each-item : List ℕ = items_html scene lists notes.counts.promises shown in
       let item-parts : List ℕ = indexed ++ (each-item ++ more_items (unshown lists shown notes.counts) shown) in
       let past : List ℕ = history_html notes.history notes.counts.history in
-      join top (sums ++ (calls ++ (todos ++ (centred ++ (item-parts ++ (past ++ page_end))))))
-      (head (heading title notes.report notes.counts.items) (headed title notes.report notes.counts.items known (count 8 (omega arith)) all))
-      (join sums (calls ++ (todos ++ (centred ++ (item-parts ++ (past ++ page_end)))))
-      (summed notes.history lists.messages loaded of-sums)
-      (join calls (todos ++ (centred ++ (item-parts ++ (past ++ page_end))))
+      join top (sums ++ (calls ++ (promises ++ (todos ++ (centred ++ (item-parts ++ (past ++ page_end)))))))
+      (head tables of (heading title notes.report notes.counts.items) (headed title notes.report notes.counts.items known (count 8 (omega arith)) all))
+      (join sums (calls ++ (promises ++ (todos ++ (centred ++ (item-parts ++ (past ++ page_end))))))
+      (summed notes.history lists.messages loaded risks of-sums (risk-texts 0 [] (omega arith)))
+      (join calls (promises ++ (todos ++ (centred ++ (item-parts ++ (past ++ page_end)))))
       (unkept shown notes.history notes.counts.history led kept entries (count 7 (omega arith)) (count 9 (omega arith)))
+      (join promises (todos ++ (centred ++ (item-parts ++ (past ++ page_end)))) (at-risk scene seen risks risk-texts)
       (join todos (centred ++ (item-parts ++ (past ++ page_end)))
-      (todo scene seen lists.messages notes.counts.messages (messages-known notes counts of-lists.messages) of-messages (count 0 (omega arith)))
+      (todo scene seen lists.messages notes.counts.messages (messages-known tables notes counts of-lists.messages) of-messages (count 0 (omega arith)))
       (join centred (item-parts ++ (past ++ page_end))
-      (join run-outs centred-of (run-out notes seen of-lists.plan counts notes.counts.plan (outs-text notes counts 0 [] (omega arith)))
-      (centres loaded notes.counts.loads of-loaded (of-list (overloads_first loaded) (0, omega arith, refl)) (count 1 (omega arith))))
+      (join run-outs centred-of (run-out tables notes seen of-lists.plan counts notes.counts.plan (outs-text notes counts 0 [] (omega arith)))
+      (centres scene seen loaded notes.counts.loads of-works of-loaded (overloaded-texts notes counts) (of-list (overloads_first loaded) (0, omega arith, refl)) (count 1 (omega arith))))
       (join item-parts (past ++ page_end)
       (join indexed (each-item ++ more_items (unshown lists shown notes.counts) shown) (index lists.messages shown (index-known notes counts led))
-      (join each-item (more_items (unshown lists shown notes.counts) shown) (items scene seen lists notes.counts.promises shown of-lists of-shown led)
+      (join each-item (more_items (unshown lists shown notes.counts) shown) (items scene seen lists notes.counts.promises shown of-lists (messages-known tables notes counts of-lists.messages) of-shown (folds-known notes counts))
       (more-items (unshown lists shown notes.counts) shown (count 2 (omega arith)) (count 3 (omega arith)) (count 4 (omega arith)) (count 5 (omega arith)) (count 6 (omega arith)))))
-      (join past page_end (history notes.history notes.counts.history entries (count 7 (omega arith))) (mark page_end own-page_end)))))))
+      (join past page_end (history notes.history notes.counts.history entries (count 7 (omega arith))) (mark page_end own-page_end))))))))

@@ -4,9 +4,10 @@ use Rattle.std.specs.Prelude.{◌&&◌}
 use Rattle.std.specs.List.{filter, flat_map}
 use Rattle.mrp_page.specs.Columns.{column}
 use Rattle.mrp_page.specs.Draw.{has_item}
-use Rattle.mrp_page.specs.Items.{need_html, peg_html, pegs_html, wait_html, waits_html, waits_of}
+use Rattle.mrp_page.specs.Items.{need_html, peg_html, pegs_html, wait_html, waits_html}
 use Rattle.mrp_page.specs.Layout.{grid_end, link_end, peg_booking, peg_parent, pegs_open, waits_open}
 use Rattle.mrp_page.specs.Orders.{linked_html, numbered, order_link, order_words}
+use Rattle.mrp_page.specs.Pegs.{waits_for}
 use Rattle.mrp_page.specs.Refused.{entry_name_html}
 use Rattle.mrp_page.specs.Row.{RowView, cell_at, same_text}
 use Rattle.mrp_page.specs.Scene.{SceneView}
@@ -33,7 +34,7 @@ booking-is scene peg is =
     let booked : has_word 2 (codes "booking") peg ≡ true = rw is refl in
     rw booked refl
 
-pub waits-are : (scene : SceneView) (name : List ℕ) → waits_of scene name
+pub waits-are : (scene : SceneView) (name : List ℕ) → waits_for scene.pegs name
     ≡ filter (λ peg. same_text (cell_at peg (column s.Pegs (codes "parent"))) name && same_text (cell_at peg (column s.Pegs (codes "need"))) (codes "parent")) scene.pegs
 waits-are scene name = refl
 

@@ -1,5 +1,6 @@
 -- Each call of the history that was not answered as it asked is in *Not promised* once.
-use Rattle.std.proofs.Common.{◌≡◌, ◌∙◌, ℕ, Bool, true, false, Some, List, [], ◌∷◌, ◌++◌, codes, drop, take, refl, sym, ap, append_assoc}
+use Rattle.mrp_facts.specs.Facts.{Facts}
+use Rattle.std.proofs.Common.{Option, ◌≡◌, ◌∙◌, ℕ, Bool, true, false, Some, List, [], ◌∷◌, ◌++◌, codes, drop, take, refl, sym, ap, append_assoc}
 use Rattle.std.specs.Prelude.{◌==◌, IsPermutation, if◌then◌else◌}
 use Rattle.std.specs.List.{filter, find, flat_map}
 use Rattle.std.proofs.lemmas.List.{append-nil}
@@ -12,6 +13,8 @@ use Rattle.mrp_page.specs.ItemRows.{item_lists}
 use Rattle.mrp_page.specs.Kinds.{todo_html}
 use Rattle.mrp_page.specs.Layout.{none_refused, refused_answer, refused_open, section_end}
 use Rattle.mrp_page.specs.Notes.{Noted}
+use Rattle.mrp_page.specs.AtRisk.{RisksView}
+use Rattle.mrp_page.specs.Promises.{risks_html}
 use Rattle.mrp_page.specs.Page.{middle_html, page_html, page_of, rest_html, scene_in, shown_items, top_html}
 use Rattle.mrp_page.specs.Refused.{asked_of, is_booking, refusals, refused_back, refused_html, refused_lines, refused_listing, refused_or_none, refused_rows, refused_section}
 use Rattle.mrp_page.specs.Row.{RowView, cell_at}
@@ -44,24 +47,24 @@ lines-are shown history missed (r ∷ rows) =
 placed : (t u o f l b n m e d r : List ℕ) → t ++ (u ++ ((o ++ ((f ++ (l ++ (b ++ (n ++ m)))) ++ e)) ++ (d ++ r))) ≡ (((t ++ u) ++ o) ++ f) ++ (l ++ (b ++ (n ++ (m ++ (e ++ (d ++ r))))))
 placed t u o f l b n m e d r = simp append_assoc
 
-pub refused-stand : (title : List ℕ) (notes : Noted) → (front : List ℕ) × (between : List ℕ) × (back : List ℕ) × (page_html title notes
+pub refused-stand : (title : List ℕ) (tables : Option Facts) (notes : Noted) (risks : RisksView) → (front : List ℕ) × (between : List ℕ) × (back : List ℕ) × (page_html title tables notes risks
     ≡ front ++ (flat_map (refused_html (shown_items (item_lists notes.report)) notes.history) (take FEW_ROWS (refused_rows notes.history))
     ++ (between ++ (flat_map (refused_html (shown_items (item_lists notes.report)) notes.history) (drop FEW_ROWS (refused_rows notes.history)) ++ back))))
 unfolding page_html page_of refused_section refused_lines refused_back
-refused-stand title notes =
+refused-stand title tables notes risks =
     let shown : List RowView = shown_items (item_lists notes.report) in
     let line : RowView → List ℕ = refused_html shown notes.history in
     let rows : List RowView = refused_rows notes.history in
-    let top : List ℕ = top_html title notes.report notes.counts.items in
-    let sums : List ℕ = summary_html notes.history (rows_in s.Messages notes.report) (rows_in s.Loads notes.report) in
+    let top : List ℕ = top_html title tables notes.report notes.counts.items in
+    let sums : List ℕ = summary_html notes.history (rows_in s.Messages notes.report) (rows_in s.Loads notes.report) risks in
     let last : List ℕ = more_html notes.counts.history (codes "entry of the history is") (codes "entries of the history are") ++ section_end in
-    let todo : List ℕ = todo_html (scene_in notes) (rows_in s.Messages notes.report) notes.counts.messages in
-    let rest : List ℕ = middle_html (scene_in notes) notes.report notes.counts ++ rest_html (scene_in notes) (item_lists notes.report) notes.counts in
+    let next : List ℕ = risks_html (scene_in tables notes) risks in
+    let rest : List ℕ = todo_html (scene_in tables notes) (rows_in s.Messages notes.report) notes.counts.messages ++ (middle_html (scene_in tables notes) notes.report notes.counts ++ rest_html (scene_in tables notes) (item_lists notes.report) notes.counts) in
     let (front, between, back, is) = lines-are shown notes.history notes.counts.history rows in (
       ((top ++ sums) ++ refused_open) ++ front,
       between,
-      back ++ (last ++ (todo ++ rest)),
-      ap (λ (t : List ℕ). top ++ (sums ++ ((refused_open ++ (t ++ last)) ++ (todo ++ rest)))) is ∙ placed top sums refused_open front (flat_map line (take FEW_ROWS rows)) between (flat_map line (drop FEW_ROWS rows)) back last todo rest,
+      back ++ (last ++ (next ++ rest)),
+      ap (λ (t : List ℕ). top ++ (sums ++ ((refused_open ++ (t ++ last)) ++ (next ++ rest)))) is ∙ placed top sums refused_open front (flat_map line (take FEW_ROWS rows)) between (flat_map line (drop FEW_ROWS rows)) back last next rest,
     )
 
 pub none-is : (shown history : List RowView) → refused_rows history ≡ [] → refused_section shown history 0 ≡ refused_open ++ (none_refused ++ section_end)

@@ -1,5 +1,6 @@
 -- A row shows its cells; what a page begins and ends with.
-use Rattle.std.proofs.Common.{◌≡◌, ◌∙◌, ◌⊎◌, ◌<◌, ◌≤◌, ℕ, List, [], ◌∷◌, ◌++◌, codes, drop, length, refl, sym, ap, append_assoc, inl, inr}
+use Rattle.mrp_facts.specs.Facts.{Facts}
+use Rattle.std.proofs.Common.{Option, ◌≡◌, ◌∙◌, ◌⊎◌, ◌<◌, ◌≤◌, ℕ, List, [], ◌∷◌, ◌++◌, codes, drop, length, refl, sym, ap, append_assoc, inl, inr}
 use Rattle.std.proofs.lemmas.Bool.{cases_lt}
 use Rattle.std.proofs.lemmas.List.{append-nil, get_or_past}
 use Rattle.std.proofs.lemmas.List.Concat.{flat_map-append}
@@ -11,6 +12,8 @@ use Rattle.mrp_page.specs.Laws.{part_pieces, piece_html, pieces, shown, text_of}
 use Rattle.mrp_page.specs.Kinds.{todo_html}
 use Rattle.mrp_page.specs.Layout.{page_end, page_top}
 use Rattle.mrp_page.specs.Notes.{Noted}
+use Rattle.mrp_page.specs.AtRisk.{RisksView}
+use Rattle.mrp_page.specs.Promises.{risks_html}
 use Rattle.mrp_page.specs.Page.{head_html, items_of, middle_html, page_html, page_of, rest_html, scene_in, shown_items, top_html}
 use Rattle.mrp_page.specs.Refused.{refused_section}
 use Rattle.mrp_page.specs.Row.{RowView, cell_at}
@@ -62,26 +65,27 @@ shown-cells (part ∷ parts) row =
     rw (flat_map-append text_of (part_pieces row part) (flat_map (part_pieces row) parts)) (All-append (IsCell row) (flat_map text_of (part_pieces row part)) (shown (pieces row parts)) (part-cells row part) (shown-cells parts row))
 
 -- a page begins with its type
-pub begins : (title : List ℕ) (notes : Noted) → (rest : List ℕ) × (page_html title notes ≡ codes "<!doctype html>" ++ rest)
+pub begins : (title : List ℕ) (tables : Option Facts) (notes : Noted) (risks : RisksView) → (rest : List ℕ) × (page_html title tables notes risks ≡ codes "<!doctype html>" ++ rest)
 unfolding page_html page_of top_html head_html row_html page_top
-begins title notes = (drop 15 (page_html title notes), refl)
+begins title tables notes risks = (drop 15 (page_html title tables notes risks), refl)
 
-joined : (a o b c d e f g h : List ℕ) → a ++ (o ++ (b ++ (c ++ (d ++ (e ++ (f ++ (g ++ h))))))) ≡ (a ++ (o ++ (b ++ (c ++ (d ++ (e ++ (f ++ g))))))) ++ h
-joined a o b c d e f g h = sym (simp append_assoc)
+joined : (a o b p c d e f g h : List ℕ) → a ++ (o ++ (b ++ (p ++ (c ++ (d ++ (e ++ (f ++ (g ++ h)))))))) ≡ (a ++ (o ++ (b ++ (p ++ (c ++ (d ++ (e ++ (f ++ g)))))))) ++ h
+joined a o b p c d e f g h = sym (simp append_assoc)
 
 -- and ends with its end
-pub ends : (title : List ℕ) (notes : Noted) → (front : List ℕ) × (page_html title notes ≡ front ++ (codes "</html>" ++ 10 ∷ []))
+pub ends : (title : List ℕ) (tables : Option Facts) (notes : Noted) (risks : RisksView) → (front : List ℕ) × (page_html title tables notes risks ≡ front ++ (codes "</html>" ++ 10 ∷ []))
 unfolding page_html page_of rest_html page_end
-ends title notes =
-    let top = top_html title notes.report notes.counts.items in
+ends title tables notes risks =
+    let top = top_html title tables notes.report notes.counts.items in
     let shown = shown_items (item_lists notes.report) in
-    let sums = summary_html notes.history (rows_in s.Messages notes.report) (rows_in s.Loads notes.report) in
+    let sums = summary_html notes.history (rows_in s.Messages notes.report) (rows_in s.Loads notes.report) risks in
     let calls = refused_section shown notes.history notes.counts.history in
-    let todo = todo_html (scene_in notes) (rows_in s.Messages notes.report) notes.counts.messages in
-    let loads = middle_html (scene_in notes) notes.report notes.counts in
-    let items = items_of (scene_in notes) (item_lists notes.report) notes.counts in
+    let promises = risks_html (scene_in tables notes) risks in
+    let todo = todo_html (scene_in tables notes) (rows_in s.Messages notes.report) notes.counts.messages in
+    let loads = middle_html (scene_in tables notes) notes.report notes.counts in
+    let items = items_of (scene_in tables notes) (item_lists notes.report) notes.counts in
     let history = history_html notes.history notes.counts.history in
     let last = codes "</main>\n</body>\n" in (
-      top ++ (sums ++ (calls ++ (todo ++ (loads ++ (items ++ (history ++ last)))))),
-      joined top sums calls todo loads items history last (codes "</html>" ++ 10 ∷ []),
+      top ++ (sums ++ (calls ++ (promises ++ (todo ++ (loads ++ (items ++ (history ++ last))))))),
+      joined top sums calls promises todo loads items history last (codes "</html>" ++ 10 ∷ []),
     )

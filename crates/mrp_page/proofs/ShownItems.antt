@@ -183,8 +183,8 @@ module _ (items : Names) (asked : Option ℕ) (S : Section) (is : IsItemSection 
               split = report-same same ∙ sym (append-nil (n.report ++ added));
               others_before = report-other n.report other before.no_rows;
               its_rows = All-nil (λ (q : RowView). is_in S q ≡ true);
-              state = subst (λ (rows : List Cells). Inside items S (length more) rows [] next_spot c) (sym none)
-                  (subst (λ (q : Place). Inside items S (length more) [] [] (spot_at items n.spot q n.last c) c) (sym at) (inside-none items S (length more) (spot_at items n.spot (place.Header S) n.last c) c refl refl));
+              state = subst (λ (rows : List Cells). Inside items S (length more) rows [] next_spot (name_of c)) (sym none)
+                  (subst (λ (q : Place). Inside items S (length more) [] [] (spot_at items n.spot q n.last c) (name_of c)) (sym at) (inside-none items S (length more) (spot_at items n.spot (place.Header S) n.last c) (name_of c) refl refl));
               counted = λ plan. counts plan now' at ∙ sym (ap (λ (rows : List Cells). length (items_in items rows)) none ∙ no-items items);
             }))
           where
@@ -244,13 +244,13 @@ module _ (items : Names) (asked : Option ℕ) (S : Section) (is : IsItemSection 
             let together : StandTogether (row_names (section_rows done) ++ (name_of c ∷ [])) =
             subst StandTogether (ap row_names rows ∙ map_push (λ (cells : Cells). name_of cells) (section_rows done) c) (stand (shown_in more)) in
             let kept : List RowView = with_row S amid.kept c (takes_at (place.Row S)) in
-            let inside : Inside items S (length done + 1) (section_rows done ++ (c ∷ [])) kept (spot_at items n.spot (place.Row S) n.last c) c =
+            let inside : Inside items S (length done + 1) (section_rows done ++ (c ∷ [])) kept (spot_at items n.spot (place.Row S) n.last c) (name_of c) =
             inside-more items S is (length done) (section_rows done) amid.kept n.spot n.last c amid.state together countable (wants items S c) (leads n.spot n.last c)
             ((wants items S c && leads n.spot n.last c) && starts_at (place.Row S) c) (takes_at (place.Row S)) (sym (wants-asked items S c is.items)) refl refl in
-            let state : Inside items S (length more) (section_rows more) kept next_spot c =
-            subst (λ (m : ℕ). Inside items S m (section_rows more) kept next_spot c) (sym (length_push done c))
-            (subst (λ (rs : List Cells). Inside items S (length done + 1) rs kept next_spot c) (sym rows)
-            (subst (λ (q : Place). Inside items S (length done + 1) (section_rows done ++ (c ∷ [])) kept (spot_at items n.spot q n.last c) c) (sym at) inside)) in
+            let state : Inside items S (length more) (section_rows more) kept next_spot (name_of c) =
+            subst (λ (m : ℕ). Inside items S m (section_rows more) kept next_spot (name_of c)) (sym (length_push done c))
+            (subst (λ (rs : List Cells). Inside items S (length done + 1) rs kept next_spot (name_of c)) (sym rows)
+            (subst (λ (q : Place). Inside items S (length done + 1) (section_rows done ++ (c ∷ [])) kept (spot_at items n.spot q n.last c) (name_of c)) (sym at) inside)) in
             let new : added ≡ (if takes_at (place.Row S) then record { section = S; cells = c } ∷ [] else []) =
             ap (λ (q : Place). rows_taken (is_shown asked next_spot.run) (section_if (takes_at q) q) c) at
             ∙ ap (λ (b : Bool). rows_taken b (section_if (takes_at (place.Row S)) (place.Row S)) c) (step.is-shown now) ∙ row-added S is.report (takes_at (place.Row S)) c in

@@ -1,5 +1,6 @@
 -- The counts of the summary are those of the rows of the parts that they lead to.
-use Rattle.std.proofs.Common.{◌≡◌, ◌∙◌, ℕ, Bool, List, [], ◌++◌, codes, decimal, length, refl, sym, append_assoc}
+use Rattle.mrp_facts.specs.Facts.{Facts}
+use Rattle.std.proofs.Common.{Option, ◌≡◌, ◌∙◌, ℕ, Bool, List, [], ◌++◌, codes, decimal, length, refl, sym, append_assoc}
 use Rattle.std.specs.Prelude.{◌==◌, count_by, if◌then◌else◌}
 use Rattle.std.specs.List.{filter}
 use Rattle.std.proofs.lemmas.List.Sums.{length-filter}
@@ -11,6 +12,8 @@ use Rattle.mrp_page.specs.ItemRows.{item_lists}
 use Rattle.mrp_page.specs.Kinds.{Kind, falling_rank, in_order, messages_of, todo_html, value_rank}
 use Rattle.mrp_page.specs.Layout.{summary_tile}
 use Rattle.mrp_page.specs.Notes.{Noted}
+use Rattle.mrp_page.specs.AtRisk.{RisksView}
+use Rattle.mrp_page.specs.Promises.{risks_html}
 use Rattle.mrp_page.specs.Page.{middle_html, page_html, page_of, rest_html, scene_in, shown_items, top_html}
 use Rattle.mrp_page.specs.Refused.{refused_section}
 use Rattle.mrp_page.specs.Row.{RowView}
@@ -41,11 +44,11 @@ tile-is count mark place what =
     let rest : List ℕ = codes "\" href=\"#" ++ (escaped place ++ (codes "\"><b>" ++ (escaped (decimal count) ++ (codes "</b>" ++ (escaped what ++ (codes "</a>" ++ [])))))) in
     (codes "<a class=\"" ++ shade, sym (append_assoc (codes "<a class=\"") shade rest))
 
-pub summary-stands : (title : List ℕ) (notes : Noted) → (front : List ℕ) × (back : List ℕ) × (page_html title notes ≡ front ++ (summary_html notes.history (rows_in s.Messages notes.report) (rows_in s.Loads notes.report) ++ back))
+pub summary-stands : (title : List ℕ) (tables : Option Facts) (notes : Noted) (risks : RisksView) → (front : List ℕ) × (back : List ℕ) × (page_html title tables notes risks ≡ front ++ (summary_html notes.history (rows_in s.Messages notes.report) (rows_in s.Loads notes.report) risks ++ back))
 unfolding page_html page_of
-summary-stands title notes =
+summary-stands title tables notes risks =
     let shown : List RowView = shown_items (item_lists notes.report) in (
-      top_html title notes.report notes.counts.items,
-      refused_section shown notes.history notes.counts.history ++ (todo_html (scene_in notes) (rows_in s.Messages notes.report) notes.counts.messages ++ (middle_html (scene_in notes) notes.report notes.counts ++ rest_html (scene_in notes) (item_lists notes.report) notes.counts)),
+      top_html title tables notes.report notes.counts.items,
+      refused_section shown notes.history notes.counts.history ++ (risks_html (scene_in tables notes) risks ++ (todo_html (scene_in tables notes) (rows_in s.Messages notes.report) notes.counts.messages ++ (middle_html (scene_in tables notes) notes.report notes.counts ++ rest_html (scene_in tables notes) (item_lists notes.report) notes.counts))),
       refl,
     )

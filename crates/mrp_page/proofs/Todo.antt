@@ -1,28 +1,25 @@
--- Each message is in *To do* once, under its own word.
-use Rattle.std.proofs.Common.{◌≡◌, ◌∙◌, ℕ, Bool, true, false, not, List, [], ◌∷◌, ◌++◌, codes, refl, sym, ap, ap₂, subst, append_assoc}
+-- Each message of an item is said once, under its own word.
+use Rattle.std.proofs.Common.{◌≡◌, ◌∙◌, ℕ, Bool, true, false, not, List, [], ◌∷◌, ◌++◌, codes, decimal, drop, refl, ap, subst, take}
 use Rattle.std.specs.Prelude.{◌||◌, IsPermutation, if◌then◌else◌}
-use Rattle.std.specs.List.{filter, flat_map}
-use Rattle.std.proofs.lemmas.List.{append-nil}
-use Rattle.std.proofs.lemmas.List.Concat.{flat_map-append}
+use Rattle.std.specs.List.{flat_map}
 use Rattle.std.proofs.lemmas.List.Elements.{filter_agree}
 use Rattle.mrp_page.specs.ByWord.{by_word, has_one_of}
-use Rattle.mrp_page.specs.Draw.{is_plain, item_tasks, named_tasks, other_if, other_tasks, task_html, task_if, task_table, tasks_html, tasks_with}
+use Rattle.mrp_page.specs.Columns.{column}
+use Rattle.mrp_page.specs.Draw.{is_plain}
+use Rattle.mrp_page.specs.Escaped.{escaped}
 use Rattle.mrp_page.specs.ItemRows.{ItemLists}
-use Rattle.mrp_page.specs.Layout.{item_tasks_end, item_tasks_open, other_words, task_words}
+use Rattle.mrp_page.specs.Kinds.{open_count, order_of}
+use Rattle.mrp_page.specs.Layout.{said_back, said_front, said_other_back, said_other_front, said_pieces, said_start, said_week, task_supply}
+use Rattle.mrp_page.specs.Orders.{linked_html}
 use Rattle.mrp_page.specs.Row.{RowView, cell_at}
-use Rattle.mrp_page.specs.Rows.{rows_named}
+use Rattle.mrp_page.specs.Said.{back_of, by_urgency, front_of, is_release, item_messages, messages_at, pieces_row, said_html, said_known, said_listing, said_of_open, said_or_none, said_order, urgent_words}
+use Rattle.mrp_page.specs.Scene.{SceneView}
 use Rattle.mrp_page.specs.Template.{has_word, row_html}
-use Rattle.mrp_page.specs.Todo.{by_urgency, message_html, of_word, said, said_of_another, urgent_words, word_of}
-use Rattle.mrp_page.proofs.ByWord.{Differ, or-first, or-second, word-by-word}
-
--- what is drawn of those alone that pass
-drawn-alone : {X Y : Type 0} (f g : X → List Y) (p : X → Bool) → ((x : X) → p x ≡ true → f x ≡ g x) → ((x : X) → p x ≡ false → f x ≡ []) → (xs : List X) → flat_map f xs ≡ flat_map g (filter p xs)
-drawn-alone f g p same none [] = refl
-drawn-alone {X} {Y} f g p same none (x ∷ xs) = by (p x) refl (drawn-alone f g p same none xs)
-  where
-    by : (b : Bool) → p x ≡ b → flat_map f xs ≡ flat_map g (filter p xs) → flat_map f (x ∷ xs) ≡ flat_map g (filter p (x ∷ xs))
-    by true e rest = rw e (ap₂ (λ (a b : List Y). a ++ b) (same x e) rest)
-    by false e rest = rw e (ap (λ (t : List Y). t ++ flat_map f xs) (none x e) ∙ rest)
+use Rattle.mrp_page.specs.Todo.{value_of_message, word_of}
+use Rattle.mrp_page.specs.declared.limits.TheConstants.{FEW_ROWS}
+use Rattle.mrp_day.specs.declared.section.Section.TheVariants as s
+use Rattle.mrp_page.proofs.ByWord.{Differ, word-by-word}
+use Rattle.mrp_page.proofs.Folds.{folded-is, some-rows}
 
 urgent-differ : Differ urgent_words
 urgent-differ = ((refl, (refl, (refl, (refl, tt)))), ((refl, (refl, (refl, tt))), ((refl, (refl, tt)), ((refl, tt), (tt, tt)))))
@@ -38,112 +35,125 @@ plain-any message =
 pub stand-once : (messages : List RowView) → IsPermutation messages (by_urgency messages)
 unfolding by_urgency by_word
 stand-once messages =
-    subst (λ (t : List RowView). IsPermutation messages (flat_map (of_word messages) urgent_words ++ t)) (filter_agree (λ message. not (has_one_of 3 urgent_words message)) (λ message. not (is_plain message)) (λ message. ap not (plain-any message)) messages)
+    subst (λ (t : List RowView). IsPermutation messages (by_word 3 urgent_words messages ++ t)) (filter_agree (λ message. not (has_one_of 3 urgent_words message)) (λ message. not (is_plain message)) (λ message. ap not (plain-any message)) messages)
     (word-by-word 3 urgent_words urgent-differ messages)
 
--- a message with one of these words is put into plain ones
+-- the sentences of an item's messages
+pub item-sentences : (scene : SceneView) (rows : ItemLists) (leader r : RowView) (rest : List RowView) → messages_at rows leader ≡ r ∷ rest
+    → (front : List ℕ) × (between : List ℕ) × (back : List ℕ) × (item_messages scene rows leader ≡ front ++ (flat_map (said_html scene) (take FEW_ROWS (r ∷ rest)) ++ (between ++ (flat_map (said_html scene) (drop FEW_ROWS (r ∷ rest)) ++ back))))
+unfolding item_messages said_or_none
+item-sentences scene rows leader r rest is =
+    let (front, between, back, drawn) = folded-is (said_listing scene) FEW_ROWS (r ∷ rest) in
+    (front, between, back, ap (said_or_none scene) is ∙ rw (some-rows r rest) drawn)
+
+pub sentence-is : (scene : SceneView) (message : RowView) → said_html scene message
+    ≡ row_html (front_of message) message ++ (linked_html scene (order_of scene message) (row_html task_supply message) ++ (said_known scene message (order_of scene message) ++ row_html (back_of message) message))
+unfolding said_html
+sentence-is scene message = refl
+
+pub pieces-are : (pieces : List ℕ) → row_html said_pieces (pieces_row pieces) ≡ codes ", " ++ (escaped pieces ++ (escaped (cell_at (pieces_row pieces) 1) ++ []))
+unfolding row_html said_pieces
+pieces-are pieces = refl
+
+pub released-is : (message order : RowView) → is_release message ≡ true → said_order message order
+    ≡ row_html said_pieces (pieces_row (cell_at order (column s.Orders (codes "quantity")))) ++ (codes ", start " ++ (escaped (cell_at order (column s.Orders (codes "start"))) ++ (codes ", due week " ++ (escaped (cell_at order (column s.Orders (codes "due"))) ++ []))))
+unfolding row_html said_order said_start said_pieces
+released-is message order is = rw is refl
+
+pub moved-is : (message order : RowView) → is_release message ≡ false → said_order message order
+    ≡ row_html said_pieces (pieces_row (cell_at order (column s.Orders (codes "quantity")))) ++ (codes ", week " ++ (escaped (cell_at order (column s.Orders (codes "due"))) ++ []))
+unfolding row_html said_order said_week said_pieces
+moved-is message order is = rw is refl
+
+pub open-said : (scene : SceneView) (message : RowView) → scene.whole ≡ true → cell_at message (column s.Messages (codes "supply")) ≡ codes "open" → said_of_open scene message ≡ row_html said_pieces (pieces_row (decimal (open_count scene message)))
+unfolding said_of_open
+open-said scene message whole is =
+    let opened : has_word 1 (codes "open") message ≡ true = rw is refl in
+    rw (opened, whole) refl
+
+-- what a message begins and ends with, word by word
 module _ (message : RowView) where
-  abbrev late : Bool
-  late = has_word 3 (codes "PAST-DUE") message
+  plain-front : is_plain message ≡ true → row_html (front_of message) message ≡ row_html said_front message
+  plain-front plain = ap (λ (b : Bool). row_html (if b then said_front else said_other_front) message) plain
 
-  abbrev release : Bool
-  release = has_word 3 (codes "RELEASE") message
+  plain-back : is_plain message ≡ true → row_html (back_of message) message ≡ row_html said_back message
+  plain-back plain = ap (λ (b : Bool). row_html (if b then said_back else said_other_back) message) plain
 
-  abbrev earlier : Bool
-  earlier = has_word 3 (codes "IN") message
+  front-late : word_of message ≡ codes "PAST-DUE" → row_html said_front message ≡ codes "<li class=\"late\">Past due: "
+  unfolding row_html said_front
+  front-late e = rw e refl
 
-  abbrev later : Bool
-  later = has_word 3 (codes "OUT") message
+  back-late : word_of message ≡ codes "PAST-DUE" → row_html said_back message ≡ codes ", weeks late (shop days from version 2 on): " ++ (escaped (value_of_message message) ++ codes "</li>\n")
+  unfolding row_html said_back
+  back-late e = rw e refl
 
-  abbrev cancel : Bool
-  cancel = has_word 3 (codes "CANCEL") message
+  pub said-late : word_of message ≡ codes "PAST-DUE" → (row_html (front_of message) message ≡ codes "<li class=\"late\">Past due: ") × (row_html (back_of message) message ≡ codes ", weeks late (shop days from version 2 on): " ++ (escaped (value_of_message message) ++ codes "</li>\n"))
+  said-late e =
+      let plain : is_plain message ≡ true = rw e refl in
+      (plain-front plain ∙ front-late e, plain-back plain ∙ back-late e)
 
-  plain-late : has_word 3 (codes "PAST-DUE") message ≡ true → is_plain message ≡ true
-  plain-late e = or-first late (release || (earlier || (later || cancel))) e
+  front-release : word_of message ≡ codes "RELEASE" → row_html said_front message ≡ codes "<li class=\"release\">Release: "
+  unfolding row_html said_front
+  front-release e = rw e refl
 
-  plain-release : has_word 3 (codes "RELEASE") message ≡ true → is_plain message ≡ true
-  plain-release e = or-second late (release || (earlier || (later || cancel))) (or-first release (earlier || (later || cancel)) e)
+  back-release : word_of message ≡ codes "RELEASE" → row_html said_back message ≡ escaped (value_of_message message) ++ codes "</li>\n"
+  unfolding row_html said_back
+  back-release e = rw e refl
 
-  plain-earlier : has_word 3 (codes "IN") message ≡ true → is_plain message ≡ true
-  plain-earlier e = or-second late (release || (earlier || (later || cancel))) (or-second release (earlier || (later || cancel)) (or-first earlier (later || cancel) e))
+  pub said-release : word_of message ≡ codes "RELEASE" → (row_html (front_of message) message ≡ codes "<li class=\"release\">Release: ") × (row_html (back_of message) message ≡ escaped (value_of_message message) ++ codes "</li>\n")
+  said-release e =
+      let plain : is_plain message ≡ true = rw e refl in
+      (plain-front plain ∙ front-release e, plain-back plain ∙ back-release e)
 
-  plain-later : has_word 3 (codes "OUT") message ≡ true → is_plain message ≡ true
-  plain-later e = or-second late (release || (earlier || (later || cancel))) (or-second release (earlier || (later || cancel)) (or-second earlier (later || cancel) (or-first later cancel e)))
+  front-in : word_of message ≡ codes "IN" → row_html said_front message ≡ codes "<li class=\"in\">Reschedule in: "
+  unfolding row_html said_front
+  front-in e = rw e refl
 
-  plain-cancel : has_word 3 (codes "CANCEL") message ≡ true → is_plain message ≡ true
-  plain-cancel e = or-second late (release || (earlier || (later || cancel))) (or-second release (earlier || (later || cancel)) (or-second earlier (later || cancel) (or-second later cancel e)))
+  back-in : word_of message ≡ codes "IN" → row_html said_back message ≡ codes " to week " ++ (escaped (value_of_message message) ++ codes "</li>\n")
+  unfolding row_html said_back
+  back-in e = rw e refl
 
-not-true : (b : Bool) → not b ≡ true → b ≡ false
-not-true true e = absurd cc
-not-true false e = refl
+  pub said-in : word_of message ≡ codes "IN" → (row_html (front_of message) message ≡ codes "<li class=\"in\">Reschedule in: ") × (row_html (back_of message) message ≡ codes " to week " ++ (escaped (value_of_message message) ++ codes "</li>\n"))
+  said-in e =
+      let plain : is_plain message ≡ true = rw e refl in
+      (plain-front plain ∙ front-in e, plain-back plain ∙ back-in e)
 
-not-false : (b : Bool) → not b ≡ false → b ≡ true
-not-false true e = refl
-not-false false e = absurd cc
+  front-out : word_of message ≡ codes "OUT" → row_html said_front message ≡ codes "<li class=\"out\">Reschedule out: "
+  unfolding row_html said_front
+  front-out e = rw e refl
 
-message-is : (shown : List RowView) (message : RowView) (b : Bool) → is_plain message ≡ b → message_html shown message ≡ task_html shown (if b then task_words else other_words) message
-unfolding message_html
-message-is shown message b e = ap (λ (c : Bool). task_html shown (if c then task_words else other_words) message) e
+  back-out : word_of message ≡ codes "OUT" → row_html said_back message ≡ codes " to week " ++ (escaped (value_of_message message) ++ codes "</li>\n")
+  unfolding row_html said_back
+  back-out e = rw e refl
 
--- the messages of a word
-of-a-word : (shown : List RowView) (word : List ℕ) → ((message : RowView) → has_word 3 word message ≡ true → is_plain message ≡ true) → (messages : List RowView) → tasks_with shown word messages ≡ flat_map (message_html shown) (of_word messages word)
-unfolding tasks_with
-of-a-word shown word plain messages =
-    drawn-alone (task_if shown word) (message_html shown) (has_word 3 word)
-    (λ message e. ap (λ (b : Bool). if b then task_html shown task_words message else []) e ∙ sym (message-is shown message true (plain message e)))
-    (λ message e. ap (λ (b : Bool). if b then task_html shown task_words message else []) e) messages
+  pub said-out : word_of message ≡ codes "OUT" → (row_html (front_of message) message ≡ codes "<li class=\"out\">Reschedule out: ") × (row_html (back_of message) message ≡ codes " to week " ++ (escaped (value_of_message message) ++ codes "</li>\n"))
+  said-out e =
+      let plain : is_plain message ≡ true = rw e refl in
+      (plain-front plain ∙ front-out e, plain-back plain ∙ back-out e)
 
--- those of another word
-of-others : (shown : List RowView) (messages : List RowView) → other_tasks shown messages ≡ flat_map (message_html shown) (filter (λ message. not (is_plain message)) messages)
-unfolding other_tasks
-of-others shown messages =
-    drawn-alone (other_if shown) (message_html shown) (λ message. not (is_plain message))
-    (λ message e. ap (λ (b : Bool). if b then [] else task_html shown other_words message) (not-true (is_plain message) e) ∙ sym (message-is shown message false (not-true (is_plain message) e)))
-    (λ message e. ap (λ (b : Bool). if b then [] else task_html shown other_words message) (not-false (is_plain message) e)) messages
+  front-cancel : word_of message ≡ codes "CANCEL" → row_html said_front message ≡ codes "<li class=\"cancel\">Cancel: "
+  unfolding row_html said_front
+  front-cancel e = rw e refl
 
-six : {X Y : Type 0} (f : X → List Y) (a b c d e o : List X) → flat_map f a ++ (flat_map f b ++ (flat_map f c ++ (flat_map f d ++ (flat_map f e ++ flat_map f o)))) ≡ flat_map f ((a ++ (b ++ (c ++ (d ++ (e ++ []))))) ++ o)
-six f a b c d e o = sym (simp (flat_map-append, append_assoc, append-nil))
+  back-cancel : word_of message ≡ codes "CANCEL" → row_html said_back message ≡ escaped (value_of_message message) ++ codes "</li>\n"
+  unfolding row_html said_back
+  back-cancel e = rw e refl
 
--- the messages, one by one
-tasks-are : (shown messages : List RowView) → tasks_html shown messages ≡ flat_map (message_html shown) (by_urgency messages)
-unfolding tasks_html by_urgency
-tasks-are shown messages =
-    let late = of-a-word shown (codes "PAST-DUE") plain-late messages in
-    let release = of-a-word shown (codes "RELEASE") plain-release messages in
-    let earlier = of-a-word shown (codes "IN") plain-earlier messages in
-    let later = of-a-word shown (codes "OUT") plain-later messages in
-    let cancel = of-a-word shown (codes "CANCEL") plain-cancel messages in
-    rw (late, release, earlier, later, cancel, of-others shown messages)
-    (six (message_html shown) (of_word messages (codes "PAST-DUE")) (of_word messages (codes "RELEASE")) (of_word messages (codes "IN")) (of_word messages (codes "OUT")) (of_word messages (codes "CANCEL"))
-    (filter (λ message. not (is_plain message)) messages))
+  pub said-cancel : word_of message ≡ codes "CANCEL" → (row_html (front_of message) message ≡ codes "<li class=\"cancel\">Cancel: ") × (row_html (back_of message) message ≡ escaped (value_of_message message) ++ codes "</li>\n")
+  said-cancel e =
+      let plain : is_plain message ≡ true = rw e refl in
+      (plain-front plain ∙ front-cancel e, plain-back plain ∙ back-cancel e)
 
-pub item-messages : (rows : ItemLists) (leader : RowView)
-    → named_tasks rows leader ≡ item_tasks_open ++ (flat_map (message_html (leader ∷ [])) (by_urgency (rows_named (cell_at leader 0) rows.messages)) ++ item_tasks_end)
-unfolding named_tasks item_tasks task_table
-item-messages rows leader = ap (λ (t : List ℕ). item_tasks_open ++ (t ++ item_tasks_end)) (tasks-are (leader ∷ []) (rows_named (cell_at leader 0) rows.messages))
+  other-front : row_html said_other_front message ≡ codes "<li>" ++ (escaped (word_of message) ++ codes ": ")
+  unfolding row_html said_other_front
+  other-front = refl
 
--- the text of a message, word by word
-module _ (message : RowView) where
-  pub said-late : word_of message ≡ codes "PAST-DUE" → row_html task_words message ≡ said (codes "Past due: ") (codes ", weeks late (shop days from version 2 on): ") message
-  unfolding row_html task_words
-  said-late e = rw e refl
+  other-back : row_html said_other_back message ≡ codes " " ++ (escaped (value_of_message message) ++ codes "</li>\n")
+  unfolding row_html said_other_back
+  other-back = refl
 
-  pub said-release : word_of message ≡ codes "RELEASE" → row_html task_words message ≡ said (codes "Release: ") [] message
-  unfolding row_html task_words
-  said-release e = rw e refl
-
-  pub said-in : word_of message ≡ codes "IN" → row_html task_words message ≡ said (codes "Reschedule in: ") (codes " to week ") message
-  unfolding row_html task_words
-  said-in e = rw e refl
-
-  pub said-out : word_of message ≡ codes "OUT" → row_html task_words message ≡ said (codes "Reschedule out: ") (codes " to week ") message
-  unfolding row_html task_words
-  said-out e = rw e refl
-
-  pub said-cancel : word_of message ≡ codes "CANCEL" → row_html task_words message ≡ said (codes "Cancel: ") [] message
-  unfolding row_html task_words
-  said-cancel e = rw e refl
-
-  pub said-other : row_html other_words message ≡ said_of_another message
-  unfolding row_html other_words
-  said-other = refl
+  pub said-other : is_plain message ≡ false → (row_html (front_of message) message ≡ codes "<li>" ++ (escaped (word_of message) ++ codes ": ")) × (row_html (back_of message) message ≡ codes " " ++ (escaped (value_of_message message) ++ codes "</li>\n"))
+  said-other e = (
+    ap (λ (b : Bool). row_html (if b then said_front else said_other_front) message) e ∙ other-front,
+    ap (λ (b : Bool). row_html (if b then said_back else said_other_back) message) e ∙ other-back,
+  )

@@ -1,7 +1,10 @@
 -- Each message is in *To do* once, in the fold of its kind, with its order.
-use Rattle.std.proofs.Common.{◌≡◌, ◌∙◌, ◌<◌, ◌≤◌, ℕ, true, Option, Some, List, [], ◌∷◌, ◌++◌, codes, decimal, drop, get_or, length, take, arith, refl, sym, ap, append_assoc}
+use Rattle.mrp_facts.specs.Facts.{Facts, open_order}
+use Rattle.mrp_tables.specs.declared.rows.Receipt.{Receipt}
+use Rattle.mrp_page.specs.Receipts.{receipt_of}
+use Rattle.std.proofs.Common.{◌≡◌, ◌∙◌, ◌<◌, ◌≤◌, ℕ, true, Option, Some, List, [], ◌∷◌, ◌++◌, codes, decimal, drop, get_or, length, take, arith, refl, sym, ap, append_assoc, None}
 use Rattle.std.specs.Prelude.{◌&&◌, IsPermutation}
-use Rattle.std.specs.List.{find, flat_map}
+use Rattle.std.specs.List.{flat_map}
 use Rattle.std.proofs.lemmas.List.{append-nil}
 use Rattle.std.proofs.lemmas.List.Sorted.{IsPermutation-append, IsPermutation-append_left, IsPermutation-append_right, IsPermutation-trans}
 use Rattle.mrp_page.specs.Columns.{column}
@@ -9,32 +12,34 @@ use Rattle.mrp_page.specs.Draw.{item_name_html, more_html}
 use Rattle.mrp_page.specs.ItemRows.{ItemLists, item_lists}
 use Rattle.mrp_page.specs.Folded.{capped_html}
 use Rattle.mrp_page.specs.Frame.{count_row}
-use Rattle.mrp_page.specs.Kinds.{Kind, cancel, earlier, falling_rank, kind_html, kind_listing, kind_part, kinds, kinds_html, late, later, messages_of, note_html, open_count, open_html, order_html, order_of, other_messages, other_part, release, task_line, todo_back, todo_html, value_rank}
-use Rattle.mrp_page.specs.Layout.{cancel_open, in_open, late_open, open_pieces, order_start, order_week, out_open, release_open, rest_end, section_end, task_middle, task_row, task_supply, todo_open}
+use Rattle.mrp_page.specs.Kinds.{Kind, cancel, earlier, falling_rank, kind_html, kind_listing, kind_part, kinds, kinds_html, late, later, messages_of, note_html, open_count, open_html, order_html, order_of, other_messages, other_part, release, task_line, todo_back, todo_html, value_rank, received_html}
+use Rattle.mrp_page.specs.Layout.{cancel_open, in_open, late_open, open_pieces, order_start, order_week, out_open, release_open, rest_end, section_end, task_middle, task_row, task_supply, todo_open, open_receipt}
 use Rattle.mrp_page.specs.Notes.{Noted}
+use Rattle.mrp_page.specs.AtRisk.{RisksView}
+use Rattle.mrp_page.specs.Promises.{risks_html}
 use Rattle.mrp_page.specs.Page.{middle_html, page_html, page_of, rest_html, scene_in, shown_items, top_html}
 use Rattle.mrp_page.specs.Html.{number_html}
-use Rattle.mrp_page.specs.Orders.{is_order, linked_html}
+use Rattle.mrp_page.specs.Orders.{is_order, linked_html, ordered}
 use Rattle.mrp_page.specs.Refused.{refused_section}
 use Rattle.mrp_page.specs.Row.{RowView, cell_at, same_text}
-use Rattle.mrp_page.specs.Rows.{rows_in, rows_named}
+use Rattle.mrp_page.specs.Rows.{rows_in}
 use Rattle.mrp_page.specs.Escaped.{escaped}
 use Rattle.mrp_page.specs.Scene.{SceneView}
 use Rattle.mrp_page.specs.Summary.{summary_html}
 use Rattle.mrp_page.specs.Template.{has_word, markup_if, number_at, row_html}
-use Rattle.mrp_page.specs.Todo.{by_urgency}
+use Rattle.mrp_page.specs.Said.{by_urgency}
 use Rattle.mrp_day.specs.declared.section.Section.TheVariants as s
 use Rattle.mrp_page.specs.declared.limits.TheConstants.{MOST_LINES, SOME_ROWS}
 use Rattle.mrp_page.proofs.Todo.{stand-once}
 use Rattle.std.specs.List.Sorted.{IsNonDecreasingBy}
-use Rattle.mrp_page.specs.ByWord.{with_word}
+use Rattle.mrp_page.specs.ByWord.{by_word, with_word}
 use Rattle.mrp_page.specs.Sorted.{sorted_by}
 use Rattle.mrp_page.proofs.ByKey.{rank-most, sorted-non-decreasing, sorted-permutes}
 use Rattle.mrp_page.proofs.Folds.{folded-is, some-rows}
 
 -- the messages of each kind, and those of none, are all of them
 pub kinds-once : (messages : List RowView) → IsPermutation messages (flat_map (messages_of messages) kinds ++ other_messages messages)
-unfolding by_urgency
+unfolding by_urgency by_word
 kinds-once messages =
     let of : List ℕ → List RowView = λ word. with_word 3 messages word in
     let a : List RowView = of (codes "PAST-DUE") in
@@ -58,22 +63,23 @@ late-falls messages i j m less within =
 pub in-rises : (messages : List RowView) → IsNonDecreasingBy value_rank (messages_of messages earlier)
 in-rises messages = sorted-non-decreasing value_rank (with_word 3 messages (codes "IN"))
 
-placed : (t u c o n k m r : List ℕ) → t ++ (u ++ (c ++ ((o ++ (n ++ (k ++ m))) ++ r))) ≡ (t ++ (u ++ (c ++ (o ++ n)))) ++ (k ++ (m ++ r))
-placed t u c o n k m r = simp append_assoc
+placed : (t u c x o n k m r : List ℕ) → t ++ (u ++ (c ++ (x ++ ((o ++ (n ++ (k ++ m))) ++ r)))) ≡ (t ++ (u ++ (c ++ (x ++ (o ++ n))))) ++ (k ++ (m ++ r))
+placed t u c x o n k m r = simp append_assoc
 
-pub page-kinds : (title : List ℕ) (notes : Noted) → (front : List ℕ) × (back : List ℕ) × (page_html title notes ≡ front ++ (kinds_html (scene_in notes) (rows_in s.Messages notes.report) ++ back))
+pub page-kinds : (title : List ℕ) (tables : Option Facts) (notes : Noted) (risks : RisksView) → (front : List ℕ) × (back : List ℕ) × (page_html title tables notes risks ≡ front ++ (kinds_html (scene_in tables notes) (rows_in s.Messages notes.report) ++ back))
 unfolding page_html page_of todo_html todo_back
-page-kinds title notes =
+page-kinds title tables notes risks =
     let lists : ItemLists = item_lists notes.report in
     let shown : List RowView = shown_items lists in
     let messages : List RowView = rows_in s.Messages notes.report in
-    let top : List ℕ = top_html title notes.report notes.counts.items in
-    let sums : List ℕ = summary_html notes.history (rows_in s.Messages notes.report) (rows_in s.Loads notes.report) in
+    let top : List ℕ = top_html title tables notes.report notes.counts.items in
+    let sums : List ℕ = summary_html notes.history (rows_in s.Messages notes.report) (rows_in s.Loads notes.report) risks in
     let calls : List ℕ = refused_section shown notes.history notes.counts.history in
+    let promises : List ℕ = risks_html (scene_in tables notes) risks in
     let note : List ℕ = note_html messages notes.counts.messages in
     let last : List ℕ = more_html notes.counts.messages (codes "message, perhaps an urgent one, is") (codes "messages, urgent ones perhaps among them, are") ++ section_end in
-    let rest : List ℕ = middle_html (scene_in notes) notes.report notes.counts ++ rest_html (scene_in notes) lists notes.counts in
-    (top ++ (sums ++ (calls ++ (todo_open ++ note))), last ++ rest, placed top sums calls todo_open note (kinds_html (scene_in notes) messages) last rest)
+    let rest : List ℕ = middle_html (scene_in tables notes) notes.report notes.counts ++ rest_html (scene_in tables notes) lists notes.counts in
+    (top ++ (sums ++ (calls ++ (promises ++ (todo_open ++ note)))), last ++ rest, placed top sums calls promises todo_open note (kinds_html (scene_in tables notes) messages) last rest)
 
 pub kinds-are : (scene : SceneView) (messages : List RowView) → kinds_html scene messages ≡ flat_map (kind_part scene messages) kinds ++ other_part scene messages
 unfolding kinds_html
@@ -106,7 +112,7 @@ order-is kind scene message order found =
     ap (λ (o : Option RowView). task_row ++ (item_name_html scene.shown (cell_at message 0) ++ (task_middle ++ (linked_html scene o (row_html task_supply message) ++ (codes "</td>" ++ (order_html kind scene message o ++ row_html kind.value message)))))) found
 
 pub order-of-is : (scene : SceneView) (message : RowView) → order_of scene message
-    ≡ find (is_order (cell_at message (column s.Messages (codes "item"))) (cell_at message (column s.Messages (codes "supply"))) (cell_at message (column s.Messages (codes "source")))) (rows_named (cell_at message (column s.Messages (codes "item"))) scene.orders)
+    ≡ ordered scene (cell_at message (column s.Messages (codes "item"))) (cell_at message (column s.Messages (codes "supply"))) (cell_at message (column s.Messages (codes "source")))
 order-of-is scene message = refl
 
 pub is-order-is : (name kind number : List ℕ) (order : RowView) → is_order name kind number order
@@ -114,11 +120,23 @@ pub is-order-is : (name kind number : List ℕ) (order : RowView) → is_order n
 is-order-is name kind number order = refl
 
 -- the pieces of an open order are those of its pegs
-pub open-is : (scene : SceneView) (message : RowView) → scene.whole ≡ true → cell_at message (column s.Messages (codes "supply")) ≡ codes "open" → open_html scene message ≡ number_html (decimal (open_count scene message)) ++ (codes "<td></td><td></td>" ++ [])
+pub open-is : (scene : SceneView) (message : RowView) → receipt_of scene.tables message ≡ None → scene.whole ≡ true → cell_at message (column s.Messages (codes "supply")) ≡ codes "open" → open_html scene message ≡ number_html (decimal (open_count scene message)) ++ (codes "<td></td><td></td>" ++ [])
 unfolding row_html open_pieces
-open-is scene message whole is =
+open-is scene message none whole is =
     let opened : has_word 1 (codes "open") message ≡ true = rw is refl in
-    rw (opened, whole) refl
+    ap (received_html scene message) none ∙ rw (opened, whole) refl
+
+-- or of its receipt
+pub received-is : (scene : SceneView) (message : RowView) (receipt : Receipt) → receipt_of scene.tables message ≡ Some receipt
+    → open_html scene message ≡ number_html (decimal receipt.quantity) ++ (codes "<td></td>" ++ (number_html (decimal receipt.week) ++ []))
+unfolding row_html open_receipt
+received-is scene message receipt is = ap (received_html scene message) is
+
+pub receipt-is : (facts : Facts) (message : RowView) → cell_at message (column s.Messages (codes "supply")) ≡ codes "open"
+    → receipt_of (Some facts) message ≡ open_order facts.tables (cell_at message (column s.Messages (codes "item"))) (cell_at message (column s.Messages (codes "source")))
+receipt-is facts message is =
+    let opened : has_word 1 (codes "open") message ≡ true = rw is refl in
+    rw opened refl
 
 pub start-is : (order : RowView) → row_html order_start order ≡ number_at (column s.Orders (codes "quantity")) order ++ (number_at (column s.Orders (codes "start")) order ++ (number_at (column s.Orders (codes "due")) order ++ []))
 unfolding row_html order_start

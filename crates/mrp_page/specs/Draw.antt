@@ -1,16 +1,19 @@
 -- The parts of a page.
-use Rattle.std.specs.Prelude.{ℕ, Bool, List, [], ◌∷◌, ◌++◌, ◌==◌, ◌&&◌, ◌||◌, ◌-◌, not, length, codes, drop, flat_map, take, if◌then◌else◌}
+use Rattle.std.specs.Prelude.{ℕ, Bool, List, Option, [], ◌∷◌, ◌++◌, ◌==◌, ◌&&◌, ◌||◌, ◌-◌, not, length, codes, drop, flat_map, take, if◌then◌else◌}
 use Rattle.std.specs.List.{list_any}
 use Rattle.mrp_page.specs.declared.counts.Counts.{Counts}
 use Rattle.mrp_page.specs.declared.limits.TheConstants.{TABLE_WEEKS}
 use Rattle.mrp_page.specs.Escaped.{escaped}
 use Rattle.mrp_page.specs.Frame.{count_row, frame_of}
 use Rattle.mrp_page.specs.Html.{is_zero}
+use Rattle.mrp_page.specs.ItemFacts.{safety_html}
 use Rattle.mrp_page.specs.ItemRows.{ItemLists}
-use Rattle.mrp_page.specs.Layout.{available_label, balance_chart, balance_label, booked_label, entry, firm_label, grid_end, gross_label, history_end, history_open, item_tasks_end, item_tasks_open, later_open, link_end, link_middle, link_open, more, no_promises, no_record, other_words, planned_label, point, points_end, record_head, rest_end, scheduled_label, starts_label, task_head, task_words, week, weeks_end}
+use Rattle.mrp_page.specs.Layout.{available_label, balance_chart, balance_label, booked_label, entry, firm_label, grid_end, gross_label, history_end, history_open, later_open, line_open, link_end, link_middle, link_open, more, no_promises, no_record, planned_label, point, points_end, record_head, rest_end, scheduled_label, starts_label, week, weeks_end}
 use Rattle.mrp_page.specs.Row.{RowView, cell_at, is_of}
 use Rattle.mrp_page.specs.Rows.{greatest, rows_named}
 use Rattle.mrp_page.specs.Template.{Drawn, flows_html, has_word, numbers_html, row_html, rows_html}
+use Rattle.mrp_page.specs.Weeks.{weeks_html}
+use Rattle.mrp_facts.specs.Facts.{Facts}
 
 -- rows between two pieces of markup
 unfoldable pub table_html : List ℕ → List Drawn → List RowView → List ℕ → List ℕ
@@ -51,59 +54,14 @@ unfoldable pub item_name_html : List RowView → List ℕ → List ℕ
 item_name_html shown name =
     if has_item shown name then link_html name else escaped name
 
--- a message in these words
-unfoldable pub task_html : List RowView → List Drawn → RowView → List ℕ
-task_html shown words message =
-    row_html task_head message
-    ++ (item_name_html shown (cell_at message 0)
-    ++ row_html words message)
-
--- a message in plain words, if it has this word
-abbrev pub task_if : List RowView → List ℕ → RowView → List ℕ
-task_if shown word message = if has_word 3 word message then task_html shown task_words message else []
-
--- the messages that have this word
-unfoldable pub tasks_with : List RowView → List ℕ → List RowView → List ℕ
-tasks_with shown word messages = flat_map (task_if shown word) messages
-
 -- a message has one of the words that a page puts into plain ones
 abbrev pub is_plain : RowView → Bool
 is_plain message = has_word 3 (codes "PAST-DUE") message || (has_word 3 (codes "RELEASE") message || (has_word 3 (codes "IN") message || (has_word 3 (codes "OUT") message || has_word 3 (codes "CANCEL") message)))
-
--- a message with its own word, if it is none of those
-abbrev pub other_if : List RowView → RowView → List ℕ
-other_if shown message = if is_plain message then [] else task_html shown other_words message
-
--- the messages that have none of those words
-unfoldable pub other_tasks : List RowView → List RowView → List ℕ
-other_tasks shown messages = flat_map (other_if shown) messages
-
--- the messages, the most urgent first
-unfoldable pub tasks_html : List RowView → List RowView → List ℕ
-tasks_html shown messages =
-    tasks_with shown (codes "PAST-DUE") messages
-    ++ (tasks_with shown (codes "RELEASE") messages
-    ++ (tasks_with shown (codes "IN") messages
-    ++ (tasks_with shown (codes "OUT") messages
-    ++ (tasks_with shown (codes "CANCEL") messages
-    ++ other_tasks shown messages))))
-
--- messages between two pieces of markup
-unfoldable pub task_table : List ℕ → List RowView → List RowView → List ℕ → List ℕ
-task_table front shown messages back =
-    front
-    ++ (tasks_html shown messages
-    ++ back)
 
 -- how many are not shown; nothing if that is none
 unfoldable pub more_html : ℕ → List ℕ → List ℕ → List ℕ
 more_html count one many =
     if count == 0 then [] else row_html more (count_row count one many)
-
--- the weeks of a table
-unfoldable pub weeks_html : List RowView → List ℕ
-weeks_html rows =
-    table_html [] week rows weeks_end
 
 -- there is no row
 abbrev pub has_none : List RowView → Bool
@@ -139,11 +97,13 @@ unfoldable pub points_html : List RowView → List ℕ
 points_html plan =
     table_html [] point plan points_end
 
--- the picture of an item's balances, a line
-unfoldable pub balance_html : RowView → List RowView → List ℕ
-balance_html frame plan =
+-- the picture of an item's balances, a line, with its safety stock if the tables are given
+unfoldable pub balance_html : Option Facts → RowView → List RowView → List ℕ
+balance_html tables frame plan =
     row_html balance_chart frame
-    ++ points_html plan
+    ++ (safety_html tables frame
+    ++ (line_open
+    ++ points_html plan))
 
 -- what is planned of an item, and the balance that is left
 unfoldable pub planned_html : List RowView → List ℕ
@@ -161,53 +121,43 @@ record_rows scheduled plan promises =
     ++ promised_html promises))
 
 -- a table of some weeks of an item's time-phased record
-unfoldable pub record_table : RowView → Bool → List RowView → List RowView → List ℕ
-record_table frame scheduled plan promises =
+unfoldable pub record_table : Option Facts → RowView → Bool → List RowView → List RowView → List ℕ
+record_table tables frame scheduled plan promises =
     row_html record_head frame
-    ++ (weeks_html plan
+    ++ (weeks_html tables plan
     ++ (record_rows scheduled plan promises
     ++ grid_end))
 
 -- a table of its further weeks, folded
-unfoldable pub later_record : RowView → Bool → List RowView → List RowView → List ℕ
-later_record frame scheduled plan promises =
-    if has_none plan then [] else later_open ++ (record_table frame scheduled plan promises ++ rest_end)
+unfoldable pub later_record : Option Facts → RowView → Bool → List RowView → List RowView → List ℕ
+later_record tables frame scheduled plan promises =
+    if has_none plan then [] else later_open ++ (record_table tables frame scheduled plan promises ++ rest_end)
 
 -- the weeks of an item's time-phased record
-unfoldable pub all_weeks : RowView → Bool → List RowView → List RowView → List ℕ
-all_weeks frame scheduled plan promises =
-    record_table frame scheduled (take TABLE_WEEKS plan) (take TABLE_WEEKS promises)
-    ++ later_record frame scheduled (drop TABLE_WEEKS plan) (drop TABLE_WEEKS promises)
+unfoldable pub all_weeks : Option Facts → RowView → Bool → List RowView → List RowView → List ℕ
+all_weeks tables frame scheduled plan promises =
+    record_table tables frame scheduled (take TABLE_WEEKS plan) (take TABLE_WEEKS promises)
+    ++ later_record tables frame scheduled (drop TABLE_WEEKS plan) (drop TABLE_WEEKS promises)
 
 -- the time-phased record of an item, from its frame
-unfoldable pub framed_record : RowView → List RowView → List RowView → List ℕ
-framed_record frame plan promises =
-    balance_html frame plan
-    ++ all_weeks frame (is_scheduled plan promises) plan promises
+unfoldable pub framed_record : Option Facts → RowView → List RowView → List RowView → List ℕ
+framed_record tables frame plan promises =
+    balance_html tables frame plan
+    ++ all_weeks tables frame (is_scheduled plan promises) plan promises
 
 -- the time-phased record of an item
-unfoldable pub record_html : List ℕ → List RowView → List RowView → List ℕ
-record_html name plan promises = framed_record (frame_of name plan 7 7 (codes "1")) plan promises
-
--- the messages of the item that this is a row of
-unfoldable pub item_tasks : RowView → List RowView → List ℕ
-item_tasks leader messages =
-    task_table item_tasks_open (leader ∷ []) messages item_tasks_end
+unfoldable pub record_html : Option Facts → List ℕ → List RowView → List RowView → List ℕ
+record_html tables name plan promises = framed_record tables (frame_of name plan 7 7 (codes "1")) plan promises
 
 -- the record of an item, or a note that it is not kept
-unfoldable pub record_or_none : List ℕ → List RowView → List RowView → List ℕ
-record_or_none name plan promises =
-    if has_none plan then no_record else record_html name plan promises
+unfoldable pub record_or_none : Option Facts → List ℕ → List RowView → List RowView → List ℕ
+record_or_none tables name plan promises =
+    if has_none plan then no_record else record_html tables name plan promises
 
 -- the record of an item, by its name
-unfoldable pub named_record : ItemLists → List ℕ → List ℕ
-named_record rows name =
-    record_or_none name (rows_named name rows.plan) (rows_named name rows.promises)
-
--- the messages of an item, given a row of it
-unfoldable pub named_tasks : ItemLists → RowView → List ℕ
-named_tasks rows leader =
-    item_tasks leader (rows_named (cell_at leader 0) rows.messages)
+unfoldable pub named_record : Option Facts → ItemLists → List ℕ → List ℕ
+named_record tables rows name =
+    record_or_none tables name (rows_named name rows.plan) (rows_named name rows.promises)
 
 -- a note that an item with a record may have promises that are not kept, if any are not
 abbrev pub promises_note : List RowView → List RowView → ℕ → List ℕ

@@ -1,13 +1,16 @@
 -- The items of a page: an index, and each with its messages, its record, its orders and pegs.
-use Rattle.std.specs.Prelude.{ℕ, Bool, List, [], ◌++◌, ◌==◌, ◌&&◌, Option, None, Some, codes, filter, flat_map, length, if◌then◌else◌}
-use Rattle.mrp_page.specs.Draw.{has_none, item_name_html, link_html, named_note, named_record, named_tasks, table_html}
+use Rattle.std.specs.Prelude.{ℕ, List, [], ◌++◌, ◌==◌, Option, None, Some, codes, flat_map, length, if◌then◌else◌}
+use Rattle.mrp_page.specs.Draw.{has_none, item_name_html, link_html, named_note, named_record, table_html}
 use Rattle.mrp_page.specs.Frame.{count_row}
+use Rattle.mrp_page.specs.ItemFacts.{item_facts_html}
 use Rattle.mrp_page.specs.ItemRows.{ItemLists}
 use Rattle.mrp_page.specs.Layout.{grid_end, index_count, index_end, index_open, item_head, items_end, items_open, lists_open, order, orders_open, peg_back, peg_booking, peg_front, peg_middle, peg_need, peg_parent, peg_supply, pegs_open, rest_end, section_end, wait_end, wait_late, wait_middle, wait_order, wait_supply, waits_open}
 use Rattle.mrp_page.specs.Orders.{linked_html, numbered, ordered}
+use Rattle.mrp_page.specs.Pegs.{waits_for}
 use Rattle.mrp_page.specs.Refused.{entry_name_html}
 use Rattle.mrp_page.specs.Row.{RowView, cell_at}
 use Rattle.mrp_page.specs.Rows.{rows_named}
+use Rattle.mrp_page.specs.Said.{item_messages}
 use Rattle.mrp_page.specs.Scene.{SceneView}
 use Rattle.mrp_page.specs.Template.{has_word, row_html}
 
@@ -47,14 +50,6 @@ peg_html scene peg =
 unfoldable pub pegs_html : SceneView → List RowView → List ℕ
 pegs_html scene pegs = pegs_open ++ (flat_map (peg_html scene) pegs ++ grid_end)
 
--- an order of this item waits for the supply of a peg
-abbrev pub is_wait : List ℕ → RowView → Bool
-is_wait name peg = has_word 4 name peg && has_word 2 (codes "parent") peg
-
--- the pegs of components that the orders of an item wait for
-abbrev pub waits_of : SceneView → List ℕ → List RowView
-waits_of scene name = filter (is_wait name) scene.pegs
-
 -- how late an order is
 abbrev pub late_html : Option RowView → List ℕ
 late_html None = wait_end
@@ -82,7 +77,7 @@ item_lists_html scene name =
     lists_open
     ++ (orders_html (rows_named name scene.orders)
     ++ (pegs_html scene (rows_named name scene.pegs)
-    ++ (waits_html scene (waits_of scene name)
+    ++ (waits_html scene (waits_for scene.pegs name)
     ++ (rest_end
     ++ section_end))))
 
@@ -90,10 +85,11 @@ item_lists_html scene name =
 unfoldable pub item_html : SceneView → ItemLists → ℕ → RowView → List ℕ
 item_html scene rows missed leader =
     row_html item_head leader
-    ++ (named_tasks rows leader
-    ++ (named_record rows (cell_at leader 0)
+    ++ (item_facts_html scene.tables (cell_at leader 0)
+    ++ (item_messages scene rows leader
+    ++ (named_record scene.tables rows (cell_at leader 0)
     ++ (named_note rows missed (cell_at leader 0)
-    ++ item_lists_html scene (cell_at leader 0))))
+    ++ item_lists_html scene (cell_at leader 0)))))
 
 -- items, by a row of each
 unfoldable pub items_html : SceneView → ItemLists → ℕ → List RowView → List ℕ

@@ -10,7 +10,10 @@ use Rattle.mrp_page.specs.Draw.{has_none, is_plain, item_name_html, more_html}
 use Rattle.mrp_page.specs.Folded.{Listing, capped_html}
 use Rattle.mrp_page.specs.Frame.{count_row}
 use Rattle.mrp_page.specs.Layout.{cancel_front, cancel_open, in_front, in_open, late_front, late_open, nothing_to_do, open_pieces, order_start, order_unknown, order_week, other_cells, other_front, other_open, out_front, out_open, release_front, release_open, rest_end, row_end, section_end, table_end, task_middle, task_row, task_supply, to_week, todo_note, todo_open, weeks_late}
-use Rattle.mrp_page.specs.Orders.{linked_html, ordered, pieces_of}
+use Rattle.mrp_page.specs.Orders.{linked_html, ordered}
+use Rattle.mrp_page.specs.Pegs.{pieces_of_order}
+use Rattle.mrp_page.specs.Receipts.{receipt_html, receipt_of}
+use Rattle.mrp_tables.specs.declared.rows.Receipt.{Receipt}
 use Rattle.mrp_page.specs.Row.{RowView, cell_at}
 use Rattle.mrp_page.specs.Rows.{rank}
 use Rattle.mrp_page.specs.Scene.{SceneView}
@@ -60,12 +63,20 @@ order_of scene message = ordered scene (cell_at message 0) (cell_at message 1) (
 
 -- how many pieces the open order of a message has: those of its pegs
 abbrev pub open_count : SceneView → RowView → ℕ
-open_count scene message = pieces_of scene (cell_at message 0) (cell_at message 1) (cell_at message 2)
+open_count scene message = pieces_of_order scene.pegs (cell_at message 0) (cell_at message 2)
 
--- the cells of an open order, if all pegs are kept, or what stands in their place
-abbrev pub open_html : SceneView → RowView → List ℕ
-open_html scene message =
+-- the cells of an open order by its pegs, if all are kept, or what stands in their place
+abbrev pub pegged_html : SceneView → RowView → List ℕ
+pegged_html scene message =
     if has_word 1 (codes "open") message && scene.whole then row_html open_pieces (count_row (open_count scene message) [] []) else order_unknown
+
+-- the cells of an open order by its receipt, or without one by its pegs
+abbrev pub received_html : SceneView → RowView → Option Receipt → List ℕ
+received_html scene message (Some receipt) = receipt_html receipt
+received_html scene message None = pegged_html scene message
+
+abbrev pub open_html : SceneView → RowView → List ℕ
+open_html scene message = received_html scene message (receipt_of scene.tables message)
 
 -- the cells of an order, or of an open one
 abbrev pub order_html : Kind → SceneView → RowView → Option RowView → List ℕ

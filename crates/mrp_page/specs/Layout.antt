@@ -14,47 +14,37 @@ page_top =
     Text 0 ∷
     Mark (codes "</title>\n<style>\n") ∷ []
 
--- what a message begins with
-unfoldable pub task_head : List Drawn
-task_head =
-    Mark (codes "<tr class=\"") ∷
+-- what a message begins with that has a standard term: this
+unfoldable pub said_front : List Drawn
+said_front =
+    Mark (codes "<li class=\"") ∷
     Where 3 (codes "PAST-DUE") (codes "late") ∷
     Where 3 (codes "RELEASE") (codes "release") ∷
     Where 3 (codes "IN") (codes "in") ∷
     Where 3 (codes "OUT") (codes "out") ∷
     Where 3 (codes "CANCEL") (codes "cancel") ∷
-    Mark (codes "\"><th scope=row>") ∷ []
-
--- a message in plain words, after the name of its item
-unfoldable pub task_words : List Drawn
-task_words =
-    Mark (codes "</th><td>") ∷
+    Mark (codes "\">") ∷
     Where 3 (codes "PAST-DUE") (codes "Past due: ") ∷
     Where 3 (codes "RELEASE") (codes "Release: ") ∷
     Where 3 (codes "IN") (codes "Reschedule in: ") ∷
     Where 3 (codes "OUT") (codes "Reschedule out: ") ∷
-    Where 3 (codes "CANCEL") (codes "Cancel: ") ∷
-    Text 1 ∷
-    Mark (codes " ") ∷
-    Text 2 ∷
+    Where 3 (codes "CANCEL") (codes "Cancel: ") ∷ []
+
+-- what it ends with: its value, if that has a meaning
+unfoldable pub said_back : List Drawn
+said_back =
     Where 3 (codes "IN") (codes " to week ") ∷
     Where 3 (codes "OUT") (codes " to week ") ∷
     Where 3 (codes "PAST-DUE") (codes ", weeks late (shop days from version 2 on): ") ∷
     Text 4 ∷
-    Mark (codes "</td></tr>\n") ∷ []
+    Mark (codes "</li>\n") ∷ []
 
--- a message with its own word, after the name of its item
-unfoldable pub other_words : List Drawn
-other_words =
-    Mark (codes "</th><td>") ∷
+-- what any other message begins with: its own word
+unfoldable pub said_other_front : List Drawn
+said_other_front =
+    Mark (codes "<li>") ∷
     Text 3 ∷
-    Mark (codes ": ") ∷
-    Text 1 ∷
-    Mark (codes " ") ∷
-    Text 2 ∷
-    Mark (codes " ") ∷
-    Text 4 ∷
-    Mark (codes "</td></tr>\n") ∷ []
+    Mark (codes ": ") ∷ []
 
 -- what a link to an item begins with, before the name in its address
 unfoldable pub link_open : List ℕ
@@ -68,8 +58,19 @@ link_middle = codes "\">"
 unfoldable pub week : List Drawn
 week =
     Mark (codes "<th scope=col>") ∷
-    Text 1 ∷
-    Mark (codes "</th>") ∷ []
+    Text 1 ∷ []
+
+-- what it ends with
+unfoldable pub week_end : List ℕ
+week_end = codes "</th>"
+
+-- what the date of a week begins with, below its number
+unfoldable pub date_open : List ℕ
+date_open = codes "<br><small>"
+
+-- what it ends with
+unfoldable pub date_end : List ℕ
+date_end = codes "</small>"
 
 -- an entry of the history
 unfoldable pub entry : List Drawn
@@ -102,13 +103,13 @@ point =
     Text 7 ∷
     Mark (codes " ") ∷ []
 
--- what an item's messages begin with
-unfoldable pub item_tasks_open : List ℕ
-item_tasks_open = codes "<table class=todo aria-label=\"What to do for this item\"><thead><tr><th scope=col>Item</th><th scope=col>What to do</th></tr></thead>\n<tbody>"
+-- what the messages of an item begin with
+unfoldable pub said_open : List ℕ
+said_open = codes "<ul class=said>\n"
 
 -- what they end with
-unfoldable pub item_tasks_end : List ℕ
-item_tasks_end = codes "</tbody></table>\n"
+unfoldable pub said_close : List ℕ
+said_close = codes "</ul>\n"
 
 -- what the weeks of a table end with
 unfoldable pub weeks_end : List ℕ
@@ -557,7 +558,7 @@ record_head =
     Text 0 ∷
     Mark (codes "\">\n<thead><tr><th scope=col>Week</th>") ∷ []
 
--- the head of a page: the title, the entry that the run plans from, the bookings that stand there, the weeks, the items
+-- the head of a page: the title, the entry that the run plans from, the bookings that stand there, the weeks
 unfoldable pub page_head : List Drawn
 page_head =
     Mark (codes "</style>\n</head>\n<body style=\"--weeks:") ∷
@@ -570,7 +571,20 @@ page_head =
     Text 2 ∷
     Mark (codes "</b>; weeks: <b>") ∷
     Text 3 ∷
-    Mark (codes "</b>; items: <b>") ∷
+    Mark (codes "</b>") ∷ []
+
+-- what the date of the first week begins with
+unfoldable pub start_open : List ℕ
+start_open = codes " from <b>"
+
+-- what it ends with
+unfoldable pub start_end : List ℕ
+start_end = codes "</b>"
+
+-- the rest of the head of a page: the items
+unfoldable pub page_items : List Drawn
+page_items =
+    Mark (codes "; items: <b>") ∷
     Text 4 ∷
     Mark (codes "</b>") ∷
     Where 4 (codes "0") (codes " (the plan has none, or none that was asked for)") ∷
@@ -764,7 +778,7 @@ out_cells =
 
 -- what comes between the head of a page and its parts: links to these
 unfoldable pub main_open : List ℕ
-main_open = codes "</p>\n</header>\n<nav><a href=\"#unkept\">Not promised</a><a href=\"#todo\">To do</a><a href=\"#out-first\">Runs out first</a><a href=\"#centres\">Work centres</a><a href=\"#items\">Items</a><a href=\"#history\">History</a></nav>\n<main>\n"
+main_open = codes "</p>\n</header>\n<nav><a href=\"#unkept\">Not promised</a><a href=\"#risk\">Promises at risk</a><a href=\"#todo\">To do</a><a href=\"#out-first\">Runs out first</a><a href=\"#centres\">Work centres</a><a href=\"#items\">Items</a><a href=\"#history\">History</a></nav>\n<main>\n"
 
 -- the frame of the picture of loads, with the name and the weeks; The line is at 100 %
 unfoldable pub load_chart : List Drawn
@@ -794,7 +808,64 @@ balance_chart =
     Text 0 ∷
     Mark (codes "</title><path class=zero d=\"M.5 0h") ∷
     Text 1 ∷
-    Mark (codes "\"/><polyline transform=\"scale(1 -1)\" points=\"") ∷ []
+    Mark (codes "\"/>") ∷ []
+
+-- what the line of a picture of balances begins with
+unfoldable pub line_open : List ℕ
+line_open = codes "<polyline transform=\"scale(1 -1)\" points=\""
+
+-- the line of the safety stock in a picture of balances, given the pieces and the weeks
+unfoldable pub safety_line : List Drawn
+safety_line =
+    Mark (codes "<path class=zero stroke-dasharray=\"6 4\" d=\"M.5 -") ∷
+    Text 0 ∷
+    Mark (codes "h") ∷
+    Text 1 ∷
+    Mark (codes "\"><title>Safety stock: ") ∷
+    Text 0 ∷
+    Mark (codes "</title></path>") ∷ []
+
+-- what the tables say of an item: its class, lead time and lot rule
+unfoldable pub facts_open : List Drawn
+facts_open =
+    Mark (codes "<p class=note>") ∷
+    Where 0 (codes "master") (codes "Master item") ∷
+    Where 0 (codes "part") (codes "Part") ∷
+    Where 2 (codes "weeks") (codes "; lead time in weeks: ") ∷
+    Where 2 (codes "days") (codes "; lead time in shop days: ") ∷
+    Text 1 ∷
+    Where 3 (codes "lfl") (codes "; lot for lot") ∷
+    Where 3 (codes "fixed") (codes "; fixed order quantity: ") ∷
+    Where 3 (codes "period") (codes "; period order quantity, weeks: ") ∷
+    Text 4 ∷ []
+
+-- an item's minimum order quantity and order multiple
+unfoldable pub facts_steps : List Drawn
+facts_steps =
+    Mark (codes "; minimum: ") ∷
+    Text 5 ∷
+    Mark (codes "; multiple: ") ∷
+    Text 6 ∷ []
+
+-- an item's scrap, safety stock and stock on hand
+unfoldable pub facts_end : List Drawn
+facts_end =
+    Mark (codes "; scrap: ") ∷
+    Text 7 ∷
+    Mark (codes ".") ∷
+    Text 8 ∷
+    Mark (codes " %; safety stock: ") ∷
+    Text 9 ∷
+    Mark (codes "; on hand: ") ∷
+    Text 10 ∷
+    Mark (codes "</p>\n") ∷ []
+
+-- the pieces and the week of an open order, by its receipt
+unfoldable pub open_receipt : List Drawn
+open_receipt =
+    Number 0 ∷
+    Mark (codes "<td></td>") ∷
+    Number 1 ∷ []
 
 -- an order
 unfoldable pub order : List Drawn
@@ -823,3 +894,197 @@ title_open = codes "<td title=\""
 -- what it ends with
 unfoldable pub title_end : List ℕ
 title_end = codes "\">"
+
+-- what the most overloaded work centres begin with
+unfoldable pub overloaded_open : List ℕ
+overloaded_open = codes "<h3>Most overloaded</h3>\n"
+
+-- what is said of such a work centre
+unfoldable pub overloaded_line : List Drawn
+overloaded_line =
+    Mark (codes "<p><a href=\"#c-") ∷
+    Text 0 ∷
+    Mark (codes "\">") ∷
+    Text 0 ∷
+    Mark (codes "</a>: over in ") ∷
+    Text 1 ∷
+    Mark (codes " of ") ∷
+    Text 2 ∷
+    Mark (codes " weeks, ") ∷
+    Where 4 (codes " %") (codes "at most ") ∷
+    Mark (codes "<b class=bad>") ∷
+    Text 3 ∷
+    Text 4 ∷
+    Mark (codes "</b> in week ") ∷
+    Text 5 ∷
+    Mark (codes "; ") ∷
+    Text 6 ∷
+    Text 7 ∷
+    Mark (codes " over all weeks</p>\n") ∷ []
+
+-- what stands at an item without messages
+unfoldable pub no_message : List ℕ
+no_message = codes "<p class=note>No message on this page.</p>\n"
+
+-- what any other message ends with: its value
+unfoldable pub said_other_back : List Drawn
+said_other_back =
+    Mark (codes " ") ∷
+    Text 4 ∷
+    Mark (codes "</li>\n") ∷ []
+
+-- the pieces that a message is about
+unfoldable pub said_pieces : List Drawn
+said_pieces = Mark (codes ", ") ∷ Text 0 ∷ Text 1 ∷ []
+
+-- the start and the due week of an order to be released
+unfoldable pub said_start : List Drawn
+said_start =
+    Mark (codes ", start ") ∷
+    Text 5 ∷
+    Mark (codes ", due week ") ∷
+    Text 3 ∷ []
+
+-- the week of any other order
+unfoldable pub said_week : List Drawn
+said_week = Mark (codes ", week ") ∷ Text 3 ∷ []
+
+-- what the section *Promises at risk* begins with
+unfoldable pub risk_open : List ℕ
+risk_open = codes "<section id=risk>\n<h2>Promises at risk</h2>\n"
+
+-- what stands above the bookings at risk
+unfoldable pub risk_note : List ℕ
+risk_note = codes "<p class=note>Bookings that wait, through any number of orders, for an order past due; with the latest such order.</p>\n"
+
+-- what stands there if no booking is at risk
+unfoldable pub none_at_risk : List ℕ
+none_at_risk = codes "<p>None: no booking waits for an order past due.</p>\n"
+
+-- what stands there if not all orders and pegs are kept
+unfoldable pub risks_unknown : List ℕ
+risks_unknown = codes "<p>Not known: this takes all orders and pegs of the day, and not all are on this page.</p>\n"
+
+-- what the table of the bookings at risk begins with
+unfoldable pub risk_front : List ℕ
+risk_front = codes "<table class=\"list even\" aria-label=\"Promises at risk\"><thead><tr><th class=t scope=col>Item</th><th scope=col>Booking</th><th scope=col>Pieces</th><th scope=col>Week</th><th class=t scope=col>Latest order</th><th scope=col>Weeks late</th></tr></thead>\n<tbody>"
+
+-- what comes between the item of a booking and its number
+unfoldable pub risk_booking : List ℕ
+risk_booking = codes "</th><td>"
+
+-- the pieces and the week of a booking at risk
+unfoldable pub risk_middle : List Drawn
+risk_middle =
+    Mark (codes "</td>") ∷
+    Number 3 ∷
+    Number 1 ∷
+    Mark (codes "<td class=t>") ∷ []
+
+-- the late order that a booking waits for
+unfoldable pub risk_order : List Drawn
+risk_order =
+    Text 5 ∷
+    Mark (codes " ") ∷
+    Text 7 ∷
+    Mark (codes " ") ∷
+    Text 6 ∷ []
+
+-- what stands above the overloads if the tables are given
+unfoldable pub work_note : List ℕ
+work_note = codes "<p class=note>Behind each of the first 100 stand the operations that load it, those first that take the most time.</p>\n"
+
+-- what an overload begins with that has its operations behind it
+unfoldable pub work_open : List Drawn
+work_open =
+    Mark (codes "<li><details><summary><b>") ∷
+    Text 2 ∷
+    Text 3 ∷
+    Mark (codes "</b> <a href=\"#c-") ∷
+    Text 0 ∷
+    Mark (codes "\">") ∷
+    Text 0 ∷
+    Mark (codes "</a>, week ") ∷
+    Text 1 ∷
+    Mark (codes ": ") ∷
+    Text 9 ∷
+    Mark (codes " min over; ") ∷ []
+
+-- how many operations load it
+unfoldable pub work_count : List Drawn
+work_count =
+    Text 0 ∷
+    Mark (codes " ") ∷
+    Text 1 ∷
+    Mark (codes "</summary>\n") ∷ []
+
+-- what the table of these operations begins with
+unfoldable pub work_head : List Drawn
+work_head =
+    Mark (codes "<div class=scroll tabindex=0 role=region aria-label=\"What loads ") ∷
+    Text 0 ∷
+    Mark (codes " in week ") ∷
+    Text 1 ∷
+    Mark (codes "\"><table class=\"list waits\" aria-label=\"Operations at ") ∷
+    Text 0 ∷
+    Mark (codes " in week ") ∷
+    Text 1 ∷
+    Mark (codes "\"><thead><tr><th class=t scope=col>Order</th><th scope=col>Operation</th><th scope=col>Minutes</th><th scope=col>Share of capacity</th><th scope=col>Start</th><th scope=col>Due week</th><th scope=col>Weeks late</th></tr></thead>\n<tbody>") ∷ []
+
+-- the order of an operation
+unfoldable pub work_name : List Drawn
+work_name =
+    Text 0 ∷
+    Mark (codes " ") ∷
+    Text 2 ∷
+    Mark (codes " ") ∷
+    Text 1 ∷ []
+
+-- the number of an operation
+unfoldable pub work_operation : List Drawn
+work_operation =
+    Mark (codes "</th>") ∷
+    Number 0 ∷ []
+
+-- the share of a capacity that a time takes
+unfoldable pub work_share : List Drawn
+work_share =
+    Mark (codes "<td>") ∷
+    Text 0 ∷
+    Text 1 ∷
+    Mark (codes "</td>") ∷ []
+
+-- the start, the due week and the lateness of the order of an operation
+unfoldable pub work_back : List Drawn
+work_back =
+    Number 5 ∷
+    Number 3 ∷
+    Number 7 ∷
+    Mark (codes "</tr>\n") ∷ []
+
+-- how many more operations there are
+unfoldable pub work_rest : List Drawn
+work_rest =
+    Mark (codes "<tr><th scope=row>and ") ∷
+    Text 0 ∷
+    Mark (codes " more</th><td></td>") ∷ []
+
+-- what stands in place of an operation for what else a load has
+unfoldable pub work_other : List ℕ
+work_other = codes "<tr><th scope=row>the rest of this load</th><td></td>"
+
+-- what stands in place of an order
+unfoldable pub work_blank : List ℕ
+work_blank = codes "<td></td><td></td><td class=z></td></tr>\n"
+
+-- what the table of operations ends with
+unfoldable pub work_table_end : List ℕ
+work_table_end = codes "</tbody></table></div>\n"
+
+-- what stands in its place if the operations take more time than the load has
+unfoldable pub work_unknown : List ℕ
+work_unknown = codes "<p class=note>By the routings of these tables the orders take more time than this load: they are not those of the day.</p>\n"
+
+-- what an overload ends with that has its operations behind it
+unfoldable pub work_end : List ℕ
+work_end = codes "</details></li>\n"

@@ -1,5 +1,5 @@
 -- What is kept of a day while it is read.
-use Rattle.std.specs.Prelude.{ℕ, Bool, true, ◌&&◌, ◌||◌, ◌==◌, ◌++◌, List, [], ◌∷◌, Option, Some, None, is_some, not, nat_le, if◌then◌else◌}
+use Rattle.std.specs.Prelude.{ℕ, Bool, true, ◌&&◌, ◌||◌, ◌==◌, ◌++◌, List, [], ◌∷◌, Option, Some, None, is_some, not, nat_le, slice_index_or, if◌then◌else◌}
 use Rattle.mrp_day.specs.declared.section.Section.{Section}
 use Rattle.mrp_day.specs.declared.section.Section.TheVariants as s
 use Rattle.mrp_page.specs.declared.counts.Counts.{Counts}
@@ -11,10 +11,10 @@ use Rattle.mrp_page.specs.Row.{Cells, RowView}
 use Rattle.mrp_page.specs.Section.{is_history}
 use Rattle.mrp_page.specs.Spot.{Names, after, begins_run, start}
 
--- where the last record stands, that record, the rows that were taken, and how many were not taken
+-- where the last record stands, its first cell, the rows that were taken, and how many were not taken
 pub record Noted : Type 0 where
   pub spot : Spot
-  pub last : Cells
+  pub last : List ℕ
   pub history : List RowView
   pub report : List RowView
   pub counts : Counts
@@ -68,7 +68,7 @@ counts_at asked spot _ counts = counts
 abbrev pub noted_at : Option ℕ → Spot → Noted → Cells → Noted
 noted_at asked spot before cells = record {
   spot = spot;
-  last = cells;
+  last = slice_index_or cells 0 [];
   history = before.history ++ history_rows spot.takes cells;
   report = rows_left asked spot before.report ++ report_rows asked spot cells;
   counts = counts_at asked spot spot.place before.counts;

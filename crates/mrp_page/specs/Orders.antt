@@ -1,7 +1,6 @@
--- Orders by their numbers, links to them, and the pieces of open ones.
-use Rattle.std.specs.Prelude.{ℕ, Bool, ◌+◌, ◌++◌, ◌&&◌, min, List, Option, None, Some, codes, if◌then◌else◌}
-use Rattle.std.specs.List.{find, fold}
-use Rattle.mrp_page.specs.declared.limits.TheConstants.{MOST_AMOUNT}
+-- Orders by their numbers, and links to them.
+use Rattle.std.specs.Prelude.{ℕ, Bool, ◌-◌, ◌++◌, ◌&&◌, List, Option, None, Some, codes, if◌then◌else◌}
+use Rattle.std.specs.List.{slice_get}
 use Rattle.mrp_page.specs.Amounts.{amount}
 use Rattle.mrp_page.specs.Draw.{has_item}
 use Rattle.mrp_page.specs.Escaped.{escaped}
@@ -19,13 +18,22 @@ is_numbered name number order = is_of name order && has_word 1 number order
 abbrev pub is_order : List ℕ → List ℕ → List ℕ → RowView → Bool
 is_order name kind number order = is_of name order && (has_word 1 number order && has_word 2 kind order)
 
+-- the place of the order with this number among those of its item, which are numbered from 1
+abbrev pub place_of : List ℕ → ℕ
+place_of number = amount number - 1
+
+-- an order, if it passes
+abbrev pub passing : (RowView → Bool) → Option RowView → Option RowView
+passing passes None = None
+passing passes (Some order) = if passes order then Some order else None
+
 -- the order of an item with this number, if it is kept
 abbrev pub numbered : SceneView → List ℕ → List ℕ → Option RowView
-numbered scene name number = find (is_numbered name number) (rows_named name scene.orders)
+numbered scene name number = passing (is_numbered name number) (slice_get (rows_named name scene.orders) (place_of number))
 
 -- the order of an item with this number and kind, if it is kept
 abbrev pub ordered : SceneView → List ℕ → List ℕ → List ℕ → Option RowView
-ordered scene name kind number = find (is_order name kind number) (rows_named name scene.orders)
+ordered scene name kind number = passing (is_order name kind number) (slice_get (rows_named name scene.orders) (place_of number))
 
 -- what a link to an order begins with
 unfoldable pub order_link : List ℕ → List ℕ → List ℕ
@@ -45,19 +53,3 @@ order_words scene order words =
 abbrev pub linked_html : SceneView → Option RowView → List ℕ → List ℕ
 linked_html scene None words = words
 linked_html scene (Some order) words = order_words scene order words
-
--- a peg is of this supply
-abbrev pub is_supplied : List ℕ → List ℕ → RowView → Bool
-is_supplied supply source peg = has_word 6 supply peg && has_word 7 source peg
-
--- a sum that saturates
-abbrev pub with_pieces : ℕ → RowView → ℕ
-with_pieces total peg = min (total + amount (cell_at peg 8)) MOST_AMOUNT
-
--- a sum with a peg, if that is of this supply
-abbrev pub with_supplied : List ℕ → List ℕ → ℕ → RowView → ℕ
-with_supplied supply source total peg = if is_supplied supply source peg then with_pieces total peg else total
-
--- how many pieces the pegs of a supply have together
-abbrev pub pieces_of : SceneView → List ℕ → List ℕ → List ℕ → ℕ
-pieces_of scene name supply source = fold (with_supplied supply source) 0 (rows_named name scene.pegs)

@@ -1,5 +1,5 @@
 -- A page, drawn from what was kept of a day.
-use Rattle.std.specs.Prelude.{ℕ, Bool, ◌++◌, not, List, [], ◌∷◌, flat_map, take, if◌then◌else◌}
+use Rattle.std.specs.Prelude.{ℕ, Bool, ◌++◌, not, List, [], ◌∷◌, Option, codes, flat_map, take, if◌then◌else◌}
 use Rattle.mrp_page.specs.declared.counts.Counts.{Counts}
 use Rattle.mrp_page.specs.declared.limits.TheConstants.{MOST_ITEMS}
 use Rattle.mrp_page.specs.Centres.{load_section}
@@ -8,21 +8,31 @@ use Rattle.mrp_page.specs.Frame.{heading}
 use Rattle.mrp_page.specs.ItemRows.{ItemLists, item_lists}
 use Rattle.mrp_page.specs.Items.{index_html, items_html}
 use Rattle.mrp_page.specs.Kinds.{todo_html}
-use Rattle.mrp_page.specs.Layout.{page_end, page_head, page_top, style}
+use Rattle.mrp_page.specs.Layout.{page_end, page_head, page_items, page_top, style}
 use Rattle.mrp_page.specs.Notes.{Noted}
 use Rattle.mrp_page.specs.Outs.{outs_section}
+use Rattle.mrp_page.specs.AtRisk.{RisksView}
+use Rattle.mrp_page.specs.Promises.{AreRisksOf, risks_html}
 use Rattle.mrp_page.specs.Refused.{refused_section}
 use Rattle.mrp_page.specs.Row.{RowView, cell_at}
 use Rattle.mrp_page.specs.Rows.{leaders, rows_in, rows_named}
 use Rattle.mrp_page.specs.Scene.{SceneView, scene_of}
+use Rattle.mrp_page.specs.Spot.{Names}
 use Rattle.mrp_page.specs.Summary.{summary_html}
 use Rattle.mrp_page.specs.Template.{row_html}
 use Rattle.mrp_day.specs.declared.section.Section.TheVariants as s
 use Rattle.mrp_page.specs.Unshown.{unshown}
+use Rattle.mrp_page.specs.Weeks.{date_in, start_html}
+use Rattle.mrp_facts.specs.Facts.{Facts}
 
 -- the head of a page
-unfoldable pub head_html : RowView → List ℕ
-head_html heading = row_html page_top heading ++ (style ++ row_html page_head heading)
+unfoldable pub head_html : Option Facts → RowView → List ℕ
+head_html tables heading =
+    row_html page_top heading
+    ++ (style
+    ++ (row_html page_head heading
+    ++ (start_html (date_in tables (codes "1"))
+    ++ row_html page_items heading)))
 
 -- the item of a row has messages
 abbrev pub is_told : List RowView → RowView → Bool
@@ -52,27 +62,32 @@ unfoldable pub rest_html : SceneView → ItemLists → Counts → List ℕ
 rest_html scene rows counts = items_of scene rows counts ++ (history_html scene.history counts.history ++ page_end)
 
 -- the head of a page, with its title, the report, and the number of items
-unfoldable pub top_html : List ℕ → List RowView → ℕ → List ℕ
-top_html title report items = head_html (heading title report items)
+unfoldable pub top_html : List ℕ → Option Facts → List RowView → ℕ → List ℕ
+top_html title tables report items = head_html tables (heading title report items)
 
 -- the items that run out first, and the work centres
 unfoldable pub middle_html : SceneView → List RowView → Counts → List ℕ
-middle_html scene report counts = outs_section scene (rows_in s.Plan report) counts.plan ++ load_section (rows_in s.Loads report) counts.loads
+middle_html scene report counts = outs_section scene (rows_in s.Plan report) counts.plan ++ load_section scene (rows_in s.Loads report) counts.loads
 
 -- a page, from what its parts are drawn from
-unfoldable pub page_of : List ℕ → Noted → SceneView → List ℕ
-page_of title notes scene =
-    top_html title notes.report notes.counts.items
-    ++ (summary_html notes.history (rows_in s.Messages notes.report) (rows_in s.Loads notes.report)
+unfoldable pub page_of : List ℕ → Noted → SceneView → RisksView → List ℕ
+page_of title notes scene risks =
+    top_html title scene.tables notes.report notes.counts.items
+    ++ (summary_html notes.history (rows_in s.Messages notes.report) (rows_in s.Loads notes.report) risks
     ++ (refused_section scene.shown notes.history notes.counts.history
+    ++ (risks_html scene risks
     ++ (todo_html scene (rows_in s.Messages notes.report) notes.counts.messages
     ++ (middle_html scene notes.report notes.counts
-    ++ rest_html scene (item_lists notes.report) notes.counts))))
+    ++ rest_html scene (item_lists notes.report) notes.counts)))))
 
 -- what a page is drawn from
-abbrev pub scene_in : Noted → SceneView
-scene_in notes = scene_of (shown_items (item_lists notes.report)) (item_lists notes.report) notes.history notes.counts.pegs
+abbrev pub scene_in : Option Facts → Noted → SceneView
+scene_in tables notes = scene_of (shown_items (item_lists notes.report)) (item_lists notes.report) notes.history notes.counts.pegs tables
 
--- a page
-unfoldable pub page_html : List ℕ → Noted → List ℕ
-page_html title notes = page_of title notes (scene_in notes)
+-- the bookings at risk of what is kept
+abbrev pub AreRisksIn : Names → Noted → RisksView → Type 0
+AreRisksIn items notes risks = AreRisksOf items notes.counts (rows_in s.Orders notes.report) (rows_in s.Pegs notes.report) risks
+
+-- a page, with the bookings at risk, and what the tables of the day add to it if they are given
+unfoldable pub page_html : List ℕ → Option Facts → Noted → RisksView → List ℕ
+page_html title tables notes risks = page_of title notes (scene_in tables notes) risks

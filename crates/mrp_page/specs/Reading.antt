@@ -12,9 +12,11 @@ use Rattle.mrp_rows.specs.declared.streams.TheConstants.{READ_CALLS}
 use Rattle.mrp_rows.specs.declared.told.Told.{Told}
 use Rattle.mrp_page.specs.declared.fault.PageFault.{PageFault}
 use Rattle.mrp_page.specs.declared.fault.PageFault.TheVariants as fault
-use Rattle.mrp_page.specs.Notes.{Noted, has_run, notes_of}
+use Rattle.mrp_page.specs.Notes.{Noted, has_run, noted_from, notes_of}
 use Rattle.mrp_page.specs.Row.{Cells}
-use Rattle.mrp_page.specs.Spot.{Names, is_end, is_wrong, place_of}
+use Rattle.mrp_page.specs.declared.spot.Place.{Place}
+use Rattle.mrp_lines.specs.Taken.{IsTaken}
+use Rattle.mrp_page.specs.Spot.{Names, is_end, is_wrong, place_from, place_of}
 
 -- a reader with the default dialect, for records with any number of cells, that can read on
 pub record IsReading {R : Type 0} (reader : Reader R) : Type 0 where
@@ -23,9 +25,13 @@ pub record IsReading {R : Type 0} (reader : Reader R) : Type 0 where
   pub flexible : is_flexible reader ≡ true
   pub ready : Ready reader
 
+-- the fault for an error of an input: `Read` if it stopped, otherwise `NoMemory`
+abbrev pub stopped_as : Bool → PageFault
+stopped_as stopped = if stopped then fault.Read else fault.NoMemory
+
 -- the fault for an error of a reader of records: `Read` if the input underneath stopped, otherwise `NoMemory`
 abbrev pub told_as : ErrorKind → Bool → PageFault
-told_as (kind.Io error) stopped = if stopped then fault.Read else fault.NoMemory
+told_as (kind.Io error) stopped = stopped_as stopped
 told_as _ stopped = fault.NoMemory
 
 -- a count has risen by so many, up to the greatest count
@@ -84,10 +90,22 @@ pub record IsDayOf (items : Names) (asked : Option ℕ) (records : List Cells) (
 abbrev pub IsKeptOf : Names → Option ℕ → List ℕ → Noted → Type 0
 IsKeptOf items asked text notes = HasRecords text (λ records. IsDayOf items asked records notes)
 
--- the first records of a text were read, and this is kept of them
-pub record HasRead {R : Type 0} (remaining : R → Option (List ℕ)) (text : List ℕ) (items : Names) (asked : Option ℕ) (reader : Reader R) (notes : Noted) : Type 0 where
+-- what is kept once lines were taken off a text: csv has to read what is left, with this in front
+pub record HasTaken (text : List ℕ) (items : Names) (asked : Option ℕ) (left : Option (List ℕ)) (front : List ℕ) (before notes : Noted) : Type 0 where
+  pub records : List Cells
+  pub rest : List ℕ
+  pub taken : IsTaken text records front rest
+  pub source : left ≡ Some rest
+  pub noted : notes ≡ noted_from items asked before records
+
+-- the first records of a text stand in no day after what was read before
+abbrev pub HasWrongRecord : Place → List ℕ → Type 0
+HasWrongRecord here text = (records : List Cells) × BeginsWith text records × (is_wrong (place_from here records) ≡ true)
+
+-- the first records of a text were read, and this is kept with them
+pub record HasRead {R : Type 0} (remaining : R → Option (List ℕ)) (text : List ℕ) (items : Names) (asked : Option ℕ) (reader : Reader R) (before notes : Noted) : Type 0 where
   pub records : List Cells
   pub rest : List ℕ
   pub reached : Reached default_config st.StartRecord (strip_bom text) records (reader_state reader) rest
   pub source : source_of remaining reader ≡ Some rest
-  pub noted : notes ≡ notes_of items asked records
+  pub noted : notes ≡ noted_from items asked before records

@@ -1,6 +1,6 @@
 -- Which rows of a report belong together.
-use Rattle.std.specs.Prelude.{ℕ, Bool, ◌+◌, ◌*◌, ◌-◌, ◌^◌, min, nat_lt, not, List, [], ◌∷◌, ◌++◌, drop, if◌then◌else◌}
-use Rattle.std.specs.List.{before_first, fold, position_or_len}
+use Rattle.std.specs.Prelude.{ℕ, Bool, ◌+◌, ◌*◌, ◌-◌, ◌^◌, min, nat_lt, not, List, [], ◌∷◌, ◌++◌, drop, unwrap_or, if◌then◌else◌}
+use Rattle.std.specs.List.{before_first, fold, position, position_or_len}
 use Rattle.mrp_day.specs.declared.section.Section.{Section}
 use Rattle.mrp_page.specs.Row.{RowView, cell_at, is_in, is_of}
 
@@ -15,6 +15,10 @@ rows_in section rows = stretch (is_in section) rows
 -- the rows of an item or a work centre in a section
 unfoldable pub rows_named : List ℕ → List RowView → List RowView
 rows_named name rows = stretch (is_of name) rows
+
+-- where the rows of an item begin; at 0 if there are none
+abbrev pub start_of : List RowView → List ℕ → ℕ
+start_of rows name = unwrap_or (position (is_of name) rows) 0
 
 -- a row that is not of the same item or work centre as the one before it
 abbrev pub leader_rows : List ℕ → RowView → List RowView

@@ -100,9 +100,14 @@ run_at run here = if begins_run here then min (run + 1) (2 ^ 64 - 1) else run
 abbrev pub counted : Bool → ℕ → Bool → ℕ
 counted row count more = if row then min (count + (if more then 1 else 0)) (2 ^ 64 - 1) else 0
 
--- a record is not of the same item, or work centre, as the row before it
-abbrev pub leads : Spot → Cells → Cells → Bool
-leads spot last cells = not (is_row spot.place && same_text (slice_index_or last 0 []) (slice_index_or cells 0 []))
+-- a record is not of the same item, or work centre, as the row before it, given whether its first cell is that of the
+-- record before it
+abbrev pub leads_if : Spot → Bool → Bool
+leads_if spot same = not (is_row spot.place && same)
+
+-- the same, given the first cell of the record before it
+abbrev pub leads : Spot → List ℕ → Cells → Bool
+leads spot last cells = leads_if spot (same_text last (slice_index_or cells 0 []))
 
 -- a page has room for a row of a section after a spot: while the section is not full; for the first items; for the
 -- first items with an order that starts in the first week; and for the other weeks of an item that it has begun
@@ -142,12 +147,16 @@ spot_of spot here wanted leads urgent = spot_with spot here wanted leads urgent 
 abbrev pub spot_where : Spot → Place → Bool → Bool → Cells → Spot
 spot_where spot here wanted leads cells = spot_of spot here wanted leads (leads && starts_at here cells)
 
--- the spot of a record with this place, after a spot and a record
-abbrev pub spot_at : Names → Spot → Place → Cells → Cells → Spot
-spot_at items spot here last cells = spot_where spot here (is_wanted items here cells) (is_wanted items here cells && leads spot last cells) cells
+-- the spot of a record with this place, after a spot, given whether its first cell is that of the record there
+abbrev pub spot_if : Names → Spot → Place → Bool → Cells → Spot
+spot_if items spot here same cells = spot_where spot here (is_wanted items here cells) (is_wanted items here cells && leads_if spot same) cells
+
+-- the same, given the first cell of the record there
+abbrev pub spot_at : Names → Spot → Place → List ℕ → Cells → Spot
+spot_at items spot here last cells = spot_if items spot here (same_text last (slice_index_or cells 0 [])) cells
 
 -- where the next record stands
-abbrev pub after : Names → Spot → Cells → Cells → Spot
+abbrev pub after : Names → Spot → List ℕ → Cells → Spot
 after items spot last cells = spot_at items spot (place_after spot.place cells) last cells
 
 -- what the last of these records is, after another

@@ -3,6 +3,7 @@ use Rattle.std.specs.Prelude.{ℕ, Bool, List, [], ◌∷◌, ◌++◌, ◌==◌
 use Rattle.std.specs.List.{filter}
 use Rattle.mrp_page.specs.Html.{is_zero}
 use Rattle.mrp_page.specs.Layout.{centre_tile, main_open, summary_open, summary_tile}
+use Rattle.mrp_page.specs.AtRisk.{RisksView}
 use Rattle.mrp_page.specs.Row.{RowView, cell_at}
 use Rattle.mrp_page.specs.Rows.{leaders}
 use Rattle.mrp_page.specs.Template.{has_word, row_html}
@@ -28,6 +29,10 @@ unfoldable pub calls_tiles : List RowView → List ℕ
 calls_tiles history =
     tile_html (count_with 7 (codes "short") history) (codes "late") (codes "unkept") (codes "not promised")
     ++ tile_html (count_by is_undone history) (codes "cancel") (codes "unkept") (codes "not cancelled")
+
+-- the bookings at risk, if they are known
+unfoldable pub risk_tile : RisksView → List ℕ
+risk_tile risks = if risks.known then tile_html (length risks.rows) (codes "late") (codes "risk") (codes "at risk") else []
 
 -- the place of a kind of messages, or of all of them where it has none
 abbrev pub place_or : ℕ → List ℕ → List ℕ
@@ -66,10 +71,11 @@ unfoldable pub centres_tile : List RowView → List ℕ
 centres_tile loads = row_html centre_tile (over_tile loads)
 
 -- the counts, each with a link to its part
-unfoldable pub summary_html : List RowView → List RowView → List RowView → List ℕ
-summary_html history messages loads =
+unfoldable pub summary_html : List RowView → List RowView → List RowView → RisksView → List ℕ
+summary_html history messages loads risks =
     summary_open
     ++ (calls_tiles history
+    ++ (risk_tile risks
     ++ (kinds_tiles messages
     ++ (centres_tile loads
-    ++ main_open)))
+    ++ main_open))))

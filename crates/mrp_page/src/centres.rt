@@ -1,24 +1,36 @@
 //! The section of the work centres.
 
-ghost use Rattle.std.specs.Prelude.{◌≡◌, ◌++◌, IfOk, OnOk, flat_map, map};
-ghost use Rattle.mrp_page.specs.Centres.{all_loads, bars_html, centre_frame, centre_html, centres_back, each_centre, framed_centre, later_loads, load_section, loads_html, loads_table, over_or_none, picture_html, shares_html, times_html};
-ghost use Rattle.mrp_page.specs.Shares.{minutes_at};
+ghost use Rattle.std.specs.Prelude.{◌≡◌, ◌++◌, OnOk, flat_map, map, IfOk};
+ghost use Rattle.mrp_page.specs.Centres.{all_loads, centre_html, centres_back, each_centre, explained_note, framed_centre, later_loads, load_section, loads_html, loads_table, over_or_none, shares_html, times_html, work_in};
+ghost use Rattle.std.specs.Option.{option_copied};
+ghost use Rattle.mrp_page.specs.Explained.{explained_or_plain};
+ghost use Rattle.mrp_page.specs.Layout.{over_line};
+ghost use Rattle.mrp_page.specs.Shares.{minutes_at, overloads_first, share_row};
+ghost use Rattle.mrp_page.specs.Template.{row_html};
+ghost use Rattle.mrp_page.specs.Work.{works_of};
 
-use crate::draw::{cut_weeks, put_more, put_table, put_weeks};
-use crate::folded::{Lines, put_capped};
-use crate::frame::{count_row, frame};
+use crate::draw::{cut_weeks, put_more, put_table};
+use crate::explained::put_explained;
+use crate::folded::{Lines, cut_rows, put_capped};
+use crate::frame::count_row;
 use crate::html::Html;
 use crate::layout::{
-    above_bar, above_end, capacity_label, centre_head, centre_open, centres_open, cut_bar,
-    grid_end, hot_bar, hot_end, later_open, load_chart, load_end, load_label, low_bar, low_end,
+    capacity_label, centre_head, centre_open, centres_open, grid_end, later_open, load_label,
     none_over, over_back, over_front, over_label, over_line, over_open, rest_end, section_end,
-    share_cell, share_label,
+    share_cell, share_label, work_note,
 };
-use crate::limits::SOME_ROWS;
+use crate::limits::{MOST_EXPLAINED, SOME_ROWS};
+use crate::overloaded::{overloaded_first, put_most_overloaded};
+use crate::pictured::{centre_frame, put_picture};
+use crate::places::Places;
 use crate::row::Row;
-use crate::rows::{greatest, leaders, rows_named};
+use crate::rows::leaders;
+use crate::scene::Scene;
 use crate::shares::{overloads_first, put_minutes, share_row, share_rows};
-use crate::template::{put_row, put_rows};
+use crate::template::put_row;
+use crate::weeks::put_weeks;
+use crate::work::{LoadWork, work_of};
+use mrp_facts::Facts;
 use mrp_qty::NoMemory;
 use std::alloc::Global;
 
@@ -40,27 +52,6 @@ fn put_times(page: &mut Html, label: &[u8], column: usize, rows: &[Row]) -> Resu
     page.markup(label)?;
     put_each_time(page, column, rows)?;
     page.markup(b"</tr>\n")
-}
-
-// Adds the bars of the picture of loads.
-#[tactic(auto, unfolding(crate::specs::Centres::bars_html))]
-fn put_bars(page: &mut Html, shares: &[Row]) -> Result<(), NoMemory>
-    ensures { OnOk result (page.new ≡ page.old ++ bars_html shares.now) }
-{
-    put_table(page, b"", low_bar(), shares, low_end())?;
-    put_table(page, b"", hot_bar(), shares, hot_end())?;
-    put_table(page, b"", above_bar(), shares, above_end())?;
-    put_rows(page, cut_bar(), shares)
-}
-
-// Adds the picture of a work centre's loads.
-#[tactic(auto, unfolding(crate::specs::Centres::picture_html))]
-fn put_picture(page: &mut Html, frame: &Row, shares: &[Row]) -> Result<(), NoMemory>
-    ensures { OnOk result (page.new ≡ page.old ++ picture_html frame.now shares.now) }
-{
-    put_row(page, load_chart(), frame)?;
-    put_bars(page, shares)?;
-    put_row(page, load_end(), frame)
 }
 
 // Adds the shares of a table.
@@ -95,13 +86,14 @@ fn put_loads(alloc: Global, page: &mut Html, rows: &[Row]) -> Result<(), NoMemor
 fn put_loads_table(
     alloc: Global,
     page: &mut Html,
+    tables: Option<&Facts<'_>>,
     frame: &Row,
     rows: &[Row],
 ) -> Result<(), NoMemory>
-    ensures { OnOk result (page.new ≡ page.old ++ loads_table frame.now rows.now) }
+    ensures { OnOk result (page.new ≡ page.old ++ loads_table (option_copied tables.entry) frame.now rows.now) }
 {
     put_row(page, centre_head(), frame)?;
-    put_weeks(page, rows)?;
+    put_weeks(page, tables, rows)?;
     put_loads(alloc, page, rows)
 }
 
@@ -110,27 +102,34 @@ fn put_loads_table(
 fn put_later_loads(
     alloc: Global,
     page: &mut Html,
+    tables: Option<&Facts<'_>>,
     frame: &Row,
     rows: &[Row],
 ) -> Result<(), NoMemory>
-    ensures { OnOk result (page.new ≡ page.old ++ later_loads frame.now rows.now) }
+    ensures { OnOk result (page.new ≡ page.old ++ later_loads (option_copied tables.entry) frame.now rows.now) }
 {
     if rows.is_empty() {
         return Ok(());
     }
     page.markup(later_open())?;
-    put_loads_table(alloc, page, frame, rows)?;
+    put_loads_table(alloc, page, tables, frame, rows)?;
     page.markup(rest_end())
 }
 
 // Adds the weeks of a work centre.
 #[tactic(auto, unfolding(crate::specs::Centres::all_loads))]
-fn put_all_loads(alloc: Global, page: &mut Html, frame: &Row, rows: &[Row]) -> Result<(), NoMemory>
-    ensures { OnOk result (page.new ≡ page.old ++ all_loads frame.now rows.now) }
+fn put_all_loads(
+    alloc: Global,
+    page: &mut Html,
+    tables: Option<&Facts<'_>>,
+    frame: &Row,
+    rows: &[Row],
+) -> Result<(), NoMemory>
+    ensures { OnOk result (page.new ≡ page.old ++ all_loads (option_copied tables.entry) frame.now rows.now) }
 {
     let (first, later) = cut_weeks(rows);
-    put_loads_table(alloc, page, frame, first)?;
-    put_later_loads(alloc, page, frame, later)
+    put_loads_table(alloc, page, tables, frame, first)?;
+    put_later_loads(alloc, page, tables, frame, later)
 }
 
 // Adds a work centre, given its frame.
@@ -138,65 +137,94 @@ fn put_all_loads(alloc: Global, page: &mut Html, frame: &Row, rows: &[Row]) -> R
 fn put_framed_centre(
     alloc: Global,
     page: &mut Html,
+    tables: Option<&Facts<'_>>,
     frame: &Row,
     rows: &[Row],
 ) -> Result<(), NoMemory>
-    ensures { OnOk result (page.new ≡ page.old ++ framed_centre frame.now rows.now) }
+    ensures { OnOk result (page.new ≡ page.old ++ framed_centre (option_copied tables.entry) frame.now rows.now) }
 {
     let shares = share_rows(alloc, rows)?;
     put_row(page, centre_open(), frame)?;
     put_picture(page, frame, shares.as_slice())?;
-    put_all_loads(alloc, page, frame, rows)?;
+    put_all_loads(alloc, page, tables, frame, rows)?;
     page.markup(section_end())
-}
-
-// The frame of a work centre: its name and its last week.
-fn centre_frame<'x>(alloc: Global, name: &'x [u8], rows: &'x [Row]) -> Result<Row, NoMemory>
-    ensures { IfOk result (λ row. row ≡ centre_frame name.now rows.now) }
-{
-    let last = greatest(rows, 1, b"1");
-    frame(alloc, name, last, b"")
 }
 
 // Adds a work centre: its loads against its capacities.
 #[tactic(auto, unfolding(crate::specs::Centres::centre_html))]
-fn put_centre(alloc: Global, page: &mut Html, loads: &[Row], leader: &Row) -> Result<(), NoMemory>
-    ensures { OnOk result (page.new ≡ page.old ++ centre_html loads.now leader.now) }
+fn put_centre(
+    alloc: Global,
+    page: &mut Html,
+    tables: Option<&Facts<'_>>,
+    loads: &Places<'_>,
+    leader: &Row,
+) -> Result<(), NoMemory>
+    ensures { OnOk result (page.new ≡ page.old ++ centre_html (option_copied tables.entry) loads.now leader.now) }
 {
-    let rows = rows_named(loads, leader.name());
+    let rows = loads.named(leader.name());
     let frame = centre_frame(alloc, leader.name(), rows)?;
-    put_framed_centre(alloc, page, &frame, rows)
+    put_framed_centre(alloc, page, tables, &frame, rows)
 }
 
 // Adds work centres.
 fn put_each_centre(
     alloc: Global,
     page: &mut Html,
-    loads: &[Row],
+    tables: Option<&Facts<'_>>,
+    loads: &Places<'_>,
     leaders: &[&Row],
 ) -> Result<(), NoMemory>
-    ensures { OnOk result (page.new ≡ page.old ++ each_centre loads.now (map (λ r. r.now) leaders.now)) }
+    ensures { OnOk result (page.new ≡ page.old ++ each_centre (option_copied tables.entry) loads.now (map (λ r. r.now) leaders.now)) }
 {
     for leader in leaders {
-        put_centre(alloc, page, loads, *leader)?;
+        put_centre(alloc, page, tables, loads, *leader)?;
     }
     Ok(())
 }
 
 // The list of the weeks of work centres that are over their capacity.
 #[derive(Clone, Copy)]
-struct Overloads {
+struct Overloads<'o, 'k, 's, 'a> {
     alloc: Global,
+    scene: &'o Scene<'s, 'a>,
+    work: Option<&'o LoadWork<'k, 's, 'a>>,
 }
 
-impl Lines for Overloads {
+// Adds an overload without the operations that load it.
+fn put_plain(alloc: Global, page: &mut Html, load: &Row) -> Result<(), NoMemory>
+    ensures { OnOk result (page.new ≡ page.old ++ row_html over_line (share_row load.now)) }
+{
+    let row = share_row(alloc, load)?;
+    put_row(page, over_line(), &row)
+}
+
+// Adds an overload, with the operations that load it if it was asked for.
+fn put_asked(
+    alloc: Global,
+    page: &mut Html,
+    scene: &Scene<'_, '_>,
+    work: &LoadWork<'_, '_, '_>,
+    load: &Row,
+) -> Result<(), NoMemory>
+    ensures { OnOk result (page.new ≡ page.old ++ explained_or_plain scene.now work.now.orders load.now (works_of work.now load.now)) }
+{
+    match work.works(load) {
+        Some(works) => put_explained(alloc, page, scene, work.orders(), load, works),
+        None => put_plain(alloc, page, load),
+    }
+}
+
+impl Lines for Overloads<'_, '_, '_, '_> {
+    ghost use Rattle.std.specs.Option.{option_copied};
     ghost use Rattle.mrp_page.specs.Centres.{over_listing};
 
-    ghost drawn = { λ _. over_listing };
+    ghost drawn = { λ lines. over_listing lines.scene.now (option_copied lines.work) };
 
     fn put(&self, page: &mut Html, load: &Row) -> Result<(), NoMemory> {
-        let row = share_row(self.alloc, load)?;
-        put_row(page, over_line(), &row)
+        match self.work {
+            Some(work) => put_asked(self.alloc, page, self.scene, work, load),
+            None => put_plain(self.alloc, page, load),
+        }
     }
 
     fn front(&self) -> &'static [u8] {
@@ -208,22 +236,52 @@ impl Lines for Overloads {
     }
 }
 
+// Adds what is said of the overloads, if the first are explained.
+fn put_explained_note(page: &mut Html, work: Option<&LoadWork<'_, '_, '_>>) -> Result<(), NoMemory>
+    ensures { OnOk result (page.new ≡ page.old ++ explained_note (option_copied work.entry)) }
+{
+    match work {
+        Some(_) => page.markup(work_note()),
+        None => Ok(()),
+    }
+}
+
 // Adds weeks of work centres that are over their capacity, or that there are none if all weeks are kept.
 #[tactic(auto, unfolding(crate::specs::Centres::over_or_none))]
 fn put_over_or_none(
     alloc: Global,
     page: &mut Html,
+    scene: &Scene<'_, '_>,
+    work: Option<&LoadWork<'_, '_, '_>>,
     missed: u64,
     rows: &[&Row],
 ) -> Result<(), NoMemory>
-    ensures { OnOk result (page.new ≡ page.old ++ over_or_none missed (map (λ r. r.now) rows.now)) }
+    ensures { OnOk result (page.new ≡ page.old ++ over_or_none scene.now (option_copied work.entry) missed (map (λ r. r.now) rows.now)) }
 {
     if rows.is_empty() && missed == 0 {
         return page.markup(none_over());
     }
     let count = count_row(alloc, rows.len() as u64, b"", b"")?;
     put_row(page, over_open(), &count)?;
-    put_capped(alloc, page, &Overloads { alloc }, SOME_ROWS, rows)
+    put_explained_note(page, work)?;
+    let lines = Overloads { alloc, scene, work };
+    put_capped(alloc, page, &lines, SOME_ROWS, rows)
+}
+
+// Adds the overloads, the first of them with the operations that load them if the tables are given.
+fn put_overloads(
+    alloc: Global,
+    page: &mut Html,
+    scene: &Scene<'_, '_>,
+    loads: &[Row],
+    missed: u64,
+) -> Result<(), NoMemory>
+    ensures { OnOk result (page.new ≡ page.old ++ over_or_none scene.now (work_in scene.now loads.now) missed (overloads_first loads.now)) }
+{
+    let over = overloads_first(alloc, loads)?;
+    let (asked, _) = cut_rows(over.as_slice(), MOST_EXPLAINED);
+    let work = work_of(alloc, scene, asked)?;
+    put_over_or_none(alloc, page, scene, work.as_ref(), missed, over.as_slice())
 }
 
 // Adds for how many more weeks there are loads.
@@ -246,15 +304,18 @@ fn put_centres_back(alloc: Global, page: &mut Html, missed: u64) -> Result<(), N
 pub(crate) fn put_centres(
     alloc: Global,
     page: &mut Html,
+    scene: &Scene<'_, '_>,
     loads: &[Row],
     missed: u64,
 ) -> Result<(), NoMemory>
-    ensures { OnOk result (page.new ≡ page.old ++ load_section loads.now missed) }
+    ensures { OnOk result (page.new ≡ page.old ++ load_section scene.now loads.now missed) }
 {
-    let over = overloads_first(alloc, loads)?;
+    let places = Places::of(alloc, loads)?;
+    let most = overloaded_first(alloc, &places)?;
     let centres = leaders(alloc, loads)?;
     page.markup(centres_open())?;
-    put_over_or_none(alloc, page, missed, over.as_slice())?;
-    put_each_centre(alloc, page, loads, centres.as_slice())?;
+    put_most_overloaded(alloc, page, most.as_slice())?;
+    put_overloads(alloc, page, scene, loads, missed)?;
+    put_each_centre(alloc, page, scene.tables(), &places, centres.as_slice())?;
     put_centres_back(alloc, page, missed)
 }

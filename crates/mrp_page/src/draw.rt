@@ -1,26 +1,29 @@
 //! Drawing the parts of a page.
 
 ghost use Rattle.std.specs.Prelude.{◌≡◌, ◌++◌, OnOk, drop, map, take};
-ghost use Rattle.mrp_page.specs.Draw.{all_weeks, amounts_html, balance_html, booked_html, framed_record, has_firm, has_item, history_html, is_plain, is_scheduled, item_name_html, item_tasks, later_record, link_html, measure_html, more_html, more_items, more_lists, more_rows, more_weeks, named_note, named_record, named_tasks, other_if, other_tasks, planned_html, points_html, promised_html, promises_note, record_html, record_or_none, record_rows, record_table, supplies_html, table_html, task_html, task_if, task_table, tasks_html, tasks_with, weeks_html};
+ghost use Rattle.mrp_page.specs.Draw.{all_weeks, amounts_html, balance_html, booked_html, framed_record, has_firm, has_item, history_html, is_plain, is_scheduled, item_name_html, later_record, link_html, measure_html, more_html, more_items, more_lists, more_rows, more_weeks, named_note, named_record, planned_html, points_html, promised_html, promises_note, record_html, record_or_none, record_rows, record_table, supplies_html, table_html};
 ghost use Rattle.std.specs.List.{list_any};
+ghost use Rattle.std.specs.Option.{option_copied};
 ghost use Rattle.mrp_page.specs.Row.{is_of};
 ghost use Rattle.mrp_page.specs.Template.{drawn_of};
 
 use crate::counts::Counts;
 use crate::frame::{count_row, frame_of};
 use crate::html::{Html, is_zero};
+use crate::item_facts::put_safety;
 use crate::item_rows::ItemRows;
 use crate::layout::{
     available_label, balance_chart, balance_label, booked_label, entry, firm_label, grid_end,
-    gross_label, history_end, history_open, item_tasks_end, item_tasks_open, later_open, link_end,
-    link_middle, link_open, more, no_promises, no_record, other_words, planned_label, point,
-    points_end, record_head, rest_end, scheduled_label, starts_label, task_head, task_words, week,
-    weeks_end,
+    gross_label, history_end, history_open, later_open, line_open, link_end, link_middle,
+    link_open, more, no_promises, no_record, planned_label, point, points_end, record_head,
+    rest_end, scheduled_label, starts_label,
 };
 use crate::limits::TABLE_WEEKS;
 use crate::row::Row;
-use crate::rows::{greatest, rows_named};
+use crate::rows::greatest;
 use crate::template::{Part, has_word, put_flows, put_numbers, put_row, put_rows};
+use crate::weeks::put_weeks;
+use mrp_facts::Facts;
 use mrp_qty::NoMemory;
 use std::alloc::Global;
 
@@ -98,43 +101,6 @@ pub(crate) fn put_item_name(page: &mut Html, shown: &[&Row], name: &[u8]) -> Res
     }
 }
 
-// Adds a message in these words.
-#[tactic(auto, unfolding(crate::specs::Draw::task_html))]
-fn put_task(page: &mut Html, shown: &[&Row], words: &[Part], message: &Row) -> Result<(), NoMemory>
-    ensures { OnOk result (page.new ≡ page.old ++ task_html (map (λ r. r.now) shown.now) (map drawn_of words.now) message.now) }
-{
-    put_row(page, task_head(), message)?;
-    put_item_name(page, shown, message.name())?;
-    put_row(page, words, message)
-}
-
-// Adds a message in plain words, if it has this word.
-fn put_task_if(page: &mut Html, shown: &[&Row], word: &[u8], message: &Row) -> Result<(), NoMemory>
-    ensures { OnOk result (page.new ≡ page.old ++ task_if (map (λ r. r.now) shown.now) word.now message.now) }
-{
-    if has_word(3, word, message) {
-        put_task(page, shown, task_words(), message)
-    } else {
-        Ok(())
-    }
-}
-
-// Adds the messages that have this word.
-#[tactic(auto, unfolding(crate::specs::Draw::tasks_with))]
-fn put_tasks_with(
-    page: &mut Html,
-    shown: &[&Row],
-    word: &[u8],
-    messages: &[Row],
-) -> Result<(), NoMemory>
-    ensures { OnOk result (page.new ≡ page.old ++ tasks_with (map (λ r. r.now) shown.now) word.now messages.now) }
-{
-    for message in messages {
-        put_task_if(page, shown, word, message)?;
-    }
-    Ok(())
-}
-
 // Whether a message has one of the words that a page puts into plain ones.
 pub(crate) fn is_plain(message: &Row) -> bool
     ensures { result ≡ is_plain message.now }
@@ -144,57 +110,6 @@ pub(crate) fn is_plain(message: &Row) -> bool
         || has_word(3, b"IN", message)
         || has_word(3, b"OUT", message)
         || has_word(3, b"CANCEL", message)
-}
-
-// Adds a message with its own word, if it is none of those.
-fn put_other_if(page: &mut Html, shown: &[&Row], message: &Row) -> Result<(), NoMemory>
-    ensures { OnOk result (page.new ≡ page.old ++ other_if (map (λ r. r.now) shown.now) message.now) }
-{
-    if is_plain(message) {
-        Ok(())
-    } else {
-        put_task(page, shown, other_words(), message)
-    }
-}
-
-// Adds the messages that have none of those words.
-#[tactic(auto, unfolding(crate::specs::Draw::other_tasks))]
-fn put_other_tasks(page: &mut Html, shown: &[&Row], messages: &[Row]) -> Result<(), NoMemory>
-    ensures { OnOk result (page.new ≡ page.old ++ other_tasks (map (λ r. r.now) shown.now) messages.now) }
-{
-    for message in messages {
-        put_other_if(page, shown, message)?;
-    }
-    Ok(())
-}
-
-// Adds the messages, the most urgent first.
-#[tactic(auto, unfolding(crate::specs::Draw::tasks_html))]
-fn put_tasks(page: &mut Html, shown: &[&Row], messages: &[Row]) -> Result<(), NoMemory>
-    ensures { OnOk result (page.new ≡ page.old ++ tasks_html (map (λ r. r.now) shown.now) messages.now) }
-{
-    put_tasks_with(page, shown, b"PAST-DUE", messages)?;
-    put_tasks_with(page, shown, b"RELEASE", messages)?;
-    put_tasks_with(page, shown, b"IN", messages)?;
-    put_tasks_with(page, shown, b"OUT", messages)?;
-    put_tasks_with(page, shown, b"CANCEL", messages)?;
-    put_other_tasks(page, shown, messages)
-}
-
-// Adds messages between two pieces of markup.
-#[tactic(auto, unfolding(crate::specs::Draw::task_table))]
-fn put_task_table(
-    page: &mut Html,
-    front: &[u8],
-    shown: &[&Row],
-    messages: &[Row],
-    back: &[u8],
-) -> Result<(), NoMemory>
-    ensures { OnOk result (page.new ≡ page.old ++ task_table front.now (map (λ r. r.now) shown.now) messages.now back.now) }
-{
-    page.markup(front)?;
-    put_tasks(page, shown, messages)?;
-    page.markup(back)
 }
 
 // Adds how many are not shown; nothing if that is none.
@@ -213,14 +128,6 @@ pub(crate) fn put_more(
     }
     let row = count_row(alloc, count, one, many)?;
     put_row(page, more(), &row)
-}
-
-// Adds the weeks of a table.
-#[tactic(auto, unfolding(crate::specs::Draw::weeks_html))]
-pub(crate) fn put_weeks(page: &mut Html, rows: &[Row]) -> Result<(), NoMemory>
-    ensures { OnOk result (page.new ≡ page.old ++ weeks_html rows.now) }
-{
-    put_table(page, b"", week(), rows, weeks_end())
 }
 
 // Whether a plan has a firm schedule.
@@ -279,12 +186,20 @@ fn put_points(page: &mut Html, plan: &[Row]) -> Result<(), NoMemory>
     put_table(page, b"", point(), plan, points_end())
 }
 
-// Adds the picture of an item's balances, a line.
+// Adds the picture of an item's balances, a line, with its safety stock if the tables are given.
 #[tactic(auto, unfolding(crate::specs::Draw::balance_html))]
-fn put_balance(page: &mut Html, frame: &Row, plan: &[Row]) -> Result<(), NoMemory>
-    ensures { OnOk result (page.new ≡ page.old ++ balance_html frame.now plan.now) }
+fn put_balance(
+    alloc: Global,
+    page: &mut Html,
+    tables: Option<&Facts<'_>>,
+    frame: &Row,
+    plan: &[Row],
+) -> Result<(), NoMemory>
+    ensures { OnOk result (page.new ≡ page.old ++ balance_html (option_copied tables.entry) frame.now plan.now) }
 {
     put_row(page, balance_chart(), frame)?;
+    put_safety(alloc, page, tables, frame)?;
+    page.markup(line_open())?;
     put_points(page, plan)
 }
 
@@ -318,15 +233,16 @@ fn put_record_rows(
 #[tactic(auto, unfolding(crate::specs::Draw::record_table))]
 fn put_record_table(
     page: &mut Html,
+    tables: Option<&Facts<'_>>,
     frame: &Row,
     scheduled: bool,
     plan: &[Row],
     promises: &[Row],
 ) -> Result<(), NoMemory>
-    ensures { OnOk result (page.new ≡ page.old ++ record_table frame.now scheduled plan.now promises.now) }
+    ensures { OnOk result (page.new ≡ page.old ++ record_table (option_copied tables.entry) frame.now scheduled plan.now promises.now) }
 {
     put_row(page, record_head(), frame)?;
-    put_weeks(page, plan)?;
+    put_weeks(page, tables, plan)?;
     put_record_rows(page, scheduled, plan, promises)?;
     page.markup(grid_end())
 }
@@ -335,18 +251,19 @@ fn put_record_table(
 #[tactic(auto, unfolding(crate::specs::Draw::later_record))]
 fn put_later_record(
     page: &mut Html,
+    tables: Option<&Facts<'_>>,
     frame: &Row,
     scheduled: bool,
     plan: &[Row],
     promises: &[Row],
 ) -> Result<(), NoMemory>
-    ensures { OnOk result (page.new ≡ page.old ++ later_record frame.now scheduled plan.now promises.now) }
+    ensures { OnOk result (page.new ≡ page.old ++ later_record (option_copied tables.entry) frame.now scheduled plan.now promises.now) }
 {
     if plan.is_empty() {
         return Ok(());
     }
     page.markup(later_open())?;
-    put_record_table(page, frame, scheduled, plan, promises)?;
+    put_record_table(page, tables, frame, scheduled, plan, promises)?;
     page.markup(rest_end())
 }
 
@@ -362,31 +279,35 @@ pub(crate) fn cut_weeks(rows: &[Row]) -> (&[Row], &[Row])
 #[tactic(auto, unfolding(crate::specs::Draw::all_weeks))]
 fn put_all_weeks(
     page: &mut Html,
+    tables: Option<&Facts<'_>>,
     frame: &Row,
     scheduled: bool,
     plan: &[Row],
     promises: &[Row],
 ) -> Result<(), NoMemory>
-    ensures { OnOk result (page.new ≡ page.old ++ all_weeks frame.now scheduled plan.now promises.now) }
+    ensures { OnOk result (page.new ≡ page.old ++ all_weeks (option_copied tables.entry) frame.now scheduled plan.now promises.now) }
 {
     let (first, later) = cut_weeks(plan);
     let (first_promises, later_promises) = cut_weeks(promises);
-    put_record_table(page, frame, scheduled, first, first_promises)?;
-    put_later_record(page, frame, scheduled, later, later_promises)
+    put_record_table(page, tables, frame, scheduled, first, first_promises)?;
+    put_later_record(page, tables, frame, scheduled, later, later_promises)
 }
 
 // Adds the time-phased record of an item, given its frame.
 #[tactic(auto, unfolding(crate::specs::Draw::framed_record))]
 fn put_framed_record(
+    alloc: Global,
     page: &mut Html,
+    tables: Option<&Facts<'_>>,
     frame: &Row,
     plan: &[Row],
     promises: &[Row],
 ) -> Result<(), NoMemory>
-    ensures { OnOk result (page.new ≡ page.old ++ framed_record frame.now plan.now promises.now) }
+    ensures { OnOk result (page.new ≡ page.old ++ framed_record (option_copied tables.entry) frame.now plan.now promises.now) }
 {
-    put_balance(page, frame, plan)?;
-    put_all_weeks(page, frame, is_scheduled(plan, promises), plan, promises)
+    let scheduled = is_scheduled(plan, promises);
+    put_balance(alloc, page, tables, frame, plan)?;
+    put_all_weeks(page, tables, frame, scheduled, plan, promises)
 }
 
 // Adds the time-phased record of an item.
@@ -394,28 +315,15 @@ fn put_framed_record(
 fn put_record(
     alloc: Global,
     page: &mut Html,
+    tables: Option<&Facts<'_>>,
     name: &[u8],
     plan: &[Row],
     promises: &[Row],
 ) -> Result<(), NoMemory>
-    ensures { OnOk result (page.new ≡ page.old ++ record_html name.now plan.now promises.now) }
+    ensures { OnOk result (page.new ≡ page.old ++ record_html (option_copied tables.entry) name.now plan.now promises.now) }
 {
     let frame = frame_of(alloc, name, plan, 7, 7, b"1")?;
-    put_framed_record(page, &frame, plan, promises)
-}
-
-// Adds the messages of the item that this is a row of.
-#[tactic(auto, unfolding(crate::specs::Draw::item_tasks))]
-fn put_item_tasks(page: &mut Html, leader: &Row, messages: &[Row]) -> Result<(), NoMemory>
-    ensures { OnOk result (page.new ≡ page.old ++ item_tasks leader.now messages.now) }
-{
-    put_task_table(
-        page,
-        item_tasks_open(),
-        &[leader],
-        messages,
-        item_tasks_end(),
-    )
+    put_framed_record(alloc, page, tables, &frame, plan, promises)
 }
 
 // Adds the record of an item, or a note that it is not kept.
@@ -423,16 +331,17 @@ fn put_item_tasks(page: &mut Html, leader: &Row, messages: &[Row]) -> Result<(),
 fn put_record_or_none(
     alloc: Global,
     page: &mut Html,
+    tables: Option<&Facts<'_>>,
     name: &[u8],
     plan: &[Row],
     promises: &[Row],
 ) -> Result<(), NoMemory>
-    ensures { OnOk result (page.new ≡ page.old ++ record_or_none name.now plan.now promises.now) }
+    ensures { OnOk result (page.new ≡ page.old ++ record_or_none (option_copied tables.entry) name.now plan.now promises.now) }
 {
     if plan.is_empty() {
         page.markup(no_record())
     } else {
-        put_record(alloc, page, name, plan, promises)
+        put_record(alloc, page, tables, name, plan, promises)
     }
 }
 
@@ -441,30 +350,20 @@ fn put_record_or_none(
 pub(crate) fn put_named_record(
     alloc: Global,
     page: &mut Html,
+    tables: Option<&Facts<'_>>,
     rows: &ItemRows<'_>,
     name: &[u8],
 ) -> Result<(), NoMemory>
-    ensures { OnOk result (page.new ≡ page.old ++ named_record rows.now name.now) }
+    ensures { OnOk result (page.new ≡ page.old ++ named_record (option_copied tables.entry) rows.now name.now) }
 {
     put_record_or_none(
         alloc,
         page,
+        tables,
         name,
-        rows_named(rows.plan(), name),
-        rows_named(rows.promises(), name),
+        rows.plan().named(name),
+        rows.promises().named(name),
     )
-}
-
-// Adds the messages of an item, given a row of the item.
-#[tactic(auto, unfolding(crate::specs::Draw::named_tasks))]
-pub(crate) fn put_named_tasks(
-    page: &mut Html,
-    rows: &ItemRows<'_>,
-    leader: &Row,
-) -> Result<(), NoMemory>
-    ensures { OnOk result (page.new ≡ page.old ++ named_tasks rows.now leader.now) }
-{
-    put_item_tasks(page, leader, rows_named(rows.messages(), leader.name()))
 }
 
 // Adds a note that an item with a record may have promises that are not kept, if any are not.
@@ -493,8 +392,8 @@ pub(crate) fn put_named_note(
 ) -> Result<(), NoMemory>
     ensures { OnOk result (page.new ≡ page.old ++ named_note rows.now missed name.now) }
 {
-    let plan = rows_named(rows.plan(), name);
-    put_promises_note(page, plan, rows_named(rows.promises(), name), missed)
+    let plan = rows.plan().named(name);
+    put_promises_note(page, plan, rows.promises().named(name), missed)
 }
 
 // Adds for how many more weeks there are records and promises.

@@ -2,7 +2,7 @@
 
 ghost use Rattle.std.specs.Prelude.{◌≡◌};
 ghost use Rattle.csv.specs.Reading.{error_kind};
-ghost use Rattle.mrp_page.specs.Reading.{told_as};
+ghost use Rattle.mrp_page.specs.Reading.{stopped_as, told_as};
 
 use csv::ErrorKind;
 use mrp_qty::NoMemory;
@@ -18,6 +18,9 @@ pub enum PageFault {
     /// The day has fewer runs than the number asked for.
     #[error("no such run")]
     NoRun,
+    /// The tables cannot be those that the day was planned from.
+    #[error("wrong: tables")]
+    Tables,
     /// Out of memory.
     #[error("no memory")]
     NoMemory,
@@ -59,5 +62,16 @@ pub(crate) fn read_fault(error: &csv::Error, stopped: bool) -> PageFault
     match error.kind() {
         ErrorKind::Io(_) if stopped => PageFault::Read,
         _ => PageFault::NoMemory,
+    }
+}
+
+// The fault for an error of the input: `Read` if it stopped. No other error is known.
+pub(crate) fn stopped_fault(stopped: bool) -> PageFault
+    ensures { result ≡ stopped_as stopped }
+{
+    if stopped {
+        PageFault::Read
+    } else {
+        PageFault::NoMemory
     }
 }

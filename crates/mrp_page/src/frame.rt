@@ -40,7 +40,7 @@ pub(crate) fn frame_of<'x>(
 }
 
 // The last week of a report, in its plan or its loads.
-fn last_week(report: &[Row]) -> &[u8]
+pub(crate) fn last_week(report: &[Row]) -> &[u8]
     ensures { result.now ≡ last_week report.now }
 {
     let planned = greatest(rows_in(report, Section::Plan), 1, b"0");

@@ -1,14 +1,15 @@
 //! The items of a page.
 
-ghost use Rattle.std.specs.Prelude.{◌≡◌, ◌++◌, IfOk, OnOk, filter, flat_map, map};
+ghost use Rattle.std.specs.Prelude.{◌≡◌, ◌++◌, OnOk, flat_map, map};
 ghost use Rattle.std.specs.Option.{option_copied};
-ghost use Rattle.mrp_page.specs.Items.{count_html, index_html, index_line, is_wait, item_html, item_lists_html, items_html, late_html, message_count, need_html, orders_html, parent_of, peg_html, pegs_html, supplier_of, supply_html, wait_html, waits_html, waits_of};
+ghost use Rattle.mrp_page.specs.Items.{count_html, index_html, index_line, item_html, item_lists_html, items_html, late_html, message_count, need_html, orders_html, parent_of, peg_html, pegs_html, supplier_of, supply_html, wait_html, waits_html};
+ghost use Rattle.mrp_page.specs.Pegs.{waits_for};
+ghost use Rattle.mrp_page.specs.Refused.{entry_name_html};
 
-use crate::draw::{
-    put_item_name, put_link, put_named_note, put_named_record, put_named_tasks, put_table,
-};
+use crate::draw::{put_item_name, put_link, put_named_note, put_named_record, put_table};
 use crate::frame::count_row;
 use crate::html::Html;
+use crate::item_facts::put_item_facts;
 use crate::item_rows::ItemRows;
 use crate::layout::{
     grid_end, index_count, index_end, index_open, item_head, items_end, items_open, lists_open,
@@ -17,9 +18,10 @@ use crate::layout::{
     wait_supply, waits_open,
 };
 use crate::orders::{numbered, ordered, put_linked};
-use crate::refused::put_entry_name;
+use crate::places::Places;
+use crate::refused::put_entry_link;
 use crate::row::Row;
-use crate::rows::rows_named;
+use crate::said::put_item_messages;
 use crate::scene::Scene;
 use crate::template::{has_word, put_row};
 use mrp_qty::NoMemory;
@@ -47,6 +49,22 @@ fn supplier_of<'a>(scene: &Scene<'_, 'a>, peg: &Row) -> Option<&'a Row>
     ordered(scene, peg.name(), peg.cell(6), peg.cell(7))
 }
 
+// Adds the number of an entry, as a link if the entry is on the page.
+#[tactic(auto, unfolding(crate::specs::Refused::entry_name_html))]
+pub(crate) fn put_entry(
+    page: &mut Html,
+    scene: &Scene<'_, '_>,
+    number: &[u8],
+) -> Result<(), NoMemory>
+    ensures { OnOk result (page.new ≡ page.old ++ entry_name_html scene.now.history number.now) }
+{
+    if scene.has_entry(number) {
+        put_entry_link(page, number)
+    } else {
+        page.text(number)
+    }
+}
+
 // Adds what a peg is for: a booking, an order of a parent, or something else.
 #[tactic(auto, unfolding(crate::specs::Items::need_html))]
 fn put_need(page: &mut Html, scene: &Scene<'_, '_>, peg: &Row) -> Result<(), NoMemory>
@@ -54,7 +72,7 @@ fn put_need(page: &mut Html, scene: &Scene<'_, '_>, peg: &Row) -> Result<(), NoM
 {
     if has_word(2, b"booking", peg) {
         page.markup(peg_booking())?;
-        put_entry_name(page, scene.history(), peg.cell(3))
+        put_entry(page, scene, peg.cell(3))
     } else if has_word(2, b"parent", peg) {
         let parent = parent_of(scene, peg);
         put_linked(page, scene, parent, peg_parent(), peg)
@@ -101,26 +119,6 @@ fn put_pegs(page: &mut Html, scene: &Scene<'_, '_>, pegs: &[Row]) -> Result<(), 
     page.markup(pegs_open())?;
     put_each_peg(page, scene, pegs)?;
     page.markup(grid_end())
-}
-
-// Whether an order of this item waits for the supply of a peg.
-fn is_wait(name: &[u8], peg: &Row) -> bool
-    ensures { result ≡ is_wait name.now peg.now }
-{
-    has_word(4, name, peg) && has_word(2, b"parent", peg)
-}
-
-// The pegs among these that are of components which the orders of an item wait for.
-fn waits_among<'a>(alloc: Global, pegs: &'a [Row], name: &[u8]) -> Result<Vec<&'a Row>, NoMemory>
-    ensures { IfOk result (λ rows. map (λ r. r.now) rows.items ≡ filter (is_wait name.now) pegs.now) }
-{
-    let mut rows = Vec::new(alloc);
-    for peg in pegs {
-        if is_wait(name, peg) {
-            rows.push(peg)?;
-        }
-    }
-    Ok(rows)
 }
 
 // Adds how late an order is.
@@ -172,22 +170,26 @@ fn put_waits(page: &mut Html, scene: &Scene<'_, '_>, pegs: &[&Row]) -> Result<()
     page.markup(grid_end())
 }
 
+// Adds what the orders of an item wait for.
+#[tactic(auto, unfolding(crate::specs::Items::waits_html))]
+fn put_waits_for(page: &mut Html, scene: &Scene<'_, '_>, name: &[u8]) -> Result<(), NoMemory>
+    ensures { OnOk result (page.new ≡ page.old ++ waits_html scene.now (waits_for scene.now.pegs name.now)) }
+{
+    match scene.waits_for(name) {
+        Some(pegs) => put_waits(page, scene, pegs.as_slice()),
+        None => Ok(()),
+    }
+}
+
 // Adds the orders of an item, where they go, and what they wait for.
 #[tactic(auto, unfolding(crate::specs::Items::item_lists_html))]
-fn put_item_lists(
-    alloc: Global,
-    page: &mut Html,
-    scene: &Scene<'_, '_>,
-    name: &[u8],
-) -> Result<(), NoMemory>
+fn put_item_lists(page: &mut Html, scene: &Scene<'_, '_>, name: &[u8]) -> Result<(), NoMemory>
     ensures { OnOk result (page.new ≡ page.old ++ item_lists_html scene.now name.now) }
 {
-    let pegs = scene.pegs();
-    let waits = waits_among(alloc, pegs, name)?;
     page.markup(lists_open())?;
     put_orders(page, scene.orders_of(name))?;
     put_pegs(page, scene, scene.pegs_of(name))?;
-    put_waits(page, scene, waits.as_slice())?;
+    put_waits_for(page, scene, name)?;
     page.markup(rest_end())?;
     page.markup(section_end())
 }
@@ -206,10 +208,11 @@ fn put_item(
 {
     let name = leader.name();
     put_row(page, item_head(), leader)?;
-    put_named_tasks(page, rows, leader)?;
-    put_named_record(alloc, page, rows, name)?;
+    put_item_facts(alloc, page, scene.tables(), name)?;
+    put_item_messages(alloc, page, scene, rows, leader)?;
+    put_named_record(alloc, page, scene.tables(), rows, name)?;
     put_named_note(page, rows, missed, name)?;
-    put_item_lists(alloc, page, scene, name)
+    put_item_lists(page, scene, name)
 }
 
 // Adds items.
@@ -230,10 +233,10 @@ pub(crate) fn put_items(
 }
 
 // How many messages an item has.
-fn message_count(messages: &[Row], leader: &Row) -> usize
+fn message_count(messages: &Places<'_>, leader: &Row) -> usize
     ensures { result ≡ message_count messages.now leader.now }
 {
-    rows_named(messages, leader.name()).len()
+    messages.named(leader.name()).len()
 }
 
 // Adds a count behind a name; nothing if it is 0.
@@ -252,7 +255,7 @@ fn put_count(alloc: Global, page: &mut Html, count: u64) -> Result<(), NoMemory>
 fn put_index_line(
     alloc: Global,
     page: &mut Html,
-    messages: &[Row],
+    messages: &Places<'_>,
     leader: &Row,
 ) -> Result<(), NoMemory>
     ensures { OnOk result (page.new ≡ page.old ++ index_line messages.now leader.now) }
@@ -267,7 +270,7 @@ fn put_index_line(
 fn put_index_lines(
     alloc: Global,
     page: &mut Html,
-    messages: &[Row],
+    messages: &Places<'_>,
     leaders: &[&Row],
 ) -> Result<(), NoMemory>
     ensures { OnOk result (page.new ≡ page.old ++ flat_map (index_line messages.now) (map (λ r. r.now) leaders.now)) }
@@ -283,7 +286,7 @@ fn put_index_lines(
 pub(crate) fn put_index(
     alloc: Global,
     page: &mut Html,
-    messages: &[Row],
+    messages: &Places<'_>,
     leaders: &[&Row],
 ) -> Result<(), NoMemory>
     ensures { OnOk result (page.new ≡ page.old ++ index_html messages.now (map (λ r. r.now) leaders.now)) }

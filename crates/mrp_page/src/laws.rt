@@ -1,26 +1,32 @@
 //! What follows from the definitions alone, each law the contract of a function that does nothing.
 
-ghost use Rattle.std.specs.Prelude.{◌≡◌, ◌++◌, ◌+◌, ◌-◌, ◌^◌, ◌&&◌, ◌⊎◌, ◌<◌, ◌≤◌, ℕ, All, Contains, IsPermutation, List, Option, Some, false, [], ◌∷◌, codes, count_by, decimal, drop, filter, find, flat_map, length, slice_index_or, take, ◌*◌, Bool, None, true, min, map};
-ghost use Rattle.mrp_page.specs.Centres.{all_loads, bars_html, later_loads, loads_html, loads_table, over_listing, over_or_none, shares_html, times_html};
-ghost use Rattle.mrp_page.specs.Shares.{overloads_first, share, share_of, share_row, week_rank};
+ghost use Rattle.std.specs.Prelude.{◌≡◌, ◌++◌, ◌+◌, ◌-◌, ◌^◌, ◌&&◌, ◌⊎◌, ◌<◌, ◌≤◌, ℕ, All, Contains, IsPermutation, List, Option, Some, false, [], ◌∷◌, codes, count_by, decimal, drop, filter, find, flat_map, length, slice_index_or, take, ◌*◌, Bool, None, true, min, map, sum_by, ◌↔◌, IsTrue, is_some};
+ghost use Rattle.mrp_page.specs.Centres.{all_loads, explained_note, later_loads, loads_html, loads_table, over_listing, over_or_none, shares_html, times_html};
+ghost use Rattle.mrp_page.specs.Overloaded.{most_overloaded, name_of, overloaded_first, overloaded_html, overloaded_row, rate, rate_of, share_of_all, total, weeks_of, worst_week};
+ghost use Rattle.mrp_page.specs.Pictured.{bars_html, centre_frame, picture_html};
+ghost use Rattle.mrp_page.specs.Shares.{falling_share, minutes_html, overloads_first, share, share_of, share_row, week_rank};
+ghost use Rattle.mrp_page.specs.Sorted.{sorted_by};
 ghost use Rattle.mrp_qty.specs.Minutes.{minutes_text_of};
 ghost use Rattle.mrp_page.specs.Amounts.{amount};
-ghost use Rattle.mrp_page.specs.Items.{item_html, item_lists_html, items_html, need_html, orders_html, peg_html, pegs_html, wait_html, waits_html, waits_of};
-ghost use Rattle.mrp_page.specs.Orders.{is_order, linked_html, numbered, order_link};
+ghost use Rattle.mrp_page.specs.AtRisk.{RisksView};
+ghost use Rattle.mrp_page.specs.Items.{item_html, item_lists_html, items_html, need_html, orders_html, peg_html, pegs_html, wait_html, waits_html};
+ghost use Rattle.mrp_page.specs.Pegs.{waits_for};
+ghost use Rattle.std.specs.List.{slice_get};
+ghost use Rattle.mrp_page.specs.Orders.{is_order, linked_html, numbered, order_link, ordered};
 ghost use Rattle.mrp_page.specs.Scene.{SceneView};
 ghost use Rattle.mrp_page.specs.Html.{number_html};
-ghost use Rattle.mrp_page.specs.Outs.{distance, is_planned, out_row, outs_first, sign};
+ghost use Rattle.mrp_page.specs.Outs.{distance, falling_late, is_planned, out_row, outs_first, sign};
 ghost use Rattle.mrp_page.specs.ByWord.{has_one_of, with_word};
 ghost use Rattle.mrp_page.specs.Columns.{column};
 ghost use Rattle.mrp_page.specs.Counted.{kept_of, missed_of, wanted_rows};
-ghost use Rattle.mrp_page.specs.Draw.{all_weeks, amounts_html, balance_html, booked_html, framed_record, has_item, is_scheduled, item_name_html, later_record, link_html, measure_html, more_html, named_record, named_tasks, planned_html, points_html, promised_html, record_or_none, record_rows, record_table, supplies_html};
+ghost use Rattle.mrp_page.specs.Draw.{all_weeks, amounts_html, balance_html, booked_html, framed_record, has_item, is_plain, is_scheduled, item_name_html, later_record, link_html, measure_html, more_html, named_record, planned_html, points_html, promised_html, record_or_none, record_rows, record_table, supplies_html};
 ghost use Rattle.mrp_page.specs.Escaped.{escaped};
 ghost use Rattle.mrp_page.specs.Folded.{Listing, capped_html, folded_html, hidden_html, listed_html};
 ghost use Rattle.mrp_page.specs.ItemRows.{ItemLists, item_lists};
 ghost use Rattle.mrp_page.specs.Known.{IsKnown, IsMadeOf, IsOrderShown, entries_kept, names_shown};
 ghost use Rattle.mrp_page.specs.Labels.{AreFirm};
 ghost use Rattle.mrp_page.specs.Laws.{piece_html, pieces, shown};
-ghost use Rattle.mrp_page.specs.Layout.{above_bar, above_end, available_label, balance_label, booked_label, capacity_label, cut_bar, firm_label, grid_end, gross_label, hot_bar, hot_end, item_tasks_end, item_tasks_open, later_open, lists_open, load_label, low_bar, low_end, none_refused, order, order_start, order_week, orders_open, other_words, over_label, over_open, peg_parent, pegs_open, planned_label, points_end, refused_answer, refused_open, rest_end, scheduled_label, section_end, starts_label, task_middle, task_row, task_supply, task_words, waits_open};
+ghost use Rattle.mrp_page.specs.Layout.{above_bar, above_end, available_label, balance_label, booked_label, capacity_label, cut_bar, firm_label, grid_end, gross_label, hot_bar, hot_end, later_open, lists_open, load_label, low_bar, low_end, none_refused, order, order_start, order_week, orders_open, over_label, over_open, overloaded_line, overloaded_open, peg_parent, pegs_open, planned_label, points_end, refused_answer, refused_open, rest_end, scheduled_label, section_end, starts_label, task_middle, task_row, task_supply, waits_open, week, week_end, weeks_end, none_at_risk, risk_note, risk_open, risks_unknown, said_pieces, work_back, work_blank, work_head, work_operation, work_other, work_rest, work_share, work_table_end, work_unknown};
 ghost use Rattle.mrp_page.specs.Frame.{count_row};
 ghost use Rattle.mrp_page.specs.Kinds.{Kind, cancel, earlier, kind_html, kind_part, kinds, kinds_html, late, later, messages_of, open_count, open_html, order_of, other_messages, other_part, release, task_line, value_rank};
 ghost use Rattle.std.specs.List.Sorted.{IsNonDecreasingBy};
@@ -29,6 +35,24 @@ ghost use Rattle.mrp_page.specs.Notes.{Noted, notes_of};
 ghost use Rattle.mrp_page.specs.Page.{page_html, scene_in, shown_items};
 ghost use Rattle.mrp_page.specs.Pictures.{drawn_balance};
 ghost use Rattle.mrp_page.specs.Reading.{IsDayOf};
+ghost use Rattle.mrp_page.specs.Receipts.{receipt_of};
+ghost use Rattle.std.specs.Int.{IsInRange};
+ghost use Rattle.jiff.specs.Types.{Date};
+ghost use Rattle.mrp_cal.specs.Calendar.{IsShopCalendar, week_of};
+ghost use Rattle.mrp_facts.specs.Dates.{AreDates, date_text, has_years};
+ghost use Rattle.mrp_facts.specs.Facts.{Facts, open_order};
+ghost use Rattle.mrp_page.specs.Weeks.{date_html, week_html, weeks_html};
+ghost use Rattle.mrp_page.specs.Work.{WorkView, centre_named, work_orders, works_of};
+ghost use Rattle.mrp_page.specs.Explained.{falling_time, left_html, more_works_html, order_name_html, order_work, time_html, time_share_row, work_line, works_first, works_or_none, works_table};
+ghost use Rattle.mrp_work.specs.Work.{all_work, is_at, time_of};
+ghost use Rattle.mrp_work.specs.Work as operations;
+ghost use Rattle.mrp_work.specs.declared.order.Work.{Work};
+ghost use Rattle.mrp_tables.specs.declared.rows.Receipt.{Receipt};
+ghost use Rattle.mrp_page.specs.Numbering.{AreAnswers, lateness_of, numbered_pegs};
+ghost use Rattle.mrp_page.specs.Promises.{risk_listing, risks_first, risks_html, risks_or_none};
+ghost use Rattle.mrp_risk.specs.Chains.{HangsOn, weeks_late};
+ghost use Rattle.mrp_risk.specs.Risks.{pieces_of, risk_at};
+ghost use Rattle.mrp_risk.specs.declared.risk.Risk.{Risk};
 ghost use Rattle.mrp_page.specs.Refused.{asked_of, entry_name_html, is_booking, refusals, refused_html, refused_rows, refused_section};
 ghost use Rattle.mrp_page.specs.Row.{Cells, RowView, cell_at, same_text};
 ghost use Rattle.mrp_page.specs.Rows.{rows_in, rows_named};
@@ -37,16 +61,17 @@ ghost use Rattle.mrp_page.specs.Shown.{IsByItems, items_of_plan, items_to_show, 
 ghost use Rattle.mrp_page.specs.Spot.{Names};
 ghost use Rattle.mrp_page.specs.Summary.{count_with, is_over, is_undone, summary_html, tile_html};
 ghost use Rattle.mrp_page.specs.Template.{Drawn, has_word, number_at, row_html};
-ghost use Rattle.mrp_page.specs.Todo.{by_urgency, message_html, said, said_of_another, word_of};
-ghost use Rattle.mrp_page.specs.declared.limits.TheConstants.{FEW_ROWS, MOST_LINES, MOST_AMOUNT, SOME_ROWS, TABLE_WEEKS};
+ghost use Rattle.mrp_page.specs.Said.{back_of, by_urgency, front_of, is_release, item_messages, messages_at, pieces_row, said_html, said_known, said_of_open, said_order};
+ghost use Rattle.mrp_page.specs.Todo.{value_of_message, word_of};
+ghost use Rattle.mrp_page.specs.declared.limits.TheConstants.{FEW_ROWS, MOST_LINES, MOST_AMOUNT, RATE_UNIT, SOME_ROWS, TABLE_WEEKS};
 ghost use Rattle.mrp_day.specs.declared.section.Section.{Section};
 ghost use Rattle.mrp_day.specs.declared.section.Section.TheVariants as section;
 
 /// A page is never cut short: it begins with the document type and ends with `</html>` and a line
 /// feed.
 pub fn pages_are_whole()
-    ensures begins { (title : List ℕ) (notes : Noted) → (rest : List ℕ) × (page_html title notes ≡ codes "<!doctype html>" ++ rest) }
-    ensures ends { (title : List ℕ) (notes : Noted) → (front : List ℕ) × (page_html title notes ≡ front ++ (codes "</html>" ++ 10 ∷ [])) }
+    ensures begins { (title : List ℕ) (tables : Option Facts) (notes : Noted) (risks : RisksView) → (rest : List ℕ) × (page_html title tables notes risks ≡ codes "<!doctype html>" ++ rest) }
+    ensures ends { (title : List ℕ) (tables : Option Facts) (notes : Noted) (risks : RisksView) → (front : List ℕ) × (page_html title tables notes risks ≡ front ++ (codes "</html>" ++ 10 ∷ [])) }
 {}
 
 /// A row is drawn as markup and escaped texts, and each text is a cell of the row, or empty.
@@ -73,18 +98,18 @@ pub fn rows_are_kept_or_counted()
 
 /// A page consists of fixed markup, which is the same for every day, and of escaped texts that are known:
 /// each is the title, a cell of a record of the day, the number of items, of what is folded or of what is not
-/// shown, or the word for that. Its only links to items, entries and orders are names of items that are shown,
+/// shown, the word for that, or what stands of a booking at risk. Its only links to items, entries and orders are names of items that are shown,
 /// each to its item, numbers of entries that are kept of the history, each to its entry, and links to orders
 /// that are on the page.
 pub fn pages_show_what_is_known()
-    ensures { (title : List ℕ) (items : Names) (asked : Option ℕ) (records : List Cells) → IsMadeOf (IsKnown title records (notes_of items asked records)) (Contains (names_shown (notes_of items asked records))) (Contains (entries_kept (notes_of items asked records))) (IsOrderShown (notes_of items asked records)) (page_html title (notes_of items asked records)) }
+    ensures { (title : List ℕ) (tables : Option Facts) (items : Names) (asked : Option ℕ) (records : List Cells) (risks : RisksView) → IsMadeOf (IsKnown title tables records (notes_of items asked records) risks) (Contains (names_shown (notes_of items asked records))) (Contains (entries_kept (notes_of items asked records))) (IsOrderShown (notes_of items asked records)) (page_html title tables (notes_of items asked records) risks) }
 {}
 
 /// An item's time-phased record shows its rows of the sections `plan` and `promises`. The numbers next to
 /// each label, there and in a work centre's table, are those of the column that the label stands for, found
 /// by the column's name in the day.
 pub fn labels_stand_beside_their_columns()
-    ensures record { (report : List RowView) (name : List ℕ) → named_record (item_lists report) name ≡ record_or_none name (rows_named name (rows_in section.Plan report)) (rows_named name (rows_in section.Promises report)) }
+    ensures record { (tables : Option Facts) (report : List RowView) (name : List ℕ) → named_record tables (item_lists report) name ≡ record_or_none tables name (rows_named name (rows_in section.Plan report)) (rows_named name (rows_in section.Promises report)) }
     ensures needs { (scheduled : Bool) (plan promises : List RowView) → record_rows scheduled plan promises ≡ amounts_html gross_label (column section.Plan (codes "gross")) plan ++ (supplies_html scheduled plan ++ (planned_html plan ++ promised_html promises)) }
     ensures scheduled { (plan : List RowView) → supplies_html true plan ≡ amounts_html scheduled_label (column section.Plan (codes "open")) plan }
     ensures firm { (plan : List RowView) → supplies_html false plan ≡ amounts_html firm_label (column section.Plan (codes "firm")) plan }
@@ -96,11 +121,19 @@ pub fn labels_stand_beside_their_columns()
 /// The first weeks of a record, and of a work centre, stand in a table, and the further ones in one that is
 /// folded: each week once, in order.
 pub fn weeks_stand_once()
-    ensures record { (frame : RowView) (scheduled : Bool) (plan promises : List RowView) → all_weeks frame scheduled plan promises ≡ record_table frame scheduled (take TABLE_WEEKS plan) (take TABLE_WEEKS promises) ++ later_record frame scheduled (drop TABLE_WEEKS plan) (drop TABLE_WEEKS promises) }
-    ensures later { (frame : RowView) (scheduled : Bool) (row : RowView) (plan promises : List RowView) → later_record frame scheduled (row ∷ plan) promises ≡ later_open ++ (record_table frame scheduled (row ∷ plan) promises ++ rest_end) }
-    ensures centre { (frame : RowView) (rows : List RowView) → all_loads frame rows ≡ loads_table frame (take TABLE_WEEKS rows) ++ later_loads frame (drop TABLE_WEEKS rows) }
-    ensures later_loads { (frame row : RowView) (rows : List RowView) → later_loads frame (row ∷ rows) ≡ later_open ++ (loads_table frame (row ∷ rows) ++ rest_end) }
+    ensures record { (tables : Option Facts) (frame : RowView) (scheduled : Bool) (plan promises : List RowView) → all_weeks tables frame scheduled plan promises ≡ record_table tables frame scheduled (take TABLE_WEEKS plan) (take TABLE_WEEKS promises) ++ later_record tables frame scheduled (drop TABLE_WEEKS plan) (drop TABLE_WEEKS promises) }
+    ensures later { (tables : Option Facts) (frame : RowView) (scheduled : Bool) (row : RowView) (plan promises : List RowView) → later_record tables frame scheduled (row ∷ plan) promises ≡ later_open ++ (record_table tables frame scheduled (row ∷ plan) promises ++ rest_end) }
+    ensures centre { (tables : Option Facts) (frame : RowView) (rows : List RowView) → all_loads tables frame rows ≡ loads_table tables frame (take TABLE_WEEKS rows) ++ later_loads tables frame (drop TABLE_WEEKS rows) }
+    ensures later_loads { (tables : Option Facts) (frame row : RowView) (rows : List RowView) → later_loads tables frame (row ∷ rows) ≡ later_open ++ (loads_table tables frame (row ∷ rows) ++ rest_end) }
     ensures all { (rows : List RowView) → take TABLE_WEEKS rows ++ drop TABLE_WEEKS rows ≡ rows }
+{}
+
+/// Each week of a table stands with its date if the tables are given: that of a day which falls in this week.
+/// Without them it has none.
+pub fn weeks_stand_with_their_dates()
+    ensures weeks { (tables : Option Facts) (rows : List RowView) → weeks_html tables rows ≡ flat_map (week_html tables) rows ++ weeks_end }
+    ensures undated { (row : RowView) → week_html None row ≡ codes "<th scope=col>" ++ (escaped (cell_at row 1) ++ codes "</th>") }
+    ensures dated { (facts : Facts) (row : RowView) (number : ℕ) → IsShopCalendar facts.tables.calendar → AreDates facts.tables.calendar facts.dates → IsInRange 1 facts.tables.calendar.weeks number → cell_at row 1 ≡ decimal number → (date : Date) × (week_of facts.tables.calendar date ≡ Some number) × (week_html (Some facts) row ≡ row_html week row ++ (date_html (date_text (has_years facts.tables.calendar) date) ++ week_end)) }
 {}
 
 /// The picture of loads is drawn week by week: a bar as high as the share of the capacity, up to 200 %, with
@@ -131,7 +164,48 @@ pub fn shares_are_exact()
 pub fn overloads_stand_in_order()
     ensures once { (loads : List RowView) → IsPermutation (filter is_over loads) (overloads_first loads) }
     ensures order { (loads : List RowView) → IsNonDecreasingBy week_rank (overloads_first loads) }
-    ensures shown { (missed : ℕ) (load : RowView) (rows : List RowView) → over_or_none missed (load ∷ rows) ≡ row_html over_open (count_row (length (load ∷ rows)) [] []) ++ capped_html over_listing SOME_ROWS (load ∷ rows) }
+    ensures shown { (scene : SceneView) (work : Option WorkView) (missed : ℕ) (load : RowView) (rows : List RowView) → over_or_none scene work missed (load ∷ rows) ≡ row_html over_open (count_row (length (load ∷ rows)) [] []) ++ (explained_note work ++ capped_html (over_listing scene work) SOME_ROWS (load ∷ rows)) }
+{}
+
+/// Behind an overload that is explained stand the operations that load it: each operation, by the routings of the day's tables,
+/// of an order that is kept, at this work centre and in this week, once, those first that take the most time. Ten
+/// stand one by one with their minutes, the others are counted with the sum of theirs, and what else the load has stands as
+/// its rest. These times make up the load, in thousandths of a minute. If the operations take more time than the load
+/// has, the page says so in their place.
+pub fn operations_make_the_load()
+    ensures works { (work : WorkView) (load : RowView) (centre : ℕ) → centre_named work.facts.tables (cell_at load (column section.Loads (codes "centre"))) ≡ Some centre → Contains work.asked load → works_of work load ≡ Some (filter (is_at centre (amount (cell_at load (column section.Loads (codes "week"))))) (all_work work.facts.tables.routings (work_orders work.facts.tables work.orders))) }
+    ensures once { (works : List Work) → IsPermutation works (works_first works) }
+    ensures order { (works : List Work) → IsNonDecreasingBy falling_time (works_first works) }
+    ensures drawn { (scene : SceneView) (orders : List RowView) (load : RowView) (works : List Work) → operations.total works ≤ amount (cell_at load (column section.Loads (codes "load"))) → works_or_none scene orders load works ≡ row_html work_head (share_row load) ++ (flat_map (work_line scene orders load) (take SOME_ROWS (works_first works)) ++ (more_works_html load (drop SOME_ROWS (works_first works)) ++ (left_html load (amount (cell_at load 2) - operations.total works) ++ work_table_end))) }
+    ensures too_much { (scene : SceneView) (orders : List RowView) (load : RowView) (works : List Work) → amount (cell_at load (column section.Loads (codes "load"))) < operations.total works → works_or_none scene orders load works ≡ work_unknown }
+    ensures one { (scene : SceneView) (order load : RowView) (work : Work) → order_work scene order load work ≡ task_row ++ (order_name_html scene order ++ (row_html work_operation (count_row work.operation [] []) ++ (time_html load work.time ++ row_html work_back order))) }
+    ensures others { (load : RowView) (work : Work) (works : List Work) → more_works_html load (work ∷ works) ≡ row_html work_rest (count_row (length (work ∷ works)) [] []) ++ (time_html load (operations.total (work ∷ works)) ++ work_blank) }
+    ensures left { (load : RowView) (time : ℕ) → 0 < time → left_html load time ≡ work_other ++ (time_html load time ++ work_blank) }
+    ensures minutes { (load : RowView) (time : ℕ) → time_html load time ≡ minutes_html (minutes_text_of time) ++ row_html work_share (time_share_row load time) }
+    ensures sum { (works : List Work) (load : RowView) → operations.total works ≤ amount (cell_at load (column section.Loads (codes "load"))) → (time_of (take SOME_ROWS (works_first works)) + operations.total (drop SOME_ROWS (works_first works))) + (amount (cell_at load 2) - operations.total works) ≡ amount (cell_at load (column section.Loads (codes "load"))) }
+    ensures exact { (works : List Work) (load : RowView) → operations.total works ≤ amount (cell_at load (column section.Loads (codes "load"))) → operations.total (drop SOME_ROWS (works_first works)) ≡ time_of (drop SOME_ROWS (works_first works)) }
+{}
+
+/// The work centres that are over their capacity in some week stand by how much time is over for the capacity of all
+/// weeks, the most first, and each once. Those without capacity stand before all others. The first three are shown.
+pub fn overloaded_centres_stand_in_order()
+    ensures once { (loads : List RowView) → IsPermutation (map (weeks_of loads) (leaders [] (filter is_over loads))) (overloaded_first loads) }
+    ensures order { (loads : List RowView) (i j : ℕ) (d : List RowView) → i ≤ j → j < length (overloaded_first loads) → rate_of (slice_index_or (overloaded_first loads) j d) ≤ rate_of (slice_index_or (overloaded_first loads) i d) }
+    ensures rate { (rows : List RowView) → rate_of rows ≡ rate (total (column section.Loads (codes "over")) rows) (total (column section.Loads (codes "capacity")) rows) }
+    ensures exact { (over capacity : ℕ) → 0 < capacity → (rate over capacity * capacity ≤ over * RATE_UNIT) × (over * RATE_UNIT < capacity * (rate over capacity + 1)) }
+    ensures without { (over other capacity : ℕ) → other ≤ MOST_AMOUNT → rate other capacity ≤ rate over 0 }
+    ensures total { (column : ℕ) (rows : List RowView) → total column rows ≡ min (sum_by (λ r. amount (cell_at r column)) rows) MOST_AMOUNT }
+    ensures shown { (rows : List RowView) (centres : List (List RowView)) → most_overloaded (rows ∷ centres) ≡ overloaded_open ++ flat_map overloaded_html (take 3 (rows ∷ centres)) }
+{}
+
+/// What is said of an overloaded work centre: in how many of its weeks it is over its capacity, the greatest share and
+/// its week, and the share of all weeks.
+pub fn overloaded_centres_have_their_shares()
+    ensures weeks { (rows : List RowView) → cell_at (overloaded_row rows) 1 ≡ decimal (length (filter is_over rows)) }
+    ensures worst { (rows : List RowView) (load : RowView) (loads : List RowView) → sorted_by falling_share (filter is_over rows) ≡ load ∷ loads → worst_week rows ≡ share_row load }
+    ensures greatest { (rows : List RowView) → IsNonDecreasingBy falling_share (sorted_by falling_share (filter is_over rows)) }
+    ensures all { (rows : List RowView) → share_of_all rows ≡ share (total (column section.Loads (codes "load")) rows) (total (column section.Loads (codes "capacity")) rows) }
+    ensures picture { (rows : List RowView) → overloaded_html rows ≡ row_html overloaded_line (overloaded_row rows) ++ picture_html (centre_frame (name_of rows) rows) (map share_row rows) }
 {}
 
 /// The items that run out stand by week: each once, at the first week in which orders are planned to be
@@ -146,7 +220,7 @@ pub fn items_run_out_in_order()
 /// The supplies of an item have one of two labels: *firm master schedule* for an item with promises or with
 /// firm pieces in some week, *scheduled receipts* for any other.
 pub fn supplies_have_one_label()
-    ensures record { (frame : RowView) (plan promises : List RowView) → framed_record frame plan promises ≡ balance_html frame plan ++ all_weeks frame (is_scheduled plan promises) plan promises }
+    ensures record { (tables : Option Facts) (frame : RowView) (plan promises : List RowView) → framed_record tables frame plan promises ≡ balance_html tables frame plan ++ all_weeks tables frame (is_scheduled plan promises) plan promises }
     ensures promised { (plan : List RowView) (row : RowView) (promises : List RowView) → is_scheduled plan (row ∷ promises) ≡ false }
     ensures firm { (plan promises : List RowView) (firm : List ℕ) → AreFirm plan firm → (pieces : ℕ) → Contains firm pieces → 0 < pieces → is_scheduled plan promises ≡ false }
     ensures scheduled { (plan : List RowView) (firm : List ℕ) → AreFirm plan firm → All (λ pieces. pieces ≡ 0) firm → is_scheduled plan [] ≡ true }
@@ -157,11 +231,12 @@ pub fn supplies_have_one_label()
 /// shows.
 pub fn messages_stand_once()
     ensures once { (messages : List RowView) → IsPermutation messages (flat_map (messages_of messages) kinds ++ other_messages messages) }
-    ensures todo { (title : List ℕ) (notes : Noted) → (front : List ℕ) × (back : List ℕ) × (page_html title notes ≡ front ++ (kinds_html (scene_in notes) (rows_in section.Messages notes.report) ++ back)) }
+    ensures todo { (title : List ℕ) (tables : Option Facts) (notes : Noted) (risks : RisksView) → (front : List ℕ) × (back : List ℕ) × (page_html title tables notes risks ≡ front ++ (kinds_html (scene_in tables notes) (rows_in section.Messages notes.report) ++ back)) }
     ensures kinds { (scene : SceneView) (messages : List RowView) → kinds_html scene messages ≡ flat_map (kind_part scene messages) kinds ++ other_part scene messages }
     ensures kind { (kind : Kind) (scene : SceneView) (state : List ℕ) (r : RowView) (rows : List RowView) → (front : List ℕ) × (between : List ℕ) × (back : List ℕ) × (kind_html kind scene state (r ∷ rows) ≡ row_html kind.head (count_row (length (r ∷ rows)) state state) ++ (front ++ (flat_map (task_line kind scene) (take SOME_ROWS (take MOST_LINES (r ∷ rows))) ++ (between ++ (flat_map (task_line kind scene) (drop SOME_ROWS (take MOST_LINES (r ∷ rows))) ++ back))))) }
     ensures urgency { (messages : List RowView) → IsPermutation messages (by_urgency messages) }
-    ensures item { (rows : ItemLists) (leader : RowView) → named_tasks rows leader ≡ item_tasks_open ++ (flat_map (message_html (leader ∷ [])) (by_urgency (rows_named (cell_at leader 0) rows.messages)) ++ item_tasks_end) }
+    ensures item { (scene : SceneView) (rows : ItemLists) (leader r : RowView) (rest : List RowView) → messages_at rows leader ≡ r ∷ rest → (front : List ℕ) × (between : List ℕ) × (back : List ℕ) × (item_messages scene rows leader ≡ front ++ (flat_map (said_html scene) (take FEW_ROWS (r ∷ rest)) ++ (between ++ (flat_map (said_html scene) (drop FEW_ROWS (r ∷ rest)) ++ back)))) }
+    ensures of_item { (rows : ItemLists) (leader : RowView) → messages_at rows leader ≡ by_urgency (rows_named (cell_at leader 0) rows.messages) }
 {}
 
 /// The fold of each kind of messages begins with its standard word and with how many messages it has.
@@ -173,26 +248,44 @@ pub fn kinds_have_their_words()
     ensures cancel { (n : ℕ) (state : List ℕ) → (front : List ℕ) × (row_html cancel.head (count_row n state state) ≡ front ++ (codes "><summary><b>Cancel: " ++ (escaped (decimal n) ++ (codes "</b> <small>not needed within these weeks</small></summary>\n" ++ [])))) }
 {}
 
-/// The pieces, the start and the week of a message in *To do* are those of the first kept order of its item
-/// with its number and kind; those of an open order are what its pegs have together, if all pegs are kept.
+/// The pieces, the start and the week of a message in *To do* are those of the kept order of its item with its
+/// number and kind. An order is found by its number if that is its place among the kept orders of its item, counted
+/// from 1, as in each plan. The pieces and the week of an open order are its receipt's, or without one its pieces
+/// are what its pegs have together, if all pegs are kept.
 pub fn messages_have_their_orders()
     ensures order { (kind : Kind) (scene : SceneView) (message order : RowView) → order_of scene message ≡ Some order → task_line kind scene message ≡ task_row ++ (item_name_html scene.shown (cell_at message 0) ++ (task_middle ++ (linked_html scene (Some order) (row_html task_supply message) ++ (codes "</td>" ++ (row_html kind.order order ++ row_html kind.value message))))) }
-    ensures found { (scene : SceneView) (message : RowView) → order_of scene message ≡ find (is_order (cell_at message (column section.Messages (codes "item"))) (cell_at message (column section.Messages (codes "supply"))) (cell_at message (column section.Messages (codes "source")))) (rows_named (cell_at message (column section.Messages (codes "item"))) scene.orders) }
+    ensures of_message { (scene : SceneView) (message : RowView) → order_of scene message ≡ ordered scene (cell_at message (column section.Messages (codes "item"))) (cell_at message (column section.Messages (codes "supply"))) (cell_at message (column section.Messages (codes "source"))) }
+    ensures placed { (scene : SceneView) (name : List ℕ) (place : ℕ) (order : RowView) → place < MOST_AMOUNT → slice_get (rows_named name scene.orders) place ≡ Some order → cell_at order (column section.Orders (codes "order")) ≡ decimal (place + 1) → ordered scene name (cell_at order (column section.Orders (codes "kind"))) (decimal (place + 1)) ≡ Some order }
+    ensures parent { (scene : SceneView) (name : List ℕ) (place : ℕ) (order : RowView) → place < MOST_AMOUNT → slice_get (rows_named name scene.orders) place ≡ Some order → cell_at order (column section.Orders (codes "order")) ≡ decimal (place + 1) → numbered scene name (decimal (place + 1)) ≡ Some order }
+    ensures found { (scene : SceneView) (name kind number : List ℕ) (order : RowView) → ordered scene name kind number ≡ Some order → Contains (rows_named name scene.orders) order × (is_order name kind number order ≡ true) }
     ensures same { (name kind number : List ℕ) (order : RowView) → is_order name kind number order ≡ (same_text (cell_at order (column section.Orders (codes "item"))) name && (same_text (cell_at order (column section.Orders (codes "order"))) number && same_text (cell_at order (column section.Orders (codes "kind"))) kind)) }
-    ensures pieces { (scene : SceneView) (message : RowView) → scene.whole ≡ true → cell_at message (column section.Messages (codes "supply")) ≡ codes "open" → open_html scene message ≡ number_html (decimal (open_count scene message)) ++ (codes "<td></td><td></td>" ++ []) }
+    ensures pieces { (scene : SceneView) (message : RowView) → receipt_of scene.tables message ≡ None → scene.whole ≡ true → cell_at message (column section.Messages (codes "supply")) ≡ codes "open" → open_html scene message ≡ number_html (decimal (open_count scene message)) ++ (codes "<td></td><td></td>" ++ []) }
+    ensures received { (scene : SceneView) (message : RowView) (receipt : Receipt) → receipt_of scene.tables message ≡ Some receipt → open_html scene message ≡ number_html (decimal receipt.quantity) ++ (codes "<td></td>" ++ (number_html (decimal receipt.week) ++ [])) }
+    ensures receipt { (facts : Facts) (message : RowView) → cell_at message (column section.Messages (codes "supply")) ≡ codes "open" → receipt_of (Some facts) message ≡ open_order facts.tables (cell_at message (column section.Messages (codes "item"))) (cell_at message (column section.Messages (codes "source"))) }
     ensures start { (order : RowView) → row_html order_start order ≡ number_at (column section.Orders (codes "quantity")) order ++ (number_at (column section.Orders (codes "start")) order ++ (number_at (column section.Orders (codes "due")) order ++ [])) }
     ensures week { (order : RowView) → row_html order_week order ≡ number_at (column section.Orders (codes "quantity")) order ++ (codes "<td></td>" ++ (number_at (column section.Orders (codes "due")) order ++ [])) }
 {}
 
-/// What the page says of a message comes from the message's word, its supply, and its value if that has a
-/// meaning: a week, or how many weeks the order is past due.
+/// What is said of a message at its item begins with its standard term, and ends with its value if that has a meaning:
+/// a week, or how many weeks the order is past due. Any other message is said with its own word and value.
 pub fn messages_stand_under_their_words()
-    ensures past_due { (message : RowView) → word_of message ≡ codes "PAST-DUE" → row_html task_words message ≡ said (codes "Past due: ") (codes ", weeks late (shop days from version 2 on): ") message }
-    ensures release { (message : RowView) → word_of message ≡ codes "RELEASE" → row_html task_words message ≡ said (codes "Release: ") [] message }
-    ensures earlier { (message : RowView) → word_of message ≡ codes "IN" → row_html task_words message ≡ said (codes "Reschedule in: ") (codes " to week ") message }
-    ensures later { (message : RowView) → word_of message ≡ codes "OUT" → row_html task_words message ≡ said (codes "Reschedule out: ") (codes " to week ") message }
-    ensures cancel { (message : RowView) → word_of message ≡ codes "CANCEL" → row_html task_words message ≡ said (codes "Cancel: ") [] message }
-    ensures another { (message : RowView) → row_html other_words message ≡ said_of_another message }
+    ensures past_due { (message : RowView) → word_of message ≡ codes "PAST-DUE" → (row_html (front_of message) message ≡ codes "<li class=\"late\">Past due: ") × (row_html (back_of message) message ≡ codes ", weeks late (shop days from version 2 on): " ++ (escaped (value_of_message message) ++ codes "</li>\n")) }
+    ensures release { (message : RowView) → word_of message ≡ codes "RELEASE" → (row_html (front_of message) message ≡ codes "<li class=\"release\">Release: ") × (row_html (back_of message) message ≡ escaped (value_of_message message) ++ codes "</li>\n") }
+    ensures earlier { (message : RowView) → word_of message ≡ codes "IN" → (row_html (front_of message) message ≡ codes "<li class=\"in\">Reschedule in: ") × (row_html (back_of message) message ≡ codes " to week " ++ (escaped (value_of_message message) ++ codes "</li>\n")) }
+    ensures later { (message : RowView) → word_of message ≡ codes "OUT" → (row_html (front_of message) message ≡ codes "<li class=\"out\">Reschedule out: ") × (row_html (back_of message) message ≡ codes " to week " ++ (escaped (value_of_message message) ++ codes "</li>\n")) }
+    ensures cancel { (message : RowView) → word_of message ≡ codes "CANCEL" → (row_html (front_of message) message ≡ codes "<li class=\"cancel\">Cancel: ") × (row_html (back_of message) message ≡ escaped (value_of_message message) ++ codes "</li>\n") }
+    ensures another { (message : RowView) → is_plain message ≡ false → (row_html (front_of message) message ≡ codes "<li>" ++ (escaped (word_of message) ++ codes ": ")) × (row_html (back_of message) message ≡ codes " " ++ (escaped (value_of_message message) ++ codes "</li>\n")) }
+{}
+
+/// Between its term and its value the sentence of a message names its order, with the order's pieces and weeks: the start
+/// and the due week of an order to be released, the due week of any other. Of an open order it has the pieces of
+/// its pegs, if all pegs are kept.
+pub fn sentences_have_their_orders()
+    ensures sentence { (scene : SceneView) (message : RowView) → said_html scene message ≡ row_html (front_of message) message ++ (linked_html scene (order_of scene message) (row_html task_supply message) ++ (said_known scene message (order_of scene message) ++ row_html (back_of message) message)) }
+    ensures released { (message order : RowView) → is_release message ≡ true → said_order message order ≡ row_html said_pieces (pieces_row (cell_at order (column section.Orders (codes "quantity")))) ++ (codes ", start " ++ (escaped (cell_at order (column section.Orders (codes "start"))) ++ (codes ", due week " ++ (escaped (cell_at order (column section.Orders (codes "due"))) ++ [])))) }
+    ensures moved { (message order : RowView) → is_release message ≡ false → said_order message order ≡ row_html said_pieces (pieces_row (cell_at order (column section.Orders (codes "quantity")))) ++ (codes ", week " ++ (escaped (cell_at order (column section.Orders (codes "due"))) ++ [])) }
+    ensures open_order { (scene : SceneView) (message : RowView) → scene.whole ≡ true → cell_at message (column section.Messages (codes "supply")) ≡ codes "open" → said_of_open scene message ≡ row_html said_pieces (pieces_row (decimal (open_count scene message))) }
+    ensures pieces { (pieces : List ℕ) → row_html said_pieces (pieces_row pieces) ≡ codes ", " ++ (escaped pieces ++ (escaped (cell_at (pieces_row pieces) 1) ++ [])) }
 {}
 
 /// A link to an item leads to where that item's part of the page begins, and one to an order to where the
@@ -212,7 +305,7 @@ pub fn pegs_lead_both_ways()
     ensures goes { (scene : SceneView) (pegs : List RowView) → pegs_html scene pegs ≡ pegs_open ++ (flat_map (peg_html scene) pegs ++ grid_end) }
     ensures up { (scene : SceneView) (peg : RowView) → cell_at peg (column section.Pegs (codes "need")) ≡ codes "parent" → need_html scene peg ≡ linked_html scene (numbered scene (cell_at peg (column section.Pegs (codes "parent"))) (cell_at peg (column section.Pegs (codes "number")))) (row_html peg_parent peg) }
     ensures booking { (scene : SceneView) (peg : RowView) → cell_at peg (column section.Pegs (codes "need")) ≡ codes "booking" → need_html scene peg ≡ codes "booking " ++ entry_name_html scene.history (cell_at peg (column section.Pegs (codes "number"))) }
-    ensures waits { (scene : SceneView) (name : List ℕ) → waits_of scene name ≡ filter (λ peg. same_text (cell_at peg (column section.Pegs (codes "parent"))) name && same_text (cell_at peg (column section.Pegs (codes "need"))) (codes "parent")) scene.pegs }
+    ensures waits { (scene : SceneView) (name : List ℕ) → waits_for scene.pegs name ≡ filter (λ peg. same_text (cell_at peg (column section.Pegs (codes "parent"))) name && same_text (cell_at peg (column section.Pegs (codes "need"))) (codes "parent")) scene.pegs }
     ensures down { (scene : SceneView) (peg : RowView) (pegs : List RowView) → waits_html scene (peg ∷ pegs) ≡ waits_open ++ (flat_map (wait_html scene) (peg ∷ pegs) ++ grid_end) }
     ensures linked { (scene : SceneView) (order : RowView) (words : List ℕ) → has_item scene.shown (cell_at order 0) ≡ true → linked_html scene (Some order) words ≡ order_link (cell_at order 1) (cell_at order 0) ++ (words ++ codes "</a>") }
 {}
@@ -226,7 +319,7 @@ pub fn first_items_with_messages()
     ensures most { (items : Names) (run : ℕ) (records : List Cells) → length (items_to_show items run records) ≤ 200 }
     ensures full { (items : Names) (run : ℕ) (records : List Cells) → 200 ≤ length (items_of_plan items run records) → length (items_to_show items run records) ≡ 200 }
     ensures count { (items : Names) (asked : Option ℕ) (records : List Cells) (notes : Noted) → IsDayOf items asked records notes → IsByItems records → notes.counts.items ≡ length (items_of_plan items (run_shown asked records) records) }
-    ensures page { (title : List ℕ) (notes : Noted) → (front : List ℕ) × (back : List ℕ) × (page_html title notes ≡ front ++ (items_html (scene_in notes) (item_lists notes.report) notes.counts.promises (shown_items (item_lists notes.report)) ++ (more_html (notes.counts.items - length (shown_items (item_lists notes.report))) (codes "item is") (codes "items are") ++ back))) }
+    ensures page { (title : List ℕ) (tables : Option Facts) (notes : Noted) (risks : RisksView) → (front : List ℕ) × (back : List ℕ) × (page_html title tables notes risks ≡ front ++ (items_html (scene_in tables notes) (item_lists notes.report) notes.counts.promises (shown_items (item_lists notes.report)) ++ (more_html (notes.counts.items - length (shown_items (item_lists notes.report))) (codes "item is") (codes "items are") ++ back))) }
 {}
 
 /// A list that is folded shows each of its rows once: the first ones, and behind their number the others.
@@ -240,7 +333,7 @@ pub fn folds_hide_no_row()
 /// another desk's. If there is none, and the whole history is kept, the page says so.
 pub fn refused_calls_stand_once()
     ensures once { (history : List RowView) → IsPermutation (filter (has_one_of (column section.History (codes "reply")) refusals) history) (refused_rows history) }
-    ensures page { (title : List ℕ) (notes : Noted) → (front : List ℕ) × (between : List ℕ) × (back : List ℕ) × (page_html title notes ≡ front ++ (flat_map (refused_html (shown_items (item_lists notes.report)) notes.history) (take FEW_ROWS (refused_rows notes.history)) ++ (between ++ (flat_map (refused_html (shown_items (item_lists notes.report)) notes.history) (drop FEW_ROWS (refused_rows notes.history)) ++ back)))) }
+    ensures page { (title : List ℕ) (tables : Option Facts) (notes : Noted) (risks : RisksView) → (front : List ℕ) × (between : List ℕ) × (back : List ℕ) × (page_html title tables notes risks ≡ front ++ (flat_map (refused_html (shown_items (item_lists notes.report)) notes.history) (take FEW_ROWS (refused_rows notes.history)) ++ (between ++ (flat_map (refused_html (shown_items (item_lists notes.report)) notes.history) (drop FEW_ROWS (refused_rows notes.history)) ++ back)))) }
     ensures none { (shown history : List RowView) → refused_rows history ≡ [] → refused_section shown history 0 ≡ refused_open ++ (none_refused ++ section_end) }
 {}
 
@@ -269,5 +362,25 @@ pub fn counts_are_of_their_parts()
     ensures short { (history : List RowView) → count_with (column section.History (codes "reply")) (codes "short") history ≡ length (with_word (column section.History (codes "reply")) history (codes "short")) }
     ensures undone { (history : List RowView) → count_by is_undone history ≡ length (filter is_undone history) }
     ensures tile { (count : ℕ) (mark place what : List ℕ) → (front : List ℕ) × (tile_html count mark place what ≡ front ++ (codes "\" href=\"#" ++ (escaped place ++ (codes "\"><b>" ++ (escaped (decimal count) ++ (codes "</b>" ++ (escaped what ++ (codes "</a>" ++ [])))))))) }
-    ensures page { (title : List ℕ) (notes : Noted) → (front : List ℕ) × (back : List ℕ) × (page_html title notes ≡ front ++ (summary_html notes.history (rows_in section.Messages notes.report) (rows_in section.Loads notes.report) ++ back)) }
+    ensures page { (title : List ℕ) (tables : Option Facts) (notes : Noted) (risks : RisksView) → (front : List ℕ) × (back : List ℕ) × (page_html title tables notes risks ≡ front ++ (summary_html notes.history (rows_in section.Messages notes.report) (rows_in section.Loads notes.report) risks ++ back)) }
+{}
+
+/// A booking, by its first peg, is at risk exactly if a chain of pegs leads from it down to an order that is late. The order
+/// that is told is one that it waits for, and none that it waits for is later; its pieces at risk are at most those of its own
+/// pegs. For each day there is one answer.
+pub fn promises_hang_on_late_orders()
+    ensures stands { (orders pegs : List RowView) (risks : List (Option Risk)) (place : ℕ) → AreAnswers orders pegs risks → place < length pegs → (IsTrue (is_some (risk_at risks place)) ↔ ((order : ℕ) × HangsOn (numbered_pegs orders pegs) place order × (0 < weeks_late (lateness_of orders) order))) }
+    ensures latest { (orders pegs : List RowView) (risks : List (Option Risk)) (place other : ℕ) (risk : Risk) → AreAnswers orders pegs risks → place < length pegs → risk_at risks place ≡ Some risk → HangsOn (numbered_pegs orders pegs) place other → weeks_late (lateness_of orders) other ≤ weeks_late (lateness_of orders) risk.order }
+    ensures pieces { (orders pegs : List RowView) (risks : List (Option Risk)) (place : ℕ) (risk : Risk) → AreAnswers orders pegs risks → place < length pegs → risk_at risks place ≡ Some risk → risk.pieces ≤ sum_by (pieces_of place) (numbered_pegs orders pegs) }
+    ensures one { (orders pegs : List RowView) (risks others : List (Option Risk)) → AreAnswers orders pegs risks → AreAnswers orders pegs others → risks ≡ others }
+{}
+
+/// What stands of the bookings at risk stands once in *Promises at risk*, the latest orders first. If there is none, or not all
+/// orders and pegs are kept, the page says so.
+pub fn promises_at_risk_stand_once()
+    ensures once { (rows : List RowView) → IsPermutation rows (risks_first rows) }
+    ensures order { (rows : List RowView) → IsNonDecreasingBy falling_late (risks_first rows) }
+    ensures some { (scene : SceneView) (row : RowView) (rows : List RowView) → risks_or_none scene true (row ∷ rows) ≡ risk_note ++ capped_html (risk_listing scene) SOME_ROWS (row ∷ rows) }
+    ensures none { (scene : SceneView) → risks_html scene (record { known = true; rows = [] }) ≡ risk_open ++ (none_at_risk ++ section_end) }
+    ensures unknown { (scene : SceneView) → risks_html scene (record { known = false; rows = [] }) ≡ risk_open ++ (risks_unknown ++ section_end) }
 {}

@@ -2,7 +2,7 @@
 
 ghost use Rattle.std.specs.Prelude.{◌≡◌, map};
 ghost use Rattle.mrp_page.specs.Template.{drawn_of};
-ghost use Rattle.mrp_page.specs.Layout.{above_bar, above_end, available_label, balance_chart, balance_label, booked_label, cancel_front, cancel_open, capacity_label, centre_head, centre_open, centre_tile, centres_open, cut_bar, entry, entry_link_open, firm_label, grid_end, gross_label, history_end, history_open, hot_bar, hot_end, in_front, in_open, index_count, index_end, index_open, item_head, item_tasks_end, item_tasks_open, items_end, items_open, late_front, late_open, later_open, link_end, link_middle, link_open, lists_open, load_chart, load_end, load_label, low_bar, low_end, main_open, more, no_promises, no_record, none_out, none_over, none_refused, nothing_to_do, open_pieces, order, order_address, order_start, order_unknown, order_week, orders_open, other_cells, other_front, other_open, other_words, out_cells, out_first_open, out_front, out_open, outs_front, outs_note, over_back, over_front, over_label, over_line, over_open, page_end, page_head, page_top, peg_back, peg_booking, peg_front, peg_middle, peg_need, peg_parent, peg_supply, pegs_open, planned_label, point, points_end, record_head, refused_answer, refused_asked, refused_desk, refused_end, refused_front, refused_open, refused_row, release_front, release_open, rest_end, rest_open, row_end, scheduled_label, section_end, share_cell, share_label, starts_label, style, summary_open, summary_tile, table_end, task_head, task_middle, task_row, task_supply, task_words, title_end, title_open, to_week, todo_note, todo_open, wait_end, wait_late, wait_middle, wait_order, wait_supply, waits_open, week, weeks_end, weeks_late};
+ghost use Rattle.mrp_page.specs.Layout.{above_bar, above_end, available_label, balance_chart, balance_label, booked_label, cancel_front, cancel_open, capacity_label, centre_head, centre_open, centre_tile, centres_open, cut_bar, entry, entry_link_open, firm_label, grid_end, gross_label, history_end, history_open, hot_bar, hot_end, in_front, in_open, index_count, index_end, index_open, item_head, items_end, items_open, late_front, late_open, later_open, link_end, link_middle, link_open, lists_open, load_chart, load_end, load_label, low_bar, low_end, main_open, more, no_promises, no_record, none_out, none_over, none_refused, nothing_to_do, open_pieces, order, order_address, order_start, order_unknown, order_week, orders_open, other_cells, other_front, other_open, out_cells, out_first_open, out_front, out_open, outs_front, outs_note, over_back, over_front, over_label, over_line, over_open, overloaded_line, overloaded_open, page_end, page_head, page_top, peg_back, peg_booking, peg_front, peg_middle, peg_need, peg_parent, peg_supply, pegs_open, planned_label, point, points_end, record_head, refused_answer, refused_asked, refused_desk, refused_end, refused_front, refused_open, refused_row, release_front, release_open, rest_end, rest_open, row_end, scheduled_label, section_end, share_cell, share_label, starts_label, style, summary_open, summary_tile, table_end, task_middle, task_row, task_supply, title_end, title_open, to_week, todo_note, todo_open, wait_end, wait_late, wait_middle, wait_order, wait_supply, waits_open, week, weeks_end, weeks_late, date_end, date_open, facts_end, facts_open, facts_steps, line_open, open_receipt, page_items, safety_line, start_end, start_open, week_end, no_message, none_at_risk, risk_booking, risk_front, risk_middle, risk_note, risk_open, risk_order, risks_unknown, said_back, said_close, said_front, said_open, said_other_back, said_other_front, said_pieces, said_start, said_week, work_back, work_blank, work_count, work_end, work_head, work_name, work_note, work_open, work_operation, work_other, work_rest, work_share, work_table_end, work_unknown};
 
 use crate::style::STYLE;
 use crate::template::Part;
@@ -29,37 +29,33 @@ pub(crate) fn page_top() -> &'static [Part]
     ]
 }
 
-// What a message begins with.
-#[tactic(auto, unfolding(crate::specs::Layout::task_head))]
-pub(crate) fn task_head() -> &'static [Part]
-    ensures { map drawn_of result.now ≡ task_head }
+// What a message begins with that has a standard term: this.
+#[tactic(auto, unfolding(crate::specs::Layout::said_front))]
+pub(crate) fn said_front() -> &'static [Part]
+    ensures { map drawn_of result.now ≡ said_front }
 {
     &[
-        Part::Markup(b"<tr class=\""),
+        Part::Markup(b"<li class=\""),
         Part::If(3, b"PAST-DUE", b"late"),
         Part::If(3, b"RELEASE", b"release"),
         Part::If(3, b"IN", b"in"),
         Part::If(3, b"OUT", b"out"),
         Part::If(3, b"CANCEL", b"cancel"),
-        Part::Markup(b"\"><th scope=row>"),
-    ]
-}
-
-// A message in plain words, after the name of its item.
-#[tactic(auto, unfolding(crate::specs::Layout::task_words))]
-pub(crate) fn task_words() -> &'static [Part]
-    ensures { map drawn_of result.now ≡ task_words }
-{
-    &[
-        Part::Markup(b"</th><td>"),
+        Part::Markup(b"\">"),
         Part::If(3, b"PAST-DUE", b"Past due: "),
         Part::If(3, b"RELEASE", b"Release: "),
         Part::If(3, b"IN", b"Reschedule in: "),
         Part::If(3, b"OUT", b"Reschedule out: "),
         Part::If(3, b"CANCEL", b"Cancel: "),
-        Part::Cell(1),
-        Part::Markup(b" "),
-        Part::Cell(2),
+    ]
+}
+
+// What it ends with: its value, if that has a meaning.
+#[tactic(auto, unfolding(crate::specs::Layout::said_back))]
+pub(crate) fn said_back() -> &'static [Part]
+    ensures { map drawn_of result.now ≡ said_back }
+{
+    &[
         Part::If(3, b"IN", b" to week "),
         Part::If(3, b"OUT", b" to week "),
         Part::If(
@@ -68,26 +64,16 @@ pub(crate) fn task_words() -> &'static [Part]
             b", weeks late (shop days from version 2 on): ",
         ),
         Part::Cell(4),
-        Part::Markup(b"</td></tr>\n"),
+        Part::Markup(b"</li>\n"),
     ]
 }
 
-// A message with its own word, after the name of its item.
-#[tactic(auto, unfolding(crate::specs::Layout::other_words))]
-pub(crate) fn other_words() -> &'static [Part]
-    ensures { map drawn_of result.now ≡ other_words }
+// What any other message begins with: its own word.
+#[tactic(auto, unfolding(crate::specs::Layout::said_other_front))]
+pub(crate) fn said_other_front() -> &'static [Part]
+    ensures { map drawn_of result.now ≡ said_other_front }
 {
-    &[
-        Part::Markup(b"</th><td>"),
-        Part::Cell(3),
-        Part::Markup(b": "),
-        Part::Cell(1),
-        Part::Markup(b" "),
-        Part::Cell(2),
-        Part::Markup(b" "),
-        Part::Cell(4),
-        Part::Markup(b"</td></tr>\n"),
-    ]
+    &[Part::Markup(b"<li>"), Part::Cell(3), Part::Markup(b": ")]
 }
 
 // What a link to an item begins with, before the name in its address.
@@ -111,11 +97,31 @@ pub(crate) fn link_middle() -> &'static [u8]
 pub(crate) fn week() -> &'static [Part]
     ensures { map drawn_of result.now ≡ week }
 {
-    &[
-        Part::Markup(b"<th scope=col>"),
-        Part::Cell(1),
-        Part::Markup(b"</th>"),
-    ]
+    &[Part::Markup(b"<th scope=col>"), Part::Cell(1)]
+}
+
+// What it ends with.
+#[tactic(auto, unfolding(crate::specs::Layout::week_end))]
+pub(crate) fn week_end() -> &'static [u8]
+    ensures { result.now ≡ week_end }
+{
+    b"</th>"
+}
+
+// What the date of a week begins with, below its number.
+#[tactic(auto, unfolding(crate::specs::Layout::date_open))]
+pub(crate) fn date_open() -> &'static [u8]
+    ensures { result.now ≡ date_open }
+{
+    b"<br><small>"
+}
+
+// What it ends with.
+#[tactic(auto, unfolding(crate::specs::Layout::date_end))]
+pub(crate) fn date_end() -> &'static [u8]
+    ensures { result.now ≡ date_end }
+{
+    b"</small>"
 }
 
 // An entry of the history.
@@ -159,20 +165,20 @@ pub(crate) fn point() -> &'static [Part]
     ]
 }
 
-// What an item's messages begin with.
-#[tactic(auto, unfolding(crate::specs::Layout::item_tasks_open))]
-pub(crate) fn item_tasks_open() -> &'static [u8]
-    ensures { result.now ≡ item_tasks_open }
+// What the messages of an item begin with.
+#[tactic(auto, unfolding(crate::specs::Layout::said_open))]
+pub(crate) fn said_open() -> &'static [u8]
+    ensures { result.now ≡ said_open }
 {
-    b"<table class=todo aria-label=\"What to do for this item\"><thead><tr><th scope=col>Item</th><th scope=col>What to do</th></tr></thead>\n<tbody>"
+    b"<ul class=said>\n"
 }
 
 // What they end with.
-#[tactic(auto, unfolding(crate::specs::Layout::item_tasks_end))]
-pub(crate) fn item_tasks_end() -> &'static [u8]
-    ensures { result.now ≡ item_tasks_end }
+#[tactic(auto, unfolding(crate::specs::Layout::said_close))]
+pub(crate) fn said_close() -> &'static [u8]
+    ensures { result.now ≡ said_close }
 {
-    b"</tbody></table>\n"
+    b"</ul>\n"
 }
 
 // What the weeks of a table end with.
@@ -949,7 +955,7 @@ pub(crate) fn record_head() -> &'static [Part]
     ]
 }
 
-// The head of a page: the title, the entry that the run plans from, the bookings that stand there, the weeks, the items.
+// The head of a page: the title, the entry that the run plans from, the bookings that stand there, the weeks.
 #[tactic(auto, unfolding(crate::specs::Layout::page_head))]
 pub(crate) fn page_head() -> &'static [Part]
     ensures { map drawn_of result.now ≡ page_head }
@@ -965,7 +971,33 @@ pub(crate) fn page_head() -> &'static [Part]
         Part::Cell(2),
         Part::Markup(b"</b>; weeks: <b>"),
         Part::Cell(3),
-        Part::Markup(b"</b>; items: <b>"),
+        Part::Markup(b"</b>"),
+    ]
+}
+
+// What the date of the first week begins with.
+#[tactic(auto, unfolding(crate::specs::Layout::start_open))]
+pub(crate) fn start_open() -> &'static [u8]
+    ensures { result.now ≡ start_open }
+{
+    b" from <b>"
+}
+
+// What it ends with.
+#[tactic(auto, unfolding(crate::specs::Layout::start_end))]
+pub(crate) fn start_end() -> &'static [u8]
+    ensures { result.now ≡ start_end }
+{
+    b"</b>"
+}
+
+// The rest of the head of a page: the items.
+#[tactic(auto, unfolding(crate::specs::Layout::page_items))]
+pub(crate) fn page_items() -> &'static [Part]
+    ensures { map drawn_of result.now ≡ page_items }
+{
+    &[
+        Part::Markup(b"; items: <b>"),
         Part::Cell(4),
         Part::Markup(b"</b>"),
         Part::If(4, b"0", b" (the plan has none, or none that was asked for)"),
@@ -1299,7 +1331,7 @@ pub(crate) fn out_cells() -> &'static [Part]
 pub(crate) fn main_open() -> &'static [u8]
     ensures { result.now ≡ main_open }
 {
-    b"</p>\n</header>\n<nav><a href=\"#unkept\">Not promised</a><a href=\"#todo\">To do</a><a href=\"#out-first\">Runs out first</a><a href=\"#centres\">Work centres</a><a href=\"#items\">Items</a><a href=\"#history\">History</a></nav>\n<main>\n"
+    b"</p>\n</header>\n<nav><a href=\"#unkept\">Not promised</a><a href=\"#risk\">Promises at risk</a><a href=\"#todo\">To do</a><a href=\"#out-first\">Runs out first</a><a href=\"#centres\">Work centres</a><a href=\"#items\">Items</a><a href=\"#history\">History</a></nav>\n<main>\n"
 }
 
 // The frame of the picture of loads, with the name and the weeks. The line is at 100 %.
@@ -1344,8 +1376,90 @@ pub(crate) fn balance_chart() -> &'static [Part]
         Part::Cell(0),
         Part::Markup(b"</title><path class=zero d=\"M.5 0h"),
         Part::Cell(1),
-        Part::Markup(b"\"/><polyline transform=\"scale(1 -1)\" points=\""),
+        Part::Markup(b"\"/>"),
     ]
+}
+
+// What the line of a picture of balances begins with.
+#[tactic(auto, unfolding(crate::specs::Layout::line_open))]
+pub(crate) fn line_open() -> &'static [u8]
+    ensures { result.now ≡ line_open }
+{
+    b"<polyline transform=\"scale(1 -1)\" points=\""
+}
+
+// The line of the safety stock in a picture of balances, given the pieces and the weeks.
+#[tactic(auto, unfolding(crate::specs::Layout::safety_line))]
+pub(crate) fn safety_line() -> &'static [Part]
+    ensures { map drawn_of result.now ≡ safety_line }
+{
+    &[
+        Part::Markup(b"<path class=zero stroke-dasharray=\"6 4\" d=\"M.5 -"),
+        Part::Cell(0),
+        Part::Markup(b"h"),
+        Part::Cell(1),
+        Part::Markup(b"\"><title>Safety stock: "),
+        Part::Cell(0),
+        Part::Markup(b"</title></path>"),
+    ]
+}
+
+// What the tables say of an item: its class, lead time and lot rule.
+#[tactic(auto, unfolding(crate::specs::Layout::facts_open))]
+pub(crate) fn facts_open() -> &'static [Part]
+    ensures { map drawn_of result.now ≡ facts_open }
+{
+    &[
+        Part::Markup(b"<p class=note>"),
+        Part::If(0, b"master", b"Master item"),
+        Part::If(0, b"part", b"Part"),
+        Part::If(2, b"weeks", b"; lead time in weeks: "),
+        Part::If(2, b"days", b"; lead time in shop days: "),
+        Part::Cell(1),
+        Part::If(3, b"lfl", b"; lot for lot"),
+        Part::If(3, b"fixed", b"; fixed order quantity: "),
+        Part::If(3, b"period", b"; period order quantity, weeks: "),
+        Part::Cell(4),
+    ]
+}
+
+// An item's minimum order quantity and order multiple.
+#[tactic(auto, unfolding(crate::specs::Layout::facts_steps))]
+pub(crate) fn facts_steps() -> &'static [Part]
+    ensures { map drawn_of result.now ≡ facts_steps }
+{
+    &[
+        Part::Markup(b"; minimum: "),
+        Part::Cell(5),
+        Part::Markup(b"; multiple: "),
+        Part::Cell(6),
+    ]
+}
+
+// An item's scrap, safety stock and stock on hand.
+#[tactic(auto, unfolding(crate::specs::Layout::facts_end))]
+pub(crate) fn facts_end() -> &'static [Part]
+    ensures { map drawn_of result.now ≡ facts_end }
+{
+    &[
+        Part::Markup(b"; scrap: "),
+        Part::Cell(7),
+        Part::Markup(b"."),
+        Part::Cell(8),
+        Part::Markup(b" %; safety stock: "),
+        Part::Cell(9),
+        Part::Markup(b"; on hand: "),
+        Part::Cell(10),
+        Part::Markup(b"</p>\n"),
+    ]
+}
+
+// The pieces and the week of an open order, by its receipt.
+#[tactic(auto, unfolding(crate::specs::Layout::open_receipt))]
+pub(crate) fn open_receipt() -> &'static [Part]
+    ensures { map drawn_of result.now ≡ open_receipt }
+{
+    &[Part::Number(0), Part::Markup(b"<td></td>"), Part::Number(1)]
 }
 
 // An order.
@@ -1387,4 +1501,322 @@ pub(crate) fn title_end() -> &'static [u8]
     ensures { result.now ≡ title_end }
 {
     b"\">"
+}
+
+// What the most overloaded work centres begin with.
+#[tactic(auto, unfolding(crate::specs::Layout::overloaded_open))]
+pub(crate) fn overloaded_open() -> &'static [u8]
+    ensures { result.now ≡ overloaded_open }
+{
+    b"<h3>Most overloaded</h3>\n"
+}
+
+// What is said of such a work centre.
+#[tactic(auto, unfolding(crate::specs::Layout::overloaded_line))]
+pub(crate) fn overloaded_line() -> &'static [Part]
+    ensures { map drawn_of result.now ≡ overloaded_line }
+{
+    &[
+        Part::Markup(b"<p><a href=\"#c-"),
+        Part::Cell(0),
+        Part::Markup(b"\">"),
+        Part::Cell(0),
+        Part::Markup(b"</a>: over in "),
+        Part::Cell(1),
+        Part::Markup(b" of "),
+        Part::Cell(2),
+        Part::Markup(b" weeks, "),
+        Part::If(4, b" %", b"at most "),
+        Part::Markup(b"<b class=bad>"),
+        Part::Cell(3),
+        Part::Cell(4),
+        Part::Markup(b"</b> in week "),
+        Part::Cell(5),
+        Part::Markup(b"; "),
+        Part::Cell(6),
+        Part::Cell(7),
+        Part::Markup(b" over all weeks</p>\n"),
+    ]
+}
+
+// What stands at an item without messages.
+#[tactic(auto, unfolding(crate::specs::Layout::no_message))]
+pub(crate) fn no_message() -> &'static [u8]
+    ensures { result.now ≡ no_message }
+{
+    b"<p class=note>No message on this page.</p>\n"
+}
+
+// What any other message ends with: its value.
+#[tactic(auto, unfolding(crate::specs::Layout::said_other_back))]
+pub(crate) fn said_other_back() -> &'static [Part]
+    ensures { map drawn_of result.now ≡ said_other_back }
+{
+    &[Part::Markup(b" "), Part::Cell(4), Part::Markup(b"</li>\n")]
+}
+
+// The pieces that a message is about.
+#[tactic(auto, unfolding(crate::specs::Layout::said_pieces))]
+pub(crate) fn said_pieces() -> &'static [Part]
+    ensures { map drawn_of result.now ≡ said_pieces }
+{
+    &[Part::Markup(b", "), Part::Cell(0), Part::Cell(1)]
+}
+
+// The start and the due week of an order to be released.
+#[tactic(auto, unfolding(crate::specs::Layout::said_start))]
+pub(crate) fn said_start() -> &'static [Part]
+    ensures { map drawn_of result.now ≡ said_start }
+{
+    &[
+        Part::Markup(b", start "),
+        Part::Cell(5),
+        Part::Markup(b", due week "),
+        Part::Cell(3),
+    ]
+}
+
+// The week of any other order.
+#[tactic(auto, unfolding(crate::specs::Layout::said_week))]
+pub(crate) fn said_week() -> &'static [Part]
+    ensures { map drawn_of result.now ≡ said_week }
+{
+    &[Part::Markup(b", week "), Part::Cell(3)]
+}
+
+// What the section *Promises at risk* begins with.
+#[tactic(auto, unfolding(crate::specs::Layout::risk_open))]
+pub(crate) fn risk_open() -> &'static [u8]
+    ensures { result.now ≡ risk_open }
+{
+    b"<section id=risk>\n<h2>Promises at risk</h2>\n"
+}
+
+// What stands above the bookings at risk.
+#[tactic(auto, unfolding(crate::specs::Layout::risk_note))]
+pub(crate) fn risk_note() -> &'static [u8]
+    ensures { result.now ≡ risk_note }
+{
+    b"<p class=note>Bookings that wait, through any number of orders, for an order past due; with the latest such order.</p>\n"
+}
+
+// What stands there if no booking is at risk.
+#[tactic(auto, unfolding(crate::specs::Layout::none_at_risk))]
+pub(crate) fn none_at_risk() -> &'static [u8]
+    ensures { result.now ≡ none_at_risk }
+{
+    b"<p>None: no booking waits for an order past due.</p>\n"
+}
+
+// What stands there if not all orders and pegs are kept.
+#[tactic(auto, unfolding(crate::specs::Layout::risks_unknown))]
+pub(crate) fn risks_unknown() -> &'static [u8]
+    ensures { result.now ≡ risks_unknown }
+{
+    b"<p>Not known: this takes all orders and pegs of the day, and not all are on this page.</p>\n"
+}
+
+// What the table of the bookings at risk begins with.
+#[tactic(auto, unfolding(crate::specs::Layout::risk_front))]
+pub(crate) fn risk_front() -> &'static [u8]
+    ensures { result.now ≡ risk_front }
+{
+    b"<table class=\"list even\" aria-label=\"Promises at risk\"><thead><tr><th class=t scope=col>Item</th><th scope=col>Booking</th><th scope=col>Pieces</th><th scope=col>Week</th><th class=t scope=col>Latest order</th><th scope=col>Weeks late</th></tr></thead>\n<tbody>"
+}
+
+// What comes between the item of a booking and its number.
+#[tactic(auto, unfolding(crate::specs::Layout::risk_booking))]
+pub(crate) fn risk_booking() -> &'static [u8]
+    ensures { result.now ≡ risk_booking }
+{
+    b"</th><td>"
+}
+
+// The pieces and the week of a booking at risk.
+#[tactic(auto, unfolding(crate::specs::Layout::risk_middle))]
+pub(crate) fn risk_middle() -> &'static [Part]
+    ensures { map drawn_of result.now ≡ risk_middle }
+{
+    &[
+        Part::Markup(b"</td>"),
+        Part::Number(3),
+        Part::Number(1),
+        Part::Markup(b"<td class=t>"),
+    ]
+}
+
+// The late order that a booking waits for.
+#[tactic(auto, unfolding(crate::specs::Layout::risk_order))]
+pub(crate) fn risk_order() -> &'static [Part]
+    ensures { map drawn_of result.now ≡ risk_order }
+{
+    &[
+        Part::Cell(5),
+        Part::Markup(b" "),
+        Part::Cell(7),
+        Part::Markup(b" "),
+        Part::Cell(6),
+    ]
+}
+
+// What stands above the overloads if the tables are given.
+#[tactic(auto, unfolding(crate::specs::Layout::work_note))]
+pub(crate) fn work_note() -> &'static [u8]
+    ensures { result.now ≡ work_note }
+{
+    b"<p class=note>Behind each of the first 100 stand the operations that load it, those first that take the most time.</p>\n"
+}
+
+// What an overload begins with that has its operations behind it.
+#[tactic(auto, unfolding(crate::specs::Layout::work_open))]
+pub(crate) fn work_open() -> &'static [Part]
+    ensures { map drawn_of result.now ≡ work_open }
+{
+    &[
+        Part::Markup(b"<li><details><summary><b>"),
+        Part::Cell(2),
+        Part::Cell(3),
+        Part::Markup(b"</b> <a href=\"#c-"),
+        Part::Cell(0),
+        Part::Markup(b"\">"),
+        Part::Cell(0),
+        Part::Markup(b"</a>, week "),
+        Part::Cell(1),
+        Part::Markup(b": "),
+        Part::Cell(9),
+        Part::Markup(b" min over; "),
+    ]
+}
+
+// How many operations load it.
+#[tactic(auto, unfolding(crate::specs::Layout::work_count))]
+pub(crate) fn work_count() -> &'static [Part]
+    ensures { map drawn_of result.now ≡ work_count }
+{
+    &[
+        Part::Cell(0),
+        Part::Markup(b" "),
+        Part::Cell(1),
+        Part::Markup(b"</summary>\n"),
+    ]
+}
+
+// What the table of these operations begins with.
+#[tactic(auto, unfolding(crate::specs::Layout::work_head))]
+pub(crate) fn work_head() -> &'static [Part]
+    ensures { map drawn_of result.now ≡ work_head }
+{
+    &[
+        Part::Markup(b"<div class=scroll tabindex=0 role=region aria-label=\"What loads "),
+        Part::Cell(0),
+        Part::Markup(b" in week "),
+        Part::Cell(1),
+        Part::Markup(b"\"><table class=\"list waits\" aria-label=\"Operations at "),
+        Part::Cell(0),
+        Part::Markup(b" in week "),
+        Part::Cell(1),
+        Part::Markup(
+            b"\"><thead><tr><th class=t scope=col>Order</th><th scope=col>Operation</th><th scope=col>Minutes</th><th scope=col>Share of capacity</th><th scope=col>Start</th><th scope=col>Due week</th><th scope=col>Weeks late</th></tr></thead>\n<tbody>",
+        ),
+    ]
+}
+
+// The order of an operation.
+#[tactic(auto, unfolding(crate::specs::Layout::work_name))]
+pub(crate) fn work_name() -> &'static [Part]
+    ensures { map drawn_of result.now ≡ work_name }
+{
+    &[
+        Part::Cell(0),
+        Part::Markup(b" "),
+        Part::Cell(2),
+        Part::Markup(b" "),
+        Part::Cell(1),
+    ]
+}
+
+// The number of an operation.
+#[tactic(auto, unfolding(crate::specs::Layout::work_operation))]
+pub(crate) fn work_operation() -> &'static [Part]
+    ensures { map drawn_of result.now ≡ work_operation }
+{
+    &[Part::Markup(b"</th>"), Part::Number(0)]
+}
+
+// The share of a capacity that a time takes.
+#[tactic(auto, unfolding(crate::specs::Layout::work_share))]
+pub(crate) fn work_share() -> &'static [Part]
+    ensures { map drawn_of result.now ≡ work_share }
+{
+    &[
+        Part::Markup(b"<td>"),
+        Part::Cell(0),
+        Part::Cell(1),
+        Part::Markup(b"</td>"),
+    ]
+}
+
+// The start, the due week and the lateness of the order of an operation.
+#[tactic(auto, unfolding(crate::specs::Layout::work_back))]
+pub(crate) fn work_back() -> &'static [Part]
+    ensures { map drawn_of result.now ≡ work_back }
+{
+    &[
+        Part::Number(5),
+        Part::Number(3),
+        Part::Number(7),
+        Part::Markup(b"</tr>\n"),
+    ]
+}
+
+// How many more operations there are.
+#[tactic(auto, unfolding(crate::specs::Layout::work_rest))]
+pub(crate) fn work_rest() -> &'static [Part]
+    ensures { map drawn_of result.now ≡ work_rest }
+{
+    &[
+        Part::Markup(b"<tr><th scope=row>and "),
+        Part::Cell(0),
+        Part::Markup(b" more</th><td></td>"),
+    ]
+}
+
+// What stands in place of an operation for what else a load has.
+#[tactic(auto, unfolding(crate::specs::Layout::work_other))]
+pub(crate) fn work_other() -> &'static [u8]
+    ensures { result.now ≡ work_other }
+{
+    b"<tr><th scope=row>the rest of this load</th><td></td>"
+}
+
+// What stands in place of an order.
+#[tactic(auto, unfolding(crate::specs::Layout::work_blank))]
+pub(crate) fn work_blank() -> &'static [u8]
+    ensures { result.now ≡ work_blank }
+{
+    b"<td></td><td></td><td class=z></td></tr>\n"
+}
+
+// What the table of operations ends with.
+#[tactic(auto, unfolding(crate::specs::Layout::work_table_end))]
+pub(crate) fn work_table_end() -> &'static [u8]
+    ensures { result.now ≡ work_table_end }
+{
+    b"</tbody></table></div>\n"
+}
+
+// What stands in its place if the operations take more time than the load has.
+#[tactic(auto, unfolding(crate::specs::Layout::work_unknown))]
+pub(crate) fn work_unknown() -> &'static [u8]
+    ensures { result.now ≡ work_unknown }
+{
+    b"<p class=note>By the routings of these tables the orders take more time than this load: they are not those of the day.</p>\n"
+}
+
+// What an overload ends with that has its operations behind it.
+#[tactic(auto, unfolding(crate::specs::Layout::work_end))]
+pub(crate) fn work_end() -> &'static [u8]
+    ensures { result.now ≡ work_end }
+{
+    b"</details></li>\n"
 }

@@ -23,6 +23,16 @@ pub const SOME_ROWS: usize = 10;
 /// The most rows of a list that a page shows, folded ones included.
 pub const MOST_LINES: usize = 1_000;
 
+/// Behind how many overloads stand the operations that load them.
+pub const MOST_EXPLAINED: usize = 100;
+
+/// How many of the most overloaded work centres stand first.
+pub const MOST_OVERLOADED: usize = 3;
+
+/// The unit in which the time over is divided by the capacity. Where capacities have fewer than eleven digits in
+/// thousandths of a minute, different quotients are different numbers of this unit.
+pub const RATE_UNIT: u128 = 1_000_000_000_000_000_000_000;
+
 /// How many weeks stand in a table. The further ones are folded.
 pub const TABLE_WEEKS: usize = 13;
 

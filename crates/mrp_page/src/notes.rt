@@ -1,45 +1,49 @@
 //! What is kept of a day while it is read.
 
 ghost use Rattle.std.specs.Prelude.{◌≡◌, ◌++◌, ◌∷◌, [], OnOk};
-ghost use Rattle.csv.specs.Records.{fields_of};
+ghost use Rattle.mrp_page.specs.Row.{same_text};
 ghost use Rattle.mrp_page.specs.Notes.{counts_at, history_rows, is_shown, none_noted, noted, report_rows};
 
 use crate::counts::Counts;
 use crate::row::Row;
 use crate::section::is_history;
 use crate::spot::{Place, Spot};
-use csv::ByteRecord;
 use mrp_day::Section;
+use mrp_lines::Cells;
 use mrp_qty::NoMemory;
 use std::alloc::Global;
 use std::marker::Model;
-use std::mem;
 
-// The last record read and where it stands, the rows of the history, those of the report of the run
-// that is shown, and how many of both are not kept.
+// Where the last record stands and its first cell, the rows of the history, those of the report of
+// the run that is shown, and how many of both are not kept.
 #[derive(Drop)]
 pub(crate) struct Notes {
+    alloc: Global,
     spot: Spot,
-    last: ByteRecord,
+    last: Vec<u8>,
     history: Vec<Row>,
     report: Vec<Row>,
     counts: Counts,
 }
 
 impl Model for Notes {
-    ghost use Rattle.csv.specs.Records.{fields_of};
     ghost use Rattle.mrp_page.specs.Notes.{Noted};
 
     ghost Value = { Noted };
 
-    ghost view = { λ n. record { spot = n.spot; last = fields_of n.last; history = n.history.items; report = n.report.items; counts = n.counts } };
+    ghost view = { λ n. record { spot = n.spot; last = n.last.items; history = n.history.items; report = n.report.items; counts = n.counts } };
 }
 
 // Adds a row with a copy of these cells.
-fn add_row(rows: &mut Vec<Row>, section: Section, cells: &ByteRecord) -> Result<(), NoMemory>
-    ensures { OnOk result (rows.new.items ≡ rows.old.items ++ (record { section = section; cells = fields_of cells.now } ∷ [])) }
+fn add_row<C: Cells>(
+    alloc: Global,
+    rows: &mut Vec<Row>,
+    section: Section,
+    cells: &C,
+) -> Result<(), NoMemory>
+    ensures { OnOk result (rows.new.items ≡ rows.old.items ++ (record { section = section; cells = C.cells cells.now } ∷ [])) }
 {
-    let copy = cells.clone()?;
+    let copy = cells.to_record(alloc)?;
     let row = Row::new(section, copy);
     rows.push(row)?;
     Ok(())
@@ -56,31 +60,33 @@ fn is_shown(asked: Option<u64>, run: u64) -> bool
 }
 
 // Adds the row of the history that a record is, if it is one.
-fn note_history(
+fn note_history<C: Cells>(
+    alloc: Global,
     history: &mut Vec<Row>,
     takes: Option<Section>,
-    cells: &ByteRecord,
+    cells: &C,
 ) -> Result<(), NoMemory>
-    ensures { OnOk result (history.new.items ≡ history.old.items ++ history_rows takes (fields_of cells.now)) }
+    ensures { OnOk result (history.new.items ≡ history.old.items ++ history_rows takes (C.cells cells.now)) }
 {
     match takes {
-        Some(Section::History) => add_row(history, Section::History, cells),
+        Some(Section::History) => add_row(alloc, history, Section::History, cells),
         _ => Ok(()),
     }
 }
 
 // Adds the row of the report that a record is, if it is one and is of the run that is shown.
-fn note_report(
+fn note_report<C: Cells>(
+    alloc: Global,
     report: &mut Vec<Row>,
     asked: Option<u64>,
     spot: Spot,
-    cells: &ByteRecord,
+    cells: &C,
 ) -> Result<(), NoMemory>
-    ensures { OnOk result (report.new.items ≡ report.old.items ++ report_rows asked spot (fields_of cells.now)) }
+    ensures { OnOk result (report.new.items ≡ report.old.items ++ report_rows asked spot (C.cells cells.now)) }
 {
     match spot.takes {
         Some(Section::History) => Ok(()),
-        Some(section) if is_shown(asked, spot.run) => add_row(report, section, cells),
+        Some(section) if is_shown(asked, spot.run) => add_row(alloc, report, section, cells),
         _ => Ok(()),
     }
 }
@@ -98,14 +104,28 @@ fn note_counts(counts: &mut Counts, asked: Option<u64>, spot: Spot)
     }
 }
 
+// Keeps the first cell of a record, given whether it is that of the record before it.
+fn note_name(last: &mut Vec<u8>, same: bool, name: &[u8]) -> Result<(), NoMemory>
+    requires { same ≡ same_text last.old.items name.now }
+    ensures { OnOk result (last.new.items ≡ name.now) }
+{
+    if same {
+        return Ok(());
+    }
+    last.clear();
+    last.extend_from_slice(name)?;
+    Ok(())
+}
+
 impl Notes {
     // The notes before the first record.
     pub(crate) fn new(alloc: Global) -> Notes
         ensures { result ≡ none_noted }
     {
         Notes {
+            alloc,
             spot: Spot::start(),
-            last: ByteRecord::new(alloc),
+            last: Vec::new(alloc),
             history: Vec::new(alloc),
             report: Vec::new(alloc),
             counts: Counts::none(),
@@ -137,25 +157,26 @@ impl Notes {
     }
 
     // Takes the next record, and keeps its row if the page has room for it. If the last run is
-    // asked for, the rows of a run are dropped when the next run begins. Returns a record to read
-    // the next one into.
-    pub(crate) fn note(
+    // asked for, the rows of a run are dropped when the next run begins.
+    pub(crate) fn note<C: Cells>(
         &mut self,
         items: &[&[u8]],
         asked: Option<u64>,
-        cells: &mut ByteRecord,
+        cells: &C,
     ) -> Result<(), NoMemory>
-        ensures { OnOk result (self.new ≡ noted items.now asked self.old (fields_of cells.old)) }
+        ensures { OnOk result (self.new ≡ noted items.now asked self.old (C.cells cells.now)) }
     {
-        let spot = self.spot.after(items, &self.last, cells);
+        let name = cells.cell(0);
+        let same = self.last.as_slice() == name;
+        let spot = self.spot.after(items, same, cells);
         if asked.is_none() && spot.begins_run() {
             self.report.clear();
         }
-        note_history(&mut self.history, spot.takes, cells)?;
-        note_report(&mut self.report, asked, spot, cells)?;
+        note_history(self.alloc, &mut self.history, spot.takes, cells)?;
+        note_report(self.alloc, &mut self.report, asked, spot, cells)?;
         note_counts(&mut self.counts, asked, spot);
         self.spot = spot;
-        mem::swap(&mut self.last, cells);
+        note_name(&mut self.last, same, name)?;
         Ok(())
     }
 }

@@ -1,65 +1,48 @@
-//! Orders by their numbers, links to them, and the pieces of open ones.
+//! Orders by their numbers, and links to them.
 
-ghost use Rattle.std.specs.Prelude.{◌≡◌, ◌++◌, ◌≤◌, OnOk, map};
-ghost use Rattle.std.specs.List.{find, fold};
+ghost use Rattle.std.specs.Prelude.{◌≡◌, ◌++◌, OnOk, map};
 ghost use Rattle.std.specs.Option.{option_copied};
-ghost use Rattle.mrp_page.specs.Orders.{is_numbered, is_order, is_supplied, linked_html, numbered, order_link, order_words, ordered, pieces_of, with_pieces, with_supplied};
+ghost use Rattle.mrp_page.specs.Orders.{is_numbered, is_order, linked_html, numbered, order_link, order_words, ordered, place_of};
 ghost use Rattle.mrp_page.specs.Template.{drawn_of, row_html};
 
 use crate::amounts::amount;
 use crate::draw::has_item;
 use crate::html::Html;
 use crate::layout::{link_end, link_middle, order_address};
-use crate::limits::MOST_AMOUNT;
 use crate::row::Row;
 use crate::scene::Scene;
 use crate::template::{Part, has_word, put_row};
 use mrp_qty::NoMemory;
 
 // Whether an order is that of this item with this number.
-fn is_numbered(name: &[u8], number: &[u8], order: &Row) -> bool
+pub(crate) fn is_numbered(name: &[u8], number: &[u8], order: &Row) -> bool
     ensures { result ≡ is_numbered name.now number.now order.now }
 {
     order.is_of(name) && has_word(1, number, order)
 }
 
 // Whether an order is that of this item, of this kind, with this number.
-fn is_order(name: &[u8], kind: &[u8], number: &[u8], order: &Row) -> bool
+pub(crate) fn is_order(name: &[u8], kind: &[u8], number: &[u8], order: &Row) -> bool
     ensures { result ≡ is_order name.now kind.now number.now order.now }
 {
     order.is_of(name) && has_word(1, number, order) && has_word(2, kind, order)
 }
 
-// The order among these of an item with this number.
-fn numbered_among<'a>(orders: &'a [Row], name: &[u8], number: &[u8]) -> Option<&'a Row>
-    ensures { option_copied result ≡ find (is_numbered name.now number.now) orders.now }
+// The place of the order with this number among those of its item, which are numbered from 1.
+pub(crate) fn place_of(number: &[u8]) -> usize
+    ensures { result ≡ place_of number.now }
 {
-    for order in orders {
-        if is_numbered(name, number, order) {
-            return Some(order);
-        }
-    }
-    None
-}
-
-// The order among these of an item with this number and kind.
-fn order_among<'a>(orders: &'a [Row], name: &[u8], kind: &[u8], number: &[u8]) -> Option<&'a Row>
-    ensures { option_copied result ≡ find (is_order name.now kind.now number.now) orders.now }
-{
-    for order in orders {
-        if is_order(name, kind, number, order) {
-            return Some(order);
-        }
-    }
-    None
+    amount(number).saturating_sub(1) as usize
 }
 
 // The order of an item with this number, if it is kept.
 pub(crate) fn numbered<'a>(scene: &Scene<'_, 'a>, name: &[u8], number: &[u8]) -> Option<&'a Row>
     ensures { option_copied result ≡ numbered scene.now name.now number.now }
 {
-    let orders = scene.orders_of(name);
-    numbered_among(orders, name, number)
+    match scene.orders_of(name).get(place_of(number)) {
+        Some(order) if is_numbered(name, number, order) => Some(order),
+        _ => None,
+    }
 }
 
 // The order of an item with this number and kind, if it is kept.
@@ -71,8 +54,10 @@ pub(crate) fn ordered<'a>(
 ) -> Option<&'a Row>
     ensures { option_copied result ≡ ordered scene.now name.now kind.now number.now }
 {
-    let orders = scene.orders_of(name);
-    order_among(orders, name, kind, number)
+    match scene.orders_of(name).get(place_of(number)) {
+        Some(order) if is_order(name, kind, number, order) => Some(order),
+        _ => None,
+    }
 }
 
 // Adds what a link to an order begins with.
@@ -120,53 +105,4 @@ pub(crate) fn put_linked(
         Some(order) => put_order_words(page, scene, order, words, row),
         None => put_row(page, words, row),
     }
-}
-
-// Whether a peg is of this supply.
-fn is_supplied(supply: &[u8], source: &[u8], peg: &Row) -> bool
-    ensures { result ≡ is_supplied supply.now source.now peg.now }
-{
-    has_word(6, supply, peg) && has_word(7, source, peg)
-}
-
-// A sum that saturates.
-fn with_pieces(total: u64, peg: &Row) -> u64
-    requires { total ≤ MOST_AMOUNT }
-    ensures value { result ≡ with_pieces total peg.now }
-    ensures most { result ≤ MOST_AMOUNT }
-{
-    (total + amount(peg.cell(8))).min(MOST_AMOUNT)
-}
-
-// A sum with a peg, if that is of this supply.
-fn with_supplied(total: u64, supply: &[u8], source: &[u8], peg: &Row) -> u64
-    requires { total ≤ MOST_AMOUNT }
-    ensures value { result ≡ with_supplied supply.now source.now total peg.now }
-    ensures most { result ≤ MOST_AMOUNT }
-{
-    if is_supplied(supply, source, peg) {
-        with_pieces(total, peg)
-    } else {
-        total
-    }
-}
-
-// How many pieces those of these pegs have together that are of a supply.
-#[tactic(auto, using(crate::proofs::RowLists::fold_next, crate::proofs::RowLists::fold_end))]
-fn supplied(pegs: &[Row], supply: &[u8], source: &[u8]) -> u64
-    ensures { result ≡ fold (with_supplied supply.now source.now) 0 pegs.now }
-{
-    let mut total = 0;
-    for peg in pegs {
-        total = with_supplied(total, supply, source, peg);
-    }
-    total
-}
-
-// How many pieces the pegs of a supply have together.
-pub(crate) fn pieces_of(scene: &Scene<'_, '_>, name: &[u8], supply: &[u8], source: &[u8]) -> u64
-    ensures { result ≡ pieces_of scene.now name.now supply.now source.now }
-{
-    let pegs = scene.pegs_of(name);
-    supplied(pegs, supply, source)
 }

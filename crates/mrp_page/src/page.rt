@@ -1,7 +1,10 @@
 //! A page, drawn from what was kept of a day.
 
 ghost use Rattle.std.specs.Prelude.{◌≡◌, ◌++◌, IfOk, OnOk, flat_map, map, take};
-ghost use Rattle.mrp_page.specs.Page.{head_html, is_told, items_of, middle_html, page_html, page_of, rest_html, told_first, top_html, untold_rows};
+ghost use Rattle.mrp_page.specs.ItemRows.{item_lists};
+ghost use Rattle.std.specs.Option.{option_copied};
+ghost use Rattle.mrp_page.specs.Page.{head_html, is_told, items_of, middle_html, page_html, page_of, rest_html, told_first, top_html, untold_rows, AreRisksIn};
+ghost use Rattle.mrp_page.specs.AtRisk.{RisksView};
 
 use crate::centres::put_centres;
 use crate::counts::Counts;
@@ -11,43 +14,49 @@ use crate::html::Html;
 use crate::item_rows::ItemRows;
 use crate::items::{put_index, put_items};
 use crate::kinds::put_todo;
-use crate::layout::{page_end, page_head, page_top, style};
+use crate::layout::{page_end, page_head, page_items, page_top, style};
 use crate::limits::MOST_ITEMS;
 use crate::notes::Notes;
 use crate::outs::put_outs_section;
+use crate::places::Places;
+use crate::promises::{Risks, put_risks};
 use crate::refused::put_refused;
 use crate::row::Row;
-use crate::rows::{leaders, rows_in, rows_named};
+use crate::rows::{leaders, rows_in};
 use crate::scene::Scene;
 use crate::summary::put_summary;
 use crate::template::put_row;
 use crate::unshown::unshown;
+use crate::weeks::put_start;
 use mrp_day::Section;
+use mrp_facts::Facts;
 use mrp_qty::NoMemory;
 use std::alloc::Global;
 
 // Adds the head of a page.
 #[tactic(auto, unfolding(crate::specs::Page::head_html))]
-fn put_head(page: &mut Html, heading: &Row) -> Result<(), NoMemory>
-    ensures { OnOk result (page.new ≡ page.old ++ head_html heading.now) }
+fn put_head(page: &mut Html, tables: Option<&Facts<'_>>, heading: &Row) -> Result<(), NoMemory>
+    ensures { OnOk result (page.new ≡ page.old ++ head_html (option_copied tables.entry) heading.now) }
 {
     put_row(page, page_top(), heading)?;
     page.markup(style())?;
-    put_row(page, page_head(), heading)
+    put_row(page, page_head(), heading)?;
+    put_start(page, tables)?;
+    put_row(page, page_items(), heading)
 }
 
 // Whether the item of a row has messages.
-fn is_told(messages: &[Row], row: &Row) -> bool
+fn is_told(messages: &Places<'_>, row: &Row) -> bool
     ensures { result ≡ is_told messages.now row.now }
 {
-    !rows_named(messages, row.name()).is_empty()
+    !messages.named(row.name()).is_empty()
 }
 
 // Adds a row if its item has no messages.
 fn add_if_untold<'a>(
     rows: &mut Vec<&'a Row>,
     row: &'a Row,
-    messages: &[Row],
+    messages: &Places<'_>,
 ) -> Result<(), NoMemory>
     ensures { OnOk result (map (λ r. r.now) rows.new.items ≡ map (λ r. r.now) rows.old.items ++ untold_rows messages.now row.now) }
 {
@@ -61,7 +70,7 @@ fn add_if_untold<'a>(
 fn add_untold<'a>(
     rows: &mut Vec<&'a Row>,
     leaders: &[&'a Row],
-    messages: &[Row],
+    messages: &Places<'_>,
 ) -> Result<(), NoMemory>
     ensures { OnOk result (map (λ r. r.now) rows.new.items ≡ map (λ r. r.now) rows.old.items ++ flat_map (untold_rows messages.now) (map (λ r. r.now) leaders.now)) }
 {
@@ -75,12 +84,12 @@ fn add_untold<'a>(
 #[tactic(auto, unfolding(crate::specs::Page::told_first))]
 fn told_first<'a>(
     alloc: Global,
-    messages: &'a [Row],
+    messages: &Places<'a>,
     plan: &'a [Row],
 ) -> Result<Vec<&'a Row>, NoMemory>
     ensures { IfOk result (λ rows. map (λ r. r.now) rows.items ≡ told_first messages.now plan.now) }
 {
-    let mut rows = leaders(alloc, messages)?;
+    let mut rows = leaders(alloc, messages.rows())?;
     let planned = leaders(alloc, plan)?;
     add_untold(&mut rows, planned.as_slice(), messages)?;
     Ok(rows)
@@ -134,13 +143,14 @@ fn put_top(
     alloc: Global,
     page: &mut Html,
     title: &[u8],
+    tables: Option<&Facts<'_>>,
     report: &[Row],
     items: u64,
 ) -> Result<(), NoMemory>
-    ensures { OnOk result (page.new ≡ page.old ++ top_html title.now report.now items) }
+    ensures { OnOk result (page.new ≡ page.old ++ top_html title.now (option_copied tables.entry) report.now items) }
 {
     let heading = heading(alloc, title, report, items)?;
-    put_head(page, &heading)
+    put_head(page, tables, &heading)
 }
 
 // Adds the items that run out first, and the work centres.
@@ -156,7 +166,8 @@ fn put_middle(
 {
     let plan = rows_in(report, Section::Plan);
     put_outs_section(alloc, page, scene, plan, counts.plan)?;
-    put_centres(alloc, page, rows_in(report, Section::Loads), counts.loads)
+    let loads = rows_in(report, Section::Loads);
+    put_centres(alloc, page, scene, loads, counts.loads)
 }
 
 // Adds a page, from what its parts are drawn from.
@@ -166,23 +177,27 @@ fn put_page_of(
     page: &mut Html,
     title: &[u8],
     notes: &Notes,
+    rows: &ItemRows<'_>,
     scene: &Scene<'_, '_>,
+    risks: &Risks,
 ) -> Result<(), NoMemory>
-    ensures { OnOk result (page.new ≡ page.old ++ page_of title.now notes.now scene.now) }
+    requires { rows.now ≡ item_lists notes.now.report }
+    ensures { OnOk result (page.new ≡ page.old ++ page_of title.now notes.now scene.now risks.now) }
 {
     let report = notes.report();
-    let rows = ItemRows::of(report);
+    let messages = rows.messages().rows();
     let loads = rows_in(report, Section::Loads);
     let counts = notes.counts();
-    put_top(alloc, page, title, report, counts.items)?;
-    put_summary(alloc, page, notes.history(), rows.messages(), loads)?;
+    put_top(alloc, page, title, scene.tables(), report, counts.items)?;
+    put_summary(alloc, page, notes.history(), messages, loads, risks)?;
     put_refused(alloc, page, scene.shown(), notes.history(), counts.history)?;
-    put_todo(alloc, page, scene, rows.messages(), counts.messages)?;
+    put_risks(alloc, page, scene, risks)?;
+    put_todo(alloc, page, scene, messages, counts.messages)?;
     put_middle(alloc, page, scene, report, counts)?;
-    put_rest(alloc, page, scene, &rows, counts)
+    put_rest(alloc, page, scene, rows, counts)
 }
 
-// Adds a page.
+// Adds a page, with what the tables of the day add to it if they are given.
 //
 // Errors: `NoMemory` if an allocation fails.
 #[tactic(auto, unfolding(crate::specs::Page::page_html, crate::specs::Page::shown_items))]
@@ -190,14 +205,18 @@ pub(crate) fn put_page(
     alloc: Global,
     page: &mut Html,
     title: &[u8],
+    tables: Option<&Facts<'_>>,
+    items: &[&[u8]],
     notes: &Notes,
 ) -> Result<(), NoMemory>
-    ensures { OnOk result (page.new ≡ page.old ++ page_html title.now notes.now) }
+    ensures { OnOk result ((risks : RisksView) × AreRisksIn items.now notes.now risks × (page.new ≡ page.old ++ page_html title.now (option_copied tables.entry) notes.now risks)) }
 {
-    let rows = ItemRows::of(notes.report());
-    let items = told_first(alloc, rows.messages(), rows.plan())?;
-    let shown = first_rows(items.as_slice());
-    let missed = notes.counts().pegs;
-    let scene = Scene::of(alloc, shown, &rows, notes.history(), missed)?;
-    put_page_of(alloc, page, title, notes, &scene)
+    let rows = ItemRows::of(alloc, notes.report())?;
+    let leaders = told_first(alloc, rows.messages(), rows.plan().rows())?;
+    let shown = first_rows(leaders.as_slice());
+    let counts = notes.counts();
+    let scene = Scene::of(alloc, shown, &rows, notes.history(), counts.pegs, tables)?;
+    let pegs = rows.pegs().places().rows();
+    let risks = Risks::of(alloc, items, counts, rows.orders(), pegs)?;
+    put_page_of(alloc, page, title, notes, &rows, &scene, &risks)
 }

@@ -3,17 +3,21 @@
 ghost use Rattle.std.specs.Prelude.{◌≡◌, ◌≢◌, ◌||◌, ℕ, List, Err, IfErr, IfOk, OnOk, Some, false, true};
 ghost use Rattle.csv.specs.Reading.{ReadRecord};
 ghost use Rattle.csv.specs.Records.{fields_of};
-ghost use Rattle.mrp_page.specs.Notes.{has_run, notes_of};
-ghost use Rattle.mrp_page.specs.Reading.{HasNotFailed, HasRecords, HasStopped, HasWrongFront, IsKeptOf, IsNoDay, IsReading, LacksRun, has_risen_by, is_reading_fault, is_write_fault};
+ghost use Rattle.mrp_lines.specs.Left.{left_of};
+ghost use Rattle.mrp_page.specs.Notes.{has_run, noted, noted_from, notes_of};
+ghost use Rattle.mrp_page.specs.Reading.{HasNotFailed, HasRecords, HasStopped, HasTaken, HasWrongFront, HasWrongRecord, IsKeptOf, IsNoDay, IsReading, LacksRun, has_risen_by, is_reading_fault, is_write_fault};
+ghost use Rattle.mrp_page.specs.Spot.{is_wrong, place_after};
 ghost use Rattle.mrp_rows.specs.Told.{calls_of, failures_of, inner_of};
 
-use crate::fault::{PageFault, read_fault};
+use crate::fault::{PageFault, read_fault, stopped_fault};
 use crate::notes::Notes;
 use crate::steady::Steady;
 use csv::{ByteRecord, Reader, ReaderBuilder};
+use mrp_lines::{Cells, Lines};
 use mrp_qty::NoMemory;
 use mrp_rows::{READ_CALLS, Told};
 use std::alloc::Global;
+use std::io;
 use std::io::Read;
 
 // Reads the next record into the memory of the one before it; false at the end.
@@ -38,6 +42,8 @@ enum Unread {
     Shape,
     // Out of memory.
     NoMemory,
+    // The input failed.
+    Input,
     // The reader of records failed.
     Records(csv::Error),
 }
@@ -53,6 +59,17 @@ impl From<NoMemory> for Unread {
     }
 }
 
+impl From<io::Error> for Unread {
+    ghost use Rattle.std.specs.Prelude.{◌≡◌};
+    ghost use Rattle.mrp_page.specs.declared.read.Unread.TheVariants as unread;
+
+    ghost from_gives = { λ _ given. given ≡ unread.Input };
+
+    fn from(_error: io::Error) -> Unread {
+        Unread::Input
+    }
+}
+
 impl From<csv::Error> for Unread {
     ghost use Rattle.std.specs.Prelude.{◌≡◌};
     ghost use Rattle.mrp_page.specs.declared.read.Unread.TheVariants as unread;
@@ -64,7 +81,79 @@ impl From<csv::Error> for Unread {
     }
 }
 
-// What is kept of the records of a text.
+// Takes a record, and keeps its row if the page has room for it.
+//
+// Errors: `Shape` if no day has the record there, `NoMemory`.
+fn note_record<C: Cells>(
+    notes: &mut Notes,
+    items: &[&[u8]],
+    asked: Option<u64>,
+    cells: &C,
+) -> Result<(), Unread>
+    ensures noted { OnOk result (notes.new ≡ noted items.now asked notes.old (C.cells cells.now)) }
+    ensures wrong { result ≡ Err Unread.Shape → is_wrong (place_after notes.old.spot.place (C.cells cells.now)) ≡ true }
+{
+    notes.note(items, asked, cells)?;
+    if notes.spot().is_wrong() {
+        return Err(Unread::Shape);
+    }
+    Ok(())
+}
+
+// Takes the lines of an input, up to the first that csv has to read. Returns what csv has to find in
+// front of what is left: if a line was taken, a line feed, which csv skips, so that it finds no byte
+// order mark there.
+fn note_lines<R: Read>(
+    lines: &mut Lines<R>,
+    notes: &mut Notes,
+    items: &[&[u8]],
+    asked: Option<u64>,
+) -> Result<&'static [u8], Unread>
+    ensures taken { IfOk result (λ front. (text : List ℕ) → left_of R.remaining lines.old ≡ Some text → HasTaken text items.now asked (left_of R.remaining lines.new) front.now notes.old notes.new) }
+    ensures wrong { result ≡ Err Unread.Shape → (text : List ℕ) → left_of R.remaining lines.old ≡ Some text → HasWrongRecord notes.old.spot.place text }
+{
+    let mut front: &'static [u8] = b"";
+    for _ in 0..u64::MAX {
+        let Some(len) = lines.find()? else {
+            return Ok(front);
+        };
+        let line = lines.line(len);
+        note_record(notes, items, asked, &line)?;
+        lines.advance(len + 1);
+        front = b"\n";
+    }
+    // Not reached: no input has so many lines.
+    Err(Unread::NoMemory)
+}
+
+// Takes all records of an input.
+fn note_records<R: Read + Drop>(
+    alloc: Global,
+    input: R,
+    notes: &mut Notes,
+    items: &[&[u8]],
+    asked: Option<u64>,
+) -> Result<(), Unread>
+    ensures noted { OnOk result ((text : List ℕ) → R.remaining input ≡ Some text → HasRecords text (λ records. notes.new ≡ noted_from items.now asked notes.old records)) }
+    ensures wrong { result ≡ Err Unread.Shape → (text : List ℕ) → R.remaining input ≡ Some text → HasWrongRecord notes.old.spot.place text }
+{
+    let mut reader = ReaderBuilder::new()
+        .has_headers(false)
+        .flexible(true)
+        .from_reader(alloc, input);
+    let mut cells = ByteRecord::new(alloc);
+    for _ in 0..u64::MAX {
+        if !read_cells(&mut reader, &mut cells)? {
+            return Ok(());
+        }
+        note_record(notes, items, asked, &cells)?;
+    }
+    // Not reached: no memory has room for so many records.
+    Err(Unread::NoMemory)
+}
+
+// What is kept of the records of a text. Its lines are taken as they are up to the first that may
+// not be a record without quotes, and csv reads the rest: a reader of csv is dear to make.
 fn read_records<R: Read + Drop>(
     alloc: Global,
     input: R,
@@ -74,23 +163,11 @@ fn read_records<R: Read + Drop>(
     ensures noted { IfOk result (λ notes. (text : List ℕ) → R.remaining input ≡ Some text → HasRecords text (λ records. notes ≡ notes_of items.now asked records)) }
     ensures wrong { result ≡ Err Unread.Shape → (text : List ℕ) → R.remaining input ≡ Some text → HasWrongFront text }
 {
-    let mut reader = ReaderBuilder::new()
-        .has_headers(false)
-        .flexible(true)
-        .from_reader(alloc, input);
-    let mut cells = ByteRecord::new(alloc);
+    let mut lines = Lines::new(alloc, input)?;
     let mut notes = Notes::new(alloc);
-    for _ in 0..u64::MAX {
-        if !read_cells(&mut reader, &mut cells)? {
-            return Ok(notes);
-        }
-        notes.note(items, asked, &mut cells)?;
-        if notes.spot().is_wrong() {
-            return Err(Unread::Shape);
-        }
-    }
-    // Not reached: no memory has room for so many records.
-    Err(Unread::NoMemory)
+    let front = note_lines(&mut lines, &mut notes, items, asked)?;
+    note_records(alloc, front.chain(lines), &mut notes, items, asked)?;
+    Ok(notes)
 }
 
 // Whether a count has risen by this number.
@@ -139,6 +216,7 @@ fn read_notes<R: Read>(
         Ok(notes) => Ok(notes),
         Err(Unread::Shape) => Err(PageFault::Shape),
         Err(Unread::NoMemory) => Err(PageFault::NoMemory),
+        Err(Unread::Input) => Err(stopped_fault(has_stopped(input, calls, failures))),
         Err(Unread::Records(error)) => {
             Err(read_fault(&error, has_stopped(input, calls, failures)))
         }
@@ -171,6 +249,7 @@ pub(crate) fn read_day<R: Read>(
     ensures stopped { result ≡ Err PageFault.Read → HasStopped input.old input.new }
     ensures read { result ≢ Err PageFault.Read → HasNotFailed input.old input.new }
     ensures fault { IfErr result (λ fault. is_write_fault fault ≡ false) }
+    ensures tables { result ≢ Err PageFault.Tables }
 {
     let notes = read_notes(alloc, input, items, asked)?;
     let spot = notes.spot();

@@ -67,7 +67,7 @@ fn asked_of<'a>(history: &'a [Row], call: &'a Row) -> &'a Row
 
 // Adds a number that links to its entry on the same page.
 #[tactic(auto, unfolding(crate::specs::Refused::entry_link_html))]
-fn put_entry_link(page: &mut Html, number: &[u8]) -> Result<(), NoMemory>
+pub(crate) fn put_entry_link(page: &mut Html, number: &[u8]) -> Result<(), NoMemory>
     ensures { OnOk result (page.new ≡ page.old ++ entry_link_html number.now) }
 {
     page.markup(entry_link_open())?;
@@ -86,11 +86,7 @@ fn has_entry(history: &[Row], number: &[u8]) -> bool
 
 // Adds the number of an entry, as a link if the entry is on the page.
 #[tactic(auto, unfolding(crate::specs::Refused::entry_name_html))]
-pub(crate) fn put_entry_name(
-    page: &mut Html,
-    history: &[Row],
-    number: &[u8],
-) -> Result<(), NoMemory>
+fn put_entry_name(page: &mut Html, history: &[Row], number: &[u8]) -> Result<(), NoMemory>
     ensures { OnOk result (page.new ≡ page.old ++ entry_name_html history.now number.now) }
 {
     if has_entry(history, number) {

@@ -3,7 +3,7 @@
 ghost use Rattle.std.specs.Prelude.{◌≡◌, ◌++◌, ◌≤◌, [], IfOk, IfSome, OnOk, drop, length, map, not, take, unwrap_or};
 ghost use Rattle.std.specs.List.{position};
 ghost use Rattle.mrp_page.specs.Row.{is_in, is_of};
-ghost use Rattle.mrp_page.specs.Rows.{greatest, higher, leader_rows, leaders, rank, ranked, rows_in, rows_named};
+ghost use Rattle.mrp_page.specs.Rows.{greatest, higher, leader_rows, leaders, rank, ranked, rows_in};
 
 use crate::row::Row;
 use mrp_day::Section;
@@ -24,15 +24,8 @@ fn first_out(rows: &[Row], section: Section) -> Option<usize>
     rows.iter().position(|row| !row.is_in(section))
 }
 
-// The place of the first row of an item or a work centre.
-fn first_of(rows: &[Row], name: &[u8]) -> Option<usize>
-    ensures { result ≡ position (is_of name.now) rows.now }
-{
-    rows.iter().position(|row| row.is_of(name))
-}
-
 // The place of the first row that is not of this item or work centre.
-fn first_other(rows: &[Row], name: &[u8]) -> Option<usize>
+pub(crate) fn first_other(rows: &[Row], name: &[u8]) -> Option<usize>
     ensures { result ≡ position (λ r. not (is_of name.now r)) rows.now }
 {
     rows.iter().position(|row| !row.is_of(name))
@@ -62,22 +55,6 @@ pub(crate) fn rows_in(rows: &[Row], section: Section) -> &[Row]
 {
     let rest = rows_from(rows, first_in(rows, section));
     rows_before(rest, first_out(rest, section))
-}
-
-// The rows of an item or a work centre, which stand together, given the place of the first.
-pub(crate) fn stretch_of<'a>(rows: &'a [Row], first: Option<usize>, name: &[u8]) -> &'a [Row]
-    requires { first ≡ position (is_of name.now) rows.now }
-    ensures { result.now ≡ rows_named name.now rows.now }
-{
-    let rest = rows_from(rows, first);
-    rows_before(rest, first_other(rest, name))
-}
-
-// The rows of an item or a work centre in a section, which stand together.
-pub(crate) fn rows_named<'a>(rows: &'a [Row], name: &[u8]) -> &'a [Row]
-    ensures { result.now ≡ rows_named name.now rows.now }
-{
-    stretch_of(rows, first_of(rows, name), name)
 }
 
 // Adds a row that is not of the same item or work centre as the row before it.

@@ -1,57 +1,74 @@
 //! What messages, orders and pegs are drawn from.
 
-ghost use Rattle.std.specs.Prelude.{◌≡◌, IfOk, map};
+ghost use Rattle.std.specs.Prelude.{◌≡◌, [], IfOk, map};
+ghost use Rattle.std.specs.Option.{option_map_or, option_copied};
+ghost use Rattle.mrp_page.specs.Draw.{has_item};
+ghost use Rattle.mrp_page.specs.Pegs.{pieces_of_order, waits_for};
 ghost use Rattle.mrp_page.specs.Rows.{rows_named};
 ghost use Rattle.mrp_page.specs.Scene.{scene_of};
 
 use crate::item_rows::ItemRows;
+use crate::pegs::Pegs;
 use crate::places::Places;
 use crate::row::Row;
+use mrp_facts::Facts;
 use mrp_qty::NoMemory;
 use std::alloc::Global;
 use std::marker::Model;
 
 // The items that are shown, each by a row of it, the orders, the pegs and the entries of the history that
-// are kept, and whether all pegs are.
+// are kept, whether all pegs are, and the tables of the day if they are given.
 #[derive(Drop)]
 pub(crate) struct Scene<'s, 'a> {
     shown: &'s [&'a Row],
-    orders: Places<'a>,
-    pegs: Places<'a>,
-    history: &'a [Row],
+    orders: &'s Places<'a>,
+    pegs: &'s Pegs<'a>,
+    entries: Places<'a>,
     whole: bool,
+    tables: Option<&'s Facts<'s>>,
 }
 
 impl<'s, 'a> Model for Scene<'s, 'a> {
     ghost use Rattle.std.specs.Prelude.{map};
+    ghost use Rattle.std.specs.Option.{option_copied};
     ghost use Rattle.mrp_page.specs.Scene.{SceneView};
 
     ghost Value = { SceneView };
 
-    ghost view = { λ s. record { shown = map (λ r. r.now) s.shown.now; orders = s.orders; pegs = s.pegs; history = s.history.now; whole = s.whole } };
+    ghost view = { λ s. record { shown = map (λ r. r.now) s.shown.now; orders = s.orders.now; pegs = s.pegs.now; history = s.entries; whole = s.whole; tables = option_copied s.tables } };
 }
 
 impl<'s, 'a> Scene<'s, 'a> {
-    // What a page that shows these items is drawn from, given how many pegs are not kept.
+    // What a page that shows these items is drawn from, given how many pegs are not kept, and the tables or none.
     pub(crate) fn of(
         alloc: Global,
         shown: &'s [&'a Row],
-        rows: &ItemRows<'a>,
+        rows: &'s ItemRows<'a>,
         history: &'a [Row],
         missed: u64,
+        tables: Option<&'s Facts<'s>>,
     ) -> Result<Scene<'s, 'a>, NoMemory>
-        ensures { IfOk result (λ scene. scene ≡ scene_of (map (λ r. r.now) shown.now) rows.now history.now missed) }
+        ensures { IfOk result (λ scene. scene ≡ scene_of (map (λ r. r.now) shown.now) rows.now history.now missed (option_copied tables.entry)) }
     {
-        let orders = Places::of(alloc, rows.orders())?;
-        let pegs = Places::of(alloc, rows.pegs())?;
+        let orders = rows.orders();
+        let pegs = rows.pegs();
+        let entries = Places::of(alloc, history)?;
         let whole = missed == 0;
         Ok(Scene {
             shown,
             orders,
             pegs,
-            history,
+            entries,
             whole,
+            tables,
         })
+    }
+
+    // The tables of the day, if they are given.
+    pub(crate) fn tables(&self) -> Option<&'s Facts<'s>>
+        ensures { option_copied result ≡ self.now.tables }
+    {
+        self.tables
     }
 
     pub(crate) fn shown(&self) -> &'s [&'a Row]
@@ -63,13 +80,14 @@ impl<'s, 'a> Scene<'s, 'a> {
     pub(crate) fn history(&self) -> &'a [Row]
         ensures { result.now ≡ self.now.history }
     {
-        self.history
+        self.entries.rows()
     }
 
-    pub(crate) fn pegs(&self) -> &'a [Row]
-        ensures { result.now ≡ self.now.pegs }
+    // Whether an entry is on the page.
+    pub(crate) fn has_entry(&self, number: &[u8]) -> bool
+        ensures { result ≡ has_item self.now.history number.now }
     {
-        self.pegs.rows()
+        self.entries.has(number)
     }
 
     // Whether all pegs are kept.
@@ -77,6 +95,13 @@ impl<'s, 'a> Scene<'s, 'a> {
         ensures { result ≡ self.now.whole }
     {
         self.whole
+    }
+
+    // The orders that are kept.
+    pub(crate) fn orders(&self) -> &'a [Row]
+        ensures { result.now ≡ self.now.orders }
+    {
+        self.orders.rows()
     }
 
     // The orders of an item.
@@ -90,6 +115,20 @@ impl<'s, 'a> Scene<'s, 'a> {
     pub(crate) fn pegs_of(&self, name: &[u8]) -> &'a [Row]
         ensures { result.now ≡ rows_named name.now self.now.pegs }
     {
-        self.pegs.named(name)
+        self.pegs.places().named(name)
+    }
+
+    // How many pieces the pegs of an open order of an item have together.
+    pub(crate) fn pieces_of_order(&self, name: &[u8], order: &[u8]) -> u64
+        ensures { result ≡ pieces_of_order self.now.pegs name.now order.now }
+    {
+        self.pegs.pieces_of_order(name, order)
+    }
+
+    // The pegs that the orders of an item wait for, if they wait for any.
+    pub(crate) fn waits_for(&self, name: &[u8]) -> Option<&'s Vec<&'a Row>>
+        ensures { option_map_or (λ pegs. map (λ r. r.now) pegs.now.items) result [] ≡ waits_for self.now.pegs name.now }
+    {
+        self.pegs.waits_for(name)
     }
 }

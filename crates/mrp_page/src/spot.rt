@@ -1,14 +1,13 @@
 //! Where the records of a day stand.
 
 ghost use Rattle.std.specs.Prelude.{◌≡◌};
-ghost use Rattle.csv.specs.Records.{fields_of};
-ghost use Rattle.mrp_page.specs.Spot.{after, begun, begins_run, counted, has_room, inside, is_among, is_end, is_row, is_wanted, is_wrong, leads, place_after, room_at, run_at, section_if, start, starts_at, wants};
+ghost use Rattle.mrp_page.specs.Spot.{begun, begins_run, counted, has_room, inside, is_among, is_end, is_row, is_wanted, is_wrong, leads_if, place_after, room_at, run_at, section_if, spot_if, start, starts_at, wants};
 
-use crate::cells::{are_texts, cell_of};
+use crate::cells::are_texts;
 use crate::limits::MOST_ITEMS;
 use crate::section::{is_by_weeks, is_of_items, is_plan, items_of, next_of, room_of};
-use csv::ByteRecord;
 use mrp_day::Section;
+use mrp_lines::Cells;
 
 // What a record is within a day.
 #[derive(Clone, Copy, Debug, PartialEq, Eq)]
@@ -44,8 +43,8 @@ pub(crate) struct Spot {
 }
 
 // What a record is where a section has to begin.
-fn begun(section: Section, cells: &ByteRecord) -> Place
-    ensures { result ≡ begun section (fields_of cells.now) }
+fn begun<C: Cells>(section: Section, cells: &C) -> Place
+    ensures { result ≡ begun section (C.cells cells.now) }
 {
     if are_texts(cells, &[section.line()]) {
         Place::Line(section)
@@ -55,8 +54,8 @@ fn begun(section: Section, cells: &ByteRecord) -> Place
 }
 
 // What a record is after a section's header: a row, or the line of the next section.
-fn inside(section: Section, cells: &ByteRecord) -> Place
-    ensures { result ≡ inside section (fields_of cells.now) }
+fn inside<C: Cells>(section: Section, cells: &C) -> Place
+    ensures { result ≡ inside section (C.cells cells.now) }
 {
     if cells.len() == section.columns().len() {
         Place::Row(section)
@@ -73,13 +72,13 @@ fn is_among(items: &[&[u8]], name: &[u8]) -> bool
 }
 
 // Whether a page should show a row of a section: if items are named, only rows of these items.
-fn wants(items: &[&[u8]], section: Section, cells: &ByteRecord) -> bool
-    ensures { result ≡ wants items.now section (fields_of cells.now) }
+fn wants<C: Cells>(items: &[&[u8]], section: Section, cells: &C) -> bool
+    ensures { result ≡ wants items.now section (C.cells cells.now) }
 {
     if items.is_empty() || !is_of_items(section) {
         return true;
     }
-    is_among(items, cell_of(cells, 0))
+    is_among(items, cells.cell(0))
 }
 
 impl Place {
@@ -91,8 +90,8 @@ impl Place {
     }
 
     // What the next record is.
-    fn after(self, cells: &ByteRecord) -> Place
-        ensures { result ≡ place_after self (fields_of cells.now) }
+    fn after<C: Cells>(self, cells: &C) -> Place
+        ensures { result ≡ place_after self (C.cells cells.now) }
     {
         match self {
             Place::Front => begun(Section::History, cells),
@@ -111,8 +110,8 @@ impl Place {
 }
 
 // Whether a record is a row that a page should show.
-fn is_wanted(items: &[&[u8]], place: Place, cells: &ByteRecord) -> bool
-    ensures { result ≡ is_wanted items.now place (fields_of cells.now) }
+fn is_wanted<C: Cells>(items: &[&[u8]], place: Place, cells: &C) -> bool
+    ensures { result ≡ is_wanted items.now place (C.cells cells.now) }
 {
     match place {
         Place::Row(section) => wants(items, section, cells),
@@ -121,11 +120,11 @@ fn is_wanted(items: &[&[u8]], place: Place, cells: &ByteRecord) -> bool
 }
 
 // Whether a row of a plan says that an order starts in its week.
-fn starts_at(place: Place, cells: &ByteRecord) -> bool
-    ensures { result ≡ starts_at place (fields_of cells.now) }
+fn starts_at<C: Cells>(place: Place, cells: &C) -> bool
+    ensures { result ≡ starts_at place (C.cells cells.now) }
 {
     match place {
-        Place::Row(section) => is_plan(section) && cell_of(cells, 6) != b"0".as_slice(),
+        Place::Row(section) => is_plan(section) && cells.cell(6) != b"0".as_slice(),
         _ => false,
     }
 }
@@ -191,11 +190,12 @@ impl Spot {
         )
     }
 
-    // Whether a record is not of the same item, or work centre, as the row before it.
-    fn leads(self, last: &ByteRecord, cells: &ByteRecord) -> bool
-        ensures { result ≡ leads self (fields_of last.now) (fields_of cells.now) }
+    // Whether a record is not of the same item, or work centre, as the row before it, given whether
+    // its first cell is that of the record before it.
+    fn leads(self, same: bool) -> bool
+        ensures { result ≡ leads_if self same }
     {
-        !(self.place.is_row() && cell_of(last, 0) == cell_of(cells, 0))
+        !(self.place.is_row() && same)
     }
 
     // Whether a page has room for a row of a section: while the section is not full; for the first
@@ -234,14 +234,14 @@ impl Spot {
         }
     }
 
-    // Where the next record stands, given the last one.
-    pub(crate) fn after(self, items: &[&[u8]], last: &ByteRecord, cells: &ByteRecord) -> Spot
-        ensures { result ≡ after items.now self (fields_of last.now) (fields_of cells.now) }
+    // Where the next record stands, given whether its first cell is that of the last one.
+    pub(crate) fn after<C: Cells>(self, items: &[&[u8]], same: bool, cells: &C) -> Spot
+        ensures { result ≡ spot_if items.now self (place_after self.place (C.cells cells.now)) same (C.cells cells.now) }
     {
         let place = self.place.after(cells);
         let row = place.is_row();
         let wanted = is_wanted(items, place, cells);
-        let leads = wanted && self.leads(last, cells);
+        let leads = wanted && self.leads(same);
         let urgent = leads && starts_at(place, cells);
         let takes = wanted && self.room_at(place, leads, urgent);
         Spot {

@@ -28,21 +28,18 @@ nav a{margin-right:1.2rem;white-space:nowrap}
 .sum a{border-left:4px solid #b9c3cd;padding:.2rem .7rem .2rem .5rem;background:#f5f7f9;color:inherit;text-decoration:none}
 .sum b{font-size:1.35rem;margin-right:.3rem}
 .sum .none b{color:#66727f;font-weight:400}
-.kind,.todo td{border-left:4px solid #b9c3cd;padding-left:.6rem}
+.kind,.said li{border-left:4px solid #b9c3cd;padding-left:.6rem}
 .kind{margin:.5rem 0}
-.sum .late,.kind.late,.todo .late td{border-color:#c53030}
-.sum .release,.kind.release,.todo .release td{border-color:#2f855a}
-.sum .in,.kind.in,.todo .in td{border-color:#b7791f}
-.sum .out,.kind.out,.todo .out td{border-color:#2b6cb0}
-.sum .cancel,.kind.cancel,.todo .cancel td{border-color:#6b7785}
+.sum .late,.kind.late,.said .late{border-color:#c53030}
+.sum .release,.kind.release,.said .release{border-color:#2f855a}
+.sum .in,.kind.in,.said .in{border-color:#b7791f}
+.sum .out,.kind.out,.said .out{border-color:#2b6cb0}
+.sum .cancel,.kind.cancel,.said .cancel{border-color:#6b7785}
 table{border-collapse:collapse}
 caption{text-align:left;padding:.2rem 0}
 caption span{position:sticky;left:0}
 th{font-weight:400;text-align:left}
-.todo th,.todo td{padding-top:.08rem;padding-bottom:.08rem}
-.todo:has(tbody:empty) thead{display:none}
-.todo tbody:empty::after{content:\"Nothing to do\"}
-.item .todo th:first-child,.item .todo thead{display:none}
+.said li{padding-top:.08rem;padding-bottom:.08rem}
 .item details>.scroll{display:inline-block;vertical-align:top;max-width:100%;margin-right:2.5rem}
 .list{margin:.2rem 0 .6rem}
 .list th,.list td{padding:.08rem 1rem .08rem 0;text-align:right;vertical-align:top}
@@ -53,6 +50,8 @@ th{font-weight:400;text-align:left}
 .even th,.even td{overflow-wrap:anywhere}
 .even th:first-child,.even .t{width:26%}
 .over b{display:inline-block;min-width:5.5em;text-align:right}
+.over details>.scroll{margin:0 0 .4rem 2rem}
+.over details>.note{margin-left:2rem}
 .waits td:last-child{color:#b32626;font-weight:600}
 .waits td.z:last-child{color:#66727f;font-weight:400}
 .index{columns:12rem;column-gap:1.5rem}
@@ -78,5 +77,5 @@ polyline{stroke:#2b6cb0;stroke-width:2}
 .more{margin:.3rem 0}
 main:has(>.more) .item details .scroll::after{content:\"Orders and pegs that are not on this page are counted behind the items.\";color:#566472}
 @media (max-width:40rem){:root{--label:7rem}body{--week:4.2rem;padding:0 .6rem 2rem;font-size:13px}nav{margin:0 -.6rem;padding:.4rem .6rem}nav a{margin-right:.7rem}.sum a{padding:.1rem .5rem;flex:1 1 9rem}.even{font-size:.78rem}.even th,.even td{padding-right:.25rem}.even th:first-child,.even .t{width:22%}}
-@media print{@page{size:landscape;margin:1cm}body{--label:11rem;--week:4.1rem;padding:0;font-size:10px}nav,h2 a,h3 a{display:none}a{color:inherit;text-decoration:none}.scroll{overflow:visible}h2,h3,caption,summary,thead,.note,.chart,.item .todo{break-after:avoid}.scroll+details{break-before:avoid}tr,li,.grid,.chart,.item .todo{break-inside:avoid}section{padding:.5rem 0}svg{height:3rem}summary{list-style:none}#todo .rest>summary,#unkept .rest>summary{display:none}#todo details::details-content,#unkept details::details-content{content-visibility:visible;block-size:auto}.load,.hot,.above,.cut,.todo td,.sum a,.kind{print-color-adjust:exact}}
+@media print{@page{size:landscape;margin:1cm}body{--label:11rem;--week:4.1rem;padding:0;font-size:10px}nav,h2 a,h3 a{display:none}a{color:inherit;text-decoration:none}.scroll{overflow:visible}h2,h3,caption,summary,thead,.note,.chart,.said{break-after:avoid}.scroll+details{break-before:avoid}tr,li,.grid,.chart{break-inside:avoid}section{padding:.5rem 0}svg{height:3rem}summary{list-style:none}#todo .rest>summary,#unkept .rest>summary,#risk .rest>summary{display:none}#todo details::details-content,#unkept details::details-content,#risk details::details-content{content-visibility:visible;block-size:auto}.load,.hot,.above,.cut,.todo td,.sum a,.kind{print-color-adjust:exact}}
 ";

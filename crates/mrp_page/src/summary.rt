@@ -2,10 +2,11 @@
 
 ghost use Rattle.std.specs.Prelude.{◌≡◌, ◌++◌, ◌≤◌, IfOk, OnOk, count_by, length, map};
 ghost use Rattle.mrp_page.specs.Rows.{leader_rows};
-ghost use Rattle.mrp_page.specs.Summary.{calls_tiles, centre_count, centres_tile, count_with, is_over, is_undone, kind_tile, kinds_tiles, over_tile, overloads, place_or, summary_html, tile, tile_html};
+ghost use Rattle.mrp_page.specs.Summary.{calls_tiles, centre_count, centres_tile, count_with, is_over, is_undone, kind_tile, kinds_tiles, over_tile, overloads, place_or, risk_tile, summary_html, tile, tile_html};
 
 use crate::html::{Html, is_zero};
 use crate::layout::{centre_tile, main_open, summary_open, summary_tile};
+use crate::promises::Risks;
 use crate::row::Row;
 use crate::template::{has_word, put_row};
 use csv::ByteRecord;
@@ -85,6 +86,18 @@ fn put_calls(alloc: Global, page: &mut Html, history: &[Row]) -> Result<(), NoMe
     put_tile(alloc, page, undone, b"cancel", b"unkept", b"not cancelled")
 }
 
+// Adds how many bookings are at risk, if that is known.
+#[tactic(auto, unfolding(crate::specs::Summary::risk_tile))]
+fn put_at_risk(alloc: Global, page: &mut Html, risks: &Risks) -> Result<(), NoMemory>
+    ensures { OnOk result (page.new ≡ page.old ++ risk_tile risks.now) }
+{
+    if !risks.is_known() {
+        return Ok(());
+    }
+    let count = risks.rows().len() as u64;
+    put_tile(alloc, page, count, b"late", b"risk", b"at risk")
+}
+
 // The place of a kind of messages, or of all of them if it has none.
 fn place_or(count: u64, place: &[u8]) -> &[u8]
     ensures { result.now ≡ place_or count place.now }
@@ -125,6 +138,13 @@ fn is_over(load: &Row) -> bool
     ensures { result ≡ is_over load.now }
 {
     !is_zero(load.cell(4))
+}
+
+// How many weeks of work centres are over their capacity.
+pub(crate) fn count_overloads(loads: &[Row]) -> usize
+    ensures { result ≡ count_by is_over loads.now }
+{
+    loads.iter().filter(|load| is_over(*load)).count()
 }
 
 // The weeks of work centres that are over their capacity.
@@ -210,11 +230,13 @@ pub(crate) fn put_summary(
     history: &[Row],
     messages: &[Row],
     loads: &[Row],
+    risks: &Risks,
 ) -> Result<(), NoMemory>
-    ensures { OnOk result (page.new ≡ page.old ++ summary_html history.now messages.now loads.now) }
+    ensures { OnOk result (page.new ≡ page.old ++ summary_html history.now messages.now loads.now risks.now) }
 {
     page.markup(summary_open())?;
     put_calls(alloc, page, history)?;
+    put_at_risk(alloc, page, risks)?;
     put_kinds(alloc, page, messages)?;
     put_centres(alloc, page, loads)?;
     page.markup(main_open())

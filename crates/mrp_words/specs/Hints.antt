@@ -19,7 +19,9 @@ begins_utf16 bytes = starts_with nat_eq bytes (255 ∷ 254 ∷ []) || starts_wit
 
 -- a word is one of the commands
 abbrev pub is_command : List ℕ → Bool
-is_command word = bytes_eq word (codes "plan") || (bytes_eq word (codes "live") || (bytes_eq word (codes "page") || bytes_eq word (codes "check")))
+is_command word =
+    bytes_eq word (codes "plan")
+    || (bytes_eq word (codes "live") || (bytes_eq word (codes "page") || (bytes_eq word (codes "check") || bytes_eq word (codes "carry"))))
 
 -- a word begins as an option does
 abbrev pub is_option : List ℕ → Bool

@@ -1,5 +1,5 @@
 -- What the words of the command line ask for, as `clap` reads them (profile).
-use Rattle.std.specs.Prelude.{ℕ, ◌≡◌, ◌≢◌, ◌⊎◌, ◌-◌, ◌^◌, List, [], ◌∷◌, Option, Some, None, option_and_then, option_map, string_bytes, true, false, codes, Result, Ok, Err, ⊤}
+use Rattle.std.specs.Prelude.{ℕ, Bool, ◌≡◌, ◌≢◌, ◌⊎◌, ◌-◌, ◌^◌, List, [], ◌∷◌, Option, Some, None, option_and_then, option_map, string_bytes, true, false, codes, Result, Ok, Err, ⊤}
 use Rattle.std.specs.Int.{IsInRange}
 use Rattle.std.specs.Str.Parse.{digits_value, without_leading_plus}
 use Rattle.clap.specs.Walk.{Row, Rule, Text, first_of, one_of}
@@ -7,7 +7,7 @@ use Rattle.clap.specs.Simple.{App, new_app, new_rule, on_top, subcommand_of, wit
 use Rattle.clap.specs.Kinds.{IsAmong, Kinds}
 use Rattle.clap.specs.Faults.{fault_of}
 use Rattle.clap.specs.Values.{IsUnsignedIn}
-use Rattle.clap.specs.declared.builder.action.ArgAction.TheVariants.{Set}
+use Rattle.clap.specs.declared.builder.action.ArgAction.TheVariants.{Set, SetTrue}
 use Rattle.clap.specs.declared.builder.command.Command.{Command}
 use Rattle.clap.specs.declared.builder.command.Command.TheViews.{out-Command}
 use Rattle.clap.specs.declared.builder.value_parser.ValueParser.TheVariants.{Unsigned}
@@ -15,8 +15,9 @@ use Rattle.clap.specs.declared.error.kind.ErrorKind.{ErrorKind}
 use Rattle.clap.specs.declared.error.kind.ErrorKind.TheVariants.{DisplayHelp, DisplayVersion, OutOfMemory}
 use Rattle.mrp_words.specs.declared.command.TheConstants.{MOST_WORKERS}
 use Rattle.mrp_words.specs.declared.command.Request.{Request}
-use Rattle.mrp_words.specs.declared.command.Request.TheVariants.{Check, Day, Page}
+use Rattle.mrp_words.specs.declared.command.Request.TheVariants.{Carry, Check, Day, Page}
 use Rattle.mrp_words.specs.declared.day.DayCommand.{DayCommand}
+use Rattle.mrp_words.specs.declared.carry_words.CarryWords.{CarryWords}
 use Rattle.mrp_words.specs.declared.page_words.PageWords.{PageWords}
 use Rattle.mrp_words.specs.declared.day.DayCommand.TheVariants.{Plan, Live}
 use Rattle.mrp_words.specs.declared.command.NoRequest.{NoRequest}
@@ -69,6 +70,22 @@ title_rule = record (new_rule (codes "title")) {
   value_names = 1;
 }
 
+-- `--start DATE`, a text, required
+abbrev pub start_rule : Rule
+start_rule = record (new_rule (codes "start")) {
+  long = Some (codes "start");
+  action = Some Set;
+  value_names = 1;
+  required = true;
+}
+
+-- `--numbers`, a flag
+abbrev pub numbers_rule : Rule
+numbers_rule = record (new_rule (codes "numbers")) {
+  long = Some (codes "numbers");
+  action = Some SetTrue;
+}
+
 -- the word of each command that makes a day
 abbrev pub word_of : DayCommand → Text
 word_of Plan = codes "plan"
@@ -84,11 +101,15 @@ day_app command = with_rule (with_rule (new_app (word_of command)) workers_rule)
 
 -- `page`: its word, and its options
 abbrev pub page_app : App
-page_app = with_rule (with_rule (with_rule (new_app (codes "page")) run_rule) items_rule) title_rule
+page_app = with_rule (with_rule (with_rule (with_rule (new_app (codes "page")) run_rule) items_rule) title_rule) dir_rule
 
 -- `check`: its word, and its required option
 abbrev pub check_app : App
 check_app = with_rule (new_app (codes "check")) checked_rule
+
+-- `carry`: its word, and its options
+abbrev pub carry_app : App
+carry_app = with_rule (with_rule (with_rule (new_app (codes "carry")) checked_rule) start_rule) numbers_rule
 
 -- no argument of a command is also one of its subcommands
 abbrev pub HasNoGlobals : Command → Type 0
@@ -100,11 +121,13 @@ mrp_command =
     with_subcommand (
     with_subcommand (
     with_subcommand (
+    with_subcommand (
     with_subcommand (on_top (λ s. record s { has_version = true; no_binary_name = true; subcommand_required = true }) (new_app (codes "mrp")))
     (day_app Plan).top)
     (day_app Live).top)
     page_app.top)
-    check_app.top
+    check_app.top)
+    carry_app.top
 
 -- why clap may refuse the words; help is also a refusal, and words that are accepted have none
 abbrev pub refusals : List Text → Kinds
@@ -135,6 +158,7 @@ abbrev pub HasWorkers : Request → Type 0
 HasWorkers (Day command workers folder) = IsInRange 1 MOST_WORKERS workers
 HasWorkers (Page words) = ⊤
 HasWorkers (Check folder) = ⊤
+HasWorkers (Carry words) = ⊤
 
 -- the folder whose files are to be planned, or that a day is to be checked against, is the one that the words
 -- name
@@ -142,6 +166,7 @@ abbrev pub HasFolder : Option (Text × List Row) → Request → Type 0
 HasFolder entered (Day command workers folder) = option_map string_bytes folder ≡ dir_among entered
 HasFolder entered (Page words) = ⊤
 HasFolder entered (Check folder) = option_map string_bytes folder ≡ dir_among entered
+HasFolder entered (Carry words) = ⊤
 
 -- the subcommand that words enter is this command
 abbrev pub Enters : Option (Text × List Row) → DayCommand → Type 0
@@ -159,9 +184,17 @@ EntersCheck entered rows = entered ≡ Some (codes "check", rows)
 abbrev pub EntersCheckOrDay : Option (Text × List Row) → Type 0
 EntersCheckOrDay entered = ((command : DayCommand) × Enters entered command) ⊎ ((rows : List Row) × EntersCheck entered rows)
 
+-- the subcommand that words enter is `carry`, with these rows
+abbrev pub EntersCarry : Option (Text × List Row) → List Row → Type 0
+EntersCarry entered rows = entered ≡ Some (codes "carry", rows)
+
+-- words enter a command other than `page`
+abbrev pub EntersUnpaged : Option (Text × List Row) → Type 0
+EntersUnpaged entered = EntersCheckOrDay entered ⊎ ((rows : List Row) × EntersCarry entered rows)
+
 -- words enter one of the commands
 abbrev pub IsEntered : Option (Text × List Row) → Type 0
-IsEntered entered = EntersCheckOrDay entered ⊎ ((rows : List Row) × EntersPage entered rows)
+IsEntered entered = EntersUnpaged entered ⊎ ((rows : List Row) × EntersPage entered rows)
 
 -- the run that rows name
 pub record IsRunIn (rows : List Row) (run : ℕ) : Type 0 where
@@ -170,20 +203,37 @@ pub record IsRunIn (rows : List Row) (run : ℕ) : Type 0 where
   pub number : IsUnsignedIn 1 (2 ^ 64 - 1) text
   pub value : run ≡ digits_value 10 (without_leading_plus text)
 
--- rows name this run, or none, these items and this title
-pub record ArePageRows (rows : List Row) (run : Option ℕ) (items title : Option Text) : Type 0 where
+-- rows name this run, or none, these items, this title and this folder of tables
+pub record ArePageRows (rows : List Row) (run : Option ℕ) (items title folder : Option Text) : Type 0 where
   pub named : (number : ℕ) → IsRunIn rows number → run ≡ Some number
   pub last : one_of (codes "run") rows ≡ None → run ≡ None
   pub of_items : items ≡ first_of (codes "items") rows
   pub titled : title ≡ first_of (codes "title") rows
+  pub of_tables : folder ≡ first_of (codes "dir") rows
 
 -- a page is asked for by what rows name
 abbrev pub HasPageWords : List Row → PageWords → Type 0
-HasPageWords rows words = ArePageRows rows words.run (option_map string_bytes words.items) (option_map string_bytes words.title)
+HasPageWords rows words = ArePageRows rows words.run (option_map string_bytes words.items) (option_map string_bytes words.title) (option_map string_bytes words.folder)
 
--- words ask for the page of this run, with these items and this title
-abbrev pub AskForPage : List Text → Option ℕ → Option Text → Option Text → Type 0
-AskForPage words run items title = (rows : List Row) × EntersPage (subcommand_of mrp_command words) rows × ArePageRows rows run items title
+-- words ask for the page of this run, with these items, this title and the tables of this folder
+abbrev pub AskForPage : List Text → Option ℕ → Option Text → Option Text → Option Text → Type 0
+AskForPage words run items title folder = (rows : List Row) × EntersPage (subcommand_of mrp_command words) rows × ArePageRows rows run items title folder
+
+-- rows name this folder and this start, and have the flag of the numbers or not
+pub record AreCarryRows (rows : List Row) (folder start : Option Text) (numbers : Bool) : Type 0 where
+  pub of_folder : folder ≡ first_of (codes "dir") rows
+  pub from : start ≡ first_of (codes "start") rows
+  pub flagged : one_of (codes "numbers") rows ≡ Some (codes "true") → numbers ≡ true
+  pub bare : one_of (codes "numbers") rows ≡ Some (codes "false") → numbers ≡ false
+  pub absent : one_of (codes "numbers") rows ≡ None → numbers ≡ false
+
+-- bookings are to be carried as rows say
+abbrev pub HasCarryWords : List Row → CarryWords → Type 0
+HasCarryWords rows words = AreCarryRows rows (option_map string_bytes words.folder) (option_map string_bytes words.start) words.numbers
+
+-- words ask for the bookings of this folder to be carried from this start on, as a script or as a list of numbers
+abbrev pub AskForCarry : List Text → Text → Text → Bool → Type 0
+AskForCarry words folder start numbers = (rows : List Row) × EntersCarry (subcommand_of mrp_command words) rows × AreCarryRows rows (Some folder) (Some start) numbers
 
 -- words ask for a check against the files of this folder
 abbrev pub AskForCheck : List Text → Text → Type 0
@@ -208,6 +258,7 @@ abbrev pub IsAsAsked : Option (Text × List Row) → Request → Type 0
 IsAsAsked entered (Day command workers folder) = Enters entered command × ((asked : ℕ) → IsBy entered asked → workers ≡ asked)
 IsAsAsked entered (Page words) = (rows : List Row) × EntersPage entered rows × HasPageWords rows words
 IsAsAsked entered (Check folder) = (rows : List Row) × EntersCheck entered rows
+IsAsAsked entered (Carry words) = (rows : List Row) × EntersCarry entered rows × HasCarryWords rows words
 
 -- what an error of `clap` asks for, by its kind
 abbrev pub IsOfKind : ErrorKind → NoRequest → Type 0

@@ -7,8 +7,9 @@ ghost use Rattle.clap.specs.Values.{kind_of};
 ghost use Rattle.clap.specs.Walk.{rule_of};
 ghost use Rattle.clap.specs.Simple.{app_of, subcommand_rows_of};
 ghost use Rattle.mrp_words.specs.Help.{help_line, help_text};
-ghost use Rattle.mrp_words.specs.Words.{Asks, Enters, EntersCheckOrDay, HasFolder, HasNoGlobals, HasWorkers, IsAsAsked, IsBy, IsEntered, IsOfKind, day_app, dir_among, dir_rule, mrp_command, workers_rule};
+ghost use Rattle.mrp_words.specs.Words.{Asks, Enters, EntersCheckOrDay, EntersUnpaged, HasFolder, HasNoGlobals, HasWorkers, IsAsAsked, IsBy, IsEntered, IsOfKind, day_app, dir_among, dir_rule, mrp_command, workers_rule};
 
+use crate::carry_words::{CarryWords, carry_command, carry_words};
 use crate::check_words::check_command;
 use crate::day::DayCommand;
 use crate::page_words::{PageWords, page_command, page_words};
@@ -75,6 +76,7 @@ pub(crate) const EXAMPLE: &str = "Examples:
   mrp live < shop.bundle > shop.day
   mrp page < shop.day > shop.html
   mrp check --dir shop < shop.day
+  mrp carry --dir shop --start 2025-01-13 > kept.csv
 
 Exit status: 0 done, 1 refused or wrong, 2 usage, 3 no memory, 4 read or write failed.";
 
@@ -92,6 +94,8 @@ pub enum Request {
     Page(PageWords),
     /// Check the day on the input against the files of the folder that is named. `clap` requires one.
     Check(Option<String>),
+    /// Carry the bookings of a folder's files into the next period.
+    Carry(CarryWords),
 }
 
 /// Why the words ask for nothing to be done.
@@ -177,7 +181,8 @@ fn command<'a>(alloc: Global) -> Result<Command<'a>, AllocError>
         .subcommand(day_command(alloc, DayCommand::Plan)?)?
         .subcommand(day_command(alloc, DayCommand::Live)?)?
         .subcommand(page_command(alloc)?)?
-        .subcommand(check_command(alloc)?)
+        .subcommand(check_command(alloc)?)?
+        .subcommand(carry_command(alloc)?)
 }
 
 // Why `clap` gave no matches, with its text.
@@ -293,6 +298,19 @@ fn check_or_day(alloc: Global, matches: &ArgMatches<'_>) -> Result<Request, NoRe
     }
 }
 
+fn unpaged_request(alloc: Global, matches: &ArgMatches<'_>) -> Result<Request, NoRequest>
+    requires { EntersUnpaged (subcommand_rows_of matches.now) }
+    ensures workers { IfOk result HasWorkers }
+    ensures asked { IfOk result (IsAsAsked (subcommand_rows_of matches.now)) }
+    ensures folder { IfOk result (HasFolder (subcommand_rows_of matches.now)) }
+    ensures memory { IfErr result (λ none. none ≡ NoRequest.NoMemory) }
+{
+    match matches.subcommand_matches("carry") {
+        Some(found) => Ok(Request::Carry(carry_words(alloc, found)?)),
+        None => check_or_day(alloc, matches),
+    }
+}
+
 fn request_of(alloc: Global, matches: &ArgMatches<'_>) -> Result<Request, NoRequest>
     requires { IsEntered (subcommand_rows_of matches.now) }
     ensures workers { IfOk result HasWorkers }
@@ -302,7 +320,7 @@ fn request_of(alloc: Global, matches: &ArgMatches<'_>) -> Result<Request, NoRequ
 {
     match matches.subcommand_matches("page") {
         Some(found) => Ok(Request::Page(page_words(alloc, found)?)),
-        None => check_or_day(alloc, matches),
+        None => unpaged_request(alloc, matches),
     }
 }
 

@@ -47,7 +47,7 @@ impl Hint {
 fn is_command(word: &str) -> bool
     ensures { result ≡ is_command word.now }
 {
-    word == "plan" || word == "live" || word == "page" || word == "check"
+    word == "plan" || word == "live" || word == "page" || word == "check" || word == "carry"
 }
 
 // Whether a word begins as an option does.

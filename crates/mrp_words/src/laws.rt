@@ -1,10 +1,10 @@
 //! Examples of what the definition of the words says. Each law is the contract of a function that
 //! does nothing.
 
-ghost use Rattle.std.specs.Prelude.{◌≡◌, [], ◌∷◌, Some, None, codes};
+ghost use Rattle.std.specs.Prelude.{◌≡◌, [], ◌∷◌, Some, None, codes, false, true};
 ghost use Rattle.clap.specs.declared.error.kind.ErrorKind.TheVariants as kind;
 ghost use Rattle.mrp_words.specs.declared.day.DayCommand.TheVariants.{Plan, Live};
-ghost use Rattle.mrp_words.specs.Words.{AskFor, AskForCheck, AskForPage, folder_in, refusals};
+ghost use Rattle.mrp_words.specs.Words.{AskFor, AskForCarry, AskForCheck, AskForPage, folder_in, refusals};
 
 /// Words that are accepted, and why others are refused.
 pub fn words()
@@ -16,8 +16,11 @@ pub fn words()
     ensures folder { refusals (codes "plan" ∷ codes "--dir" ∷ codes "shop" ∷ []) ≡ [] }
     ensures page { refusals (codes "page" ∷ []) ≡ [] }
     ensures page_of_items { refusals (codes "page" ∷ codes "--run" ∷ codes "2" ∷ codes "--items=A,B" ∷ codes "--title" ∷ codes "Shop" ∷ []) ≡ [] }
+    ensures page_of_folder { refusals (codes "page" ∷ codes "--dir=shop" ∷ []) ≡ [] }
     ensures live_folder { refusals (codes "live" ∷ codes "--workers=8" ∷ codes "--dir" ∷ codes "shop" ∷ []) ≡ [] }
     ensures check { refusals (codes "check" ∷ codes "--dir" ∷ codes "shop" ∷ []) ≡ [] }
+    ensures carry { refusals (codes "carry" ∷ codes "--dir" ∷ codes "shop" ∷ codes "--start" ∷ codes "2025-01-20" ∷ []) ≡ [] }
+    ensures carried_numbers { refusals (codes "carry" ∷ codes "--numbers" ∷ codes "--start=2025-01-20" ∷ codes "--dir=shop" ∷ []) ≡ [] }
     // They name a folder, or none.
     ensures named { folder_in (codes "plan" ∷ codes "--dir" ∷ codes "shop" ∷ []) ≡ Some (codes "shop") }
     ensures behind { folder_in (codes "plan" ∷ codes "--workers=2" ∷ codes "--dir=shop" ∷ []) ≡ Some (codes "shop") }
@@ -29,11 +32,15 @@ pub fn words()
     ensures two_workers { AskFor (codes "plan" ∷ codes "--workers=2" ∷ []) Plan 2 }
     ensures live_day { AskFor (codes "live" ∷ []) Live 1 }
     ensures live_workers { AskFor (codes "live" ∷ codes "--workers" ∷ codes "8" ∷ []) Live 8 }
-    // They ask for the page of this run, with these items and this title.
-    ensures last_page { AskForPage (codes "page" ∷ []) None None None }
-    ensures asked_page { AskForPage (codes "page" ∷ codes "--run" ∷ codes "2" ∷ codes "--items=A,B" ∷ codes "--title" ∷ codes "Shop" ∷ []) (Some 2) (Some (codes "A,B")) (Some (codes "Shop")) }
+    // They ask for the page of this run, with these items, this title and the tables of this folder.
+    ensures last_page { AskForPage (codes "page" ∷ []) None None None None }
+    ensures dated_page { AskForPage (codes "page" ∷ codes "--dir=shop" ∷ []) None None None (Some (codes "shop")) }
+    ensures asked_page { AskForPage (codes "page" ∷ codes "--run" ∷ codes "2" ∷ codes "--items=A,B" ∷ codes "--title" ∷ codes "Shop" ∷ []) (Some 2) (Some (codes "A,B")) (Some (codes "Shop")) None }
     // They ask for a check against the files of this folder.
     ensures checked { AskForCheck (codes "check" ∷ codes "--dir=shop" ∷ []) (codes "shop") }
+    // They ask for the bookings of this folder to be carried from this day on, as a script or as a list of numbers.
+    ensures carried { AskForCarry (codes "carry" ∷ codes "--dir=shop" ∷ codes "--start=2025-01-20" ∷ []) (codes "shop") (codes "2025-01-20") false }
+    ensures listed { AskForCarry (codes "carry" ∷ codes "--dir=shop" ∷ codes "--start=2025-01-20" ∷ codes "--numbers" ∷ []) (codes "shop") (codes "2025-01-20") true }
     // These ask for help.
     ensures help { refusals (codes "--help" ∷ []) ≡ kind.DisplayHelp ∷ [] }
     ensures short { refusals (codes "-h" ∷ []) ≡ kind.DisplayHelp ∷ [] }
@@ -41,6 +48,7 @@ pub fn words()
     ensures help_of_live { refusals (codes "live" ∷ codes "--help" ∷ []) ≡ kind.DisplayHelp ∷ [] }
     ensures help_of_page { refusals (codes "page" ∷ codes "--help" ∷ []) ≡ kind.DisplayHelp ∷ [] }
     ensures help_of_check { refusals (codes "check" ∷ codes "--help" ∷ []) ≡ kind.DisplayHelp ∷ [] }
+    ensures help_of_carry { refusals (codes "carry" ∷ codes "--help" ∷ []) ≡ kind.DisplayHelp ∷ [] }
     // These ask for the version.
     ensures version { refusals (codes "--version" ∷ []) ≡ kind.DisplayVersion ∷ [] }
     ensures short_version { refusals (codes "-V" ∷ []) ≡ kind.DisplayVersion ∷ [] }
@@ -54,8 +62,11 @@ pub fn words()
     ensures no_live_worker { refusals (codes "live" ∷ codes "--workers=0" ∷ []) ≡ kind.ValueValidation ∷ [] }
     ensures two_folders { refusals (codes "plan" ∷ codes "--dir=a" ∷ codes "--dir=b" ∷ []) ≡ kind.ArgumentConflict ∷ [] }
     ensures no_run { refusals (codes "page" ∷ codes "--run=0" ∷ []) ≡ kind.ValueValidation ∷ [] }
-    ensures page_of_folder { refusals (codes "page" ∷ codes "--dir=shop" ∷ []) ≡ kind.UnknownArgument ∷ [] }
     ensures no_folder { refusals (codes "check" ∷ []) ≡ kind.MissingRequiredArgument ∷ [] }
     ensures check_by_workers { refusals (codes "check" ∷ codes "--dir=shop" ∷ codes "--workers=2" ∷ []) ≡ kind.UnknownArgument ∷ [] }
+    ensures no_start { refusals (codes "carry" ∷ codes "--dir=shop" ∷ []) ≡ kind.MissingRequiredArgument ∷ [] }
+    ensures no_carried_folder { refusals (codes "carry" ∷ codes "--start=2025-01-20" ∷ []) ≡ kind.MissingRequiredArgument ∷ [] }
+    ensures two_starts { refusals (codes "carry" ∷ codes "--dir=shop" ∷ codes "--start=2025-01-20" ∷ codes "--start=2025-01-20" ∷ []) ≡ kind.ArgumentConflict ∷ [] }
+    ensures two_flags { refusals (codes "carry" ∷ codes "--dir=shop" ∷ codes "--start=2025-01-20" ∷ codes "--numbers" ∷ codes "--numbers" ∷ []) ≡ kind.ArgumentConflict ∷ [] }
     ensures no_number { refusals (codes "plan" ∷ codes "--workers=many" ∷ []) ≡ kind.ValueValidation ∷ [] }
 {}

@@ -1,6 +1,7 @@
 //! What the words of the command line ask for, the files of a folder, and hints at what was probably meant.
 #![tactic(auto)]
 
+mod carry_words;
 mod check_words;
 mod command;
 mod day;
@@ -10,6 +11,7 @@ pub mod laws;
 mod page_words;
 mod sights;
 
+pub use carry_words::CarryWords;
 pub use command::{MOST_WORKERS, NoRequest, Request, read_words};
 pub use day::DayCommand;
 pub use files::{FileStore, read_folder};

@@ -4,7 +4,7 @@ ghost use Rattle.std.specs.Prelude.{◌≡◌, IfOk, false};
 ghost use Rattle.clap.specs.Matches.{found_of};
 ghost use Rattle.clap.specs.Simple.{app_of};
 ghost use Rattle.clap.specs.Walk.{rows_of, rule_of};
-ghost use Rattle.mrp_words.specs.Words.{HasNoGlobals, HasPageWords, items_rule, page_app, run_rule, title_rule};
+ghost use Rattle.mrp_words.specs.Words.{HasNoGlobals, HasPageWords, dir_rule, items_rule, page_app, run_rule, title_rule};
 
 use crate::command::{EXAMPLE, text_in};
 use clap::builder::ValueParser;
@@ -17,7 +17,11 @@ any browser opens to standard output. Nothing is fetched, and there is no script
 
 On the page are what is to be done, the most urgent first; the load of each work centre against its
 capacity; for each item its time-phased record, its orders and its pegs; and the history of the calls.
-Each name and each number of the shop stands in the day.";
+Each name and each number of the shop stands in the day. With --dir also the dates of the weeks and each
+item's lead time, lot rule, scrap, safety stock and stock on hand are on the page.";
+
+const ABOUT_TABLES: &str =
+    "The folder of the tables that the day was planned from, whose dates and items are shown too; tables that cannot be the day's are refused";
 
 const ABOUT_RUN: &str =
     "The number of the run that is shown, counted from 1; the last one where it is left out";
@@ -36,6 +40,8 @@ pub struct PageWords {
     pub items: Option<String>,
     /// The title of the page.
     pub title: Option<String>,
+    /// The folder of the tables that the day was planned from.
+    pub folder: Option<String>,
 }
 
 fn run<'a>(alloc: Global) -> Arg<'a>
@@ -72,6 +78,17 @@ fn title<'a>(alloc: Global) -> Arg<'a>
         .help(ABOUT_TITLE)
 }
 
+fn tables<'a>(alloc: Global) -> Arg<'a>
+    ensures rule { rule_of result ≡ dir_rule }
+    ensures local { result.global ≡ false }
+{
+    Arg::new(alloc, "dir")
+        .long("dir")
+        .value_name("D")
+        .action(ArgAction::Set)
+        .help(ABOUT_TABLES)
+}
+
 pub(crate) fn page_command<'a>(alloc: Global) -> Result<Command<'a>, AllocError>
     ensures app { IfOk result (λ made. app_of made ≡ page_app) }
     ensures local { IfOk result HasNoGlobals }
@@ -82,7 +99,8 @@ pub(crate) fn page_command<'a>(alloc: Global) -> Result<Command<'a>, AllocError>
         .after_help(EXAMPLE)
         .arg(run(alloc))?
         .arg(items(alloc))?
-        .arg(title(alloc))
+        .arg(title(alloc))?
+        .arg(tables(alloc))
 }
 
 /// The options in the matches of the subcommand.
@@ -92,5 +110,11 @@ pub(crate) fn page_words(alloc: Global, found: &ArgMatches<'_>) -> Result<PageWo
     let run = found.get_one::<u64>("run");
     let items = text_in(alloc, found, "items")?;
     let title = text_in(alloc, found, "title")?;
-    Ok(PageWords { run, items, title })
+    let folder = text_in(alloc, found, "dir")?;
+    Ok(PageWords {
+        run,
+        items,
+        title,
+        folder,
+    })
 }

@@ -80,6 +80,29 @@ class Toolchains(unittest.TestCase):
         self.assertEqual((status, text.count("\n")), (2, 1))
 
 
+class Stamps(unittest.TestCase):
+    """Five crates, each on all that are before it: 16 ways lead down from the last one to itself and those below."""
+
+    def setUp(self):
+        self.summed, self.crates = [], []
+        for at in range(5):
+            self.crates.append(SimpleNamespace(folder=f"/crates/{at}", name=at, deps=[*self.crates]))
+        self.stamps = toolchain.Stamps(self.sum)
+
+    def sum(self, crate):
+        self.summed.append(crate.name)
+        return 1 + sum(self.stamps.of(dep) for dep in crate.deps)
+
+    def test_each_crate_is_summed_once(self):
+        self.assertEqual(self.stamps.of(self.crates[4]), 16)
+        self.assertEqual(sorted(self.summed), [0, 1, 2, 3, 4])
+
+    def test_a_later_sum_is_made_anew(self):
+        self.stamps.of(self.crates[1])
+        self.stamps.of(self.crates[1])
+        self.assertEqual(self.summed, [1, 0, 1, 0])
+
+
 class Together(InAFolder):
     def crate(self, name, edits, deps=()):
         for at in range(edits):

@@ -22,7 +22,7 @@ class Order(unittest.TestCase):
     def test_with_more_room_the_longest_way_up_has_all_lanes(self):
         it = Plan({**BELOW, "other": []}, {**COSTS, "other": 10}, 4, room=6)
         self.assertEqual(it.start(), {"base": 4, "side": 1, "other": 1})
-        self.assertEqual(it.first(), "base")
+        self.assertEqual([name for name in it.running if it.is_urgent(name)], ["base"])
         it.end("base")
         self.assertEqual(it.start(), {"long": 4})
         it.end("side")
@@ -34,6 +34,12 @@ class Order(unittest.TestCase):
         self.assertEqual(it.start(), {"base": 2, "one": 1, "two": 1})
         it.end("one")
         self.assertEqual(it.start(), {"three": 1})
+
+    def test_a_way_up_that_is_nearly_the_longest_is_urgent_too(self):
+        near = {"one": [], "other": [], "top": ["one", "other"]}
+        it = Plan(near, {"one": 100, "other": 95, "top": 100}, 4, room=7)
+        self.assertEqual(it.start(), {"one": 4, "other": 3})
+        self.assertTrue(it.is_urgent("other"))
 
     def test_no_crate_starts_before_what_it_stands_on_is_proved(self):
         it = plan(4)

@@ -63,7 +63,7 @@ fn files_of_lots<'a>() -> [(&'a str, &'a str, &'a str); 9] {
 }
 
 // Makes that folder, which may exist from an earlier run.
-fn make_folder(files: &impl Files) -> Result<(), Fail> {
+pub(super) fn make_folder(files: &impl Files) -> Result<(), Fail> {
     let _ = fs::create_dir(files, "out");
     let _ = fs::create_dir(files, "out/lots");
     for (path, head, rows) in files_of_lots() {

@@ -220,7 +220,7 @@ fn is_usage(rt: &impl Abort, left: &Left, line: &str) {
 }
 
 // Wrong words, and the first line that is reported for them.
-const WRONG: [(&[&str], &str); 20] = [
+const WRONG: [(&[&str], &str); 22] = [
     (
         &[],
         "error: 'mrp' requires a subcommand but one was not provided",
@@ -264,8 +264,8 @@ const WRONG: [(&[&str], &str); 20] = [
     ),
     (&["page", "more"], "error: unexpected argument 'more' found"),
     (
-        &["page", "--dir", "shop"],
-        "error: unexpected argument '--dir' found",
+        &["page", "--dir"],
+        "error: a value is required for '--dir <D>' but none was supplied",
     ),
     (
         &["page", "--run", "0"],
@@ -278,6 +278,14 @@ const WRONG: [(&[&str], &str); 20] = [
     (
         &["check", "--dir", "shop", "--workers", "2"],
         "error: unexpected argument '--workers' found",
+    ),
+    (
+        &["carry", "--dir", "shop"],
+        "error: the following required arguments were not provided:",
+    ),
+    (
+        &["carry", "--numbers=1"],
+        "error: unexpected value '1' for '--numbers' found; no more were expected",
     ),
     (
         &["--workers", "2"],
@@ -314,17 +322,20 @@ fn help_is_written_to_the_output(rt: HostRuntime) {
     const OF_LIVE: &str = "has the desks of its script make their calls beside one another,\n";
     const OF_PAGE: &str = "Nothing is fetched, and there is no script.";
     const OF_CHECK: &str = "  wrong: report N   the report of run N";
-    const ASKED: [(&[&str], &str, &str); 10] = [
+    const OF_CARRY: &str = "With --numbers a list is written in its place";
+    const ASKED: [(&[&str], &str, &str); 12] = [
         (&["--help"], OF_ALL, OF_PLAN),
         (&["plan", "--help"], OF_PLAN, OF_LIVE),
         (&["live", "--help"], OF_LIVE, OF_PLAN),
         (&["page", "--help"], OF_PAGE, OF_PLAN),
         (&["check", "--help"], OF_CHECK, OF_PLAN),
+        (&["carry", "--help"], OF_CARRY, OF_PLAN),
         (&["help"], OF_ALL, OF_LIVE),
         (&["help", "plan"], OF_PLAN, OF_LIVE),
         (&["help", "live"], OF_LIVE, OF_PLAN),
         (&["help", "page"], OF_PAGE, OF_LIVE),
         (&["help", "check"], OF_CHECK, OF_LIVE),
+        (&["help", "carry"], OF_CARRY, OF_LIVE),
     ];
     for (words, has, lacks) in ASKED {
         let left = left_by(&rt, rt.alloc(), words, Streams::of(""));

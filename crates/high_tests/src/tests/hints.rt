@@ -10,12 +10,13 @@ use std::process::Abort;
 
 #[test]
 fn words_that_name_an_input_are_found(rt: HostRuntime) {
-    const STRAY: [&[&str]; 6] = [
+    const STRAY: [&[&str]; 7] = [
         &["plan", "shop.bundle"],
         &["plan", "--workers", "2", "shop.bundle"],
         &["live", "shop", "--workers", "2"],
         &["page", "shop.day"],
         &["check", "shop.day", "--dir", "shop"],
+        &["carry", "shop", "--start", "2025-01-13"],
         &["plan", "live"],
     ];
     const OTHERS: [&[&str]; 7] = [

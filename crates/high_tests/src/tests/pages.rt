@@ -1,5 +1,6 @@
 //! The page of a day, with an input, an output and an error stream.
 
+use super::checks::make_folder;
 use super::commands::{Left, Streams, has_ended, left_by};
 use super::streams::Turn;
 use super::{made, same};
@@ -135,6 +136,59 @@ fn streams_that_fail_end_a_page(rt: HostRuntime) {
     };
     let left = left_by(&rt, rt.alloc(), &["page"], unwritten);
     has_ended(&rt, &left, 4, "<!doctype ht", "write failed\n");
+    drop(left);
+    drop(text);
+}
+
+// What the plan of the tables of a folder leaves on the output.
+fn day_of_folder<R: Alloc + Abort + Eprint + Files + Threads + Wait + Sync>(
+    rt: &R,
+    alloc: Global,
+    folder: &str,
+) -> String {
+    let left = left_by(rt, alloc, &["plan", "--dir", folder], Streams::of(""));
+    let Left {
+        status: _,
+        output,
+        errors: _errors,
+        interrupted: _,
+    } = left;
+    output
+}
+
+#[test]
+fn a_page_has_what_its_tables_say(rt: HostRuntime) {
+    const SAID: [(&str, &str); 3] = [
+        ("weeks: <b>6</b> from <b>6 Jan</b>; items", "; items: <b>0"),
+        ("<th scope=col>3<br><small>20 Jan</small></th>", "20 Jan 25"),
+        (
+            "; safety stock: 5; on hand: 12</p>",
+            "lead time in shop days",
+        ),
+    ];
+    made(&rt, make_folder(&rt));
+    let text = day_of_folder(&rt, rt.alloc(), "out/lots");
+    for (has, lacks) in SAID {
+        let words = ["page", "--dir", "out/lots"];
+        let left = left_by(&rt, rt.alloc(), &words, Streams::of(&text));
+        is_page(&rt, &left, has, lacks);
+        drop(left);
+    }
+    drop(text);
+}
+
+#[test]
+fn tables_of_another_day_are_refused(rt: HostRuntime) {
+    made(&rt, make_folder(&rt));
+    let text = long_day(&rt, rt.alloc(), 4);
+    let words = ["page", "--dir", "out/lots"];
+    let left = left_by(&rt, rt.alloc(), &words, Streams::of(&text));
+    has_ended(&rt, &left, 1, "", "wrong: tables\n");
+    drop(left);
+    let words = ["page", "--dir", "nowhere"];
+    let left = left_by(&rt, rt.alloc(), &words, Streams::of(&text));
+    let refused = "refused: 4 missing-section calendar 0\n";
+    has_ended(&rt, &left, 1, "", refused);
     drop(left);
     drop(text);
 }

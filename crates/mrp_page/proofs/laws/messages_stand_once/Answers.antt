@@ -1,4 +1,5 @@
-use Rattle.mrp_page.proofs.Todo.{item-messages, stand-once}
+use Rattle.std.proofs.Common.{refl}
+use Rattle.mrp_page.proofs.Todo.{item-sentences, stand-once}
 use Rattle.mrp_page.proofs.TodoKinds.{kind-lines, kinds-are, kinds-once, page-kinds}
 use Rattle.mrp_page.proofs.laws.messages_stand_once.Goals as goal
 
@@ -18,4 +19,7 @@ pub returns-clause-urgency : goal.returns-clause-urgency
 returns-clause-urgency c = stand-once
 
 pub returns-clause-item : goal.returns-clause-item
-returns-clause-item c = item-messages
+returns-clause-item c = item-sentences
+
+pub returns-clause-of_item : goal.returns-clause-of_item
+returns-clause-of_item c = λ rows leader. refl

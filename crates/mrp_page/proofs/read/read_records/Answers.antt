@@ -1,47 +1,19 @@
-use Rattle.std.proofs.Common.{◌≡◌, ◌∙◌, Bool, true, false, not, refl, sym, ap, arith, rules}
-use Rattle.std.specs.Option.{option_map}
-use Rattle.csv.specs.Records.{fields_of}
-use Rattle.csv.specs.Reading.{strip_bom}
-use Rattle.mrp_page.proofs.Records.{read-all, read-more, read-none, read-wrong}
+use Rattle.std.proofs.Common.{◌∙◌, ◌++◌, Some, ap, rules}
+use Rattle.std.specs.Fmt.{option_append}
+use Rattle.mrp_lines.specs.Left.{left_of}
+use Rattle.mrp_page.proofs.Records.{lines-all, lines-then-wrong}
 use Rattle.mrp_page.proofs.read.read_records.Goals as goal
 
-is-true : (b : Bool) → not b ≡ false → b ≡ true
-is-true true e = refl
-is-true false e = absurd cc
+pub returns-clause-noted : goal.returns-clause-noted
+returns-clause-noted g c text known =
+    let taken = rw c.new-notes.ensures at (c.in_ok-front.ensures.taken text (c.in_ok-lines.ensures ∙ known)) in
+    let source = c.chain.ensures.bytes ∙ ap (option_append (Some c.in_ok-front.front.now)) taken.source in
+    lines-all text c.args.items.now c.args.asked (left_of g.R.Read.remaining c.note_lines.new.lines) c.in_ok-front.front.now c.note_lines.new.notes taken c.note_records.new.notes
+    (c.in_ok-note_records.ensures.noted (c.in_ok-front.front.now ++ taken.rest) source)
 
-is-false : (b : Bool) → not b ≡ true → b ≡ false
-is-false true e = absurd cc
-is-false false e = refl
-
-pub loop-init : goal.loop-init
-loop-init g c = record {
-  reading = search rules;
-  so_far = λ text known. read-none g.R.Read.remaining text c.args.items.now c.args.asked c.from_reader-reader.result c.new-notes.result
-      c.from_reader-reader.ensures.state (c.from_reader-reader.ensures.source ∙ ap (option_map strip_bom) known) c.new-notes.ensures;
-}
-
-pub loop-preserved : goal.loop-preserved
-loop-preserved g c =
-    let found : c.in_ok-read_cells.field-0 ≡ true = first_of (search (c.if-not-branch.false), search (is-true, c.if-not-branch.false), grind (arith, c.if-not-branch.false)) in
-    let read = rw found at c.in_ok-read_cells.ensures.reads in
-    record {
-      reading = c.in_ok-read_cells.ensures.reading;
-      so_far = λ text known. read-more g.R.Read.remaining text c.args.items.now c.args.asked c.loop.reader c.read_cells.new.reader c.loop.notes c.note.new.self (fields_of c.read_cells.new.cells)
-          c.loop.invariant.reading (c.loop.invariant.so_far text known) read c.in_ok-note.ensures;
-    }
-
-pub returns-then-not-branch-clause-noted : goal.returns-then-not-branch-clause-noted
-returns-then-not-branch-clause-noted g c text known =
-    let found : c.in_ok-read_cells.field-0 ≡ false = first_of (search (c.if-not-branch.true), search (is-false, c.if-not-branch.true), grind (arith, c.if-not-branch.true)) in
-    let read = rw found at c.in_ok-read_cells.ensures.reads in
-    read-all g.R.Read.remaining text c.args.items.now c.args.asked c.loop.reader c.read_cells.new.reader c.loop.notes (fields_of c.read_cells.new.cells)
-    c.loop.invariant.reading (c.loop.invariant.so_far text known) read
-
-pub returns-then-is_wrong-clause-wrong : goal.returns-then-is_wrong-clause-wrong
-returns-then-is_wrong-clause-wrong g c shape text known =
-    let found : c.in_ok-read_cells.field-0 ≡ true = first_of (search (c.if-not-branch.false), search (is-true, c.if-not-branch.false), grind (arith, c.if-not-branch.false)) in
-    let read = rw found at c.in_ok-read_cells.ensures.reads in
-    let so_far = read-more g.R.Read.remaining text c.args.items.now c.args.asked c.loop.reader c.read_cells.new.reader c.loop.notes c.note.new.self (fields_of c.read_cells.new.cells)
-    c.loop.invariant.reading (c.loop.invariant.so_far text known) read c.in_ok-note.ensures in
-    read-wrong g.R.Read.remaining text c.args.items.now c.args.asked c.read_cells.new.reader c.note.new.self so_far
-    (rw (← c.spot.ensures) (sym c.is_wrong.ensures ∙ c.if-is_wrong.true))
+pub returns-in_err-note_records-clause-wrong : goal.returns-in_err-note_records-clause-wrong
+returns-in_err-note_records-clause-wrong g c shape text known =
+    let taken = rw c.new-notes.ensures at (c.in_ok-front.ensures.taken text (c.in_ok-lines.ensures ∙ known)) in
+    let source = c.chain.ensures.bytes ∙ ap (option_append (Some c.in_ok-front.front.now)) taken.source in
+    lines-then-wrong text c.args.items.now c.args.asked (left_of g.R.Read.remaining c.note_lines.new.lines) c.in_ok-front.front.now c.note_lines.new.notes taken
+    (c.in_err-note_records.ensures.wrong (search rules) (c.in_ok-front.front.now ++ taken.rest) source)

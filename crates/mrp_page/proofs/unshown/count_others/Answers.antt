@@ -13,7 +13,7 @@ loop-leader-preserved c =
     let k = c.loop-leader.leader-index in
     let leader = c.leader-item.result in
     let of : Bor RowView → ℕ = λ r. length (rows_named (cell_at r.now 0) rows) in
-    let named : length c.rows_named.result.now ≡ of leader = ap length c.rows_named.ensures ∙ ap (λ (name : List ℕ). length (rows_named name rows)) c.name.ensures in
+    let named : length c.named.result.now ≡ of leader = ap length c.named.ensures ∙ ap (λ (name : List ℕ). length (rows_named name rows)) c.name.ensures in
     let more : sum_by of (take (k + 1) shown) ≡ sum_by of (take k shown) + of (get_or shown k leader) = sum_by_more of shown k leader c.loop-leader-test.true in
     omega (arith, c.saturating_sub-others.ensures, c.loop-leader.invariant, named, more, ap of c.leader-item.is)
 

@@ -8,8 +8,8 @@ use Rattle.clap.specs.declared.parser.matches.ArgMatches.TheViews.{out-ArgMatche
 use Rattle.mrp_words.proofs.AskedPage.{both, unpaged}
 use Rattle.mrp_words.proofs.command.request_of.Goals as goal
 
-pub check_or_day-requires : goal.check_or_day-requires
-check_or_day-requires c =
+pub unpaged_request-requires : goal.unpaged_request-requires
+unpaged_request-requires c =
     unpaged c.args.matches.now (λ named. false≢true (sym (ap is_some c.in-None.is) ∙ c.subcommand_matches.ensures.found.1 named)) c.requires
 
 pub returns-in_ok-page_words-in-Some-clause-asked : goal.returns-in_ok-page_words-in-Some-clause-asked

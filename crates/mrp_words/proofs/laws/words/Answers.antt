@@ -150,11 +150,15 @@ returns-clause-page_of_items c = refl
 
 pub returns-clause-last_page : goal.returns-clause-last_page
 unfolding clap_on_literals
-returns-clause-last_page c = (_, refl, record { named = λ number p. absurd (none-named _ number refl p); last = λ none. refl; of_items = refl; titled = refl })
+returns-clause-last_page c = (_, refl, record { named = λ number p. absurd (none-named _ number refl p); last = λ none. refl; of_items = refl; titled = refl; of_tables = refl })
+
+pub returns-clause-dated_page : goal.returns-clause-dated_page
+unfolding clap_on_literals
+returns-clause-dated_page c = (_, refl, record { named = λ number p. absurd (none-named _ number refl p); last = λ none. refl; of_items = refl; titled = refl; of_tables = refl })
 
 pub returns-clause-asked_page : goal.returns-clause-asked_page
 unfolding clap_on_literals
-returns-clause-asked_page c = (_, refl, record { named = λ number p. two-named _ number refl p; last = λ none. absurd (some-named none); of_items = refl; titled = refl })
+returns-clause-asked_page c = (_, refl, record { named = λ number p. two-named _ number refl p; last = λ none. absurd (some-named none); of_items = refl; titled = refl; of_tables = refl })
 
 pub returns-clause-help_of_page : goal.returns-clause-help_of_page
 unfolding clap_on_literals
@@ -199,3 +203,48 @@ returns-clause-short_version c = refl
 pub returns-clause-version_of_plan : goal.returns-clause-version_of_plan
 unfolding clap_on_literals
 returns-clause-version_of_plan c = refl
+
+pub returns-clause-carry : goal.returns-clause-carry
+unfolding clap_on_literals
+returns-clause-carry c = refl
+
+pub returns-clause-carried_numbers : goal.returns-clause-carried_numbers
+unfolding clap_on_literals
+returns-clause-carried_numbers c = refl
+
+false-is-true : Some (codes "false") ≡ Some (codes "true") → ⊥
+false-is-true e = cc
+
+true-is-false : Some (codes "true") ≡ Some (codes "false") → ⊥
+true-is-false e = cc
+
+true-is-none : Some (codes "true") ≡ None → ⊥
+true-is-none e = cc
+
+pub returns-clause-carried : goal.returns-clause-carried
+unfolding clap_on_literals
+returns-clause-carried c = (_, refl, record { of_folder = refl; from = refl; flagged = λ is. absurd (false-is-true is); bare = λ is. refl; absent = λ is. refl })
+
+pub returns-clause-listed : goal.returns-clause-listed
+unfolding clap_on_literals
+returns-clause-listed c = (_, refl, record { of_folder = refl; from = refl; flagged = λ is. refl; bare = λ is. absurd (true-is-false is); absent = λ is. absurd (true-is-none is) })
+
+pub returns-clause-help_of_carry : goal.returns-clause-help_of_carry
+unfolding clap_on_literals
+returns-clause-help_of_carry c = refl
+
+pub returns-clause-no_start : goal.returns-clause-no_start
+unfolding clap_on_literals
+returns-clause-no_start c = refl
+
+pub returns-clause-no_carried_folder : goal.returns-clause-no_carried_folder
+unfolding clap_on_literals
+returns-clause-no_carried_folder c = refl
+
+pub returns-clause-two_starts : goal.returns-clause-two_starts
+unfolding clap_on_literals
+returns-clause-two_starts c = refl
+
+pub returns-clause-two_flags : goal.returns-clause-two_flags
+unfolding clap_on_literals
+returns-clause-two_flags c = refl

@@ -2,7 +2,7 @@ use Rattle.std.proofs.Common.{◌∙◌, ◌≡◌, ◌||◌, Bool, ap, ap₂, c
 use Rattle.std.proofs.lemmas.Result.{IfOk-weaker}
 use Rattle.clap.specs.Simple.{app_of, app_of_fields, new_app, with_rule}
 use Rattle.clap.specs.declared.builder.command.Command.TheViews.{out-Command}
-use Rattle.mrp_words.specs.Words.{items_rule, run_rule}
+use Rattle.mrp_words.specs.Words.{items_rule, run_rule, title_rule}
 use Rattle.mrp_words.proofs.page_words.page_command.Goals as goal
 
 pub returns-clause-app : goal.returns-clause-app
@@ -12,10 +12,13 @@ returns-clause-app c =
     let has_run : app_of c.in_ok-arg.field-0 ≡ with_rule (new_app (codes "page")) run_rule = c.in_ok-arg.ensures.shape c.run.ensures.local ∙ ap₂ with_rule before c.run.ensures.rule in
     let has_items : app_of c.in_ok-arg-2.field-0 ≡ with_rule (with_rule (new_app (codes "page")) run_rule) items_rule =
     c.in_ok-arg-2.ensures.shape c.items.ensures.local ∙ ap₂ with_rule has_run c.items.ensures.rule in
-    IfOk-weaker c.arg-3.result _ _ (λ made h. h.shape c.title.ensures.local ∙ ap₂ with_rule has_items c.title.ensures.rule) c.arg-3.ensures
+    let has_title : app_of c.in_ok-arg-3.field-0 ≡ with_rule (with_rule (with_rule (new_app (codes "page")) run_rule) items_rule) title_rule =
+    c.in_ok-arg-3.ensures.shape c.title.ensures.local ∙ ap₂ with_rule has_items c.title.ensures.rule in
+    IfOk-weaker c.arg-4.result _ _ (λ made h. h.shape c.tables.ensures.local ∙ ap₂ with_rule has_title c.tables.ensures.rule) c.arg-4.ensures
 
 pub returns-clause-local : goal.returns-clause-local
 returns-clause-local c =
     let first : (out-Command c.in_ok-arg.field-0).has_globals ≡ false = search rules in
     let second : (out-Command c.in_ok-arg-2.field-0).has_globals ≡ false = c.in_ok-arg-2.ensures.globals ∙ ap₂ (λ (x y : Bool). x || y) first c.items.ensures.local in
-    IfOk-weaker c.arg-3.result _ _ (λ made h. h.globals ∙ ap₂ (λ (x y : Bool). x || y) second c.title.ensures.local) c.arg-3.ensures
+    let third : (out-Command c.in_ok-arg-3.field-0).has_globals ≡ false = c.in_ok-arg-3.ensures.globals ∙ ap₂ (λ (x y : Bool). x || y) second c.title.ensures.local in
+    IfOk-weaker c.arg-4.result _ _ (λ made h. h.globals ∙ ap₂ (λ (x y : Bool). x || y) third c.tables.ensures.local) c.arg-4.ensures

@@ -15,4 +15,5 @@ returns c =
       last = λ none. c.get_one-run.ensures.none (one_text-rows found (codes "run") ∙ none);
       of_items = c.in_ok-items.ensures ∙ first_value-rows found (codes "items");
       titled = c.in_ok-title.ensures ∙ first_value-rows found (codes "title");
+      of_tables = c.in_ok-folder.ensures ∙ first_value-rows found (codes "dir");
     }

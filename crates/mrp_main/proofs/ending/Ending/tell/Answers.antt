@@ -35,6 +35,16 @@ returns-in-WrongShape-clause-front g c =
     subst (λ (t : List ℕ). OnErr c.write_line-in-WrongShape.result (HasTakenFront g.E.Write.contents c.args.errors.now c.write_line-in-WrongShape.new.errors t)) (sym (ap words_of c.in-WrongShape.is))
     c.write_line-in-WrongShape.ensures.front
 
+pub returns-in-WrongTables-clause-whole : goal.returns-in-WrongTables-clause-whole
+returns-in-WrongTables-clause-whole g c =
+    subst (λ (t : List ℕ). OnOk c.write_line-in-WrongTables.result (HasTakenAll g.E.Write.contents c.args.errors.now c.write_line-in-WrongTables.new.errors t)) (sym (ap words_of c.in-WrongTables.is))
+    c.write_line-in-WrongTables.ensures.whole
+
+pub returns-in-WrongTables-clause-front : goal.returns-in-WrongTables-clause-front
+returns-in-WrongTables-clause-front g c =
+    subst (λ (t : List ℕ). OnErr c.write_line-in-WrongTables.result (HasTakenFront g.E.Write.contents c.args.errors.now c.write_line-in-WrongTables.new.errors t)) (sym (ap words_of c.in-WrongTables.is))
+    c.write_line-in-WrongTables.ensures.front
+
 pub returns-in-NoRun-clause-whole : goal.returns-in-NoRun-clause-whole
 returns-in-NoRun-clause-whole g c =
     subst (λ (t : List ℕ). OnOk c.write_line-in-NoRun.result (HasTakenAll g.E.Write.contents c.args.errors.now c.write_line-in-NoRun.new.errors t)) (sym (ap words_of c.in-NoRun.is))
@@ -44,3 +54,13 @@ pub returns-in-NoRun-clause-front : goal.returns-in-NoRun-clause-front
 returns-in-NoRun-clause-front g c =
     subst (λ (t : List ℕ). OnErr c.write_line-in-NoRun.result (HasTakenFront g.E.Write.contents c.args.errors.now c.write_line-in-NoRun.new.errors t)) (sym (ap words_of c.in-NoRun.is))
     c.write_line-in-NoRun.ensures.front
+
+pub returns-in-NoStart-clause-whole : goal.returns-in-NoStart-clause-whole
+returns-in-NoStart-clause-whole g c =
+    subst (λ (t : List ℕ). OnOk c.write_line-in-NoStart.result (HasTakenAll g.E.Write.contents c.args.errors.now c.write_line-in-NoStart.new.errors t))
+    (ap (λ (range : List ℕ). codes "no such start: expected a Monday from " ++ range ++ 10 ∷ []) c.as_bytes-in-NoStart.ensures.value ∙ sym (ap words_of c.in-NoStart.is)) c.write_line-in-NoStart.ensures.whole
+
+pub returns-in-NoStart-clause-front : goal.returns-in-NoStart-clause-front
+returns-in-NoStart-clause-front g c =
+    subst (λ (t : List ℕ). OnErr c.write_line-in-NoStart.result (HasTakenFront g.E.Write.contents c.args.errors.now c.write_line-in-NoStart.new.errors t))
+    (ap (λ (range : List ℕ). codes "no such start: expected a Monday from " ++ range ++ 10 ∷ []) c.as_bytes-in-NoStart.ensures.value ∙ sym (ap words_of c.in-NoStart.is)) c.write_line-in-NoStart.ensures.front

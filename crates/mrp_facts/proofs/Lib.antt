@@ -1,0 +1,3 @@
+mod Weekly
+mod Found
+mod Named

@@ -1,0 +1,4 @@
+pub mod LineRecords
+pub mod TakenLines
+pub mod Windows
+pub mod Masks

@@ -1,0 +1,53 @@
+-- The dates of weeks.
+use Rattle.std.proofs.Common.{◌≡◌, ◌∙◌, ◌≤◌, ◌<◌, ◌^◌, ℕ, Bool, true, false, List, [], ◌∷◌, ◌++◌, Option, Some, None, codes, decimal, refl, ap, append_assoc, arith}
+use Rattle.std.specs.Prelude.{◌&&◌, if◌then◌else◌, min}
+use Rattle.std.specs.Char.{is_ascii_digit}
+use Rattle.std.specs.Int.{IsInRange}
+use Rattle.std.specs.List.{filter, flat_map, list_all}
+use Rattle.std.proofs.lemmas.Fmt.{digits_decimal, digits_value-decimal}
+use Rattle.jiff.specs.Types.{Date}
+use Rattle.mrp_cal.specs.Calendar.{week_of}
+use Rattle.mrp_cal.proofs.Weekdays.{week_of-first_day}
+use Rattle.mrp_qty.specs.Digits.{value_of}
+use Rattle.mrp_qty.proofs.Numerals.{numerals}
+use Rattle.mrp_facts.specs.Dates.{AreDates, date_text, has_years, in_week}
+use Rattle.mrp_facts.specs.Facts.{Facts}
+use Rattle.mrp_page.specs.Amounts.{amount}
+use Rattle.mrp_page.specs.Escaped.{escaped}
+use Rattle.mrp_page.specs.Layout.{week, week_end, weeks_end}
+use Rattle.mrp_page.specs.Row.{RowView, cell_at}
+use Rattle.mrp_page.specs.Template.{row_html}
+use Rattle.mrp_page.specs.Weeks.{date_html, date_in, week_html, weeks_html}
+
+-- what passes in all is kept in all
+kept-all : (p : ℕ → Bool) (xs : List ℕ) → list_all p xs ≡ true → filter p xs ≡ xs
+kept-all p [] all = refl
+kept-all p (x ∷ xs) all = by (p x) refl (kept-all p xs) all
+  where
+    by : (b : Bool) → p x ≡ b → (list_all p xs ≡ true → filter p xs ≡ xs) → (b && list_all p xs) ≡ true → (if b then x ∷ filter p xs else filter p xs) ≡ x ∷ xs
+    by true passes more rest = ap (λ (ys : List ℕ). x ∷ ys) (more rest)
+    by false passes more rest = absurd cc
+
+-- a number is that of its text
+amount-decimal : (n : ℕ) → n ≤ 1000000 → amount (decimal n) ≡ n
+amount-decimal n small =
+    let read : value_of (filter is_ascii_digit (decimal n)) ≡ n = ap value_of (kept-all is_ascii_digit (decimal n) (digits_decimal numerals n (omega (arith, small)))) ∙ digits_value-decimal numerals n (omega (arith, small)) in
+    rw read (omega (arith, small))
+
+pub weeks-stand : (tables : Option Facts) (rows : List RowView) → weeks_html tables rows ≡ flat_map (week_html tables) rows ++ weeks_end
+unfolding weeks_html
+weeks-stand tables rows = refl
+
+-- without tables a week has no date
+pub undated-is : (row : RowView) → week_html None row ≡ codes "<th scope=col>" ++ (escaped (cell_at row 1) ++ codes "</th>")
+unfolding row_html week week_end
+undated-is row = ap (λ (t : List ℕ). codes "<th scope=col>" ++ t) (append_assoc (escaped (cell_at row 1)) [] (codes "</th>"))
+
+-- with them its date is the calendar's
+pub dated-is : (facts : Facts) (row : RowView) (number : ℕ) → AreDates facts.tables.calendar facts.dates → IsInRange 1 facts.tables.calendar.weeks number → facts.tables.calendar.weeks ≤ 104 → cell_at row 1 ≡ decimal number
+    → (date : Date) × (week_of facts.tables.calendar date ≡ Some number) × (week_html (Some facts) row ≡ row_html week row ++ (date_html (date_text (has_years facts.tables.calendar) date) ++ week_end))
+dated-is facts row number are within most is =
+    let own = are.each number within in
+    let read : amount (cell_at row 1) ≡ number = ap amount is ∙ amount-decimal number (omega (arith, within.1, most)) in
+    let shown : date_in (Some facts) (cell_at row 1) ≡ date_text (has_years facts.tables.calendar) own.date = ap (in_week facts.dates) read ∙ own.shown in
+    (own.date, week_of-first_day facts.tables.calendar own.date number within own.day, ap (λ (t : List ℕ). row_html week row ++ (date_html t ++ week_end)) shown)

@@ -1,9 +1,0 @@
-use Rattle.std.proofs.Common.{◌≡◌, ℕ, List, Some}
-use Rattle.mrp_page.specs.Reading.{HasRead, IsReading}
-use Rattle.mrp_page.proofs.read.read_records.Given as goal
-
-abbrev pub invariant-loop : goal.invariant-loop
-invariant-loop g l = record {
-  reading : IsReading l.reader;
-  so_far : (text : List ℕ) → g.R.Read.remaining l.fn.input ≡ Some text → HasRead g.R.Read.remaining text l.items l.asked l.reader l.notes;
-}

@@ -1,0 +1,6 @@
+mod CellLaws
+mod CsvSteps
+mod FileLines
+mod LineLaws
+mod Marking
+mod Steps

@@ -1,0 +1,170 @@
+//! One fault, and where it is.
+
+ghost use Rattle.std.specs.Prelude.{◌≡◌, ◌++◌, ◌∷◌, [], OnOk};
+ghost use Rattle.csv.specs.Records.{fields_of};
+ghost use Rattle.mrp_survey.specs.Told.{told};
+
+use crate::form::cell_in;
+use crate::kind::Kind;
+use csv::ByteRecord;
+use mrp_qty::NoMemory;
+use mrp_rows::Table;
+use std::marker::Model;
+
+/// What is wrong.
+#[derive(Clone, Copy, Debug)]
+pub enum What {
+    /// The table's first record is not its header, or there is none.
+    Header,
+    /// All cells of the record are empty.
+    Blank,
+    /// The record has this many cells, another count than the table has columns.
+    Columns { count: usize },
+    /// The cell is not of its kind; with the fault's number, `NAME` to `RANGE`.
+    Cell { kind: Kind, code: u8 },
+    /// What each record has to itself is that of an earlier record, in this line.
+    Repeated { line: u64 },
+    /// No item has the name.
+    UnknownItem,
+    /// No work centre has the name.
+    UnknownCentre,
+    /// The date is outside the horizon.
+    DateOutside,
+    /// The item is a part, and has to be a master item.
+    NotMaster,
+    /// A master item has safety stock.
+    MasterSafety,
+    /// An open receipt is of a master item.
+    MasterReceipt,
+    /// A bill line's component is a master item.
+    MasterComponent,
+    /// A service row is of a master item.
+    ServiceMaster,
+    /// The record is past its table's limit; no later one is read.
+    TooMany,
+    /// A record of the calendar is missing.
+    Missing,
+}
+
+// A record, and its line in its file.
+#[derive(Clone, Copy)]
+pub(crate) struct Place {
+    pub(crate) file: Table,
+    pub(crate) table: Table,
+    pub(crate) number: usize,
+    pub(crate) line: u64,
+}
+
+/// One fault.
+#[derive(Debug, Drop)]
+pub struct Finding {
+    file: Table,
+    table: Table,
+    number: usize,
+    line: u64,
+    column: usize,
+    what: What,
+    row: ByteRecord,
+}
+
+impl Model for Finding {
+    ghost use Rattle.csv.specs.Records.{fields_of};
+    ghost use Rattle.mrp_survey.specs.Finding.{Told};
+
+    ghost Value = { Told };
+
+    ghost view = { λ f. record {
+      file = f.file;
+      table = f.table;
+      number = f.number;
+      line = f.line;
+      column = f.column;
+      what = f.what;
+      cells = fields_of f.row;
+    } };
+}
+
+impl Finding {
+    ghost use Rattle.std.specs.Prelude.{◌≡◌};
+    ghost use Rattle.csv.specs.Records.{fields_of};
+    ghost use Rattle.mrp_survey.specs.Forms.{cell_in};
+
+    /// The table whose file it is in.
+    pub fn file(&self) -> Table
+        ensures { result ≡ self.now.file }
+    {
+        self.file
+    }
+
+    /// The table that it is of.
+    pub fn table(&self) -> Table
+        ensures { result ≡ self.now.table }
+    {
+        self.table
+    }
+
+    /// The record's number, from 1; 0 for the header.
+    pub fn number(&self) -> usize
+        ensures { result ≡ self.now.number }
+    {
+        self.number
+    }
+
+    /// The line of the file in which the record begins, from 1: 1 of a table without a header, 0 of a record that is missing.
+    pub fn line(&self) -> u64
+        ensures { result ≡ self.now.line }
+    {
+        self.line
+    }
+
+    /// The column, from 0. Of a wrong count of cells, that of the last cell.
+    pub fn column(&self) -> usize
+        ensures { result ≡ self.now.column }
+    {
+        self.column
+    }
+
+    /// What is wrong.
+    pub fn what(&self) -> What
+        ensures { result ≡ self.now.what }
+    {
+        self.what
+    }
+
+    /// The record's cells; none of a record that is missing.
+    pub fn cells(&self) -> &ByteRecord
+        ensures { fields_of result.now ≡ self.now.cells }
+    {
+        &self.row
+    }
+
+    /// The cell in that column.
+    pub fn text(&self) -> &[u8]
+        ensures { result.now ≡ cell_in self.now.cells self.now.column }
+    {
+        cell_in(&self.row, self.column)
+    }
+}
+
+// Appends a fault of a record's cell.
+pub(crate) fn tell(
+    place: Place,
+    row: &ByteRecord,
+    column: usize,
+    what: What,
+    findings: &mut Vec<Finding>,
+) -> Result<(), NoMemory>
+    ensures { OnOk result (findings.new.items ≡ findings.old.items ++ told place (fields_of row.now) column what ∷ []) }
+{
+    let row = row.clone()?;
+    findings.push(Finding {
+        file: place.file,
+        table: place.table,
+        number: place.number,
+        line: place.line,
+        column,
+        what,
+        row,
+    })?;
+    Ok(())
+}

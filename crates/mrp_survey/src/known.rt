@@ -1,0 +1,95 @@
+//! The names of a table's records, for look-ups.
+
+ghost use Rattle.std.specs.Prelude.{◌≡◌};
+ghost use Rattle.mrp_survey.specs.Known.{known_name, trimmed, without_front};
+
+use indexmap::IndexMap;
+use mrp_qty::NoMemory;
+use mrp_rows::Name;
+use mrp_tables::Class;
+use std::alloc::Global;
+use std::marker::Model;
+
+// Names, each with the class that its first record gives it, if any.
+#[derive(Drop)]
+pub(crate) struct Known {
+    classes: IndexMap<Name, Option<Class>>,
+}
+
+impl Model for Known {
+    ghost use Rattle.mrp_survey.specs.Names.{Names};
+
+    ghost Value = { Names };
+
+    ghost view = { λ k. k.classes.entries };
+}
+
+impl Known {
+    ghost use Rattle.std.specs.Prelude.{◌≡◌, [], OnOk, is_some};
+    ghost use Rattle.mrp_survey.specs.Names.{class_among, is_among, with_name};
+
+    // No names.
+    pub(crate) fn new(alloc: Global) -> Known
+        ensures { result ≡ [] }
+    {
+        Known {
+            classes: IndexMap::new(alloc),
+        }
+    }
+
+    // Whether the name is one of them.
+    pub(crate) fn has(&self, name: &Name) -> bool
+        ensures { result ≡ is_among self.now name.now }
+    {
+        self.classes.contains_key(name)
+    }
+
+    // The class of a name, where it is known.
+    pub(crate) fn class_of(&self, name: &Name) -> Option<Class>
+        ensures { result ≡ class_among self.now name.now }
+    {
+        match self.classes.get(name) {
+            Some(class) => *class,
+            None => None,
+        }
+    }
+
+    // Adds a name, unless it is there.
+    pub(crate) fn add(&mut self, name: Name, class: Option<Class>) -> Result<(), NoMemory>
+        ensures { OnOk result (self.new ≡ with_name self.old name class) }
+    {
+        if !self.has(&name) {
+            self.classes.insert(name, class)?;
+        }
+        Ok(())
+    }
+}
+
+fn without_front(text: &[u8]) -> &[u8]
+    ensures { result.now ≡ without_front text.now }
+{
+    let mut rest = text;
+    while let [b' ', others @ ..] = rest {
+        rest = others;
+    }
+    rest
+}
+
+// A text without the spaces at its ends.
+pub(crate) fn trimmed(text: &[u8]) -> &[u8]
+    ensures { result.now ≡ trimmed text.now }
+{
+    let rest = without_front(text);
+    let mut len = rest.len();
+    while len > 0 && rest[len - 1] == b' ' {
+        len -= 1;
+    }
+    &rest[..len]
+}
+
+// The name that a first cell counts as, spaces at its ends left out.
+pub(crate) fn known_name(cell: &[u8]) -> Option<Name>
+    ensures { result ≡ known_name cell.now }
+{
+    Name::new(trimmed(cell))
+}

@@ -1,0 +1,139 @@
+//! What is told of a table's records.
+
+ghost use Rattle.std.specs.Prelude.{◌≡◌, ◌++◌, ◌∷◌, [], IfOk, OnOk, length, map};
+ghost use Rattle.csv.specs.Records.{fields_of};
+ghost use Rattle.mrp_tables.specs.Reading.{is_past};
+ghost use Rattle.mrp_survey.specs.Tables.{class_in, empty_told, header_told, names_after, names_in, told_from};
+
+use crate::finding::{Finding, Place, What, tell};
+use crate::form::{Form, cell_in};
+use crate::header::{columns, is_header, most_records};
+use crate::known::{Known, known_name};
+use crate::record::Record;
+use crate::rule::Beside;
+use crate::seen::Seen;
+use crate::sheet::Sheet;
+use crate::tell::{add_key, tell_record};
+use csv::ByteRecord;
+use mrp_qty::NoMemory;
+use mrp_tables::Class;
+use std::alloc::Global;
+
+fn is_past(limit: Option<usize>, number: usize) -> bool
+    ensures { result ≡ is_past limit number }
+{
+    match limit {
+        Some(limit) => limit < number,
+        None => false,
+    }
+}
+
+// Tells that there is no header.
+fn tell_empty(
+    alloc: Global,
+    form: Form,
+    sheet: &Sheet,
+    findings: &mut Vec<Finding>,
+) -> Result<(), NoMemory>
+    ensures { OnOk result (findings.new.items ≡ findings.old.items ++ empty_told form sheet.now) }
+{
+    let place = Place {
+        file: sheet.file(),
+        table: form.table,
+        number: 0,
+        line: 1,
+    };
+    tell(place, &ByteRecord::new(alloc), 0, What::Header, findings)
+}
+
+// Tells of a header that is wrong or is not there.
+pub(crate) fn tell_header(
+    alloc: Global,
+    form: Form,
+    sheet: &Sheet,
+    findings: &mut Vec<Finding>,
+) -> Result<(), NoMemory>
+    ensures { OnOk result (findings.new.items ≡ findings.old.items ++ header_told form sheet.now) }
+{
+    match sheet.header() {
+        Some(header) => {
+            if is_header(form, header) {
+                Ok(())
+            } else {
+                let place = sheet.place(form.table, 0);
+                tell(place, header, 0, What::Header, findings)
+            }
+        }
+        None => tell_empty(alloc, form, sheet, findings),
+    }
+}
+
+// Tells what is wrong with a table's records, the first of which has this number.
+pub(crate) fn tell_rows(
+    alloc: Global,
+    form: Form,
+    beside: &Beside,
+    sheet: &Sheet,
+    rows: &[ByteRecord],
+    findings: &mut Vec<Finding>,
+) -> Result<(), NoMemory>
+    ensures { OnOk result (findings.new.items ≡ findings.old.items ++ told_from form beside.now sheet.now [] 1 (map (λ row. fields_of row) rows.now)) }
+{
+    let width = columns(form).len();
+    let limit = most_records(form);
+    let mut seen = Seen::new(alloc);
+    for (index, row) in rows.iter().enumerate() {
+        let place = sheet.place(form.table, index + 1);
+        if is_past(limit, index + 1) {
+            return tell(place, row, 0, What::TooMany, findings);
+        }
+        let entry = Record::of(form, place, row);
+        tell_record(width, beside, &seen, &entry, findings)?;
+        add_key(width, &entry, &mut seen)?;
+    }
+    Ok(())
+}
+
+// The class that an item's record gives it.
+fn class_in(width: usize, entry: &Record<'_>) -> Option<Class>
+    ensures { result ≡ class_in width entry.now }
+{
+    if entry.len() != width {
+        return None;
+    }
+    match entry.word(1)? {
+        0 => Some(Class::Master),
+        _ => Some(Class::Part),
+    }
+}
+
+// Adds the name that a record's first cell counts as.
+fn add_name(width: usize, entry: &Record<'_>, names: &mut Known) -> Result<(), NoMemory>
+    ensures { OnOk result (names.new ≡ names_after width names.old entry.now) }
+{
+    match known_name(cell_in(entry.row, 0)) {
+        Some(name) => names.add(name, class_in(width, entry)),
+        None => Ok(()),
+    }
+}
+
+// The names of a table's records; none if it has too many records.
+pub(crate) fn names_in(
+    alloc: Global,
+    form: Form,
+    sheet: &Sheet,
+    rows: &[ByteRecord],
+) -> Result<Option<Known>, NoMemory>
+    ensures { IfOk result (λ names. names ≡ names_in form sheet.now (map (λ row. fields_of row) rows.now)) }
+{
+    if is_past(most_records(form), rows.len()) {
+        return Ok(None);
+    }
+    let width = columns(form).len();
+    let mut names = Known::new(alloc);
+    for (index, row) in rows.iter().enumerate() {
+        let entry = Record::of(form, sheet.place(form.table, index + 1), row);
+        add_name(width, &entry, &mut names)?;
+    }
+    Ok(Some(names))
+}

@@ -1,0 +1,276 @@
+//! What is told of nine tables.
+
+ghost use Rattle.std.specs.Prelude.{◌≡◌, ◌<◌, ◌++◌, ◌∷◌, [], IfOk, None, OnOk, Some, false, map, option_map};
+ghost use Rattle.csv.specs.Records.{fields_of};
+ghost use Rattle.mrp_tables.specs.declared.version.Version.TheVariants.{One};
+ghost use Rattle.mrp_survey.specs.Survey.{calendar_among, calendar_told, dated_form, items_among, missing, missing_from, names_among, nothing_beside, others_told, records_at, rows_in, survey_told, table_told, version_among, versioned_told};
+
+use crate::calendar::{calendar_in, has_version, version_in};
+use crate::finding::{Finding, Place, What, tell};
+use crate::form::Form;
+use crate::known::Known;
+use crate::rule::Beside;
+use crate::sheet::Sheet;
+use crate::source::Source;
+use crate::table::{names_in, tell_header, tell_rows};
+use csv::ByteRecord;
+use mrp_cal::Calendar;
+use mrp_qty::NoMemory;
+use mrp_rows::Table;
+use mrp_tables::Version;
+use std::alloc::Global;
+
+// The records of a table, where it has a text.
+fn sheet_of(
+    alloc: Global,
+    sources: &[Option<Source<'_>>; 9],
+    table: Table,
+) -> Result<Option<Sheet>, NoMemory>
+    ensures { IfOk result (λ sheet. sheet ≡ records_at sources.now table) }
+{
+    match sources.get(table.index()) {
+        Some(Some(source)) => {
+            let sheet = Sheet::of(alloc, source.file, source.line, source.text)?;
+            Ok(Some(sheet))
+        }
+        _ => Ok(None),
+    }
+}
+
+fn form_of(table: Table, version: Version) -> Form
+    ensures { result ≡ record { table = table; version = version; has_version = false } }
+{
+    Form {
+        table,
+        version,
+        has_version: false,
+    }
+}
+
+// Tells what is wrong with a table, where it has a text.
+fn tell_table(
+    alloc: Global,
+    form: Form,
+    beside: &Beside,
+    sheet: &Option<Sheet>,
+    findings: &mut Vec<Finding>,
+) -> Result<(), NoMemory>
+    ensures { OnOk result (findings.new.items ≡ findings.old.items ++ table_told form beside.now sheet.now) }
+{
+    let Some(sheet) = sheet else {
+        return Ok(());
+    };
+    tell_header(alloc, form, sheet, findings)?;
+    match sheet.rows_below(form) {
+        Some(rows) => tell_rows(alloc, form, beside, sheet, rows, findings),
+        None => Ok(()),
+    }
+}
+
+// The records below a table's header, if that can be read.
+fn rows_in(form: Form, sheet: &Option<Sheet>) -> Option<&[ByteRecord]>
+    ensures { option_map (λ rows. map (λ row. fields_of row) rows.now) result ≡ rows_in form sheet.now }
+{
+    match sheet {
+        Some(sheet) => sheet.rows_below(form),
+        None => None,
+    }
+}
+
+// What the calendar says to other tables.
+#[derive(Drop)]
+struct Dated {
+    version: Option<Version>,
+    calendar: Option<Calendar>,
+}
+
+fn nothing_beside() -> Beside
+    ensures { result ≡ nothing_beside }
+{
+    Beside {
+        items: None,
+        centres: None,
+        calendar: None,
+    }
+}
+
+// Whether the calendar begins with a version.
+fn dated_form(sheet: &Option<Sheet>) -> Form
+    ensures { result ≡ dated_form sheet.now }
+{
+    let bare = form_of(Table::Calendar, Version::One);
+    match rows_in(bare, sheet) {
+        Some(rows) => Form {
+            table: Table::Calendar,
+            version: Version::One,
+            has_version: has_version(rows),
+        },
+        None => bare,
+    }
+}
+
+// Tells that the record behind so many is missing.
+fn tell_lack(
+    alloc: Global,
+    form: Form,
+    file: Table,
+    count: usize,
+    findings: &mut Vec<Finding>,
+) -> Result<(), NoMemory>
+    requires { count < 4 }
+    ensures { OnOk result (findings.new.items ≡ findings.old.items ++ missing form file count ∷ []) }
+{
+    let place = Place {
+        file,
+        table: form.table,
+        number: count + 1,
+        line: 0,
+    };
+    tell(place, &ByteRecord::new(alloc), 0, What::Missing, findings)
+}
+
+// Tells of the records that a calendar with so many lacks.
+fn tell_missing(
+    alloc: Global,
+    form: Form,
+    file: Table,
+    count: usize,
+    findings: &mut Vec<Finding>,
+) -> Result<(), NoMemory>
+    ensures { OnOk result (findings.new.items ≡ findings.old.items ++ missing_from form file count) }
+{
+    let most = if form.has_version { 4 } else { 3 };
+    for number in count..most {
+        tell_lack(alloc, form, file, number, findings)?;
+    }
+    Ok(())
+}
+
+// Tells what is wrong with the calendar.
+fn tell_calendar(
+    alloc: Global,
+    sources: &[Option<Source<'_>>; 9],
+    findings: &mut Vec<Finding>,
+) -> Result<Dated, NoMemory>
+    ensures told { OnOk result (findings.new.items ≡ findings.old.items ++ calendar_told sources.now) }
+    ensures dated { IfOk result (λ dated. dated ≡ record { version = version_among sources.now; calendar = calendar_among sources.now }) }
+{
+    let sheet = sheet_of(alloc, sources, Table::Calendar)?;
+    let form = dated_form(&sheet);
+    tell_table(alloc, form, &nothing_beside(), &sheet, findings)?;
+    let Some(sheet) = &sheet else {
+        return Ok(no_dates());
+    };
+    let Some(rows) = sheet.rows_below(form) else {
+        return Ok(no_dates());
+    };
+    tell_missing(alloc, form, sheet.file(), rows.len(), findings)?;
+    Ok(Dated {
+        version: version_in(form, rows),
+        calendar: calendar_in(form, rows),
+    })
+}
+
+fn no_dates() -> Dated
+    ensures { result ≡ record { version = Some One; calendar = None } }
+{
+    Dated {
+        version: Some(Version::One),
+        calendar: None,
+    }
+}
+
+// Tells what is wrong with the items or the work centres, and returns their names, if the table was read to its end.
+fn tell_named(
+    alloc: Global,
+    sources: &[Option<Source<'_>>; 9],
+    form: Form,
+    findings: &mut Vec<Finding>,
+) -> Result<Option<Known>, NoMemory>
+    ensures told { OnOk result (findings.new.items ≡ findings.old.items ++ table_told form nothing_beside (records_at sources.now form.table)) }
+    ensures names { IfOk result (λ names. names ≡ names_among sources.now form) }
+{
+    let sheet = sheet_of(alloc, sources, form.table)?;
+    tell_table(alloc, form, &nothing_beside(), &sheet, findings)?;
+    let Some(sheet) = &sheet else {
+        return Ok(None);
+    };
+    match sheet.rows_below(form) {
+        Some(rows) => names_in(alloc, form, sheet, rows),
+        None => Ok(None),
+    }
+}
+
+// The same of the items, which are read only where the version is right.
+fn tell_items(
+    alloc: Global,
+    sources: &[Option<Source<'_>>; 9],
+    version: Option<Version>,
+    findings: &mut Vec<Finding>,
+) -> Result<Option<Known>, NoMemory>
+    ensures told { OnOk result (findings.new.items ≡ findings.old.items ++ versioned_told sources.now nothing_beside Table.Items version) }
+    ensures names { IfOk result (λ names. names ≡ items_among sources.now version) }
+{
+    match version {
+        Some(version) => tell_named(alloc, sources, form_of(Table::Items, version), findings),
+        None => Ok(None),
+    }
+}
+
+// Tells what is wrong with a table that looks at others.
+fn tell_other(
+    alloc: Global,
+    sources: &[Option<Source<'_>>; 9],
+    beside: &Beside,
+    table: Table,
+    version: Option<Version>,
+    findings: &mut Vec<Finding>,
+) -> Result<(), NoMemory>
+    ensures { OnOk result (findings.new.items ≡ findings.old.items ++ versioned_told sources.now beside.now table version) }
+{
+    let Some(version) = version else {
+        return Ok(());
+    };
+    let sheet = sheet_of(alloc, sources, table)?;
+    tell_table(alloc, form_of(table, version), beside, &sheet, findings)
+}
+
+// Tells what is wrong with the tables that look at others.
+fn tell_others(
+    alloc: Global,
+    sources: &[Option<Source<'_>>; 9],
+    beside: &Beside,
+    version: Option<Version>,
+    findings: &mut Vec<Finding>,
+) -> Result<(), NoMemory>
+    ensures { OnOk result (findings.new.items ≡ findings.old.items ++ others_told sources.now beside.now version) }
+{
+    let first = Some(Version::One);
+    tell_other(alloc, sources, beside, Table::Stock, first, findings)?;
+    tell_other(alloc, sources, beside, Table::Receipts, first, findings)?;
+    tell_other(alloc, sources, beside, Table::Bills, first, findings)?;
+    tell_other(alloc, sources, beside, Table::Routings, first, findings)?;
+    tell_other(alloc, sources, beside, Table::Master, version, findings)?;
+    tell_other(alloc, sources, beside, Table::Script, first, findings)
+}
+
+/// All that is wrong with the records of nine tables, which stand in the order of the tables; a table without a text is not read.
+/// A loop in the bills is not looked for.
+///
+/// Errors: `NoMemory` if an allocation fails.
+pub fn survey(alloc: Global, sources: &[Option<Source<'_>>; 9]) -> Result<Vec<Finding>, NoMemory>
+    ensures { IfOk result (λ findings. findings.items ≡ survey_told sources.now) }
+{
+    let mut findings = Vec::new(alloc);
+    let dated = tell_calendar(alloc, sources, &mut findings)?;
+    let items = tell_items(alloc, sources, dated.version, &mut findings)?;
+    let centres = form_of(Table::Centres, Version::One);
+    let centres = tell_named(alloc, sources, centres, &mut findings)?;
+    let beside = Beside {
+        items,
+        centres,
+        calendar: dated.calendar,
+    };
+    tell_others(alloc, sources, &beside, dated.version, &mut findings)?;
+    Ok(findings)
+}

@@ -1,0 +1,14 @@
+pub mod Bills
+pub mod Calendar
+pub mod Calls
+pub mod Centres
+pub mod Inspection
+pub mod Items
+pub mod Kinds
+pub mod Names
+pub mod Rows
+pub mod Runs
+pub mod Sheets
+pub mod Tells
+pub mod Texts
+pub mod Words

@@ -1,0 +1,22 @@
+use Rattle.std.proofs.Common.{◌∙◌, ◌<◌, List, ap, sym, subst}
+use Rattle.std.specs.Prelude.{All}
+use Rattle.std.proofs.lemmas.List.{map-id}
+use Rattle.std.proofs.lemmas.List.Elements.{All-map}
+use Rattle.mrp_bill.specs.declared.groups.Numbered.{Numbered}
+use Rattle.mrp_bill.specs.Grouped.{values_of}
+use Rattle.mrp_bill.proofs.GroupParts.{told-of, values_of-all}
+use Rattle.mrp_tables.specs.declared.rows.Operation.{Operation}
+use Rattle.mrp_work.specs.Work.{of_operation, operations_of}
+use Rattle.mrp_work.proofs.operations.operations_by_item.Goals as goal
+
+pub of-requires : goal.of-requires
+of-requires c =
+    let is = c.deref.ensures.value ∙ c.in_ok-numbered.ensures in
+    subst (λ (numbered : List (Numbered Operation)). All (λ d. d.number < c.args.count) numbered) (sym is)
+    (All-map (λ (d : Numbered Operation). d.number < c.args.count) of_operation c.args.routings.now c.requires)
+
+pub returns-clause-groups : goal.returns-clause-groups
+returns-clause-groups c =
+    let is = c.deref.ensures.value ∙ c.in_ok-numbered.ensures in
+    told-of c.of.result c.args.count (values_of c.deref.result.now) (operations_of c.args.routings.now) c.of.ensures.groups
+    (λ i. ap (λ (numbered : List (Numbered Operation)). values_of numbered i) is ∙ values_of-all of_operation c.args.routings.now i ∙ map-id (operations_of c.args.routings.now i))
