@@ -20,11 +20,11 @@ def lay_bytes(bundle, folder):
     """Writes the sections of a bundle to files as they are, line ends and byte order marks too."""
     os.mkdir(folder)
     table = None
-    for line in bundle.split(b"\n")[:-1]:
+    for line in re.findall(rb"[^\n]*\n|[^\n]+", bundle):
         if line.startswith(b"["):
             table = os.path.join(folder, line.strip()[1:-1].decode() + ".csv")
         with open(table, "ab") as held:
-            held.write(b"" if line.startswith(b"[") else line + b"\n")
+            held.write(b"" if line.startswith(b"[") else line)
 
 
 def run(program, words, given=b""):

@@ -103,6 +103,26 @@ fn hint_of(rt: &(impl Files + AllocGlobal), words: &[String], sights: &Sights) -
     hint_of_folder(rt, folder_in(words)?)
 }
 
+// Whether words plan a folder's tables, which were refused.
+fn is_refused(words: &[String], sights: &Sights) -> bool {
+    match words {
+        [command, ..] => {
+            command.as_str() == "plan" && folder_in(words).is_some() && sights.is_refused()
+        }
+        [] => false,
+    }
+}
+
+// Says what was probably meant by words and an input that did not serve.
+fn say_hints(rt: &(impl Files + AllocGlobal + Eprint), words: &[String], sights: &Sights) {
+    if is_refused(words, sights) {
+        let _ = rt.eprintln(Hint::Inspect.text());
+    }
+    if let Some(hint) = hint_of(rt, words, sights) {
+        let _ = rt.eprintln(hint.text());
+    }
+}
+
 fn main(rt: HostRuntime) -> ExitCode {
     let words = match words_of(&rt) {
         Ok(words) => words,
@@ -137,9 +157,7 @@ fn main(rt: HostRuntime) -> ExitCode {
         &mut Told::new(errors),
     );
     if status != DONE {
-        if let Some(hint) = hint_of(&rt, &words, &sights) {
-            let _ = rt.eprintln(hint.text());
-        }
+        say_hints(&rt, &words, &sights);
     }
     ExitCode::from(status)
 }

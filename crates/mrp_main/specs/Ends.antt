@@ -18,7 +18,7 @@ use Rattle.mrp_engine.specs.day.Run.{HasNotFailed, HasPassedLimits, HasTakenAll,
 use Rattle.mrp_engine.specs.declared.day.fault.DayFault.{DayFault}
 use Rattle.mrp_engine.specs.declared.day.fault.DayFault.TheVariants as fault
 use Rattle.mrp_words.specs.declared.command.Request.{Request}
-use Rattle.mrp_words.specs.declared.command.Request.TheVariants.{Carry, Check, Day, Page}
+use Rattle.mrp_words.specs.declared.command.Request.TheVariants.{Carry, Check, Day, Inspect, Page}
 use Rattle.mrp_words.specs.declared.day.DayCommand.{DayCommand}
 use Rattle.mrp_words.specs.declared.day.DayCommand.TheVariants.{Plan, Live}
 use Rattle.mrp_words.specs.declared.command.NoRequest.{NoRequest}
@@ -32,6 +32,7 @@ use Rattle.mrp_main.specs.PageEnds.{AskedPageEnds}
 use Rattle.mrp_main.specs.Refusal.{TellsFault}
 use Rattle.mrp_main.specs.CarryEnds.{CarryEndsBy}
 use Rattle.mrp_main.specs.CheckEnds.{CheckEnds}
+use Rattle.mrp_main.specs.InspectEnds.{InspectEndsIn}
 use Rattle.mrp_words.specs.Words.{Asks}
 
 -- how a command answers the script: `plan` in row order, `live` desk by desk
@@ -117,6 +118,7 @@ RequestEnds known remaining contents input read output written (Page words) end 
 RequestEnds known remaining contents input read output written (Check (Some folder)) end = CheckEnds known (string_bytes folder) remaining contents input read output written end
 RequestEnds known remaining contents input read output written (Check None) end = (read ≡ input) × (written ≡ output) × (status_of end ≡ status.Usage)
 RequestEnds known remaining contents input read output written (Carry words) end = (read ≡ input) × CarryEndsBy known words contents output written end
+RequestEnds known remaining contents input read output written (Inspect folder) end = (read ≡ input) × InspectEndsIn known (option_map string_bytes folder) contents output written end
 
 -- how help ends: it was written, or a prefix of it
 abbrev pub HelpEnds : {W : Type 0} → (W → Option (List ℕ)) → Told W → Told W → List ℕ → Ending → Type 0

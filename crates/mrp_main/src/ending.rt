@@ -27,7 +27,7 @@ pub enum Ending {
     WrongShape,
     /// The tables cannot be those of the day.
     WrongTables,
-    /// The day that was checked is wrong; the output says how.
+    /// The day that was checked is wrong, or tables that were inspected have faults; the output says how.
     Wrong,
     /// The day has fewer runs than the number asked for.
     NoRun,

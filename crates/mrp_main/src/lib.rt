@@ -5,6 +5,7 @@
 mod carry;
 mod check;
 mod ending;
+mod inspect;
 mod page;
 mod run;
 mod status;

@@ -11,6 +11,7 @@ ghost use Rattle.mrp_words.specs.declared.day.DayCommand.TheVariants as day;
 use crate::carry::carry_asked;
 use crate::check::check_day;
 use crate::ending::Ending;
+use crate::inspect::inspect_asked;
 use crate::page::make_page;
 use mrp_engine::{MOST_WORKERS, live_bundle, live_day, run_bundle, run_day};
 use mrp_rows::{Told, Tries, write_text};
@@ -147,6 +148,7 @@ fn answer<F: FileStore, R: Read, W: Write>(
             None => Ending::Usage(String::new(alloc)),
         },
         Request::Carry(words) => carry_asked(rt, alloc, files, &words, output),
+        Request::Inspect(folder) => inspect_asked(rt, alloc, files, &folder, output),
     }
 }
 
@@ -171,11 +173,11 @@ fn carry_out<F: FileStore, R: Read, W: Write>(
 }
 
 /// Does what the words after the program's name ask for, such as `plan --workers 2`, `live`, `page`,
-/// `check --dir D` or `carry --dir D --start DATE`, with an input, an output and an error stream, and returns the exit status. `plan` and
+/// `check --dir D`, `carry --dir D --start DATE` or `inspect --dir D`, with an input, an output and an error stream, and returns the exit status. `plan` and
 /// `live` with `--dir D` take the files of the folder D instead of the input.
 ///
 /// The status is 0 on success; 1 if the bundle was refused or its plan gets too large, if the text for a page
-/// is no day or not one of the tables, or if the day that was checked is wrong; 2 for wrong words, including a run that the day does
+/// is no day or not one of the tables, if the day that was checked is wrong, or if tables that were inspected have faults; 2 for wrong words, including a run that the day does
 /// not have and a start that is no Monday of the horizon; 3 when out of memory; and 4 if reading or writing failed. A line on the error stream says why; a
 /// failure to write it does not change the status.
 ///
@@ -195,6 +197,9 @@ fn carry_out<F: FileStore, R: Read, W: Write>(
 /// `carry` carries the bookings of the bundle of a folder's files into the next period: at 0 the script or the
 /// list was written, and a line on the error stream says how many bookings were due before the start, if
 /// any were; if writing failed, a prefix of it; otherwise nothing.
+///
+/// `inspect` tells all faults of a folder's files, at 1, or where the tables are accepted warnings, at 0: all lines have
+/// been written then; if writing failed, a prefix of them; otherwise nothing.
 ///
 /// Words that ask for help or the version have it written; wrong words have nothing written. Only days, pages and checks
 /// that take the input read it.

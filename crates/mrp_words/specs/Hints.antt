@@ -4,7 +4,7 @@ use Rattle.std.specs.List.{starts_with}
 use Rattle.std.specs.Str.{bytes_eq}
 use Rattle.mrp_words.specs.declared.hint.Hint.{Hint}
 use Rattle.mrp_words.specs.declared.hint.Hint.TheVariants as hint
-use Rattle.mrp_words.specs.declared.hint.TheConstants.{FILE_AS_FOLDER, FOLDER_AS_INPUT, STRAY_WORD, UTF16}
+use Rattle.mrp_words.specs.declared.hint.TheConstants.{FILE_AS_FOLDER, FOLDER_AS_INPUT, INSPECT, STRAY_WORD, UTF16}
 
 -- the line that says what was probably meant
 abbrev pub hint_text : Hint → List ℕ
@@ -12,16 +12,21 @@ hint_text hint.FolderAsInput = FOLDER_AS_INPUT.now
 hint_text hint.Utf16 = UTF16.now
 hint_text hint.FileAsFolder = FILE_AS_FOLDER.now
 hint_text hint.StrayWord = STRAY_WORD.now
+hint_text hint.Inspect = INSPECT.now
 
 -- bytes begin with a byte order mark of UTF-16, of either order
 abbrev pub begins_utf16 : List ℕ → Bool
 begins_utf16 bytes = starts_with nat_eq bytes (255 ∷ 254 ∷ []) || starts_with nat_eq bytes (254 ∷ 255 ∷ [])
 
+-- what is said of a refused bundle begins with these bytes
+abbrev pub says_refused : List ℕ → Bool
+says_refused said = starts_with nat_eq said (codes "refused: ")
+
 -- a word is one of the commands
 abbrev pub is_command : List ℕ → Bool
 is_command word =
     bytes_eq word (codes "plan")
-    || (bytes_eq word (codes "live") || (bytes_eq word (codes "page") || (bytes_eq word (codes "check") || bytes_eq word (codes "carry"))))
+    || (bytes_eq word (codes "live") || (bytes_eq word (codes "page") || (bytes_eq word (codes "check") || (bytes_eq word (codes "carry") || bytes_eq word (codes "inspect")))))
 
 -- a word begins as an option does
 abbrev pub is_option : List ℕ → Bool

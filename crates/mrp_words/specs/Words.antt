@@ -15,7 +15,7 @@ use Rattle.clap.specs.declared.error.kind.ErrorKind.{ErrorKind}
 use Rattle.clap.specs.declared.error.kind.ErrorKind.TheVariants.{DisplayHelp, DisplayVersion, OutOfMemory}
 use Rattle.mrp_words.specs.declared.command.TheConstants.{MOST_WORKERS}
 use Rattle.mrp_words.specs.declared.command.Request.{Request}
-use Rattle.mrp_words.specs.declared.command.Request.TheVariants.{Carry, Check, Day, Page}
+use Rattle.mrp_words.specs.declared.command.Request.TheVariants.{Carry, Check, Day, Inspect, Page}
 use Rattle.mrp_words.specs.declared.day.DayCommand.{DayCommand}
 use Rattle.mrp_words.specs.declared.carry_words.CarryWords.{CarryWords}
 use Rattle.mrp_words.specs.declared.page_words.PageWords.{PageWords}
@@ -111,6 +111,10 @@ check_app = with_rule (new_app (codes "check")) checked_rule
 abbrev pub carry_app : App
 carry_app = with_rule (with_rule (with_rule (new_app (codes "carry")) checked_rule) start_rule) numbers_rule
 
+-- `inspect`: its word, and its required option
+abbrev pub inspect_app : App
+inspect_app = with_rule (new_app (codes "inspect")) checked_rule
+
 -- no argument of a command is also one of its subcommands
 abbrev pub HasNoGlobals : Command → Type 0
 HasNoGlobals command = (out-Command command).has_globals ≡ false
@@ -122,12 +126,14 @@ mrp_command =
     with_subcommand (
     with_subcommand (
     with_subcommand (
+    with_subcommand (
     with_subcommand (on_top (λ s. record s { has_version = true; no_binary_name = true; subcommand_required = true }) (new_app (codes "mrp")))
     (day_app Plan).top)
     (day_app Live).top)
     page_app.top)
     check_app.top)
-    carry_app.top
+    carry_app.top)
+    inspect_app.top
 
 -- why clap may refuse the words; help is also a refusal, and words that are accepted have none
 abbrev pub refusals : List Text → Kinds
@@ -159,14 +165,16 @@ HasWorkers (Day command workers folder) = IsInRange 1 MOST_WORKERS workers
 HasWorkers (Page words) = ⊤
 HasWorkers (Check folder) = ⊤
 HasWorkers (Carry words) = ⊤
+HasWorkers (Inspect folder) = ⊤
 
--- the folder whose files are to be planned, or that a day is to be checked against, is the one that the words
+-- the folder whose files are to be planned or inspected, or that a day is to be checked against, is the one that the words
 -- name
 abbrev pub HasFolder : Option (Text × List Row) → Request → Type 0
 HasFolder entered (Day command workers folder) = option_map string_bytes folder ≡ dir_among entered
 HasFolder entered (Page words) = ⊤
 HasFolder entered (Check folder) = option_map string_bytes folder ≡ dir_among entered
 HasFolder entered (Carry words) = ⊤
+HasFolder entered (Inspect folder) = option_map string_bytes folder ≡ dir_among entered
 
 -- the subcommand that words enter is this command
 abbrev pub Enters : Option (Text × List Row) → DayCommand → Type 0
@@ -184,13 +192,21 @@ EntersCheck entered rows = entered ≡ Some (codes "check", rows)
 abbrev pub EntersCheckOrDay : Option (Text × List Row) → Type 0
 EntersCheckOrDay entered = ((command : DayCommand) × Enters entered command) ⊎ ((rows : List Row) × EntersCheck entered rows)
 
+-- the subcommand that words enter is `inspect`, with these rows
+abbrev pub EntersInspect : Option (Text × List Row) → List Row → Type 0
+EntersInspect entered rows = entered ≡ Some (codes "inspect", rows)
+
+-- words enter a command other than `page` and `carry`
+abbrev pub EntersUncarried : Option (Text × List Row) → Type 0
+EntersUncarried entered = EntersCheckOrDay entered ⊎ ((rows : List Row) × EntersInspect entered rows)
+
 -- the subcommand that words enter is `carry`, with these rows
 abbrev pub EntersCarry : Option (Text × List Row) → List Row → Type 0
 EntersCarry entered rows = entered ≡ Some (codes "carry", rows)
 
 -- words enter a command other than `page`
 abbrev pub EntersUnpaged : Option (Text × List Row) → Type 0
-EntersUnpaged entered = EntersCheckOrDay entered ⊎ ((rows : List Row) × EntersCarry entered rows)
+EntersUnpaged entered = EntersUncarried entered ⊎ ((rows : List Row) × EntersCarry entered rows)
 
 -- words enter one of the commands
 abbrev pub IsEntered : Option (Text × List Row) → Type 0
@@ -239,6 +255,10 @@ AskForCarry words folder start numbers = (rows : List Row) × EntersCarry (subco
 abbrev pub AskForCheck : List Text → Text → Type 0
 AskForCheck words folder = ((rows : List Row) × EntersCheck (subcommand_of mrp_command words) rows) × (folder_in words ≡ Some folder)
 
+-- words ask for the files of this folder to be inspected
+abbrev pub AskForInspection : List Text → Text → Type 0
+AskForInspection words folder = ((rows : List Row) × EntersInspect (subcommand_of mrp_command words) rows) × (folder_in words ≡ Some folder)
+
 -- the subcommand that words enter has so many workers: the number of `--workers`, or the default
 pub record IsBy (entered : Option (Text × List Row)) (workers : ℕ) : Type 0 where
   pub name : Text
@@ -259,6 +279,7 @@ IsAsAsked entered (Day command workers folder) = Enters entered command × ((ask
 IsAsAsked entered (Page words) = (rows : List Row) × EntersPage entered rows × HasPageWords rows words
 IsAsAsked entered (Check folder) = (rows : List Row) × EntersCheck entered rows
 IsAsAsked entered (Carry words) = (rows : List Row) × EntersCarry entered rows × HasCarryWords rows words
+IsAsAsked entered (Inspect folder) = (rows : List Row) × EntersInspect entered rows
 
 -- what an error of `clap` asks for, by its kind
 abbrev pub IsOfKind : ErrorKind → NoRequest → Type 0

@@ -7,11 +7,12 @@ ghost use Rattle.clap.specs.Values.{kind_of};
 ghost use Rattle.clap.specs.Walk.{rule_of};
 ghost use Rattle.clap.specs.Simple.{app_of, subcommand_rows_of};
 ghost use Rattle.mrp_words.specs.Help.{help_line, help_text};
-ghost use Rattle.mrp_words.specs.Words.{Asks, Enters, EntersCheckOrDay, EntersUnpaged, HasFolder, HasNoGlobals, HasWorkers, IsAsAsked, IsBy, IsEntered, IsOfKind, day_app, dir_among, dir_rule, mrp_command, workers_rule};
+ghost use Rattle.mrp_words.specs.Words.{Asks, Enters, EntersCheckOrDay, EntersUncarried, EntersUnpaged, HasFolder, HasNoGlobals, HasWorkers, IsAsAsked, IsBy, IsEntered, IsOfKind, day_app, dir_among, dir_rule, mrp_command, workers_rule};
 
 use crate::carry_words::{CarryWords, carry_command, carry_words};
 use crate::check_words::check_command;
 use crate::day::DayCommand;
+use crate::inspect_words::inspect_command;
 use crate::page_words::{PageWords, page_command, page_words};
 use clap::builder::ValueParser;
 use clap::error::ErrorKind;
@@ -77,6 +78,7 @@ pub(crate) const EXAMPLE: &str = "Examples:
   mrp page < shop.day > shop.html
   mrp check --dir shop < shop.day
   mrp carry --dir shop --start 2025-01-13 > kept.csv
+  mrp inspect --dir shop
 
 Exit status: 0 done, 1 refused or wrong, 2 usage, 3 no memory, 4 read or write failed.";
 
@@ -96,6 +98,8 @@ pub enum Request {
     Check(Option<String>),
     /// Carry the bookings of a folder's files into the next period.
     Carry(CarryWords),
+    /// Inspect the files of the folder that is named. `clap` requires one.
+    Inspect(Option<String>),
 }
 
 /// Why the words ask for nothing to be done.
@@ -182,7 +186,8 @@ fn command<'a>(alloc: Global) -> Result<Command<'a>, AllocError>
         .subcommand(day_command(alloc, DayCommand::Live)?)?
         .subcommand(page_command(alloc)?)?
         .subcommand(check_command(alloc)?)?
-        .subcommand(carry_command(alloc)?)
+        .subcommand(carry_command(alloc)?)?
+        .subcommand(inspect_command(alloc)?)
 }
 
 // Why `clap` gave no matches, with its text.
@@ -298,6 +303,19 @@ fn check_or_day(alloc: Global, matches: &ArgMatches<'_>) -> Result<Request, NoRe
     }
 }
 
+fn uncarried_request(alloc: Global, matches: &ArgMatches<'_>) -> Result<Request, NoRequest>
+    requires { EntersUncarried (subcommand_rows_of matches.now) }
+    ensures workers { IfOk result HasWorkers }
+    ensures asked { IfOk result (IsAsAsked (subcommand_rows_of matches.now)) }
+    ensures folder { IfOk result (HasFolder (subcommand_rows_of matches.now)) }
+    ensures memory { IfErr result (λ none. none ≡ NoRequest.NoMemory) }
+{
+    match matches.subcommand_matches("inspect") {
+        Some(found) => Ok(Request::Inspect(text_in(alloc, found, "dir")?)),
+        None => check_or_day(alloc, matches),
+    }
+}
+
 fn unpaged_request(alloc: Global, matches: &ArgMatches<'_>) -> Result<Request, NoRequest>
     requires { EntersUnpaged (subcommand_rows_of matches.now) }
     ensures workers { IfOk result HasWorkers }
@@ -307,7 +325,7 @@ fn unpaged_request(alloc: Global, matches: &ArgMatches<'_>) -> Result<Request, N
 {
     match matches.subcommand_matches("carry") {
         Some(found) => Ok(Request::Carry(carry_words(alloc, found)?)),
-        None => check_or_day(alloc, matches),
+        None => uncarried_request(alloc, matches),
     }
 }
 

@@ -16,6 +16,8 @@ const FILE_AS_FOLDER: &str =
 const STRAY_WORD: &str =
     "hint: a bundle or a day is read from standard input, as in `mrp plan < FILE`; `--dir FOLDER` names a folder of tables";
 
+const INSPECT: &str = "hint: mrp inspect --dir D tells all faults";
+
 /// What was probably meant.
 #[derive(Clone, Copy, Debug, PartialEq, Eq)]
 pub enum Hint {
@@ -27,6 +29,8 @@ pub enum Hint {
     FileAsFolder,
     /// The input that was named by a word.
     StrayWord,
+    /// All faults of a folder's tables.
+    Inspect,
 }
 
 impl Hint {
@@ -39,6 +43,7 @@ impl Hint {
             Hint::Utf16 => UTF16,
             Hint::FileAsFolder => FILE_AS_FOLDER,
             Hint::StrayWord => STRAY_WORD,
+            Hint::Inspect => INSPECT,
         }
     }
 }
@@ -47,7 +52,12 @@ impl Hint {
 fn is_command(word: &str) -> bool
     ensures { result ≡ is_command word.now }
 {
-    word == "plan" || word == "live" || word == "page" || word == "check" || word == "carry"
+    word == "plan"
+        || word == "live"
+        || word == "page"
+        || word == "check"
+        || word == "carry"
+        || word == "inspect"
 }
 
 // Whether a word begins as an option does.

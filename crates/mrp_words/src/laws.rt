@@ -4,7 +4,7 @@
 ghost use Rattle.std.specs.Prelude.{◌≡◌, [], ◌∷◌, Some, None, codes, false, true};
 ghost use Rattle.clap.specs.declared.error.kind.ErrorKind.TheVariants as kind;
 ghost use Rattle.mrp_words.specs.declared.day.DayCommand.TheVariants.{Plan, Live};
-ghost use Rattle.mrp_words.specs.Words.{AskFor, AskForCarry, AskForCheck, AskForPage, folder_in, refusals};
+ghost use Rattle.mrp_words.specs.Words.{AskFor, AskForCarry, AskForCheck, AskForInspection, AskForPage, folder_in, refusals};
 
 /// Words that are accepted, and why others are refused.
 pub fn words()
@@ -21,6 +21,7 @@ pub fn words()
     ensures check { refusals (codes "check" ∷ codes "--dir" ∷ codes "shop" ∷ []) ≡ [] }
     ensures carry { refusals (codes "carry" ∷ codes "--dir" ∷ codes "shop" ∷ codes "--start" ∷ codes "2025-01-20" ∷ []) ≡ [] }
     ensures carried_numbers { refusals (codes "carry" ∷ codes "--numbers" ∷ codes "--start=2025-01-20" ∷ codes "--dir=shop" ∷ []) ≡ [] }
+    ensures inspect { refusals (codes "inspect" ∷ codes "--dir" ∷ codes "shop" ∷ []) ≡ [] }
     // They name a folder, or none.
     ensures named { folder_in (codes "plan" ∷ codes "--dir" ∷ codes "shop" ∷ []) ≡ Some (codes "shop") }
     ensures behind { folder_in (codes "plan" ∷ codes "--workers=2" ∷ codes "--dir=shop" ∷ []) ≡ Some (codes "shop") }
@@ -41,6 +42,8 @@ pub fn words()
     // They ask for the bookings of this folder to be carried from this day on, as a script or as a list of numbers.
     ensures carried { AskForCarry (codes "carry" ∷ codes "--dir=shop" ∷ codes "--start=2025-01-20" ∷ []) (codes "shop") (codes "2025-01-20") false }
     ensures listed { AskForCarry (codes "carry" ∷ codes "--dir=shop" ∷ codes "--start=2025-01-20" ∷ codes "--numbers" ∷ []) (codes "shop") (codes "2025-01-20") true }
+    // They ask for the tables of this folder to be inspected.
+    ensures inspected { AskForInspection (codes "inspect" ∷ codes "--dir=shop" ∷ []) (codes "shop") }
     // These ask for help.
     ensures help { refusals (codes "--help" ∷ []) ≡ kind.DisplayHelp ∷ [] }
     ensures short { refusals (codes "-h" ∷ []) ≡ kind.DisplayHelp ∷ [] }
@@ -49,6 +52,7 @@ pub fn words()
     ensures help_of_page { refusals (codes "page" ∷ codes "--help" ∷ []) ≡ kind.DisplayHelp ∷ [] }
     ensures help_of_check { refusals (codes "check" ∷ codes "--help" ∷ []) ≡ kind.DisplayHelp ∷ [] }
     ensures help_of_carry { refusals (codes "carry" ∷ codes "--help" ∷ []) ≡ kind.DisplayHelp ∷ [] }
+    ensures help_of_inspect { refusals (codes "inspect" ∷ codes "--help" ∷ []) ≡ kind.DisplayHelp ∷ [] }
     // These ask for the version.
     ensures version { refusals (codes "--version" ∷ []) ≡ kind.DisplayVersion ∷ [] }
     ensures short_version { refusals (codes "-V" ∷ []) ≡ kind.DisplayVersion ∷ [] }
@@ -64,6 +68,8 @@ pub fn words()
     ensures no_run { refusals (codes "page" ∷ codes "--run=0" ∷ []) ≡ kind.ValueValidation ∷ [] }
     ensures no_folder { refusals (codes "check" ∷ []) ≡ kind.MissingRequiredArgument ∷ [] }
     ensures check_by_workers { refusals (codes "check" ∷ codes "--dir=shop" ∷ codes "--workers=2" ∷ []) ≡ kind.UnknownArgument ∷ [] }
+    ensures no_inspected_folder { refusals (codes "inspect" ∷ []) ≡ kind.MissingRequiredArgument ∷ [] }
+    ensures inspected_by_word { refusals (codes "inspect" ∷ codes "shop" ∷ []) ≡ kind.UnknownArgument ∷ [] }
     ensures no_start { refusals (codes "carry" ∷ codes "--dir=shop" ∷ []) ≡ kind.MissingRequiredArgument ∷ [] }
     ensures no_carried_folder { refusals (codes "carry" ∷ codes "--start=2025-01-20" ∷ []) ≡ kind.MissingRequiredArgument ∷ [] }
     ensures two_starts { refusals (codes "carry" ∷ codes "--dir=shop" ∷ codes "--start=2025-01-20" ∷ codes "--start=2025-01-20" ∷ []) ≡ kind.ArgumentConflict ∷ [] }

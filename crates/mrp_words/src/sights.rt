@@ -1,7 +1,7 @@
 //! Streams of which it is noted what a person at the terminal should know.
 
 ghost use Rattle.std.specs.Prelude.{◌≡◌};
-ghost use Rattle.mrp_words.specs.Hints.{begins_utf16};
+ghost use Rattle.mrp_words.specs.Hints.{begins_utf16, says_refused};
 
 use std::cell::Cell;
 use std::io;
@@ -14,6 +14,7 @@ pub struct Sights {
     is_folder: Cell<bool>,
     is_utf16: Cell<bool>,
     is_closed: Cell<bool>,
+    is_refused: Cell<bool>,
 }
 
 impl Sights {
@@ -24,6 +25,7 @@ impl Sights {
             is_folder: Cell::new(false),
             is_utf16: Cell::new(false),
             is_closed: Cell::new(false),
+            is_refused: Cell::new(false),
         }
     }
 
@@ -35,6 +37,11 @@ impl Sights {
     /// Whether the input begins with a byte order mark of UTF-16.
     pub fn is_utf16(&self) -> bool {
         self.is_utf16.get()
+    }
+
+    /// Whether a bundle was said to be refused.
+    pub fn is_refused(&self) -> bool {
+        self.is_refused.get()
     }
 
     // Notes how the input begins, by the first bytes that a read of it gave.
@@ -62,6 +69,13 @@ impl Sights {
             }
         }
     }
+}
+
+// Whether what is said of a refused bundle begins with these bytes.
+fn says_refused(said: &[u8]) -> bool
+    ensures { result ≡ says_refused said.now }
+{
+    said.starts_with(b"refused: ")
 }
 
 /// Whether bytes begin with a byte order mark of UTF-16.
@@ -136,6 +150,9 @@ impl<E: Write> Write for QuietErrors<'_, E> {
     {
         if self.sights.is_closed.get() {
             return Ok(buf.len());
+        }
+        if says_refused(buf) {
+            self.sights.is_refused.set(true);
         }
         self.inner.write(buf)
     }

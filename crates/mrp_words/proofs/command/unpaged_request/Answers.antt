@@ -8,8 +8,8 @@ use Rattle.clap.specs.declared.parser.matches.ArgMatches.TheViews.{out-ArgMatche
 use Rattle.mrp_words.proofs.AskedPage.{both, uncarried}
 use Rattle.mrp_words.proofs.command.unpaged_request.Goals as goal
 
-pub check_or_day-requires : goal.check_or_day-requires
-check_or_day-requires c =
+pub uncarried_request-requires : goal.uncarried_request-requires
+uncarried_request-requires c =
     uncarried c.args.matches.now (λ named. false≢true (sym (ap is_some c.in-None.is) ∙ c.subcommand_matches.ensures.found.1 named)) c.requires
 
 pub returns-in_ok-carry_words-in-Some-clause-asked : goal.returns-in_ok-carry_words-in-Some-clause-asked

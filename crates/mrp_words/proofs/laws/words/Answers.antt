@@ -248,3 +248,23 @@ returns-clause-two_starts c = refl
 pub returns-clause-two_flags : goal.returns-clause-two_flags
 unfolding clap_on_literals
 returns-clause-two_flags c = refl
+
+pub returns-clause-inspect : goal.returns-clause-inspect
+unfolding clap_on_literals
+returns-clause-inspect c = refl
+
+pub returns-clause-inspected : goal.returns-clause-inspected
+unfolding clap_on_literals
+returns-clause-inspected c = ((_, refl), refl)
+
+pub returns-clause-help_of_inspect : goal.returns-clause-help_of_inspect
+unfolding clap_on_literals
+returns-clause-help_of_inspect c = refl
+
+pub returns-clause-no_inspected_folder : goal.returns-clause-no_inspected_folder
+unfolding clap_on_literals
+returns-clause-no_inspected_folder c = refl
+
+pub returns-clause-inspected_by_word : goal.returns-clause-inspected_by_word
+unfolding clap_on_literals
+returns-clause-inspected_by_word c = refl

@@ -1,0 +1,6 @@
+pub mod Found
+pub mod Lines
+pub mod Names
+pub mod Pieces
+pub mod Sheets
+pub mod Strays

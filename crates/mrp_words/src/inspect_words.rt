@@ -1,0 +1,48 @@
+//! The words that ask for tables to be inspected.
+
+ghost use Rattle.std.specs.Prelude.{◌≡◌, IfOk, false};
+ghost use Rattle.clap.specs.Simple.{app_of};
+ghost use Rattle.clap.specs.Walk.{rule_of};
+ghost use Rattle.mrp_words.specs.Words.{HasNoGlobals, checked_rule, inspect_app};
+
+use crate::command::EXAMPLE;
+use clap::{Arg, ArgAction, Command};
+use std::alloc::{AllocError, Global};
+
+const ABOUT_INSPECT: &str =
+    "Reads the tables that a folder has as files, and writes a line for each of their faults to standard output:
+
+  items.csv:5: lot: 'LFL' is not a lot rule; expected lfl, fixed or period (refused: 10 word items 4)
+  bills.csv:9: component: 'WHEL' is not in items.csv; expected an item
+  2 faults (warnings are told when there is none)
+
+that is file, line, column, what is wrong, and what is expected; 0 is the whole file. Behind the first stands
+what `mrp plan` says of it. Where there is no fault, warnings are told of what is accepted but odd, as scrap
+of less than 1 %, and last how many there are. Nothing is planned.
+
+Exit status 1 means that there are faults.";
+
+const ABOUT_FOLDER: &str = "The folder whose files calendar.csv, items.csv and so on are inspected";
+
+fn folder<'a>(alloc: Global) -> Arg<'a>
+    ensures rule { rule_of result ≡ checked_rule }
+    ensures local { result.global ≡ false }
+{
+    Arg::new(alloc, "dir")
+        .long("dir")
+        .value_name("D")
+        .action(ArgAction::Set)
+        .required(true)
+        .help(ABOUT_FOLDER)
+}
+
+pub(crate) fn inspect_command<'a>(alloc: Global) -> Result<Command<'a>, AllocError>
+    ensures app { IfOk result (λ made. app_of made ≡ inspect_app) }
+    ensures local { IfOk result HasNoGlobals }
+{
+    Command::new(alloc, "inspect")
+        .about("Tells all faults of the tables that a folder has as files, or warnings")
+        .long_about(ABOUT_INSPECT)
+        .after_help(EXAMPLE)
+        .arg(folder(alloc))
+}
