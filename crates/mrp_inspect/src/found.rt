@@ -4,7 +4,7 @@ ghost use Rattle.std.specs.Prelude.{◌≡◌, IfOk, is_none};
 ghost use Rattle.std.specs.List.{list_all};
 ghost use Rattle.std.specs.Path.{path_buf_bytes};
 ghost use Rattle.mrp_words.specs.Folder.{IsThere};
-ghost use Rattle.mrp_inspect.specs.Found.{AreOthers, Finds, FindsBeside, IsGround, IsGroundIf, IsOther, IsOtherBeside, are_none, has_part, other_path};
+ghost use Rattle.mrp_inspect.specs.Found.{AreOthers, Finds, FindsBeside, IsGround, IsGroundIf, IsOther, IsOtherBeside, are_none, has_part, is_bare, other_path};
 
 use crate::names::{NAMINGS, Naming, other_name};
 use crate::piece::same_table;
@@ -145,13 +145,20 @@ fn is_no_other(others: &[Option<Naming>]) -> bool
 }
 
 // Whether no table has a file, under any name.
-pub(crate) fn are_none(tables: &[(Table, Vec<u8>)], others: &[Option<Naming>]) -> bool
+fn are_none(tables: &[(Table, Vec<u8>)], others: &[Option<Naming>]) -> bool
     ensures { result ≡ are_none tables.now others.now }
 {
     tables.is_empty() && is_no_other(others)
 }
 
-// The same, if no table has a file, under any name.
+// The same of what was found.
+pub(crate) fn is_bare(found: &Found) -> bool
+    ensures { result ≡ is_bare found.now }
+{
+    are_none(found.tables.as_slice(), found.others.as_slice())
+}
+
+// What is at the path of a folder, if no table has a file, under any name.
 fn ground_if<F: FileStore>(
     files: &F,
     alloc: Global,

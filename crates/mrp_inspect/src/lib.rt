@@ -3,6 +3,7 @@
 
 mod contents;
 mod cut;
+mod faults;
 mod found;
 mod lines;
 mod names;
@@ -10,6 +11,7 @@ mod piece;
 mod sheets;
 mod source;
 mod stray;
+mod warning;
 
 pub use found::{Found, Ground, find_files};
 pub use names::Naming;
