@@ -1,6 +1,7 @@
 mod CellLaws
 mod CsvSteps
 mod FileLines
+mod LikeNames
 mod LineLaws
 mod Marking
 mod Steps

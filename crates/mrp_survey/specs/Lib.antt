@@ -3,11 +3,13 @@ pub mod Entries
 pub mod Entry
 pub mod Finding
 pub mod Forms
+pub mod Fronts
 pub mod Headers
 pub mod Horizons
 pub mod Keys
 pub mod Kinds
 pub mod Known
+pub mod Likes
 pub mod LineLaws
 pub mod Lines
 pub mod Marks
@@ -15,5 +17,6 @@ pub mod Names
 pub mod Records
 pub mod Rules
 pub mod Survey
+pub mod Surveyed
 pub mod Tables
 pub mod Told

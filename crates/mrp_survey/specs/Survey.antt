@@ -12,7 +12,7 @@ use Rattle.mrp_survey.specs.declared.form.Form.{Form}
 use Rattle.mrp_survey.specs.declared.rule.Beside.{Beside}
 use Rattle.mrp_survey.specs.declared.source.Source.{Source}
 use Rattle.mrp_survey.specs.Finding.{Told}
-use Rattle.mrp_survey.specs.Forms.{Row}
+use Rattle.mrp_survey.specs.Forms.{Row, dated_key, entry_place}
 use Rattle.mrp_survey.specs.Horizons.{calendar_in, has_version, version_in}
 use Rattle.mrp_survey.specs.Names.{Names}
 use Rattle.mrp_survey.specs.Records.{Records, records_from, rows_below}
@@ -60,7 +60,7 @@ dated_form records = record { table = t.Calendar; version = One; has_version = b
 
 -- a record of the calendar that is missing
 abbrev pub missing : Form → Table → ℕ → Told
-missing form file number = told (record { file = file; table = form.table; number = number + 1; line = 0 }) [] 0 what.Missing
+missing form file number = told (record { file = file; table = form.table; number = number + 1; line = 0 }) [] 0 (what.Missing (dated_key (entry_place form (number + 1))))
 
 -- the records that a calendar with so many lacks
 abbrev pub missing_from : Form → Table → ℕ → List Told

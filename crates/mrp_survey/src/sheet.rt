@@ -2,6 +2,7 @@
 
 use crate::finding::Place;
 use crate::form::Form;
+use crate::front::{Front, front_of};
 use crate::header::can_be_read;
 use crate::lines::record_lines;
 use crate::rows::read_rows;
@@ -11,10 +12,11 @@ use mrp_rows::Table;
 use std::alloc::Global;
 use std::marker::Model;
 
-// A table's records, the header first, and the line of each in the file that it is in.
+// What a table's text begins as, its records, the header first, and the line of each in the file that it is in.
 #[derive(Drop)]
 pub(crate) struct Sheet {
     file: Table,
+    front: Front,
     rows: Vec<ByteRecord>,
     lines: Vec<u64>,
 }
@@ -26,7 +28,7 @@ impl Model for Sheet {
 
     ghost Value = { Records };
 
-    ghost view = { λ s. record { file = s.file; rows = map (λ row. fields_of row) s.rows.items; lines = s.lines.items } };
+    ghost view = { λ s. record { file = s.file; front = s.front; rows = map (λ row. fields_of row) s.rows.items; lines = s.lines.items } };
 }
 
 impl Sheet {
@@ -42,7 +44,12 @@ impl Sheet {
     {
         let rows = read_rows(alloc, text)?;
         let lines = record_lines(alloc, text, line)?;
-        Ok(Sheet { file, rows, lines })
+        Ok(Sheet {
+            file,
+            front: front_of(text),
+            rows,
+            lines,
+        })
     }
 
     // The table whose file they are in.
@@ -50,6 +57,13 @@ impl Sheet {
         ensures { result ≡ self.now.file }
     {
         self.file
+    }
+
+    // What their text begins as.
+    pub(crate) fn front(&self) -> Front
+        ensures { result ≡ self.now.front }
+    {
+        self.front
     }
 
     // The first record.
