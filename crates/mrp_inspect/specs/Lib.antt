@@ -1,4 +1,6 @@
+pub mod Faults
 pub mod Found
+pub mod Inspected
 pub mod Lines
 pub mod Listed
 pub mod Names
@@ -6,3 +8,4 @@ pub mod Pieces
 pub mod Sheets
 pub mod Strays
 pub mod Warned
+pub mod Words

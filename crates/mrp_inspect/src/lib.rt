@@ -5,6 +5,8 @@ mod contents;
 mod cut;
 mod faults;
 mod found;
+mod inspecting;
+pub mod laws;
 mod lines;
 mod names;
 mod piece;
@@ -12,6 +14,8 @@ mod sheets;
 mod source;
 mod stray;
 mod warning;
+mod words;
 
 pub use found::{Found, Ground, find_files};
+pub use inspecting::{Inspected, inspect};
 pub use names::Naming;
