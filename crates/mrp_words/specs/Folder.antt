@@ -1,5 +1,5 @@
 -- A bundle as the files of a folder (profile).
-use Rattle.std.specs.Prelude.{ℕ, Bool, true, false, ◌≡◌, ◌≤◌, ◌<◌, ◌++◌, List, [], ◌∷◌, Option, Some, None, IfSome, Result, Ok, Err, ⊤, codes, length, map, option_map}
+use Rattle.std.specs.Prelude.{ℕ, Bool, true, false, ◌≡◌, ◌≤◌, ◌<◌, ◌++◌, List, [], ◌∷◌, Option, Some, None, IfSome, is_some, Result, Ok, Err, ⊤, codes, length, map, option_map}
 use Rattle.std.specs.List.{All, filter_map}
 use Rattle.std.specs.Path.{path_join}
 use Rattle.std.specs.declared.io.ErrorKind.{ErrorKind}
@@ -41,6 +41,10 @@ is_absent _ = false
 -- a file is what is known to be at a path
 abbrev pub IsAt : Known → List ℕ → Option (List ℕ) → Type 0
 IsAt known path file = IfSome (known path) (λ kept. file ≡ kept)
+
+-- a file can be opened at a path, or not, as far as that is known
+abbrev pub IsThere : Known → List ℕ → Bool → Type 0
+IsThere known path there = IfSome (known path) (λ kept. there ≡ is_some kept)
 
 -- a file has more than so many bytes, or nothing is known of it
 abbrev pub IsTooLongAt : Known → List ℕ → ℕ → Type 0

@@ -5,7 +5,7 @@ ghost use Rattle.std.specs.Result.{result_map_both};
 ghost use Rattle.std.specs.Path.{path_buf_bytes};
 ghost use Rattle.mrp_rows.specs.Joined.{joined, section_bytes, section_of};
 ghost use Rattle.mrp_rows.specs.declared.streams.ReadFault.TheVariants as read;
-ghost use Rattle.mrp_words.specs.Folder.{AreParts, HasTooMuch, IsAt, IsReadFrom, IsTooLongAt, Known, is_absent, nothing_known, path_in};
+ghost use Rattle.mrp_words.specs.Folder.{AreParts, HasTooMuch, IsAt, IsReadFrom, IsThere, IsTooLongAt, Known, is_absent, nothing_known, path_in};
 
 use mrp_qty::NoMemory;
 use mrp_rows::{GREATEST_BUNDLE, READ_CALLS, ReadFault, Table, Told, join_bundle, read_within};
@@ -45,6 +45,10 @@ pub trait FileStore {
         ensures bytes { IfOk result (λ file. IsAt (known self.now) path.now (option_map (λ bytes. bytes.items) file)) }
         ensures within { IfOk result (λ file. IfSome file (λ bytes. vec_len bytes ≤ most)) }
         ensures past { result ≡ Err read.Read → IsTooLongAt (known self.now) path.now most };
+
+    /// Whether the file at a path can be opened.
+    fn can_be_opened(&self, path: &str) -> bool
+        ensures { IsThere (known self.now) path.now result };
 }
 
 // Whether a file cannot be opened because it does not exist, or its folder does not.
@@ -72,6 +76,10 @@ impl<F: Files> FileStore for F {
             Err(error) if is_absent(error.kind()) => Ok(None),
             Err(_) => Err(ReadFault::Read),
         }
+    }
+
+    fn can_be_opened(&self, path: &str) -> bool {
+        File::open(self, path).is_ok()
     }
 }
 
@@ -131,9 +139,12 @@ fn left_by(left: usize, table: Table, bytes: &[u8]) -> Result<usize, ReadFault>
     }
 }
 
-// The tables that have a file in a folder, each with its bytes. Their sections together have at most as many
-// bytes as a bundle may have.
-fn read_tables<F: FileStore>(
+/// The tables that have a file in a folder, in the order of the tables, each with its bytes. Their sections
+/// together have at most as many bytes as a bundle may have.
+///
+/// Errors, at the first file that has one: `Read` if a file exists and cannot be read, or makes the bundle of
+/// the files so far longer than 67,108,864 bytes; `NoMemory` if an allocation fails.
+pub fn read_tables<F: FileStore>(
     files: &F,
     alloc: Global,
     folder: &str,

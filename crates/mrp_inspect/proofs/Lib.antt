@@ -1,0 +1,5 @@
+pub mod Counting
+pub mod Cutting
+pub mod FileTexts
+pub mod Growing
+pub mod Straying

@@ -1,0 +1,15 @@
+use Rattle.std.proofs.Common.{◌∙◌, ◌++◌, map}
+use Rattle.std.specs.Prelude.{filter_map}
+use Rattle.std.proofs.lemmas.Result.{IfOk-weaker}
+use Rattle.mrp_advice.specs.Lines.{survey_lines}
+use Rattle.mrp_words.specs.Folder.{all_tables}
+use Rattle.mrp_inspect.specs.Faults.{lines_if}
+use Rattle.mrp_inspect.specs.Words.{missing_of, stray_text}
+use Rattle.mrp_inspect.proofs.inspecting.lines_of.Goals as goal
+
+pub returns : goal.returns
+returns c =
+    IfOk-weaker c.lines_if.result _ _
+    (λ lines is. is
+    ∙ (λ i. lines_if (c.is_bare-bare.ensures i) c.args.found.now.site (map stray_text (c.requires.strays i) ++ filter_map (missing_of (c.requires.firsts i) (c.as_slice-others.ensures.value i)) all_tables) (survey_lines c.args.survey.now)))
+    c.lines_if.ensures

@@ -1,0 +1,56 @@
+-- What is told of a folder's files (profile).
+use Rattle.std.specs.Prelude.{ℕ, Bool, true, false, ◌≡◌, ◌≢◌, List, Option, string_bytes}
+use Rattle.mrp_rows.specs.Joined.{joined}
+use Rattle.mrp_rows.specs.declared.fault.Fault.{Fault}
+use Rattle.mrp_rows.specs.declared.fault.Table.TheVariants as t
+use Rattle.mrp_rows.specs.declared.faults.TheConstants as faults
+use Rattle.mrp_tables.specs.declared.version.Version.TheVariants.{One}
+use Rattle.mrp_engine.specs.day.Day.{IsRefused}
+use Rattle.mrp_survey.specs.declared.source.Source.{Source}
+use Rattle.mrp_survey.specs.Survey.{calendar_among, form_of, items_among, names_among, survey_told, version_among}
+use Rattle.mrp_survey.specs.Surveyed.{Surveyed}
+use Rattle.mrp_inspect.specs.declared.found.Found.{Found}
+use Rattle.mrp_inspect.specs.declared.inspecting.Inspected.{Inspected}
+use Rattle.mrp_inspect.specs.Faults.{lines_of}
+use Rattle.mrp_inspect.specs.Found.{parts_of}
+use Rattle.mrp_inspect.specs.Listed.{faults_text}
+use Rattle.mrp_inspect.specs.Pieces.{pieces_of}
+use Rattle.mrp_inspect.specs.Strays.{AreSources}
+use Rattle.mrp_inspect.specs.Warned.{WarnsOf}
+
+-- the bundle of a folder's files, which `mrp plan` reads
+abbrev pub bundle_in : Found → List ℕ
+bundle_in found = joined (parts_of found)
+
+-- the texts from which the tables are read
+abbrev pub AreSourcesIn : Found → List (Option Source) → Type 0
+AreSourcesIn found sources = AreSources (pieces_of (parts_of found)) sources
+
+-- a survey of texts: what is wrong with their records, and what is known of their tables
+pub record IsSurveyOf (sources : List (Option Source)) (survey : Surveyed) : Type 0 where
+  pub findings : survey.findings ≡ survey_told sources
+  pub version : survey.version ≡ version_among sources
+  pub calendar : survey.calendar ≡ calendar_among sources
+  pub items : survey.items ≡ items_among sources (version_among sources)
+  pub centres : survey.centres ≡ names_among sources (form_of t.Centres One)
+
+-- the text of all faults, with this one behind the first
+pub record IsFaultsText (found : Found) (sources : List (Option Source)) (fault : Fault) (text : List ℕ) : Type 0 where
+  pub survey : Surveyed
+  pub surveys : IsSurveyOf sources survey
+  pub text_is : text ≡ faults_text (lines_of found survey) fault
+
+-- the faults of a shop: `mrp plan` refuses its tables for this fault, which is told behind the first line
+pub record TellsFaults (bundle : List ℕ) (found : Found) (sources : List (Option Source)) (text : List ℕ) : Type 0 where
+  pub fault : Fault
+  pub refused : IsRefused bundle fault
+  pub known : fault.code ≢ faults.NO_MEMORY
+  pub told : IsFaultsText found sources fault text
+
+abbrev pub Tells : Bool → List ℕ → Found → List (Option Source) → List ℕ → Type 0
+Tells true bundle found sources text = TellsFaults bundle found sources text
+Tells false bundle found sources text = WarnsOf bundle sources text
+
+-- faults are told, or where `mrp plan` accepts the tables, warnings
+abbrev pub Inspects : Found → Inspected → Type 0
+Inspects found result = (sources : List (Option Source)) × AreSourcesIn found sources × Tells result.has_faults (bundle_in found) found sources (string_bytes result.text)

@@ -1,0 +1,11 @@
+pub mod Faults
+pub mod Found
+pub mod Inspected
+pub mod Lines
+pub mod Listed
+pub mod Names
+pub mod Pieces
+pub mod Sheets
+pub mod Strays
+pub mod Warned
+pub mod Words

@@ -1,0 +1,31 @@
+-- Lines of faults as a text (profile).
+use Rattle.std.specs.Prelude.{ℕ, ◌+◌, ◌==◌, if◌then◌else◌, List, [], ◌∷◌, ◌++◌, codes, decimal, flat_map, length}
+use Rattle.mrp_rows.specs.FaultText.{table_name, text_of_fault}
+use Rattle.mrp_rows.specs.declared.fault.Fault.{Fault}
+
+abbrev pub plural : ℕ → List ℕ
+plural n = if n == 1 then [] else codes "s"
+
+-- how many faults there are
+abbrev pub count_text : ℕ → List ℕ
+count_text count = decimal count ++ (codes " fault" ++ (plural count ++ codes " (warnings are told when there is none)\n"))
+
+-- the first line, with what `mrp plan` says behind it
+abbrev pub first_text : List ℕ → Fault → List ℕ
+first_text first f = first ++ (codes " (refused: " ++ (text_of_fault f ++ codes ")\n"))
+
+abbrev pub lines_text : List (List ℕ) → List ℕ
+lines_text lines = flat_map (λ line. line ++ codes "\n") lines
+
+-- lines, and how many there are
+abbrev pub listed : List ℕ → List (List ℕ) → Fault → List ℕ
+listed first others f = first_text first f ++ lines_text others ++ count_text (length others + 1)
+
+-- a fault of which no line tells
+abbrev pub untold : Fault → List ℕ
+untold f = table_name f.table ++ codes ".csv:0: row: a fault; expected none"
+
+-- the same of all lines, which are never none
+abbrev pub faults_text : List (List ℕ) → Fault → List ℕ
+faults_text [] f = listed (untold f) [] f
+faults_text (first ∷ others) f = listed first others f

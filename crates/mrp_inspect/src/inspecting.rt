@@ -1,0 +1,194 @@
+//! Telling what is wrong with the tables of a folder, or what is odd.
+
+ghost use Rattle.std.specs.Prelude.{◌≡◌, ◌++◌, ◌∷◌, [], IfOk, filter_map, map, string_bytes};
+ghost use Rattle.mrp_advice.specs.Lines.{survey_lines};
+ghost use Rattle.mrp_words.specs.Folder.{all_tables};
+ghost use Rattle.mrp_inspect.specs.Faults.{lines_if, lines_of};
+ghost use Rattle.mrp_inspect.specs.Found.{parts_of};
+ghost use Rattle.mrp_inspect.specs.Inspected.{Inspects, IsFaultsText, Tells, bundle_in};
+ghost use Rattle.mrp_inspect.specs.Words.{site_text, missing_of, stray_text};
+ghost use Rattle.mrp_inspect.specs.Pieces.{pieces_of};
+ghost use Rattle.mrp_inspect.specs.Strays.{firsts_of, strays_of};
+
+use crate::contents::{bundle_of, contents_of};
+use crate::cut::cut_files;
+use crate::faults::faults_text;
+use crate::found::{Found, Site, is_bare};
+use crate::names::Naming;
+use crate::piece::Piece;
+use crate::source::sources_of;
+use crate::stray::{Stray, firsts_of, strays_of};
+use crate::warning::warnings_of;
+use crate::words::{file_lines, site_text, push_one};
+use mrp_advice::survey_lines;
+use mrp_engine::{OpenFault, open_shop};
+use mrp_qty::NoMemory;
+use mrp_rows::Fault;
+use mrp_survey::{Source, Survey, survey};
+use std::alloc::Global;
+use std::thread::Threads;
+
+/// What is told of a folder's files.
+#[derive(Drop)]
+pub struct Inspected {
+    /// A line for each fault, or where there is none for each warning, and how many there are.
+    pub text: String,
+    /// Whether faults are told.
+    pub has_faults: bool,
+}
+
+// The line of a folder that has none of the tables.
+fn bare_lines(alloc: Global, site: Site) -> Result<Vec<String>, NoMemory>
+    ensures { IfOk result (λ lines. map (λ line. string_bytes line) lines.items ≡ site_text site ∷ []) }
+{
+    let line = site_text(alloc, site)?;
+    let mut lines = Vec::new(alloc);
+    push_one(line, &mut lines)?;
+    Ok(lines)
+}
+
+// The lines of what is wrong with files, and then with their records.
+fn all_lines(
+    alloc: Global,
+    firsts: &[Option<usize>],
+    strays: &[Stray<'_>],
+    others: &[Option<Naming>],
+    survey: &Survey,
+) -> Result<Vec<String>, NoMemory>
+    ensures { IfOk result (λ lines. map (λ line. string_bytes line) lines.items ≡ map stray_text strays.now ++ filter_map (missing_of firsts.now others.now) all_tables ++ survey_lines survey.now) }
+{
+    let mut lines = file_lines(alloc, strays, firsts, others)?;
+    let mut records = survey_lines(alloc, survey)?;
+    lines.append(&mut records)?;
+    Ok(lines)
+}
+
+// The line of a folder that has none of the tables, or those of all faults.
+fn lines_if(
+    alloc: Global,
+    bare: bool,
+    site: Site,
+    firsts: &[Option<usize>],
+    strays: &[Stray<'_>],
+    others: &[Option<Naming>],
+    survey: &Survey,
+) -> Result<Vec<String>, NoMemory>
+    ensures { IfOk result (λ lines. map (λ line. string_bytes line) lines.items ≡ lines_if bare site (map stray_text strays.now ++ filter_map (missing_of firsts.now others.now) all_tables) (survey_lines survey.now)) }
+{
+    if bare {
+        bare_lines(alloc, site)
+    } else {
+        all_lines(alloc, firsts, strays, others, survey)
+    }
+}
+
+// The lines of all faults.
+fn lines_of(
+    alloc: Global,
+    found: &Found,
+    firsts: &[Option<usize>],
+    strays: &[Stray<'_>],
+    survey: &Survey,
+) -> Result<Vec<String>, NoMemory>
+    requires firsts { firsts.now ≡ firsts_of (pieces_of (parts_of found.now)) }
+    requires strays { strays.now ≡ strays_of (pieces_of (parts_of found.now)) }
+    ensures { IfOk result (λ lines. map (λ line. string_bytes line) lines.items ≡ lines_of found.now survey.now) }
+{
+    let bare = is_bare(found);
+    let others = found.others.as_slice();
+    lines_if(alloc, bare, found.site, firsts, strays, others, survey)
+}
+
+// The faults of tables that are refused.
+fn faults_of(
+    alloc: Global,
+    found: &Found,
+    firsts: &[Option<usize>],
+    strays: &[Stray<'_>],
+    sources: &[Option<Source<'_>>; 9],
+    fault: &Fault,
+) -> Result<String, NoMemory>
+    requires firsts { firsts.now ≡ firsts_of (pieces_of (parts_of found.now)) }
+    requires strays { strays.now ≡ strays_of (pieces_of (parts_of found.now)) }
+    ensures { IfOk result (λ text. IsFaultsText found.now sources.now fault.now (string_bytes text)) }
+{
+    let survey = survey(alloc, sources)?;
+    let lines = lines_of(alloc, found, firsts, strays, &survey)?;
+    faults_text(alloc, lines.as_slice(), fault)
+}
+
+// What is told where tables are accepted, or refused.
+fn inspect_sources(
+    rt: &impl Threads,
+    alloc: Global,
+    found: &Found,
+    bundle: &[u8],
+    firsts: &[Option<usize>],
+    strays: &[Stray<'_>],
+    sources: &[Option<Source<'_>>; 9],
+) -> Result<Inspected, NoMemory>
+    requires firsts { firsts.now ≡ firsts_of (pieces_of (parts_of found.now)) }
+    requires strays { strays.now ≡ strays_of (pieces_of (parts_of found.now)) }
+    ensures { IfOk result (λ inspected. Tells inspected.has_faults bundle.now found.now sources.now (string_bytes inspected.text)) }
+{
+    match open_shop(rt, alloc, bundle) {
+        Ok(shop) => {
+            let text = warnings_of(alloc, bundle, &shop, sources)?;
+            Ok(Inspected {
+                text,
+                has_faults: false,
+            })
+        }
+        Err(OpenFault::Refused(fault)) => {
+            let told = faults_of(alloc, found, firsts, strays, sources, &fault)?;
+            Ok(Inspected {
+                text: told,
+                has_faults: true,
+            })
+        }
+        Err(OpenFault::NoMemory) => Err(NoMemory),
+    }
+}
+
+// The same, by the pieces of the files.
+fn inspect_pieces(
+    rt: &impl Threads,
+    alloc: Global,
+    found: &Found,
+    bundle: &[u8],
+    pieces: &[Piece<'_>],
+) -> Result<Inspected, NoMemory>
+    requires bundle { bundle.now ≡ bundle_in found.now }
+    requires pieces { pieces.now ≡ pieces_of (parts_of found.now) }
+    ensures { IfOk result (Inspects found.now) }
+{
+    let firsts = firsts_of(alloc, pieces)?;
+    let strays = strays_of(alloc, pieces, firsts.as_slice())?;
+    let sources = sources_of(pieces, firsts.as_slice(), strays.as_slice());
+    inspect_sources(
+        rt,
+        alloc,
+        found,
+        bundle,
+        firsts.as_slice(),
+        strays.as_slice(),
+        &sources,
+    )
+}
+
+/// Inspects the files of a folder: reads the tables as planning them does, and where they are refused tells
+/// all faults, each with its file, line and column, with what planning says behind the first; where they are
+/// accepted tells warnings of what is odd. Nothing is planned.
+///
+/// Tables are read in two threads if a second one can be started.
+///
+/// Errors: `NoMemory` if an allocation fails.
+pub fn inspect(rt: &impl Threads, alloc: Global, found: &Found) -> Result<Inspected, NoMemory>
+    ensures { IfOk result (Inspects found.now) }
+{
+    let tables = found.tables.as_slice();
+    let bundle = bundle_of(alloc, tables)?;
+    let contents = contents_of(alloc, bundle.as_slice(), tables)?;
+    let pieces = cut_files(alloc, contents.as_slice())?;
+    inspect_pieces(rt, alloc, found, bundle.as_slice(), pieces.as_slice())
+}

@@ -1,0 +1,184 @@
+//! Faults of files and of section lines, in words.
+
+ghost use Rattle.std.specs.Prelude.{◌≡◌, ◌++◌, ◌∷◌, [], IfOk, None, OnOk, filter_map, map, option_map, string_bytes};
+ghost use Rattle.std.specs.List.{slice_index_or};
+ghost use Rattle.mrp_rows.specs.Tables.{table_index};
+ghost use Rattle.std.specs.Option.{option_to_list};
+ghost use Rattle.mrp_words.specs.Folder.{all_tables};
+ghost use Rattle.mrp_inspect.specs.Words.{site_text, site_words, missing_of, missing_text, other_words, reason_words, stray_text};
+
+use crate::found::Site;
+use crate::names::{Naming, other_name};
+use crate::stray::{Reason, Stray, TABLES, first_among};
+use mrp_advice::shown;
+use mrp_qty::NoMemory;
+use mrp_rows::Table;
+use std::alloc::{AllocError, Global};
+
+// Why a line is told.
+fn reason_words(alloc: Global, reason: Reason) -> Result<String, AllocError>
+    ensures { IfOk result (λ text. string_bytes text ≡ reason_words reason) }
+{
+    match reason {
+        Reason::NoTable => String::from_str(alloc, " begins with [, which begins a section"),
+        Reason::OfFile(table) => {
+            let table = table.name();
+            format!(in alloc; " begins the table of {table}.csv")
+        }
+        Reason::Again { file, line } => {
+            let file = file.name();
+            format!(in alloc; " begins a table that begins in line {line} of {file}.csv")
+        }
+    }
+}
+
+// A line that begins with a bracket.
+fn stray_text(alloc: Global, stray: &Stray<'_>) -> Result<String, NoMemory>
+    ensures { IfOk result (λ text. string_bytes text ≡ stray_text stray.now) }
+{
+    let file = stray.file.name();
+    let number = stray.number;
+    let line = shown(alloc, stray.text)?;
+    let why = reason_words(alloc, stray.reason)?;
+    Ok(format!(in alloc;
+        "{file}.csv:{number}: row: {line}{why}; expected no line with [ in front"
+    )?)
+}
+
+// Another name under which a table's file is there.
+fn other_words(alloc: Global, table: Table, other: Option<Naming>) -> Result<String, AllocError>
+    ensures { IfOk result (λ text. string_bytes text ≡ other_words table other) }
+{
+    match other {
+        Some(naming) => {
+            let name = other_name(alloc, table, naming)?;
+            format!(in alloc; ", but '{name}' is there")
+        }
+        None => Ok(String::new(alloc)),
+    }
+}
+
+// A table that is not there.
+fn missing_text(alloc: Global, table: Table, other: Option<Naming>) -> Result<String, AllocError>
+    ensures { IfOk result (λ text. string_bytes text ≡ missing_text table other) }
+{
+    let name = table.name();
+    let but = other_words(alloc, table, other)?;
+    format!(in alloc; "{name}.csv:0: file: there is no such file{but}; expected a file {name}.csv")
+}
+
+impl Site {
+    ghost use Rattle.std.specs.Prelude.{◌≡◌};
+    ghost use Rattle.mrp_inspect.specs.Words.{site_words};
+
+    // What a folder's path has in place of the tables.
+    fn words(self) -> &'static str
+        ensures { result.now ≡ site_words self }
+    {
+        match self {
+            Site::File => {
+                "this is a file and no folder (a bundle is planned by mrp plan < FILE)"
+            }
+            Site::Absent => "there is no such folder",
+            Site::Folder => "none of the nine tables is there",
+        }
+    }
+}
+
+// The line of a folder that has none of the tables.
+pub(crate) fn site_text(alloc: Global, site: Site) -> Result<String, AllocError>
+    ensures { IfOk result (λ text. string_bytes text ≡ site_text site) }
+{
+    let what = site.words();
+    format!(in alloc;
+        ".:0: folder: {what}; expected a folder with calendar.csv, items.csv, centres.csv, stock.csv, receipts.csv, bills.csv, routings.csv, master.csv, script.csv"
+    )
+}
+
+// Another name under which a table's file is there, among those of all tables.
+fn other_among(others: &[Option<Naming>], table: Table) -> Option<Naming>
+    ensures { result ≡ slice_index_or others.now (table_index table) None }
+{
+    match others.get(table.index()) {
+        Some(other) => *other,
+        None => None,
+    }
+}
+
+// The line of a table that no piece begins.
+fn missing_of(
+    alloc: Global,
+    firsts: &[Option<usize>],
+    others: &[Option<Naming>],
+    table: Table,
+) -> Result<Option<String>, AllocError>
+    ensures { IfOk result (λ line. option_map string_bytes line ≡ missing_of firsts.now others.now table) }
+{
+    match first_among(firsts, table) {
+        Some(_) => Ok(None),
+        None => {
+            let other = other_among(others, table);
+            Ok(Some(missing_text(alloc, table, other)?))
+        }
+    }
+}
+
+// Adds a line.
+pub(crate) fn push_one(line: String, lines: &mut Vec<String>) -> Result<(), NoMemory>
+    ensures { OnOk result (map (λ own. string_bytes own) lines.new.items ≡ map (λ own. string_bytes own) lines.old.items ++ string_bytes line ∷ []) }
+{
+    lines.push(line)?;
+    Ok(())
+}
+
+// Adds a line, if there is one.
+fn push_some(line: Option<String>, lines: &mut Vec<String>) -> Result<(), NoMemory>
+    ensures { OnOk result (map (λ own. string_bytes own) lines.new.items ≡ map (λ own. string_bytes own) lines.old.items ++ option_to_list (option_map string_bytes line)) }
+{
+    match line {
+        Some(line) => push_one(line, lines),
+        None => Ok(()),
+    }
+}
+
+// The lines that begin with a bracket.
+fn stray_lines(alloc: Global, strays: &[Stray<'_>]) -> Result<Vec<String>, NoMemory>
+    ensures { IfOk result (λ lines. map (λ line. string_bytes line) lines.items ≡ map stray_text strays.now) }
+{
+    let mut lines = Vec::with_capacity(alloc, strays.len())?;
+    for stray in strays {
+        let line = stray_text(alloc, stray)?;
+        lines.push(line)?;
+    }
+    Ok(lines)
+}
+
+// Adds the lines of the tables that no piece begins.
+fn push_missing(
+    alloc: Global,
+    firsts: &[Option<usize>],
+    others: &[Option<Naming>],
+    lines: &mut Vec<String>,
+) -> Result<(), NoMemory>
+    ensures { OnOk result (map (λ line. string_bytes line) lines.new.items ≡ map (λ line. string_bytes line) lines.old.items ++ filter_map (missing_of firsts.now others.now) all_tables) }
+{
+    for table in TABLES {
+        let missing = missing_of(alloc, firsts, others, table)?;
+        push_some(missing, lines)?;
+    }
+    Ok(())
+}
+
+// The lines of what is wrong with files.
+pub(crate) fn file_lines(
+    alloc: Global,
+    strays: &[Stray<'_>],
+    firsts: &[Option<usize>],
+    others: &[Option<Naming>],
+) -> Result<Vec<String>, NoMemory>
+    ensures { IfOk result (λ lines. map (λ line. string_bytes line) lines.items ≡ map stray_text strays.now ++ filter_map (missing_of firsts.now others.now) all_tables) }
+{
+    let mut lines = stray_lines(alloc, strays)?;
+    push_missing(alloc, firsts, others, &mut lines)?;
+    Ok(lines)
+}
