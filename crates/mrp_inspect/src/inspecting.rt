@@ -19,7 +19,7 @@ use crate::piece::Piece;
 use crate::source::sources_of;
 use crate::stray::{Stray, firsts_of, strays_of};
 use crate::warning::warnings_of;
-use crate::words::{file_lines, site_text, push_one};
+use crate::words::{file_lines, push_one, site_text};
 use mrp_advice::survey_lines;
 use mrp_engine::{OpenFault, open_shop};
 use mrp_qty::NoMemory;
