@@ -1,9 +1,10 @@
 -- The lines of runs of faults, one by one.
-use Rattle.std.proofs.Common.{◌≡◌, ◌∙◌, ℕ, ◌+◌, ◌<◌, ◌≤◌, true, false, List, [], ◌∷◌, ◌++◌, append-nil, append_assoc, drop, get_or, length, map, ap, refl, sym}
-use Rattle.std.proofs.lemmas.List.{drop_all, drop_more, map-append}
+use Rattle.std.proofs.Common.{◌≡◌, ◌∙◌, ℕ, ◌+◌, ◌<◌, ◌≤◌, true, false, List, [], ◌∷◌, ◌++◌, append-nil, append_assoc, drop, get_or, length, map, ap, refl, sym, take}
+use Rattle.std.proofs.lemmas.List.{drop_all, drop_more, map-append, take_more}
 use Rattle.mrp_survey.specs.Finding.{Told}
-use Rattle.mrp_survey.specs.Surveyed.{Surveyed}
+use Rattle.mrp_survey.specs.Surveyed.{LoopTold, Surveyed}
 use Rattle.mrp_advice.specs.Lines.{fault_line, follows, run_line, runs_after}
+use Rattle.mrp_advice.specs.Loops.{loop_line}
 
 -- the lines of the runs that are left
 abbrev pub lines_left : Surveyed → Told → Told → List Told → List (List ℕ)
@@ -55,3 +56,11 @@ module _ {X : Type 0} (bytes : X → List ℕ) (survey : Surveyed) (lines : List
   finishes new text past grown own =
       sym (append-nil (map bytes new)) ∙ with-line new text [] grown own ∙ ap (λ (ts : List (List ℕ)). map bytes lines ++ ts) (sym (run-last survey first last))
       ∙ ap (λ (fs : List Told). map bytes lines ++ lines_left survey first last fs) (sym (drop_all k others past)) ∙ so_far
+
+-- the line of one more loop
+pub loop-added : {X : Type 0} (bytes : X → List ℕ) (front : List (List ℕ)) (loops : List LoopTold) (lines new : List X) (text : X) (k : ℕ) (found : LoopTold) → k < length loops → found ≡ get_or loops k found
+    → new ≡ lines ++ text ∷ [] → bytes text ≡ loop_line found → map bytes lines ≡ front ++ map loop_line (take k loops) → map bytes new ≡ front ++ map loop_line (take (k + 1) loops)
+loop-added {X} bytes front loops lines new text k found within is grown own so_far =
+    ap (map bytes) grown ∙ map-append bytes lines (text ∷ []) ∙ ap (λ (ts : List (List ℕ)). ts ++ bytes text ∷ []) so_far ∙ append_assoc front (map loop_line (take k loops)) (bytes text ∷ [])
+    ∙ ap (λ (t : List ℕ). front ++ (map loop_line (take k loops) ++ t ∷ [])) own
+    ∙ ap (λ (ts : List (List ℕ)). front ++ ts) (sym (map-append loop_line (take k loops) (found ∷ [])) ∙ ap (map loop_line) (ap (λ (f : LoopTold). take k loops ++ f ∷ []) is ∙ sym (take_more loops k found within)))

@@ -15,6 +15,7 @@ use Rattle.mrp_survey.specs.Names.{Names}
 use Rattle.mrp_survey.specs.Surveyed.{Surveyed}
 use Rattle.mrp_advice.specs.Expected.{kind_words}
 use Rattle.mrp_advice.specs.Headers.{column_at, header_words}
+use Rattle.mrp_advice.specs.Loops.{loop_line}
 use Rattle.mrp_advice.specs.Reasons.{cell_words}
 use Rattle.mrp_advice.specs.Records.{at_most_words, blank_words, columns_words, missing_words, row_words, too_many_words, wanted_words}
 use Rattle.mrp_advice.specs.Rules.{once_words, outside_told, repeated_words, unknown_words, within_told}
@@ -141,4 +142,4 @@ fault_lines survey = map (run_line survey) (runs_of survey.findings)
 
 -- a line for each fault, and then one for each set of items that need one another
 abbrev pub survey_lines : Surveyed → List (List ℕ)
-survey_lines survey = fault_lines survey
+survey_lines survey = fault_lines survey ++ map loop_line survey.loops

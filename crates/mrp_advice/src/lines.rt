@@ -4,6 +4,7 @@ ghost use Rattle.std.specs.Prelude.{◌≡◌, IfOk, map, string_bytes};
 ghost use Rattle.mrp_advice.specs.Lines.{fault_lines, follows, is_blank, survey_lines};
 
 use crate::line::fault_line;
+use crate::looped::loop_line;
 use mrp_qty::NoMemory;
 use mrp_survey::{Finding, Survey, What};
 use std::alloc::Global;
@@ -53,5 +54,10 @@ fn fault_lines(alloc: Global, survey: &Survey) -> Result<Vec<String>, NoMemory>
 pub fn survey_lines(alloc: Global, survey: &Survey) -> Result<Vec<String>, NoMemory>
     ensures { IfOk result (λ lines. map (λ line. string_bytes line) lines.items ≡ survey_lines survey.now) }
 {
-    fault_lines(alloc, survey)
+    let mut lines = fault_lines(alloc, survey)?;
+    let loops = survey.loops();
+    for found in loops {
+        lines.push(loop_line(alloc, found)?)?;
+    }
+    Ok(lines)
 }

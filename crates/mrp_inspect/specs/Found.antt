@@ -9,8 +9,8 @@ use Rattle.mrp_rows.specs.declared.streams.TheConstants.{GREATEST_BUNDLE}
 use Rattle.mrp_rows.specs.Joined.{Part}
 use Rattle.mrp_words.specs.Folder.{AreParts, HasTooMuch, IsThere, IsTooLongAt, Known, all_tables}
 use Rattle.mrp_inspect.specs.declared.found.Found.{Found}
-use Rattle.mrp_inspect.specs.declared.found.Ground.{Ground}
-use Rattle.mrp_inspect.specs.declared.found.Ground.TheVariants.{Absent, File, Folder}
+use Rattle.mrp_inspect.specs.declared.found.Site.{Site}
+use Rattle.mrp_inspect.specs.declared.found.Site.TheVariants.{Absent, File, Folder}
 use Rattle.mrp_inspect.specs.declared.names.Naming.{Naming}
 use Rattle.mrp_inspect.specs.Names.{all_namings, other_name}
 use Rattle.mrp_inspect.specs.Pieces.{same_table}
@@ -47,10 +47,10 @@ abbrev pub AreOthers : {B : Type 0} → Known → List ℕ → List (Table × B)
 AreOthers known folder parts others = AllZip (IsOtherBeside known folder parts) all_tables others
 
 -- what is at the path of a folder
-abbrev pub IsGround : Known → List ℕ → Ground → Type 0
-IsGround known folder File = IsThere known folder true
-IsGround known folder Absent = IsThere known folder false
-IsGround known folder Folder = (folder ≡ []) ⊎ IsTooLongAt known folder GREATEST_BUNDLE
+abbrev pub IsSite : Known → List ℕ → Site → Type 0
+IsSite known folder File = IsThere known folder true
+IsSite known folder Absent = IsThere known folder false
+IsSite known folder Folder = (folder ≡ []) ⊎ IsTooLongAt known folder GREATEST_BUNDLE
 
 -- no table has a file, under any name
 abbrev pub are_none : {T : Type 0} → List T → List (Option Naming) → Bool
@@ -60,14 +60,14 @@ abbrev pub is_bare : Found → Bool
 is_bare found = are_none found.tables.items found.others.items
 
 -- it is looked at only where no table has a file
-abbrev pub IsGroundIf : Bool → Known → List ℕ → Ground → Type 0
-IsGroundIf true known folder ground = IsGround known folder ground
-IsGroundIf false known folder ground = ground ≡ Folder
+abbrev pub IsSiteIf : Bool → Known → List ℕ → Site → Type 0
+IsSiteIf true known folder site = IsSite known folder site
+IsSiteIf false known folder site = site ≡ Folder
 
 -- what is there in place of the files that a folder does not have
 pub record FindsBeside (known : Known) (folder : List ℕ) (found : Found) : Type 0 where
   pub others : AreOthers known folder found.tables.items found.others.items
-  pub ground : IsGroundIf (is_bare found) known folder found.ground
+  pub site : IsSiteIf (is_bare found) known folder found.site
 
 -- what was found in a folder
 pub record IsFound (known : Known) (folder : List ℕ) (found : Found) : Type 0 where

@@ -7,6 +7,7 @@ use Rattle.mrp_rows.specs.declared.faults.TheConstants as faults
 use Rattle.mrp_tables.specs.declared.version.Version.TheVariants.{One}
 use Rattle.mrp_engine.specs.day.Day.{IsRefused}
 use Rattle.mrp_survey.specs.declared.source.Source.{Source}
+use Rattle.mrp_survey.specs.Survey.{FindsLoopsIn}
 use Rattle.mrp_survey.specs.Survey.{calendar_among, form_of, items_among, names_among, survey_told, version_among}
 use Rattle.mrp_survey.specs.Surveyed.{Surveyed}
 use Rattle.mrp_inspect.specs.declared.found.Found.{Found}
@@ -29,6 +30,7 @@ AreSourcesIn found sources = AreSources (pieces_of (parts_of found)) sources
 -- a survey of texts: what is wrong with their records, and what is known of their tables
 pub record IsSurveyOf (sources : List (Option Source)) (survey : Surveyed) : Type 0 where
   pub findings : survey.findings ≡ survey_told sources
+  pub loops : FindsLoopsIn sources survey.items survey.loops
   pub version : survey.version ≡ version_among sources
   pub calendar : survey.calendar ≡ calendar_among sources
   pub items : survey.items ≡ items_among sources (version_among sources)

@@ -4,7 +4,7 @@ ghost use Rattle.std.specs.Prelude.{◌≡◌, IfOk, is_none};
 ghost use Rattle.std.specs.List.{list_all};
 ghost use Rattle.std.specs.Path.{path_buf_bytes};
 ghost use Rattle.mrp_words.specs.Folder.{IsThere};
-ghost use Rattle.mrp_inspect.specs.Found.{AreOthers, Finds, FindsBeside, IsGround, IsGroundIf, IsOther, IsOtherBeside, are_none, has_part, is_bare, other_path};
+ghost use Rattle.mrp_inspect.specs.Found.{AreOthers, Finds, FindsBeside, IsSite, IsSiteIf, IsOther, IsOtherBeside, are_none, has_part, is_bare, other_path};
 
 use crate::names::{NAMINGS, Naming, other_name};
 use crate::piece::same_table;
@@ -17,7 +17,7 @@ use std::path::{Path, PathBuf};
 
 /// What is at the path of a folder that has none of the tables.
 #[derive(Clone, Copy, Debug, PartialEq, Eq)]
-pub enum Ground {
+pub enum Site {
     /// A folder, or nothing that can be read.
     Folder,
     /// A file.
@@ -34,7 +34,7 @@ pub struct Found {
     /// Of each table without a file, the first other name under which there is one, in the order of the tables.
     pub others: Vec<Option<Naming>>,
     /// What is at the folder's path, where no table has a file under any name.
-    pub ground: Ground,
+    pub site: Site,
 }
 
 // The path of a table's file under another name.
@@ -123,16 +123,16 @@ fn find_others<F: FileStore>(
 }
 
 // What is at the path of a folder.
-fn ground_of<F: FileStore>(files: &F, alloc: Global, folder: &str) -> Result<Ground, NoMemory>
-    ensures { IfOk result (IsGround (F.known files.now) folder.now) }
+fn site_of<F: FileStore>(files: &F, alloc: Global, folder: &str) -> Result<Site, NoMemory>
+    ensures { IfOk result (IsSite (F.known files.now) folder.now) }
 {
     if folder.is_empty() {
-        return Ok(Ground::Folder);
+        return Ok(Site::Folder);
     }
     match files.read_file(alloc, folder, GREATEST_BUNDLE) {
-        Ok(Some(_)) => Ok(Ground::File),
-        Ok(None) => Ok(Ground::Absent),
-        Err(ReadFault::Read) => Ok(Ground::Folder),
+        Ok(Some(_)) => Ok(Site::File),
+        Ok(None) => Ok(Site::Absent),
+        Err(ReadFault::Read) => Ok(Site::Folder),
         Err(ReadFault::NoMemory) => Err(NoMemory),
     }
 }
@@ -159,18 +159,18 @@ pub(crate) fn is_bare(found: &Found) -> bool
 }
 
 // What is at the path of a folder, if no table has a file, under any name.
-fn ground_if<F: FileStore>(
+fn site_if<F: FileStore>(
     files: &F,
     alloc: Global,
     folder: &str,
     bare: bool,
-) -> Result<Ground, NoMemory>
-    ensures { IfOk result (IsGroundIf bare (F.known files.now) folder.now) }
+) -> Result<Site, NoMemory>
+    ensures { IfOk result (IsSiteIf bare (F.known files.now) folder.now) }
 {
     if bare {
-        ground_of(files, alloc, folder)
+        site_of(files, alloc, folder)
     } else {
-        Ok(Ground::Folder)
+        Ok(Site::Folder)
     }
 }
 
@@ -184,11 +184,11 @@ fn find_rest<F: FileStore>(
     ensures { IfOk result (λ found. (found.tables ≡ tables) × FindsBeside (F.known files.now) folder.now found) }
 {
     let others = find_others(files, alloc, folder, &tables)?;
-    let ground = ground_if(files, alloc, folder, are_none(&tables, &others))?;
+    let site = site_if(files, alloc, folder, are_none(&tables, &others))?;
     Ok(Found {
         tables,
         others,
-        ground,
+        site,
     })
 }
 

@@ -6,20 +6,20 @@ ghost use Rattle.mrp_words.specs.Folder.{all_tables};
 ghost use Rattle.mrp_inspect.specs.Faults.{lines_if, lines_of};
 ghost use Rattle.mrp_inspect.specs.Found.{parts_of};
 ghost use Rattle.mrp_inspect.specs.Inspected.{Inspects, IsFaultsText, Tells, bundle_in};
-ghost use Rattle.mrp_inspect.specs.Words.{ground_text, missing_of, stray_text};
+ghost use Rattle.mrp_inspect.specs.Words.{site_text, missing_of, stray_text};
 ghost use Rattle.mrp_inspect.specs.Pieces.{pieces_of};
 ghost use Rattle.mrp_inspect.specs.Strays.{firsts_of, strays_of};
 
 use crate::contents::{bundle_of, contents_of};
 use crate::cut::cut_files;
 use crate::faults::faults_text;
-use crate::found::{Found, Ground, is_bare};
+use crate::found::{Found, Site, is_bare};
 use crate::names::Naming;
 use crate::piece::Piece;
 use crate::source::sources_of;
 use crate::stray::{Stray, firsts_of, strays_of};
 use crate::warning::warnings_of;
-use crate::words::{file_lines, ground_text, push_one};
+use crate::words::{file_lines, push_one, site_text};
 use mrp_advice::survey_lines;
 use mrp_engine::{OpenFault, open_shop};
 use mrp_qty::NoMemory;
@@ -38,10 +38,10 @@ pub struct Inspected {
 }
 
 // The line of a folder that has none of the tables.
-fn bare_lines(alloc: Global, ground: Ground) -> Result<Vec<String>, NoMemory>
-    ensures { IfOk result (λ lines. map (λ line. string_bytes line) lines.items ≡ ground_text ground ∷ []) }
+fn bare_lines(alloc: Global, site: Site) -> Result<Vec<String>, NoMemory>
+    ensures { IfOk result (λ lines. map (λ line. string_bytes line) lines.items ≡ site_text site ∷ []) }
 {
-    let line = ground_text(alloc, ground)?;
+    let line = site_text(alloc, site)?;
     let mut lines = Vec::new(alloc);
     push_one(line, &mut lines)?;
     Ok(lines)
@@ -67,16 +67,16 @@ fn all_lines(
 fn lines_if(
     alloc: Global,
     bare: bool,
-    ground: Ground,
+    site: Site,
     firsts: &[Option<usize>],
     strays: &[Stray<'_>],
     others: &[Option<Naming>],
     survey: &Survey,
 ) -> Result<Vec<String>, NoMemory>
-    ensures { IfOk result (λ lines. map (λ line. string_bytes line) lines.items ≡ lines_if bare ground (map stray_text strays.now ++ filter_map (missing_of firsts.now others.now) all_tables) (survey_lines survey.now)) }
+    ensures { IfOk result (λ lines. map (λ line. string_bytes line) lines.items ≡ lines_if bare site (map stray_text strays.now ++ filter_map (missing_of firsts.now others.now) all_tables) (survey_lines survey.now)) }
 {
     if bare {
-        bare_lines(alloc, ground)
+        bare_lines(alloc, site)
     } else {
         all_lines(alloc, firsts, strays, others, survey)
     }
@@ -96,7 +96,7 @@ fn lines_of(
 {
     let bare = is_bare(found);
     let others = found.others.as_slice();
-    lines_if(alloc, bare, found.ground, firsts, strays, others, survey)
+    lines_if(alloc, bare, found.site, firsts, strays, others, survey)
 }
 
 // The faults of tables that are refused.

@@ -5,9 +5,9 @@ ghost use Rattle.std.specs.List.{slice_index_or};
 ghost use Rattle.mrp_rows.specs.Tables.{table_index};
 ghost use Rattle.std.specs.Option.{option_to_list};
 ghost use Rattle.mrp_words.specs.Folder.{all_tables};
-ghost use Rattle.mrp_inspect.specs.Words.{ground_text, ground_words, missing_of, missing_text, other_words, reason_words, stray_text};
+ghost use Rattle.mrp_inspect.specs.Words.{site_text, site_words, missing_of, missing_text, other_words, reason_words, stray_text};
 
-use crate::found::Ground;
+use crate::found::Site;
 use crate::names::{Naming, other_name};
 use crate::stray::{Reason, Stray, TABLES, first_among};
 use mrp_advice::shown;
@@ -67,29 +67,29 @@ fn missing_text(alloc: Global, table: Table, other: Option<Naming>) -> Result<St
     format!(in alloc; "{name}.csv:0: file: there is no such file{but}; expected a file {name}.csv")
 }
 
-impl Ground {
+impl Site {
     ghost use Rattle.std.specs.Prelude.{◌≡◌};
-    ghost use Rattle.mrp_inspect.specs.Words.{ground_words};
+    ghost use Rattle.mrp_inspect.specs.Words.{site_words};
 
     // What a folder's path has in place of the tables.
     fn words(self) -> &'static str
-        ensures { result.now ≡ ground_words self }
+        ensures { result.now ≡ site_words self }
     {
         match self {
-            Ground::File => {
+            Site::File => {
                 "this is a file and no folder (a bundle is planned by mrp plan < FILE)"
             }
-            Ground::Absent => "there is no such folder",
-            Ground::Folder => "none of the nine tables is there",
+            Site::Absent => "there is no such folder",
+            Site::Folder => "none of the nine tables is there",
         }
     }
 }
 
 // The line of a folder that has none of the tables.
-pub(crate) fn ground_text(alloc: Global, ground: Ground) -> Result<String, AllocError>
-    ensures { IfOk result (λ text. string_bytes text ≡ ground_text ground) }
+pub(crate) fn site_text(alloc: Global, site: Site) -> Result<String, AllocError>
+    ensures { IfOk result (λ text. string_bytes text ≡ site_text site) }
 {
-    let what = ground.words();
+    let what = site.words();
     format!(in alloc;
         ".:0: folder: {what}; expected a folder with calendar.csv, items.csv, centres.csv, stock.csv, receipts.csv, bills.csv, routings.csv, master.csv, script.csv"
     )

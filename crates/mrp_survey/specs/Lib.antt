@@ -1,3 +1,4 @@
+pub mod BillLines
 pub mod CellLaws
 pub mod Entries
 pub mod Entry
@@ -12,6 +13,8 @@ pub mod Known
 pub mod Likes
 pub mod LineLaws
 pub mod Lines
+pub mod LoopLaws
+pub mod Loops
 pub mod Marks
 pub mod Names
 pub mod Records

@@ -14,8 +14,10 @@ use Rattle.mrp_survey.specs.declared.source.Source.{Source}
 use Rattle.mrp_survey.specs.Finding.{Told}
 use Rattle.mrp_survey.specs.Forms.{Row, dated_key, entry_place}
 use Rattle.mrp_survey.specs.Horizons.{calendar_in, has_version, version_in}
+use Rattle.mrp_survey.specs.Loops.{FindsLoops}
 use Rattle.mrp_survey.specs.Names.{Names}
 use Rattle.mrp_survey.specs.Records.{Records, records_from, rows_below}
+use Rattle.mrp_survey.specs.Surveyed.{LoopTold}
 use Rattle.mrp_survey.specs.Tables.{header_told, names_in, told_from}
 use Rattle.mrp_survey.specs.Told.{told}
 
@@ -135,6 +137,10 @@ beside_in sources = record {
   centres = names_among sources (form_of t.Centres One);
   calendar = calendar_among sources;
 }
+
+-- the sets of known items that need one another
+abbrev pub FindsLoopsIn : Sources → Option Names → List LoopTold → Type 0
+FindsLoopsIn sources items loops = FindsLoops (form_of t.Bills One) items (records_at sources t.Bills) loops
 
 -- what is wrong with the records of all tables, in the order of the tables
 abbrev pub survey_told : Sources → List Told

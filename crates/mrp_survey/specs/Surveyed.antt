@@ -16,6 +16,7 @@ pub record LoopTold : Type 0 where
 -- all faults, and of the tables what their words need
 pub record Surveyed : Type 0 where
   pub findings : List Told
+  pub loops : List LoopTold
   pub version : Option Version
   pub calendar : Option ShopCalendar
   pub items : Option Names

@@ -1,8 +1,10 @@
 //! All that is wrong with the tables of a folder, each fault with its file, line and column.
 #![tactic(auto)]
 
+mod bill_lines;
 mod calendar;
 mod finding;
+mod finding_loops;
 mod form;
 mod found_loop;
 mod front;

@@ -32,7 +32,7 @@ impl Model for Sheet {
 }
 
 impl Sheet {
-    ghost use Rattle.std.specs.Prelude.{◌≡◌, ◌≤◌, ◌^◌, IfOk, map, option_map};
+    ghost use Rattle.std.specs.Prelude.{◌≡◌, ◌≤◌, ◌^◌, IfOk, map, option_map, slice_index};
     ghost use Rattle.csv.specs.Records.{fields_of};
     ghost use Rattle.mrp_survey.specs.Records.{place_of, records_from, rows_below};
     ghost use Rattle.mrp_survey.specs.Headers.{header_of};
@@ -83,7 +83,14 @@ impl Sheet {
         }
     }
 
-    // Where a record is, by its number, the header's 0.
+    // The line in which a record begins, by its number, the header's 0.
+    pub(crate) fn line(&self, number: usize) -> u64
+        ensures { result ≡ slice_index self.now.lines number }
+    {
+        self.lines.get(number).copied().unwrap_or(0)
+    }
+
+    // Where a record is.
     pub(crate) fn place(&self, table: Table, number: usize) -> Place
         ensures { result ≡ place_of self.now table number }
     {
@@ -91,7 +98,7 @@ impl Sheet {
             file: self.file,
             table,
             number,
-            line: self.lines.get(number).copied().unwrap_or(0),
+            line: self.line(number),
         }
     }
 }

@@ -4,6 +4,7 @@ ghost use Rattle.std.specs.Prelude.{◌≡◌, IfOk, option_map};
 ghost use Rattle.mrp_survey.specs.Likes.{like_among};
 
 use crate::finding::Finding;
+use crate::found_loop::FoundLoop;
 use crate::header::column_names;
 use crate::known::Known;
 use crate::likes::Likes;
@@ -18,6 +19,7 @@ use std::marker::Model;
 #[derive(Drop)]
 pub struct Survey {
     pub(crate) findings: Vec<Finding>,
+    pub(crate) loops: Vec<FoundLoop>,
     pub(crate) version: Option<Version>,
     pub(crate) calendar: Option<Calendar>,
     pub(crate) items: Option<Likes>,
@@ -31,6 +33,7 @@ impl Model for Survey {
 
     ghost view = { λ s. record {
       findings = s.findings.items;
+      loops = s.loops.items;
       version = s.version;
       calendar = s.calendar;
       items = s.items;
@@ -50,6 +53,14 @@ impl Survey {
         ensures { result.now ≡ self.now.findings }
     {
         &self.findings
+    }
+
+    /// The sets of items that need one another, in the order of their first items. They are looked for where the items are known, in
+    /// the bill lines within their limit of which both items are known and no fault says that the component is a master item.
+    pub fn loops(&self) -> &[FoundLoop]
+        ensures { result.now ≡ self.now.loops }
+    {
+        &self.loops
     }
 
     /// The tables' version. `None` if it is wrong: then neither items nor the master schedule are read.

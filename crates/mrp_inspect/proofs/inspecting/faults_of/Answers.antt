@@ -11,6 +11,7 @@ returns c =
       survey = c.in_ok-survey.survey;
       surveys = record {
         findings = c.in_ok-survey.ensures.findings;
+        loops = c.in_ok-survey.ensures.loops;
         version = c.in_ok-survey.ensures.version;
         calendar = c.in_ok-survey.ensures.calendar;
         items = c.in_ok-survey.ensures.items;

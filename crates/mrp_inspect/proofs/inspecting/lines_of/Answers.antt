@@ -11,5 +11,5 @@ pub returns : goal.returns
 returns c =
     IfOk-weaker c.lines_if.result _ _
     (λ lines is. is
-    ∙ (λ i. lines_if (c.is_bare-bare.ensures i) c.args.found.now.ground (map stray_text (c.requires.strays i) ++ filter_map (missing_of (c.requires.firsts i) (c.as_slice-others.ensures.value i)) all_tables) (survey_lines c.args.survey.now)))
+    ∙ (λ i. lines_if (c.is_bare-bare.ensures i) c.args.found.now.site (map stray_text (c.requires.strays i) ++ filter_map (missing_of (c.requires.firsts i) (c.as_slice-others.ensures.value i)) all_tables) (survey_lines c.args.survey.now)))
     c.lines_if.ensures
