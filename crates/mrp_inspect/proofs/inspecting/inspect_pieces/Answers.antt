@@ -8,7 +8,7 @@ use Rattle.mrp_inspect.specs.Strays.{AreSources}
 use Rattle.mrp_inspect.proofs.inspecting.inspect_pieces.Goals as goal
 
 pub returns : goal.returns
-returns c =
+returns g c =
     IfOk-weaker c.inspect_sources.result _ _
     (λ inspected tells. (
       c.sources_of-sources.result,
