@@ -8,6 +8,8 @@ MOST_JOBS = 4
 SPEED = {1: 1.0, 2: 1.4, 3: 1.65, 4: 1.8}
 # A way up that is so much of the longest one may prove the longest, since costs are reckoned.
 NEAR = 0.85
+# A crate that is itself so much of the longest way up is proved by two processes, though others go first.
+DEAR = 0.25
 # What is taken for the rate before much is proved: lines of proof a second, as if so many had been proved at it.
 FIRST_RATE, FIRST_LINES = 30.0, 6000.0
 
@@ -38,16 +40,25 @@ class Plan:
         self.ways = {name: self.way_up(name) for name in self.below}
         self.room = max(self.room, self.lanes)
 
+    def longest_way(self):
+        """The cost of the longest way up from a crate that is being proved, or can be now."""
+        return max(self.ways[it] for it in [*self.ready(), *self.running])
+
     def is_urgent(self, name):
         """Whether no crate that is being proved, or can be now, has a much longer way up."""
-        return self.ways[name] >= NEAR * max(self.ways[it] for it in [*self.ready(), *self.running])
+        return self.ways[name] >= NEAR * self.longest_way()
+
+    def is_dear(self, name):
+        """Whether a crate that is not urgent would end late by one process."""
+        return self.weights[name] >= DEAR * self.longest_way()
 
     def start(self):
-        """Takes those that go next, and returns them with their processes: one each, and all lanes to an urgent one. Where there is
-        no more room, up to half of the lanes are for the others."""
+        """Takes those that go next, and returns them with their processes: one each, two to a dear one, and all lanes to an urgent one.
+        Where there is no more room, up to half of the lanes are for the others."""
         begun, ready = {}, self.ready()
         aside = max(self.room - self.lanes, self.lanes // 2)
         urgent = {it for it in [*ready, *self.running] if self.is_urgent(it)}
+        dear = {it for it in ready if self.is_dear(it)}
         for place, name in enumerate(ready):
             others = sum(self.running.values())
             if name in urgent:
@@ -55,7 +66,7 @@ class Plan:
                 jobs = min(self.lanes, MOST_JOBS, wanted, self.room - others)
             else:
                 waited = sum(jobs for it, jobs in self.running.items() if it not in urgent)
-                jobs = min(1, aside - waited, self.room - others)
+                jobs = min(2 if name in dear else 1, aside - waited, self.room - others)
             if jobs > 0:
                 begun[name] = self.running[name] = jobs
         return begun

@@ -41,6 +41,12 @@ class Order(unittest.TestCase):
         self.assertEqual(it.start(), {"one": 4, "other": 3})
         self.assertTrue(it.is_urgent("other"))
 
+    def test_a_dear_crate_that_may_wait_has_two_processes(self):
+        wide = {"low": [], "page": [], "small": [], "top": ["low", "page", "small"]}
+        it = Plan(wide, {"low": 300, "page": 150, "small": 20, "top": 100}, 4, room=7)
+        self.assertEqual(it.start(), {"low": 4, "page": 2, "small": 1})
+        self.assertFalse(it.is_urgent("page"))
+
     def test_no_crate_starts_before_what_it_stands_on_is_proved(self):
         it = plan(4)
         it.start()

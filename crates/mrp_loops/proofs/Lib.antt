@@ -1,0 +1,9 @@
+pub mod Bested
+pub mod Lawful
+pub mod Listed
+pub mod Markings
+pub mod Nearest
+pub mod Searches
+pub mod Shortest
+pub mod Tellings
+pub mod Ways

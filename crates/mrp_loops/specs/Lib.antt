@@ -1,0 +1,9 @@
+pub mod Best
+pub mod Links
+pub mod Loops
+pub mod Needs
+pub mod Ranks
+pub mod Search
+pub mod Telling
+pub mod Walk
+pub mod Way
