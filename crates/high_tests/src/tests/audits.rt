@@ -199,144 +199,93 @@ fn what_is_too_much_or_too_little_is_told(rt: HostRuntime) {
     same(&rt, found(&rt, rt.alloc(), SCRIPT, &[]), SHAPE);
 }
 
-// What is done to a byte of a day.
-#[derive(Clone, Copy)]
-enum Alteration {
-    Dropped,
-    Doubled,
-    // Its last bit is flipped.
-    Flipped,
-    // The next one stands there; for 9 it is 8.
-    Next,
-}
-
-// What the check finds for each byte of the history's rows, and for the bracket behind them, if it is altered so: `s` the
-// shape, a number that entry, `a` and `b` desk 1 and desk 2, `r` the report.
-const ALTERED: [(Alteration, &str); 4] = [
-    (
-        Alteration::Dropped,
-        "\
-ssssssssssssssss66sssssssssss\
-ssssssssssssssss66sssssssssss\
-sssssssssssssssssssssssssss33s\
-ssssssssssssssss44ssssssss44s\
-sssssssssssssssss6sssssssssss\
-sssssssssssssssssssssssssssss\
-ssssssssssssssssssss\
-s",
-    ),
-    (
-        Alteration::Doubled,
-        "\
-ssasssssssssssss11sssssssss1s\
-ssasssssssssssss22sssssssss2s\
-ssbssssssssssssssssssssssss33s\
-ssbsssssssssssssbbssssssss44s\
-ssbsssssssssssss55sssssssss5s\
-ssassssssssssssssssssssssss6s\
-ssasssssssssssssss7s\
-r",
-    ),
-    (
-        Alteration::Flipped,
-        "\
-ssssssssssssss1ss6sssssssss1s\
-ssssssssssssss2s36sssssssss2s\
-ssbsssssssssssssssssssssssss3s\
-ssbsssssssssss4ssbsssssssss4s\
-ssbssssssssssssss5sssssssss5s\
-sssssssssssss6sssssssssssss6s\
-ssssssssssssssssss7s\
-s",
-    ),
-    (
-        Alteration::Next,
-        "\
-ssasssssssssssas36sssssssss1s\
-ssasssssssssssas36sssssssss2s\
-ssbssssssssssbsssssssssssss33s\
-ssbsssssssssss4sbbssssssss44s\
-ssbsssssssssssbs55sssssssss5s\
-ssassssssssssasssssssssssss6s\
-ssasssssssssssssss7s\
-s",
-    ),
+// What the check finds for each digit of the history, in order, if the next digit replaces it.
+const TOLD_OF_DIGITS: &[&str] = &[
+    // 1,1,book,BIKE,3,12,,booked,1
+    "shape",
+    "desk 1",
+    "desk 1",
+    "history 3",
+    "history 6",
+    "history 1",
+    // 2,1,book,BIKE,5,25,,booked,2
+    "shape",
+    "desk 1",
+    "desk 1",
+    "history 3",
+    "history 6",
+    "history 2",
+    // 3,2,ask,BIKE,1,,,available,10
+    "shape",
+    "desk 2",
+    "desk 2",
+    "history 3",
+    "history 3",
+    // 4,2,book,BIKE,2,15,,short,10
+    "shape",
+    "desk 2",
+    "history 4",
+    "desk 2",
+    "desk 2",
+    "history 4",
+    "history 4",
+    // 5,2,book,BIKE,1,10,,booked,5
+    "shape",
+    "desk 2",
+    "desk 2",
+    "history 5",
+    "history 5",
+    "history 5",
+    // 6,1,ask,BIKE,3,,,available,3
+    "shape",
+    "desk 1",
+    "desk 1",
+    "history 6",
+    // 7,1,run,,,,,front,7
+    "shape",
+    "desk 1",
+    "history 7",
 ];
 
-// How many bytes the section line and the header of a history have.
-const HEAD: usize = 64;
-
-// The words of the fault that a letter stands for.
-fn words_for(letter: u8) -> &'static str {
+// The digit after a digit; for 9 it is 8.
+fn other_digit(letter: char) -> Option<char> {
     match letter {
-        b'1' => "history 1",
-        b'2' => "history 2",
-        b'3' => "history 3",
-        b'4' => "history 4",
-        b'5' => "history 5",
-        b'6' => "history 6",
-        b'7' => "history 7",
-        b'a' => "desk 1",
-        b'b' => "desk 2",
-        b'r' => "report 1",
-        _ => "shape",
+        '0' => Some('1'),
+        '1' => Some('2'),
+        '2' => Some('3'),
+        '3' => Some('4'),
+        '4' => Some('5'),
+        '5' => Some('6'),
+        '6' => Some('7'),
+        '7' => Some('8'),
+        '8' => Some('9'),
+        '9' => Some('8'),
+        _ => None,
     }
 }
 
-// What the check finds for a byte that is altered so. Without its first bytes a history has no shape; behind it is the
-// report, after whose last byte nothing may come.
-fn told_of(alteration: Alteration, letters: &str, place: usize, is_last: bool) -> &'static str {
-    if is_last && matches!(alteration, Alteration::Doubled) {
-        return "report 2";
+// A day with another letter at a place.
+fn with_letter(alloc: Global, day: &str, place: usize, other: char) -> Result<String, Fail> {
+    let mut text = String::new(alloc);
+    for (at, letter) in day.chars().enumerate() {
+        text.push(if at == place { other } else { letter })?;
     }
-    match place.checked_sub(HEAD) {
-        None => "shape",
-        Some(place) => words_for(letters.as_bytes().get(place).copied().unwrap_or(b'r')),
-    }
-}
-
-// Adds a byte, altered.
-fn put_altered(text: &mut Vec<u8>, byte: u8, alteration: Alteration) -> Result<(), Fail> {
-    match alteration {
-        Alteration::Dropped => {}
-        Alteration::Doubled => text.extend_from_slice(&[byte, byte])?,
-        Alteration::Flipped => text.push(byte ^ 1)?,
-        Alteration::Next if byte == b'9' => text.push(b'8')?,
-        Alteration::Next => text.push(byte.saturating_add(1))?,
-    }
-    Ok(())
-}
-
-// A day with the byte at a place altered.
-fn with_altered(
-    alloc: Global,
-    day: &str,
-    place: usize,
-    alteration: Alteration,
-) -> Result<String, Fail> {
-    let mut text = Vec::new(alloc);
-    for (at, byte) in day.as_bytes().iter().enumerate() {
-        if at == place {
-            put_altered(&mut text, *byte, alteration)?;
-        } else {
-            text.push(*byte)?;
-        }
-    }
-    Ok(String::from_utf8(text)?)
+    Ok(text)
 }
 
 #[test]
-fn each_byte_that_is_altered_is_told(rt: HostRuntime) {
+fn each_digit_that_is_another_is_told(rt: HostRuntime) {
     let day = text_of(&rt, rt.alloc(), DAY);
-    for (alteration, letters) in ALTERED {
-        for place in 0..day.len() {
-            let text = made(&rt, with_altered(rt.alloc(), &day, place, alteration));
-            let is_last = place == day.len().saturating_sub(1);
-            let want = told_of(alteration, letters, place, is_last);
+    let mut told = TOLD_OF_DIGITS.iter();
+    for (place, letter) in day.chars().enumerate() {
+        if let Some(other) = other_digit(letter) {
+            let text = made(&rt, with_letter(rt.alloc(), &day, place, other));
+            let want = told.next().copied().unwrap_or("report 1");
             is_wrong(&rt, rt.alloc(), &text, want);
             drop(text);
         }
     }
+    same(&rt, told.next().is_none(), true);
     drop(day);
 }
 
