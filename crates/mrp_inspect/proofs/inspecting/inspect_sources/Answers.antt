@@ -1,4 +1,16 @@
+use Rattle.std.proofs.Common.{ℕ, List, Option}
+use Rattle.std.specs.Prelude.{Err, string_bytes}
+use Rattle.mrp_rows.specs.declared.fault.Fault.{Fault}
+use Rattle.mrp_engine.specs.day.Opened.{Opens}
+use Rattle.mrp_engine.specs.declared.day.fault.OpenFault.TheVariants.{Refused}
+use Rattle.mrp_survey.specs.declared.source.Source.{Source}
+use Rattle.mrp_inspect.specs.declared.found.Found.{Found}
+use Rattle.mrp_inspect.specs.Inspected.{IsFaultsText, TellsFaults}
 use Rattle.mrp_inspect.proofs.inspecting.inspect_sources.Goals as goal
 
+tells-faults : (bundle : List ℕ) (found : Found) (sources : List (Option Source)) (fault : Fault) (text : List ℕ) → Opens bundle (Err (Refused fault)) → IsFaultsText found sources fault text → TellsFaults bundle found sources text
+tells-faults bundle found sources fault text refuses told = record { fault = fault; refused = refuses.0; known = refuses.1; told = told }
+
 pub returns-in_ok-told-in-Err-Refused : goal.returns-in_ok-told-in-Err-Refused
-returns-in_ok-told-in-Err-Refused g c = record { fault = c.in-Err-Refused.fault; refused = c.in-Err-Refused.ensures.0; known = c.in-Err-Refused.ensures.1; told = c.in_ok-told-in-Err-Refused.ensures }
+returns-in_ok-told-in-Err-Refused g c =
+    tells-faults c.args.bundle.now c.args.found.now c.args.sources.now c.in-Err-Refused.fault (string_bytes c.in_ok-told-in-Err-Refused.told) c.in-Err-Refused.ensures c.in_ok-told-in-Err-Refused.ensures
