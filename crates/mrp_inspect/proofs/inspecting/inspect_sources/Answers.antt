@@ -1,7 +1,8 @@
-use Rattle.std.proofs.Common.{ℕ, List, Option}
+use Rattle.std.proofs.Common.{ℕ, List, Option, subst}
 use Rattle.std.specs.Prelude.{Err, string_bytes}
 use Rattle.mrp_rows.specs.declared.fault.Fault.{Fault}
 use Rattle.mrp_engine.specs.day.Opened.{Opens}
+use Rattle.mrp_engine.specs.declared.day.fault.OpenFault.{OpenFault}
 use Rattle.mrp_engine.specs.declared.day.fault.OpenFault.TheVariants.{Refused}
 use Rattle.mrp_survey.specs.declared.source.Source.{Source}
 use Rattle.mrp_inspect.specs.declared.found.Found.{Found}
@@ -13,4 +14,7 @@ tells-faults bundle found sources fault text refuses told = record { fault = fau
 
 pub returns-in_ok-told-in-Err-Refused : goal.returns-in_ok-told-in-Err-Refused
 returns-in_ok-told-in-Err-Refused g c =
-    tells-faults c.args.bundle.now c.args.found.now c.args.sources.now c.in-Err-Refused.fault (string_bytes c.in_ok-told-in-Err-Refused.told) c.in-Err-Refused.ensures c.in_ok-told-in-Err-Refused.ensures
+    let arm = c.in-Err-Refused in
+    let bundle : List ℕ = c.args.bundle.now in
+    let refuses : Opens bundle (Err (Refused arm.fault)) = subst (λ (e : OpenFault). Opens bundle (Err e)) arm.field-0-is arm.ensures in
+    tells-faults bundle c.args.found.now c.args.sources.now arm.fault (string_bytes c.in_ok-told-in-Err-Refused.told) refuses c.in_ok-told-in-Err-Refused.ensures
