@@ -35,10 +35,7 @@ fn write_inspected<W: Write>(inspected: &Inspected, output: &mut Told<W>) -> End
 }
 
 // The same, unless memory ran out.
-fn tell_inspected<W: Write>(
-    inspected: &Result<Inspected, NoMemory>,
-    output: &mut Told<W>,
-) -> Ending
+fn tell_inspected<W: Write>(inspected: &Result<Inspected, NoMemory>, output: &mut Told<W>) -> Ending
     ensures { TellsInspected W.contents output.old output.new inspected.now result }
 {
     match inspected {
