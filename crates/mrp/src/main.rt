@@ -89,7 +89,15 @@ fn hint_of_folder(rt: &(impl Files + AllocGlobal), folder: &str) -> Option<Hint>
     }
 }
 
-// What was probably meant by words and an input that did not serve.
+// Whether words begin with a command.
+fn begins_with(words: &[String], command: &str) -> bool {
+    match words {
+        [first, ..] => first.as_str() == command,
+        [] => false,
+    }
+}
+
+// What was probably meant by words and an input that did not serve. An inspection says itself what a folder's files are.
 fn hint_of(rt: &(impl Files + AllocGlobal), words: &[String], sights: &Sights) -> Option<Hint> {
     if sights.is_folder() {
         return Some(Hint::FolderAsInput);
@@ -100,17 +108,15 @@ fn hint_of(rt: &(impl Files + AllocGlobal), words: &[String], sights: &Sights) -
     if has_stray_word(words) {
         return Some(Hint::StrayWord);
     }
+    if begins_with(words, "inspect") {
+        return None;
+    }
     hint_of_folder(rt, folder_in(words)?)
 }
 
 // Whether words plan a folder's tables, which were refused.
 fn is_refused(words: &[String], sights: &Sights) -> bool {
-    match words {
-        [command, ..] => {
-            command.as_str() == "plan" && folder_in(words).is_some() && sights.is_refused()
-        }
-        [] => false,
-    }
+    begins_with(words, "plan") && folder_in(words).is_some() && sights.is_refused()
 }
 
 // Says what was probably meant by words and an input that did not serve.
