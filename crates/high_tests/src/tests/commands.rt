@@ -317,25 +317,28 @@ fn is_help(rt: &impl Abort, left: &Left, has: &str, lacks: &str) {
 #[test]
 fn help_is_written_to_the_output(rt: HostRuntime) {
     const OF_ALL: &str =
-        "\n  plan   Plans a bundle from standard input, or the files of a folder\n  live   Plans the same with its desks at work beside one another\n";
+        "\n  plan     Plans a bundle from standard input, or the files of a folder\n  live     Plans the same with its desks at work beside one another\n";
     const OF_PLAN: &str = "  [promises]  each master item and week";
     const OF_LIVE: &str = "has the desks of its script make their calls beside one another,\n";
     const OF_PAGE: &str = "Nothing is fetched, and there is no script.";
     const OF_CHECK: &str = "  wrong: report N   the report of run N";
     const OF_CARRY: &str = "With --numbers a list is written in its place";
-    const ASKED: [(&[&str], &str, &str); 12] = [
+    const OF_INSPECT: &str = "  2 faults (warnings are told when there is none)\n";
+    const ASKED: [(&[&str], &str, &str); 14] = [
         (&["--help"], OF_ALL, OF_PLAN),
         (&["plan", "--help"], OF_PLAN, OF_LIVE),
         (&["live", "--help"], OF_LIVE, OF_PLAN),
         (&["page", "--help"], OF_PAGE, OF_PLAN),
         (&["check", "--help"], OF_CHECK, OF_PLAN),
         (&["carry", "--help"], OF_CARRY, OF_PLAN),
+        (&["inspect", "--help"], OF_INSPECT, OF_PLAN),
         (&["help"], OF_ALL, OF_LIVE),
         (&["help", "plan"], OF_PLAN, OF_LIVE),
         (&["help", "live"], OF_LIVE, OF_PLAN),
         (&["help", "page"], OF_PAGE, OF_LIVE),
         (&["help", "check"], OF_CHECK, OF_LIVE),
         (&["help", "carry"], OF_CARRY, OF_LIVE),
+        (&["help", "inspect"], OF_INSPECT, OF_LIVE),
     ];
     for (words, has, lacks) in ASKED {
         let left = left_by(&rt, rt.alloc(), words, Streams::of(""));
