@@ -1,6 +1,7 @@
 pub mod Bundle
 pub mod Cell
 pub mod Columns
+pub mod Devices
 pub mod FaultText
 pub mod Joined
 pub mod Left

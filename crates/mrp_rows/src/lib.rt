@@ -5,6 +5,7 @@ mod bundle;
 pub mod bundle_laws;
 mod column;
 mod cursor;
+pub mod devices;
 mod fault;
 mod fault_texts;
 pub mod faults;
