@@ -1,6 +1,8 @@
 pub mod Bundle
 pub mod Cell
+pub mod CellTexts
 pub mod Columns
+pub mod Cutting
 pub mod Devices
 pub mod FaultText
 pub mod Joined
