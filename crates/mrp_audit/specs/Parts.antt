@@ -13,7 +13,7 @@ use Rattle.mrp_book.specs.Standing.{History}
 use Rattle.mrp_book.specs.History.{IsLegal, IsReply, next_number}
 use Rattle.mrp_item.specs.Inputs.{Inputs}
 use Rattle.mrp_item.specs.Places.{WholePlan}
-use Rattle.mrp_engine.specs.day.Script.{Script}
+use Rattle.mrp_script.specs.Script.{Script}
 use Rattle.mrp_engine.specs.day.Day.{runs_of}
 use Rattle.mrp_engine.specs.day.RightDay.{FollowsDesks, asked_by}
 use Rattle.mrp_report.specs.ReportText.{report_text}

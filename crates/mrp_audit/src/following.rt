@@ -4,7 +4,7 @@ ghost use Rattle.std.specs.Prelude.{◌≡◌, ◌<◌, ◌+◌, ◌++◌, ◌�
 ghost use Rattle.std.specs.Int.{IsInRange};
 ghost use Rattle.mrp_tables.specs.declared.limits.TheConstants.{MOST_DESKS};
 ghost use Rattle.mrp_book.specs.History.{asked};
-ghost use Rattle.mrp_engine.specs.day.Script.{Script};
+ghost use Rattle.mrp_script.specs.Script.{Script};
 ghost use Rattle.mrp_audit.specs.NextPlaces.{AreBehind, AreNext, HaveCome};
 ghost use Rattle.mrp_audit.specs.Parts.{IsSame};
 

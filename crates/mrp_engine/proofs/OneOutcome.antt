@@ -13,7 +13,9 @@ use Rattle.mrp_book.specs.Standing.{History}
 use Rattle.mrp_book.proofs.Histories.{history-unique}
 use Rattle.mrp_item.specs.Inputs.{Inputs, item_at}
 use Rattle.mrp_item.specs.Plan.{ItemPlan, plan_of}
-use Rattle.mrp_engine.specs.day.Day.{AnswersScript, IsAccepted, IsDay, IsFirstRefusal, IsPlannable, IsRefused, IsRefusedBy, IsTooLarge, day_text, loop_fault, runs_of}
+use Rattle.mrp_engine.specs.day.Day.{IsDay, IsFirstRefusal, IsPlannable, IsRefusedBy, IsTooLarge, day_text, runs_of}
+use Rattle.mrp_script.specs.Opened.{IsAccepted, IsRefused, loop_fault}
+use Rattle.mrp_script.specs.Script.{AnswersScript}
 
 pub same-tables : (bundle : List ℕ) (a b : Tables) → tables_of bundle ≡ Ok a → tables_of bundle ≡ Ok b → a ≡ b
 same-tables bundle a b e f = cc

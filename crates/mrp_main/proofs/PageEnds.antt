@@ -2,10 +2,9 @@
 use Rattle.mrp_rows.specs.declared.fault.Fault.{Fault}
 use Rattle.mrp_rows.specs.declared.faults.TheConstants as faults
 use Rattle.mrp_facts.specs.Facts.{Facts}
-use Rattle.mrp_engine.specs.day.Day.{IsRefused}
-use Rattle.mrp_engine.specs.day.Opened.{Opens}
-use Rattle.mrp_engine.specs.declared.day.fault.OpenFault.{OpenFault}
-use Rattle.mrp_engine.specs.declared.day.fault.OpenFault.TheVariants as opening
+use Rattle.mrp_script.specs.Opened.{IsRefused, Opens}
+use Rattle.mrp_script.specs.declared.fault.OpenFault.{OpenFault}
+use Rattle.mrp_script.specs.declared.fault.OpenFault.TheVariants as opening
 use Rattle.mrp_main.specs.Refusal.{TellsFault, TellsOpening}
 use Rattle.std.proofs.Common.{◌≡◌, ◌≢◌, ◌⊎◌, ℕ, inl, inr, false, List, Option, Some, Result, Ok, Err, refl, sym, subst}
 use Rattle.std.specs.Prelude.{OnOk, IfErr, MatchResult, option_map, string_bytes}

@@ -12,7 +12,9 @@ use Rattle.mrp_rows.specs.declared.streams.TheConstants.{WRITE_TRIES}
 use Rattle.mrp_rows.specs.Streams.{TakesFront}
 use Rattle.mrp_rows.specs.Told.{inner_of, moved_of}
 use Rattle.mrp_report.specs.Written.{HasGivenUp, HasTakenFront, HasTakenWhole}
-use Rattle.mrp_engine.specs.day.Day.{Answering, AnswersScript, IsRefused, IsTooLargeBy}
+use Rattle.mrp_engine.specs.day.Day.{Answering, IsTooLargeBy}
+use Rattle.mrp_script.specs.Opened.{IsRefused}
+use Rattle.mrp_script.specs.Script.{AnswersScript}
 use Rattle.mrp_engine.specs.day.RightDay.{AnswersDesks}
 use Rattle.mrp_engine.specs.day.Run.{HasNotFailed, HasPassedLimits, HasTakenAll, IsRead, IsReadWithin, TellsDayBy, WritesFrontBy}
 use Rattle.mrp_engine.specs.declared.day.fault.DayFault.{DayFault}

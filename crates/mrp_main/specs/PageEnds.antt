@@ -12,7 +12,7 @@ use Rattle.mrp_rows.specs.declared.streams.ReadFault.{ReadFault}
 use Rattle.mrp_facts.specs.Dates.{AreDates}
 use Rattle.mrp_facts.specs.Facts.{Facts}
 use Rattle.mrp_tables.specs.Tables.{Tables}
-use Rattle.mrp_engine.specs.day.Day.{IsAccepted, IsRefused}
+use Rattle.mrp_script.specs.Opened.{IsAccepted, IsRefused}
 use Rattle.mrp_words.specs.Folder.{IsReadFrom, Known}
 use Rattle.mrp_main.specs.Refusal.{TellsFault, end_of_read}
 use Rattle.mrp_page.specs.Names.{names_of}

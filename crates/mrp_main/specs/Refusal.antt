@@ -4,8 +4,8 @@ use Rattle.mrp_rows.specs.FaultText.{text_of_fault}
 use Rattle.mrp_rows.specs.declared.fault.Fault.{Fault}
 use Rattle.mrp_rows.specs.declared.streams.ReadFault.{ReadFault}
 use Rattle.mrp_rows.specs.declared.streams.ReadFault.TheVariants as read
-use Rattle.mrp_engine.specs.declared.day.fault.OpenFault.{OpenFault}
-use Rattle.mrp_engine.specs.declared.day.fault.OpenFault.TheVariants as opening
+use Rattle.mrp_script.specs.declared.fault.OpenFault.{OpenFault}
+use Rattle.mrp_script.specs.declared.fault.OpenFault.TheVariants as opening
 use Rattle.mrp_main.specs.declared.ending.Ending.{Ending}
 use Rattle.mrp_main.specs.declared.ending.Ending.TheVariants.{Refused, NoMemory, Read}
 

@@ -5,10 +5,11 @@ ghost use Rattle.mrp_report.specs.Written.{HasGivenUp, HasTakenFront};
 ghost use Rattle.mrp_engine.specs.day.Run.{HasTakenAll};
 
 use crate::status::Status;
-use mrp_engine::{DayFault, OpenFault};
+use mrp_engine::DayFault;
 use mrp_page::PageFault;
 use mrp_qty::NoMemory;
 use mrp_rows::{Name, ReadFault, Told, Tries, WRITE_TRIES, WriteFault, fault_text, write_text};
+use mrp_script::OpenFault;
 use std::alloc::Global;
 use std::io::Write;
 

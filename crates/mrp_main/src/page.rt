@@ -10,11 +10,11 @@ ghost use Rattle.std.specs.Option.{option_copied};
 ghost use Rattle.mrp_main.specs.PageEnds.{AskedPageEnds, BundlePageEnds, FolderPageEnds, IsOfOthersBy, IsPageBy, LacksRunBy, PageEnds, TablesPageEnds, names_in, title_of};
 
 use crate::ending::Ending;
-use mrp_engine::open_shop;
 use mrp_facts::Facts;
 use mrp_page::{ItemNames, PageFault, PageOptions, write_page};
 use mrp_qty::NoMemory;
 use mrp_rows::{Told, WRITE_TRIES};
+use mrp_script::open_shop;
 use mrp_tables::Tables;
 use mrp_words::{FileStore, PageWords, read_folder};
 use std::alloc::Global;

@@ -9,7 +9,8 @@ use Rattle.mrp_rows.specs.Told.{calls_of, failures_of, inner_of, moved_of, HasRi
 use Rattle.mrp_report.specs.Written.{HasGivenUp, HasTaken, HasTakenFront}
 use Rattle.mrp_engine.specs.declared.day.fault.DayFault.{DayFault}
 use Rattle.mrp_engine.specs.declared.day.fault.DayFault.TheVariants.{Refused, TooLarge, Read, Write, NoMemory}
-use Rattle.mrp_engine.specs.day.Day.{Answering, IsDayBy, IsRefused, IsTooLargeBy}
+use Rattle.mrp_engine.specs.day.Day.{Answering, IsDayBy, IsTooLargeBy}
+use Rattle.mrp_script.specs.Opened.{IsRefused}
 use Rattle.mrp_rows.specs.declared.faults.TheConstants as faults
 
 -- a bundle is what a reader had left, if that is known of the reader, and no longer than a bundle

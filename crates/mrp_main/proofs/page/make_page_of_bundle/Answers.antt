@@ -1,6 +1,6 @@
 use Rattle.std.proofs.Common.{inl, inr, refl, subst, sym}
 use Rattle.mrp_tables.specs.Tables.{Tables}
-use Rattle.mrp_engine.specs.day.Day.{IsAccepted}
+use Rattle.mrp_script.specs.Opened.{IsAccepted}
 use Rattle.mrp_main.proofs.PageEnds.{unopened}
 use Rattle.mrp_main.proofs.page.make_page_of_bundle.Goals as goal
 

@@ -1,0 +1,3 @@
+pub mod ScriptCalls
+pub mod ShopFaults
+pub mod Zipped
