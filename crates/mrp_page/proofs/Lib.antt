@@ -37,3 +37,7 @@ pub mod Placed
 pub mod OutRows
 pub mod RiskRows
 pub mod Worked
+pub mod Bars
+pub mod Ids
+pub mod IdLinks
+pub mod Safety

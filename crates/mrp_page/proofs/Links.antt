@@ -1,4 +1,5 @@
 -- Where the items are on a page, and how a name links to its item.
+use Rattle.mrp_page.specs.Centres.{load_section}
 use Rattle.mrp_page.specs.ItemFacts.{item_facts_html}
 use Rattle.mrp_facts.specs.Facts.{Facts}
 use Rattle.std.proofs.Common.{Option, ◌≡◌, ◌-◌, ℕ, List, [], ◌++◌, codes, drop, length, refl, ap, append_assoc}
@@ -13,7 +14,7 @@ use Rattle.mrp_page.specs.Layout.{grid_end, item_head, link_end, link_middle, li
 use Rattle.mrp_page.specs.Notes.{Noted}
 use Rattle.mrp_page.specs.AtRisk.{RisksView}
 use Rattle.mrp_page.specs.Promises.{risks_html}
-use Rattle.mrp_page.specs.Page.{items_of, middle_html, page_html, page_of, rest_html, scene_in, shown_items, top_html}
+use Rattle.mrp_page.specs.Page.{glance_html, items_of, page_html, page_of, rest_html, scene_in, shown_items, top_html}
 use Rattle.mrp_page.specs.Orders.{order_link}
 use Rattle.mrp_page.specs.Refused.{refused_section}
 use Rattle.mrp_page.specs.Row.{RowView, cell_at}
@@ -54,8 +55,8 @@ pub lists-have-orders : (scene : SceneView) (name : List ℕ) → (rest : List �
 unfolding item_lists_html
 lists-have-orders scene name = (pegs_html scene (rows_named name scene.pegs) ++ (waits_html scene (waits_for scene.pegs name) ++ (rest_end ++ section_end)), refl)
 
-placed : (a u o p b c x d e f g : List ℕ) → a ++ (u ++ (o ++ (p ++ (b ++ (c ++ ((x ++ (d ++ (e ++ f))) ++ g)))))) ≡ (a ++ (u ++ (o ++ (p ++ (b ++ (c ++ x)))))) ++ (d ++ (e ++ (f ++ g)))
-placed a u o p b c x d e f g = simp append_assoc
+placed : (a u v o p b c x d e f g : List ℕ) → a ++ (u ++ (v ++ (o ++ (p ++ (b ++ (c ++ ((x ++ (d ++ (e ++ f))) ++ g))))))) ≡ (a ++ (u ++ (v ++ (o ++ (p ++ (b ++ (c ++ x))))))) ++ (d ++ (e ++ (f ++ g)))
+placed a u v o p b c x d e f g = simp append_assoc
 
 pub items-stand : (title : List ℕ) (tables : Option Facts) (notes : Noted) (risks : RisksView) → (front : List ℕ) × (back : List ℕ) × (page_html title tables notes risks
     ≡ front ++ (items_html (scene_in tables notes) (item_lists notes.report) notes.counts.promises (shown_items (item_lists notes.report)) ++ (more_html (notes.counts.items - length (shown_items (item_lists notes.report))) (codes "item is") (codes "items are") ++ back)))
@@ -68,11 +69,12 @@ items-stand title tables notes risks =
     let calls : List ℕ = refused_section shown notes.history notes.counts.history in
     let promises : List ℕ = risks_html (scene_in tables notes) risks in
     let todo : List ℕ = todo_html (scene_in tables notes) (rows_in s.Messages notes.report) notes.counts.messages in
-    let loads : List ℕ = middle_html (scene_in tables notes) notes.report notes.counts in
+    let seen : List ℕ = glance_html (scene_in tables notes) notes.report notes.counts.plan in
+    let loads : List ℕ = load_section (scene_in tables notes) (rows_in s.Loads notes.report) notes.counts.loads in
     let indexed : List ℕ = index_html lists.messages shown in
     let more : List ℕ = more_html (notes.counts.items - length shown) (codes "item is") (codes "items are") in
     let last : List ℕ = history_html notes.history notes.counts.history ++ page_end in (
-      top ++ (sums ++ (calls ++ (promises ++ (todo ++ (loads ++ indexed))))),
+      top ++ (sums ++ (seen ++ (calls ++ (promises ++ (todo ++ (loads ++ indexed)))))),
       more_rows (unshown lists shown notes.counts) ++ last,
-      placed top sums calls promises todo loads indexed (items_html (scene_in tables notes) lists notes.counts.promises shown) more (more_rows (unshown lists shown notes.counts)) last,
+      placed top sums seen calls promises todo loads indexed (items_html (scene_in tables notes) lists notes.counts.promises shown) more (more_rows (unshown lists shown notes.counts)) last,
     )

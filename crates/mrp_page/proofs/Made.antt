@@ -7,7 +7,7 @@ use Rattle.mrp_tables.specs.Versions.{lead_unit}
 use Rattle.mrp_tables.specs.declared.item.Item.{Item}
 use Rattle.mrp_tables.specs.declared.rows.Receipt.{Receipt}
 use Rattle.mrp_tables.specs.declared.version.LeadUnit.{LeadUnit}
-use Rattle.mrp_page.specs.ItemFacts.{facts_cells, facts_html, facts_or_none, facts_row, item_facts_html, safety_html, safety_line_html, safety_or_none, steps_html}
+use Rattle.mrp_page.specs.ItemFacts.{facts_cells, facts_html, facts_or_none, facts_row, item_facts_html, safety_cell_html, safety_cell_or_none, safety_html, safety_line_html, safety_or_none, safety_scale_html, scale_html, scale_or_none, steps_html}
 use Rattle.mrp_page.specs.Receipts.{receipt_cells, receipt_of, receipt_row}
 use Rattle.mrp_page.specs.Weeks.{date_html, date_in, start_html, week_html, weeks_html}
 use Rattle.std.specs.Prelude.{if◌then◌else◌, ◌==◌, ◌&&◌, ◌||◌, ◌*◌, count_by, nat_le, nat_lt}
@@ -38,10 +38,10 @@ use Rattle.mrp_page.specs.Items.{count_html, index_html, index_line, item_html, 
 use Rattle.mrp_page.specs.Kinds.{Kind, cancel, earlier, falling_rank, in_order, kind_html, kind_listing, kind_part, kinds_html, late, later, messages_of, note_html, open_count, open_html, order_html, order_of, other, other_messages, other_part, release, state_of, task_line, todo_back, todo_html, value_rank, pegged_html, received_html}
 use Rattle.mrp_page.specs.Known.{IsMadeOf, IsPieceOf, centre_texts, count_texts, index_texts, item_texts, layouts, list_counts, listed_texts, load_texts, marks_of, open_texts, out_texts, outs_texts, overloaded_texts, own_counts, own_words, plain, row_lists, small_words, summary_counts, own_scene, tables_layouts, tables_plain, risk_texts}
 use Rattle.mrp_page.specs.Laws.{Entry, Escaped, Link, Markup, Order, piece_html}
-use Rattle.mrp_page.specs.Layout.{above_bar, above_end, available_label, balance_chart, balance_label, booked_label, cancel_front, cancel_open, capacity_label, centre_head, centre_open, centre_tile, centres_open, cut_bar, entry, firm_label, grid_end, gross_label, history_end, history_open, hot_bar, hot_end, in_front, in_open, index_count, index_end, index_open, item_head, items_end, items_open, late_front, late_open, later_open, link_end, lists_open, load_chart, load_end, load_label, low_bar, low_end, main_open, more, no_promises, no_record, none_out, none_over, none_refused, nothing_to_do, open_pieces, order, order_address, order_start, order_unknown, order_week, orders_open, other_cells, other_front, other_open, out_cells, out_first_open, out_front, out_open, outs_front, outs_note, over_back, over_front, over_label, over_line, over_open, overloaded_line, overloaded_open, page_end, page_head, page_top, peg_back, peg_booking, peg_front, peg_middle, peg_need, peg_parent, peg_supply, pegs_open, planned_label, point, points_end, record_head, refused_answer, refused_asked, refused_desk, refused_end, refused_front, refused_open, refused_row, release_front, release_open, rest_end, rest_open, row_end, scheduled_label, section_end, share_cell, share_label, starts_label, style, summary_open, summary_tile, table_end, task_middle, task_row, task_supply, title_end, title_open, to_week, todo_note, todo_open, wait_end, wait_late, wait_middle, wait_order, wait_supply, waits_open, week, weeks_end, weeks_late, week_end, date_open, date_end, start_open, start_end, page_items, line_open, safety_line, facts_open, facts_steps, facts_end, open_receipt, no_message, none_at_risk, risk_booking, risk_front, risk_middle, risk_note, risk_open, risk_order, risks_unknown, said_back, said_close, said_front, said_open, said_other_back, said_other_front, said_pieces, said_start, said_week, work_back, work_blank, work_count, work_end, work_head, work_name, work_note, work_open, work_operation, work_other, work_rest, work_share, work_table_end, work_unknown}
+use Rattle.mrp_page.specs.Layout.{above_bar, above_end, available_label, balance_chart, balance_label, balance_scale, booked_label, cancel_front, cancel_open, capacity_label, centre_head, centre_open, centre_tile, centres_open, cut_bar, entry, firm_label, glance_open, grid_end, gross_label, history_end, history_open, hot_bar, hot_end, in_front, in_open, index_count, index_end, index_open, item_head, items_end, items_open, late_front, late_open, later_open, link_end, lists_open, load_chart, load_end, load_label, low_bar, low_end, main_open, more, no_promises, no_record, none_out, none_over, none_refused, nothing_to_do, open_pieces, order, order_address, order_start, order_unknown, order_week, orders_open, other_cells, other_front, other_open, out_cells, out_first_open, out_front, out_late, out_open, outs_front, outs_head_end, outs_note, outs_safety, over_back, over_front, over_label, over_line, over_open, overloaded_line, overloaded_open, page_end, page_head, page_top, peg_back, peg_booking, peg_front, peg_middle, peg_need, peg_parent, peg_supply, pegs_open, planned_label, point, points_end, record_head, refused_answer, refused_asked, refused_desk, refused_end, refused_front, refused_open, refused_row, release_front, release_open, rest_end, rest_open, row_end, scheduled_label, section_end, share_cell, share_label, starts_label, style, summary_open, summary_tile, table_end, task_middle, task_row, task_supply, title_end, title_open, to_week, todo_note, todo_open, wait_end, wait_late, wait_middle, wait_order, wait_supply, waits_open, week, weeks_end, weeks_late, week_end, date_open, date_end, start_open, start_end, page_items, line_open, safety_line, safety_scale, facts_open, facts_steps, facts_end, open_receipt, no_message, none_at_risk, risk_booking, risk_front, risk_middle, risk_note, risk_open, risk_order, risks_unknown, said_back, said_close, said_front, said_open, said_other_back, said_other_front, said_pieces, said_receipt, said_start, said_week, work_back, work_blank, work_count, work_end, work_head, work_name, work_note, work_open, work_operation, work_other, work_rest, work_share, work_table_end, work_unknown}
 use Rattle.mrp_page.specs.Notes.{Noted}
-use Rattle.mrp_page.specs.Outs.{falling_late, first_planned, is_planned, lateness, left_in, out_line, out_row, outs_back, outs_first, outs_html, outs_section, short_weeks, sign}
-use Rattle.mrp_page.specs.Page.{head_html, is_told, items_of, middle_html, page_html, page_of, rest_html, scene_in, shown_items, told_first, top_html, untold_rows}
+use Rattle.mrp_page.specs.Outs.{falling_late, first_planned, is_planned, lateness, left_in, out_line, out_row, outs_back, outs_first, outs_html, outs_section, outs_table, safety_head, short_weeks, sign}
+use Rattle.mrp_page.specs.Page.{glance_html, head_html, is_told, items_of, page_html, page_of, rest_html, scene_in, shown_items, told_first, top_html, untold_rows}
 use Rattle.mrp_page.specs.Orders.{is_numbered, is_order, linked_html, numbered, order_link, order_words, ordered, passing, place_of}
 use Rattle.mrp_page.specs.Overloaded.{falling_rate, first_share, most_overloaded, name_of, overloaded, overloaded_first, overloaded_html, overloaded_row, share_of_all, share_sign, share_words, weeks_of, worst_week}
 use Rattle.mrp_page.specs.Pegs.{is_wait, waits_for}
@@ -51,7 +51,7 @@ use Rattle.mrp_page.specs.Promises.{risk_end, risk_line, risk_listing, risks_fir
 use Rattle.mrp_page.specs.Refused.{answer_html, asked_of, call_html, caller_html, entry_link_html, entry_name_html, is_booking, refusals, refused_back, refused_lines, refused_listing, refused_or_none, refused_rows, refused_section}
 use Rattle.mrp_page.specs.Row.{Cells, RowView, cell_at, is_in, is_of, same_text}
 use Rattle.mrp_page.specs.Rows.{greatest, higher, leader_rows, leaders, rank, rows_in, rows_named, stretch}
-use Rattle.mrp_page.specs.Said.{back_of, by_urgency, front_of, is_release, item_messages, messages_at, pieces_row, said_html, said_known, said_listing, said_of_open, said_or_none, said_order, weeks_of_order}
+use Rattle.mrp_page.specs.Said.{back_of, by_urgency, front_of, is_release, item_messages, messages_at, pieces_row, said_html, said_known, said_listing, said_of_open, said_of_receipt, said_or_none, said_order, said_received, weeks_of_order}
 use Rattle.mrp_page.proofs.Todo.{stand-once}
 use Rattle.mrp_page.specs.Scene.{SceneView}
 use Rattle.mrp_page.specs.Shares.{falling_share, is_whole, minutes_at, minutes_html, minutes_tag, overloads_first, share_cells, share_of, share_row, titled_tag, week_rank, whole}
@@ -175,6 +175,14 @@ laid-work_rest : Contains tables_layouts work_rest
 unfolding tables_layouts
 laid-work_rest = (13, omega arith, refl)
 
+laid-safety_scale : Contains tables_layouts safety_scale
+unfolding tables_layouts
+laid-safety_scale = (14, omega arith, refl)
+
+laid-said_receipt : Contains tables_layouts said_receipt
+unfolding tables_layouts
+laid-said_receipt = (15, omega arith, refl)
+
 own-week_end : Contains own_words week_end
 unfolding tables_plain
 own-week_end = own-table week_end 0 (omega arith) refl
@@ -222,6 +230,10 @@ own-work_unknown = own-table work_unknown 10 (omega arith) refl
 own-work_end : Contains own_words work_end
 unfolding tables_plain
 own-work_end = own-table work_end 11 (omega arith) refl
+
+own-outs_safety : Contains own_words outs_safety
+unfolding tables_plain
+own-outs_safety = own-table outs_safety 12 (omega arith) refl
 
 laid-page_top : Contains layouts page_top
 unfolding layouts
@@ -470,6 +482,14 @@ laid-risk_middle = (60, omega arith, refl)
 laid-risk_order : Contains layouts risk_order
 unfolding layouts
 laid-risk_order = (61, omega arith, refl)
+
+laid-balance_scale : Contains layouts balance_scale
+unfolding layouts
+laid-balance_scale = (62, omega arith, refl)
+
+laid-out_late : Contains layouts out_late
+unfolding layouts
+laid-out_late = (63, omega arith, refl)
 
 own-style : Contains own_words style
 unfolding plain
@@ -814,6 +834,14 @@ own-risk_front = own risk_front 84 (omega arith) refl
 own-risk_booking : Contains own_words risk_booking
 unfolding plain
 own-risk_booking = own risk_booking 85 (omega arith) refl
+
+own-glance_open : Contains own_words glance_open
+unfolding plain
+own-glance_open = own glance_open 86 (omega arith) refl
+
+own-outs_head_end : Contains own_words outs_head_end
+unfolding plain
+own-outs_head_end = own outs_head_end 87 (omega arith) refl
 
 -- the markup of a kind of messages is the page's own
 record OfKind (kind : Kind) : Type 0 where
@@ -1321,13 +1349,24 @@ module _ (K L E : List ℕ → Type 0) (O : List ℕ → List ℕ → Type 0) (w
       let pieces-of : RowView = pieces_row (decimal (open_count scene r)) in
       either (has_word 1 (codes "open") r && scene.whole) (row_html said_pieces pieces-of) [] (row said_pieces pieces-of laid-said_pieces (quantity-known (decimal (open_count scene r)) known)) none
 
-  said-known-of : (scene : SceneView) (r : RowView) → K (decimal (open_count scene r)) → (p : RowView → Bool) (o : Option RowView) → ((q : RowView) → o ≡ Some q → (column : ℕ) → K (cell_at q column)) → IsMadeOf K L E O (said_known scene r (passing p o))
-  said-known-of scene r known p None all = said-open-of scene r known
-  said-known-of scene r known p (Some q) all = by (p q)
+  said-receipt-of : (scene : SceneView) (r : RowView) → K (decimal (open_count scene r)) → (o : Option Receipt) → ((own : Receipt) → o ≡ Some own → All K (receipt_cells own)) → IsMadeOf K L E O (said_of_receipt scene r o)
+  unfolding said_received
+  said-receipt-of scene r known None of = said-open-of scene r known
+  said-receipt-of scene r known (Some own) of =
+      let pieces-of : List ℕ = decimal own.quantity in
+      let cells-of : (column : ℕ) → K (cell_at (receipt_row own) column) = knows s.Run (receipt_cells own) (of own refl) in
+      join (row_html said_pieces (pieces_row pieces-of)) (row_html said_receipt (receipt_row own)) (row said_pieces (pieces_row pieces-of) laid-said_pieces (quantity-known pieces-of (cells-of 0))) (table-row said_receipt (receipt_row own) laid-said_receipt cells-of)
+
+  said-unkept-of : (scene : SceneView) → SceneKnown scene → (r : RowView) → K (decimal (open_count scene r)) → IsMadeOf K L E O (said_of_receipt scene r (receipt_of scene.tables r))
+  said-unkept-of scene seen r known = said-receipt-of scene r known (receipt_of scene.tables r) (λ own is. receipt-in scene.tables seen.of-tables r own is)
+
+  said-known-of : (scene : SceneView) → SceneKnown scene → (r : RowView) → K (decimal (open_count scene r)) → (p : RowView → Bool) (o : Option RowView) → ((q : RowView) → o ≡ Some q → (column : ℕ) → K (cell_at q column)) → IsMadeOf K L E O (said_known scene r (passing p o))
+  said-known-of scene seen r known p None all = said-unkept-of scene seen r known
+  said-known-of scene seen r known p (Some q) all = by (p q)
     where
       by : (b : Bool) → IsMadeOf K L E O (said_known scene r (if b then Some q else None))
       by true = said-of-order r q (all q refl)
-      by false = said-open-of scene r known
+      by false = said-unkept-of scene seen r known
 
   sentence : (scene : SceneView) → SceneKnown scene → (r : RowView) → MessageKnown scene r → IsMadeOf K L E O (said_html scene r)
   unfolding said_html
@@ -1339,7 +1378,7 @@ module _ (K L E : List ℕ → Type 0) (O : List ℕ → List ℕ → Type 0) (w
       join front (supply ++ (of-order ++ back)) (row (front_of r) r (laid-front (is_plain r)) known.cells-in)
       (join supply (of-order ++ back) (linked-order scene seen (cell_at r 0) (cell_at r 1) (cell_at r 2) (row_html task_supply r) (row task_supply r laid-task_supply known.cells-in))
       (join of-order back
-      (said-known-of scene r known.open-in (is_order (cell_at r 0) (cell_at r 1) (cell_at r 2)) (slice_get (rows_named (cell_at r 0) scene.orders) (place_of (cell_at r 2))) (order-known scene seen (cell_at r 0) (place_of (cell_at r 2))))
+      (said-known-of scene seen r known.open-in (is_order (cell_at r 0) (cell_at r 1) (cell_at r 2)) (slice_get (rows_named (cell_at r 0) scene.orders) (place_of (cell_at r 2))) (order-known scene seen (cell_at r 0) (place_of (cell_at r 2))))
       (row (back_of r) r (laid-back (is_plain r)) known.cells-in)))
     where
       laid-front : (b : Bool) → Contains layouts (if b then said_front else said_other_front)
@@ -1479,6 +1518,26 @@ module _ (K L E : List ℕ → Type 0) (O : List ℕ → List ℕ → Type 0) (w
   safety : (tables : Option Facts) → TablesKnown K tables → (f : RowView) → ((column : ℕ) → K (cell_at f column)) → IsMadeOf K L E O (safety_html tables f)
   safety None of f known = none
   safety (Some facts) of f known = safety-or-none (lead_unit facts.tables.version) (item_facts facts.tables (cell_at f 0)) f (λ own is. of.of-items (cell_at f 0) own is) known
+
+  -- the same in the scale of a picture, and in a cell
+  scale-or-none : (counted_in : LeadUnit) (o : Option ItemFacts) → ((own : ItemFacts) → o ≡ Some own → All K (facts_cells counted_in own)) → IsMadeOf K L E O (scale_or_none o)
+  scale-or-none counted_in None of = none
+  scale-or-none counted_in (Some own) of =
+      let pieces : List ℕ = decimal own.item.safety in
+      either (nat_lt 0 own.item.safety) (safety_scale_html own.item.safety) []
+      (table-row safety_scale (record { section = s.Run; cells = pieces ∷ [] }) laid-safety_scale (knows s.Run (pieces ∷ []) (All-cons K pieces [] (of own refl 9 [] (omega arith)) (All-nil K)))) none
+
+  scale : (tables : Option Facts) → TablesKnown K tables → (f : RowView) → IsMadeOf K L E O (scale_html tables f)
+  scale None of f = none
+  scale (Some facts) of f = scale-or-none (lead_unit facts.tables.version) (item_facts facts.tables (cell_at f 0)) (λ own is. of.of-items (cell_at f 0) own is)
+
+  safety-cell-or-none : (counted_in : LeadUnit) (o : Option ItemFacts) → ((own : ItemFacts) → o ≡ Some own → All K (facts_cells counted_in own)) → IsMadeOf K L E O (safety_cell_or_none o)
+  safety-cell-or-none counted_in None of = mark (codes "<td></td>") own-empty
+  safety-cell-or-none counted_in (Some own) of = number (decimal own.item.safety) (of own refl 9 [] (omega arith))
+
+  safety-cell : (tables : Option Facts) → TablesKnown K tables → (name : List ℕ) → IsMadeOf K L E O (safety_cell_html tables name)
+  safety-cell None of name = none
+  safety-cell (Some facts) of name = safety-cell-or-none (lead_unit facts.tables.version) (item_facts facts.tables name) (λ own is. of.of-items name own is)
 
   top-known : (column : ℕ) (least : List ℕ) (rs : List RowView) → K least → All (λ (r : RowView). (column : ℕ) → K (cell_at r column)) rs → K (greatest column least rs)
   unfolding greatest
@@ -1799,8 +1858,9 @@ module _ (K L E : List ℕ → Type 0) (O : List ℕ → List ℕ → Type 0) (w
   unfolding most_overloaded
   most-of cs all =
       let lines : List ℕ = flat_map overloaded_html (take MOST_OVERLOADED cs) in
-      either (length cs == 0) [] (overloaded_open ++ lines) none
-      (join overloaded_open lines (mark overloaded_open own-overloaded_open) (each CentreKnown overloaded_html (λ rs known. an-overloaded rs known) (take MOST_OVERLOADED cs) (All-take CentreKnown MOST_OVERLOADED cs all)))
+      either (length cs == 0) [] (overloaded_open ++ (lines ++ section_end)) none
+      (join overloaded_open (lines ++ section_end) (mark overloaded_open own-overloaded_open)
+      (join lines section_end (each CentreKnown overloaded_html (λ rs known. an-overloaded rs known) (take MOST_OVERLOADED cs) (All-take CentreKnown MOST_OVERLOADED cs all)) (mark section_end own-section_end)))
 
   most-known : (ls : List RowView) → All LoadKnown ls → All (λ (rs : List RowView). All K (centre_texts rs)) (overloaded ls) → All CentreKnown (overloaded_first ls)
   most-known ls all texts =
@@ -1821,19 +1881,17 @@ module _ (K L E : List ℕ → Type 0) (O : List ℕ → List ℕ → Type 0) (w
   orders-known None orders asked all = tt
   orders-known (Some facts) orders asked all = all
 
-  centres : (scene : SceneView) → SceneKnown scene → (ls : List RowView) (missed : ℕ) → WorksKnown K (work_in scene ls) ls → All LoadKnown ls → All (λ (rs : List RowView). All K (centre_texts rs)) (overloaded ls) → Counted (overloads_first ls) → K (decimal missed) → IsMadeOf K L E O (load_section scene ls missed)
+  centres : (scene : SceneView) → SceneKnown scene → (ls : List RowView) (missed : ℕ) → WorksKnown K (work_in scene ls) ls → All LoadKnown ls → Counted (overloads_first ls) → K (decimal missed) → IsMadeOf K L E O (load_section scene ls missed)
   unfolding load_section centres_back small_words
-  centres scene seen ls missed of-works all texts counts known =
-      let most : List ℕ = most_overloaded (overloaded_first ls) in
+  centres scene seen ls missed of-works all counts known =
       let over-of : List ℕ = over_or_none scene (work_in scene ls) missed (overloads_first ls) in
       let each-of : List ℕ = each_centre scene.tables ls (leaders [] ls) in
       let past : List ℕ = more_html missed (codes "week of a work centre is") (codes "weeks of work centres are") in
-      join centres_open (most ++ (over-of ++ (each-of ++ (past ++ section_end)))) (mark centres_open own-centres_open)
-      (join most (over-of ++ (each-of ++ (past ++ section_end))) (most-of (overloaded_first ls) (most-known ls all texts))
+      join centres_open (over-of ++ (each-of ++ (past ++ section_end))) (mark centres_open own-centres_open)
       (join over-of (each-of ++ (past ++ section_end))
       (over-or-none scene seen (work_in scene ls) ls (orders-known scene.tables scene.orders (take MOST_EXPLAINED (overloads_first ls)) seen.of-orders) of-works missed (overloads_first ls) (over-known ls all) counts)
       (join each-of (past ++ section_end) (each-centre scene.tables seen.of-tables ls (leaders [] ls) all (all-leaders LoadKnown [] ls all))
-      (join past section_end (further missed (codes "week of a work centre is") (codes "weeks of work centres are") known (small (codes "week of a work centre is") 5 (omega arith) refl) (small (codes "weeks of work centres are") 6 (omega arith) refl)) (mark section_end own-section_end)))))
+      (join past section_end (further missed (codes "week of a work centre is") (codes "weeks of work centres are") known (small (codes "week of a work centre is") 5 (omega arith) refl) (small (codes "weeks of work centres are") 6 (omega arith) refl)) (mark section_end own-section_end))))
 
   supplies : (scheduled : Bool) (plan : List RowView) → All (λ (r : RowView). (column : ℕ) → K (cell_at r column)) plan → IsMadeOf K L E O (supplies_html scheduled plan)
   unfolding supplies_html
@@ -1855,8 +1913,11 @@ module _ (K L E : List ℕ → Type 0) (O : List ℕ → List ℕ → Type 0) (w
   unfolding balance_html
   balance tables of f rs known all =
       let line-of : List ℕ = safety_html tables f in
-      join (row_html balance_chart f) (line-of ++ (line_open ++ points_html rs)) (row balance_chart f laid-balance_chart known)
-      (join line-of (line_open ++ points_html rs) (safety tables of f known) (join line_open (points_html rs) (mark line_open own-line_open) (points rs all)))
+      let rest : List ℕ = row_html balance_chart f ++ (line-of ++ (line_open ++ points_html rs)) in
+      join (row_html balance_scale f) (scale_html tables f ++ rest) (row balance_scale f laid-balance_scale known)
+      (join (scale_html tables f) rest (scale tables of f)
+      (join (row_html balance_chart f) (line-of ++ (line_open ++ points_html rs)) (row balance_chart f laid-balance_chart known)
+      (join line-of (line_open ++ points_html rs) (safety tables of f known) (join line_open (points_html rs) (mark line_open own-line_open) (points rs all)))))
 
   planned : (rs : List RowView) → All (λ (r : RowView). (column : ℕ) → K (cell_at r column)) rs → IsMadeOf K L E O (planned_html rs)
   unfolding planned_html
@@ -2212,32 +2273,61 @@ module _ (K L E : List ℕ → Type 0) (O : List ℕ → List ℕ → Type 0) (w
       out-known scene seen r (of-weeks k d within) (All-contains K (outs_texts notes) t (outs-text notes counts) (Contains-append_right (decimal notes.counts.plan ∷ decimal (length (outs_first scene plan)) ∷ []) texts t (contains-flat out_texts weeks-of r t has.0 has.1 has.2 (0, omega arith, refl))))) in
       All-permutation (λ (r : RowView). (column : ℕ) → K (cell_at r column)) first (sorted_by week_rank first) (sorted-permutes week_rank first) (All-permutation (λ (r : RowView). (column : ℕ) → K (cell_at r column)) outs first (sorted-permutes falling_late outs) of-outs)
 
-  an-out : (shown : List RowView) → All (λ (r : RowView). L (cell_at r 0)) shown → (r : RowView) → ((column : ℕ) → K (cell_at r column)) → IsMadeOf K L E O (out_line shown r)
+  an-out : (scene : SceneView) → SceneKnown scene → (r : RowView) → ((column : ℕ) → K (cell_at r column)) → IsMadeOf K L E O (out_line scene r)
   unfolding out_line
-  an-out shown led r known =
-      let name : List ℕ = item_name_html shown (cell_at r 0) in
-      join task_row (name ++ row_html out_cells r) (mark task_row own-task_row) (join name (row_html out_cells r) (item-name shown (cell_at r 0) led (known 0)) (row out_cells r laid-out_cells known))
+  an-out scene seen r known =
+      let name : List ℕ = item_name_html scene.shown (cell_at r 0) in
+      let cells : List ℕ = row_html out_cells r in
+      let stock : List ℕ = safety_cell_html scene.tables (cell_at r 0) in
+      let last : List ℕ = row_html out_late r in
+      join task_row (name ++ (cells ++ (stock ++ last))) (mark task_row own-task_row)
+      (join name (cells ++ (stock ++ last)) (item-name scene.shown (cell_at r 0) seen.led (known 0))
+      (join cells (stock ++ last) (row out_cells r laid-out_cells known)
+      (join stock last (safety-cell scene.tables seen.of-tables (cell_at r 0)) (row out_late r laid-out_late known))))
 
-  outs-of : (shown : List RowView) (missed : ℕ) (rs : List RowView) → All (λ (r : RowView). L (cell_at r 0)) shown → All (λ (r : RowView). (column : ℕ) → K (cell_at r column)) rs → K (decimal (length rs)) → IsMadeOf K L E O (outs_html shown missed rs)
+  outs-table : (scene : SceneView) → SceneKnown scene → (rs : List RowView) → All (λ (r : RowView). (column : ℕ) → K (cell_at r column)) rs → IsMadeOf K L E O (outs_table scene rs)
+  unfolding outs_table
+  outs-table scene seen rs all =
+      let lines : List ℕ = flat_map (out_line scene) rs in
+      let stock : List ℕ = safety_head scene.tables in
+      join outs_front (stock ++ (outs_head_end ++ (lines ++ table_end))) (mark outs_front own-outs_front)
+      (join stock (outs_head_end ++ (lines ++ table_end)) (head-of scene.tables)
+      (join outs_head_end (lines ++ table_end) (mark outs_head_end own-outs_head_end)
+      (join lines table_end (each (λ (r : RowView). (column : ℕ) → K (cell_at r column)) (out_line scene) (λ r known. an-out scene seen r known) rs all) (mark table_end own-table_end))))
+    where
+      head-of : (tables : Option Facts) → IsMadeOf K L E O (safety_head tables)
+      head-of None = none
+      head-of (Some facts) = mark outs_safety own-outs_safety
+
+  outs-of : (scene : SceneView) → SceneKnown scene → (missed : ℕ) (rs : List RowView) → All (λ (r : RowView). (column : ℕ) → K (cell_at r column)) rs → K (decimal (length rs)) → IsMadeOf K L E O (outs_html scene missed rs)
   unfolding outs_html
-  outs-of shown missed rs led all known =
+  outs-of scene seen missed rs all known =
       let note : List ℕ = row_html outs_note (count_row (length rs) [] []) in
-      let lines : List ℕ = flat_map (out_line shown) (take FEW_ROWS rs) in
-      either (has_none rs && (missed == 0)) none_out (note ++ (outs_front ++ (lines ++ table_end))) (mark none_out own-none_out)
-      (join note (outs_front ++ (lines ++ table_end)) (row outs_note (count_row (length rs) [] []) laid-outs_note (counted (length rs) [] [] known nothing nothing))
-      (join outs_front (lines ++ table_end) (mark outs_front own-outs_front)
-      (join lines table_end (each (λ (r : RowView). (column : ℕ) → K (cell_at r column)) (out_line shown) (λ r known. an-out shown led r known) (take FEW_ROWS rs) (All-take (λ (r : RowView). (column : ℕ) → K (cell_at r column)) FEW_ROWS rs all)) (mark table_end own-table_end))))
+      let lines : List ℕ = outs_table scene (take FEW_ROWS rs) in
+      either (has_none rs && (missed == 0)) none_out (note ++ lines) (mark none_out own-none_out)
+      (join note lines (row outs_note (count_row (length rs) [] []) laid-outs_note (counted (length rs) [] [] known nothing nothing))
+      (outs-table scene seen (take FEW_ROWS rs) (All-take (λ (r : RowView). (column : ℕ) → K (cell_at r column)) FEW_ROWS rs all)))
 
   run-out : (tables : Option Facts) (notes : Noted) → SceneKnown (scene_in tables notes) → All (λ (r : RowView). (column : ℕ) → K (cell_at r column)) (rows_in s.Plan notes.report) → All K (count_texts notes) → (missed : ℕ) → K (decimal missed) → IsMadeOf K L E O (outs_section (scene_in tables notes) (rows_in s.Plan notes.report) missed)
   unfolding outs_section outs_back small_words
   run-out tables notes seen all counts missed known =
       let scene : SceneView = scene_in tables notes in
       let outs : List RowView = outs_first scene (rows_in s.Plan notes.report) in
-      let lines : List ℕ = outs_html scene.shown missed outs in
+      let lines : List ℕ = outs_html scene missed outs in
       let past : List ℕ = more_html missed (codes "week of a record is") (codes "weeks of records are") in
       join out_first_open (lines ++ (past ++ section_end)) (mark out_first_open own-out_first_open)
-      (join lines (past ++ section_end) (outs-of scene.shown missed outs seen.led (outs-known tables notes seen all counts) (outs-text notes counts 1 [] (omega arith)))
+      (join lines (past ++ section_end) (outs-of scene seen missed outs (outs-known tables notes seen all counts) (outs-text notes counts 1 [] (omega arith)))
       (join past section_end (further missed (codes "week of a record is") (codes "weeks of records are") known (small (codes "week of a record is") 9 (omega arith) refl) (small (codes "weeks of records are") 10 (omega arith) refl)) (mark section_end own-section_end)))
+
+  -- what stands at a glance
+  glance : (tables : Option Facts) (notes : Noted) → SceneKnown (scene_in tables notes) → All (λ (r : RowView). (column : ℕ) → K (cell_at r column)) (rows_in s.Plan notes.report) → All LoadKnown (rows_in s.Loads notes.report) → All K (count_texts notes) → IsMadeOf K L E O (glance_html (scene_in tables notes) notes.report notes.counts.plan)
+  unfolding glance_html
+  glance tables notes seen of-plan of-loads counts =
+      let outs : List ℕ = outs_section (scene_in tables notes) (rows_in s.Plan notes.report) notes.counts.plan in
+      let centres-of : List (List RowView) = overloaded_first (rows_in s.Loads notes.report) in
+      join glance_open (outs ++ (most_overloaded centres-of ++ section_end)) (mark glance_open own-glance_open)
+      (join outs (most_overloaded centres-of ++ section_end) (run-out tables notes seen of-plan counts notes.counts.plan (outs-text notes counts 0 [] (omega arith)))
+      (join (most_overloaded centres-of) section_end (most-of centres-of (most-known (rows_in s.Loads notes.report) of-loads (overloaded-texts notes counts))) (mark section_end own-section_end)))
 
   -- The bookings at risk.
 
@@ -2288,7 +2378,7 @@ module _ (K L E : List ℕ → Type 0) (O : List ℕ → List ℕ → Type 0) (w
   pub page : (title : List ℕ) (tables : Option Facts) (notes : Noted) (risks : RisksView) → TablesKnown K tables → WorksKnown K (work_in (scene_in tables notes) (rows_in s.Loads notes.report)) (rows_in s.Loads notes.report) → K title → All (λ (r : RowView). (column : ℕ) → K (cell_at r column)) notes.history → All (λ (r : RowView). (column : ℕ) → K (cell_at r column)) notes.report → All K (count_texts notes) → All K (risk_texts risks)
       → All (λ (r : RowView). L (cell_at r 0)) (shown_items (item_lists notes.report)) → All (λ (r : RowView). E (cell_at r 0)) notes.history
       → ((name : List ℕ) → has_item (shown_items (item_lists notes.report)) name ≡ true → All (λ (r : RowView). O (cell_at r 1) name) (rows_named name (rows_in s.Orders notes.report))) → IsMadeOf K L E O (page_html title tables notes risks)
-  unfolding page_html page_of top_html middle_html rest_html items_of
+  unfolding page_html page_of top_html rest_html items_of
   page title tables notes risks of of-works known entries all counts risk-texts led kept leads =
       let count : (k : ℕ) → k < 19 → K (get_or (own_counts notes) k []) = λ k within. All-contains K (count_texts notes) (get_or (own_counts notes) k []) counts (Contains-append_left (own_counts notes) (listed_texts notes) (get_or (own_counts notes) k []) (All-contains_itself (own_counts notes) k [] (omega (arith, within)))) in
       let of-list : (rs : List RowView) → Contains (row_lists notes) rs → Counted rs = λ rs has. counted-list notes counts rs has in
@@ -2307,27 +2397,26 @@ module _ (K L E : List ℕ → Type 0) (O : List ℕ → List ℕ → Type 0) (w
       let promises : List ℕ = risks_html scene risks in
       let todos : List ℕ = todo_html scene lists.messages notes.counts.messages in
       let of-messages : AllCounted lists.messages = record { of-late = of-list (messages_of lists.messages late) (1, omega arith, refl); of-release = of-list (messages_of lists.messages release) (2, omega arith, refl); of-earlier = of-list (messages_of lists.messages earlier) (3, omega arith, refl); of-later = of-list (messages_of lists.messages later) (4, omega arith, refl); of-cancel = of-list (messages_of lists.messages cancel) (5, omega arith, refl); of-other = of-list (other_messages lists.messages) (6, omega arith, refl) } in
-      let run-outs : List ℕ = outs_section scene lists.plan notes.counts.plan in
-      let centred-of : List ℕ = load_section scene loaded notes.counts.loads in
-      let centred : List ℕ = run-outs ++ centred-of in
+      let at-once : List ℕ = glance_html scene notes.report notes.counts.plan in
+      let centred : List ℕ = load_section scene loaded notes.counts.loads in
       let indexed : List ℕ = index_html lists.messages shown in
       let each-item : List ℕ = items_html scene lists notes.counts.promises shown in
       let item-parts : List ℕ = indexed ++ (each-item ++ more_items (unshown lists shown notes.counts) shown) in
       let past : List ℕ = history_html notes.history notes.counts.history in
-      join top (sums ++ (calls ++ (promises ++ (todos ++ (centred ++ (item-parts ++ (past ++ page_end)))))))
+      join top (sums ++ (at-once ++ (calls ++ (promises ++ (todos ++ (centred ++ (item-parts ++ (past ++ page_end))))))))
       (head tables of (heading title notes.report notes.counts.items) (headed title notes.report notes.counts.items known (count 8 (omega arith)) all))
-      (join sums (calls ++ (promises ++ (todos ++ (centred ++ (item-parts ++ (past ++ page_end))))))
+      (join sums (at-once ++ (calls ++ (promises ++ (todos ++ (centred ++ (item-parts ++ (past ++ page_end)))))))
       (summed notes.history lists.messages loaded risks of-sums (risk-texts 0 [] (omega arith)))
+      (join at-once (calls ++ (promises ++ (todos ++ (centred ++ (item-parts ++ (past ++ page_end)))))) (glance tables notes seen of-lists.plan of-loaded counts)
       (join calls (promises ++ (todos ++ (centred ++ (item-parts ++ (past ++ page_end)))))
       (unkept shown notes.history notes.counts.history led kept entries (count 7 (omega arith)) (count 9 (omega arith)))
       (join promises (todos ++ (centred ++ (item-parts ++ (past ++ page_end)))) (at-risk scene seen risks risk-texts)
       (join todos (centred ++ (item-parts ++ (past ++ page_end)))
       (todo scene seen lists.messages notes.counts.messages (messages-known tables notes counts of-lists.messages) of-messages (count 0 (omega arith)))
       (join centred (item-parts ++ (past ++ page_end))
-      (join run-outs centred-of (run-out tables notes seen of-lists.plan counts notes.counts.plan (outs-text notes counts 0 [] (omega arith)))
-      (centres scene seen loaded notes.counts.loads of-works of-loaded (overloaded-texts notes counts) (of-list (overloads_first loaded) (0, omega arith, refl)) (count 1 (omega arith))))
+      (centres scene seen loaded notes.counts.loads of-works of-loaded (of-list (overloads_first loaded) (0, omega arith, refl)) (count 1 (omega arith)))
       (join item-parts (past ++ page_end)
       (join indexed (each-item ++ more_items (unshown lists shown notes.counts) shown) (index lists.messages shown (index-known notes counts led))
       (join each-item (more_items (unshown lists shown notes.counts) shown) (items scene seen lists notes.counts.promises shown of-lists (messages-known tables notes counts of-lists.messages) of-shown (folds-known notes counts))
       (more-items (unshown lists shown notes.counts) shown (count 2 (omega arith)) (count 3 (omega arith)) (count 4 (omega arith)) (count 5 (omega arith)) (count 6 (omega arith)))))
-      (join past page_end (history notes.history notes.counts.history entries (count 7 (omega arith))) (mark page_end own-page_end))))))))
+      (join past page_end (history notes.history notes.counts.history entries (count 7 (omega arith))) (mark page_end own-page_end)))))))))

@@ -7,7 +7,7 @@ use Rattle.std.proofs.lemmas.Bool.{cases_lt, eq-eqb, ne_eqb}
 use Rattle.std.proofs.lemmas.List.Sums.{length-filter, sum_by-cons}
 use Rattle.std.proofs.Math.Nat.{div-le_self, div-mul-le_self, lt-mul-div-succ}
 use Rattle.mrp_page.specs.Amounts.{amount}
-use Rattle.mrp_page.specs.Layout.{overloaded_line, overloaded_open}
+use Rattle.mrp_page.specs.Layout.{overloaded_line, overloaded_open, section_end}
 use Rattle.mrp_page.specs.Overloaded.{falling_rate, first_share, most_overloaded, name_of, overloaded, overloaded_first, overloaded_html, overloaded_row, rate, rate_of, total, with_time, worst_week}
 use Rattle.mrp_page.specs.Pictured.{centre_frame, picture_html}
 use Rattle.mrp_page.specs.Row.{RowView, cell_at}
@@ -57,7 +57,7 @@ pub rates-fall : (loads : List RowView) (i j : ℕ) (d : List RowView) → i ≤
 rates-fall loads i j d less within =
     omega (arith, falls loads i j d less within, rate-of-small (get_or (overloaded_first loads) i d), rate-of-small (get_or (overloaded_first loads) j d))
 
-pub first-stand : (rows : List RowView) (centres : List (List RowView)) → most_overloaded (rows ∷ centres) ≡ overloaded_open ++ flat_map overloaded_html (take 3 (rows ∷ centres))
+pub first-stand : (rows : List RowView) (centres : List (List RowView)) → most_overloaded (rows ∷ centres) ≡ overloaded_open ++ (flat_map overloaded_html (take 3 (rows ∷ centres)) ++ section_end)
 unfolding most_overloaded
 first-stand rows centres = rw (ne_eqb (length (rows ∷ centres)) 0 (λ e. omega arith)) refl
 

@@ -43,6 +43,10 @@ stretch-passes {A} p xs = λ k d within.
     by true is = refl
     by false is = absurd cc
 
+pub rows-named-are : (name : List ℕ) (rows : List RowView) → All (λ r. is_of name r ≡ true) (rows_named name rows)
+unfolding rows_named
+rows-named-are name rows = stretch-passes (is_of name) rows
+
 named-is : (name : List ℕ) (rows : List RowView) (k : ℕ) (row : RowView) → slice_get (rows_named name rows) k ≡ Some row → is_of name row ≡ true
 unfolding rows_named
 named-is name rows k row at =

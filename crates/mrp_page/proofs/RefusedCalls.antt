@@ -4,6 +4,7 @@ use Rattle.std.proofs.Common.{Option, ◌≡◌, ◌∙◌, ℕ, Bool, true, fal
 use Rattle.std.specs.Prelude.{◌==◌, IsPermutation, if◌then◌else◌}
 use Rattle.std.specs.List.{filter, find, flat_map}
 use Rattle.std.proofs.lemmas.List.{append-nil}
+use Rattle.mrp_page.specs.Centres.{load_section}
 use Rattle.mrp_page.specs.ByWord.{has_one_of}
 use Rattle.mrp_page.specs.Columns.{column}
 use Rattle.mrp_page.specs.Draw.{more_html}
@@ -15,7 +16,7 @@ use Rattle.mrp_page.specs.Layout.{none_refused, refused_answer, refused_open, se
 use Rattle.mrp_page.specs.Notes.{Noted}
 use Rattle.mrp_page.specs.AtRisk.{RisksView}
 use Rattle.mrp_page.specs.Promises.{risks_html}
-use Rattle.mrp_page.specs.Page.{middle_html, page_html, page_of, rest_html, scene_in, shown_items, top_html}
+use Rattle.mrp_page.specs.Page.{glance_html, page_html, page_of, rest_html, scene_in, shown_items, top_html}
 use Rattle.mrp_page.specs.Refused.{asked_of, is_booking, refusals, refused_back, refused_html, refused_lines, refused_listing, refused_or_none, refused_rows, refused_section}
 use Rattle.mrp_page.specs.Row.{RowView, cell_at}
 use Rattle.mrp_page.specs.Rows.{rows_in}
@@ -44,8 +45,8 @@ lines-are shown history missed (r ∷ rows) =
     let (front, between, back, is) = folded-is (refused_listing shown history) FEW_ROWS (r ∷ rows) in
     (front, between, back, rw (some-rows r rows) is)
 
-placed : (t u o f l b n m e d r : List ℕ) → t ++ (u ++ ((o ++ ((f ++ (l ++ (b ++ (n ++ m)))) ++ e)) ++ (d ++ r))) ≡ (((t ++ u) ++ o) ++ f) ++ (l ++ (b ++ (n ++ (m ++ (e ++ (d ++ r))))))
-placed t u o f l b n m e d r = simp append_assoc
+placed : (t u g o f l b n m e d r : List ℕ) → t ++ (u ++ (g ++ ((o ++ ((f ++ (l ++ (b ++ (n ++ m)))) ++ e)) ++ (d ++ r)))) ≡ ((((t ++ u) ++ g) ++ o) ++ f) ++ (l ++ (b ++ (n ++ (m ++ (e ++ (d ++ r))))))
+placed t u g o f l b n m e d r = simp append_assoc
 
 pub refused-stand : (title : List ℕ) (tables : Option Facts) (notes : Noted) (risks : RisksView) → (front : List ℕ) × (between : List ℕ) × (back : List ℕ) × (page_html title tables notes risks
     ≡ front ++ (flat_map (refused_html (shown_items (item_lists notes.report)) notes.history) (take FEW_ROWS (refused_rows notes.history))
@@ -57,14 +58,15 @@ refused-stand title tables notes risks =
     let rows : List RowView = refused_rows notes.history in
     let top : List ℕ = top_html title tables notes.report notes.counts.items in
     let sums : List ℕ = summary_html notes.history (rows_in s.Messages notes.report) (rows_in s.Loads notes.report) risks in
+    let seen : List ℕ = glance_html (scene_in tables notes) notes.report notes.counts.plan in
     let last : List ℕ = more_html notes.counts.history (codes "entry of the history is") (codes "entries of the history are") ++ section_end in
     let next : List ℕ = risks_html (scene_in tables notes) risks in
-    let rest : List ℕ = todo_html (scene_in tables notes) (rows_in s.Messages notes.report) notes.counts.messages ++ (middle_html (scene_in tables notes) notes.report notes.counts ++ rest_html (scene_in tables notes) (item_lists notes.report) notes.counts) in
+    let rest : List ℕ = todo_html (scene_in tables notes) (rows_in s.Messages notes.report) notes.counts.messages ++ (load_section (scene_in tables notes) (rows_in s.Loads notes.report) notes.counts.loads ++ rest_html (scene_in tables notes) (item_lists notes.report) notes.counts) in
     let (front, between, back, is) = lines-are shown notes.history notes.counts.history rows in (
-      ((top ++ sums) ++ refused_open) ++ front,
+      (((top ++ sums) ++ seen) ++ refused_open) ++ front,
       between,
       back ++ (last ++ (next ++ rest)),
-      ap (λ (t : List ℕ). top ++ (sums ++ ((refused_open ++ (t ++ last)) ++ (next ++ rest)))) is ∙ placed top sums refused_open front (flat_map line (take FEW_ROWS rows)) between (flat_map line (drop FEW_ROWS rows)) back last next rest,
+      ap (λ (t : List ℕ). top ++ (sums ++ (seen ++ ((refused_open ++ (t ++ last)) ++ (next ++ rest))))) is ∙ placed top sums seen refused_open front (flat_map line (take FEW_ROWS rows)) between (flat_map line (drop FEW_ROWS rows)) back last next rest,
     )
 
 pub none-is : (shown history : List RowView) → refused_rows history ≡ [] → refused_section shown history 0 ≡ refused_open ++ (none_refused ++ section_end)

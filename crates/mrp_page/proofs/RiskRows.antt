@@ -1,5 +1,5 @@
 -- Which bookings stand in *Promises at risk*.
-use Rattle.std.proofs.Common.{◌≡◌, ◌∙◌, ◌+◌, ◌-◌, ◌<◌, ◌≤◌, ℕ, zero, suc, Bool, true, false, List, [], ◌∷◌, ◌++◌, codes, drop, get_or, length, map, refl, sym, ap, subst, arith, inl, inr}
+use Rattle.std.proofs.Common.{◌≡◌, ◌∙◌, ◌+◌, ◌-◌, ◌<◌, ◌≤◌, ℕ, zero, suc, Bool, true, false, List, [], ◌∷◌, ◌++◌, codes, drop, get_or, length, refl, sym, ap, subst, arith, inl, inr}
 use Rattle.std.specs.Prelude.{IfSome, IsPermutation, IsTrue, Option, None, Some, ◌↔◌, ◌⊎◌, is_some, if◌then◌else◌, sum_by}
 use Rattle.std.specs.List.{flat_map, range_with_len, slice_get}
 use Rattle.std.specs.List.Sorted.{IsNonDecreasingBy}
@@ -25,7 +25,7 @@ use Rattle.mrp_page.specs.Template.{has_word}
 use Rattle.mrp_page.specs.declared.limits.TheConstants.{SOME_ROWS}
 use Rattle.mrp_page.proofs.ByKey.{sorted-non-decreasing, sorted-permutes}
 use Rattle.mrp_page.proofs.Folds.{some-rows}
-use Rattle.mrp_risk.specs.declared.peg.Need.TheVariants.{Booking, Order, Other}
+use Rattle.mrp_risk.specs.declared.peg.Need.TheVariants.{Booking, Other}
 use Rattle.mrp_risk.specs.declared.peg.Peg.{Peg}
 use Rattle.mrp_risk.specs.declared.risk.Risk.{Risk}
 use Rattle.mrp_risk.specs.Chains.{AreBookedWithin, AreWithin, HangsOn, IsBookedWithin, IsWithin, weeks_late}

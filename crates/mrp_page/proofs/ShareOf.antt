@@ -121,7 +121,7 @@ pub columns-are : (load : RowView) → share_of load ≡ share (amount (cell_at 
 columns-are load = refl
 
 -- what is drawn of a week, from its share
-drawn-is : (parts : List Drawn) (load : RowView) (o : Option ℕ) → share_of load ≡ o → row_html parts (share_row load) ≡ row_html parts (record { section = s.Run; cells = share_cells load o })
+pub drawn-is : (parts : List Drawn) (load : RowView) (o : Option ℕ) → share_of load ≡ o → row_html parts (share_row load) ≡ row_html parts (record { section = s.Run; cells = share_cells load o })
 drawn-is parts load o is = ap (λ (o : Option ℕ). row_html parts (record { section = s.Run; cells = share_cells load o })) is
 
 module _ (load : RowView) (percent : ℕ) (is : share_of load ≡ Some percent) where

@@ -6,6 +6,7 @@ use Rattle.std.proofs.lemmas.List.{append-nil, get_or_past}
 use Rattle.std.proofs.lemmas.List.Concat.{flat_map-append}
 use Rattle.std.proofs.lemmas.List.Elements.{All-append, All-cons, All-nil, Contains-get_or}
 use Rattle.std.specs.List.{All, Contains, flat_map}
+use Rattle.mrp_page.specs.Centres.{load_section}
 use Rattle.mrp_page.specs.Draw.{history_html}
 use Rattle.mrp_page.specs.ItemRows.{item_lists}
 use Rattle.mrp_page.specs.Laws.{part_pieces, piece_html, pieces, shown, text_of}
@@ -14,7 +15,7 @@ use Rattle.mrp_page.specs.Layout.{page_end, page_top}
 use Rattle.mrp_page.specs.Notes.{Noted}
 use Rattle.mrp_page.specs.AtRisk.{RisksView}
 use Rattle.mrp_page.specs.Promises.{risks_html}
-use Rattle.mrp_page.specs.Page.{head_html, items_of, middle_html, page_html, page_of, rest_html, scene_in, shown_items, top_html}
+use Rattle.mrp_page.specs.Page.{glance_html, head_html, items_of, page_html, page_of, rest_html, scene_in, shown_items, top_html}
 use Rattle.mrp_page.specs.Refused.{refused_section}
 use Rattle.mrp_page.specs.Row.{RowView, cell_at}
 use Rattle.mrp_page.specs.Rows.{rows_in}
@@ -69,8 +70,8 @@ pub begins : (title : List ℕ) (tables : Option Facts) (notes : Noted) (risks :
 unfolding page_html page_of top_html head_html row_html page_top
 begins title tables notes risks = (drop 15 (page_html title tables notes risks), refl)
 
-joined : (a o b p c d e f g h : List ℕ) → a ++ (o ++ (b ++ (p ++ (c ++ (d ++ (e ++ (f ++ (g ++ h)))))))) ≡ (a ++ (o ++ (b ++ (p ++ (c ++ (d ++ (e ++ (f ++ g)))))))) ++ h
-joined a o b p c d e f g h = sym (simp append_assoc)
+joined : (a o v b p c d e f g h : List ℕ) → a ++ (o ++ (v ++ (b ++ (p ++ (c ++ (d ++ (e ++ (f ++ (g ++ h))))))))) ≡ (a ++ (o ++ (v ++ (b ++ (p ++ (c ++ (d ++ (e ++ (f ++ g))))))))) ++ h
+joined a o v b p c d e f g h = sym (simp append_assoc)
 
 -- and ends with its end
 pub ends : (title : List ℕ) (tables : Option Facts) (notes : Noted) (risks : RisksView) → (front : List ℕ) × (page_html title tables notes risks ≡ front ++ (codes "</html>" ++ 10 ∷ []))
@@ -82,10 +83,11 @@ ends title tables notes risks =
     let calls = refused_section shown notes.history notes.counts.history in
     let promises = risks_html (scene_in tables notes) risks in
     let todo = todo_html (scene_in tables notes) (rows_in s.Messages notes.report) notes.counts.messages in
-    let loads = middle_html (scene_in tables notes) notes.report notes.counts in
+    let seen = glance_html (scene_in tables notes) notes.report notes.counts.plan in
+    let loads = load_section (scene_in tables notes) (rows_in s.Loads notes.report) notes.counts.loads in
     let items = items_of (scene_in tables notes) (item_lists notes.report) notes.counts in
     let history = history_html notes.history notes.counts.history in
     let last = codes "</main>\n</body>\n" in (
-      top ++ (sums ++ (calls ++ (promises ++ (todo ++ (loads ++ (items ++ (history ++ last))))))),
-      joined top sums calls promises todo loads items history last (codes "</html>" ++ 10 ∷ []),
+      top ++ (sums ++ (seen ++ (calls ++ (promises ++ (todo ++ (loads ++ (items ++ (history ++ last)))))))),
+      joined top sums seen calls promises todo loads items history last (codes "</html>" ++ 10 ∷ []),
     )

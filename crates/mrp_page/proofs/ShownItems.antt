@@ -419,7 +419,7 @@ or-two false false false q e = refl
 or-two false true false q e = absurd cc
 or-two false false true q e = absurd cc
 
-lead-any : (name previous : List ℕ) (rows : List RowView) → (list_any (is_of name) rows || same_text name previous) ≡ (has_name (map (λ r. cell_at r 0) (leaders previous rows)) name || same_text name previous)
+pub lead-any : (name previous : List ℕ) (rows : List RowView) → (list_any (is_of name) rows || same_text name previous) ≡ (has_name (map (λ r. cell_at r 0) (leaders previous rows)) name || same_text name previous)
 unfolding leaders
 lead-any name previous [] = refl
 lead-any name previous (r ∷ rows) = by (is_of previous r) refl (lead-any name (cell_at r 0) rows)

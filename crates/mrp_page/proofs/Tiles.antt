@@ -5,6 +5,7 @@ use Rattle.std.specs.Prelude.{◌==◌, count_by, if◌then◌else◌}
 use Rattle.std.specs.List.{filter}
 use Rattle.std.proofs.lemmas.List.Sums.{length-filter}
 use Rattle.std.proofs.lemmas.List.Sorted.{length_permutation}
+use Rattle.mrp_page.specs.Centres.{load_section}
 use Rattle.mrp_page.specs.ByWord.{with_word}
 use Rattle.mrp_page.specs.Columns.{column}
 use Rattle.mrp_page.specs.Escaped.{escaped}
@@ -14,7 +15,7 @@ use Rattle.mrp_page.specs.Layout.{summary_tile}
 use Rattle.mrp_page.specs.Notes.{Noted}
 use Rattle.mrp_page.specs.AtRisk.{RisksView}
 use Rattle.mrp_page.specs.Promises.{risks_html}
-use Rattle.mrp_page.specs.Page.{middle_html, page_html, page_of, rest_html, scene_in, shown_items, top_html}
+use Rattle.mrp_page.specs.Page.{glance_html, page_html, page_of, rest_html, scene_in, shown_items, top_html}
 use Rattle.mrp_page.specs.Refused.{refused_section}
 use Rattle.mrp_page.specs.Row.{RowView}
 use Rattle.mrp_page.specs.Rows.{rows_in}
@@ -49,6 +50,6 @@ unfolding page_html page_of
 summary-stands title tables notes risks =
     let shown : List RowView = shown_items (item_lists notes.report) in (
       top_html title tables notes.report notes.counts.items,
-      refused_section shown notes.history notes.counts.history ++ (risks_html (scene_in tables notes) risks ++ (todo_html (scene_in tables notes) (rows_in s.Messages notes.report) notes.counts.messages ++ (middle_html (scene_in tables notes) notes.report notes.counts ++ rest_html (scene_in tables notes) (item_lists notes.report) notes.counts))),
+      glance_html (scene_in tables notes) notes.report notes.counts.plan ++ (refused_section shown notes.history notes.counts.history ++ (risks_html (scene_in tables notes) risks ++ (todo_html (scene_in tables notes) (rows_in s.Messages notes.report) notes.counts.messages ++ (load_section (scene_in tables notes) (rows_in s.Loads notes.report) notes.counts.loads ++ rest_html (scene_in tables notes) (item_lists notes.report) notes.counts)))),
       refl,
     )

@@ -1,5 +1,5 @@
 -- Each message of an item is said once, under its own word.
-use Rattle.std.proofs.Common.{◌≡◌, ◌∙◌, ℕ, Bool, true, false, not, List, [], ◌∷◌, ◌++◌, codes, decimal, drop, refl, ap, subst, take}
+use Rattle.std.proofs.Common.{◌≡◌, ◌∙◌, ℕ, Bool, true, false, not, List, [], ◌∷◌, ◌++◌, Option, Some, None, codes, decimal, drop, refl, ap, subst, take}
 use Rattle.std.specs.Prelude.{◌||◌, IsPermutation, if◌then◌else◌}
 use Rattle.std.specs.List.{flat_map}
 use Rattle.std.proofs.lemmas.List.Elements.{filter_agree}
@@ -9,14 +9,16 @@ use Rattle.mrp_page.specs.Draw.{is_plain}
 use Rattle.mrp_page.specs.Escaped.{escaped}
 use Rattle.mrp_page.specs.ItemRows.{ItemLists}
 use Rattle.mrp_page.specs.Kinds.{open_count, order_of}
-use Rattle.mrp_page.specs.Layout.{said_back, said_front, said_other_back, said_other_front, said_pieces, said_start, said_week, task_supply}
+use Rattle.mrp_page.specs.Layout.{said_back, said_front, said_other_back, said_other_front, said_pieces, said_receipt, said_start, said_week, task_supply}
 use Rattle.mrp_page.specs.Orders.{linked_html}
+use Rattle.mrp_page.specs.Receipts.{receipt_of}
 use Rattle.mrp_page.specs.Row.{RowView, cell_at}
-use Rattle.mrp_page.specs.Said.{back_of, by_urgency, front_of, is_release, item_messages, messages_at, pieces_row, said_html, said_known, said_listing, said_of_open, said_or_none, said_order, urgent_words}
+use Rattle.mrp_page.specs.Said.{back_of, by_urgency, front_of, is_release, item_messages, messages_at, pieces_row, said_html, said_known, said_listing, said_of_open, said_of_receipt, said_or_none, said_order, said_received, urgent_words}
 use Rattle.mrp_page.specs.Scene.{SceneView}
 use Rattle.mrp_page.specs.Template.{has_word, row_html}
 use Rattle.mrp_page.specs.Todo.{value_of_message, word_of}
 use Rattle.mrp_page.specs.declared.limits.TheConstants.{FEW_ROWS}
+use Rattle.mrp_tables.specs.declared.rows.Receipt.{Receipt}
 use Rattle.mrp_day.specs.declared.section.Section.TheVariants as s
 use Rattle.mrp_page.proofs.ByWord.{Differ, word-by-word}
 use Rattle.mrp_page.proofs.Folds.{folded-is, some-rows}
@@ -70,6 +72,10 @@ unfolding said_of_open
 open-said scene message whole is =
     let opened : has_word 1 (codes "open") message ≡ true = rw is refl in
     rw (opened, whole) refl
+
+pub received-said : (scene : SceneView) (message : RowView) (receipt : Receipt) → receipt_of scene.tables message ≡ Some receipt → said_known scene message None ≡ row_html said_pieces (pieces_row (decimal receipt.quantity)) ++ (codes ", week " ++ (escaped (decimal receipt.week) ++ []))
+unfolding row_html said_received said_receipt said_pieces
+received-said scene message receipt is = ap (said_of_receipt scene message) is
 
 -- what a message begins and ends with, word by word
 module _ (message : RowView) where

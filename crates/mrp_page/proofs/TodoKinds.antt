@@ -1,6 +1,7 @@
 -- Each message is in *To do* once, in the fold of its kind, with its order.
 use Rattle.mrp_facts.specs.Facts.{Facts, open_order}
 use Rattle.mrp_tables.specs.declared.rows.Receipt.{Receipt}
+use Rattle.mrp_page.specs.Centres.{load_section}
 use Rattle.mrp_page.specs.Receipts.{receipt_of}
 use Rattle.std.proofs.Common.{◌≡◌, ◌∙◌, ◌<◌, ◌≤◌, ℕ, true, Option, Some, List, [], ◌∷◌, ◌++◌, codes, decimal, drop, get_or, length, take, arith, refl, sym, ap, append_assoc, None}
 use Rattle.std.specs.Prelude.{◌&&◌, IsPermutation}
@@ -17,7 +18,7 @@ use Rattle.mrp_page.specs.Layout.{cancel_open, in_open, late_open, open_pieces, 
 use Rattle.mrp_page.specs.Notes.{Noted}
 use Rattle.mrp_page.specs.AtRisk.{RisksView}
 use Rattle.mrp_page.specs.Promises.{risks_html}
-use Rattle.mrp_page.specs.Page.{middle_html, page_html, page_of, rest_html, scene_in, shown_items, top_html}
+use Rattle.mrp_page.specs.Page.{glance_html, page_html, page_of, rest_html, scene_in, shown_items, top_html}
 use Rattle.mrp_page.specs.Html.{number_html}
 use Rattle.mrp_page.specs.Orders.{is_order, linked_html, ordered}
 use Rattle.mrp_page.specs.Refused.{refused_section}
@@ -63,8 +64,8 @@ late-falls messages i j m less within =
 pub in-rises : (messages : List RowView) → IsNonDecreasingBy value_rank (messages_of messages earlier)
 in-rises messages = sorted-non-decreasing value_rank (with_word 3 messages (codes "IN"))
 
-placed : (t u c x o n k m r : List ℕ) → t ++ (u ++ (c ++ (x ++ ((o ++ (n ++ (k ++ m))) ++ r)))) ≡ (t ++ (u ++ (c ++ (x ++ (o ++ n))))) ++ (k ++ (m ++ r))
-placed t u c x o n k m r = simp append_assoc
+placed : (t u g c x o n k m r : List ℕ) → t ++ (u ++ (g ++ (c ++ (x ++ ((o ++ (n ++ (k ++ m))) ++ r))))) ≡ (t ++ (u ++ (g ++ (c ++ (x ++ (o ++ n)))))) ++ (k ++ (m ++ r))
+placed t u g c x o n k m r = simp append_assoc
 
 pub page-kinds : (title : List ℕ) (tables : Option Facts) (notes : Noted) (risks : RisksView) → (front : List ℕ) × (back : List ℕ) × (page_html title tables notes risks ≡ front ++ (kinds_html (scene_in tables notes) (rows_in s.Messages notes.report) ++ back))
 unfolding page_html page_of todo_html todo_back
@@ -78,8 +79,9 @@ page-kinds title tables notes risks =
     let promises : List ℕ = risks_html (scene_in tables notes) risks in
     let note : List ℕ = note_html messages notes.counts.messages in
     let last : List ℕ = more_html notes.counts.messages (codes "message, perhaps an urgent one, is") (codes "messages, urgent ones perhaps among them, are") ++ section_end in
-    let rest : List ℕ = middle_html (scene_in tables notes) notes.report notes.counts ++ rest_html (scene_in tables notes) lists notes.counts in
-    (top ++ (sums ++ (calls ++ (promises ++ (todo_open ++ note)))), last ++ rest, placed top sums calls promises todo_open note (kinds_html (scene_in tables notes) messages) last rest)
+    let seen : List ℕ = glance_html (scene_in tables notes) notes.report notes.counts.plan in
+    let rest : List ℕ = load_section (scene_in tables notes) (rows_in s.Loads notes.report) notes.counts.loads ++ rest_html (scene_in tables notes) lists notes.counts in
+    (top ++ (sums ++ (seen ++ (calls ++ (promises ++ (todo_open ++ note))))), last ++ rest, placed top sums seen calls promises todo_open note (kinds_html (scene_in tables notes) messages) last rest)
 
 pub kinds-are : (scene : SceneView) (messages : List RowView) → kinds_html scene messages ≡ flat_map (kind_part scene messages) kinds ++ other_part scene messages
 unfolding kinds_html

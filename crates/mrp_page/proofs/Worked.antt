@@ -1,7 +1,7 @@
 -- The operations that load overloads: of which orders they are, and that their times make up the load.
-use Rattle.std.proofs.Common.{◌≡◌, ◌∙◌, ◌+◌, ◌-◌, ◌^◌, ◌<◌, ◌≤◌, ℕ, Bool, true, false, Bor, Option, None, Some, List, [], ◌∷◌, ◌++◌, drop, get_or, length, map, take, refl, sym, ap, subst, arith}
-use Rattle.std.specs.Prelude.{IsPermutation, ◌==◌, ◌&&◌, if◌then◌else◌, nat_le, option_map}
-use Rattle.std.specs.List.{All, Contains, filter, flat_map, list_any, range_with_len}
+use Rattle.std.proofs.Common.{◌≡◌, ◌∙◌, ◌+◌, ◌-◌, ◌^◌, ◌<◌, ◌≤◌, ℕ, Bool, true, false, Bor, Option, None, Some, List, [], ◌∷◌, ◌++◌, drop, length, take, refl, sym, ap, subst, arith}
+use Rattle.std.specs.Prelude.{IsPermutation, ◌==◌, ◌&&◌, if◌then◌else◌, option_map}
+use Rattle.std.specs.List.{All, Contains, filter, flat_map, range_with_len}
 use Rattle.std.specs.List.Sorted.{IsNonDecreasingBy}
 use Rattle.std.specs.Option.{IfSome, option_copied, option_to_list}
 use Rattle.std.proofs.lemmas.Bool.{le-leb, lt-leb}
@@ -27,7 +27,7 @@ use Rattle.mrp_page.specs.Scene.{SceneView}
 use Rattle.mrp_page.specs.Shares.{minutes_html, share_row}
 use Rattle.mrp_page.specs.Template.{row_html}
 use Rattle.mrp_page.specs.Work.{WorkView, centre_named, order_of_row, place_of_load, places_of_loads, work_orders, works_at, works_of}
-use Rattle.mrp_page.specs.declared.limits.TheConstants.{MOST_AMOUNT, SOME_ROWS}
+use Rattle.mrp_page.specs.declared.limits.TheConstants.{SOME_ROWS}
 use Rattle.mrp_qty.specs.Minutes.{minutes_text_of}
 use Rattle.mrp_page.proofs.ByKey.{sorted-non-decreasing, sorted-permutes}
 use Rattle.mrp_page.proofs.Made.{all-flat, contains-flat}

@@ -6,13 +6,12 @@ use Rattle.mrp_page.specs.Explained.{overload_html}
 use Rattle.mrp_page.specs.Folded.{Listing, capped_html}
 use Rattle.mrp_page.specs.Frame.{count_row}
 use Rattle.mrp_page.specs.Layout.{capacity_label, centre_head, centre_open, centres_open, grid_end, later_open, load_label, none_over, over_back, over_front, over_label, over_open, rest_end, section_end, share_cell, share_label, work_note}
-use Rattle.mrp_page.specs.Overloaded.{most_overloaded, overloaded_first}
 use Rattle.mrp_page.specs.Pictured.{centre_frame, picture_html}
 use Rattle.mrp_page.specs.Row.{RowView, cell_at}
 use Rattle.mrp_page.specs.Rows.{leaders, rows_named}
 use Rattle.mrp_page.specs.Scene.{SceneView}
 use Rattle.mrp_page.specs.Shares.{minutes_at, overloads_first, share_row}
-use Rattle.mrp_page.specs.Template.{row_html, rows_html}
+use Rattle.mrp_page.specs.Template.{row_html}
 use Rattle.mrp_page.specs.Weeks.{weeks_html}
 use Rattle.mrp_page.specs.Work.{WorkView, work_view}
 use Rattle.mrp_facts.specs.Facts.{Facts}
@@ -96,7 +95,6 @@ work_in scene loads = work_view scene.tables scene.orders (take MOST_EXPLAINED (
 unfoldable pub load_section : SceneView → List RowView → ℕ → List ℕ
 load_section scene loads missed =
     centres_open
-    ++ (most_overloaded (overloaded_first loads)
     ++ (over_or_none scene (work_in scene loads) missed (overloads_first loads)
     ++ (each_centre scene.tables loads (leaders [] loads)
-    ++ centres_back missed)))
+    ++ centres_back missed))

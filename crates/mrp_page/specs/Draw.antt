@@ -1,15 +1,15 @@
 -- The parts of a page.
-use Rattle.std.specs.Prelude.{ℕ, Bool, List, Option, [], ◌∷◌, ◌++◌, ◌==◌, ◌&&◌, ◌||◌, ◌-◌, not, length, codes, drop, flat_map, take, if◌then◌else◌}
+use Rattle.std.specs.Prelude.{ℕ, Bool, List, Option, [], ◌++◌, ◌==◌, ◌&&◌, ◌||◌, ◌-◌, not, length, codes, drop, take, if◌then◌else◌}
 use Rattle.std.specs.List.{list_any}
 use Rattle.mrp_page.specs.declared.counts.Counts.{Counts}
 use Rattle.mrp_page.specs.declared.limits.TheConstants.{TABLE_WEEKS}
 use Rattle.mrp_page.specs.Escaped.{escaped}
 use Rattle.mrp_page.specs.Frame.{count_row, frame_of}
 use Rattle.mrp_page.specs.Html.{is_zero}
-use Rattle.mrp_page.specs.ItemFacts.{safety_html}
+use Rattle.mrp_page.specs.ItemFacts.{safety_html, scale_html}
 use Rattle.mrp_page.specs.ItemRows.{ItemLists}
-use Rattle.mrp_page.specs.Layout.{available_label, balance_chart, balance_label, booked_label, entry, firm_label, grid_end, gross_label, history_end, history_open, later_open, line_open, link_end, link_middle, link_open, more, no_promises, no_record, planned_label, point, points_end, record_head, rest_end, scheduled_label, starts_label, week, weeks_end}
-use Rattle.mrp_page.specs.Row.{RowView, cell_at, is_of}
+use Rattle.mrp_page.specs.Layout.{available_label, balance_chart, balance_label, balance_scale, booked_label, entry, firm_label, grid_end, gross_label, history_end, history_open, later_open, line_open, link_end, link_middle, link_open, more, no_promises, no_record, planned_label, point, points_end, record_head, rest_end, scheduled_label, starts_label}
+use Rattle.mrp_page.specs.Row.{RowView, is_of}
 use Rattle.mrp_page.specs.Rows.{greatest, rows_named}
 use Rattle.mrp_page.specs.Template.{Drawn, flows_html, has_word, numbers_html, row_html, rows_html}
 use Rattle.mrp_page.specs.Weeks.{weeks_html}
@@ -97,13 +97,15 @@ unfoldable pub points_html : List RowView → List ℕ
 points_html plan =
     table_html [] point plan points_end
 
--- the picture of an item's balances, a line, with its safety stock if the tables are given
+-- the picture of an item's balances, a line, with its safety stock, in the scale too, if the tables are given
 unfoldable pub balance_html : Option Facts → RowView → List RowView → List ℕ
 balance_html tables frame plan =
-    row_html balance_chart frame
+    row_html balance_scale frame
+    ++ (scale_html tables frame
+    ++ (row_html balance_chart frame
     ++ (safety_html tables frame
     ++ (line_open
-    ++ points_html plan))
+    ++ points_html plan))))
 
 -- what is planned of an item, and the balance that is left
 unfoldable pub planned_html : List RowView → List ℕ

@@ -11,7 +11,8 @@ use Rattle.mrp_tables.specs.declared.version.LeadUnit.TheVariants.{ShopDays, Wee
 use Rattle.mrp_tables.specs.Versions.{lead_unit}
 use Rattle.mrp_facts.specs.Facts.{Facts, item_facts}
 use Rattle.mrp_facts.specs.declared.facts.ItemFacts.{ItemFacts}
-use Rattle.mrp_page.specs.Layout.{facts_end, facts_open, facts_steps, safety_line}
+use Rattle.mrp_page.specs.Html.{number_html}
+use Rattle.mrp_page.specs.Layout.{facts_end, facts_open, facts_steps, safety_line, safety_scale}
 use Rattle.mrp_page.specs.Row.{Cells, RowView, cell_at}
 use Rattle.mrp_page.specs.Template.{row_html}
 
@@ -90,3 +91,29 @@ safety_or_none (Some own) frame = own_safety_html own frame
 -- one at the safety stock of the item of a frame
 abbrev pub safety_html : Option Facts → RowView → List ℕ
 safety_html tables frame = safety_or_none (own_facts tables (cell_at frame 0)) frame
+
+-- what the scale of a picture says of a safety stock
+abbrev pub safety_scale_html : ℕ → List ℕ
+safety_scale_html pieces = row_html safety_scale (record { section = s.Run; cells = decimal pieces ∷ [] })
+
+-- the same of an item's, if it has one
+abbrev pub own_scale_html : ItemFacts → List ℕ
+own_scale_html own = if nat_lt 0 own.item.safety then safety_scale_html own.item.safety else []
+
+abbrev pub scale_or_none : Option ItemFacts → List ℕ
+scale_or_none None = []
+scale_or_none (Some own) = own_scale_html own
+
+-- the same of the item of a frame
+abbrev pub scale_html : Option Facts → RowView → List ℕ
+scale_html tables frame = scale_or_none (own_facts tables (cell_at frame 0))
+
+-- a cell with an item's safety stock
+abbrev pub safety_cell_or_none : Option ItemFacts → List ℕ
+safety_cell_or_none None = codes "<td></td>"
+safety_cell_or_none (Some own) = number_html (decimal own.item.safety)
+
+-- the same if the tables are given
+abbrev pub safety_cell_html : Option Facts → List ℕ → List ℕ
+safety_cell_html None name = []
+safety_cell_html (Some facts) name = safety_cell_or_none (item_facts facts.tables name)

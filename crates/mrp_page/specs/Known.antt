@@ -6,7 +6,7 @@ use Rattle.mrp_page.specs.ItemRows.{item_lists}
 use Rattle.mrp_page.specs.Items.{message_count}
 use Rattle.mrp_page.specs.Kinds.{kinds, messages_of, open_count, other_messages}
 use Rattle.mrp_page.specs.Laws.{Entry, Escaped, Link, Markup, Order, Piece, piece_html}
-use Rattle.mrp_page.specs.Layout.{above_bar, above_end, available_label, balance_chart, balance_label, booked_label, cancel_front, cancel_open, capacity_label, centre_head, centre_open, centre_tile, centres_open, cut_bar, entry, firm_label, grid_end, gross_label, history_end, history_open, hot_bar, hot_end, in_front, in_open, index_count, index_end, index_open, item_head, items_end, items_open, late_front, late_open, later_open, link_end, lists_open, load_chart, load_end, load_label, low_bar, low_end, main_open, more, no_promises, no_record, none_out, none_over, none_refused, nothing_to_do, open_pieces, order, order_address, order_start, order_unknown, order_week, orders_open, other_cells, other_front, other_open, out_cells, out_first_open, out_front, out_open, outs_front, outs_note, over_back, over_front, over_label, over_line, over_open, overloaded_line, overloaded_open, page_end, page_head, page_top, peg_back, peg_booking, peg_front, peg_middle, peg_need, peg_parent, peg_supply, pegs_open, planned_label, point, points_end, record_head, refused_answer, refused_asked, refused_desk, refused_end, refused_front, refused_open, refused_row, release_front, release_open, rest_end, rest_open, row_end, scheduled_label, section_end, share_cell, share_label, starts_label, style, summary_open, summary_tile, table_end, task_middle, task_row, task_supply, title_end, title_open, to_week, todo_note, todo_open, wait_end, wait_late, wait_middle, wait_order, wait_supply, waits_open, week, weeks_end, weeks_late, date_end, date_open, facts_end, facts_open, facts_steps, line_open, open_receipt, page_items, safety_line, start_end, start_open, week_end, no_message, none_at_risk, risk_booking, risk_front, risk_middle, risk_note, risk_open, risk_order, risks_unknown, said_back, said_close, said_front, said_open, said_other_back, said_other_front, said_pieces, said_start, said_week, work_back, work_blank, work_count, work_end, work_head, work_name, work_note, work_open, work_operation, work_other, work_rest, work_share, work_table_end, work_unknown}
+use Rattle.mrp_page.specs.Layout.{above_bar, above_end, available_label, balance_chart, balance_label, balance_scale, booked_label, cancel_front, cancel_open, capacity_label, centre_head, centre_open, centre_tile, centres_open, cut_bar, entry, firm_label, glance_open, grid_end, gross_label, history_end, history_open, hot_bar, hot_end, in_front, in_open, index_count, index_end, index_open, item_head, items_end, items_open, late_front, late_open, later_open, link_end, lists_open, load_chart, load_end, load_label, low_bar, low_end, main_open, more, no_promises, no_record, none_out, none_over, none_refused, nothing_to_do, open_pieces, order, order_address, order_start, order_unknown, order_week, orders_open, other_cells, other_front, other_open, out_cells, out_first_open, out_front, out_late, out_open, outs_front, outs_head_end, outs_note, outs_safety, over_back, over_front, over_label, over_line, over_open, overloaded_line, overloaded_open, page_end, page_head, page_top, peg_back, peg_booking, peg_front, peg_middle, peg_need, peg_parent, peg_supply, pegs_open, planned_label, point, points_end, record_head, refused_answer, refused_asked, refused_desk, refused_end, refused_front, refused_open, refused_row, release_front, release_open, rest_end, rest_open, row_end, scheduled_label, section_end, share_cell, share_label, starts_label, style, summary_open, summary_tile, table_end, task_middle, task_row, task_supply, title_end, title_open, to_week, todo_note, todo_open, wait_end, wait_late, wait_middle, wait_order, wait_supply, waits_open, week, weeks_end, weeks_late, date_end, date_open, facts_end, facts_open, facts_steps, line_open, open_receipt, page_items, safety_line, safety_scale, start_end, start_open, week_end, no_message, none_at_risk, risk_booking, risk_front, risk_middle, risk_note, risk_open, risk_order, risks_unknown, said_back, said_close, said_front, said_open, said_other_back, said_other_front, said_pieces, said_receipt, said_start, said_week, work_back, work_blank, work_count, work_end, work_head, work_name, work_note, work_open, work_operation, work_other, work_rest, work_share, work_table_end, work_unknown}
 use Rattle.mrp_facts.specs.Facts.{Facts, item_facts, open_order}
 use Rattle.mrp_facts.specs.declared.facts.ItemFacts.{ItemFacts}
 use Rattle.mrp_tables.specs.declared.rows.Receipt.{Receipt}
@@ -36,11 +36,11 @@ use Rattle.mrp_day.specs.declared.section.Section.TheVariants as s
 
 -- the markup that rows are drawn with
 unfoldable pub layouts : List (List Drawn)
-layouts = page_top ∷ page_head ∷ said_front ∷ said_back ∷ week ∷ entry ∷ order ∷ centre_head ∷ load_chart ∷ item_head ∷ record_head ∷ balance_chart ∷ point ∷ more ∷ said_other_front ∷ rest_open ∷ refused_answer ∷ refused_asked ∷ refused_desk ∷ task_supply ∷ order_start ∷ order_week ∷ weeks_late ∷ to_week ∷ row_end ∷ other_cells ∷ late_open ∷ release_open ∷ in_open ∷ out_open ∷ cancel_open ∷ other_open ∷ summary_tile ∷ centre_tile ∷ centre_open ∷ low_bar ∷ hot_bar ∷ above_bar ∷ cut_bar ∷ share_cell ∷ over_open ∷ over_line ∷ load_end ∷ open_pieces ∷ index_count ∷ peg_supply ∷ peg_middle ∷ peg_parent ∷ peg_need ∷ peg_back ∷ wait_order ∷ wait_middle ∷ wait_late ∷ outs_note ∷ out_cells ∷ overloaded_line ∷ said_other_back ∷ said_pieces ∷ said_start ∷ said_week ∷ risk_middle ∷ risk_order ∷ []
+layouts = page_top ∷ page_head ∷ said_front ∷ said_back ∷ week ∷ entry ∷ order ∷ centre_head ∷ load_chart ∷ item_head ∷ record_head ∷ balance_chart ∷ point ∷ more ∷ said_other_front ∷ rest_open ∷ refused_answer ∷ refused_asked ∷ refused_desk ∷ task_supply ∷ order_start ∷ order_week ∷ weeks_late ∷ to_week ∷ row_end ∷ other_cells ∷ late_open ∷ release_open ∷ in_open ∷ out_open ∷ cancel_open ∷ other_open ∷ summary_tile ∷ centre_tile ∷ centre_open ∷ low_bar ∷ hot_bar ∷ above_bar ∷ cut_bar ∷ share_cell ∷ over_open ∷ over_line ∷ load_end ∷ open_pieces ∷ index_count ∷ peg_supply ∷ peg_middle ∷ peg_parent ∷ peg_need ∷ peg_back ∷ wait_order ∷ wait_middle ∷ wait_late ∷ outs_note ∷ out_cells ∷ overloaded_line ∷ said_other_back ∷ said_pieces ∷ said_start ∷ said_week ∷ risk_middle ∷ risk_order ∷ balance_scale ∷ out_late ∷ []
 
 -- markup that stands between rows
 unfoldable pub plain : List (List ℕ)
-plain = style ∷ todo_open ∷ nothing_to_do ∷ said_open ∷ said_close ∷ weeks_end ∷ points_end ∷ load_label ∷ capacity_label ∷ over_label ∷ grid_end ∷ centres_open ∷ section_end ∷ scheduled_label ∷ firm_label ∷ booked_label ∷ available_label ∷ gross_label ∷ planned_label ∷ starts_label ∷ balance_label ∷ orders_open ∷ pegs_open ∷ no_record ∷ history_open ∷ history_end ∷ page_end ∷ [] ∷ codes "<td>" ∷ codes "<td class=z>" ∷ codes "</td>" ∷ codes "</tr>\n" ∷ no_promises ∷ table_end ∷ rest_end ∷ refused_open ∷ none_refused ∷ refused_front ∷ refused_row ∷ refused_end ∷ todo_note ∷ task_row ∷ order_unknown ∷ late_front ∷ release_front ∷ in_front ∷ out_front ∷ cancel_front ∷ other_front ∷ summary_open ∷ main_open ∷ low_end ∷ hot_end ∷ above_end ∷ share_label ∷ later_open ∷ none_over ∷ over_front ∷ over_back ∷ codes "<td></td>" ∷ order_address ∷ task_middle ∷ items_open ∷ items_end ∷ index_open ∷ index_end ∷ lists_open ∷ waits_open ∷ peg_front ∷ peg_booking ∷ wait_supply ∷ wait_end ∷ link_end ∷ out_first_open ∷ none_out ∷ outs_front ∷ title_open ∷ title_end ∷ overloaded_open ∷ no_message ∷ risk_open ∷ risk_note ∷ none_at_risk ∷ risks_unknown ∷ risk_front ∷ risk_booking ∷ []
+plain = style ∷ todo_open ∷ nothing_to_do ∷ said_open ∷ said_close ∷ weeks_end ∷ points_end ∷ load_label ∷ capacity_label ∷ over_label ∷ grid_end ∷ centres_open ∷ section_end ∷ scheduled_label ∷ firm_label ∷ booked_label ∷ available_label ∷ gross_label ∷ planned_label ∷ starts_label ∷ balance_label ∷ orders_open ∷ pegs_open ∷ no_record ∷ history_open ∷ history_end ∷ page_end ∷ [] ∷ codes "<td>" ∷ codes "<td class=z>" ∷ codes "</td>" ∷ codes "</tr>\n" ∷ no_promises ∷ table_end ∷ rest_end ∷ refused_open ∷ none_refused ∷ refused_front ∷ refused_row ∷ refused_end ∷ todo_note ∷ task_row ∷ order_unknown ∷ late_front ∷ release_front ∷ in_front ∷ out_front ∷ cancel_front ∷ other_front ∷ summary_open ∷ main_open ∷ low_end ∷ hot_end ∷ above_end ∷ share_label ∷ later_open ∷ none_over ∷ over_front ∷ over_back ∷ codes "<td></td>" ∷ order_address ∷ task_middle ∷ items_open ∷ items_end ∷ index_open ∷ index_end ∷ lists_open ∷ waits_open ∷ peg_front ∷ peg_booking ∷ wait_supply ∷ wait_end ∷ link_end ∷ out_first_open ∷ none_out ∷ outs_front ∷ title_open ∷ title_end ∷ overloaded_open ∷ no_message ∷ risk_open ∷ risk_note ∷ none_at_risk ∷ risks_unknown ∷ risk_front ∷ risk_booking ∷ glance_open ∷ outs_head_end ∷ []
 
 -- the markup of a part
 abbrev pub marks_of : Drawn → List (List ℕ)
@@ -51,11 +51,11 @@ marks_of (Number column) = []
 
 -- the markup that what the tables add is drawn with
 unfoldable pub tables_layouts : List (List Drawn)
-tables_layouts = page_items ∷ facts_open ∷ facts_steps ∷ facts_end ∷ safety_line ∷ open_receipt ∷ work_open ∷ work_count ∷ work_head ∷ work_name ∷ work_operation ∷ work_share ∷ work_back ∷ work_rest ∷ []
+tables_layouts = page_items ∷ facts_open ∷ facts_steps ∷ facts_end ∷ safety_line ∷ open_receipt ∷ work_open ∷ work_count ∷ work_head ∷ work_name ∷ work_operation ∷ work_share ∷ work_back ∷ work_rest ∷ safety_scale ∷ said_receipt ∷ []
 
 -- markup that stands around it
 unfoldable pub tables_plain : List (List ℕ)
-tables_plain = week_end ∷ date_open ∷ date_end ∷ start_open ∷ start_end ∷ line_open ∷ work_note ∷ work_other ∷ work_blank ∷ work_table_end ∷ work_unknown ∷ work_end ∷ []
+tables_plain = week_end ∷ date_open ∷ date_end ∷ start_open ∷ start_end ∷ line_open ∷ work_note ∷ work_other ∷ work_blank ∷ work_table_end ∷ work_unknown ∷ work_end ∷ outs_safety ∷ []
 
 -- all markup that a page may have; it is the same for every day
 unfoldable pub own_words : List (List ℕ)

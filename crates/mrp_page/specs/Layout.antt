@@ -541,9 +541,11 @@ over_line =
     Text 0 ∷
     Mark (codes "</a>, week ") ∷
     Text 1 ∷
-    Mark (codes ": ") ∷
+    Mark (codes ": <span title=\"") ∷
+    Text 11 ∷
+    Mark (codes "\">") ∷
     Text 9 ∷
-    Mark (codes " min over</li>\n") ∷ []
+    Mark (codes "</span> min over</li>\n") ∷ []
 
 -- what the picture of balances ends with
 unfoldable pub points_end : List ℕ
@@ -745,9 +747,13 @@ waits_open = codes "<div class=scroll tabindex=0 role=region aria-label=\"What i
 unfoldable pub link_end : List ℕ
 link_end = codes "</a>"
 
+-- what the section *At a glance* begins with
+unfoldable pub glance_open : List ℕ
+glance_open = codes "<section id=glance>\n<h2>At a glance</h2>\n"
+
 -- what the section *Runs out first* begins with
 unfoldable pub out_first_open : List ℕ
-out_first_open = codes "<section id=out-first>\n<h2>Runs out first</h2>\n"
+out_first_open = codes "<section id=out-first>\n<h3>Runs out first</h3>\n"
 
 -- what stands there if no item runs out
 unfoldable pub none_out : List ℕ
@@ -762,9 +768,17 @@ outs_note =
 
 -- what the table of the items that run out first begins with
 unfoldable pub outs_front : List ℕ
-outs_front = codes "<table class=\"list even waits\" aria-label=\"Runs out first\"><thead><tr><th class=t scope=col>Item</th><th scope=col>Week</th><th scope=col>Left</th><th scope=col>Weeks late</th></tr></thead>\n<tbody>"
+outs_front = codes "<table class=\"list even waits\" aria-label=\"Runs out first\"><thead><tr><th class=t scope=col>Item</th><th scope=col>Week</th><th scope=col>Left</th>"
 
--- an item that runs out, after its name
+-- what its head has besides if the tables are given
+unfoldable pub outs_safety : List ℕ
+outs_safety = codes "<th scope=col>Safety stock</th>"
+
+-- what its head ends with
+unfoldable pub outs_head_end : List ℕ
+outs_head_end = codes "<th scope=col>Weeks late</th></tr></thead>\n<tbody>"
+
+-- an item that runs out, after its name: the week, and what is left
 unfoldable pub out_cells : List Drawn
 out_cells =
     Mark (codes "</th>") ∷
@@ -772,13 +786,17 @@ out_cells =
     Mark (codes "<td>") ∷
     Text 2 ∷
     Text 3 ∷
-    Mark (codes "</td>") ∷
+    Mark (codes "</td>") ∷ []
+
+-- how late the first planned order of such an item is
+unfoldable pub out_late : List Drawn
+out_late =
     Number 4 ∷
     Mark (codes "</tr>\n") ∷ []
 
 -- what comes between the head of a page and its parts: links to these
 unfoldable pub main_open : List ℕ
-main_open = codes "</p>\n</header>\n<nav><a href=\"#unkept\">Not promised</a><a href=\"#risk\">Promises at risk</a><a href=\"#todo\">To do</a><a href=\"#out-first\">Runs out first</a><a href=\"#centres\">Work centres</a><a href=\"#items\">Items</a><a href=\"#history\">History</a></nav>\n<main>\n"
+main_open = codes "</p>\n</header>\n<nav><a href=\"#unkept\">Not promised</a><a href=\"#risk\">Promises at risk</a><a href=\"#todo\">To do</a><a href=\"#glance\">At a glance</a><a href=\"#centres\">Work centres</a><a href=\"#items\">Items</a><a href=\"#history\">History</a></nav>\n<main>\n"
 
 -- the frame of the picture of loads, with the name and the weeks; The line is at 100 %
 unfoldable pub load_chart : List Drawn
@@ -791,12 +809,24 @@ load_chart =
     Text 0 ∷
     Mark (codes " as a share of its capacity, week by week</title><g transform=\"translate(-.4) scale(1 -1)\"><path class=load d=\"") ∷ []
 
+-- what the scale of the picture of balances begins with: the greatest number
+unfoldable pub balance_scale : List Drawn
+balance_scale =
+    Mark (codes "<div class=chart><p><span>") ∷
+    Text 2 ∷
+    Mark (codes "</span>") ∷ []
+
+-- what this scale says of a safety stock, given the pieces
+unfoldable pub safety_scale : List Drawn
+safety_scale =
+    Mark (codes "<span>dashes: safety stock ") ∷
+    Text 0 ∷
+    Mark (codes "</span>") ∷ []
+
 -- the frame of the picture of balances, with the name, the weeks and the greatest number
 unfoldable pub balance_chart : List Drawn
 balance_chart =
-    Mark (codes "<div class=chart><p><span>") ∷
-    Text 2 ∷
-    Mark (codes "</span><span>0</span></p><p class=axis><span>week 1</span><span>a line behind each thirteenth week</span><span>week ") ∷
+    Mark (codes "<span>0</span></p><p class=axis><span>week 1</span><span>a line behind each thirteenth week</span><span>week ") ∷
     Text 1 ∷
     Mark (codes "</span></p><svg role=\"img\" viewBox=\"0.5 -") ∷
     Text 2 ∷
@@ -897,7 +927,7 @@ title_end = codes "\">"
 
 -- what the most overloaded work centres begin with
 unfoldable pub overloaded_open : List ℕ
-overloaded_open = codes "<h3>Most overloaded</h3>\n"
+overloaded_open = codes "<section id=overloaded>\n<h3>Most overloaded work centres</h3>\n"
 
 -- what is said of such a work centre
 unfoldable pub overloaded_line : List Drawn
@@ -948,6 +978,10 @@ said_start =
 -- the week of any other order
 unfoldable pub said_week : List Drawn
 said_week = Mark (codes ", week ") ∷ Text 3 ∷ []
+
+-- the week of an open order, by its receipt
+unfoldable pub said_receipt : List Drawn
+said_receipt = Mark (codes ", week ") ∷ Text 1 ∷ []
 
 -- what the section *Promises at risk* begins with
 unfoldable pub risk_open : List ℕ
@@ -1006,9 +1040,11 @@ work_open =
     Text 0 ∷
     Mark (codes "</a>, week ") ∷
     Text 1 ∷
-    Mark (codes ": ") ∷
+    Mark (codes ": <span title=\"") ∷
+    Text 11 ∷
+    Mark (codes "\">") ∷
     Text 9 ∷
-    Mark (codes " min over; ") ∷ []
+    Mark (codes "</span> min over; ") ∷ []
 
 -- how many operations load it
 unfoldable pub work_count : List Drawn

@@ -1,5 +1,6 @@
 pub mod Amounts
 pub mod AtRisk
+pub mod Bars
 pub mod ByWord
 pub mod Centres
 pub mod Columns
@@ -12,6 +13,7 @@ pub mod Fits
 pub mod Folded
 pub mod Frame
 pub mod Html
+pub mod Ids
 pub mod ItemFacts
 pub mod ItemRows
 pub mod Items

@@ -1,11 +1,13 @@
 -- The section *Runs out first*: the items whose stock and placed orders are not enough.
 use Rattle.std.specs.Prelude.{ℕ, Bool, ◌-◌, ◌^◌, ◌==◌, ◌&&◌, nat_le, not, List, [], ◌∷◌, ◌++◌, Option, None, Some, codes, decimal, flat_map, length, map, take, if◌then◌else◌}
 use Rattle.std.specs.List.{filter, find}
+use Rattle.mrp_facts.specs.Facts.{Facts}
 use Rattle.mrp_page.specs.Amounts.{amount}
 use Rattle.mrp_page.specs.Draw.{has_none, item_name_html, more_html}
 use Rattle.mrp_page.specs.Frame.{count_row}
 use Rattle.mrp_page.specs.Html.{is_zero}
-use Rattle.mrp_page.specs.Layout.{none_out, out_cells, out_first_open, outs_front, outs_note, section_end, table_end, task_row}
+use Rattle.mrp_page.specs.ItemFacts.{safety_cell_html}
+use Rattle.mrp_page.specs.Layout.{none_out, out_cells, out_first_open, out_late, outs_front, outs_head_end, outs_note, outs_safety, section_end, table_end, task_row}
 use Rattle.mrp_page.specs.Row.{RowView, cell_at}
 use Rattle.mrp_page.specs.Rows.{leaders, rank, rows_named}
 use Rattle.mrp_page.specs.Scene.{SceneView}
@@ -62,15 +64,34 @@ falling_late out = 2 ^ 64 - 1 - rank (cell_at out 4)
 abbrev pub outs_first : SceneView → List RowView → List RowView
 outs_first scene plan = sorted_by week_rank (sorted_by falling_late (map (out_row scene) (short_weeks plan)))
 
--- an item that runs out
-unfoldable pub out_line : List RowView → RowView → List ℕ
-out_line shown out = task_row ++ (item_name_html shown (cell_at out 0) ++ row_html out_cells out)
+-- an item that runs out, with its safety stock if the tables are given
+unfoldable pub out_line : SceneView → RowView → List ℕ
+out_line scene out =
+    task_row
+    ++ (item_name_html scene.shown (cell_at out 0)
+    ++ (row_html out_cells out
+    ++ (safety_cell_html scene.tables (cell_at out 0)
+    ++ row_html out_late out)))
+
+-- the head of a column of safety stocks, if the tables are given
+abbrev pub safety_head : Option Facts → List ℕ
+safety_head None = []
+safety_head (Some facts) = outs_safety
+
+-- a table of items that run out
+unfoldable pub outs_table : SceneView → List RowView → List ℕ
+outs_table scene outs =
+    outs_front
+    ++ (safety_head scene.tables
+    ++ (outs_head_end
+    ++ (flat_map (out_line scene) outs
+    ++ table_end)))
 
 -- the items that run out first; if there are none, and all records are kept, that there are none
-unfoldable pub outs_html : List RowView → ℕ → List RowView → List ℕ
-outs_html shown missed outs =
+unfoldable pub outs_html : SceneView → ℕ → List RowView → List ℕ
+outs_html scene missed outs =
     if has_none outs && (missed == 0) then none_out
-    else row_html outs_note (count_row (length outs) [] []) ++ (outs_front ++ (flat_map (out_line shown) (take FEW_ROWS outs) ++ table_end))
+    else row_html outs_note (count_row (length outs) [] []) ++ outs_table scene (take FEW_ROWS outs)
 
 -- for how many more weeks there are records
 unfoldable pub outs_back : ℕ → List ℕ
@@ -82,5 +103,5 @@ outs_back missed =
 unfoldable pub outs_section : SceneView → List RowView → ℕ → List ℕ
 outs_section scene plan missed =
     out_first_open
-    ++ (outs_html scene.shown missed (outs_first scene plan)
+    ++ (outs_html scene missed (outs_first scene plan)
     ++ outs_back missed)

@@ -2,7 +2,7 @@
 use Rattle.std.specs.Prelude.{ℕ, ◌+◌, ◌*◌, ◌/◌, ◌-◌, ◌^◌, ◌==◌, min, List, [], ◌∷◌, ◌++◌, Option, None, Some, codes, count_by, decimal, flat_map, length, map, take, unwrap_or, if◌then◌else◌}
 use Rattle.std.specs.List.{fold}
 use Rattle.mrp_page.specs.Amounts.{amount}
-use Rattle.mrp_page.specs.Layout.{overloaded_line, overloaded_open}
+use Rattle.mrp_page.specs.Layout.{overloaded_line, overloaded_open, section_end}
 use Rattle.mrp_page.specs.Pictured.{centre_frame, picture_html}
 use Rattle.mrp_page.specs.Row.{RowView, cell_at}
 use Rattle.mrp_page.specs.Rows.{leaders, rows_named}
@@ -93,4 +93,4 @@ overloaded_html rows =
 -- the most overloaded work centres, if any is over its capacity
 unfoldable pub most_overloaded : List (List RowView) → List ℕ
 most_overloaded centres =
-    if length centres == 0 then [] else overloaded_open ++ flat_map overloaded_html (take MOST_OVERLOADED centres)
+    if length centres == 0 then [] else overloaded_open ++ (flat_map overloaded_html (take MOST_OVERLOADED centres) ++ section_end)

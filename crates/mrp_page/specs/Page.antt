@@ -8,9 +8,10 @@ use Rattle.mrp_page.specs.Frame.{heading}
 use Rattle.mrp_page.specs.ItemRows.{ItemLists, item_lists}
 use Rattle.mrp_page.specs.Items.{index_html, items_html}
 use Rattle.mrp_page.specs.Kinds.{todo_html}
-use Rattle.mrp_page.specs.Layout.{page_end, page_head, page_items, page_top, style}
+use Rattle.mrp_page.specs.Layout.{glance_open, page_end, page_head, page_items, page_top, section_end, style}
 use Rattle.mrp_page.specs.Notes.{Noted}
 use Rattle.mrp_page.specs.Outs.{outs_section}
+use Rattle.mrp_page.specs.Overloaded.{most_overloaded, overloaded_first}
 use Rattle.mrp_page.specs.AtRisk.{RisksView}
 use Rattle.mrp_page.specs.Promises.{AreRisksOf, risks_html}
 use Rattle.mrp_page.specs.Refused.{refused_section}
@@ -65,20 +66,25 @@ rest_html scene rows counts = items_of scene rows counts ++ (history_html scene.
 unfoldable pub top_html : List ℕ → Option Facts → List RowView → ℕ → List ℕ
 top_html title tables report items = head_html tables (heading title report items)
 
--- the items that run out first, and the work centres
-unfoldable pub middle_html : SceneView → List RowView → Counts → List ℕ
-middle_html scene report counts = outs_section scene (rows_in s.Plan report) counts.plan ++ load_section scene (rows_in s.Loads report) counts.loads
+-- what stands at a glance: the items that run out first, and the work centres that are most over their capacity
+unfoldable pub glance_html : SceneView → List RowView → ℕ → List ℕ
+glance_html scene report missed =
+    glance_open
+    ++ (outs_section scene (rows_in s.Plan report) missed
+    ++ (most_overloaded (overloaded_first (rows_in s.Loads report))
+    ++ section_end))
 
 -- a page, from what its parts are drawn from
 unfoldable pub page_of : List ℕ → Noted → SceneView → RisksView → List ℕ
 page_of title notes scene risks =
     top_html title scene.tables notes.report notes.counts.items
     ++ (summary_html notes.history (rows_in s.Messages notes.report) (rows_in s.Loads notes.report) risks
+    ++ (glance_html scene notes.report notes.counts.plan
     ++ (refused_section scene.shown notes.history notes.counts.history
     ++ (risks_html scene risks
     ++ (todo_html scene (rows_in s.Messages notes.report) notes.counts.messages
-    ++ (middle_html scene notes.report notes.counts
-    ++ rest_html scene (item_lists notes.report) notes.counts)))))
+    ++ (load_section scene (rows_in s.Loads notes.report) notes.counts.loads
+    ++ rest_html scene (item_lists notes.report) notes.counts))))))
 
 -- what a page is drawn from
 abbrev pub scene_in : Option Facts → Noted → SceneView

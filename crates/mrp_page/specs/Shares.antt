@@ -56,19 +56,19 @@ share_mark share = if nat_le share 100 then [] else codes "bad"
 abbrev pub drawn_share : RowView → List ℕ → List ℕ → List ℕ → List ℕ → List ℕ → List ℕ → List ℕ → RowView
 drawn_share load percent shown low hot above cut mark = record {
   section = s.Run;
-  cells = cell_at load 0 ∷ cell_at load 1 ∷ percent ∷ codes " %" ∷ shown ∷ low ∷ hot ∷ above ∷ cut ∷ whole (cell_at load 4) ∷ mark ∷ [];
+  cells = cell_at load 0 ∷ cell_at load 1 ∷ percent ∷ codes " %" ∷ shown ∷ low ∷ hot ∷ above ∷ cut ∷ whole (cell_at load 4) ∷ mark ∷ cell_at load 4 ∷ [];
 }
 
 -- how a week of a work centre is drawn: its centre, its week, its share and the sign of that, the share if it is not 0, the
 -- heights of its bar up to 100 if that is all of it, else up to 100, and from there to 200, that of the mark of a bar which is
--- cut, the whole minutes that are over, and a mark if the share is above 100
+-- cut, the whole minutes that are over, a mark if the share is above 100, and all minutes that are over
 abbrev pub share_cells : RowView → Option ℕ → Cells
 share_cells load None =
-    cell_at load 0 ∷ cell_at load 1 ∷ codes "no capacity" ∷ [] ∷ codes "none" ∷ codes "0" ∷ codes "100" ∷ codes "100" ∷ codes "20" ∷ whole (cell_at load 4) ∷ codes "bad" ∷ []
+    cell_at load 0 ∷ cell_at load 1 ∷ codes "no capacity" ∷ [] ∷ codes "none" ∷ codes "0" ∷ codes "100" ∷ codes "100" ∷ codes "20" ∷ whole (cell_at load 4) ∷ codes "bad" ∷ cell_at load 4 ∷ []
 share_cells load (Some share) =
     cell_at load 0 ∷ cell_at load 1 ∷ decimal share ∷ codes " %" ∷ shown_share share (decimal share) ∷ decimal (if nat_le share 100 then share else 0)
     ∷ hot_height share ∷ decimal (min share 200 - 100) ∷ cut_height share ∷ whole (cell_at load 4)
-    ∷ share_mark share ∷ []
+    ∷ share_mark share ∷ cell_at load 4 ∷ []
 
 abbrev pub share_row : RowView → RowView
 share_row load = record { section = s.Run; cells = share_cells load (share_of load) }

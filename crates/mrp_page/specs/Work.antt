@@ -1,5 +1,5 @@
 -- The operations that load overloads, by the tables of the day and the orders that are kept.
-use Rattle.std.specs.Prelude.{ℕ, List, Option, None, Some, flat_map, length, map, option_map}
+use Rattle.std.specs.Prelude.{ℕ, List, Option, None, Some, flat_map, length, option_map}
 use Rattle.std.specs.List.{position, range_with_len}
 use Rattle.std.specs.Option.{option_to_list}
 use Rattle.mrp_cal.specs.DateText.{◌>>=◌}

@@ -20,7 +20,6 @@ use crate::layout::{
     share_cell, share_label, work_note,
 };
 use crate::limits::{MOST_EXPLAINED, SOME_ROWS};
-use crate::overloaded::{overloaded_first, put_most_overloaded};
 use crate::pictured::{centre_frame, put_picture};
 use crate::places::Places;
 use crate::row::Row;
@@ -311,10 +310,8 @@ pub(crate) fn put_centres(
     ensures { OnOk result (page.new ≡ page.old ++ load_section scene.now loads.now missed) }
 {
     let places = Places::of(alloc, loads)?;
-    let most = overloaded_first(alloc, &places)?;
     let centres = leaders(alloc, loads)?;
     page.markup(centres_open())?;
-    put_most_overloaded(alloc, page, most.as_slice())?;
     put_overloads(alloc, page, scene, loads, missed)?;
     put_each_centre(alloc, page, scene.tables(), &places, centres.as_slice())?;
     put_centres_back(alloc, page, missed)

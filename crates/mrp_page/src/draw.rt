@@ -10,11 +10,11 @@ ghost use Rattle.mrp_page.specs.Template.{drawn_of};
 use crate::counts::Counts;
 use crate::frame::{count_row, frame_of};
 use crate::html::{Html, is_zero};
-use crate::item_facts::put_safety;
+use crate::item_facts::{put_safety, put_scale};
 use crate::item_rows::ItemRows;
 use crate::layout::{
-    available_label, balance_chart, balance_label, booked_label, entry, firm_label, grid_end,
-    gross_label, history_end, history_open, later_open, line_open, link_end, link_middle,
+    available_label, balance_chart, balance_label, balance_scale, booked_label, entry, firm_label,
+    grid_end, gross_label, history_end, history_open, later_open, line_open, link_end, link_middle,
     link_open, more, no_promises, no_record, planned_label, point, points_end, record_head,
     rest_end, scheduled_label, starts_label,
 };
@@ -197,6 +197,8 @@ fn put_balance(
 ) -> Result<(), NoMemory>
     ensures { OnOk result (page.new ≡ page.old ++ balance_html (option_copied tables.entry) frame.now plan.now) }
 {
+    put_row(page, balance_scale(), frame)?;
+    put_scale(alloc, page, tables, frame)?;
     put_row(page, balance_chart(), frame)?;
     put_safety(alloc, page, tables, frame)?;
     page.markup(line_open())?;

@@ -1,11 +1,11 @@
 //! What the tables say of an item: its master data, its stock on hand, and its safety stock in a picture.
 
-ghost use Rattle.std.specs.Prelude.{◌≡◌, ◌++◌, IfOk, OnOk, string_bytes};
+ghost use Rattle.std.specs.Prelude.{◌≡◌, ◌++◌, IfOk, OnOk, Some, string_bytes};
 ghost use Rattle.std.specs.Option.{option_copied};
-ghost use Rattle.mrp_page.specs.ItemFacts.{class_word, facts_html, facts_row, item_facts_html, lot_word, own_facts, own_facts_html, own_safety_html, safety_html, safety_line_html, size_text, steps_html, unit_word};
+ghost use Rattle.mrp_page.specs.ItemFacts.{class_word, facts_html, facts_row, item_facts_html, lot_word, own_facts, own_facts_html, own_safety_html, own_scale_html, safety_cell_html, safety_cell_or_none, safety_html, safety_line_html, safety_scale_html, scale_html, size_text, steps_html, unit_word};
 
 use crate::html::Html;
-use crate::layout::{facts_end, facts_open, facts_steps, safety_line};
+use crate::layout::{facts_end, facts_open, facts_steps, safety_line, safety_scale};
 use crate::row::Row;
 use crate::template::put_row;
 use csv::ByteRecord;
@@ -192,6 +192,79 @@ pub(crate) fn put_safety(
 {
     match own_facts(tables, frame.name()) {
         Some(own) => put_own_safety(alloc, page, &own, frame),
+        None => Ok(()),
+    }
+}
+
+// Adds what the scale of a picture says of a safety stock.
+fn put_safety_scale(alloc: Global, page: &mut Html, pieces: u64) -> Result<(), NoMemory>
+    ensures { OnOk result (page.new ≡ page.old ++ safety_scale_html pieces) }
+{
+    let digits = number_text(alloc, pieces)?;
+    let cells = ByteRecord::from_fields(alloc, &[digits.as_bytes()])?;
+    put_row(page, safety_scale(), &Row::new(Section::Run, cells))
+}
+
+// Adds what the scale of a picture says of an item's safety stock, if it has one.
+fn put_own_scale(alloc: Global, page: &mut Html, own: &ItemFacts) -> Result<(), NoMemory>
+    ensures { OnOk result (page.new ≡ page.old ++ own_scale_html own.now) }
+{
+    let pieces = own.item.safety.value();
+    if pieces == 0 {
+        return Ok(());
+    }
+    put_safety_scale(alloc, page, pieces)
+}
+
+// Adds what the scale of a picture says of the safety stock of the item of a frame, if the tables have one.
+pub(crate) fn put_scale(
+    alloc: Global,
+    page: &mut Html,
+    tables: Option<&Facts<'_>>,
+    frame: &Row,
+) -> Result<(), NoMemory>
+    ensures { OnOk result (page.new ≡ page.old ++ scale_html (option_copied tables.entry) frame.now) }
+{
+    match own_facts(tables, frame.name()) {
+        Some(own) => put_own_scale(alloc, page, &own),
+        None => Ok(()),
+    }
+}
+
+// Adds a cell with an item's safety stock.
+fn put_safety_of(alloc: Global, page: &mut Html, own: &ItemFacts) -> Result<(), NoMemory>
+    ensures { OnOk result (page.new ≡ page.old ++ safety_cell_or_none (Some own.now)) }
+{
+    let digits = number_text(alloc, own.item.safety.value())?;
+    page.number(digits.as_bytes())
+}
+
+// Adds a cell with the safety stock of an item of the tables.
+fn put_own_safety_cell(
+    alloc: Global,
+    page: &mut Html,
+    facts: &Facts<'_>,
+    name: &[u8],
+) -> Result<(), NoMemory>
+    ensures { OnOk result (page.new ≡ page.old ++ safety_cell_html (Some facts.now) name.now) }
+{
+    match facts.item(name) {
+        Some(own) => put_safety_of(alloc, page, &own),
+        None => page.markup(b"<td></td>"),
+    }
+}
+
+// Adds a cell with an item's safety stock if the tables are given.
+pub(crate) fn put_safety_cell(
+    alloc: Global,
+    page: &mut Html,
+    tables: Option<&Facts<'_>>,
+    name: &[u8],
+) -> Result<(), NoMemory>
+    ensures { OnOk result (page.new ≡ page.old ++ safety_cell_html (option_copied tables.entry) name.now) }
+{
+    match tables {
+        Some(facts) => put_own_safety_cell(alloc, page, facts, name),
         None => Ok(()),
     }
 }

@@ -1,7 +1,8 @@
 //! What follows from the definitions alone, each law the contract of a function that does nothing.
 
-ghost use Rattle.std.specs.Prelude.{◌≡◌, ◌++◌, ◌+◌, ◌-◌, ◌^◌, ◌&&◌, ◌⊎◌, ◌<◌, ◌≤◌, ℕ, All, Contains, IsPermutation, List, Option, Some, false, [], ◌∷◌, codes, count_by, decimal, drop, filter, find, flat_map, length, slice_index_or, take, ◌*◌, Bool, None, true, min, map, sum_by, ◌↔◌, IsTrue, is_some};
-ghost use Rattle.mrp_page.specs.Centres.{all_loads, explained_note, later_loads, loads_html, loads_table, over_listing, over_or_none, shares_html, times_html};
+ghost use Rattle.std.specs.Prelude.{◌≡◌, ◌≢◌, ◌++◌, ◌+◌, ◌-◌, ◌^◌, ◌&&◌, ◌⊎◌, ◌<◌, ◌≤◌, ℕ, All, Contains, IsPermutation, List, Option, Some, false, [], ◌∷◌, codes, count_by, decimal, drop, filter, find, flat_map, length, slice_index_or, take, ◌*◌, Bool, None, true, min, map, sum_by, ◌↔◌, IsTrue, is_some};
+ghost use Rattle.mrp_page.specs.Bars.{HasTimes};
+ghost use Rattle.mrp_page.specs.Centres.{all_loads, centre_html, explained_note, later_loads, loads_html, loads_table, over_listing, over_or_none, shares_html, times_html};
 ghost use Rattle.mrp_page.specs.Overloaded.{most_overloaded, name_of, overloaded_first, overloaded_html, overloaded_row, rate, rate_of, share_of_all, total, weeks_of, worst_week};
 ghost use Rattle.mrp_page.specs.Pictured.{bars_html, centre_frame, picture_html};
 ghost use Rattle.mrp_page.specs.Shares.{falling_share, minutes_html, overloads_first, share, share_of, share_row, week_rank};
@@ -22,13 +23,15 @@ ghost use Rattle.mrp_page.specs.Counted.{kept_of, missed_of, wanted_rows};
 ghost use Rattle.mrp_page.specs.Draw.{all_weeks, amounts_html, balance_html, booked_html, framed_record, has_item, is_plain, is_scheduled, item_name_html, later_record, link_html, measure_html, more_html, named_record, planned_html, points_html, promised_html, record_or_none, record_rows, record_table, supplies_html};
 ghost use Rattle.mrp_page.specs.Escaped.{escaped};
 ghost use Rattle.mrp_page.specs.Folded.{Listing, capped_html, folded_html, hidden_html, listed_html};
+ghost use Rattle.mrp_page.specs.Ids.{AreApart, AreNamed, IsPartOf, centre_id, centres_shown, entry_id, item_id, order_id, order_numbers, page_ids, section_ids};
+ghost use Rattle.mrp_page.specs.ItemFacts.{safety_cell_html, scale_html};
 ghost use Rattle.mrp_page.specs.ItemRows.{ItemLists, item_lists};
 ghost use Rattle.mrp_page.specs.Known.{IsKnown, IsMadeOf, IsOrderShown, entries_kept, names_shown};
 ghost use Rattle.mrp_page.specs.Labels.{AreFirm};
 ghost use Rattle.mrp_page.specs.Laws.{piece_html, pieces, shown};
 ghost use Rattle.mrp_page.specs.Layout.{above_bar, above_end, available_label, balance_label, booked_label, capacity_label, cut_bar, firm_label, grid_end, gross_label, hot_bar, hot_end, later_open, lists_open, load_label, low_bar, low_end, none_refused, order, order_start, order_week, orders_open, over_label, over_open, overloaded_line, overloaded_open, peg_parent, pegs_open, planned_label, points_end, refused_answer, refused_open, rest_end, scheduled_label, section_end, starts_label, task_middle, task_row, task_supply, waits_open, week, week_end, weeks_end, none_at_risk, risk_note, risk_open, risks_unknown, said_pieces, work_back, work_blank, work_head, work_operation, work_other, work_rest, work_share, work_table_end, work_unknown};
 ghost use Rattle.mrp_page.specs.Frame.{count_row};
-ghost use Rattle.mrp_page.specs.Kinds.{Kind, cancel, earlier, kind_html, kind_part, kinds, kinds_html, late, later, messages_of, open_count, open_html, order_of, other_messages, other_part, release, task_line, value_rank};
+ghost use Rattle.mrp_page.specs.Kinds.{Kind, cancel, earlier, kind_html, kind_part, kinds, kinds_html, late, later, messages_of, open_count, open_html, order_of, other_messages, other_part, release, state_of, task_line, value_rank};
 ghost use Rattle.std.specs.List.Sorted.{IsNonDecreasingBy};
 ghost use Rattle.mrp_page.specs.Rows.{leaders, rank};
 ghost use Rattle.mrp_page.specs.Notes.{Noted, notes_of};
@@ -40,7 +43,8 @@ ghost use Rattle.std.specs.Int.{IsInRange};
 ghost use Rattle.jiff.specs.Types.{Date};
 ghost use Rattle.mrp_cal.specs.Calendar.{IsShopCalendar, week_of};
 ghost use Rattle.mrp_facts.specs.Dates.{AreDates, date_text, has_years};
-ghost use Rattle.mrp_facts.specs.Facts.{Facts, open_order};
+ghost use Rattle.mrp_facts.specs.Facts.{Facts, item_facts, open_order};
+ghost use Rattle.mrp_facts.specs.declared.facts.ItemFacts.{ItemFacts};
 ghost use Rattle.mrp_page.specs.Weeks.{date_html, week_html, weeks_html};
 ghost use Rattle.mrp_page.specs.Work.{WorkView, centre_named, work_orders, works_of};
 ghost use Rattle.mrp_page.specs.Explained.{falling_time, left_html, more_works_html, order_name_html, order_work, time_html, time_share_row, work_line, works_first, works_or_none, works_table};
@@ -59,7 +63,7 @@ ghost use Rattle.mrp_page.specs.Rows.{rows_in, rows_named};
 ghost use Rattle.mrp_page.specs.Section.{place_of};
 ghost use Rattle.mrp_page.specs.Shown.{IsByItems, items_of_plan, items_to_show, rows_of, run_shown};
 ghost use Rattle.mrp_page.specs.Spot.{Names};
-ghost use Rattle.mrp_page.specs.Summary.{count_with, is_over, is_undone, summary_html, tile_html};
+ghost use Rattle.mrp_page.specs.Summary.{count_with, is_over, is_undone, place_or, summary_html, tile_html};
 ghost use Rattle.mrp_page.specs.Template.{Drawn, has_word, number_at, row_html};
 ghost use Rattle.mrp_page.specs.Said.{back_of, by_urgency, front_of, is_release, item_messages, messages_at, pieces_row, said_html, said_known, said_of_open, said_order};
 ghost use Rattle.mrp_page.specs.Todo.{value_of_message, word_of};
@@ -138,7 +142,7 @@ pub fn weeks_stand_with_their_dates()
 
 /// The picture of loads is drawn week by week: a bar as high as the share of the capacity, up to 200 %, with
 /// another colour where the share is above 100 %, and a mark where the bar is cut. The picture of balances is
-/// a line from week to week.
+/// a line from week to week, whose scale names the item's safety stock if it has one.
 pub fn pictures_are_drawn_from_their_columns()
     ensures loads { (shares : List RowView) → bars_html shares ≡ (flat_map (row_html low_bar) shares ++ low_end) ++ ((flat_map (row_html hot_bar) shares ++ hot_end) ++ ((flat_map (row_html above_bar) shares ++ above_end) ++ flat_map (row_html cut_bar) shares)) }
     ensures low { (load : RowView) (percent : ℕ) → share_of load ≡ Some percent → percent ≤ 100 → row_html low_bar (share_row load) ≡ codes "M" ++ (escaped (cell_at load 1) ++ (codes " 0v" ++ (escaped (decimal percent) ++ (codes "h.8V0z" ++ [])))) }
@@ -146,7 +150,21 @@ pub fn pictures_are_drawn_from_their_columns()
     ensures above { (load : RowView) (percent : ℕ) → share_of load ≡ Some percent → 100 < percent → row_html above_bar (share_row load) ≡ codes "M" ++ (escaped (cell_at load 1) ++ (codes " 100v" ++ (escaped (decimal (min percent 200 - 100)) ++ (codes "h.8V100z" ++ [])))) }
     ensures cut { (load : RowView) (percent : ℕ) → share_of load ≡ Some percent → 200 < percent → row_html cut_bar (share_row load) ≡ codes "M" ++ (escaped (cell_at load 1) ++ (codes " 204h.8l-.4 " ++ (escaped (codes "20") ++ (codes "z" ++ [])))) }
     ensures uncut { (load : RowView) (percent : ℕ) → share_of load ≡ Some percent → percent ≤ 200 → row_html cut_bar (share_row load) ≡ codes "M" ++ (escaped (cell_at load 1) ++ (codes " 204h.8l-.4 " ++ (escaped (codes "0") ++ (codes "z" ++ [])))) }
+    ensures safety { (facts : Facts) (frame : RowView) (own : ItemFacts) → item_facts facts.tables (cell_at frame 0) ≡ Some own → 0 < own.item.safety → scale_html (Some facts) frame ≡ codes "<span>dashes: safety stock " ++ (escaped (decimal own.item.safety) ++ (codes "</span>" ++ [])) }
     ensures balances { (rows : List RowView) → points_html rows ≡ flat_map drawn_balance rows ++ points_end }
+{}
+
+/// Each bar of a work centre's picture is drawn from the load and the capacity of its own week: up to 200 %, and in full if
+/// there is no capacity. Where what is over is the load less the capacity, as in each plan, a bar is red above 100 % exactly if
+/// the day says that minutes are over, which they are exactly if the load is above the capacity.
+pub fn bars_are_of_their_weeks()
+    ensures centre { (tables : Option Facts) (loads : List RowView) (leader : RowView) → (front : List ℕ) × (back : List ℕ) × (centre_html tables loads leader ≡ front ++ (bars_html (map share_row (rows_named (cell_at leader 0) loads)) ++ back)) }
+    ensures week { (load : RowView) → cell_at (share_row load) 1 ≡ cell_at load (column section.Loads (codes "week")) }
+    ensures full { (load : RowView) → share_of load ≡ None → (row_html low_bar (share_row load) ≡ codes "M" ++ (escaped (cell_at load 1) ++ (codes " 0v" ++ (escaped (codes "0") ++ (codes "h.8V0z" ++ []))))) × ((row_html hot_bar (share_row load) ≡ codes "M" ++ (escaped (cell_at load 1) ++ (codes " 0v" ++ (escaped (codes "100") ++ (codes "h.8V0z" ++ []))))) × ((row_html above_bar (share_row load) ≡ codes "M" ++ (escaped (cell_at load 1) ++ (codes " 100v" ++ (escaped (codes "100") ++ (codes "h.8V100z" ++ []))))) × (row_html cut_bar (share_row load) ≡ codes "M" ++ (escaped (cell_at load 1) ++ (codes " 204h.8l-.4 " ++ (escaped (codes "20") ++ (codes "z" ++ []))))))) }
+    ensures over { (row : RowView) (load capacity : ℕ) → HasTimes row load capacity → capacity < load → is_over row ≡ true }
+    ensures within { (row : RowView) (load capacity : ℕ) → HasTimes row load capacity → load ≤ capacity → is_over row ≡ false }
+    ensures red { (row : RowView) (load capacity : ℕ) → HasTimes row load capacity → is_over row ≡ true → row_html hot_bar (share_row row) ≡ codes "M" ++ (escaped (cell_at row 1) ++ (codes " 0v" ++ (escaped (codes "100") ++ (codes "h.8V0z" ++ [])))) }
+    ensures blue { (row : RowView) (load capacity : ℕ) → HasTimes row load capacity → is_over row ≡ false → row_html hot_bar (share_row row) ≡ codes "M" ++ (escaped (cell_at row 1) ++ (codes " 0v" ++ (escaped (codes "0") ++ (codes "h.8V0z" ++ [])))) }
 {}
 
 /// A share of a capacity is its load in per cent, rounded up. It is above 100 % exactly if the load is above
@@ -195,7 +213,7 @@ pub fn overloaded_centres_stand_in_order()
     ensures exact { (over capacity : ℕ) → 0 < capacity → (rate over capacity * capacity ≤ over * RATE_UNIT) × (over * RATE_UNIT < capacity * (rate over capacity + 1)) }
     ensures without { (over other capacity : ℕ) → other ≤ MOST_AMOUNT → rate other capacity ≤ rate over 0 }
     ensures total { (column : ℕ) (rows : List RowView) → total column rows ≡ min (sum_by (λ r. amount (cell_at r column)) rows) MOST_AMOUNT }
-    ensures shown { (rows : List RowView) (centres : List (List RowView)) → most_overloaded (rows ∷ centres) ≡ overloaded_open ++ flat_map overloaded_html (take 3 (rows ∷ centres)) }
+    ensures shown { (rows : List RowView) (centres : List (List RowView)) → most_overloaded (rows ∷ centres) ≡ overloaded_open ++ (flat_map overloaded_html (take 3 (rows ∷ centres)) ++ section_end) }
 {}
 
 /// What is said of an overloaded work centre: in how many of its weeks it is over its capacity, the greatest share and
@@ -209,10 +227,11 @@ pub fn overloaded_centres_have_their_shares()
 {}
 
 /// The items that run out stand by week: each once, at the first week in which orders are planned to be
-/// received, with its balance less those.
+/// received, with its balance less those, and with its safety stock if the tables are given.
 pub fn items_run_out_in_order()
     ensures once { (scene : SceneView) (plan : List RowView) → IsPermutation (map (out_row scene) (leaders [] (filter is_planned plan))) (outs_first scene plan) }
     ensures order { (scene : SceneView) (plan : List RowView) → IsNonDecreasingBy week_rank (outs_first scene plan) }
+    ensures safety { (facts : Facts) (name : List ℕ) (own : ItemFacts) → item_facts facts.tables name ≡ Some own → safety_cell_html (Some facts) name ≡ number_html (decimal own.item.safety) }
     ensures over { (balance planned : ℕ) → planned ≤ balance → (sign balance planned ≡ []) × (distance balance planned ≡ balance - planned) }
     ensures short { (balance planned : ℕ) → balance < planned → (sign balance planned ≡ codes "-") × (distance balance planned ≡ planned - balance) }
 {}
@@ -278,13 +297,14 @@ pub fn messages_stand_under_their_words()
 {}
 
 /// Between its term and its value the sentence of a message names its order, with the order's pieces and weeks: the start
-/// and the due week of an order to be released, the due week of any other. Of an open order it has the pieces of
-/// its pegs, if all pegs are kept.
+/// and the due week of an order to be released, the due week of any other. Of an open order it has the pieces and the
+/// week of its receipt, or without one the pieces of its pegs, if all pegs are kept.
 pub fn sentences_have_their_orders()
     ensures sentence { (scene : SceneView) (message : RowView) → said_html scene message ≡ row_html (front_of message) message ++ (linked_html scene (order_of scene message) (row_html task_supply message) ++ (said_known scene message (order_of scene message) ++ row_html (back_of message) message)) }
     ensures released { (message order : RowView) → is_release message ≡ true → said_order message order ≡ row_html said_pieces (pieces_row (cell_at order (column section.Orders (codes "quantity")))) ++ (codes ", start " ++ (escaped (cell_at order (column section.Orders (codes "start"))) ++ (codes ", due week " ++ (escaped (cell_at order (column section.Orders (codes "due"))) ++ [])))) }
     ensures moved { (message order : RowView) → is_release message ≡ false → said_order message order ≡ row_html said_pieces (pieces_row (cell_at order (column section.Orders (codes "quantity")))) ++ (codes ", week " ++ (escaped (cell_at order (column section.Orders (codes "due"))) ++ [])) }
     ensures open_order { (scene : SceneView) (message : RowView) → scene.whole ≡ true → cell_at message (column section.Messages (codes "supply")) ≡ codes "open" → said_of_open scene message ≡ row_html said_pieces (pieces_row (decimal (open_count scene message))) }
+    ensures received { (scene : SceneView) (message : RowView) (receipt : Receipt) → receipt_of scene.tables message ≡ Some receipt → said_known scene message None ≡ row_html said_pieces (pieces_row (decimal receipt.quantity)) ++ (codes ", week " ++ (escaped (decimal receipt.week) ++ [])) }
     ensures pieces { (pieces : List ℕ) → row_html said_pieces (pieces_row pieces) ≡ codes ", " ++ (escaped pieces ++ (escaped (cell_at (pieces_row pieces) 1) ++ [])) }
 {}
 
@@ -297,6 +317,33 @@ pub fn links_lead_to_items()
     ensures order { (row : RowView) → (rest : List ℕ) × (row_html order row ≡ codes "<tr id=\"o-" ++ (escaped (cell_at row 1) ++ (codes "-" ++ (escaped (cell_at row 0) ++ (codes "\">" ++ rest))))) }
     ensures orders { (rows : List RowView) → orders_html rows ≡ orders_open ++ (flat_map (row_html order) rows ++ grid_end) }
     ensures lists { (scene : SceneView) (name : List ℕ) → (rest : List ℕ) × (item_lists_html scene name ≡ lists_open ++ (orders_html (rows_named name scene.orders) ++ rest)) }
+{}
+
+/// The ids of a page differ from one another, if what is kept of the day can be told apart, as in each plan. The items that are
+/// shown differ in each day in which the rows of an item stand together.
+pub fn ids_differ()
+    ensures ids { (notes : Noted) → AreNamed notes → AreApart (page_ids notes) }
+    ensures items { (items : Names) (asked : Option ℕ) (records : List Cells) (notes : Noted) → IsDayOf items asked records notes → IsByItems records → AreApart (names_shown notes) }
+{}
+
+/// Where a link of a page leads, there is a part with that id: each section, each item that is shown, each order of one, each
+/// entry that is kept of the history, each work centre that a row of the loads names, and each kind of messages that has some. A
+/// count of a kind leads to it, or to *To do* if it has none.
+pub fn links_lead_to_ids()
+    ensures sections { (title : List ℕ) (tables : Option Facts) (notes : Noted) (risks : RisksView) → All (λ id. IsPartOf (codes "<section id=" ++ (id ++ codes ">")) (page_html title tables notes risks)) section_ids }
+    ensures item { (title : List ℕ) (tables : Option Facts) (notes : Noted) (risks : RisksView) (name : List ℕ) → Contains (names_shown notes) name → IsPartOf (codes "<section class=item id=\"" ++ (item_id name ++ codes "\">")) (page_html title tables notes risks) }
+    ensures order { (title : List ℕ) (tables : Option Facts) (notes : Noted) (risks : RisksView) (number name : List ℕ) → Contains (names_shown notes) name → Contains (order_numbers notes name) number → IsPartOf (codes "<tr id=\"" ++ (order_id number name ++ codes "\">")) (page_html title tables notes risks) }
+    ensures entry { (title : List ℕ) (tables : Option Facts) (notes : Noted) (risks : RisksView) (number : List ℕ) → Contains (entries_kept notes) number → IsPartOf (codes "<tr id=\"" ++ (entry_id number ++ codes "\">")) (page_html title tables notes risks) }
+    ensures centre { (title : List ℕ) (tables : Option Facts) (notes : Noted) (risks : RisksView) (name : List ℕ) → Contains (centres_shown notes) name → IsPartOf (codes "<section class=centre id=\"" ++ (centre_id name ++ codes "\">")) (page_html title tables notes risks) }
+    ensures load { (notes : Noted) (load : RowView) → Contains (rows_in section.Loads notes.report) load → cell_at load 0 ≢ [] → Contains (centres_shown notes) (cell_at load 0) }
+    ensures kind { (title : List ℕ) (tables : Option Facts) (notes : Noted) (risks : RisksView) (kind : Kind) (r : RowView) (rows : List RowView) → Contains kinds kind → messages_of (rows_in section.Messages notes.report) kind ≡ r ∷ rows → IsPartOf (row_html kind.head (count_row (length (r ∷ rows)) (state_of (rows_in section.Messages notes.report)) (state_of (rows_in section.Messages notes.report)))) (page_html title tables notes risks) }
+    ensures past_due { (n : ℕ) (state : List ℕ) → (rest : List ℕ) × (row_html late.head (count_row n state state) ≡ codes "<details class=\"kind late\" id=late" ++ rest) }
+    ensures release { (n : ℕ) (state : List ℕ) → (rest : List ℕ) × (row_html release.head (count_row n state state) ≡ codes "<details class=\"kind release\" id=release" ++ rest) }
+    ensures earlier { (n : ℕ) (state : List ℕ) → (rest : List ℕ) × (row_html earlier.head (count_row n state state) ≡ codes "<details class=\"kind in\" id=in" ++ rest) }
+    ensures later { (n : ℕ) (state : List ℕ) → (rest : List ℕ) × (row_html later.head (count_row n state state) ≡ codes "<details class=\"kind out\" id=out" ++ rest) }
+    ensures cancel { (n : ℕ) (state : List ℕ) → (rest : List ℕ) × (row_html cancel.head (count_row n state state) ≡ codes "<details class=\"kind cancel\" id=cancel" ++ rest) }
+    ensures none { (place : List ℕ) → place_or 0 place ≡ codes "todo" }
+    ensures some { (count : ℕ) (place : List ℕ) → 0 < count → place_or count place ≡ place }
 {}
 
 /// Each peg of an item stands once under *Where it goes*. A peg to an order of a parent leads to that order,

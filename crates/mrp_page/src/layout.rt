@@ -2,7 +2,7 @@
 
 ghost use Rattle.std.specs.Prelude.{◌≡◌, map};
 ghost use Rattle.mrp_page.specs.Template.{drawn_of};
-ghost use Rattle.mrp_page.specs.Layout.{above_bar, above_end, available_label, balance_chart, balance_label, booked_label, cancel_front, cancel_open, capacity_label, centre_head, centre_open, centre_tile, centres_open, cut_bar, entry, entry_link_open, firm_label, grid_end, gross_label, history_end, history_open, hot_bar, hot_end, in_front, in_open, index_count, index_end, index_open, item_head, items_end, items_open, late_front, late_open, later_open, link_end, link_middle, link_open, lists_open, load_chart, load_end, load_label, low_bar, low_end, main_open, more, no_promises, no_record, none_out, none_over, none_refused, nothing_to_do, open_pieces, order, order_address, order_start, order_unknown, order_week, orders_open, other_cells, other_front, other_open, out_cells, out_first_open, out_front, out_open, outs_front, outs_note, over_back, over_front, over_label, over_line, over_open, overloaded_line, overloaded_open, page_end, page_head, page_top, peg_back, peg_booking, peg_front, peg_middle, peg_need, peg_parent, peg_supply, pegs_open, planned_label, point, points_end, record_head, refused_answer, refused_asked, refused_desk, refused_end, refused_front, refused_open, refused_row, release_front, release_open, rest_end, rest_open, row_end, scheduled_label, section_end, share_cell, share_label, starts_label, style, summary_open, summary_tile, table_end, task_middle, task_row, task_supply, title_end, title_open, to_week, todo_note, todo_open, wait_end, wait_late, wait_middle, wait_order, wait_supply, waits_open, week, weeks_end, weeks_late, date_end, date_open, facts_end, facts_open, facts_steps, line_open, open_receipt, page_items, safety_line, start_end, start_open, week_end, no_message, none_at_risk, risk_booking, risk_front, risk_middle, risk_note, risk_open, risk_order, risks_unknown, said_back, said_close, said_front, said_open, said_other_back, said_other_front, said_pieces, said_start, said_week, work_back, work_blank, work_count, work_end, work_head, work_name, work_note, work_open, work_operation, work_other, work_rest, work_share, work_table_end, work_unknown};
+ghost use Rattle.mrp_page.specs.Layout.{above_bar, above_end, available_label, balance_chart, balance_scale, balance_label, booked_label, cancel_front, cancel_open, capacity_label, centre_head, centre_open, centre_tile, centres_open, cut_bar, entry, entry_link_open, firm_label, glance_open, grid_end, gross_label, history_end, history_open, hot_bar, hot_end, in_front, in_open, index_count, index_end, index_open, item_head, items_end, items_open, late_front, late_open, later_open, link_end, link_middle, link_open, lists_open, load_chart, load_end, load_label, low_bar, low_end, main_open, more, no_promises, no_record, none_out, none_over, none_refused, nothing_to_do, open_pieces, order, order_address, order_start, order_unknown, order_week, orders_open, other_cells, other_front, other_open, out_cells, out_first_open, out_late, out_front, out_open, outs_front, outs_head_end, outs_note, outs_safety, over_back, over_front, over_label, over_line, over_open, overloaded_line, overloaded_open, page_end, page_head, page_top, peg_back, peg_booking, peg_front, peg_middle, peg_need, peg_parent, peg_supply, pegs_open, planned_label, point, points_end, record_head, refused_answer, refused_asked, refused_desk, refused_end, refused_front, refused_open, refused_row, release_front, release_open, rest_end, rest_open, row_end, scheduled_label, section_end, share_cell, share_label, starts_label, style, summary_open, summary_tile, table_end, task_middle, task_row, task_supply, title_end, title_open, to_week, todo_note, todo_open, wait_end, wait_late, wait_middle, wait_order, wait_supply, waits_open, week, weeks_end, weeks_late, date_end, date_open, facts_end, facts_open, facts_steps, line_open, open_receipt, page_items, safety_line, safety_scale, start_end, start_open, week_end, no_message, none_at_risk, risk_booking, risk_front, risk_middle, risk_note, risk_open, risk_order, risks_unknown, said_back, said_close, said_front, said_open, said_other_back, said_other_front, said_pieces, said_receipt, said_start, said_week, work_back, work_blank, work_count, work_end, work_head, work_name, work_note, work_open, work_operation, work_other, work_rest, work_share, work_table_end, work_unknown};
 
 use crate::style::STYLE;
 use crate::template::Part;
@@ -927,9 +927,11 @@ pub(crate) fn over_line() -> &'static [Part]
         Part::Cell(0),
         Part::Markup(b"</a>, week "),
         Part::Cell(1),
-        Part::Markup(b": "),
+        Part::Markup(b": <span title=\""),
+        Part::Cell(11),
+        Part::Markup(b"\">"),
         Part::Cell(9),
-        Part::Markup(b" min over</li>\n"),
+        Part::Markup(b"</span> min over</li>\n"),
     ]
 }
 
@@ -1271,12 +1273,20 @@ pub(crate) fn link_end() -> &'static [u8]
     b"</a>"
 }
 
+// What the section *At a glance* begins with.
+#[tactic(auto, unfolding(crate::specs::Layout::glance_open))]
+pub(crate) fn glance_open() -> &'static [u8]
+    ensures { result.now ≡ glance_open }
+{
+    b"<section id=glance>\n<h2>At a glance</h2>\n"
+}
+
 // What the section *Runs out first* begins with.
 #[tactic(auto, unfolding(crate::specs::Layout::out_first_open))]
 pub(crate) fn out_first_open() -> &'static [u8]
     ensures { result.now ≡ out_first_open }
 {
-    b"<section id=out-first>\n<h2>Runs out first</h2>\n"
+    b"<section id=out-first>\n<h3>Runs out first</h3>\n"
 }
 
 // What stands there if no item runs out.
@@ -1306,10 +1316,26 @@ pub(crate) fn outs_note() -> &'static [Part]
 pub(crate) fn outs_front() -> &'static [u8]
     ensures { result.now ≡ outs_front }
 {
-    b"<table class=\"list even waits\" aria-label=\"Runs out first\"><thead><tr><th class=t scope=col>Item</th><th scope=col>Week</th><th scope=col>Left</th><th scope=col>Weeks late</th></tr></thead>\n<tbody>"
+    b"<table class=\"list even waits\" aria-label=\"Runs out first\"><thead><tr><th class=t scope=col>Item</th><th scope=col>Week</th><th scope=col>Left</th>"
 }
 
-// An item that runs out, after its name.
+// What its head has besides if the tables are given.
+#[tactic(auto, unfolding(crate::specs::Layout::outs_safety))]
+pub(crate) fn outs_safety() -> &'static [u8]
+    ensures { result.now ≡ outs_safety }
+{
+    b"<th scope=col>Safety stock</th>"
+}
+
+// What its head ends with.
+#[tactic(auto, unfolding(crate::specs::Layout::outs_head_end))]
+pub(crate) fn outs_head_end() -> &'static [u8]
+    ensures { result.now ≡ outs_head_end }
+{
+    b"<th scope=col>Weeks late</th></tr></thead>\n<tbody>"
+}
+
+// An item that runs out, after its name: the week, and what is left.
 #[tactic(auto, unfolding(crate::specs::Layout::out_cells))]
 pub(crate) fn out_cells() -> &'static [Part]
     ensures { map drawn_of result.now ≡ out_cells }
@@ -1321,9 +1347,15 @@ pub(crate) fn out_cells() -> &'static [Part]
         Part::Cell(2),
         Part::Cell(3),
         Part::Markup(b"</td>"),
-        Part::Number(4),
-        Part::Markup(b"</tr>\n"),
     ]
+}
+
+// How late the first planned order of such an item is.
+#[tactic(auto, unfolding(crate::specs::Layout::out_late))]
+pub(crate) fn out_late() -> &'static [Part]
+    ensures { map drawn_of result.now ≡ out_late }
+{
+    &[Part::Number(4), Part::Markup(b"</tr>\n")]
 }
 
 // What comes between the head of a page and its parts: links to these.
@@ -1331,7 +1363,7 @@ pub(crate) fn out_cells() -> &'static [Part]
 pub(crate) fn main_open() -> &'static [u8]
     ensures { result.now ≡ main_open }
 {
-    b"</p>\n</header>\n<nav><a href=\"#unkept\">Not promised</a><a href=\"#risk\">Promises at risk</a><a href=\"#todo\">To do</a><a href=\"#out-first\">Runs out first</a><a href=\"#centres\">Work centres</a><a href=\"#items\">Items</a><a href=\"#history\">History</a></nav>\n<main>\n"
+    b"</p>\n</header>\n<nav><a href=\"#unkept\">Not promised</a><a href=\"#risk\">Promises at risk</a><a href=\"#todo\">To do</a><a href=\"#glance\">At a glance</a><a href=\"#centres\">Work centres</a><a href=\"#items\">Items</a><a href=\"#history\">History</a></nav>\n<main>\n"
 }
 
 // The frame of the picture of loads, with the name and the weeks. The line is at 100 %.
@@ -1354,16 +1386,38 @@ pub(crate) fn load_chart() -> &'static [Part]
     ]
 }
 
+// What the scale of the picture of balances begins with: the greatest number.
+#[tactic(auto, unfolding(crate::specs::Layout::balance_scale))]
+pub(crate) fn balance_scale() -> &'static [Part]
+    ensures { map drawn_of result.now ≡ balance_scale }
+{
+    &[
+        Part::Markup(b"<div class=chart><p><span>"),
+        Part::Cell(2),
+        Part::Markup(b"</span>"),
+    ]
+}
+
+// What this scale says of a safety stock, given the pieces.
+#[tactic(auto, unfolding(crate::specs::Layout::safety_scale))]
+pub(crate) fn safety_scale() -> &'static [Part]
+    ensures { map drawn_of result.now ≡ safety_scale }
+{
+    &[
+        Part::Markup(b"<span>dashes: safety stock "),
+        Part::Cell(0),
+        Part::Markup(b"</span>"),
+    ]
+}
+
 // The frame of the picture of balances, with the name, the weeks and the greatest number.
 #[tactic(auto, unfolding(crate::specs::Layout::balance_chart))]
 pub(crate) fn balance_chart() -> &'static [Part]
     ensures { map drawn_of result.now ≡ balance_chart }
 {
     &[
-        Part::Markup(b"<div class=chart><p><span>"),
-        Part::Cell(2),
         Part::Markup(
-            b"</span><span>0</span></p><p class=axis><span>week 1</span><span>a line behind each thirteenth week</span><span>week ",
+            b"<span>0</span></p><p class=axis><span>week 1</span><span>a line behind each thirteenth week</span><span>week ",
         ),
         Part::Cell(1),
         Part::Markup(b"</span></p><svg role=\"img\" viewBox=\"0.5 -"),
@@ -1508,7 +1562,7 @@ pub(crate) fn title_end() -> &'static [u8]
 pub(crate) fn overloaded_open() -> &'static [u8]
     ensures { result.now ≡ overloaded_open }
 {
-    b"<h3>Most overloaded</h3>\n"
+    b"<section id=overloaded>\n<h3>Most overloaded work centres</h3>\n"
 }
 
 // What is said of such a work centre.
@@ -1582,6 +1636,14 @@ pub(crate) fn said_week() -> &'static [Part]
     ensures { map drawn_of result.now ≡ said_week }
 {
     &[Part::Markup(b", week "), Part::Cell(3)]
+}
+
+// The week of an open order, by its receipt.
+#[tactic(auto, unfolding(crate::specs::Layout::said_receipt))]
+pub(crate) fn said_receipt() -> &'static [Part]
+    ensures { map drawn_of result.now ≡ said_receipt }
+{
+    &[Part::Markup(b", week "), Part::Cell(1)]
 }
 
 // What the section *Promises at risk* begins with.
@@ -1682,9 +1744,11 @@ pub(crate) fn work_open() -> &'static [Part]
         Part::Cell(0),
         Part::Markup(b"</a>, week "),
         Part::Cell(1),
-        Part::Markup(b": "),
+        Part::Markup(b": <span title=\""),
+        Part::Cell(11),
+        Part::Markup(b"\">"),
         Part::Cell(9),
-        Part::Markup(b" min over; "),
+        Part::Markup(b"</span> min over; "),
     ]
 }
 

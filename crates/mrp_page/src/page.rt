@@ -3,7 +3,7 @@
 ghost use Rattle.std.specs.Prelude.{◌≡◌, ◌++◌, IfOk, OnOk, flat_map, map, take};
 ghost use Rattle.mrp_page.specs.ItemRows.{item_lists};
 ghost use Rattle.std.specs.Option.{option_copied};
-ghost use Rattle.mrp_page.specs.Page.{head_html, is_told, items_of, middle_html, page_html, page_of, rest_html, told_first, top_html, untold_rows, AreRisksIn};
+ghost use Rattle.mrp_page.specs.Page.{glance_html, head_html, is_told, items_of, page_html, page_of, rest_html, told_first, top_html, untold_rows, AreRisksIn};
 ghost use Rattle.mrp_page.specs.AtRisk.{RisksView};
 
 use crate::centres::put_centres;
@@ -14,10 +14,11 @@ use crate::html::Html;
 use crate::item_rows::ItemRows;
 use crate::items::{put_index, put_items};
 use crate::kinds::put_todo;
-use crate::layout::{page_end, page_head, page_items, page_top, style};
+use crate::layout::{glance_open, page_end, page_head, page_items, page_top, section_end, style};
 use crate::limits::MOST_ITEMS;
 use crate::notes::Notes;
 use crate::outs::put_outs_section;
+use crate::overloaded::put_most_overloaded;
 use crate::places::Places;
 use crate::promises::{Risks, put_risks};
 use crate::refused::put_refused;
@@ -153,21 +154,23 @@ fn put_top(
     put_head(page, tables, &heading)
 }
 
-// Adds the items that run out first, and the work centres.
-#[tactic(auto, unfolding(crate::specs::Page::middle_html))]
-fn put_middle(
+// Adds what stands at a glance: the items that run out first, and the most overloaded work centres.
+#[tactic(auto, unfolding(crate::specs::Page::glance_html))]
+fn put_glance(
     alloc: Global,
     page: &mut Html,
     scene: &Scene<'_, '_>,
     report: &[Row],
-    counts: Counts,
+    missed: u64,
 ) -> Result<(), NoMemory>
-    ensures { OnOk result (page.new ≡ page.old ++ middle_html scene.now report.now counts) }
+    ensures { OnOk result (page.new ≡ page.old ++ glance_html scene.now report.now missed) }
 {
+    page.markup(glance_open())?;
     let plan = rows_in(report, Section::Plan);
-    put_outs_section(alloc, page, scene, plan, counts.plan)?;
+    put_outs_section(alloc, page, scene, plan, missed)?;
     let loads = rows_in(report, Section::Loads);
-    put_centres(alloc, page, scene, loads, counts.loads)
+    put_most_overloaded(alloc, page, loads)?;
+    page.markup(section_end())
 }
 
 // Adds a page, from what its parts are drawn from.
@@ -190,10 +193,11 @@ fn put_page_of(
     let counts = notes.counts();
     put_top(alloc, page, title, scene.tables(), report, counts.items)?;
     put_summary(alloc, page, notes.history(), messages, loads, risks)?;
+    put_glance(alloc, page, scene, report, counts.plan)?;
     put_refused(alloc, page, scene.shown(), notes.history(), counts.history)?;
     put_risks(alloc, page, scene, risks)?;
     put_todo(alloc, page, scene, messages, counts.messages)?;
-    put_middle(alloc, page, scene, report, counts)?;
+    put_centres(alloc, page, scene, loads, counts.loads)?;
     put_rest(alloc, page, scene, rows, counts)
 }
 

@@ -28,7 +28,7 @@ pub(crate) fn receipt_of<'f>(tables: Option<&'f Facts<'_>>, message: &Row) -> Op
 }
 
 // The pieces and the week of a receipt.
-fn receipt_row(alloc: Global, receipt: &Receipt) -> Result<Row, NoMemory>
+pub(crate) fn receipt_row(alloc: Global, receipt: &Receipt) -> Result<Row, NoMemory>
     ensures { IfOk result (λ row. row ≡ receipt_row receipt.now) }
 {
     let pieces = number_text(alloc, receipt.quantity.value())?;

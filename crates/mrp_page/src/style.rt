@@ -55,10 +55,17 @@ th{font-weight:400;text-align:left}
 .waits td:last-child{color:#b32626;font-weight:600}
 .waits td.z:last-child{color:#66727f;font-weight:400}
 .index{columns:12rem;column-gap:1.5rem}
+.scroll .list th,.scroll .list td,.scroll .list a{white-space:pre;overflow-wrap:normal}
+#glance section{border:0;padding:.2rem 0;break-inside:avoid}
+#glance .chart{margin-bottom:.6rem}
+#glance .chart p{display:none}
+#glance svg{grid-column:1/3;height:2.2rem}
+@media screen and (min-width:68rem){main{display:grid;grid-template-columns:minmax(0,1fr) min(31rem,36vw);grid-template-rows:auto auto 1fr;column-gap:2.5rem}main>*{grid-column:1/3}#unkept,#risk,#todo{grid-column:1}#glance{grid-column:2;grid-row:1/4}}
+@media (max-width:68rem){:root{--label:11rem}#glance{columns:22rem 2;column-gap:2rem}#glance h2{column-span:all}}
 tr:target,section:target>h2,section:target>h3{background:#fff3c4}
 .scroll{overflow-x:auto}
 .chart{display:grid;grid-template-columns:calc(var(--label) - .4rem) minmax(0,calc(var(--weeks)*var(--week)));column-gap:.4rem;margin:.4rem 0 .1rem}
-.chart p{display:flex;flex-direction:column;justify-content:space-between;align-items:flex-end;margin:0;font-size:.85em;line-height:1.1}
+.chart p{display:flex;flex-direction:column;justify-content:space-between;align-items:flex-end;text-align:right;margin:0;font-size:.85em;line-height:1.1}
 svg{display:block;overflow:visible;width:100%;height:4.6rem;background:repeating-linear-gradient(90deg,#b9c3cd 0 1px,#f8fafb 1px calc(1300%/var(--weeks)))}
 .chart .axis{grid-row:2;grid-column:2;flex-direction:row;height:clamp(0rem,(var(--weeks) - 13)*9rem,1.4em);overflow:hidden;padding-top:.1rem}
 .zero,.full,polyline{fill:none;vector-effect:non-scaling-stroke}
@@ -76,6 +83,6 @@ polyline{stroke:#2b6cb0;stroke-width:2}
 .grid .over td{color:#b32626;font-weight:600}
 .more{margin:.3rem 0}
 main:has(>.more) .item details .scroll::after{content:\"Orders and pegs that are not on this page are counted behind the items.\";color:#566472}
-@media (max-width:40rem){:root{--label:7rem}body{--week:4.2rem;padding:0 .6rem 2rem;font-size:13px}nav{margin:0 -.6rem;padding:.4rem .6rem}nav a{margin-right:.7rem}.sum a{padding:.1rem .5rem;flex:1 1 9rem}.even{font-size:.78rem}.even th,.even td{padding-right:.25rem}.even th:first-child,.even .t{width:22%}}
-@media print{@page{size:landscape;margin:1cm}body{--label:11rem;--week:4.1rem;padding:0;font-size:10px}nav,h2 a,h3 a{display:none}a{color:inherit;text-decoration:none}.scroll{overflow:visible}h2,h3,caption,summary,thead,.note,.chart,.said{break-after:avoid}.scroll+details{break-before:avoid}tr,li,.grid,.chart{break-inside:avoid}section{padding:.5rem 0}svg{height:3rem}summary{list-style:none}#todo .rest>summary,#unkept .rest>summary,#risk .rest>summary{display:none}#todo details::details-content,#unkept details::details-content,#risk details::details-content{content-visibility:visible;block-size:auto}.load,.hot,.above,.cut,.todo td,.sum a,.kind{print-color-adjust:exact}}
+@media (max-width:40rem){:root{--label:7rem}body{--week:4.2rem;padding:0 .6rem 2rem;font-size:13px}nav{margin:0 -.6rem;padding:.4rem .6rem}nav a{margin-right:.7rem}main{display:flex;flex-direction:column}#unkept,#risk,#todo{order:-1}.axis span:nth-child(2){display:none}.sum a{padding:.1rem .5rem;flex:1 1 9rem}.even{font-size:.78rem}.even th,.even td{padding-right:.25rem}.even thead th{font-size:.68rem}.even th:first-child,.even .t{width:22%}}
+@media print{@page{size:landscape;margin:1cm}body{--label:11rem;--week:4.1rem;padding:0;font-size:10px}nav,h2 a,h3 a{display:none}a{color:inherit;text-decoration:none}.scroll{overflow:visible}h2,h3,caption,summary,thead,.note,.chart,.said{break-after:avoid}.scroll+details{break-before:avoid}tr,li,.grid,.chart,.said{break-inside:avoid}section{padding:.5rem 0}svg{height:3rem}summary{list-style:none}#todo .rest>summary,#unkept .rest>summary,#risk .rest>summary{display:none}#todo details::details-content,#unkept details::details-content,#risk details::details-content{content-visibility:visible;block-size:auto}.load,.hot,.above,.cut,.todo td,.sum a,.kind{print-color-adjust:exact}}
 ";

@@ -1,6 +1,9 @@
+mod BillSteps
 mod CellLaws
 mod CsvSteps
 mod FileLines
+mod LikeNames
 mod LineLaws
+mod LoopsTold
 mod Marking
 mod Steps

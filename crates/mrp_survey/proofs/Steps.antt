@@ -22,6 +22,7 @@ use Rattle.mrp_survey.specs.Finding.{Told}
 use Rattle.mrp_survey.specs.Forms.{Row}
 use Rattle.mrp_survey.specs.Headers.{is_like, limit_of}
 use Rattle.mrp_survey.specs.Keys.{Key, Keys, line_of, same_key, with_key}
+use Rattle.mrp_survey.specs.Likes.{Firsts, lowered, with_first}
 use Rattle.mrp_survey.specs.Lines.{begins_record, ends_own_line, lines_from, step_to}
 use Rattle.mrp_survey.specs.Marks.{keys_after, marks_of, told_of}
 use Rattle.mrp_survey.specs.Names.{Names, is_among, with_name}
@@ -52,6 +53,12 @@ name-added old new name class absent is = is ∙ inserted (pointwise nat_eq) nam
 
 pub key-added : (old new : Keys) (key : Key) (line : ℕ) → is_none (line_of old key) ≡ true → new ≡ insert_entry same_key old key line → new ≡ with_key old key line
 key-added old new key line absent is = is ∙ inserted same_key key line old (none-is (line_of old key) absent) ∙ rw absent refl
+
+-- a name under its lower case
+pub first-added : (old new : Firsts) (key name : List ℕ) → key ≡ lowered name → is_some (lookup (pointwise nat_eq key) old) ≡ false → new ≡ insert_entry (pointwise nat_eq) old key name → new ≡ with_first old name
+first-added old new key name key_is absent is =
+    let here : is_some (lookup (pointwise nat_eq (lowered name)) old) ≡ false = ap (λ (k : List ℕ). is_some (lookup (pointwise nat_eq k) old)) (sym key_is) ∙ absent in
+    is ∙ inserted (pointwise nat_eq) key name old (is-none (lookup (pointwise nat_eq key) old) absent) ∙ ap (λ (k : List ℕ). old ++ (k, name) ∷ []) key_is ∙ rw here refl
 
 -- the next byte's line
 pub line-most : (r : Reading) (b : ℕ) → (step_to r b).line ≤ r.line + 1

@@ -24,7 +24,7 @@ IsOfWrongCell entry mark = (code : ℕ) × (wrong_in entry mark.0 ≡ Some code)
 -- a cell is told as one that is not of its kind
 abbrev pub is_of_cell : What → Bool
 is_of_cell (what.Cell own code) = true
-is_of_cell what.Header = false
+is_of_cell (what.Header front) = false
 is_of_cell what.Blank = false
 is_of_cell (what.Columns count) = false
 is_of_cell (what.Repeated line) = false
@@ -37,7 +37,7 @@ is_of_cell what.MasterReceipt = false
 is_of_cell what.MasterComponent = false
 is_of_cell what.ServiceMaster = false
 is_of_cell what.TooMany = false
-is_of_cell what.Missing = false
+is_of_cell (what.Missing key) = false
 
 -- of a record with a cell for each column, each cell that is not of its kind is told once, from the left, and no other is
 pub record TellsEachCell (entry : Entry) : Type 0 where

@@ -4,19 +4,22 @@ use Rattle.mrp_rows.specs.declared.fault.Table.{Table}
 use Rattle.mrp_rows.specs.Records.{records_of}
 use Rattle.mrp_survey.specs.declared.finding.Place.{Place}
 use Rattle.mrp_survey.specs.declared.form.Form.{Form}
+use Rattle.mrp_survey.specs.declared.front.Front.{Front}
 use Rattle.mrp_survey.specs.Forms.{Row}
+use Rattle.mrp_survey.specs.Fronts.{front_of}
 use Rattle.mrp_survey.specs.Headers.{can_be_read}
 use Rattle.mrp_survey.specs.Lines.{record_lines}
 
--- a table's records, the header first, and the line of each in the file that it is in
+-- what a table's text begins as, its records, the header first, and the line of each in the file that it is in
 pub record Records : Type 0 where
   pub file : Table
+  pub front : Front
   pub rows : List Row
   pub lines : List ℕ
 
 -- the records of a text that begins in this line of a file
 abbrev pub records_from : Table → ℕ → List ℕ → Records
-records_from file line text = record { file = file; rows = records_of text; lines = record_lines line text }
+records_from file line text = record { file = file; front = front_of text; rows = records_of text; lines = record_lines line text }
 
 -- the records after the header, if that can be read
 abbrev pub rows_under : Form → List Row → Option (List Row)

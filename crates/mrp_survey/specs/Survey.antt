@@ -12,10 +12,12 @@ use Rattle.mrp_survey.specs.declared.form.Form.{Form}
 use Rattle.mrp_survey.specs.declared.rule.Beside.{Beside}
 use Rattle.mrp_survey.specs.declared.source.Source.{Source}
 use Rattle.mrp_survey.specs.Finding.{Told}
-use Rattle.mrp_survey.specs.Forms.{Row}
+use Rattle.mrp_survey.specs.Forms.{Row, dated_key, entry_place}
 use Rattle.mrp_survey.specs.Horizons.{calendar_in, has_version, version_in}
+use Rattle.mrp_survey.specs.Loops.{FindsLoops}
 use Rattle.mrp_survey.specs.Names.{Names}
 use Rattle.mrp_survey.specs.Records.{Records, records_from, rows_below}
+use Rattle.mrp_survey.specs.Surveyed.{LoopTold}
 use Rattle.mrp_survey.specs.Tables.{header_told, names_in, told_from}
 use Rattle.mrp_survey.specs.Told.{told}
 
@@ -60,7 +62,7 @@ dated_form records = record { table = t.Calendar; version = One; has_version = b
 
 -- a record of the calendar that is missing
 abbrev pub missing : Form → Table → ℕ → Told
-missing form file number = told (record { file = file; table = form.table; number = number + 1; line = 0 }) [] 0 what.Missing
+missing form file number = told (record { file = file; table = form.table; number = number + 1; line = 0 }) [] 0 (what.Missing (dated_key (entry_place form (number + 1))))
 
 -- the records that a calendar with so many lacks
 abbrev pub missing_from : Form → Table → ℕ → List Told
@@ -135,6 +137,10 @@ beside_in sources = record {
   centres = names_among sources (form_of t.Centres One);
   calendar = calendar_among sources;
 }
+
+-- the sets of known items that need one another
+abbrev pub FindsLoopsIn : Sources → Option Names → List LoopTold → Type 0
+FindsLoopsIn sources items loops = FindsLoops (form_of t.Bills One) items (records_at sources t.Bills) loops
 
 -- what is wrong with the records of all tables, in the order of the tables
 abbrev pub survey_told : Sources → List Told

@@ -28,11 +28,11 @@ entry_at form records number row = record { form = form; place = place_of record
 
 -- a table without a header, told in the first line
 abbrev pub empty_told : Form → Records → List Told
-empty_told form records = told (record { file = records.file; table = form.table; number = 0; line = 1 }) [] 0 what.Header ∷ []
+empty_told form records = told (record { file = records.file; table = form.table; number = 0; line = 1 }) [] 0 (what.Header records.front) ∷ []
 
 -- a header that is wrong, or is not there
 abbrev pub wrong_header : Form → Records → Option Row → List Told
-wrong_header form records (Some header) = if is_header form header then [] else told (place_of records form.table 0) header 0 what.Header ∷ []
+wrong_header form records (Some header) = if is_header form header then [] else told (place_of records form.table 0) header 0 (what.Header records.front) ∷ []
 wrong_header form records None = empty_told form records
 
 abbrev pub header_told : Form → Records → List Told

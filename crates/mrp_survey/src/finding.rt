@@ -5,7 +5,8 @@ ghost use Rattle.csv.specs.Records.{fields_of};
 ghost use Rattle.mrp_survey.specs.Told.{told};
 
 use crate::form::cell_in;
-use crate::kind::Kind;
+use crate::front::Front;
+use crate::kind::{Kind, Words};
 use csv::ByteRecord;
 use mrp_qty::NoMemory;
 use mrp_rows::Table;
@@ -14,8 +15,8 @@ use std::marker::Model;
 /// What is wrong.
 #[derive(Clone, Copy, Debug)]
 pub enum What {
-    /// The table's first record is not its header, or there is none.
-    Header,
+    /// The table's first record is not its header, or there is none; with what the text begins as.
+    Header { front: Front },
     /// All cells of the record are empty.
     Blank,
     /// The record has this many cells, another count than the table has columns.
@@ -40,10 +41,10 @@ pub enum What {
     MasterComponent,
     /// A service row is of a master item.
     ServiceMaster,
-    /// The record is past its table's limit; no later one is read.
+    /// The record is past its table's limit, which is one less than its number; no later one is read.
     TooMany,
-    /// A record of the calendar is missing.
-    Missing,
+    /// The calendar's record with this key is missing.
+    Missing { key: Words },
 }
 
 // A record, and its line in its file.

@@ -24,15 +24,15 @@ pub(crate) struct Form {
     pub(crate) has_version: bool,
 }
 
-// A record's cell. Columns are counted from 0.
-pub(crate) fn cell_in(row: &ByteRecord, column: usize) -> &[u8]
+/// A record's cell in a column, counted from 0; empty past the last.
+pub fn cell_in(row: &ByteRecord, column: usize) -> &[u8]
     ensures { result.now ≡ cell_in (fields_of row.now) column }
 {
     row.get(column).unwrap_or(b"")
 }
 
 // Which entry of the calendar a record is: 0 a version, 1 the start, 2 the weeks, 3 the workdays, and then holidays.
-fn entry_place(form: Form, number: usize) -> usize
+pub(crate) fn entry_place(form: Form, number: usize) -> usize
     ensures { result ≡ entry_place form number }
 {
     if form.has_version {
@@ -42,7 +42,7 @@ fn entry_place(form: Form, number: usize) -> usize
     }
 }
 
-fn dated_key(place: usize) -> Words
+pub(crate) fn dated_key(place: usize) -> Words
     ensures { result ≡ dated_key place }
 {
     match place {

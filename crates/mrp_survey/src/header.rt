@@ -68,8 +68,8 @@ pub(crate) fn most_records(form: Form) -> Option<usize>
     }
 }
 
-// Whether a record's cells are these names, in order.
-fn are_columns(row: &ByteRecord, names: &[&str]) -> bool
+/// Whether a record's cells are these names, in order.
+pub fn are_columns(row: &ByteRecord, names: &[&str]) -> bool
     ensures { result ≡ pointwise (pointwise nat_eq) (fields_of row.now) (map (λ c. c.now) names.now) }
 {
     if row.len() != names.len() {
@@ -90,15 +90,15 @@ pub(crate) fn is_header(form: Form, row: &ByteRecord) -> bool
     are_columns(row, columns(form))
 }
 
-// Whether a cell is a name, but for capitals and spaces at its ends.
-fn is_like(cell: &[u8], name: &str) -> bool
+/// Whether a cell is a name, but for capitals and spaces at its ends.
+pub fn is_like(cell: &[u8], name: &str) -> bool
     ensures { result ≡ is_like cell.now name.now }
 {
     trimmed(cell).eq_ignore_ascii_case(name.as_bytes())
 }
 
-// Whether a record's cells are these names, but for capitals and spaces at their ends.
-fn are_like(row: &ByteRecord, names: &[&str]) -> bool
+/// Whether a record's cells are these names, in order, but for capitals and spaces at their ends.
+pub fn are_like(row: &ByteRecord, names: &[&str]) -> bool
     ensures { result ≡ are_like_columns (fields_of row.now) (map (λ c. c.now) names.now) }
 {
     if row.len() != names.len() {

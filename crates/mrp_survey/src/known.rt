@@ -25,8 +25,8 @@ impl Model for Known {
 }
 
 impl Known {
-    ghost use Rattle.std.specs.Prelude.{◌≡◌, [], OnOk, is_some};
-    ghost use Rattle.mrp_survey.specs.Names.{class_among, is_among, with_name};
+    ghost use Rattle.std.specs.Prelude.{◌≡◌, [], OnOk, is_some, length};
+    ghost use Rattle.mrp_survey.specs.Names.{class_among, is_among, name_at, place_among, with_name};
 
     // No names.
     pub(crate) fn new(alloc: Global) -> Known
@@ -35,6 +35,29 @@ impl Known {
         Known {
             classes: IndexMap::new(alloc),
         }
+    }
+
+    pub(crate) fn len(&self) -> usize
+        ensures { result ≡ length self.now }
+    {
+        self.classes.len()
+    }
+
+    // The name at a place, counted from 0.
+    pub(crate) fn name_at(&self, place: usize) -> Option<Name>
+        ensures { result ≡ name_at self.now place }
+    {
+        match self.classes.get_index(place) {
+            Some((name, _)) => Some(*name),
+            None => None,
+        }
+    }
+
+    // The place of a name.
+    pub(crate) fn place_of(&self, name: &Name) -> Option<usize>
+        ensures { result ≡ place_among self.now name.now }
+    {
+        self.classes.get_index_of(name)
     }
 
     // Whether the name is one of them.

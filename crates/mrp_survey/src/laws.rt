@@ -1,8 +1,9 @@
 //! What follows from the definitions alone, each law the contract of a function that does nothing.
 
-ghost use Rattle.std.specs.Prelude.{ℕ, ◌≡◌, ◌+◌, false, List};
+ghost use Rattle.std.specs.Prelude.{ℕ, ◌≡◌, ◌+◌, false, List, Option};
 ghost use Rattle.std.specs.List.{take_while};
 ghost use Rattle.mrp_rows.specs.Bundle.{ends_line};
+ghost use Rattle.mrp_survey.specs.declared.bill_lines.BillLine.{BillLine};
 ghost use Rattle.mrp_survey.specs.declared.form.Form.{Form};
 ghost use Rattle.mrp_survey.specs.declared.rule.Beside.{Beside};
 ghost use Rattle.mrp_survey.specs.CellLaws.{TellsEachCell, TellsEachRecord};
@@ -10,7 +11,11 @@ ghost use Rattle.mrp_survey.specs.Entry.{Entry};
 ghost use Rattle.mrp_survey.specs.Forms.{Row};
 ghost use Rattle.mrp_survey.specs.LineLaws.{AreLinesOf, line_ends};
 ghost use Rattle.mrp_survey.specs.Lines.{at_start, line_behind};
+ghost use Rattle.mrp_survey.specs.LoopLaws.{TellsEachItem};
+ghost use Rattle.mrp_survey.specs.Loops.{AreFound};
+ghost use Rattle.mrp_survey.specs.Names.{Names};
 ghost use Rattle.mrp_survey.specs.Records.{Records};
+ghost use Rattle.mrp_survey.specs.Surveyed.{LoopTold};
 
 /// Each record of a text has a line, that of its first byte: one more than the line ends in front of it.
 pub fn lines_are_of_first_bytes()
@@ -30,4 +35,9 @@ pub fn each_wrong_cell_is_told()
 /// Of each record within its table's limit all that is wrong with it is told, and nothing else.
 pub fn each_record_is_told()
     ensures { (form : Form) (beside : Beside) (records : Records) (rows : List Row) → TellsEachRecord form beside records rows }
+{}
+
+/// Each item that needs itself is in a set that is told, by bill lines that lead from an item to itself.
+pub fn each_item_that_needs_itself_is_told()
+    ensures { (items : Option Names) (records : Records) (lines : List BillLine) (found : List LoopTold) → AreFound items records lines found → TellsEachItem items records lines found }
 {}

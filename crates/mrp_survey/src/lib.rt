@@ -1,13 +1,18 @@
 //! All that is wrong with the tables of a folder, each fault with its file, line and column.
 #![tactic(auto)]
 
+mod bill_lines;
 mod calendar;
 mod finding;
+mod finding_loops;
 mod form;
+mod found_loop;
+mod front;
 mod header;
 mod kind;
 mod known;
 pub mod laws;
+mod likes;
 mod lines;
 mod record;
 mod rows;
@@ -15,13 +20,19 @@ mod rule;
 mod seen;
 mod sheet;
 mod source;
+mod surveyed;
 mod table;
 mod tables;
 mod tell;
 
 pub use finding::{Finding, What};
-pub use header::column_names;
+pub use form::cell_in;
+pub use found_loop::FoundLoop;
+pub use front::Front;
+pub use header::{are_columns, are_like, column_names, is_like};
 pub use kind::{Kind, Words};
 pub use lines::record_lines;
+pub use record::are_empty;
 pub use source::Source;
+pub use surveyed::Survey;
 pub use tables::survey;

@@ -113,8 +113,8 @@ impl<'a> Record<'a> {
     }
 }
 
-// Whether all cells of a record are empty.
-pub(crate) fn are_empty(row: &ByteRecord) -> bool
+/// Whether all cells of a record are empty.
+pub fn are_empty(row: &ByteRecord) -> bool
     ensures { result ≡ are_empty (fields_of row.now) }
 {
     for column in 0..row.len() {

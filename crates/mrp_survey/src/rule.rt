@@ -176,7 +176,7 @@ fn class_fault(entry: &Record<'_>, class: Class) -> Option<What>
 }
 
 // The same of the item in a column, where its class is known.
-fn misfit(items: &Option<Known>, entry: &Record<'_>, column: usize) -> Option<What>
+pub(crate) fn misfit(items: &Option<Known>, entry: &Record<'_>, column: usize) -> Option<What>
     ensures { result ≡ misfit items.now entry.now column }
 {
     let items = items.as_ref()?;

@@ -2,6 +2,7 @@
 
 use crate::finding::Place;
 use crate::form::Form;
+use crate::front::{Front, front_of};
 use crate::header::can_be_read;
 use crate::lines::record_lines;
 use crate::rows::read_rows;
@@ -11,10 +12,11 @@ use mrp_rows::Table;
 use std::alloc::Global;
 use std::marker::Model;
 
-// A table's records, the header first, and the line of each in the file that it is in.
+// What a table's text begins as, its records, the header first, and the line of each in the file that it is in.
 #[derive(Drop)]
 pub(crate) struct Sheet {
     file: Table,
+    front: Front,
     rows: Vec<ByteRecord>,
     lines: Vec<u64>,
 }
@@ -26,11 +28,11 @@ impl Model for Sheet {
 
     ghost Value = { Records };
 
-    ghost view = { λ s. record { file = s.file; rows = map (λ row. fields_of row) s.rows.items; lines = s.lines.items } };
+    ghost view = { λ s. record { file = s.file; front = s.front; rows = map (λ row. fields_of row) s.rows.items; lines = s.lines.items } };
 }
 
 impl Sheet {
-    ghost use Rattle.std.specs.Prelude.{◌≡◌, ◌≤◌, ◌^◌, IfOk, map, option_map};
+    ghost use Rattle.std.specs.Prelude.{◌≡◌, ◌≤◌, ◌^◌, IfOk, map, option_map, slice_index};
     ghost use Rattle.csv.specs.Records.{fields_of};
     ghost use Rattle.mrp_survey.specs.Records.{place_of, records_from, rows_below};
     ghost use Rattle.mrp_survey.specs.Headers.{header_of};
@@ -42,7 +44,12 @@ impl Sheet {
     {
         let rows = read_rows(alloc, text)?;
         let lines = record_lines(alloc, text, line)?;
-        Ok(Sheet { file, rows, lines })
+        Ok(Sheet {
+            file,
+            front: front_of(text),
+            rows,
+            lines,
+        })
     }
 
     // The table whose file they are in.
@@ -50,6 +57,13 @@ impl Sheet {
         ensures { result ≡ self.now.file }
     {
         self.file
+    }
+
+    // What their text begins as.
+    pub(crate) fn front(&self) -> Front
+        ensures { result ≡ self.now.front }
+    {
+        self.front
     }
 
     // The first record.
@@ -69,7 +83,14 @@ impl Sheet {
         }
     }
 
-    // Where a record is, by its number, the header's 0.
+    // The line in which a record begins, by its number, the header's 0.
+    pub(crate) fn line(&self, number: usize) -> u64
+        ensures { result ≡ slice_index self.now.lines number }
+    {
+        self.lines.get(number).copied().unwrap_or(0)
+    }
+
+    // Where a record is.
     pub(crate) fn place(&self, table: Table, number: usize) -> Place
         ensures { result ≡ place_of self.now table number }
     {
@@ -77,7 +98,7 @@ impl Sheet {
             file: self.file,
             table,
             number,
-            line: self.lines.get(number).copied().unwrap_or(0),
+            line: self.line(number),
         }
     }
 }

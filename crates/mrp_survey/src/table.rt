@@ -43,7 +43,15 @@ fn tell_empty(
         number: 0,
         line: 1,
     };
-    tell(place, &ByteRecord::new(alloc), 0, What::Header, findings)
+    tell(
+        place,
+        &ByteRecord::new(alloc),
+        0,
+        What::Header {
+            front: sheet.front(),
+        },
+        findings,
+    )
 }
 
 // Tells of a header that is wrong or is not there.
@@ -61,7 +69,15 @@ pub(crate) fn tell_header(
                 Ok(())
             } else {
                 let place = sheet.place(form.table, 0);
-                tell(place, header, 0, What::Header, findings)
+                tell(
+                    place,
+                    header,
+                    0,
+                    What::Header {
+                        front: sheet.front(),
+                    },
+                    findings,
+                )
             }
         }
         None => tell_empty(alloc, form, sheet, findings),

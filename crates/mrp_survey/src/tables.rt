@@ -3,15 +3,18 @@
 ghost use Rattle.std.specs.Prelude.{◌≡◌, ◌<◌, ◌++◌, ◌∷◌, [], IfOk, None, OnOk, Some, false, map, option_map};
 ghost use Rattle.csv.specs.Records.{fields_of};
 ghost use Rattle.mrp_tables.specs.declared.version.Version.TheVariants.{One};
-ghost use Rattle.mrp_survey.specs.Survey.{calendar_among, calendar_told, dated_form, items_among, missing, missing_from, names_among, nothing_beside, others_told, records_at, rows_in, survey_told, table_told, version_among, versioned_told};
+ghost use Rattle.mrp_survey.specs.Survey.{FindsLoopsIn, calendar_among, calendar_told, dated_form, form_of, items_among, missing, missing_from, names_among, nothing_beside, others_told, records_at, rows_in, survey_told, table_told, version_among, versioned_told};
 
 use crate::calendar::{calendar_in, has_version, version_in};
 use crate::finding::{Finding, Place, What, tell};
-use crate::form::Form;
+use crate::finding_loops::find_loops;
+use crate::form::{Form, dated_key, entry_place};
+use crate::found_loop::FoundLoop;
 use crate::known::Known;
 use crate::rule::Beside;
 use crate::sheet::Sheet;
 use crate::source::Source;
+use crate::surveyed::{Survey, likes_of};
 use crate::table::{names_in, tell_header, tell_rows};
 use csv::ByteRecord;
 use mrp_cal::Calendar;
@@ -126,7 +129,14 @@ fn tell_lack(
         number: count + 1,
         line: 0,
     };
-    tell(place, &ByteRecord::new(alloc), 0, What::Missing, findings)
+    let key = dated_key(entry_place(form, count + 1));
+    tell(
+        place,
+        &ByteRecord::new(alloc),
+        0,
+        What::Missing { key },
+        findings,
+    )
 }
 
 // Tells of the records that a calendar with so many lacks.
@@ -235,31 +245,74 @@ fn tell_other(
     tell_table(alloc, form_of(table, version), beside, &sheet, findings)
 }
 
-// Tells what is wrong with the tables that look at others.
+// Tells what is wrong with the bills, and returns the sets of items that need one another.
+fn tell_bills(
+    alloc: Global,
+    sources: &[Option<Source<'_>>; 9],
+    beside: &Beside,
+    findings: &mut Vec<Finding>,
+) -> Result<Vec<FoundLoop>, NoMemory>
+    ensures told { OnOk result (findings.new.items ≡ findings.old.items ++ versioned_told sources.now beside.now Table.Bills (Some One)) }
+    ensures loops { IfOk result (λ loops. FindsLoopsIn sources.now beside.now.items loops.items) }
+{
+    let form = form_of(Table::Bills, Version::One);
+    let sheet = sheet_of(alloc, sources, Table::Bills)?;
+    tell_table(alloc, form, beside, &sheet, findings)?;
+    find_loops(alloc, form, &beside.items, &sheet)
+}
+
+// Tells what is wrong with the tables that look at others, and returns the sets of items that need one another.
 fn tell_others(
     alloc: Global,
     sources: &[Option<Source<'_>>; 9],
     beside: &Beside,
     version: Option<Version>,
     findings: &mut Vec<Finding>,
-) -> Result<(), NoMemory>
-    ensures { OnOk result (findings.new.items ≡ findings.old.items ++ others_told sources.now beside.now version) }
+) -> Result<Vec<FoundLoop>, NoMemory>
+    ensures told { OnOk result (findings.new.items ≡ findings.old.items ++ others_told sources.now beside.now version) }
+    ensures loops { IfOk result (λ loops. FindsLoopsIn sources.now beside.now.items loops.items) }
 {
     let first = Some(Version::One);
     tell_other(alloc, sources, beside, Table::Stock, first, findings)?;
     tell_other(alloc, sources, beside, Table::Receipts, first, findings)?;
-    tell_other(alloc, sources, beside, Table::Bills, first, findings)?;
+    let loops = tell_bills(alloc, sources, beside, findings)?;
     tell_other(alloc, sources, beside, Table::Routings, first, findings)?;
     tell_other(alloc, sources, beside, Table::Master, version, findings)?;
-    tell_other(alloc, sources, beside, Table::Script, first, findings)
+    tell_other(alloc, sources, beside, Table::Script, first, findings)?;
+    Ok(loops)
+}
+
+fn surveyed(
+    alloc: Global,
+    findings: Vec<Finding>,
+    loops: Vec<FoundLoop>,
+    version: Option<Version>,
+    beside: Beside,
+) -> Result<Survey, NoMemory>
+    ensures { IfOk result (λ survey. survey ≡ record { findings = findings.items; loops = loops.items; version = version; calendar = beside.calendar; items = beside.items; centres = beside.centres }) }
+{
+    let items = likes_of(alloc, beside.items)?;
+    let centres = likes_of(alloc, beside.centres)?;
+    Ok(Survey {
+        findings,
+        loops,
+        version,
+        calendar: beside.calendar,
+        items,
+        centres,
+    })
 }
 
 /// All that is wrong with the records of nine tables, which stand in the order of the tables; a table without a text is not read.
-/// A loop in the bills is not looked for.
 ///
 /// Errors: `NoMemory` if an allocation fails.
-pub fn survey(alloc: Global, sources: &[Option<Source<'_>>; 9]) -> Result<Vec<Finding>, NoMemory>
-    ensures { IfOk result (λ findings. findings.items ≡ survey_told sources.now) }
+pub fn survey(alloc: Global, sources: &[Option<Source<'_>>; 9]) -> Result<Survey, NoMemory>
+    ensures findings { IfOk result (λ survey. survey.findings ≡ survey_told sources.now) }
+    ensures loops { IfOk result (λ survey. FindsLoopsIn sources.now survey.items survey.loops) }
+    ensures version { IfOk result (λ survey. survey.version ≡ version_among sources.now) }
+    ensures calendar { IfOk result (λ survey. survey.calendar ≡ calendar_among sources.now) }
+    ensures items { IfOk result (λ survey. survey.items ≡ items_among sources.now (version_among sources.now)) }
+    ensures centres { IfOk result (λ survey. survey.centres ≡ names_among sources.now (form_of Table.Centres One)) }
 {
     let mut findings = Vec::new(alloc);
     let dated = tell_calendar(alloc, sources, &mut findings)?;
@@ -271,6 +324,6 @@ pub fn survey(alloc: Global, sources: &[Option<Source<'_>>; 9]) -> Result<Vec<Fi
         centres,
         calendar: dated.calendar,
     };
-    tell_others(alloc, sources, &beside, dated.version, &mut findings)?;
-    Ok(findings)
+    let loops = tell_others(alloc, sources, &beside, dated.version, &mut findings)?;
+    surveyed(alloc, findings, loops, dated.version, beside)
 }

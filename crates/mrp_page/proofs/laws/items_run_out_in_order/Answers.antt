@@ -1,4 +1,5 @@
 use Rattle.mrp_page.proofs.OutRows.{left-over, left-short, outs-once, outs-rise}
+use Rattle.mrp_page.proofs.Safety.{cell-is}
 use Rattle.mrp_page.proofs.laws.items_run_out_in_order.Goals as goal
 
 pub returns-clause-once : goal.returns-clause-once
@@ -12,3 +13,6 @@ returns-clause-over c = left-over
 
 pub returns-clause-short : goal.returns-clause-short
 returns-clause-short c = left-short
+
+pub returns-clause-safety : goal.returns-clause-safety
+returns-clause-safety c = cell-is

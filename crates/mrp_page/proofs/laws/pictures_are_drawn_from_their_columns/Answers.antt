@@ -1,5 +1,6 @@
 use Rattle.mrp_page.proofs.Columns.{balances-are, bars-are}
 use Rattle.mrp_page.proofs.ShareOf.{cut-is, high-is, hot-is, low-is, uncut-is}
+use Rattle.mrp_page.proofs.Safety.{scale-is}
 use Rattle.mrp_page.proofs.laws.pictures_are_drawn_from_their_columns.Goals as goal
 
 pub returns-clause-loads : goal.returns-clause-loads
@@ -22,3 +23,6 @@ returns-clause-uncut c = uncut-is
 
 pub returns-clause-balances : goal.returns-clause-balances
 returns-clause-balances c = balances-are
+
+pub returns-clause-safety : goal.returns-clause-safety
+returns-clause-safety c = scale-is

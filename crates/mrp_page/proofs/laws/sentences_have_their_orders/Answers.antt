@@ -1,4 +1,4 @@
-use Rattle.mrp_page.proofs.Todo.{moved-is, open-said, pieces-are, released-is, sentence-is}
+use Rattle.mrp_page.proofs.Todo.{moved-is, open-said, pieces-are, received-said, released-is, sentence-is}
 use Rattle.mrp_page.proofs.laws.sentences_have_their_orders.Goals as goal
 
 pub returns-clause-sentence : goal.returns-clause-sentence
@@ -15,3 +15,6 @@ returns-clause-open_order c = open-said
 
 pub returns-clause-pieces : goal.returns-clause-pieces
 returns-clause-pieces c = pieces-are
+
+pub returns-clause-received : goal.returns-clause-received
+returns-clause-received c = received-said

@@ -1,4 +1,5 @@
 use Rattle.std.proofs.Common.{◌≡◌, ◌∙◌, ◌-◌, ◌++◌, ℕ, ap, arith, map}
+use Rattle.std.specs.Prelude.{if◌then◌else◌}
 use Rattle.std.specs.List.{range_with_len}
 use Rattle.mrp_survey.specs.Survey.{missing}
 use Rattle.mrp_survey.proofs.Steps.{missing-further, span-of}
@@ -17,7 +18,8 @@ returns c =
     let number = c.loop-number.number in
     let span : number - count ≡ c.if-form.most - count = span-of count number c.if-form.most c.loop-number.auto.number c.loop-number-test.false c.loop-number.auto.number-end c.loop-number.invariant.none in
     let all = c.loop-number.invariant.told ∙ ap (λ (k : ℕ). c.args.findings.now.items ++ map (missing c.args.form c.args.file) (range_with_len count k)) span in
-    elim c.if-form.branch [
-      | then-form w ↦ rw w.if-form.true (rw w.most-is at all)
-      | else-form w ↦ rw w.if-form.false (rw w.most-is at all)
-    ]
+    let most : c.if-form.most ≡ (if c.args.form.has_version then 4 else 3) = elim c.if-form.branch [
+      | then-form w ↦ rw w.if-form.true w.most-is
+      | else-form w ↦ rw w.if-form.false w.most-is
+    ] in
+    all ∙ ap (λ (k : ℕ). c.args.findings.now.items ++ map (missing c.args.form c.args.file) (range_with_len count (k - count))) most

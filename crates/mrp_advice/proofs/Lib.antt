@@ -1,0 +1,6 @@
+mod Days
+mod HeaderSteps
+mod NameTexts
+mod Pieces
+mod Runs
+mod Signs

@@ -1,0 +1,7 @@
+use Rattle.std.proofs.Common.{ap}
+use Rattle.mrp_advice.specs.Shown.{shown}
+use Rattle.mrp_advice.proofs.Pieces.{two-told}
+use Rattle.mrp_advice.proofs.header.push_strange.Goals as goal
+
+pub returns : goal.returns
+returns c = two-told c.push_shown.result _ _ _ _ _ _ c.in_ok-push_str.ensures.bytes (ap shown c.cell_in.ensures) c.push_shown.ensures

@@ -1,0 +1,7 @@
+use Rattle.std.proofs.Common.{◌∙◌, ◌++◌, List, ℕ, ap}
+use Rattle.std.specs.Prelude.{string_bytes}
+use Rattle.mrp_advice.proofs.Pieces.{last-three}
+use Rattle.mrp_advice.proofs.record.push_missing.Goals as goal
+
+pub returns : goal.returns
+returns c = last-three c.push_str-3.result _ _ _ _ _ _ _ c.in_ok-push_str.ensures.bytes (c.in_ok-push_str-2.ensures.bytes ∙ ap (λ (t : List ℕ). string_bytes c.push_str.new.self ++ t) c.among_words.ensures) c.push_str-3.ensures.bytes

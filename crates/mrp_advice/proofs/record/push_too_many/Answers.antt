@@ -1,0 +1,6 @@
+use Rattle.std.proofs.Common.{refl}
+use Rattle.mrp_advice.proofs.Pieces.{two-told}
+use Rattle.mrp_advice.proofs.record.push_too_many.Goals as goal
+
+pub returns : goal.returns
+returns c = two-told c.push_number.result _ _ _ _ _ _ c.in_ok-push_str.ensures.bytes refl c.push_number.ensures

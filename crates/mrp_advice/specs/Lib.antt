@@ -1,0 +1,11 @@
+pub mod Dates
+pub mod Expected
+pub mod Headers
+pub mod Lines
+pub mod Loops
+pub mod Measures
+pub mod Reasons
+pub mod Records
+pub mod Rules
+pub mod Shown
+pub mod Texts

@@ -1,0 +1,18 @@
+//! What is wrong with the tables of a folder, in words: a line for each fault.
+#![tactic(auto)]
+
+mod cell;
+mod date;
+mod expected;
+mod header;
+mod line;
+mod lines;
+mod looped;
+mod measure;
+mod record;
+mod rule;
+mod sign;
+mod text;
+
+pub use lines::survey_lines;
+pub use sign::{MOST_SIGNS, shown};

@@ -1,0 +1,81 @@
+-- Bill lines, record by record, and the places of their items.
+use Rattle.std.proofs.Common.{◌≡◌, ◌∙◌, ◌+◌, ◌<◌, ◌≤◌, ℕ, zero, suc, Bool, true, false, List, [], ◌∷◌, ◌++◌, Option, Some, None, length, map, take, drop, nat_eq, refl, sym, ap, arith, append_assoc, append-nil}
+use Rattle.std.specs.Prelude.{◌&&◌, if◌then◌else◌, is_none, option_and_then, position}
+use Rattle.std.specs.Cmp.Lexicographic.{pointwise}
+use Rattle.std.specs.List.{All}
+use Rattle.std.specs.Option.{option_to_list}
+use Rattle.std.proofs.lemmas.List.{length-map}
+use Rattle.std.proofs.lemmas.List.Elements.{All-append, All-cons, All-map, All-nil}
+use Rattle.std.proofs.lemmas.List.Quantifiers.{position-Some}
+use Rattle.csv.specs.Records.{Row as CsvRow, fields_of}
+use Rattle.mrp_loops.specs.declared.line.Line.{Line}
+use Rattle.mrp_loops.specs.Needs.{AreWithin}
+use Rattle.mrp_survey.specs.declared.bill_lines.BillLine.{BillLine}
+use Rattle.mrp_survey.specs.declared.form.Form.{Form}
+use Rattle.mrp_survey.specs.BillLines.{bill_line, known_place, line_of, lines_from}
+use Rattle.mrp_survey.specs.Entry.{Entry}
+use Rattle.mrp_survey.specs.Entries.{name_in}
+use Rattle.mrp_survey.specs.Forms.{Row}
+use Rattle.mrp_survey.specs.Loops.{count_of, edges_of}
+use Rattle.mrp_survey.specs.Names.{Names, place_among}
+use Rattle.mrp_survey.specs.Records.{Records}
+use Rattle.mrp_survey.specs.Tables.{entry_at, width_of}
+
+-- a record more
+pub lines-further : (form : Form) (records : Records) (items : Option Names) (n : ℕ) (cells : Row) (rest rows : List Row) (line : Option BillLine) (width : ℕ) (entry : Entry) (whole now more : List BillLine)
+    → rows ≡ cells ∷ rest → width ≡ width_of form → entry ≡ entry_at form records n cells → line ≡ bill_line width items entry → more ≡ now ++ option_to_list line
+    → whole ≡ now ++ lines_from form items records n rows → whole ≡ more ++ lines_from form items records (n + 1) rest
+unfolding lines_from
+lines-further form records items n cells rest rows line width entry whole now more is width_is entry_is line_is grown so_far =
+    let step : lines_from form items records n (cells ∷ rest) ≡ option_to_list line ++ lines_from form items records (n + 1) rest = rw (line_is, width_is, entry_is) refl in
+    so_far ∙ ap (λ (r : List Row). now ++ lines_from form items records n r) is
+    ∙ ap (λ (t : List BillLine). now ++ t) step
+    ∙ sym (append_assoc now (option_to_list line) (lines_from form items records (n + 1) rest))
+    ∙ ap (λ (t : List BillLine). t ++ lines_from form items records (n + 1) rest) (sym grown)
+
+-- no record more
+pub lines-all : (form : Form) (records : Records) (items : Option Names) (n : ℕ) (rows : List Row) (whole now : List BillLine) → rows ≡ [] → whole ≡ now ++ lines_from form items records n rows → now ≡ whole
+unfolding lines_from
+lines-all form records items n rows whole now none so_far = sym (so_far ∙ ap (λ (r : List Row). now ++ lines_from form items records n r) none ∙ append-nil now)
+
+-- a known item's place is one
+place-within : (items : Option Names) (name : Option (List ℕ)) (place : ℕ) → option_and_then (λ names. option_and_then (place_among names) name) items ≡ Some place → place < count_of items
+place-within None name place is = absurd cc
+place-within (Some names) None place is = absurd cc
+place-within (Some names) (Some name) place is =
+    let found = position-Some (pointwise nat_eq name) (map (λ e. e.0) names) place [] is in
+    rw (length-map names (λ e. e.0)) at found.0
+
+abbrev IsWithin : Option Names → BillLine → Type 0
+IsWithin items own = (own.line.parent < count_of items) × (own.line.component < count_of items)
+
+one-within : (items : Option Names) (number : ℕ) (parent component : Option ℕ) → ((place : ℕ) → parent ≡ Some place → place < count_of items) → ((place : ℕ) → component ≡ Some place → place < count_of items)
+    → All (IsWithin items) (option_to_list (line_of number parent component))
+one-within items number (Some parent) (Some component) above below = All-cons (IsWithin items) _ [] (above parent refl, below component refl) (All-nil (IsWithin items))
+one-within items number (Some parent) None above below = All-nil (IsWithin items)
+one-within items number None component above below = All-nil (IsWithin items)
+
+line-within : (width : ℕ) (items : Option Names) (entry : Entry) → All (IsWithin items) (option_to_list (bill_line width items entry))
+line-within width items entry = by _
+  where
+    by : (b : Bool) → All (IsWithin items) (option_to_list (if b then line_of entry.place.number (known_place items entry 0) (known_place items entry 1) else None))
+    by true = one-within items entry.place.number (known_place items entry 0) (known_place items entry 1) (place-within items (name_in entry 0)) (place-within items (name_in entry 1))
+    by false = All-nil (IsWithin items)
+
+all-within : (form : Form) (items : Option Names) (records : Records) (n : ℕ) (rows : List Row) → All (IsWithin items) (lines_from form items records n rows)
+unfolding lines_from
+all-within form items records n [] = All-nil (IsWithin items)
+all-within form items records n (row ∷ rows) =
+    All-append (IsWithin items) (option_to_list (bill_line (width_of form) items (entry_at form records n row))) (lines_from form items records (n + 1) rows)
+    (line-within (width_of form) items (entry_at form records n row)) (all-within form items records (n + 1) rows)
+
+-- the places of bill lines are those of known items
+pub edges-within : (form : Form) (items : Option Names) (records : Records) (n : ℕ) (rows : List Row) (lines : List BillLine) → lines ≡ lines_from form items records n rows → AreWithin (count_of items) (edges_of lines)
+edges-within form items records n rows lines is =
+    rw is (All-map (λ (line : Line). (line.parent < count_of items) × (line.component < count_of items)) (λ (l : BillLine). l.line) (lines_from form items records n rows) (all-within form items records n rows))
+
+-- the first rows as records
+pub rows-taken : (limit : ℕ) (rows : List CsvRow) → map (λ (r : CsvRow). fields_of r) (take limit rows) ≡ take limit (map (λ (r : CsvRow). fields_of r) rows)
+rows-taken zero rows = refl
+rows-taken (suc n) [] = refl
+rows-taken (suc n) (row ∷ rows) = ap (λ (l : List Row). fields_of row ∷ l) (rows-taken n rows)
