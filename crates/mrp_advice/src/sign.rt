@@ -118,8 +118,8 @@ pub(crate) fn push_shown(bytes: &[u8], text: &mut String) -> Result<(), AllocErr
     text.push_str("'")
 }
 
-/// A text as lines show it, in single quotes: printable ASCII, and letters of two bytes C3 to D4 and 80 to
-/// BF, as they are; a tab and line ends as `\t`, `\n` and `\r`; any other byte as `\x1b`. Behind 40 such signs `..` stands for
+/// A text as lines show it, in single quotes: printable ASCII, and letters of two bytes, 0xC3 to 0xD4 and 0x80
+/// to 0xBF, as they are; a tab and line ends as `\t`, `\n` and `\r`; any other byte as `\x1b`. Behind 40 such signs `..` stands for
 /// the rest.
 ///
 /// Errors: `NoMemory` if an allocation fails.
