@@ -17,7 +17,7 @@ def bytes_of(name):
 
 
 def lay_files(told, folder):
-    """Writes what a bundle can't show: files under any name, a file in place of the folder, or nothing."""
+    """Writes what a bundle can't show: files under any name, a file in place of the folder, also one of a greater size, or nothing."""
     files = {name: text.encode("latin-1") for name, text in told.get("files", {}).items()}
     if told.get("folder") == "none":
         return
@@ -28,6 +28,7 @@ def lay_files(told, folder):
     for name, text in files.items():
         with open(os.path.join(folder, name), "wb") as held:
             held.write(text)
+            held.truncate(told.get("size", len(text)))
 
 
 @dataclass

@@ -161,7 +161,8 @@ def prove_in_parallel(lanes):
         if name != PROGRAM:
             return libraries.build(name, jobs)
         libraries.unlock()
-        return build_program(jobs, AS_A_MODULE)
+        # (with more processes they load all libraries first, and then the one that builds does)
+        return build_program(1, AS_A_MODULE)
 
     Proving(plan, build).run()
 

@@ -9,8 +9,8 @@ AT_A_TIME = 4
 
 
 def scripts():
-    """All commands at the top and in tools."""
-    for folder in (TOP, TOOLS):
+    """All commands at the top, in tools and in sites."""
+    for folder in (TOP, TOOLS, os.path.join(TOP, "sites")):
         for name in sorted(os.listdir(folder)):
             path = os.path.join(folder, name)
             if os.path.isfile(path) and os.access(path, os.X_OK):
@@ -32,7 +32,7 @@ def run_all(*words):
 class Scripts(unittest.TestCase):
     def test_there_are_some(self):
         names = {os.path.relpath(path, TOP) for path in scripts()}
-        self.assertLessEqual({"plan", "look", "test", "install", "tools/gate", "tools/prove", "tools/pictures"}, names)
+        self.assertLessEqual({"plan", "look", "test", "install", "tools/gate", "tools/prove", "tools/pictures", "sites/night"}, names)
 
     def test_help_is_on_standard_output(self):
         for path, ended in run_all("--help"):

@@ -3,7 +3,8 @@
 //!
 //! It reads a bundle on standard input, and the part's name as its argument. With a number of calls as
 //! the second argument it prints how long they took; without, it makes a few and prints their answers.
-//! Without arguments it does that for each part.
+//! Without arguments it does that for each part. `refused CALL` is no benchmark: tools/refused_growths
+//! refuses memory to it.
 #![tactic(auto)]
 
 ghost use Rattle.std.specs.Prelude.{◌≡◌};
@@ -12,6 +13,7 @@ mod explosions;
 mod net_changes;
 mod plain;
 mod promising;
+mod refusals;
 mod rows;
 mod turns;
 
@@ -258,6 +260,22 @@ fn tell_usage<R: Runtime>(rt: &R) -> io::Result<()> {
     )
 }
 
+// Makes the calls that a word names, by the number of workers in another one.
+fn refuse<R: Runtime + AllocGlobal + Threads + Wait + Sync>(
+    rt: &R,
+    word: Option<String>,
+    workers: Option<String>,
+) -> io::Result<()> {
+    let workers = match workers {
+        None => None,
+        Some(workers) => read_calls(workers.as_str()),
+    };
+    match word {
+        None => tell_usage(rt),
+        Some(word) => refusals::call(rt, word.as_str(), workers),
+    }
+}
+
 fn main(rt: HostRuntime) -> io::Result<()> {
     let mut text = Vec::new(rt.alloc());
     rt.reader().read_to_end(&mut text)?;
@@ -267,6 +285,9 @@ fn main(rt: HostRuntime) -> io::Result<()> {
     let Some(part) = words.next() else {
         return all(&rt, bundle);
     };
+    if part.as_str() == "refused" {
+        return refuse(&rt, words.next(), words.next());
+    }
     let calls = match words.next() {
         None => None,
         Some(word) => match read_calls(word.as_str()) {

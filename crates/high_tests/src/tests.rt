@@ -20,6 +20,7 @@ mod live_days;
 mod loads;
 mod net_changes;
 mod notes;
+mod odd_streams;
 mod pages;
 mod pegging;
 mod reports;

@@ -1,5 +1,6 @@
 mod Days
 mod HeaderSteps
+pub mod Listings
 mod NameTexts
 mod Pieces
 mod Runs

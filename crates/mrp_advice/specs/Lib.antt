@@ -2,6 +2,7 @@ pub mod Dates
 pub mod Expected
 pub mod Headers
 pub mod Lines
+pub mod Listing
 pub mod Loops
 pub mod Measures
 pub mod Reasons

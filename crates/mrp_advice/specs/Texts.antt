@@ -3,12 +3,12 @@ use Rattle.std.specs.Prelude.{ℕ, ◌==◌, if◌then◌else◌, List, [], ◌�
 use Rattle.mrp_advice.specs.Shown.{shown}
 
 -- what makes a word a plural
-abbrev pub ending : ℕ → List ℕ
-ending number = if number == 1 then [] else codes "s"
+abbrev pub plural : ℕ → List ℕ
+plural number = if number == 1 then [] else codes "s"
 
 -- a number, and what is counted
 abbrev pub counted : ℕ → List ℕ → List ℕ
-counted number word = decimal number ++ (codes " " ++ (word ++ ending number))
+counted number word = decimal number ++ (codes " " ++ (word ++ plural number))
 
 -- a cell, and what is said of it
 abbrev pub of_cell : List ℕ → List ℕ → List ℕ

@@ -14,7 +14,7 @@ use mrp_survey::{Kind, Words};
 use std::alloc::AllocError;
 
 // Why a cell is wrong.
-#[derive(Clone, Copy, Debug)]
+#[derive(Clone, Copy)]
 pub(crate) enum Reason {
     // It is empty.
     Empty,

@@ -17,7 +17,7 @@ use mrp_tables::Version;
 use std::alloc::AllocError;
 
 // Why a record is not its table's header.
-#[derive(Clone, Copy, Debug)]
+#[derive(Clone, Copy)]
 pub(crate) enum Cause {
     Utf16,
     Workbook,

@@ -7,6 +7,7 @@ mod expected;
 mod header;
 mod line;
 mod lines;
+mod listing;
 mod looped;
 mod measure;
 mod record;
@@ -14,5 +15,7 @@ mod rule;
 mod sign;
 mod text;
 
-pub use lines::survey_lines;
+pub use lines::push_survey;
+pub use listing::Listing;
 pub use sign::{MOST_SIGNS, shown};
+pub use text::{plural, text_of_name};

@@ -1,12 +1,14 @@
 //! The line of a fault.
 
-ghost use Rattle.std.specs.Prelude.{◌≡◌, ◌++◌, IfOk, OnOk, map, option_map, string_bytes, unwrap_or};
+ghost use Rattle.std.specs.Prelude.{◌≡◌, ◌++◌, OnOk, map, option_map, string_bytes, unwrap_or};
 ghost use Rattle.mrp_tables.specs.declared.version.Version.TheVariants.{One};
 ghost use Rattle.mrp_advice.specs.Lines.{cell_of, column_words, columns_of, expected_words, fault_line, like_of, place_words, version_of, what_words};
+ghost use Rattle.mrp_advice.specs.Listing.{listed_in, with_line};
 
 use crate::cell::push_cell;
 use crate::expected::push_kind;
 use crate::header::{column_at, push_header};
+use crate::listing::Listing;
 use crate::record::{
     push_at_most, push_blank, push_columns, push_missing, push_too_many, push_wanted, row_words,
 };
@@ -16,9 +18,6 @@ use mrp_rows::Name;
 use mrp_survey::{Finding, Survey, What};
 use mrp_tables::Version;
 use std::alloc::{AllocError, Global};
-
-// Initial capacity for a line: most are shorter, and a longer one grows it.
-const USUAL_LENGTH: usize = 128;
 
 fn version_of(survey: &Survey) -> Version
     ensures { result ≡ version_of survey.now }
@@ -140,19 +139,32 @@ fn push_expected(
     }
 }
 
-// The line of a fault. The last record of a run of empty cells begins in this line of the file.
-pub(crate) fn fault_line(
+// Adds the words of a fault's line.
+fn push_words(
     alloc: Global,
     survey: &Survey,
     finding: &Finding,
     last: u64,
-) -> Result<String, AllocError>
-    ensures { IfOk result (λ text. string_bytes text ≡ fault_line survey.now finding.now last) }
+    text: &mut String,
+) -> Result<(), AllocError>
+    ensures { OnOk result (string_bytes text.new ≡ string_bytes text.old ++ fault_line survey.now finding.now last) }
 {
-    let mut text = String::with_capacity(alloc, USUAL_LENGTH)?;
-    push_place(survey, finding, &mut text)?;
-    push_what(survey, finding, last, &mut text)?;
+    push_place(survey, finding, text)?;
+    push_what(survey, finding, last, text)?;
     text.push_str("; expected ")?;
-    push_expected(alloc, survey, finding, &mut text)?;
-    Ok(text)
+    push_expected(alloc, survey, finding, text)
+}
+
+// Adds the line of a fault. The last record of a run of empty cells begins in this line of the file.
+pub(crate) fn push_fault(
+    alloc: Global,
+    survey: &Survey,
+    finding: &Finding,
+    last: u64,
+    lines: &mut Listing,
+) -> Result<(), AllocError>
+    ensures { OnOk result (listed_in lines.new ≡ with_line (listed_in lines.old) (fault_line survey.now finding.now last)) }
+{
+    push_words(alloc, survey, finding, last, &mut lines.text)?;
+    lines.end()
 }

@@ -1,27 +1,20 @@
 //! The line of items that need one another.
 
-ghost use Rattle.std.specs.Prelude.{◌≡◌, ◌++◌, [], IfOk, OnOk, codes, decimal, map, slice_index, slice_index_or, string_bytes, take};
+ghost use Rattle.std.specs.Prelude.{◌≡◌, ◌++◌, [], OnOk, codes, decimal, map, slice_index, slice_index_or, string_bytes, take};
+ghost use Rattle.mrp_advice.specs.Listing.{listed_in, with_line};
 ghost use Rattle.mrp_advice.specs.Loops.{bill_words, lines_words, loop_line, loop_place, names_words, needs_words, rest_words, way_words};
 ghost use Rattle.mrp_advice.specs.Shown.{shown};
 ghost use Rattle.mrp_advice.specs.Texts.{behind_each, listed};
 
+use crate::listing::Listing;
 use crate::sign::push_shown;
-use crate::text::push_number;
+use crate::text::{push_number, text_of_name};
 use mrp_rows::Name;
 use mrp_survey::FoundLoop;
-use std::alloc::{AllocError, Global};
+use std::alloc::AllocError;
 
 // The most items, and the most bill lines, that a line names.
 const MOST_NAMED: usize = 20;
-
-fn text_of_name(name: &Name) -> &str
-    ensures { result.now ≡ name.now }
-{
-    match str::from_utf8(name.as_bytes()) {
-        Ok(text) => text,
-        Err(_) => unreachable!(),
-    }
-}
 
 // What stands for the rest of so many, where there is one.
 fn rest_words(words: &'static str, count: usize) -> &'static str
@@ -157,13 +150,19 @@ fn push_way(found: &FoundLoop, text: &mut String) -> Result<(), AllocError>
     push_bill(found.lines(), text)
 }
 
-// The line of items that need one another.
-pub(crate) fn loop_line(alloc: Global, found: &FoundLoop) -> Result<String, AllocError>
-    ensures { IfOk result (λ text. string_bytes text ≡ loop_line found.now) }
+// Adds the words of the line of items that need one another.
+fn push_words(found: &FoundLoop, text: &mut String) -> Result<(), AllocError>
+    ensures { OnOk result (string_bytes text.new ≡ string_bytes text.old ++ loop_line found.now) }
 {
-    let mut text = String::new(alloc);
-    push_loop_place(found, &mut text)?;
-    push_way(found, &mut text)?;
-    text.push_str("; expected no way back")?;
-    Ok(text)
+    push_loop_place(found, text)?;
+    push_way(found, text)?;
+    text.push_str("; expected no way back")
+}
+
+// Adds the line of items that need one another.
+pub(crate) fn push_loop(found: &FoundLoop, lines: &mut Listing) -> Result<(), AllocError>
+    ensures { OnOk result (listed_in lines.new ≡ with_line (listed_in lines.old) (loop_line found.now)) }
+{
+    push_words(found, &mut lines.text)?;
+    lines.end()
 }

@@ -10,7 +10,7 @@ use mrp_tables::{LeadUnit, MOST_VERSION, Version};
 use std::alloc::AllocError;
 
 // What a number is.
-#[derive(Clone, Copy, Debug)]
+#[derive(Clone, Copy)]
 pub(crate) enum Measure {
     Version,
     Weeks,

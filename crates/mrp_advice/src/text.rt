@@ -1,10 +1,12 @@
 //! Pieces of a line.
 
 ghost use Rattle.std.specs.Prelude.{◌≡◌, ◌++◌, OnOk, decimal, map, string_bytes};
-ghost use Rattle.mrp_advice.specs.Texts.{behind_each, counted, ending, listed, of_cell};
+ghost use Rattle.mrp_advice.specs.Texts as spec;
+ghost use Rattle.mrp_advice.specs.Texts.{behind_each, counted, listed, of_cell};
 
 use crate::sign::push_shown;
 use itoa::Buffer;
+use mrp_rows::Name;
 use std::alloc::AllocError;
 
 // Adds a number.
@@ -15,11 +17,21 @@ pub(crate) fn push_number(number: u64, text: &mut String) -> Result<(), AllocErr
     text.push_str(digits.format(number))
 }
 
-// What makes a word a plural, by a number.
-fn ending(number: u64) -> &'static str
-    ensures { result.now ≡ ending number }
+/// What makes a word a plural, by a number: nothing or `s`.
+pub fn plural(number: u128) -> &'static str
+    ensures { result.now ≡ spec.plural number }
 {
     if number == 1 { "" } else { "s" }
+}
+
+/// A name as a text.
+pub fn text_of_name(name: &Name) -> &str
+    ensures { result.now ≡ name.now }
+{
+    match str::from_utf8(name.as_bytes()) {
+        Ok(text) => text,
+        Err(_) => unreachable!(),
+    }
 }
 
 // Adds a number, and what is counted.
@@ -29,7 +41,7 @@ pub(crate) fn push_counted(number: u64, word: &str, text: &mut String) -> Result
     push_number(number, text)?;
     text.push_str(" ")?;
     text.push_str(word)?;
-    text.push_str(ending(number))
+    text.push_str(plural(number as u128))
 }
 
 // Adds a cell, and what is said of it.

@@ -12,7 +12,7 @@ use Rattle.mrp_book.specs.declared.reply.Reply.{Reply}
 use Rattle.mrp_book.specs.Standing.{History}
 use Rattle.mrp_book.specs.History.{asked}
 use Rattle.mrp_tables.specs.declared.rows.ScriptRow.{ScriptRow}
-use Rattle.mrp_engine.specs.day.Script.{Script, record_of}
+use Rattle.mrp_script.specs.Script.{Script, record_of}
 use Rattle.mrp_engine.specs.day.RightDay.{asked_by}
 use Rattle.mrp_audit.specs.Parts.{IsNextPlace, IsSame}
 

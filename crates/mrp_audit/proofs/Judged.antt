@@ -18,20 +18,20 @@ use Rattle.mrp_book.specs.Standing.{History}
 use Rattle.mrp_book.specs.History.{IsLegal, asked}
 use Rattle.mrp_report.specs.section.HistoryText.{call_cells, entry_text, history_head, history_text, reply_cells}
 use Rattle.mrp_report.specs.page.Rows.{row}
-use Rattle.mrp_engine.specs.day.Script.{Script, is_run, record_of, script_of, with_run}
-use Rattle.mrp_engine.specs.day.Day.{IsAccepted, runs_of}
+use Rattle.mrp_script.specs.Script.{Script, is_run, record_of, script_of, with_run}
+use Rattle.mrp_engine.specs.day.Day.{runs_of}
+use Rattle.mrp_script.specs.Opened.{IsAccepted, Opens}
 use Rattle.mrp_engine.specs.day.RightDay.{FollowsDesks, asked_by}
-use Rattle.mrp_audit.specs.declared.claim.Claim.{Claim}
+use Rattle.mrp_claims.specs.declared.claim.Claim.{Claim}
 use Rattle.mrp_audit.specs.declared.fault.AuditFault.{AuditFault}
 use Rattle.mrp_audit.specs.declared.fault.AuditFault.TheVariants as fault
-use Rattle.mrp_audit.specs.Claims.{claim_of, claim_text, claimed, claimed_cells, claims_from, claims_text}
-use Rattle.mrp_engine.specs.declared.day.fault.OpenFault.{OpenFault}
-use Rattle.mrp_engine.specs.declared.day.fault.OpenFault.TheVariants as opening
-use Rattle.mrp_engine.specs.day.Opened.{Opens}
+use Rattle.mrp_claims.specs.Claims.{claim_of, claim_text, claimed, claimed_cells, claims_from, claims_text}
+use Rattle.mrp_script.specs.declared.fault.OpenFault.{OpenFault}
+use Rattle.mrp_script.specs.declared.fault.OpenFault.TheVariants as opening
 use Rattle.mrp_audit.specs.Parts.{ComparesDesks, ComparesHistory, ComparesReports, FollowsClaims}
 use Rattle.mrp_audit.specs.Input.{input_fault}
 use Rattle.mrp_audit.specs.Reading.{ReadsHistory}
-use Rattle.mrp_audit.specs.Shape.{BeginsWith}
+use Rattle.mrp_claims.specs.Shape.{BeginsWith}
 use Rattle.mrp_audit.specs.Verdict.{IsDeskRight, IsToldBy, Judges, JudgesText}
 
 replies-same : (r : Reply) → reply_cells r ≡ claimed_cells (claimed r)

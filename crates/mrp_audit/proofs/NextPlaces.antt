@@ -7,7 +7,7 @@ use Rattle.std.specs.Prelude.{slice_get, slice_index}
 use Rattle.mrp_tables.specs.declared.limits.TheConstants.{MOST_DESKS}
 use Rattle.mrp_book.specs.declared.call.Call.{Call}
 use Rattle.mrp_engine.specs.day.RightDay.{asked_by}
-use Rattle.mrp_engine.specs.day.Script.{Script}
+use Rattle.mrp_script.specs.Script.{Script}
 use Rattle.mrp_audit.specs.NextPlaces.{AreBehind, AreNext, HaveCome}
 use Rattle.mrp_audit.specs.Parts.{IsNextPlace, IsSame}
 use Rattle.mrp_audit.proofs.DeskRecords.{asked_by-next, asked_by-one, asked_by-other, none-left}

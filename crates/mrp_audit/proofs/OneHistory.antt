@@ -10,14 +10,14 @@ use Rattle.mrp_book.specs.declared.call.Call.{Call}
 use Rattle.mrp_book.specs.declared.call.Call.TheVariants as call
 use Rattle.mrp_report.specs.section.Cells.{name_at}
 use Rattle.mrp_report.specs.section.HistoryText.{call_cells, history_head}
-use Rattle.mrp_audit.specs.declared.claim.Claim.{Claim}
-use Rattle.mrp_audit.specs.declared.claim.ClaimedReply.{ClaimedReply}
-use Rattle.mrp_audit.specs.declared.claim.ClaimedReply.TheVariants as said
-use Rattle.mrp_audit.specs.Claims.{IsClaim, IsClaimable, IsScripted, claim_cells, claim_text, claimed_cells, claims_from}
+use Rattle.mrp_claims.specs.declared.claim.Claim.{Claim}
+use Rattle.mrp_claims.specs.declared.claim.ClaimedReply.{ClaimedReply}
+use Rattle.mrp_claims.specs.declared.claim.ClaimedReply.TheVariants as said
+use Rattle.mrp_claims.specs.Claims.{IsClaim, IsClaimable, IsScripted, claim_cells, claim_text, claimed_cells, claims_from}
 use Rattle.mrp_audit.specs.Kept.{KeepsLimits}
-use Rattle.mrp_audit.specs.Shape.{BeginsWith, EndsHistory}
-use Rattle.mrp_audit.proofs.ClaimTexts.{cells-told, claim-goes-on}
-use Rattle.mrp_audit.proofs.Names.{apart, master-there}
+use Rattle.mrp_claims.specs.Shape.{BeginsWith, EndsHistory}
+use Rattle.mrp_claims.proofs.ClaimTexts.{cells-told, claim-goes-on}
+use Rattle.mrp_claims.proofs.Names.{apart, master-there}
 
 -- a record's cells after the first
 abbrev second : List (List ℕ) → List ℕ

@@ -8,18 +8,18 @@ use Rattle.mrp_tables.specs.Tables.{Tables}
 use Rattle.mrp_master.specs.Supply.{supply_of}
 use Rattle.mrp_book.specs.Standing.{History}
 use Rattle.mrp_item.specs.Inputs.{Inputs}
-use Rattle.mrp_engine.specs.day.Day.{IsAccepted, runs_of}
+use Rattle.mrp_engine.specs.day.Day.{runs_of}
+use Rattle.mrp_script.specs.Opened.{IsAccepted, Opens}
 use Rattle.mrp_engine.specs.day.RightDay.{run_report}
-use Rattle.mrp_engine.proofs.OneOutcome.{accepted-not-refused, one-fault, same-tables}
-use Rattle.mrp_audit.specs.declared.claim.Claim.{Claim}
+use Rattle.mrp_script.proofs.OneOpening.{accepted-not-refused, one-fault, same-tables}
+use Rattle.mrp_claims.specs.declared.claim.Claim.{Claim}
 use Rattle.mrp_audit.specs.declared.fault.AuditFault.{AuditFault}
 use Rattle.mrp_audit.specs.declared.fault.AuditFault.TheVariants as fault
-use Rattle.mrp_audit.specs.Claims.{claim_of}
+use Rattle.mrp_claims.specs.Claims.{claim_of}
 use Rattle.mrp_audit.specs.Kept.{KeepsLimits}
-use Rattle.mrp_audit.specs.Shape.{BeginsWith}
-use Rattle.mrp_engine.specs.day.Opened.{Opens}
-use Rattle.mrp_engine.specs.declared.day.fault.OpenFault.{OpenFault}
-use Rattle.mrp_engine.specs.declared.day.fault.OpenFault.TheVariants as opening
+use Rattle.mrp_claims.specs.Shape.{BeginsWith}
+use Rattle.mrp_script.specs.declared.fault.OpenFault.{OpenFault}
+use Rattle.mrp_script.specs.declared.fault.OpenFault.TheVariants as opening
 use Rattle.mrp_audit.specs.Input.{input_fault}
 use Rattle.mrp_audit.specs.Verdict.{HasHistory, HasMore, IsFirstDesk, IsFirstFalse, IsFirstMissing, IsVerdict, IsWrong, Judges, JudgesText, reports_text}
 use Rattle.mrp_audit.proofs.OneHistory.{begins-once}

@@ -10,12 +10,12 @@ use Rattle.mrp_master.specs.Supply.{supply_of}
 use Rattle.mrp_book.specs.declared.call.Call.{Call}
 use Rattle.mrp_book.specs.declared.call.Call.TheVariants as call
 use Rattle.mrp_book.specs.Standing.{History}
-use Rattle.mrp_engine.specs.day.Script.{record_of, is_run, script_of, with_run}
+use Rattle.mrp_script.specs.Script.{is_run, record_of, script_of, with_run}
 use Rattle.mrp_engine.specs.day.Day.{runs_of}
 use Rattle.mrp_engine.proofs.lemmas.live.DeskHistories.{run-adds}
-use Rattle.mrp_engine.proofs.lemmas.day.ScriptCalls.{call-fits}
+use Rattle.mrp_script.proofs.ScriptCalls.{call-fits}
 use Rattle.mrp_audit.specs.declared.fault.AuditFault.{AuditFault}
-use Rattle.mrp_audit.specs.Claims.{claim_of}
+use Rattle.mrp_claims.specs.Claims.{claim_of}
 use Rattle.mrp_audit.specs.Kept.{KeepsLimits}
 use Rattle.mrp_audit.specs.Parts.{ComparesReports}
 use Rattle.mrp_audit.specs.Replays.{IsFollowedFront, IsTaken}

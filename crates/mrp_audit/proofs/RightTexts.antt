@@ -26,21 +26,21 @@ use Rattle.mrp_item.specs.Inputs.{Inputs}
 use Rattle.mrp_item.specs.Plan.{ItemPlan, plan_of}
 use Rattle.mrp_report.specs.ReportText.{report_text}
 use Rattle.mrp_day.specs.Sections.{head_of}
-use Rattle.mrp_engine.specs.day.Script.{Script, call_of, is_run, record_of, script_of, with_run}
-use Rattle.mrp_engine.specs.day.Day.{IsAccepted, runs_of}
+use Rattle.mrp_script.specs.Script.{Script, call_of, is_run, record_of, script_of, with_run}
+use Rattle.mrp_engine.specs.day.Day.{runs_of}
+use Rattle.mrp_script.specs.Opened.{IsAccepted, Opens}
 use Rattle.mrp_engine.specs.day.RightDay.{AnswersDesks, FollowsDesks, IsRightDay, asked_by, right_text, run_report, text_of_plan}
-use Rattle.mrp_engine.proofs.OneOutcome.{accepted-not-refused, same-tables}
+use Rattle.mrp_script.proofs.OneOpening.{accepted-not-refused, same-tables}
 use Rattle.mrp_engine.proofs.RightDays.{parts-hold}
-use Rattle.mrp_engine.proofs.lemmas.day.ScriptCalls.{call-fits}
-use Rattle.mrp_audit.specs.declared.claim.Claim.{Claim}
+use Rattle.mrp_script.proofs.ScriptCalls.{call-fits}
+use Rattle.mrp_claims.specs.declared.claim.Claim.{Claim}
 use Rattle.mrp_audit.specs.declared.fault.AuditFault.{AuditFault}
 use Rattle.mrp_audit.specs.declared.fault.AuditFault.TheVariants as fault
-use Rattle.mrp_audit.specs.Claims.{IsClaim, IsClaimable, IsScripted, claim_of, claimed}
+use Rattle.mrp_claims.specs.Claims.{IsClaim, IsClaimable, IsScripted, claim_of, claimed}
 use Rattle.mrp_audit.specs.Kept.{KeepsLimits}
-use Rattle.mrp_audit.specs.Shape.{BeginsWith, EndsHistory}
-use Rattle.mrp_engine.specs.day.Opened.{Opens}
-use Rattle.mrp_engine.specs.declared.day.fault.OpenFault.{OpenFault}
-use Rattle.mrp_engine.specs.declared.day.fault.OpenFault.TheVariants as opening
+use Rattle.mrp_claims.specs.Shape.{BeginsWith, EndsHistory}
+use Rattle.mrp_script.specs.declared.fault.OpenFault.{OpenFault}
+use Rattle.mrp_script.specs.declared.fault.OpenFault.TheVariants as opening
 use Rattle.mrp_audit.specs.Input.{input_fault}
 use Rattle.mrp_audit.specs.Verdict.{HasMore, IsFirstFalse, IsFirstMissing, IsWrong, JudgesText, Passes, reports_text}
 use Rattle.mrp_engine.proofs.lemmas.live.DeskCounts.{few-by-number}

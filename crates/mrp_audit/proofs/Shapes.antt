@@ -5,13 +5,13 @@ use Rattle.std.proofs.lemmas.List.{append-nil, append_cancel_left, drop-drop, le
 use Rattle.std.proofs.lemmas.List.Elements.{All-push}
 use Rattle.mrp_tables.specs.Tables.{Tables}
 use Rattle.mrp_report.specs.section.HistoryText.{history_head}
-use Rattle.mrp_audit.specs.declared.claim.Claim.{Claim}
+use Rattle.mrp_claims.specs.declared.claim.Claim.{Claim}
 use Rattle.mrp_audit.specs.declared.fault.AuditFault.{AuditFault}
 use Rattle.mrp_audit.specs.declared.fault.AuditFault.TheVariants as fault
-use Rattle.mrp_audit.specs.Claims.{IsClaim, claim_text, claims_from, claims_text}
+use Rattle.mrp_claims.specs.Claims.{IsClaim, claim_text, claims_from, claims_text}
 use Rattle.mrp_audit.specs.Reading.{ReadsHistory, TakesClaim}
-use Rattle.mrp_audit.specs.Shape.{BeginsWith, EndsHistory, HasShape}
-use Rattle.mrp_audit.proofs.ClaimTexts.{claims-push, follows}
+use Rattle.mrp_claims.specs.Shape.{BeginsWith, EndsHistory, HasShape}
+use Rattle.mrp_claims.proofs.ClaimTexts.{claims-push, follows}
 
 -- a text begins with these claims, which are so many bytes
 pub record HasRead (t : Tables) (text : List ℕ) (claims : List Claim) (number len : ℕ) : Type 0 where

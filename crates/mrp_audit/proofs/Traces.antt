@@ -13,9 +13,9 @@ use Rattle.mrp_book.specs.Books.{OrderBook}
 use Rattle.mrp_book.specs.Standing.{History}
 use Rattle.mrp_book.specs.History.{Fits, IsLegal, IsReply, next_number}
 use Rattle.mrp_book.proofs.Histories.{reply-unique}
-use Rattle.mrp_audit.specs.declared.claim.Claim.{Claim}
-use Rattle.mrp_audit.specs.declared.claim.ClaimedReply.{ClaimedReply}
-use Rattle.mrp_audit.specs.Claims.{IsScripted, claim_of, claimed}
+use Rattle.mrp_claims.specs.declared.claim.Claim.{Claim}
+use Rattle.mrp_claims.specs.declared.claim.ClaimedReply.{ClaimedReply}
+use Rattle.mrp_claims.specs.Claims.{IsScripted, claim_of, claimed}
 use Rattle.mrp_audit.specs.declared.fault.AuditFault.{AuditFault}
 use Rattle.mrp_audit.specs.declared.fault.AuditFault.TheVariants as fault
 use Rattle.mrp_audit.specs.Parts.{FollowsClaims, IsClaimJudged, Retraces}

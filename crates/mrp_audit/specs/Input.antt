@@ -1,6 +1,6 @@
 -- The fault for a bundle whose shop is not opened.
-use Rattle.mrp_engine.specs.declared.day.fault.OpenFault.{OpenFault}
-use Rattle.mrp_engine.specs.declared.day.fault.OpenFault.TheVariants as opening
+use Rattle.mrp_script.specs.declared.fault.OpenFault.{OpenFault}
+use Rattle.mrp_script.specs.declared.fault.OpenFault.TheVariants as opening
 use Rattle.mrp_audit.specs.declared.fault.AuditFault.{AuditFault}
 use Rattle.mrp_audit.specs.declared.fault.AuditFault.TheVariants.{Input, NoMemory}
 

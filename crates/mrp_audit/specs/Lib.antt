@@ -1,10 +1,8 @@
-pub mod Claims
 pub mod Comparing
 pub mod Kept
 pub mod Parts
 pub mod NextPlaces
 pub mod Reading
 pub mod Replays
-pub mod Shape
 pub mod Verdict
 pub mod Input

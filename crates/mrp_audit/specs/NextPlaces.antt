@@ -3,7 +3,7 @@ use Rattle.std.specs.Prelude.{ℕ, ◌≡◌, ◌≤◌, ◌+◌, List, Some, le
 use Rattle.mrp_tables.specs.declared.limits.TheConstants.{MOST_DESKS}
 use Rattle.mrp_book.specs.declared.call.Call.{Call}
 use Rattle.mrp_engine.specs.day.RightDay.{asked_by}
-use Rattle.mrp_engine.specs.day.Script.{Script}
+use Rattle.mrp_script.specs.Script.{Script}
 use Rattle.mrp_audit.specs.Parts.{IsNextPlace}
 
 -- for the records from a place on: the first of each desk, by its number, and for each record the next one of

@@ -13,18 +13,18 @@ use Rattle.mrp_book.specs.Standing.{History}
 use Rattle.mrp_book.specs.History.{IsLegal, IsReply, next_number}
 use Rattle.mrp_item.specs.Inputs.{Inputs}
 use Rattle.mrp_item.specs.Places.{WholePlan}
-use Rattle.mrp_engine.specs.day.Script.{Script}
+use Rattle.mrp_script.specs.Script.{Script}
 use Rattle.mrp_engine.specs.day.Day.{runs_of}
 use Rattle.mrp_engine.specs.day.RightDay.{FollowsDesks, asked_by}
 use Rattle.mrp_report.specs.ReportText.{report_text}
 use Rattle.mrp_report.specs.declared.fault.ReportFault.{ReportFault}
 use Rattle.mrp_explode.specs.declared.fault.RunFault.{RunFault}
 use Rattle.mrp_explode.specs.declared.fault.RunFault.TheVariants as run
-use Rattle.mrp_audit.specs.declared.claim.Claim.{Claim}
-use Rattle.mrp_audit.specs.declared.claim.ClaimedReply.{ClaimedReply}
+use Rattle.mrp_claims.specs.declared.claim.Claim.{Claim}
+use Rattle.mrp_claims.specs.declared.claim.ClaimedReply.{ClaimedReply}
 use Rattle.mrp_audit.specs.declared.fault.AuditFault.{AuditFault}
 use Rattle.mrp_audit.specs.declared.fault.AuditFault.TheVariants as fault
-use Rattle.mrp_audit.specs.Claims.{claim_of, claimed}
+use Rattle.mrp_claims.specs.Claims.{claim_of, claimed}
 use Rattle.mrp_audit.specs.Verdict.{HasMore, IsFirstDesk, IsFirstFalse, IsFirstMissing, IsToldBy, reports_text}
 
 -- one more entry is as it is claimed, or its reply is not the one that the entries before it decide

@@ -11,7 +11,7 @@ use Rattle.mrp_book.specs.Standing.{History}
 use Rattle.mrp_book.specs.History.{Fits, IsLegal}
 use Rattle.mrp_report.specs.section.HistoryText.{history_text}
 use Rattle.mrp_engine.specs.day.RightDay.{FollowsDesks}
-use Rattle.mrp_audit.specs.Shape.{EndsHistory}
+use Rattle.mrp_claims.specs.Shape.{EndsHistory}
 
 -- a record that a book of this supply takes
 pub record IsTaken (b : Supply) (r : ℕ × Call) : Type 0 where

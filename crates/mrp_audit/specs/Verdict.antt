@@ -7,14 +7,15 @@ use Rattle.mrp_book.specs.declared.reply.Reply.{Reply}
 use Rattle.mrp_book.specs.Standing.{History}
 use Rattle.mrp_book.specs.History.{IsLegal, IsReply, asked, next_number}
 use Rattle.mrp_item.specs.Inputs.{Inputs}
-use Rattle.mrp_engine.specs.day.Script.{script_of, with_run}
-use Rattle.mrp_engine.specs.day.Day.{IsAccepted, IsRefused, runs_of}
+use Rattle.mrp_script.specs.Script.{script_of, with_run}
+use Rattle.mrp_engine.specs.day.Day.{runs_of}
+use Rattle.mrp_script.specs.Opened.{IsAccepted, IsRefused}
 use Rattle.mrp_engine.specs.day.RightDay.{AnswersDesks, FollowsDesks, IsRightDay, asked_by, right_text, run_report}
-use Rattle.mrp_audit.specs.declared.claim.Claim.{Claim}
+use Rattle.mrp_claims.specs.declared.claim.Claim.{Claim}
 use Rattle.mrp_audit.specs.declared.fault.AuditFault.{AuditFault}
 use Rattle.mrp_audit.specs.declared.fault.AuditFault.TheVariants.{Input, Shape, HistoryNotLegal, DeskRows, ReportDiffers, NoMemory}
-use Rattle.mrp_audit.specs.Claims.{claim_of, claimed}
-use Rattle.mrp_audit.specs.Shape.{BeginsWith, HasShape}
+use Rattle.mrp_claims.specs.Claims.{claim_of, claimed}
+use Rattle.mrp_claims.specs.Shape.{BeginsWith, HasShape}
 
 -- the claims of a legal history
 pub record IsToldBy (t : Tables) (h : History) (claims : List Claim) : Type 0 where

@@ -4,10 +4,10 @@ ghost use Rattle.std.specs.Prelude.{◌≤◌, ◌↔◌, IsTrue, length};
 ghost use Rattle.mrp_book.specs.History.{asked};
 ghost use Rattle.mrp_audit.specs.Parts.{ComparesDesks, IsNextPlace, IsSame};
 
-use crate::claim::is_same_call;
 use crate::fault::AuditFault;
 use crate::following::are_followed;
 use mrp_book::{Call, Entry, Reply};
+use mrp_claims::is_same_call;
 use mrp_tables::limits::MOST_DESKS;
 use std::alloc::Global;
 

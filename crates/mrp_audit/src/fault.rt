@@ -1,8 +1,8 @@
 //! Why a text is not a right day of a bundle.
 
-use mrp_engine::OpenFault;
 use mrp_qty::NoMemory;
 use mrp_rows::Fault;
+use mrp_script::OpenFault;
 use std::alloc::AllocFailed;
 use thiserror::Error;
 

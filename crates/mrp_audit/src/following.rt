@@ -4,12 +4,12 @@ ghost use Rattle.std.specs.Prelude.{◌≡◌, ◌<◌, ◌+◌, ◌++◌, ◌�
 ghost use Rattle.std.specs.Int.{IsInRange};
 ghost use Rattle.mrp_tables.specs.declared.limits.TheConstants.{MOST_DESKS};
 ghost use Rattle.mrp_book.specs.History.{asked};
-ghost use Rattle.mrp_engine.specs.day.Script.{Script};
+ghost use Rattle.mrp_script.specs.Script.{Script};
 ghost use Rattle.mrp_audit.specs.NextPlaces.{AreBehind, AreNext, HaveCome};
 ghost use Rattle.mrp_audit.specs.Parts.{IsSame};
 
-use crate::claim::is_same_call;
 use mrp_book::{Call, Entry, Reply};
+use mrp_claims::is_same_call;
 use mrp_qty::NoMemory;
 use mrp_tables::limits::MOST_DESKS;
 use std::alloc::Global;

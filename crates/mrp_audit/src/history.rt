@@ -4,13 +4,13 @@ ghost use Rattle.std.specs.Prelude.{◌≡◌, ◌<◌, ◌≤◌, All, length};
 ghost use Rattle.std.specs.Int.{IsInRange};
 ghost use Rattle.mrp_tables.specs.declared.limits.TheConstants.{MOST_DESKS, MOST_ENTRIES};
 ghost use Rattle.mrp_book.specs.History.{Fits};
-ghost use Rattle.mrp_audit.specs.Claims.{IsClaim};
+ghost use Rattle.mrp_claims.specs.Claims.{IsClaim};
 ghost use Rattle.mrp_audit.specs.Parts.{FollowsClaims, IsClaimJudged, Retraces};
 
-use crate::claim::{Claim, ClaimedReply, is_claimed};
 use crate::fault::AuditFault;
 use mrp_bill::Shop;
 use mrp_book::{Book, History, Refused, Reply};
+use mrp_claims::{Claim, ClaimedReply, is_claimed};
 use std::alloc::Global;
 
 // Whether a claim is what the book answered in the entry with this number.

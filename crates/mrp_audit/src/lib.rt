@@ -2,20 +2,15 @@
 #![tactic(auto)]
 
 mod audit;
-mod call;
-mod cell;
-mod claim;
 mod comparing;
 mod desks;
 mod fault;
 mod following;
 mod history;
-mod record;
 mod replay;
 mod reports;
 mod script;
 mod shape;
-mod spelling;
 
 pub use audit::check;
 pub use fault::AuditFault;

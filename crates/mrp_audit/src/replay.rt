@@ -17,10 +17,10 @@ use crate::shape::is_end;
 use memchr::memchr;
 use mrp_bill::Shop;
 use mrp_book::{Book, Call, History};
-use mrp_engine::answer;
 use mrp_qty::{NoMemory, read_number};
 use mrp_report::write_history;
 use mrp_rows::Told;
+use mrp_script::answer;
 use mrp_tables::limits::MOST_DESKS;
 use std::alloc::Global;
 

@@ -1,12 +1,12 @@
 //! The calls that the desks of a shop should make.
 
 ghost use Rattle.std.specs.Prelude.{◌≡◌, IfOk};
-ghost use Rattle.mrp_engine.specs.day.Script.{script_of, with_run};
+ghost use Rattle.mrp_script.specs.Script.{script_of, with_run};
 
 use mrp_bill::Shop;
 use mrp_book::Call;
-use mrp_engine::{added_run, call_of};
 use mrp_qty::NoMemory;
+use mrp_script::{added_run, call_of};
 use std::alloc::Global;
 
 /// The calls of a shop's script, each with its desk, in order. A script without a run is taken with

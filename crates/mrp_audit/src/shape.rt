@@ -2,12 +2,11 @@
 
 ghost use Rattle.std.specs.Prelude.{◌↔◌, IsTrue};
 ghost use Rattle.mrp_audit.specs.Reading.{ReadsHistory, TakesClaim};
-ghost use Rattle.mrp_audit.specs.Shape.{EndsHistory};
+ghost use Rattle.mrp_claims.specs.Shape.{EndsHistory};
 
-use crate::claim::Claim;
 use crate::fault::AuditFault;
-use crate::record::{claim_in, split_record};
 use mrp_bill::Shop;
+use mrp_claims::{Claim, claim_in, split_record};
 use mrp_day::Section;
 use mrp_tables::limits::MOST_ENTRIES;
 use std::alloc::Global;

@@ -22,7 +22,7 @@ use Rattle.mrp_book.specs.Standing.{History, booked, booking_of, kept, standing}
 use Rattle.mrp_book.specs.History.{IsLegal, IsReply, MayFollow, asked}
 use Rattle.mrp_book.proofs.Histories.{IsLegalFrom}
 use Rattle.mrp_book.proofs.Standings.{due_by-append, not_cancelled, standing-more, standing_after}
-use Rattle.mrp_engine.specs.day.Script.{record_of}
+use Rattle.mrp_script.specs.Script.{record_of}
 use Rattle.mrp_carry.specs.Periods.{BooksAgain, IsBooked, StandsAgain}
 use Rattle.mrp_carry.proofs.RowsRead.{ReadsAgain}
 

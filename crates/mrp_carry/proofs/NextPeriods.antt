@@ -46,8 +46,8 @@ use Rattle.mrp_book.proofs.Histories.{IsLegalFrom, legal-covered, legal-front, l
 use Rattle.mrp_book.proofs.Standings.{covered-fewer}
 use Rattle.mrp_report.specs.page.Rows.{row}
 use Rattle.mrp_report.specs.section.Cells.{name_at}
-use Rattle.mrp_engine.specs.day.Day.{AnswersScript, IsAccepted}
-use Rattle.mrp_engine.specs.day.Script.{Script, is_run, record_of, script_of, with_run}
+use Rattle.mrp_script.specs.Opened.{IsAccepted}
+use Rattle.mrp_script.specs.Script.{AnswersScript, Script, is_run, record_of, script_of, with_run}
 use Rattle.mrp_carry.specs.declared.form.CarryForm.TheVariants as form
 use Rattle.mrp_carry.specs.Carried.{carried, is_due_from}
 use Rattle.mrp_carry.specs.Rows.{IsRecordOf, IsText, Row, columns_of}

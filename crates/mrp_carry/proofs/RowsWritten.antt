@@ -12,7 +12,7 @@ use Rattle.csv.specs.Writing.{text_written}
 use Rattle.csv.specs.declared.writer.Writer.{Writer}
 use Rattle.mrp_book.specs.declared.booking.Booking.{Booking}
 use Rattle.mrp_report.specs.page.Rows.{row}
-use Rattle.mrp_engine.proofs.lemmas.live.DeskRuns.{zip-push}
+use Rattle.mrp_script.proofs.Zipped.{zip-push}
 use Rattle.mrp_carry.specs.Carried.{carried, is_due_from, renumbered}
 use Rattle.mrp_carry.specs.Rows.{Row, Writes}
 

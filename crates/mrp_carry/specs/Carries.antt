@@ -4,9 +4,9 @@ use Rattle.mrp_cal.specs.Calendar.{ShopCalendar}
 use Rattle.mrp_rows.specs.declared.faults.TheConstants as faults
 use Rattle.mrp_tables.specs.Tables.{Tables}
 use Rattle.mrp_book.specs.declared.booking.Booking.{Booking}
-use Rattle.mrp_engine.specs.declared.day.fault.OpenFault.{OpenFault}
-use Rattle.mrp_engine.specs.declared.day.fault.OpenFault.TheVariants as opening
-use Rattle.mrp_engine.specs.day.Day.{IsAccepted, IsRefused}
+use Rattle.mrp_script.specs.declared.fault.OpenFault.{OpenFault}
+use Rattle.mrp_script.specs.declared.fault.OpenFault.TheVariants as opening
+use Rattle.mrp_script.specs.Opened.{IsAccepted, IsRefused}
 use Rattle.mrp_carry.specs.declared.carrying.Carried.{Carried}
 use Rattle.mrp_carry.specs.declared.fault.CarryFault.{CarryFault}
 use Rattle.mrp_carry.specs.declared.fault.CarryFault.TheVariants.{Refused, NoSuchStart, NoMemory}

@@ -8,7 +8,7 @@ use crate::standing::standing_in;
 use crate::start::{no_such_start, start_week};
 use crate::text::{left_behind, text_of};
 use mrp_bill::Shop;
-use mrp_engine::open_shop;
+use mrp_script::open_shop;
 use std::alloc::Global;
 use std::thread::Threads;
 

@@ -1,9 +1,9 @@
 //! Why no bookings were carried.
 
 use jiff::civil::Date;
-use mrp_engine::OpenFault;
 use mrp_qty::NoMemory;
 use mrp_rows::Fault;
+use mrp_script::OpenFault;
 use thiserror::Error;
 
 /// Why no bookings were carried.

@@ -6,31 +6,17 @@ ghost use Rattle.mrp_master.specs.Lines.{IsLine};
 ghost use Rattle.mrp_master.specs.Supply.{supply_of};
 ghost use Rattle.mrp_book.specs.History.{asked};
 ghost use Rattle.mrp_book.specs.Standing.{standing};
-ghost use Rattle.mrp_engine.specs.day.Script.{script_of};
+ghost use Rattle.mrp_script.specs.Script.{script_of};
 ghost use Rattle.mrp_carry.specs.Standing.{AreStanding};
 
 use mrp_bill::Shop;
 use mrp_book::{Book, Booking, Call, Refused, Reply, Snapshot};
-use mrp_engine::{answer, call_of};
 use mrp_qty::NoMemory;
+use mrp_script::answer_records;
 use std::alloc::Global;
 
 // The desk of the call for the bookings that stand, which is no record of the script.
 const DESK: u64 = 1;
-
-// The order book of a shop, in which the records of its script were answered in row order.
-fn answered(alloc: Global, shop: &Shop) -> Result<Book, NoMemory>
-    ensures supply { IfOk result (λ book. book.supply ≡ supply_of shop.now.tables) }
-    ensures asked { IfOk result (λ book. asked book.entries ≡ script_of shop.now.tables) }
-    ensures few { IfOk result (λ book. length book.entries < MOST_ENTRIES) }
-{
-    let script = shop.tables().script();
-    let mut book = Book::open(alloc, shop)?;
-    for row in script {
-        answer(alloc, &mut book, row.desk, call_of(shop, row.call))?;
-    }
-    Ok(book)
-}
 
 // The bookings that stand in a book that is not full.
 fn snapshot_of(alloc: Global, book: &mut Book) -> Result<Snapshot, NoMemory>
@@ -63,7 +49,7 @@ pub(crate) fn standing_in(alloc: Global, shop: &Shop) -> Result<Vec<Booking>, No
     ensures standing { IfOk result (λ bookings. AreStanding shop.now.tables bookings.items) }
     ensures lines { IfOk result (λ bookings. All (λ b. IsLine (supply_of shop.now.tables) b.line) bookings.items) }
 {
-    let mut book = answered(alloc, shop)?;
+    let mut book = answer_records(alloc, shop)?;
     let _legal = book.entries();
     let snapshot = snapshot_of(alloc, &mut book)?;
     bookings_of(alloc, &snapshot)

@@ -16,10 +16,10 @@ use Rattle.mrp_book.specs.History.{asked}
 use Rattle.mrp_item.specs.Inputs.{Inputs}
 use Rattle.mrp_report.specs.section.HistoryText.{history_text}
 use Rattle.mrp_report.specs.ReportText.{report_text}
-use Rattle.mrp_engine.specs.day.Day.{AnswersScript, IsDay, IsDayBy, IsPlannable, runs_of}
+use Rattle.mrp_engine.specs.day.Day.{IsDay, IsDayBy, IsPlannable, runs_of}
+use Rattle.mrp_script.specs.Script.{AnswersScript, Script, is_run, record_of, script_of, with_run}
 use Rattle.mrp_engine.specs.Laws.{CallsByWords, CallsFromScript, IsOfWord}
 use Rattle.mrp_engine.specs.day.RightDay.{AnswersDesks, IsRightDay, asked_by, run_report, text_of_plan}
-use Rattle.mrp_engine.specs.day.Script.{Script, is_run, record_of, script_of, with_run}
 
 -- row order is an order of the desks
 pub in-order : (t : Tables) (h : History) → AnswersScript t h → AnswersDesks t h

@@ -19,11 +19,12 @@ use Rattle.mrp_book.specs.Standing.{History}
 use Rattle.mrp_book.specs.History.{Fits, IsLegal, asked}
 use Rattle.mrp_item.specs.Inputs.{Inputs, item_at}
 use Rattle.mrp_item.specs.Plan.{ItemPlan, plan_of}
-use Rattle.mrp_engine.specs.day.Day.{AnswersScript, IsAccepted, IsPlannable, day_text, loop_fault, runs_of}
+use Rattle.mrp_engine.specs.day.Day.{IsPlannable, day_text, runs_of}
+use Rattle.mrp_script.specs.Opened.{IsAccepted, loop_fault}
+use Rattle.mrp_script.specs.Script.{AnswersScript, Script, is_run, record_of, script_of, with_run}
 use Rattle.mrp_engine.specs.Laws.{ArePlannedOrRefused, HasDay, HasReading, HasLoopOrNone}
-use Rattle.mrp_engine.specs.day.Script.{Script, is_run, record_of, script_of, with_run}
-use Rattle.mrp_engine.proofs.lemmas.day.ScriptCalls.{call-fits}
-use Rattle.mrp_engine.proofs.lemmas.day.ShopFaults.{sections-refused, tables-are}
+use Rattle.mrp_script.proofs.ScriptCalls.{call-fits}
+use Rattle.mrp_script.proofs.ShopFaults.{sections-refused, tables-are}
 
 -- what the laws that this one rests on say: tables keep their limits
 abbrev pub KeepLimits : Type 0

@@ -14,8 +14,9 @@ use Rattle.mrp_book.specs.declared.reply.Reply.{Reply}
 use Rattle.mrp_book.specs.declared.reply.Reply.TheVariants as reply
 use Rattle.mrp_book.specs.Standing.{History, booked, standing}
 use Rattle.mrp_item.specs.Inputs.{Inputs}
-use Rattle.mrp_engine.specs.day.Script.{call_of, script_of, with_run}
-use Rattle.mrp_engine.specs.day.Day.{IsDay, IsFirstRefusal, IsPlannable, IsRefused, IsTooLarge, runs_of}
+use Rattle.mrp_script.specs.Script.{call_of, script_of, with_run}
+use Rattle.mrp_engine.specs.day.Day.{IsDay, IsFirstRefusal, IsPlannable, IsTooLarge, runs_of}
+use Rattle.mrp_script.specs.Opened.{IsRefused}
 
 -- a bundle has tables, which keep their limits, or a first fault
 abbrev pub HasReading : List ℕ → Type 0

@@ -8,26 +8,21 @@ ghost use Rattle.mrp_engine.specs.day.Planned.{PlansHistory};
 
 mod fault;
 mod net_change;
-mod opening;
 mod planning;
 mod run;
 mod run_plans;
 mod runs;
-mod script;
 mod writing;
 
-pub use fault::{DayFault, OpenFault};
+pub use fault::DayFault;
 use mrp_book::History;
 use mrp_item::{Plan, ShopRows};
 pub use net_change::replan;
-pub use opening::open_shop;
 pub use planning::plan_run;
 pub(crate) use planning::{inputs_of, name_of};
 pub use run::{MOST_WORKERS, run_bundle, run_day};
 use runs::plan_runs;
 pub(crate) use runs::{RunResult, plan_or_refuse};
-pub(crate) use script::ADDED_DESK;
-pub use script::{added_run, answer, call_of};
 use std::alloc::Global;
 use std::sync::{Arc, Wait};
 use std::thread::Threads;

@@ -6,9 +6,6 @@ mod event_core;
 pub mod laws;
 mod live;
 
-pub use day::{
-    Day, DayFault, MOST_WORKERS, OpenFault, added_run, answer, call_of, open_shop, plan_run,
-    replan, run_bundle, run_day,
-};
+pub use day::{Day, DayFault, MOST_WORKERS, plan_run, replan, run_bundle, run_day};
 pub use event_core::{Answer, Core, Event};
 pub use live::{answer_by_desks, live_bundle, live_day};

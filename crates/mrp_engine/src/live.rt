@@ -13,10 +13,11 @@ mod ready;
 mod serving;
 mod threads;
 
-use crate::day::{DayFault, MOST_WORKERS, open_shop, write_day};
+use crate::day::{DayFault, MOST_WORKERS, write_day};
 pub use desks::answer_by_desks;
 use mrp_explode::OpenGate;
 use mrp_rows::{Told, read_bundle};
+use mrp_script::open_shop;
 use std::alloc::Global;
 use std::io::{Read, Write};
 use std::sync::Wait;

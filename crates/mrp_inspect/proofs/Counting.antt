@@ -1,5 +1,5 @@
 -- The line of a byte, byte by byte.
-use Rattle.std.proofs.Common.{◌≡◌, ◌∙◌, ◌+◌, ◌<◌, ◌≤◌, ℕ, Bool, true, false, List, [], ◌∷◌, drop, get_or, length, refl, sym, ap, arith}
+use Rattle.std.proofs.Common.{◌≡◌, ◌∙◌, ◌+◌, ◌<◌, ◌≤◌, ℕ, Bool, true, false, List, [], ◌∷◌, ◌++◌, drop, get_or, length, refl, sym, ap, arith}
 use Rattle.std.specs.Prelude.{◌==◌, if◌then◌else◌}
 use Rattle.std.proofs.lemmas.List.{drop_all, drop_more}
 use Rattle.mrp_survey.specs.LineLaws.{line_ends}
@@ -34,3 +34,9 @@ line-is c (b ∷ xs) = line-is (counted c b) xs ∙ by (ends_own_line c.after_re
     by : (e : Bool) → (if e then c.line + 1 else c.line) + line_ends (b == 13) xs ≡ c.line + ((if e then 1 else 0) + line_ends (b == 13) xs)
     by true = omega arith
     by false = omega arith
+
+-- counting goes on behind bytes that were counted
+pub counted-on : (c : Counter) (first second : List ℕ) → counted_all (counted_all c first) second ≡ counted_all c (first ++ second)
+unfolding counted_all
+counted-on c [] second = refl
+counted-on c (b ∷ bytes) second = counted-on (counted c b) bytes second

@@ -6,7 +6,7 @@ use Rattle.std.specs.Option.{option_to_list}
 use Rattle.std.proofs.lemmas.List.{map-append, take_all, take_more}
 use Rattle.std.proofs.lemmas.List.Concat.{flat_map-append}
 use Rattle.std.proofs.lemmas.List.Elements.{All-append, All-cons, All-nil, filter_map-append}
-use Rattle.mrp_engine.proofs.lemmas.live.DeskRuns.{zip-push}
+use Rattle.mrp_script.proofs.Zipped.{zip-push}
 
 -- what each element is mapped to, of one element more
 pub map-more : {A B : Type 0} (f : A → B) (xs : List A) (k : ℕ) (d : A) (now more : List B) (y : B) → k < length xs → more ≡ now ++ y ∷ [] → y ≡ f (get_or xs k d) → now ≡ map f (take k xs) → more ≡ map f (take (k + 1) xs)

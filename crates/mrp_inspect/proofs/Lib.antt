@@ -2,4 +2,5 @@ pub mod Counting
 pub mod Cutting
 pub mod FileTexts
 pub mod Growing
+mod Listing
 pub mod Straying

@@ -1,13 +1,12 @@
 -- The files of a folder, and what is there in place of those that are not (profile).
-use Rattle.std.specs.Prelude.{ℕ, Bool, true, false, ◌≡◌, ◌==◌, ◌&&◌, ◌⊎◌, List, [], ◌∷◌, ◌++◌, is_none, length, map, Option, Some, None, Result, Ok, Err, ⊤}
+use Rattle.std.specs.Prelude.{ℕ, Bool, true, false, ◌≡◌, ◌==◌, ◌&&◌, ◌⊎◌, List, [], ◌∷◌, ◌++◌, codes, is_none, length, map, Option, Some, None, Result, Ok, Err, ⊤}
 use Rattle.std.specs.List.{All, AllZip, list_all, list_any}
 use Rattle.std.specs.Path.{path_join}
 use Rattle.mrp_rows.specs.declared.fault.Table.{Table}
 use Rattle.mrp_rows.specs.declared.streams.ReadFault.{ReadFault}
 use Rattle.mrp_rows.specs.declared.streams.ReadFault.TheVariants.{Read, NoMemory}
-use Rattle.mrp_rows.specs.declared.streams.TheConstants.{GREATEST_BUNDLE}
 use Rattle.mrp_rows.specs.Joined.{Part}
-use Rattle.mrp_words.specs.Folder.{AreParts, HasTooMuch, IsThere, IsTooLongAt, Known, all_tables}
+use Rattle.mrp_words.specs.Folder.{AreParts, HasTooMuch, IsThere, Known, all_tables}
 use Rattle.mrp_inspect.specs.declared.found.Found.{Found}
 use Rattle.mrp_inspect.specs.declared.found.Site.{Site}
 use Rattle.mrp_inspect.specs.declared.found.Site.TheVariants.{Absent, File, Folder}
@@ -46,11 +45,15 @@ IsOtherBeside known folder parts table other = IsOtherIf (has_part parts table) 
 abbrev pub AreOthers : {B : Type 0} → Known → List ℕ → List (Table × B) → List (Option Naming) → Type 0
 AreOthers known folder parts others = AllZip (IsOtherBeside known folder parts) all_tables others
 
+-- the path `D/.` of a folder D, at which nothing can be opened where D is a file
+abbrev pub own_path : List ℕ → List ℕ
+own_path folder = path_join folder (codes ".")
+
 -- what is at the path of a folder
 abbrev pub IsSite : Known → List ℕ → Site → Type 0
-IsSite known folder File = IsThere known folder true
-IsSite known folder Absent = IsThere known folder false
-IsSite known folder Folder = (folder ≡ []) ⊎ IsTooLongAt known folder GREATEST_BUNDLE
+IsSite known folder File = IsThere known (own_path folder) false × IsThere known folder true
+IsSite known folder Absent = IsThere known (own_path folder) false × IsThere known folder false
+IsSite known folder Folder = (folder ≡ []) ⊎ IsThere known (own_path folder) true
 
 -- no table has a file, under any name
 abbrev pub are_none : {T : Type 0} → List T → List (Option Naming) → Bool

@@ -5,7 +5,7 @@ use Rattle.mrp_rows.specs.declared.fault.Fault.{Fault}
 use Rattle.mrp_rows.specs.declared.fault.Table.TheVariants as t
 use Rattle.mrp_rows.specs.declared.faults.TheConstants as faults
 use Rattle.mrp_tables.specs.declared.version.Version.TheVariants.{One}
-use Rattle.mrp_engine.specs.day.Day.{IsRefused}
+use Rattle.mrp_script.specs.Opened.{IsRefused}
 use Rattle.mrp_survey.specs.declared.source.Source.{Source}
 use Rattle.mrp_survey.specs.Survey.{FindsLoopsIn}
 use Rattle.mrp_survey.specs.Survey.{calendar_among, form_of, items_among, names_among, survey_told, version_among}

@@ -2,9 +2,8 @@
 use Rattle.std.specs.Prelude.{ℕ, ◌+◌, ◌==◌, if◌then◌else◌, List, [], ◌∷◌, ◌++◌, codes, decimal, flat_map, length}
 use Rattle.mrp_rows.specs.FaultText.{table_name, text_of_fault}
 use Rattle.mrp_rows.specs.declared.fault.Fault.{Fault}
-
-abbrev pub plural : ℕ → List ℕ
-plural n = if n == 1 then [] else codes "s"
+use Rattle.mrp_advice.specs.Listing.{Listed, with_line}
+use Rattle.mrp_advice.specs.Texts.{plural}
 
 -- how many faults there are
 abbrev pub count_text : ℕ → List ℕ
@@ -25,7 +24,19 @@ listed first others f = first_text first f ++ lines_text others ++ count_text (l
 abbrev pub untold : Fault → List ℕ
 untold f = table_name f.table ++ codes ".csv:0: row: a fault; expected none"
 
--- the same of all lines, which are never none
+-- the text of all lines; where there is none, of one that says only that there is a fault
 abbrev pub faults_text : List (List ℕ) → Fault → List ℕ
 faults_text [] f = listed (untold f) [] f
 faults_text (first ∷ others) f = listed first others f
+
+-- what stands behind the first line
+abbrev pub remark_text : Fault → List ℕ
+remark_text f = codes " (refused: " ++ (text_of_fault f ++ codes ")")
+
+-- lines as they are listed; where there is none, one that says only that there is a fault
+abbrev pub some_told : Listed → Fault → Listed
+some_told l f = if l.count == 0 then with_line l (untold f) else l
+
+-- their text, and how many they are
+abbrev pub told_text : Listed → Fault → List ℕ
+told_text l f = (some_told l f).text ++ count_text (some_told l f).count

@@ -2,7 +2,7 @@
 use Rattle.std.specs.Prelude.{ℕ, ◌≡◌, List, Ok, Option}
 use Rattle.mrp_rows.specs.Bundle.{bundle_of}
 use Rattle.mrp_tables.specs.Tables.{Tables}
-use Rattle.mrp_engine.specs.day.Day.{IsAccepted}
+use Rattle.mrp_script.specs.Opened.{IsAccepted}
 use Rattle.mrp_survey.specs.declared.source.Source.{Source}
 use Rattle.mrp_warn.specs.declared.sheets.Sheet.{Sheet}
 use Rattle.mrp_warn.specs.declared.telling.Group.{Group}

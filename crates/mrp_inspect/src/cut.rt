@@ -6,10 +6,11 @@ ghost use Rattle.mrp_rows.specs.Placing.{IsAtSection};
 ghost use Rattle.mrp_inspect.specs.Lines.{counted_all};
 ghost use Rattle.mrp_inspect.specs.Pieces.{piece_from, pieces_behind, pieces_in};
 
-use crate::lines::{Counter, is_line_end};
+use crate::lines::Counter;
 use crate::piece::Piece;
 use mrp_qty::NoMemory;
 use mrp_rows::Table;
+use mrp_survey::is_line_end;
 use std::alloc::Global;
 
 // Whether a line begins at a place.
@@ -120,6 +121,9 @@ fn cut_file<'a>(file: Table, content: &'a [u8], pieces: &mut Vec<Piece<'a>>) -> 
     let front = Counter::new();
     let (text, sections) = content.split_at(before_section(content));
     pieces.push(Piece::from(file, front, front, None, text))?;
+    if sections.is_empty() {
+        return Ok(());
+    }
     push_pieces(file, front.behind(text), sections, pieces)
 }
 

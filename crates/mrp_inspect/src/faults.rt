@@ -1,18 +1,13 @@
 //! All faults as a text.
 
-ghost use Rattle.std.specs.Prelude.{◌≡◌, ◌++◌, IfOk, OnOk, codes, map, string_bytes};
-ghost use Rattle.mrp_inspect.specs.Listed.{count_text, faults_text, first_text, lines_text, listed, plural, untold};
+ghost use Rattle.std.specs.Prelude.{◌≡◌, IfOk, OnOk, string_bytes};
+ghost use Rattle.mrp_advice.specs.Listing.{listed_in, with_line};
+ghost use Rattle.mrp_inspect.specs.Listed.{count_text, remark_text, some_told, told_text, untold};
 
+use mrp_advice::{Listing, plural};
 use mrp_qty::NoMemory;
 use mrp_rows::{Fault, fault_text};
 use std::alloc::{AllocError, Global};
-
-// What makes a word a plural, by a number.
-fn plural(number: u128) -> &'static str
-    ensures { result.now ≡ plural number }
-{
-    if number == 1 { "" } else { "s" }
-}
 
 // How many faults there are.
 fn count_text(alloc: Global, count: u128) -> Result<String, AllocError>
@@ -22,41 +17,12 @@ fn count_text(alloc: Global, count: u128) -> Result<String, AllocError>
     format!(in alloc; "{count} fault{ending} (warnings are told when there is none)\n")
 }
 
-// Adds a line to a text.
-fn push_line(line: &str, text: &mut String) -> Result<(), AllocError>
-    ensures { OnOk result (string_bytes text.new ≡ string_bytes text.old ++ (line.now ++ codes "\n")) }
-{
-    text.push_str(line)?;
-    text.push_str("\n")
-}
-
-// Adds lines to a text.
-fn push_lines(lines: &[String], text: &mut String) -> Result<(), AllocError>
-    ensures { OnOk result (string_bytes text.new ≡ string_bytes text.old ++ lines_text (map (λ line. string_bytes line) lines.now)) }
-{
-    for line in lines {
-        push_line(line.as_str(), text)?;
-    }
-    Ok(())
-}
-
-// The first line, with what `mrp plan` says behind it.
-fn first_text(alloc: Global, first: &str, fault: &Fault) -> Result<String, NoMemory>
-    ensures { IfOk result (λ text. string_bytes text ≡ first_text first.now fault.now) }
+// What stands behind the first line: what `mrp plan` says.
+pub(crate) fn remark_text(alloc: Global, fault: &Fault) -> Result<String, NoMemory>
+    ensures { IfOk result (λ text. string_bytes text ≡ remark_text fault.now) }
 {
     let said = fault_text(alloc, fault)?;
-    Ok(format!(in alloc; "{first} (refused: {said})\n")?)
-}
-
-// Lines, and how many there are.
-fn listed(alloc: Global, first: &str, others: &[String], fault: &Fault) -> Result<String, NoMemory>
-    ensures { IfOk result (λ text. string_bytes text ≡ listed first.now (map (λ line. string_bytes line) others.now) fault.now) }
-{
-    let mut text = first_text(alloc, first, fault)?;
-    push_lines(others, &mut text)?;
-    let count = count_text(alloc, others.len() as u128 + 1)?;
-    text.push_str(count.as_str())?;
-    Ok(text)
+    Ok(format!(in alloc; " (refused: {said})")?)
 }
 
 // A fault of which no line tells.
@@ -67,19 +33,33 @@ fn untold(alloc: Global, fault: &Fault) -> Result<String, AllocError>
     format!(in alloc; "{table}.csv:0: row: a fault; expected none")
 }
 
-// The text of all lines, which are never none.
-pub(crate) fn faults_text(
-    alloc: Global,
-    lines: &[String],
-    fault: &Fault,
-) -> Result<String, NoMemory>
-    ensures { IfOk result (λ text. string_bytes text ≡ faults_text (map (λ line. string_bytes line) lines.now) fault.now) }
+// Adds the line of such a fault.
+fn push_untold(alloc: Global, fault: &Fault, lines: &mut Listing) -> Result<(), NoMemory>
+    ensures { OnOk result (listed_in lines.new ≡ with_line (listed_in lines.old) (untold fault.now)) }
 {
-    match lines {
-        [first, others @ ..] => listed(alloc, first.as_str(), others, fault),
-        [] => {
-            let first = untold(alloc, fault)?;
-            listed(alloc, first.as_str(), &[], fault)
-        }
+    let line = untold(alloc, fault)?;
+    lines.push(line.as_str())?;
+    Ok(())
+}
+
+// Lines; where there is none, one that says only that there is a fault.
+fn some_told(alloc: Global, lines: Listing, fault: &Fault) -> Result<Listing, NoMemory>
+    ensures { IfOk result (λ own. listed_in own ≡ some_told (listed_in lines) fault.now) }
+{
+    let mut own = lines;
+    if own.count() == 0 {
+        push_untold(alloc, fault, &mut own)?;
     }
+    Ok(own)
+}
+
+// The text of all lines, and how many they are.
+pub(crate) fn told_text(alloc: Global, lines: Listing, fault: &Fault) -> Result<String, NoMemory>
+    ensures { IfOk result (λ text. string_bytes text ≡ told_text (listed_in lines) fault.now) }
+{
+    let own = some_told(alloc, lines, fault)?;
+    let count = count_text(alloc, own.count() as u128)?;
+    let mut text = own.into_text();
+    text.push_str(count.as_str())?;
+    Ok(text)
 }

@@ -4,25 +4,25 @@ ghost use Rattle.std.specs.Prelude.{◌≡◌, IfOk, is_none};
 ghost use Rattle.std.specs.List.{list_all};
 ghost use Rattle.std.specs.Path.{path_buf_bytes};
 ghost use Rattle.mrp_words.specs.Folder.{IsThere};
-ghost use Rattle.mrp_inspect.specs.Found.{AreOthers, Finds, FindsBeside, IsSite, IsSiteIf, IsOther, IsOtherBeside, are_none, has_part, is_bare, other_path};
+ghost use Rattle.mrp_inspect.specs.Found.{AreOthers, Finds, FindsBeside, IsSite, IsSiteIf, IsOther, IsOtherBeside, are_none, has_part, is_bare, other_path, own_path};
 
 use crate::names::{NAMINGS, Naming, other_name};
 use crate::piece::same_table;
 use crate::stray::TABLES;
 use mrp_qty::NoMemory;
-use mrp_rows::{GREATEST_BUNDLE, ReadFault, Table};
+use mrp_rows::{ReadFault, Table};
 use mrp_words::{FileStore, read_tables};
 use std::alloc::{AllocError, Global};
 use std::path::{Path, PathBuf};
 
 /// What is at the path of a folder that has none of the tables.
-#[derive(Clone, Copy, Debug, PartialEq, Eq)]
+#[derive(Clone, Copy)]
 pub enum Site {
-    /// A folder, or nothing that can be read.
+    /// A folder.
     Folder,
     /// A file.
     File,
-    /// Nothing.
+    /// Nothing that can be opened.
     Absent,
 }
 
@@ -122,6 +122,21 @@ fn find_others<F: FileStore>(
     Ok(others)
 }
 
+// The path `D/.` of a folder D, at which nothing can be opened where D is a file.
+fn own_path(alloc: Global, folder: &str) -> Result<PathBuf, AllocError>
+    ensures { IfOk result (λ path. path_buf_bytes path ≡ own_path folder.now) }
+{
+    Path::new(folder).join(alloc, ".")
+}
+
+// Whether there is a folder at a path.
+fn is_folder<F: FileStore>(files: &F, alloc: Global, folder: &str) -> Result<bool, NoMemory>
+    ensures { IfOk result (IsThere (F.known files.now) (own_path folder.now)) }
+{
+    let path = own_path(alloc, folder)?;
+    Ok(files.can_be_opened(path.as_str()))
+}
+
 // What is at the path of a folder.
 fn site_of<F: FileStore>(files: &F, alloc: Global, folder: &str) -> Result<Site, NoMemory>
     ensures { IfOk result (IsSite (F.known files.now) folder.now) }
@@ -129,11 +144,15 @@ fn site_of<F: FileStore>(files: &F, alloc: Global, folder: &str) -> Result<Site,
     if folder.is_empty() {
         return Ok(Site::Folder);
     }
-    match files.read_file(alloc, folder, GREATEST_BUNDLE) {
-        Ok(Some(_)) => Ok(Site::File),
-        Ok(None) => Ok(Site::Absent),
-        Err(ReadFault::Read) => Ok(Site::Folder),
-        Err(ReadFault::NoMemory) => Err(NoMemory),
+    let folder_is_there = is_folder(files, alloc, folder)?;
+    if folder_is_there {
+        return Ok(Site::Folder);
+    }
+    let file_is_there = files.can_be_opened(folder);
+    if file_is_there {
+        Ok(Site::File)
+    } else {
+        Ok(Site::Absent)
     }
 }
 

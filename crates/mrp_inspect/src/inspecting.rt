@@ -1,7 +1,8 @@
 //! Telling what is wrong with the tables of a folder, or what is odd.
 
-ghost use Rattle.std.specs.Prelude.{◌≡◌, ◌++◌, ◌∷◌, [], IfOk, filter_map, map, string_bytes};
+ghost use Rattle.std.specs.Prelude.{◌≡◌, ◌++◌, ◌∷◌, [], IfOk, OnOk, filter_map, map, string_bytes};
 ghost use Rattle.mrp_advice.specs.Lines.{survey_lines};
+ghost use Rattle.mrp_advice.specs.Listing.{listed_in, with_lines};
 ghost use Rattle.mrp_words.specs.Folder.{all_tables};
 ghost use Rattle.mrp_inspect.specs.Faults.{lines_if, lines_of};
 ghost use Rattle.mrp_inspect.specs.Found.{parts_of};
@@ -12,18 +13,18 @@ ghost use Rattle.mrp_inspect.specs.Strays.{firsts_of, strays_of};
 
 use crate::contents::{bundle_of, contents_of};
 use crate::cut::cut_files;
-use crate::faults::faults_text;
+use crate::faults::{remark_text, told_text};
 use crate::found::{Found, Site, is_bare};
 use crate::names::Naming;
 use crate::piece::Piece;
 use crate::source::sources_of;
 use crate::stray::{Stray, firsts_of, strays_of};
 use crate::warning::warnings_of;
-use crate::words::{file_lines, push_one, site_text};
-use mrp_advice::survey_lines;
-use mrp_engine::{OpenFault, open_shop};
+use crate::words::{push_files, site_text};
+use mrp_advice::{Listing, push_survey};
 use mrp_qty::NoMemory;
 use mrp_rows::Fault;
+use mrp_script::{OpenFault, open_shop};
 use mrp_survey::{Source, Survey, survey};
 use std::alloc::Global;
 use std::thread::Threads;
@@ -37,34 +38,33 @@ pub struct Inspected {
     pub has_faults: bool,
 }
 
-// The line of a folder that has none of the tables.
-fn bare_lines(alloc: Global, site: Site) -> Result<Vec<String>, NoMemory>
-    ensures { IfOk result (λ lines. map (λ line. string_bytes line) lines.items ≡ site_text site ∷ []) }
+// Adds the line of a folder that has none of the tables.
+#[tactic(auto, using(mrp_advice::proofs::Listings::one_line))]
+fn push_bare(alloc: Global, site: Site, lines: &mut Listing) -> Result<(), NoMemory>
+    ensures { OnOk result (listed_in lines.new ≡ with_lines (listed_in lines.old) (site_text site ∷ [])) }
 {
     let line = site_text(alloc, site)?;
-    let mut lines = Vec::new(alloc);
-    push_one(line, &mut lines)?;
-    Ok(lines)
+    lines.push(line.as_str())?;
+    Ok(())
 }
 
-// The lines of what is wrong with files, and then with their records.
-fn all_lines(
+// Adds the lines of what is wrong with files, and then with their records.
+fn push_all(
     alloc: Global,
     firsts: &[Option<usize>],
     strays: &[Stray<'_>],
     others: &[Option<Naming>],
     survey: &Survey,
-) -> Result<Vec<String>, NoMemory>
-    ensures { IfOk result (λ lines. map (λ line. string_bytes line) lines.items ≡ map stray_text strays.now ++ filter_map (missing_of firsts.now others.now) all_tables ++ survey_lines survey.now) }
+    lines: &mut Listing,
+) -> Result<(), NoMemory>
+    ensures { OnOk result (listed_in lines.new ≡ with_lines (listed_in lines.old) (map stray_text strays.now ++ filter_map (missing_of firsts.now others.now) all_tables ++ survey_lines survey.now)) }
 {
-    let mut lines = file_lines(alloc, strays, firsts, others)?;
-    let mut records = survey_lines(alloc, survey)?;
-    lines.append(&mut records)?;
-    Ok(lines)
+    push_files(alloc, strays, firsts, others, lines)?;
+    push_survey(alloc, survey, lines)
 }
 
-// The line of a folder that has none of the tables, or those of all faults.
-fn lines_if(
+// Adds the line of a folder that has none of the tables, or those of all faults.
+fn push_if(
     alloc: Global,
     bare: bool,
     site: Site,
@@ -72,35 +72,40 @@ fn lines_if(
     strays: &[Stray<'_>],
     others: &[Option<Naming>],
     survey: &Survey,
-) -> Result<Vec<String>, NoMemory>
-    ensures { IfOk result (λ lines. map (λ line. string_bytes line) lines.items ≡ lines_if bare site (map stray_text strays.now ++ filter_map (missing_of firsts.now others.now) all_tables) (survey_lines survey.now)) }
+    lines: &mut Listing,
+) -> Result<(), NoMemory>
+    ensures { OnOk result (listed_in lines.new ≡ with_lines (listed_in lines.old) (lines_if bare site (map stray_text strays.now ++ filter_map (missing_of firsts.now others.now) all_tables) (survey_lines survey.now))) }
 {
     if bare {
-        bare_lines(alloc, site)
+        push_bare(alloc, site, lines)
     } else {
-        all_lines(alloc, firsts, strays, others, survey)
+        push_all(alloc, firsts, strays, others, survey, lines)
     }
 }
 
-// The lines of all faults.
-fn lines_of(
+// Adds the lines of all faults.
+fn push_told(
     alloc: Global,
     found: &Found,
     firsts: &[Option<usize>],
     strays: &[Stray<'_>],
     survey: &Survey,
-) -> Result<Vec<String>, NoMemory>
+    lines: &mut Listing,
+) -> Result<(), NoMemory>
     requires firsts { firsts.now ≡ firsts_of (pieces_of (parts_of found.now)) }
     requires strays { strays.now ≡ strays_of (pieces_of (parts_of found.now)) }
-    ensures { IfOk result (λ lines. map (λ line. string_bytes line) lines.items ≡ lines_of found.now survey.now) }
+    ensures { OnOk result (listed_in lines.new ≡ with_lines (listed_in lines.old) (lines_of found.now survey.now)) }
 {
     let bare = is_bare(found);
     let others = found.others.as_slice();
-    lines_if(alloc, bare, found.site, firsts, strays, others, survey)
+    push_if(
+        alloc, bare, found.site, firsts, strays, others, survey, lines,
+    )
 }
 
 // The faults of tables that are refused.
 fn faults_of(
+    rt: &impl Threads,
     alloc: Global,
     found: &Found,
     firsts: &[Option<usize>],
@@ -112,9 +117,11 @@ fn faults_of(
     requires strays { strays.now ≡ strays_of (pieces_of (parts_of found.now)) }
     ensures { IfOk result (λ text. IsFaultsText found.now sources.now fault.now (string_bytes text)) }
 {
-    let survey = survey(alloc, sources)?;
-    let lines = lines_of(alloc, found, firsts, strays, &survey)?;
-    faults_text(alloc, lines.as_slice(), fault)
+    let survey = survey(rt, alloc, sources)?;
+    let remark = remark_text(alloc, fault)?;
+    let mut lines = Listing::new(alloc, remark);
+    push_told(alloc, found, firsts, strays, &survey, &mut lines)?;
+    told_text(alloc, lines, fault)
 }
 
 // What is told where tables are accepted, or refused.
@@ -140,7 +147,7 @@ fn inspect_sources(
             })
         }
         Err(OpenFault::Refused(fault)) => {
-            let told = faults_of(alloc, found, firsts, strays, sources, &fault)?;
+            let told = faults_of(rt, alloc, found, firsts, strays, sources, &fault)?;
             Ok(Inspected {
                 text: told,
                 has_faults: true,
@@ -180,7 +187,7 @@ fn inspect_pieces(
 /// all faults, each with its file, line and column, with what planning says behind the first; where they are
 /// accepted tells warnings of what is odd. Nothing is planned.
 ///
-/// Tables are read in two threads if a second one can be started.
+/// Tables are read, and surveyed, in two threads if a second one can be started.
 ///
 /// Errors: `NoMemory` if an allocation fails.
 pub fn inspect(rt: &impl Threads, alloc: Global, found: &Found) -> Result<Inspected, NoMemory>

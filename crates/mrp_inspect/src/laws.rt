@@ -1,9 +1,9 @@
 //! What follows from the definitions alone, each law the contract of a function that does nothing.
 
-ghost use Rattle.std.specs.Prelude.{◌≡◌, ◌+◌, ℕ, List, false, true};
+ghost use Rattle.std.specs.Prelude.{◌≡◌, ◌+◌, ◌++◌, ℕ, List, false, true};
 ghost use Rattle.mrp_rows.specs.declared.fault.Fault.{Fault};
 ghost use Rattle.mrp_tables.specs.Tables.{Tables};
-ghost use Rattle.mrp_engine.specs.day.Day.{IsAccepted, IsRefused};
+ghost use Rattle.mrp_script.specs.Opened.{IsAccepted, IsRefused};
 ghost use Rattle.mrp_survey.specs.LineLaws.{line_ends};
 ghost use Rattle.mrp_inspect.specs.declared.found.Found.{Found};
 ghost use Rattle.mrp_inspect.specs.declared.inspecting.Inspected.{Inspected};
@@ -16,7 +16,8 @@ pub fn faults_are_of_refused_tables()
     ensures refused { (found : Found) (result : Inspected) (fault : Fault) → Inspects found result → IsRefused (bundle_in found) fault → result.has_faults ≡ true }
 {}
 
-/// The line of a byte is one more than the line ends in front of it.
+/// The line of a byte is one more than the line ends in front of it, also where bytes are counted piece by piece.
 pub fn lines_are_behind_line_ends()
-    ensures { (bytes : List ℕ) → (counted_all at_front bytes).line ≡ 1 + line_ends false bytes }
+    ensures ends { (bytes : List ℕ) → (counted_all at_front bytes).line ≡ 1 + line_ends false bytes }
+    ensures pieces { (first second : List ℕ) → counted_all (counted_all at_front first) second ≡ counted_all at_front (first ++ second) }
 {}

@@ -1,26 +1,12 @@
 //! In which line a byte of a file stands.
 
-ghost use Rattle.std.specs.Prelude.{◌≡◌};
-ghost use Rattle.mrp_rows.specs.Bundle.{ends_line};
-ghost use Rattle.mrp_survey.specs.Lines.{ends_own_line};
+use mrp_survey::ends_own_line;
 
 // The line of a byte, and whether a carriage return precedes it, so that a line feed ends no further line.
 #[derive(Clone, Copy)]
 pub(crate) struct Counter {
     pub(crate) line: u64,
     pub(crate) after_return: bool,
-}
-
-pub(crate) fn is_line_end(byte: u8) -> bool
-    ensures { result ≡ ends_line byte }
-{
-    byte == b'\n' || byte == b'\r'
-}
-
-fn ends_own_line(after_return: bool, byte: u8) -> bool
-    ensures { result ≡ ends_own_line after_return byte }
-{
-    byte == b'\r' || (byte == b'\n' && !after_return)
 }
 
 impl Counter {

@@ -8,7 +8,7 @@ use mrp_rows::Table;
 use std::alloc::{AllocError, Global};
 
 /// How another name of a table's file differs from its own, as `items.csv`.
-#[derive(Clone, Copy, Debug, PartialEq, Eq)]
+#[derive(Clone, Copy)]
 pub enum Naming {
     /// `Items.csv`
     Capital,

@@ -5,9 +5,9 @@ ghost use Rattle.std.specs.List.{prefix_len};
 ghost use Rattle.mrp_rows.specs.Bundle.{ends_line, table_of};
 ghost use Rattle.mrp_inspect.specs.Pieces.{same_table, table_begun};
 
-use crate::lines::{Counter, is_line_end};
+use crate::lines::Counter;
 use mrp_rows::Table;
-use mrp_survey::Source;
+use mrp_survey::{Source, is_line_end};
 use std::marker::Model;
 
 // A piece of a file.

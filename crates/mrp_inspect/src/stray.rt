@@ -26,7 +26,7 @@ pub(crate) const TABLES: [Table; 9] = [
 ];
 
 // Why a line is told.
-#[derive(Clone, Copy, Debug)]
+#[derive(Clone, Copy)]
 pub(crate) enum Reason {
     // It names no table.
     NoTable,

@@ -3,7 +3,7 @@
 ghost use Rattle.std.specs.Prelude.{◌≡◌, IfOk, Ok, string_bytes};
 ghost use Rattle.mrp_rows.specs.Bundle.{bundle_of};
 ghost use Rattle.mrp_tables.specs.Tables.{Tables, tables_of};
-ghost use Rattle.mrp_engine.specs.day.Day.{IsAccepted};
+ghost use Rattle.mrp_script.specs.Opened.{IsAccepted};
 ghost use Rattle.mrp_inspect.specs.Warned.{WarnsOf};
 
 use crate::sheets::sheets_of;

@@ -1,16 +1,17 @@
 //! Faults of files and of section lines, in words.
 
-ghost use Rattle.std.specs.Prelude.{◌≡◌, ◌++◌, ◌∷◌, [], IfOk, None, OnOk, filter_map, map, option_map, string_bytes};
+ghost use Rattle.std.specs.Prelude.{◌≡◌, ◌++◌, IfOk, None, OnOk, filter_map, map, option_map, string_bytes};
 ghost use Rattle.std.specs.List.{slice_index_or};
 ghost use Rattle.mrp_rows.specs.Tables.{table_index};
 ghost use Rattle.std.specs.Option.{option_to_list};
+ghost use Rattle.mrp_advice.specs.Listing.{listed_in, with_line, with_lines};
 ghost use Rattle.mrp_words.specs.Folder.{all_tables};
 ghost use Rattle.mrp_inspect.specs.Words.{site_text, site_words, missing_of, missing_text, other_words, reason_words, stray_text};
 
 use crate::found::Site;
 use crate::names::{Naming, other_name};
 use crate::stray::{Reason, Stray, TABLES, first_among};
-use mrp_advice::shown;
+use mrp_advice::{Listing, shown};
 use mrp_qty::NoMemory;
 use mrp_rows::Table;
 use std::alloc::{AllocError, Global};
@@ -123,34 +124,34 @@ fn missing_of(
     }
 }
 
-// Adds a line.
-pub(crate) fn push_one(line: String, lines: &mut Vec<String>) -> Result<(), NoMemory>
-    ensures { OnOk result (map (λ own. string_bytes own) lines.new.items ≡ map (λ own. string_bytes own) lines.old.items ++ string_bytes line ∷ []) }
+// Adds a line, if there is one.
+#[tactic(auto, using(mrp_advice::proofs::Listings::no_lines, mrp_advice::proofs::Listings::one_line))]
+fn push_some(line: Option<String>, lines: &mut Listing) -> Result<(), NoMemory>
+    ensures { OnOk result (listed_in lines.new ≡ with_lines (listed_in lines.old) (option_to_list (option_map string_bytes line))) }
 {
-    lines.push(line)?;
+    if let Some(line) = line {
+        lines.push(line.as_str())?;
+    }
     Ok(())
 }
 
-// Adds a line, if there is one.
-fn push_some(line: Option<String>, lines: &mut Vec<String>) -> Result<(), NoMemory>
-    ensures { OnOk result (map (λ own. string_bytes own) lines.new.items ≡ map (λ own. string_bytes own) lines.old.items ++ option_to_list (option_map string_bytes line)) }
+// Adds the line of one that begins with a bracket.
+fn push_stray(alloc: Global, stray: &Stray<'_>, lines: &mut Listing) -> Result<(), NoMemory>
+    ensures { OnOk result (listed_in lines.new ≡ with_line (listed_in lines.old) (stray_text stray.now)) }
 {
-    match line {
-        Some(line) => push_one(line, lines),
-        None => Ok(()),
-    }
+    let line = stray_text(alloc, stray)?;
+    lines.push(line.as_str())?;
+    Ok(())
 }
 
-// The lines that begin with a bracket.
-fn stray_lines(alloc: Global, strays: &[Stray<'_>]) -> Result<Vec<String>, NoMemory>
-    ensures { IfOk result (λ lines. map (λ line. string_bytes line) lines.items ≡ map stray_text strays.now) }
+// Adds the lines of those that begin with a bracket.
+fn push_strays(alloc: Global, strays: &[Stray<'_>], lines: &mut Listing) -> Result<(), NoMemory>
+    ensures { OnOk result (listed_in lines.new ≡ with_lines (listed_in lines.old) (map stray_text strays.now)) }
 {
-    let mut lines = Vec::with_capacity(alloc, strays.len())?;
     for stray in strays {
-        let line = stray_text(alloc, stray)?;
-        lines.push(line)?;
+        push_stray(alloc, stray, lines)?;
     }
-    Ok(lines)
+    Ok(())
 }
 
 // Adds the lines of the tables that no piece begins.
@@ -158,9 +159,9 @@ fn push_missing(
     alloc: Global,
     firsts: &[Option<usize>],
     others: &[Option<Naming>],
-    lines: &mut Vec<String>,
+    lines: &mut Listing,
 ) -> Result<(), NoMemory>
-    ensures { OnOk result (map (λ line. string_bytes line) lines.new.items ≡ map (λ line. string_bytes line) lines.old.items ++ filter_map (missing_of firsts.now others.now) all_tables) }
+    ensures { OnOk result (listed_in lines.new ≡ with_lines (listed_in lines.old) (filter_map (missing_of firsts.now others.now) all_tables)) }
 {
     for table in TABLES {
         let missing = missing_of(alloc, firsts, others, table)?;
@@ -169,16 +170,16 @@ fn push_missing(
     Ok(())
 }
 
-// The lines of what is wrong with files.
-pub(crate) fn file_lines(
+// Adds the lines of what is wrong with files.
+pub(crate) fn push_files(
     alloc: Global,
     strays: &[Stray<'_>],
     firsts: &[Option<usize>],
     others: &[Option<Naming>],
-) -> Result<Vec<String>, NoMemory>
-    ensures { IfOk result (λ lines. map (λ line. string_bytes line) lines.items ≡ map stray_text strays.now ++ filter_map (missing_of firsts.now others.now) all_tables) }
+    lines: &mut Listing,
+) -> Result<(), NoMemory>
+    ensures { OnOk result (listed_in lines.new ≡ with_lines (listed_in lines.old) (map stray_text strays.now ++ filter_map (missing_of firsts.now others.now) all_tables)) }
 {
-    let mut lines = stray_lines(alloc, strays)?;
-    push_missing(alloc, firsts, others, &mut lines)?;
-    Ok(lines)
+    push_strays(alloc, strays, lines)?;
+    push_missing(alloc, firsts, others, lines)
 }

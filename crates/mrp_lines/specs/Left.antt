@@ -1,9 +1,10 @@
 -- What is left of an input whose lines are taken.
-use Rattle.std.specs.Prelude.{ℕ, ◌≡◌, ◌⊎◌, List, Option, length}
+use Rattle.std.specs.Prelude.{ℕ, ◌≡◌, List, Option, length}
 use Rattle.std.specs.Io.KnownBytes.{IsAtEnd, prepend_known}
 use Rattle.mrp_lines.specs.declared.lines.Lines.{Lines}
-use Rattle.mrp_lines.specs.declared.window.TheConstants.{ROOM}
-use Rattle.mrp_lines.specs.Lines.{AreLeft, AreUnended}
+use Rattle.mrp_lines.specs.declared.lines.Next.{Next}
+use Rattle.mrp_lines.specs.declared.lines.Next.TheVariants as next
+use Rattle.mrp_lines.specs.Lines.{AreLinesAt, IsEndless, IsLineAt}
 
 -- the bytes that were read ahead
 abbrev pub ahead_of : {R : Type 0} → Lines R → List ℕ
@@ -13,8 +14,9 @@ ahead_of lines = lines.window
 abbrev pub left_of : {R : Type 0} → (R → Option (List ℕ)) → Lines R → Option (List ℕ)
 left_of remaining lines = prepend_known (ahead_of lines) (remaining lines.input)
 
--- no line comes next: csv has to read the bytes that were read ahead; or none of them ends a line, and there is no room for
--- more, or there are no more
-abbrev pub HaveNoLine : {R : Type 0} → (R → Option (List ℕ)) → Lines R → Type 0
-HaveNoLine remaining lines =
-    AreLeft (ahead_of lines) ⊎ (AreUnended (ahead_of lines) × ((length (ahead_of lines) ≡ ROOM) ⊎ IsAtEnd (remaining lines.input)))
+-- what an input begins with: a line without quotes, lines, its rest, or a line that is too long
+abbrev pub IsNext : {R : Type 0} → (R → Option (List ℕ)) → Lines R → Next → Type 0
+IsNext remaining lines (next.Line len) = IsLineAt len (ahead_of lines)
+IsNext remaining lines (next.Lines len) = AreLinesAt len (ahead_of lines)
+IsNext remaining lines (next.Rest len) = (len ≡ length (ahead_of lines)) × IsAtEnd (remaining lines.input)
+IsNext remaining lines next.Long = IsEndless (ahead_of lines)

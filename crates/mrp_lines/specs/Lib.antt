@@ -1,3 +1,4 @@
 pub mod Lines
 pub mod Left
+pub mod Next
 pub mod Taken

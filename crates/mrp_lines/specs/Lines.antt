@@ -1,9 +1,29 @@
 -- The cells of a line, and which lines are records of csv.
-use Rattle.std.specs.Prelude.{ℕ, Bool, true, false, ◌≡◌, ◌⊎◌, ◌==◌, ◌||◌, ◌<◌, ◌≤◌, ◌++◌, All, List, length, slice_index, slice_range, take}
-use Rattle.std.specs.List.{slice_split}
+use Rattle.std.specs.Prelude.{ℕ, Bool, true, false, ◌≡◌, ◌⊎◌, ◌==◌, ◌||◌, ◌&&◌, ◌+◌, ◌-◌, ◌<◌, ◌≤◌, ◌++◌, All, List, [], ◌∷◌, length, nat_le, not, slice_index, slice_range, sum_by, take}
+use Rattle.std.specs.List.{list_any, slice_split}
+use Rattle.mrp_rows.specs.Bundle.{ends_line}
+use Rattle.mrp_lines.specs.declared.line.TheConstants.{LONGEST_LINE}
 use Rattle.mrp_lines.specs.declared.window.TheConstants.{ROOM}
 use Rattle.mrp_lines.specs.declared.window.Front.{Front}
 use Rattle.mrp_lines.specs.declared.window.Front.TheVariants as front
+
+-- some cell has the end of a line
+abbrev pub have_ends : List (List ℕ) → Bool
+have_ends cells = list_any (list_any ends_line) cells
+
+-- how many bytes cells take in a line without quotes, its line feed included
+abbrev pub size_of : List (List ℕ) → ℕ
+size_of cells = sum_by (λ cell. length cell + 1) cells
+
+-- cells stand in one line, which is not too long
+abbrev pub is_line : List (List ℕ) → Bool
+is_line cells = nat_le (size_of cells) LONGEST_LINE && not (have_ends cells)
+
+-- the last byte of a text ends a line
+abbrev pub ends : List ℕ → Bool
+ends [] = false
+ends (byte ∷ []) = ends_line byte
+ends (byte ∷ next ∷ rest) = ends (next ∷ rest)
 
 -- a byte stands between two cells
 abbrev pub is_comma : ℕ → Bool
@@ -51,6 +71,17 @@ pub record BeginOtherwise (bytes : List ℕ) : Type 0 where
 -- csv has to read these bytes: one of those stands in front, or a quote or a carriage return is among them
 abbrev pub AreLeft : List ℕ → Type 0
 AreLeft bytes = BeginOtherwise bytes ⊎ HaveSpecial bytes
+
+-- some lines, of so many bytes, stand in front
+pub record AreLinesAt (len : ℕ) (bytes : List ℕ) : Type 0 where
+  pub some : 0 < len
+  pub within : len ≤ length bytes
+  pub ended : ends_line (slice_index bytes (len - 1)) ≡ true
+
+-- no line of at most so many bytes stands in front
+pub record IsEndless (bytes : List ℕ) : Type 0 where
+  pub room : length bytes ≡ ROOM
+  pub none : All (λ byte. ends_line byte ≡ false) bytes
 
 -- what is said of the bytes that were read ahead
 abbrev pub IsFront : List ℕ → Front → Type 0

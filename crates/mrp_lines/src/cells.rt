@@ -1,8 +1,12 @@
 //! The cells of a record.
 
 ghost use Rattle.std.specs.Prelude.{◌≡◌, [], IfOk, List, length, slice_index_or, ℕ};
+ghost use Rattle.std.specs.List.{list_any};
 ghost use Rattle.csv.specs.Records.{fields_of};
+ghost use Rattle.mrp_rows.specs.Bundle.{ends_line};
+ghost use Rattle.mrp_lines.specs.Lines.{is_line};
 
+use crate::line::LONGEST_LINE;
 use csv::ByteRecord;
 use mrp_qty::NoMemory;
 use std::alloc::Global;
@@ -20,11 +24,37 @@ pub trait Cells {
     fn cell(&self, column: usize) -> &[u8]
         ensures { result.now ≡ slice_index_or (cells self.now) column [] };
 
+    /// Whether its cells stand in one line, of at most [`LONGEST_LINE`] bytes.
+    fn is_line(&self) -> bool
+        ensures { result ≡ is_line (cells self.now) };
+
     /// A copy of its cells.
     ///
     /// Errors: `NoMemory` if an allocation fails.
     fn to_record(&self, alloc: Global) -> Result<ByteRecord, NoMemory>
         ensures { IfOk result (λ copy. fields_of copy ≡ cells self.now) };
+}
+
+// Whether a cell has the end of a line.
+fn has_end(cell: &[u8]) -> bool
+    ensures { result ≡ list_any ends_line cell.now }
+{
+    cell.iter().any(|byte| *byte == b'\n' || *byte == b'\r')
+}
+
+// Whether the cells of a record stand in one line, which is not too long.
+fn is_row_line(row: &ByteRecord) -> bool
+    ensures { result ≡ is_line (fields_of row.now) }
+{
+    let mut room = LONGEST_LINE;
+    for column in 0..row.len() {
+        let cell = Cells::cell(row, column);
+        if has_end(cell) || room <= cell.len() {
+            return false;
+        }
+        room -= cell.len() + 1;
+    }
+    true
 }
 
 impl Cells for ByteRecord {
@@ -38,6 +68,10 @@ impl Cells for ByteRecord {
 
     fn cell(&self, column: usize) -> &[u8] {
         self.get(column).unwrap_or(b"")
+    }
+
+    fn is_line(&self) -> bool {
+        is_row_line(self)
     }
 
     fn to_record(&self, _alloc: Global) -> Result<ByteRecord, NoMemory> {

@@ -9,5 +9,5 @@ mod lines;
 mod window;
 
 pub use cells::Cells;
-pub use line::Line;
-pub use lines::Lines;
+pub use line::{LONGEST_LINE, Line};
+pub use lines::{Lines, Next};

@@ -1,7 +1,7 @@
 //! Lines without quotes.
 
-ghost use Rattle.std.specs.Prelude.{◌≡◌, ◌≤◌, [], IfOk, length, map, slice_index_or, take};
-ghost use Rattle.mrp_lines.specs.Lines.{cells_of};
+ghost use Rattle.std.specs.Prelude.{◌≡◌, [], IfOk, map, slice_index_or, take};
+ghost use Rattle.mrp_lines.specs.Lines.{IsLineAt, cells_of};
 
 use crate::cells::Cells;
 use crate::commas::count_commas;
@@ -9,6 +9,10 @@ use csv::ByteRecord;
 use mrp_qty::NoMemory;
 use std::alloc::{AllocError, Global};
 use std::marker::Model;
+
+/// The most bytes of a line of a day, its line feed included and quotes left out. No plan has a longer one: its
+/// cells are names of at most 32 bytes, words and numbers.
+pub const LONGEST_LINE: usize = 1_000;
 
 /// A line without its line feed, whose cells are cut only when asked for; contracts see it as its bytes.
 #[derive(Drop)]
@@ -19,19 +23,20 @@ pub struct Line<'a> {
 }
 
 impl<'a> Model for Line<'a> {
-    ghost use Rattle.std.specs.Prelude.{◌≤◌, List, length, take, ℕ};
+    ghost use Rattle.std.specs.Prelude.{List, take, ℕ};
+    ghost use Rattle.mrp_lines.specs.Lines.{IsLineAt};
 
     ghost Value = { List ℕ };
 
     ghost view = { λ line. take line.len line.text.now };
 
-    ghost invariant = { λ line. line.len ≤ length line.text.now };
+    ghost invariant = { λ line. IsLineAt line.len line.text.now };
 }
 
 impl<'a> Line<'a> {
     // The line of this many bytes that a text begins with.
     pub(crate) fn of(text: &'a [u8], len: usize) -> Line<'a>
-        requires { len ≤ length text.now }
+        requires { IsLineAt len text.now }
         ensures { result ≡ take len text.now }
     {
         Line { text, len }
@@ -74,6 +79,10 @@ impl<'a> Cells for Line<'a> {
     fn cell(&self, column: usize) -> &[u8] {
         let bytes = self.bytes();
         nth_cell(bytes, column)
+    }
+
+    fn is_line(&self) -> bool {
+        self.len < LONGEST_LINE
     }
 
     fn to_record(&self, alloc: Global) -> Result<ByteRecord, NoMemory> {

@@ -11,8 +11,8 @@ use std::io;
 use std::io::Read;
 use std::marker::Model;
 
-// How many bytes are read ahead. A line that is longer is left to csv.
-const ROOM: usize = 65_536;
+// How many bytes are read ahead. No line of a day is longer.
+pub(crate) const ROOM: usize = 65_536;
 
 // The first byte of a byte order mark, which csv skips at the start of a text.
 const MARK: u8 = 0xEF;

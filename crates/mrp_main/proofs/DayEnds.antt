@@ -11,10 +11,10 @@ use Rattle.mrp_engine.specs.declared.day.fault.DayFault.{DayFault}
 use Rattle.mrp_engine.specs.declared.day.fault.DayFault.TheVariants as fault
 use Rattle.mrp_engine.specs.day.Run.{HasNotFailed, HasPassedLimits, IsAfterReading, IsReadWithin, MakesDay, WritesDay}
 use Rattle.mrp_words.specs.declared.day.DayCommand.{DayCommand}
-use Rattle.mrp_main.specs.declared.ending.Ending.{Ending}
-use Rattle.mrp_main.specs.declared.ending.Ending.TheVariants.{Done, LeftBehind, Refused, TooLarge, WrongShape, Wrong, NoRun, NoStart, Usage, NoMemory, Read, Write, WrongTables}
+use Rattle.mrp_commands.specs.declared.ending.Ending.{Ending}
+use Rattle.mrp_commands.specs.declared.ending.Ending.TheVariants.{Done, LeftBehind, Refused, TooLarge, WrongShape, Wrong, NoRun, NoStart, Usage, NoMemory, Read, Write, WrongTables}
 use Rattle.mrp_main.specs.Ends.{BundleEnds, DayEnds, DayWrites, HasReadAll, IsEndOf, answering}
-use Rattle.mrp_main.specs.Refusal.{TellsFault, end_of_read}
+use Rattle.mrp_commands.specs.Refusal.{TellsFault, end_of_read}
 
 -- how a day ended, by its result
 abbrev EndsAs : Result (Unit {0}) DayFault → Ending → Type 0

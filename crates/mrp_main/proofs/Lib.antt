@@ -1,3 +1,2 @@
 pub mod DayEnds
-pub mod PageEnds
 pub mod CheckEnds

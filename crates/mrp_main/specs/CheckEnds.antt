@@ -4,18 +4,18 @@ use Rattle.std.specs.Io.KnownBytes.{IsAtEnd}
 use Rattle.mrp_rows.specs.declared.told.Told.{Told}
 use Rattle.mrp_rows.specs.declared.streams.ReadFault.{ReadFault}
 use Rattle.mrp_rows.specs.declared.streams.ReadFault.TheVariants as read
-use Rattle.mrp_rows.specs.declared.streams.TheConstants.{READ_CALLS, WRITE_TRIES}
+use Rattle.mrp_rows.specs.declared.streams.TheConstants.{READ_CALLS}
 use Rattle.mrp_rows.specs.Streams.{TakesFront}
 use Rattle.mrp_rows.specs.Told.{HasRisenBy, calls_of, failures_of, inner_of, moved_of}
-use Rattle.mrp_report.specs.Written.{HasGivenUp, HasTakenFront}
-use Rattle.mrp_engine.specs.day.Run.{HasTakenAll, IsReadWithin}
+use Rattle.mrp_engine.specs.day.Run.{IsReadWithin}
 use Rattle.mrp_audit.specs.declared.fault.AuditFault.{AuditFault}
 use Rattle.mrp_audit.specs.declared.fault.AuditFault.TheVariants as found
 use Rattle.mrp_audit.specs.Verdict.{Judges}
-use Rattle.mrp_main.specs.declared.ending.Ending.{Ending}
-use Rattle.mrp_main.specs.declared.ending.Ending.TheVariants.{Done, Wrong, NoMemory, Write}
+use Rattle.mrp_commands.specs.declared.ending.Ending.{Ending}
+use Rattle.mrp_commands.specs.declared.ending.Ending.TheVariants.{Done, Wrong, NoMemory}
 use Rattle.mrp_words.specs.Folder.{IsReadFrom, Known}
-use Rattle.mrp_main.specs.Refusal.{TellsFault, end_of_read}
+use Rattle.mrp_commands.specs.Telling.{Says}
+use Rattle.mrp_commands.specs.Refusal.{TellsFault, end_of_read}
 
 -- the text that a reader had left, of any length, and it is at its end; or why it was not read: a read failed, or there
 -- were too many, or more bytes than a machine can count; or out of memory, and no read failed
@@ -35,12 +35,6 @@ abbrev pub AreRead : Known → List ℕ → {R : Type 0} → (R → Option (List
 AreRead known folder remaining old new (Ok both) = IsReadFrom known folder (Ok both.0) × ReadsDay remaining old new (Ok both.1)
 AreRead known folder remaining old new (Err fault) =
     (IsReadFrom known folder (Err fault) × (new ≡ old)) ⊎ ((bundle : List ℕ) × IsReadFrom known folder (Ok bundle) × ReadsDay remaining old new (Err fault))
-
--- a line was written, and this is the ending of a check that has written it; or the output gave up with a
--- prefix of it
-abbrev pub Says : {W : Type 0} → (W → Option (List ℕ)) → Told W → Told W → List ℕ → Ending → Ending → Type 0
-Says contents output written line said end =
-    ((end ≡ said) × HasTakenAll contents output written line) ⊎ ((end ≡ Write) × HasGivenUp output written WRITE_TRIES × HasTakenFront contents output written line)
 
 -- why a day was not found right is reported: what is wrong with it on the output, and nothing there if its bundle was
 -- refused or memory ran out

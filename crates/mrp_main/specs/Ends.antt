@@ -1,6 +1,6 @@
 -- How a command ends: what it leaves of its input and its output, and what it writes to its error stream
 -- (profile).
-use Rattle.std.specs.Prelude.{ℕ, ◌≡◌, ◌≢◌, ◌⊎◌, List, [], ◌∷◌, ◌++◌, Option, Some, None, Result, Ok, Err, ⊤, codes, option_map, string_bytes}
+use Rattle.std.specs.Prelude.{ℕ, ◌≡◌, ◌≢◌, ◌⊎◌, List, Option, Some, None, Result, Ok, Err, ⊤, option_map, string_bytes}
 use Rattle.std.specs.Io.KnownBytes.{IsAtEnd}
 use Rattle.mrp_rows.specs.FaultText.{text_of_fault}
 use Rattle.mrp_rows.specs.declared.fault.Fault.{Fault}
@@ -11,10 +11,13 @@ use Rattle.mrp_rows.specs.declared.streams.ReadFault.TheVariants as read
 use Rattle.mrp_rows.specs.declared.streams.TheConstants.{WRITE_TRIES}
 use Rattle.mrp_rows.specs.Streams.{TakesFront}
 use Rattle.mrp_rows.specs.Told.{inner_of, moved_of}
+use Rattle.mrp_report.specs.Taken.{HasTakenAll}
 use Rattle.mrp_report.specs.Written.{HasGivenUp, HasTakenFront, HasTakenWhole}
-use Rattle.mrp_engine.specs.day.Day.{Answering, AnswersScript, IsRefused, IsTooLargeBy}
+use Rattle.mrp_engine.specs.day.Day.{Answering, IsTooLargeBy}
+use Rattle.mrp_script.specs.Opened.{IsRefused}
+use Rattle.mrp_script.specs.Script.{AnswersScript}
 use Rattle.mrp_engine.specs.day.RightDay.{AnswersDesks}
-use Rattle.mrp_engine.specs.day.Run.{HasNotFailed, HasPassedLimits, HasTakenAll, IsRead, IsReadWithin, TellsDayBy, WritesFrontBy}
+use Rattle.mrp_engine.specs.day.Run.{HasNotFailed, HasPassedLimits, IsRead, IsReadWithin, TellsDayBy, WritesFrontBy}
 use Rattle.mrp_engine.specs.declared.day.fault.DayFault.{DayFault}
 use Rattle.mrp_engine.specs.declared.day.fault.DayFault.TheVariants as fault
 use Rattle.mrp_words.specs.declared.command.Request.{Request}
@@ -23,16 +26,17 @@ use Rattle.mrp_words.specs.declared.day.DayCommand.{DayCommand}
 use Rattle.mrp_words.specs.declared.day.DayCommand.TheVariants.{Plan, Live}
 use Rattle.mrp_words.specs.declared.command.NoRequest.{NoRequest}
 use Rattle.mrp_words.specs.declared.command.NoRequest.TheVariants as none
-use Rattle.mrp_main.specs.declared.ending.Ending.{Ending}
-use Rattle.mrp_main.specs.declared.ending.Ending.TheVariants.{Done, LeftBehind, Refused, TooLarge, WrongShape, Wrong, NoRun, NoStart, Usage, NoMemory, Read, Write, WrongTables}
-use Rattle.mrp_main.specs.declared.status.Status.TheVariants as status
-use Rattle.mrp_main.specs.Status.{code_of, status_of}
+use Rattle.mrp_commands.specs.declared.ending.Ending.{Ending}
+use Rattle.mrp_commands.specs.declared.ending.Ending.TheVariants.{Done, LeftBehind, Refused, TooLarge, WrongShape, Wrong, NoRun, NoStart, Usage, NoMemory, Read, Write, WrongTables}
+use Rattle.mrp_commands.specs.declared.status.Status.TheVariants as status
+use Rattle.mrp_commands.specs.Status.{code_of, status_of}
+use Rattle.mrp_commands.specs.Telling.{words_of}
 use Rattle.mrp_words.specs.Folder.{IsReadFrom, Known, nothing_known}
-use Rattle.mrp_main.specs.PageEnds.{AskedPageEnds}
-use Rattle.mrp_main.specs.Refusal.{TellsFault}
-use Rattle.mrp_main.specs.CarryEnds.{CarryEndsBy}
+use Rattle.mrp_commands.specs.PageEnds.{AskedPageEnds}
+use Rattle.mrp_commands.specs.Refusal.{TellsFault}
+use Rattle.mrp_commands.specs.CarryEnds.{CarryEndsBy}
 use Rattle.mrp_main.specs.CheckEnds.{CheckEnds}
-use Rattle.mrp_main.specs.InspectEnds.{InspectEndsIn}
+use Rattle.mrp_commands.specs.InspectEnds.{InspectEndsIn}
 use Rattle.mrp_words.specs.Words.{Asks}
 
 -- how a command answers the script: `plan` in row order, `live` desk by desk
@@ -141,22 +145,6 @@ IsEndOf (fault.TooLarge name) end = end ≡ TooLarge name
 IsEndOf fault.Read end = end ≡ Read
 IsEndOf fault.Write end = end ≡ Write
 IsEndOf fault.NoMemory end = end ≡ NoMemory
-
--- what is written to the error stream for an ending
-abbrev pub words_of : Ending → List ℕ
-words_of Done = []
-words_of (LeftBehind text) = string_bytes text ++ 10 ∷ []
-words_of (Refused text) = codes "refused: " ++ string_bytes text ++ 10 ∷ []
-words_of (TooLarge name) = codes "too large: " ++ name ++ 10 ∷ []
-words_of WrongShape = codes "wrong: shape" ++ 10 ∷ []
-words_of WrongTables = codes "wrong: tables" ++ 10 ∷ []
-words_of Wrong = []
-words_of NoRun = codes "no such run" ++ 10 ∷ []
-words_of (NoStart range) = codes "no such start: expected a Monday from " ++ string_bytes range ++ 10 ∷ []
-words_of (Usage text) = string_bytes text
-words_of NoMemory = codes "no memory" ++ 10 ∷ []
-words_of Read = codes "read failed" ++ 10 ∷ []
-words_of Write = codes "write failed" ++ 10 ∷ []
 
 -- a text was written to a stream: it took the text whole, or gave up with a prefix of it
 abbrev pub WasTold : {E : Type 0} → (E → Option (List ℕ)) → Told E → Told E → List ℕ → Type 0

@@ -2,12 +2,13 @@
 
 ghost use Rattle.std.specs.Prelude.{◌++◌, ◌∷◌, [], decimal};
 ghost use Rattle.std.specs.Result.{result_map_both};
-ghost use Rattle.mrp_main.specs.CheckEnds.{AreRead, CheckEnds, Says, TellsAudit, TellsFound};
-ghost use Rattle.mrp_main.specs.declared.ending.Ending.TheVariants as end;
+ghost use Rattle.mrp_main.specs.CheckEnds.{AreRead, CheckEnds, TellsAudit, TellsFound};
+ghost use Rattle.mrp_commands.specs.Telling.{Says};
+ghost use Rattle.mrp_commands.specs.declared.ending.Ending.TheVariants as end;
 
-use crate::ending::{Ending, write_line};
 use itoa::Buffer;
 use mrp_audit::{AuditFault, check};
+use mrp_commands::{Ending, write_line};
 use mrp_rows::{READ_CALLS, ReadFault, Told, fault_text, read_within};
 use mrp_words::{FileStore, read_folder};
 use std::alloc::Global;

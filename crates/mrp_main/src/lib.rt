@@ -2,12 +2,8 @@
 //! status.
 #![tactic(auto)]
 
-mod carry;
 mod check;
-mod ending;
-mod inspect;
-mod page;
+mod day;
 mod run;
-mod status;
 
 pub use run::run_words;

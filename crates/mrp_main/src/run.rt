@@ -1,21 +1,15 @@
 //! Doing what the words of the command line ask for, with an input, an output and an error stream.
 
-ghost use Rattle.std.specs.Prelude.{◌≡◌, ◌<◌, ◌≤◌, Ok, map, string_bytes, vec_len};
-ghost use Rattle.std.specs.Int.{IsInRange};
-ghost use Rattle.mrp_rows.specs.declared.streams.TheConstants.{GREATEST_BUNDLE};
+ghost use Rattle.std.specs.Prelude.{◌<◌, map};
 ghost use Rattle.std.specs.Result.{ForOk};
-ghost use Rattle.mrp_main.specs.Ends.{BundleEnds, DayEnds, Ends, FolderEnds, HelpEnds, IsDone, RequestEnds};
+ghost use Rattle.mrp_main.specs.Ends.{Ends, HelpEnds, IsDone, RequestEnds};
 ghost use Rattle.mrp_words.specs.Words.{HasWorkers};
-ghost use Rattle.mrp_words.specs.declared.day.DayCommand.TheVariants as day;
 
-use crate::carry::carry_asked;
 use crate::check::check_day;
-use crate::ending::Ending;
-use crate::inspect::inspect_asked;
-use crate::page::make_page;
-use mrp_engine::{MOST_WORKERS, live_bundle, live_day, run_bundle, run_day};
+use crate::day::{make_day, make_day_of_folder};
+use mrp_commands::{Ending, carry_asked, inspect_asked, make_page};
 use mrp_rows::{Told, Tries, write_text};
-use mrp_words::{DayCommand, FileStore, NoRequest, Request, read_folder, read_words};
+use mrp_words::{FileStore, NoRequest, Request, read_words};
 use std::alloc::Global;
 use std::convert::AsStr;
 use std::io::{Read, Write};
@@ -30,92 +24,6 @@ fn write_help<W: Write>(text: &str, output: &mut Told<W>) -> Ending
     match write_text(output, text.as_bytes(), &mut Tries::new()) {
         Ok(()) => Ending::Done,
         Err(_) => Ending::Write,
-    }
-}
-
-// Plans the bundle on the input, with its script in row order.
-fn plan_input<R: Read, W: Write>(
-    rt: &(impl Alloc + Threads + Wait + Sync),
-    alloc: Global,
-    workers: usize,
-    input: &mut Told<R>,
-    output: &mut Told<W>,
-) -> Ending
-    requires workers { IsInRange 1 MOST_WORKERS workers }
-    ensures { DayEnds day.Plan R.remaining W.contents input.old input.new output.old output.new result }
-{
-    let day = run_day(rt, alloc, input, output, workers);
-    Ending::of_day(alloc, day)
-}
-
-// Makes a live day of the bundle on the input.
-fn live_input<R: Read, W: Write>(
-    rt: &(impl Alloc + Threads + Wait + Sync),
-    alloc: Global,
-    workers: usize,
-    input: &mut Told<R>,
-    output: &mut Told<W>,
-) -> Ending
-    requires workers { IsInRange 1 MOST_WORKERS workers }
-    ensures { DayEnds day.Live R.remaining W.contents input.old input.new output.old output.new result }
-{
-    let day = live_day(rt, alloc, input, output, workers);
-    Ending::of_day(alloc, day)
-}
-
-// Makes a day of the bundle on the input.
-fn make_day<R: Read, W: Write>(
-    rt: &(impl Alloc + Threads + Wait + Sync),
-    alloc: Global,
-    command: DayCommand,
-    workers: usize,
-    input: &mut Told<R>,
-    output: &mut Told<W>,
-) -> Ending
-    requires workers { IsInRange 1 MOST_WORKERS workers }
-    ensures { DayEnds command R.remaining W.contents input.old input.new output.old output.new result }
-{
-    match command {
-        DayCommand::Plan => plan_input(rt, alloc, workers, input, output),
-        DayCommand::Live => live_input(rt, alloc, workers, input, output),
-    }
-}
-
-// Makes a day of a bundle that was read.
-fn make_day_of_bundle<W: Write>(
-    rt: &(impl Alloc + Threads + Wait + Sync),
-    alloc: Global,
-    command: DayCommand,
-    workers: usize,
-    bundle: Vec<u8>,
-    output: &mut Told<W>,
-) -> Ending
-    requires bundle { vec_len bundle ≤ GREATEST_BUNDLE }
-    requires workers { IsInRange 1 MOST_WORKERS workers }
-    ensures { BundleEnds command W.contents output.old output.new (Ok bundle.items) result }
-{
-    match command {
-        DayCommand::Plan => Ending::of_day(alloc, run_bundle(rt, alloc, bundle, output, workers)),
-        DayCommand::Live => Ending::of_day(alloc, live_bundle(rt, alloc, bundle, output, workers)),
-    }
-}
-
-// Makes a day of the bundle of a folder's files.
-fn make_day_of_folder<F: FileStore, W: Write>(
-    rt: &(impl Alloc + Threads + Wait + Sync),
-    alloc: Global,
-    files: &F,
-    command: DayCommand,
-    workers: usize,
-    folder: &str,
-    output: &mut Told<W>,
-) -> Ending
-    requires workers { IsInRange 1 MOST_WORKERS workers }
-    ensures { FolderEnds command (F.known files.now) folder.now W.contents output.old output.new result }
-{
-    match read_folder(files, alloc, folder) {
-        Ok(bundle) => make_day_of_bundle(rt, alloc, command, workers, bundle, output),
-        Err(fault) => Ending::of_read(fault),
     }
 }
 

@@ -4,9 +4,9 @@ use Rattle.std.proofs.Common.{◌≡◌, ◌∙◌, ◌⊎◌, ◌+◌, ◌*◌,
 use Rattle.std.specs.Prelude.{◌&&◌, ◌||◌, if◌then◌else◌, is_some, min}
 use Rattle.std.specs.List.{All, filter}
 use Rattle.std.proofs.lemmas.Bool.{both_ways, cases_lt, eq-eqb, false_from_ne_true}
-use Rattle.std.proofs.lemmas.List.{append-nil, length_push, length-append}
+use Rattle.std.proofs.lemmas.List.{append-nil, length-map, length_push, length-append, map-append}
 use Rattle.std.proofs.lemmas.List.Elements.{All-head, All-tail, filter-append}
-use Rattle.mrp_page.specs.Counted.{missed_of, wanted_rows}
+use Rattle.mrp_page.specs.Counted.{AreSomeOf, missed_of, records_of, wanted_rows}
 use Rattle.mrp_page.specs.Notes.{Noted, counts_at, counts_if, has_run, is_shown, none_noted, noted, noted_from, notes_of, rows_left, rows_taken}
 use Rattle.mrp_page.specs.Reading.{IsDayOf}
 use Rattle.mrp_page.specs.Row.{Cells, RowView, is_in}
@@ -94,6 +94,47 @@ not-history s.Pegs low = refl
 not-history s.Messages low = refl
 not-history s.Loads low = refl
 
+-- rows of which some are kept, and one more
+some-later : (xs ys : List Cells) (c : Cells) → AreSomeOf xs ys → AreSomeOf xs (ys ++ (c ∷ []))
+unfolding AreSomeOf
+some-later [] ys c some = tt
+some-later (x ∷ xs) [] c some = absurd some
+some-later (x ∷ xs) (y ∷ ys) c (inl first) = inl (first.0, some-later xs ys c first.1)
+some-later (x ∷ xs) (y ∷ ys) c (inr later) = inr (some-later (x ∷ xs) ys c later)
+
+some-both : (xs ys : List Cells) (c : Cells) → AreSomeOf xs ys → AreSomeOf (xs ++ (c ∷ [])) (ys ++ (c ∷ []))
+unfolding AreSomeOf
+some-both [] [] c some = inl (refl, tt)
+some-both [] (y ∷ ys) c some = inr (some-both [] ys c tt)
+some-both (x ∷ xs) [] c some = absurd some
+some-both (x ∷ xs) (y ∷ ys) c (inl first) = inl (first.0, some-both xs ys c first.1)
+some-both (x ∷ xs) (y ∷ ys) c (inr later) = inr (some-both (x ∷ xs) ys c later)
+
+some-more : (w room : Bool) (xs ys : List Cells) (c : Cells) → AreSomeOf xs ys → AreSomeOf (xs ++ (if w && room then c ∷ [] else [])) (ys ++ (if w then c ∷ [] else []))
+some-more true true xs ys c some = some-both xs ys c some
+some-more true false xs ys c some = rw (append-nil xs) (some-later xs ys c some)
+some-more false room xs ys c some = rw (append-nil xs, append-nil ys) some
+
+none-of : (ys : List Cells) → AreSomeOf [] ys
+unfolding AreSomeOf
+none-of ys = tt
+
+some-few : (xs ys : List Cells) → AreSomeOf xs ys → length xs ≤ length ys
+unfolding AreSomeOf
+some-few [] ys some = omega arith
+some-few (x ∷ xs) [] some = absurd some
+some-few (x ∷ xs) (y ∷ ys) (inl first) = omega (arith, some-few xs ys first.1)
+some-few (x ∷ xs) (y ∷ ys) (inr later) = omega (arith, some-few (x ∷ xs) ys later)
+
+-- none is left out
+some-all : (xs ys : List Cells) → AreSomeOf xs ys → length xs ≡ length ys → xs ≡ ys
+unfolding AreSomeOf
+some-all [] [] some long = refl
+some-all [] (y ∷ ys) some long = absurd (omega (arith, long))
+some-all (x ∷ xs) [] some long = absurd some
+some-all (x ∷ xs) (y ∷ ys) (inl first) long = ap (λ (c : Cells). c ∷ xs) first.0 ∙ ap (λ (t : List Cells). y ∷ t) (some-all xs ys first.1 (omega (arith, long)))
+some-all (x ∷ xs) (y ∷ ys) (inr later) long = absurd (omega (arith, long, some-few (x ∷ xs) ys later))
+
 -- one more row is kept, or counted, or not one that the page should show
 sums : (w room : Bool) (kept missed all records : ℕ) → kept + missed ≡ all → all ≤ records → records + 1 < 2 ^ 64
     → (kept + (if w && room then 1 else 0)) + min (missed + (if w && not (w && room) then 1 else 0)) (2 ^ 64 - 1) ≡ all + (if w then 1 else 0)
@@ -127,6 +168,7 @@ module _ (items : Names) (asked : Option ℕ) (S : Section) (low : 2 ≤ place_o
     now : runs_of done ≡ shown_in done
     at : (n.spot.place ≡ place.Header S) ⊎ (n.spot.place ≡ place.Row S)
     sum : length (kept n) + n.spot.missed ≡ length (wanted done)
+    some : AreSomeOf (records_of (kept n)) (wanted done)
     counted : missed_of S n.counts ≡ n.spot.missed
     few : length (wanted done) ≤ length done
 
@@ -134,6 +176,7 @@ module _ (items : Names) (asked : Option ℕ) (S : Section) (low : 2 ≤ place_o
   record Behind (done : List Cells) (n : Noted) : Type 0 where
     late : (shown_in done < runs_of done) ⊎ ((runs_of done ≡ shown_in done) × (3 * place_of S + 3 < stage n.spot.place))
     sum : length (kept n) + missed_of S n.counts ≡ length (wanted done)
+    some : AreSomeOf (records_of (kept n)) (wanted done)
 
   -- no day has such records, or one of these is so
   abbrev Phase : List Cells → Noted → Type 0
@@ -219,6 +262,7 @@ module _ (items : Names) (asked : Option ℕ) (S : Section) (low : 2 ≤ place_o
                   now = now';
                   at = inl at;
                   sum = omega (arith, missed, none, ap length (kept-other same other ∙ before.none));
+                  some = rw (kept-other same other ∙ before.none) (none-of (wanted more));
                   counted = ap (λ (q : Place). missed_of S (counts_at asked next.spot q n.counts)) at ∙ own-header S asked next.spot n.counts low (step.is-shown now');
                   few = omega (arith, none);
                 })))
@@ -258,10 +302,19 @@ module _ (items : Names) (asked : Option ℕ) (S : Section) (low : 2 ≤ place_o
               now = now;
               at = inr at;
               sum = rw (kept-is, missed, all) total;
+              some = rw (kept-rows at now, all-rows rows)
+                  (some-more w (room_at (place.Row S) n.spot (w && leads n.spot n.last c) ((w && leads n.spot n.last c) && starts_at (place.Row S) c)) (records_of (kept n)) (wanted done) c amid.some);
               counted = ap (λ (q : Place). missed_of S (counts_at asked next.spot q n.counts)) at ∙ own-header S asked next.spot n.counts low (step.is-shown now);
               few = rw (all, length_push done c) (more-few w (length (wanted done)) (length done) amid.few);
             })))
           where
+            all-rows : rows_of S (shown_in more) more ≡ rows_of S (shown_in done) done ++ (c ∷ []) → wanted more ≡ wanted done ++ (if wants items S c then c ∷ [] else [])
+            all-rows rows = ap (λ (rs : List Cells). filter (wants items S) rs) rows ∙ filter-append (wants items S) (rows_of S (shown_in done) done) (c ∷ [])
+
+            own-rows : (takes : Bool) → records_of (filter (is_in S) (if takes then row ∷ [] else [])) ≡ (if takes then c ∷ [] else [])
+            own-rows true = rw (eq-eqb (place_of S) (place_of S) refl) refl
+            own-rows false = refl
+
             own : (takes : Bool) → length (filter (is_in S) (if takes then row ∷ [] else [])) ≡ (if takes then 1 else 0)
             own true = rw (eq-eqb (place_of S) (place_of S) refl) refl
             own false = refl
@@ -273,6 +326,13 @@ module _ (items : Names) (asked : Option ℕ) (S : Section) (low : 2 ≤ place_o
                 (ap (λ (q : Place). rows_taken (is_shown asked next.spot.run) (section_if (takes_at q) q) c) at ∙ ap (λ (b : Bool). rows_taken b (section_if (takes_at (place.Row S)) (place.Row S)) c) (step.is-shown now)
                 ∙ row-added S (not-history S low) (takes_at (place.Row S)) c)
 
+            kept-rows : here ≡ place.Row S → runs_of more ≡ shown_in more → records_of (kept next) ≡ records_of (kept n) ++ (if takes_at (place.Row S) then c ∷ [] else [])
+            kept-rows at now =
+                ap (λ (t : List RowView). records_of (filter (is_in S) t)) (report-is at now)
+                ∙ ap records_of (filter-append (is_in S) n.report (if takes_at (place.Row S) then row ∷ [] else []))
+                ∙ map-append (λ (r : RowView). r.cells) (kept n) (filter (is_in S) (if takes_at (place.Row S) then row ∷ [] else []))
+                ∙ ap (λ (t : List Cells). records_of (kept n) ++ t) (own-rows (takes_at (place.Row S)))
+
         leaves : (shown_in more < runs_of more) ⊎ ((runs_of more ≡ shown_in more) × (3 * place_of S + 3 < stage here)) → (stage here ≡ 3 * place_of S + 2 → ⊥) → (stage here ≡ 3 * place_of S + 3 → ⊥) → Phase more next
         leaves late no-header no-own =
             let other : is_row_of S here ≡ false = no-row S here no-own in
@@ -280,6 +340,7 @@ module _ (items : Names) (asked : Option ℕ) (S : Section) (low : 2 ≤ place_o
             inr (inr (inr (record {
               late = late;
               sum = rw (kept-other same other, count-kept S asked next.spot here n.counts no-header no-own, amid.counted, ap (filter (wants items S)) rows) amid.sum;
+              some = rw (kept-other same other, ap (filter (wants items S)) rows) amid.some;
             })))
 
         by : (inside S c ≡ place.Row S) ⊎ ((begins_run (inside S c) ≡ true) ⊎ ((begins_run (inside S c) ≡ false) × (3 * place_of S + 3 < stage (inside S c)))) → Phase more next
@@ -301,6 +362,7 @@ module _ (items : Names) (asked : Option ℕ) (S : Section) (low : 2 ≤ place_o
             inr (inr (inr (record {
               late = inl past;
               sum = rw (kept-unshown same (λ e. omega arith), count-unshown S low asked next.spot here n.counts (step.not-shown (λ e. omega arith)), ap (filter (wants items S)) rows) behind.sum;
+              some = rw (kept-unshown same (λ e. omega arith), ap (filter (wants items S)) rows) behind.some;
             })))
 
         on : runs_of done ≡ shown_in done → (begins_run here ≡ true) ⊎ ((begins_run here ≡ false) × (3 * place_of S + 3 < stage here)) → Phase more next
@@ -311,6 +373,7 @@ module _ (items : Names) (asked : Option ℕ) (S : Section) (low : 2 ≤ place_o
             inr (inr (inr (record {
               late = inr (step.same-run past.0 ∙ now ∙ sym same.run, past.1);
               sum = rw (kept-other same other, count-kept S asked next.spot here n.counts (λ e. omega (arith, past.1)) (λ e. omega (arith, past.1)), ap (filter (wants items S)) rows) behind.sum;
+              some = rw (kept-other same other, ap (filter (wants items S)) rows) behind.some;
             })))
 
         least : (b : Bool) → begins_run here ≡ b → runs_of done ≤ runs_of more
@@ -363,7 +426,11 @@ module _ (items : Names) (asked : Option ℕ) (S : Section) (low : 2 ≤ place_o
       by (Some number) e = inl (rw e (from_one number e))
       by None e = inr (rw e refl, omega arith)
 
-  sum-of : (records : List Cells) (n : Noted) → Phase records n → is_end n.spot.place ≡ true → shown_in records ≤ runs_of records → length (kept n) + missed_of S n.counts ≡ length (wanted records)
+  record IsRead (records : List Cells) (n : Noted) : Type 0 where
+    sum : length (kept n) + missed_of S n.counts ≡ length (wanted records)
+    some : AreSomeOf (records_of (kept n)) (wanted records)
+
+  sum-of : (records : List Cells) (n : Noted) → Phase records n → is_end n.spot.place ≡ true → shown_in records ≤ runs_of records → IsRead records n
   sum-of records n phase end begun = by phase (end-stage n.spot.place end)
     where
       early : Before records n → 23 ≤ stage n.spot.place → ⊥
@@ -373,17 +440,27 @@ module _ (items : Names) (asked : Option ℕ) (S : Section) (low : 2 ≤ place_o
           of (inl less) = omega arith
           of (inr now) = omega (arith, now.1, place-most S)
 
-      by : Phase records n → (23 ≤ stage n.spot.place) × (is_wrong n.spot.place ≡ false) → length (kept n) + missed_of S n.counts ≡ length (wanted records)
+      by : Phase records n → (23 ≤ stage n.spot.place) × (is_wrong n.spot.place ≡ false) → IsRead records n
       by (inl wrong) ends = absurd (both_ways (is_wrong n.spot.place) ends.1 wrong)
       by (inr (inl before)) ends = absurd (early before ends.0)
-      by (inr (inr (inl amid))) ends = rw amid.counted amid.sum
-      by (inr (inr (inr behind))) ends = behind.sum
+      by (inr (inr (inl amid))) ends = record { sum = rw amid.counted amid.sum; some = amid.some }
+      by (inr (inr (inr behind))) ends = record { sum = behind.sum; some = behind.some }
 
-pub kept-or-counted : (items : Names) (asked : Option ℕ) (records : List Cells) (notes : Noted) → IsDayOf items asked records notes → length records < 2 ^ 64
-    → (S : Section) → 2 ≤ place_of S → length (filter (is_in S) notes.report) + missed_of S notes.counts ≡ length (wanted_rows items S (run_shown asked records) records)
-kept-or-counted items asked records notes day countable S low =
-    let from_one = asked-from asked notes.spot.run day.run in
-    let inv : Inv items asked S low records (notes_of items asked records) = all-more items asked S low [] records none_noted (first items asked S low from_one) from_one countable in
-    let has : has_run asked (runs_of records) ≡ true = ap (has_run asked) (sym inv.runs ∙ ap (λ (n : Noted). n.spot.run) (sym day.kept)) ∙ day.run in
-    ap (λ (n : Noted). length (filter (is_in S) n.report) + missed_of S n.counts) day.kept
-    ∙ sum-of items asked S low records (notes_of items asked records) inv.phase (ap is_end inv.place ∙ day.day) (has-begun asked records has)
+module _ (items : Names) (asked : Option ℕ) (records : List Cells) (notes : Noted) (day : IsDayOf items asked records notes) (countable : length records < 2 ^ 64) (S : Section) (low : 2 ≤ place_of S) where
+  all-read : IsRead items asked S low records (notes_of items asked records)
+  all-read =
+      let from_one = asked-from asked notes.spot.run day.run in
+      let inv : Inv items asked S low records (notes_of items asked records) = all-more items asked S low [] records none_noted (first items asked S low from_one) from_one countable in
+      let has : has_run asked (runs_of records) ≡ true = ap (has_run asked) (sym inv.runs ∙ ap (λ (n : Noted). n.spot.run) (sym day.kept)) ∙ day.run in
+      sum-of items asked S low records (notes_of items asked records) inv.phase (ap is_end inv.place ∙ day.day) (has-begun asked records has)
+
+  pub kept-or-counted : length (filter (is_in S) notes.report) + missed_of S notes.counts ≡ length (wanted_rows items S (run_shown asked records) records)
+  kept-or-counted = ap (λ (n : Noted). length (filter (is_in S) n.report) + missed_of S n.counts) day.kept ∙ all-read.sum
+
+  pub kept-in-order : AreSomeOf (records_of (filter (is_in S) notes.report)) (wanted_rows items S (run_shown asked records) records)
+  kept-in-order = subst (λ (n : Noted). AreSomeOf (records_of (filter (is_in S) n.report)) (wanted_rows items S (run_shown asked records) records)) (sym day.kept) all-read.some
+
+  pub all-kept : missed_of S notes.counts ≡ 0 → records_of (filter (is_in S) notes.report) ≡ wanted_rows items S (run_shown asked records) records
+  all-kept none =
+      some-all (records_of (filter (is_in S) notes.report)) (wanted_rows items S (run_shown asked records) records) kept-in-order
+      (omega (arith, kept-or-counted, none, length-map (filter (is_in S) notes.report) (λ (r : RowView). r.cells)))

@@ -10,7 +10,7 @@ use Rattle.mrp_page.specs.Rows.{last_name, leaders}
 use Rattle.mrp_page.specs.Section.{is_by_weeks, is_history, is_of_items, items_of, place_of, room_of}
 use Rattle.mrp_page.specs.Shown.{StandTogether, each_once, has_name, is_asked, items_in, row_names}
 use Rattle.mrp_page.specs.Spot.{Names, has_room, is_among, is_row, leads, spot_with, wants}
-use Rattle.mrp_page.specs.declared.limits.TheConstants.{MOST_ITEMS}
+use Rattle.mrp_page.specs.declared.limits.TheConstants.{MOST_ITEMS, MOST_WEEKS}
 use Rattle.mrp_day.specs.declared.section.Section.{Section}
 use Rattle.mrp_day.specs.declared.section.Section.TheVariants as s
 use Rattle.mrp_page.specs.declared.spot.Place.TheVariants as place
@@ -137,9 +137,9 @@ no-room-lead S spot u is none = subst (λ (n : ℕ). n ≤ spot.items) is.most (
 room-same : (S : Section) (spot : Spot) (u : Bool) → has_room S spot false u ≡ true → (spot.taken < room_of S) ⊎ (is_some spot.takes ≡ true)
 room-same S spot u room = by (or_cases _ _ room)
   where
-    by : (nat_lt spot.taken (room_of S) ≡ true) ⊎ ((is_by_weeks S && is_some spot.takes) ≡ true) → (spot.taken < room_of S) ⊎ (is_some spot.takes ≡ true)
+    by : (nat_lt spot.taken (room_of S) ≡ true) ⊎ ((is_by_weeks S && (is_some spot.takes && nat_lt spot.weeks MOST_WEEKS)) ≡ true) → (spot.taken < room_of S) ⊎ (is_some spot.takes ≡ true)
     by (inl below) = inl (ltb-true spot.taken (room_of S) below)
-    by (inr more) = inr (and_parts _ _ more).1
+    by (inr more) = inr (and_parts _ _ (and_parts _ _ more).1).0
 
 -- before the first row
 pub inside-none : (items : Names) (S : Section) (count : ℕ) (spot : Spot) (last : List ℕ) → spot.items ≡ 0 → is_row spot.place ≡ false → Inside items S count [] [] spot last

@@ -5,6 +5,7 @@ use Rattle.std.specs.List.{All, before_first, list_any, position_or_len}
 use Rattle.std.proofs.lemmas.Bool.{and_right, both_ways, cases_lt, eqb-true, false_from_ne_true, ne_eqb}
 use Rattle.std.proofs.lemmas.List.{append-nil, get_or_append_left, length-append}
 use Rattle.std.proofs.lemmas.List.Elements.{All-cons, All-head, All-nil, All-tail}
+use Rattle.mrp_lines.specs.Lines.{is_line}
 use Rattle.mrp_page.specs.Notes.{counts_at, counts_if, is_shown, rows_taken}
 use Rattle.mrp_page.specs.Row.{Cells, RowView, is_in}
 use Rattle.mrp_page.specs.Rows.{stretch}
@@ -192,7 +193,7 @@ after-begun x c = by (same_cells c (line_of x ∷ []))
     by false = inr refl
 
 pub after-rows : (x : Section) (c : Cells) → (inside x c ≡ place.Row x) ⊎ ((inside x c ≡ place.Line (next_of x)) ⊎ (inside x c ≡ place.Wrong))
-after-rows x c = by (length c == length (columns_of x))
+after-rows x c = by ((length c == length (columns_of x)) && is_line c)
   where
     by : (b : Bool) → ((if b then place.Row x else begun (next_of x) c) ≡ place.Row x) ⊎ (((if b then place.Row x else begun (next_of x) c) ≡ place.Line (next_of x)) ⊎ ((if b then place.Row x else begun (next_of x) c) ≡ place.Wrong))
     by true = inl refl

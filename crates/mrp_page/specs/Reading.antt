@@ -15,7 +15,7 @@ use Rattle.mrp_page.specs.declared.fault.PageFault.TheVariants as fault
 use Rattle.mrp_page.specs.Notes.{Noted, has_run, noted_from, notes_of}
 use Rattle.mrp_page.specs.Row.{Cells}
 use Rattle.mrp_page.specs.declared.spot.Place.{Place}
-use Rattle.mrp_lines.specs.Taken.{IsTaken}
+use Rattle.mrp_lines.specs.Taken.{AreRecordsOf, BeginsWith, IsTaken}
 use Rattle.mrp_page.specs.Spot.{Names, is_end, is_wrong, place_from, place_of}
 
 -- a reader with the default dialect, for records with any number of cells, that can read on
@@ -57,17 +57,9 @@ abbrev pub is_write_fault : PageFault → Bool
 is_write_fault fault.Write = true
 is_write_fault _ = false
 
--- all records of a text, by the definition of csv
-abbrev pub AreRecordsOf : List ℕ → List Cells → Type 0
-AreRecordsOf text records = AreRecords default_config st.StartRecord (strip_bom text) records
-
 -- a text has records of which this holds
 abbrev pub HasRecords : List ℕ → (List Cells → Type 0) → Type 0
 HasRecords text P = (records : List Cells) × AreRecordsOf text records × P records
-
--- these are the first records of a text
-abbrev pub BeginsWith : List ℕ → List Cells → Type 0
-BeginsWith text records = (state : State) × (rest : List ℕ) × Reached default_config st.StartRecord (strip_bom text) records state rest
 
 -- the first records of a text are those of no day
 abbrev pub HasWrongFront : List ℕ → Type 0
@@ -90,7 +82,7 @@ pub record IsDayOf (items : Names) (asked : Option ℕ) (records : List Cells) (
 abbrev pub IsKeptOf : Names → Option ℕ → List ℕ → Noted → Type 0
 IsKeptOf items asked text notes = HasRecords text (λ records. IsDayOf items asked records notes)
 
--- what is kept once lines were taken off a text: csv has to read what is left, with this in front
+-- what is kept once lines were taken off a text: then comes what is left, with this in front
 pub record HasTaken (text : List ℕ) (items : Names) (asked : Option ℕ) (left : Option (List ℕ)) (front : List ℕ) (before notes : Noted) : Type 0 where
   pub records : List Cells
   pub rest : List ℕ

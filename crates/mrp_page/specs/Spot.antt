@@ -3,7 +3,8 @@ use Rattle.std.specs.Prelude.{ℕ, Bool, true, false, ◌+◌, ◌-◌, ◌^◌,
 use Rattle.std.specs.List.{list_any}
 use Rattle.std.proofs.Common.{Bor}
 use Rattle.std.specs.Cmp.Lexicographic.{pointwise}
-use Rattle.mrp_page.specs.declared.limits.TheConstants.{MOST_ITEMS}
+use Rattle.mrp_lines.specs.Lines.{is_line}
+use Rattle.mrp_page.specs.declared.limits.TheConstants.{MOST_ITEMS, MOST_WEEKS}
 use Rattle.mrp_day.specs.declared.section.Section.{Section}
 use Rattle.mrp_day.specs.declared.section.Section.TheVariants as s
 use Rattle.mrp_page.specs.declared.spot.Place.{Place}
@@ -21,9 +22,10 @@ same_cells a b = pointwise (pointwise nat_eq) a b
 abbrev pub begun : Section → Cells → Place
 begun section cells = if same_cells cells (line_of section ∷ []) then place.Line section else place.Wrong
 
--- what a record is after a section's header: a row with a cell for each column, or the line of the next section
+-- what a record is after a section's header: a row with a cell for each column, which stands in one line, or the line of the
+-- next section
 abbrev pub inside : Section → Cells → Place
-inside section cells = if length cells == length (columns_of section) then place.Row section else begun (next_of section) cells
+inside section cells = if (length cells == length (columns_of section)) && is_line cells then place.Row section else begun (next_of section) cells
 
 -- what the record after another is
 abbrev pub place_after : Place → Cells → Place
@@ -90,7 +92,7 @@ is_row _ = false
 
 -- the spot before the first record
 abbrev pub start : Spot
-start = record { place = place.Front; run = 0; taken = 0; missed = 0; items = 0; urgent = 0; takes = None }
+start = record { place = place.Front; run = 0; taken = 0; missed = 0; items = 0; urgent = 0; weeks = 0; takes = None }
 
 -- how many runs have begun at a place; the count saturates
 abbrev pub run_at : ℕ → Place → ℕ
@@ -109,13 +111,18 @@ leads_if spot same = not (is_row spot.place && same)
 abbrev pub leads : Spot → List ℕ → Cells → Bool
 leads spot last cells = leads_if spot (same_text last (slice_index_or cells 0 []))
 
+-- how many rows were taken of an item, or work centre, with one more if it is taken
+abbrev pub weeks_with : ℕ → Bool → Bool → ℕ
+weeks_with weeks leads takes = if takes then (if leads then 1 else min (weeks + 1) (2 ^ 64 - 1)) else 0
+
 -- a page has room for a row of a section after a spot: while the section is not full; for the first items; for the
--- first items with an order that starts in the first week; and for the other weeks of an item that it has begun
+-- first items with an order that starts in the first week; and for the other weeks of an item that it has begun, as many as
+-- a plan may have
 abbrev pub has_room : Section → Spot → Bool → Bool → Bool
 has_room section spot leads urgent =
     nat_lt spot.taken (room_of section)
     || (if leads then nat_lt spot.items (items_of section) || (urgent && nat_lt spot.urgent MOST_ITEMS)
-    else is_by_weeks section && is_some spot.takes)
+    else is_by_weeks section && (is_some spot.takes && nat_lt spot.weeks MOST_WEEKS))
 
 -- the same for a record
 abbrev pub room_at : Place → Spot → Bool → Bool → Bool
@@ -136,6 +143,7 @@ spot_with spot here wanted leads urgent takes = record {
   missed = counted (is_row here) spot.missed (wanted && not takes);
   items = counted (is_row here) spot.items leads;
   urgent = counted (is_row here) spot.urgent urgent;
+  weeks = weeks_with spot.weeks leads takes;
   takes = section_if takes here;
 }
 

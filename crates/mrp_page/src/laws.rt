@@ -19,7 +19,7 @@ ghost use Rattle.mrp_page.specs.Html.{number_html};
 ghost use Rattle.mrp_page.specs.Outs.{distance, falling_late, is_planned, out_row, outs_first, sign};
 ghost use Rattle.mrp_page.specs.ByWord.{has_one_of, with_word};
 ghost use Rattle.mrp_page.specs.Columns.{column};
-ghost use Rattle.mrp_page.specs.Counted.{kept_of, missed_of, wanted_rows};
+ghost use Rattle.mrp_page.specs.Counted.{AreSomeOf, is_peg_of, kept_of, missed_of, records_of, together, wanted_rows};
 ghost use Rattle.mrp_page.specs.Draw.{all_weeks, amounts_html, balance_html, booked_html, framed_record, has_item, is_plain, is_scheduled, item_name_html, later_record, link_html, measure_html, more_html, named_record, planned_html, points_html, promised_html, record_or_none, record_rows, record_table, supplies_html};
 ghost use Rattle.mrp_page.specs.Escaped.{escaped};
 ghost use Rattle.mrp_page.specs.Folded.{Listing, capped_html, folded_html, hidden_html, listed_html};
@@ -92,11 +92,13 @@ pub fn kept_rows_stand_in_the_day()
 
 /// No row is lost: of the history, and of each section of the report that a page shows, the rows kept and the
 /// rows counted as left out are together as many as the day has for the page to show. If items are named,
-/// these are the rows of those items. The rows kept of a section stand together, so the page finds all of
-/// them.
+/// these are the rows of those items. Those that are kept are some of them, in their order, and all if none is
+/// left out; they stand together, so the page finds all of them.
 pub fn rows_are_kept_or_counted()
     ensures history { (items : Names) (asked : Option ℕ) (records : List Cells) (notes : Noted) → IsDayOf items asked records notes → length records < 2 ^ 64 → length notes.history + notes.counts.history ≡ length (rows_of section.History 0 records) }
     ensures report { (items : Names) (asked : Option ℕ) (records : List Cells) (notes : Noted) → IsDayOf items asked records notes → length records < 2 ^ 64 → (section : Section) → 2 ≤ place_of section → length (kept_of section notes) + missed_of section notes.counts ≡ length (wanted_rows items section (run_shown asked records) records) }
+    ensures some { (items : Names) (asked : Option ℕ) (records : List Cells) (notes : Noted) → IsDayOf items asked records notes → length records < 2 ^ 64 → (section : Section) → 2 ≤ place_of section → AreSomeOf (records_of (kept_of section notes)) (wanted_rows items section (run_shown asked records) records) }
+    ensures all { (items : Names) (asked : Option ℕ) (records : List Cells) (notes : Noted) → IsDayOf items asked records notes → length records < 2 ^ 64 → (section : Section) → 2 ≤ place_of section → missed_of section notes.counts ≡ 0 → records_of (kept_of section notes) ≡ wanted_rows items section (run_shown asked records) records }
     ensures together { (items : Names) (asked : Option ℕ) (records : List Cells) → length records < 2 ^ 64 → (section : Section) → rows_in section (notes_of items asked records).report ≡ kept_of section (notes_of items asked records) }
 {}
 
@@ -355,6 +357,15 @@ pub fn pegs_lead_both_ways()
     ensures waits { (scene : SceneView) (name : List ℕ) → waits_for scene.pegs name ≡ filter (λ peg. same_text (cell_at peg (column section.Pegs (codes "parent"))) name && same_text (cell_at peg (column section.Pegs (codes "need"))) (codes "parent")) scene.pegs }
     ensures down { (scene : SceneView) (peg : RowView) (pegs : List RowView) → waits_html scene (peg ∷ pegs) ≡ waits_open ++ (flat_map (wait_html scene) (peg ∷ pegs) ++ grid_end) }
     ensures linked { (scene : SceneView) (order : RowView) (words : List ℕ) → has_item scene.shown (cell_at order 0) ≡ true → linked_html scene (Some order) words ≡ order_link (cell_at order 1) (cell_at order 0) ++ (words ++ codes "</a>") }
+{}
+
+/// Where no peg is left out, the pegs on a page, of an order, a requirement or any other kind, have as many pieces together as
+/// in the day. So where those of an order have its pieces in the day, as in each plan, they have them on the page.
+pub fn pegs_add_up()
+    ensures sum { (items : Names) (asked : Option ℕ) (records : List Cells) (notes : Noted) (passes : Cells → Bool) → IsDayOf items asked records notes → length records < 2 ^ 64 → notes.counts.pegs ≡ 0 → together passes (records_of (rows_in section.Pegs notes.report)) ≡ together passes (wanted_rows items section.Pegs (run_shown asked records) records) }
+    ensures order { (items : Names) (asked : Option ℕ) (records : List Cells) (notes : Noted) (order : RowView) → IsDayOf items asked records notes → length records < 2 ^ 64 → notes.counts.pegs ≡ 0 → together (is_peg_of order) (wanted_rows items section.Pegs (run_shown asked records) records) ≡ amount (cell_at order (column section.Orders (codes "quantity"))) → together (is_peg_of order) (records_of (rows_in section.Pegs notes.report)) ≡ amount (cell_at order (column section.Orders (codes "quantity"))) }
+    ensures pieces { (passes : Cells → Bool) (pegs : List Cells) → together passes pegs ≡ sum_by (λ peg. amount (slice_index_or peg (column section.Pegs (codes "quantity")) [])) (filter passes pegs) }
+    ensures supply { (order : RowView) (peg : Cells) → is_peg_of order peg ≡ (same_text (slice_index_or peg (column section.Pegs (codes "item")) []) (cell_at order (column section.Orders (codes "item"))) && (same_text (slice_index_or peg (column section.Pegs (codes "supply")) []) (cell_at order (column section.Orders (codes "kind"))) && same_text (slice_index_or peg (column section.Pegs (codes "source")) []) (cell_at order (column section.Orders (codes "order"))))) }
 {}
 
 /// Which items a page shows, if the rows of each item stand together in the day: 200, or all where the plan

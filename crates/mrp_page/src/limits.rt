@@ -4,12 +4,15 @@
 /// section that is full.
 pub const MOST_ITEMS: u64 = 200;
 
+/// The most weeks of a plan. Of an item, or a work centre, a page keeps no more rows once its section is full.
+pub const MOST_WEEKS: u64 = 104;
+
 /// The most entries of the history that a page keeps.
 pub const MOST_ENTRIES: u64 = 1_000;
 
 /// The most rows of a section that a page keeps, except for the history, the run and the pegs: a row for each
-/// of [`MOST_ITEMS`] items in each of 104 weeks.
-pub const MOST_ROWS: u64 = MOST_ITEMS * 104;
+/// of [`MOST_ITEMS`] items in each of [`MOST_WEEKS`] weeks.
+pub const MOST_ROWS: u64 = MOST_ITEMS * MOST_WEEKS;
 
 /// The most pegs that a page keeps: 300 for each of [`MOST_ITEMS`] items.
 pub const MOST_PEGS: u64 = MOST_ITEMS * 300;

@@ -5,7 +5,7 @@ ghost use Rattle.csv.specs.Reading.{ReadRecord};
 ghost use Rattle.csv.specs.Records.{fields_of};
 ghost use Rattle.mrp_lines.specs.Left.{left_of};
 ghost use Rattle.mrp_page.specs.Notes.{has_run, noted, noted_from, notes_of};
-ghost use Rattle.mrp_page.specs.Reading.{HasNotFailed, HasRecords, HasStopped, HasTaken, HasWrongFront, HasWrongRecord, IsKeptOf, IsNoDay, IsReading, LacksRun, has_risen_by, is_reading_fault, is_write_fault};
+ghost use Rattle.mrp_page.specs.Reading.{HasNotFailed, HasRecords, HasStopped, HasWrongFront, HasWrongRecord, IsKeptOf, IsNoDay, IsReading, LacksRun, has_risen_by, is_reading_fault, is_write_fault};
 ghost use Rattle.mrp_page.specs.Spot.{is_wrong, place_after};
 ghost use Rattle.mrp_rows.specs.Told.{calls_of, failures_of, inner_of};
 
@@ -13,7 +13,7 @@ use crate::fault::{PageFault, read_fault, stopped_fault};
 use crate::notes::Notes;
 use crate::steady::Steady;
 use csv::{ByteRecord, Reader, ReaderBuilder};
-use mrp_lines::{Cells, Lines};
+use mrp_lines::{Cells, Lines, Next};
 use mrp_qty::NoMemory;
 use mrp_rows::{READ_CALLS, Told};
 use std::alloc::Global;
@@ -91,6 +91,7 @@ fn note_record<C: Cells>(
     cells: &C,
 ) -> Result<(), Unread>
     ensures noted { OnOk result (notes.new ≡ noted items.now asked notes.old (C.cells cells.now)) }
+    ensures right { OnOk result (is_wrong notes.new.spot.place ≡ false) }
     ensures wrong { result ≡ Err Unread.Shape → is_wrong (place_after notes.old.spot.place (C.cells cells.now)) ≡ true }
 {
     notes.note(items, asked, cells)?;
@@ -100,33 +101,7 @@ fn note_record<C: Cells>(
     Ok(())
 }
 
-// Takes the lines of an input, up to the first that csv has to read. Returns what csv has to find in
-// front of what is left: if a line was taken, a line feed, which csv skips, so that it finds no byte
-// order mark there.
-fn note_lines<R: Read>(
-    lines: &mut Lines<R>,
-    notes: &mut Notes,
-    items: &[&[u8]],
-    asked: Option<u64>,
-) -> Result<&'static [u8], Unread>
-    ensures taken { IfOk result (λ front. (text : List ℕ) → left_of R.remaining lines.old ≡ Some text → HasTaken text items.now asked (left_of R.remaining lines.new) front.now notes.old notes.new) }
-    ensures wrong { result ≡ Err Unread.Shape → (text : List ℕ) → left_of R.remaining lines.old ≡ Some text → HasWrongRecord notes.old.spot.place text }
-{
-    let mut front: &'static [u8] = b"";
-    for _ in 0..u64::MAX {
-        let Some(len) = lines.find()? else {
-            return Ok(front);
-        };
-        let line = lines.line(len);
-        note_record(notes, items, asked, &line)?;
-        lines.advance(len + 1);
-        front = b"\n";
-    }
-    // Not reached: no input has so many lines.
-    Err(Unread::NoMemory)
-}
-
-// Takes all records of an input.
+// Takes all records of an input that csv finds.
 fn note_records<R: Read + Drop>(
     alloc: Global,
     input: R,
@@ -135,6 +110,7 @@ fn note_records<R: Read + Drop>(
     asked: Option<u64>,
 ) -> Result<(), Unread>
     ensures noted { OnOk result ((text : List ℕ) → R.remaining input ≡ Some text → HasRecords text (λ records. notes.new ≡ noted_from items.now asked notes.old records)) }
+    ensures right { OnOk result (is_wrong notes.old.spot.place ≡ false → is_wrong notes.new.spot.place ≡ false) }
     ensures wrong { result ≡ Err Unread.Shape → (text : List ℕ) → R.remaining input ≡ Some text → HasWrongRecord notes.old.spot.place text }
 {
     let mut reader = ReaderBuilder::new()
@@ -152,8 +128,46 @@ fn note_records<R: Read + Drop>(
     Err(Unread::NoMemory)
 }
 
-// What is kept of the records of a text. Its lines are taken as they are up to the first that may
-// not be a record without quotes, and csv reads the rest: a reader of csv is dear to make.
+// Takes all records of an input. Lines without quotes are taken as they are; csv reads others, in pieces,
+// so that a reader of csv, which is dear to make, is made for many lines, and holds few. It finds a line
+// feed in front of each piece but the first, which it skips, so that it finds no byte order mark there.
+fn note_lines<R: Read>(
+    alloc: Global,
+    lines: &mut Lines<R>,
+    notes: &mut Notes,
+    items: &[&[u8]],
+    asked: Option<u64>,
+) -> Result<(), Unread>
+    requires { is_wrong notes.old.spot.place ≡ false }
+    ensures noted { OnOk result ((text : List ℕ) → left_of R.remaining lines.old ≡ Some text → HasRecords text (λ records. notes.new ≡ noted_from items.now asked notes.old records)) }
+    ensures wrong { result ≡ Err Unread.Shape → (text : List ℕ) → left_of R.remaining lines.old ≡ Some text → HasWrongRecord notes.old.spot.place text }
+{
+    let mut front: &'static [u8] = b"";
+    for _ in 0..u64::MAX {
+        match lines.find()? {
+            Next::Line(len) => {
+                let line = lines.line(len);
+                note_record(notes, items, asked, &line)?;
+                lines.advance(len + 1);
+            }
+            Next::Lines(len) => {
+                let piece = front.chain(lines.front(len));
+                note_records(alloc, piece, notes, items, asked)?;
+                lines.advance(len);
+            }
+            Next::Rest(len) => {
+                let rest = front.chain(lines.front(len));
+                return note_records(alloc, rest, notes, items, asked);
+            }
+            Next::Long => return Err(Unread::Shape),
+        }
+        front = b"\n";
+    }
+    // Not reached: no input has so many lines.
+    Err(Unread::NoMemory)
+}
+
+// What is kept of the records of a text.
 fn read_records<R: Read + Drop>(
     alloc: Global,
     input: R,
@@ -165,8 +179,7 @@ fn read_records<R: Read + Drop>(
 {
     let mut lines = Lines::new(alloc, input)?;
     let mut notes = Notes::new(alloc);
-    let front = note_lines(&mut lines, &mut notes, items, asked)?;
-    note_records(alloc, front.chain(lines), &mut notes, items, asked)?;
+    note_lines(alloc, &mut lines, &mut notes, items, asked)?;
     Ok(notes)
 }
 

@@ -1,10 +1,10 @@
 //! Where the records of a day stand.
 
 ghost use Rattle.std.specs.Prelude.{◌≡◌};
-ghost use Rattle.mrp_page.specs.Spot.{begun, begins_run, counted, has_room, inside, is_among, is_end, is_row, is_wanted, is_wrong, leads_if, place_after, room_at, run_at, section_if, spot_if, start, starts_at, wants};
+ghost use Rattle.mrp_page.specs.Spot.{begun, begins_run, counted, has_room, inside, is_among, is_end, is_row, is_wanted, is_wrong, leads_if, place_after, room_at, run_at, section_if, spot_if, start, starts_at, wants, weeks_with};
 
 use crate::cells::are_texts;
-use crate::limits::MOST_ITEMS;
+use crate::limits::{MOST_ITEMS, MOST_WEEKS};
 use crate::section::{is_by_weeks, is_of_items, is_plan, items_of, next_of, room_of};
 use mrp_day::Section;
 use mrp_lines::Cells;
@@ -38,6 +38,8 @@ pub(crate) struct Spot {
     pub(crate) items: u64,
     // How many of these have an order that starts in the first week.
     pub(crate) urgent: u64,
+    // How many rows of the item, or work centre, were taken, if the last of them was.
+    pub(crate) weeks: u64,
     // The section of the record, if it is taken as a row.
     pub(crate) takes: Option<Section>,
 }
@@ -57,7 +59,7 @@ fn begun<C: Cells>(section: Section, cells: &C) -> Place
 fn inside<C: Cells>(section: Section, cells: &C) -> Place
     ensures { result ≡ inside section (C.cells cells.now) }
 {
-    if cells.len() == section.columns().len() {
+    if cells.len() == section.columns().len() && cells.is_line() {
         Place::Row(section)
     } else {
         begun(next_of(section), cells)
@@ -139,6 +141,19 @@ fn section_if(takes: bool, place: Place) -> Option<Section>
     }
 }
 
+// How many rows were taken of an item, or work centre, with one more if it is taken.
+fn weeks_with(weeks: u64, leads: bool, takes: bool) -> u64
+    ensures { result ≡ weeks_with weeks leads takes }
+{
+    if !takes {
+        0
+    } else if leads {
+        1
+    } else {
+        weeks.saturating_add(1)
+    }
+}
+
 // A count of rows, plus one if `more`. It starts again from 0 at a record that is no row.
 fn counted(row: bool, count: u64, more: bool) -> u64
     ensures { result ≡ counted row count more }
@@ -162,6 +177,7 @@ impl Spot {
             missed: 0,
             items: 0,
             urgent: 0,
+            weeks: 0,
             takes: None,
         }
     }
@@ -200,7 +216,7 @@ impl Spot {
 
     // Whether a page has room for a row of a section: while the section is not full; for the first
     // items; for the first items with an order that starts in the first week; and for the other
-    // weeks of an item that it has begun.
+    // weeks of an item that it has begun, as many as a plan may have.
     fn has_room(self, section: Section, leads: bool, urgent: bool) -> bool
         ensures { result ≡ has_room section self leads urgent }
     {
@@ -210,7 +226,7 @@ impl Spot {
         if leads {
             self.items < items_of(section) || urgent && self.urgent < MOST_ITEMS
         } else {
-            is_by_weeks(section) && self.takes.is_some()
+            is_by_weeks(section) && self.takes.is_some() && self.weeks < MOST_WEEKS
         }
     }
 
@@ -251,6 +267,7 @@ impl Spot {
             missed: counted(row, self.missed, wanted && !takes),
             items: counted(row, self.items, leads),
             urgent: counted(row, self.urgent, urgent),
+            weeks: weeks_with(self.weeks, leads, takes),
             takes: section_if(takes, place),
         }
     }

@@ -2,4 +2,5 @@ pub mod page
 pub mod section
 pub mod wave
 pub mod Written
+pub mod Taken
 pub mod ReportText

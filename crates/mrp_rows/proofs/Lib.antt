@@ -1,8 +1,11 @@
+mod CellCuts
 pub mod CellPlaces
 mod CsvRecords
 mod CsvSteps
 mod DigitCells
+mod FirstRecords
 mod NameBytes
+mod RecordCuts
 pub mod JoinedParts
 pub mod SectionLaws
 pub mod SplitLines

@@ -1,6 +1,9 @@
 pub mod Bundle
 pub mod Cell
+pub mod CellTexts
 pub mod Columns
+pub mod Cutting
+pub mod Devices
 pub mod FaultText
 pub mod Joined
 pub mod Left

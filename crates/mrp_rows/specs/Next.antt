@@ -84,12 +84,6 @@ pub record IsRefused (Why : Type 0) (old new : Left) : Type 0 where
   pub was_open : old.is_over ≡ false
   pub over : IsOver new
 
--- the next record with its number, whatever its count of cells; None at the end and from then on; or out of memory
-abbrev pub TakesNext : Left → Result (Option Cells) Fault → Left → Type 0
-TakesNext old (Ok None) new = HasEnded old new
-TakesNext old (Ok (Some r)) new = IsTaken old r new
-TakesNext old (Err f) new = IsRefused (LacksMemory old f new) old new
-
 -- the record that is taken has a cell for each of its table's columns
 pub record IsNext (old : Left) (r : Cells) (new : Left) : Type 0 where
   pub first : IsTaken old r new
@@ -104,8 +98,8 @@ pub record IsMisshapen (old : Left) (f : Fault) (new : Left) : Type 0 where
   pub fault : f ≡ columns_fault old.layout.table old.number
   pub number : new.number ≡ next_number old.number
 
--- the same, of records that have as many cells as their table has columns: the first that has not is refused, and after
--- a refusal comes only None
+-- the next record with its number, of records that have as many cells as their table has columns: the first that has not
+-- is refused; None at the end and after a refusal; or out of memory
 abbrev pub NextIs : Left → Result (Option Cells) Fault → Left → Type 0
 NextIs old (Ok None) new = HasEnded old new
 NextIs old (Ok (Some r)) new = IsNext old r new

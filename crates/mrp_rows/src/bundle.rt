@@ -45,7 +45,7 @@ impl<'a> Sections<'a> {
     }
 }
 
-fn is_line_end(byte: u8) -> bool
+pub(crate) fn is_line_end(byte: u8) -> bool
     ensures { result ≡ ends_line byte }
 {
     byte == b'\n' || byte == b'\r'
@@ -140,7 +140,7 @@ fn table_named(name: &[u8]) -> Option<Table>
 
 // The bytes without a leading byte order mark.
 #[tactic(auto, unfolding(crate::specs::Bundle::without_mark))]
-fn after_mark(bytes: &[u8]) -> &[u8]
+pub(crate) fn after_mark(bytes: &[u8]) -> &[u8]
     ensures { result.now ≡ without_mark bytes.now }
 {
     match bytes {
@@ -150,7 +150,7 @@ fn after_mark(bytes: &[u8]) -> &[u8]
 }
 
 // The bytes without leading line ends.
-fn after_line_ends(bytes: &[u8]) -> &[u8]
+pub(crate) fn after_line_ends(bytes: &[u8]) -> &[u8]
     ensures { result.now ≡ without_line_ends bytes.now }
 {
     let mut rest = bytes;

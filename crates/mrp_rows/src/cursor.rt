@@ -1,36 +1,33 @@
 //! A table's records, in order.
 
-ghost use Rattle.std.specs.Prelude.{◌≡◌, false, map};
+ghost use Rattle.std.specs.Prelude.{◌≡◌, ◌==◌, Err, [], if◌then◌else◌, map, true};
 ghost use Rattle.mrp_rows.specs.Bundle.{text_in};
 ghost use Rattle.mrp_rows.specs.Columns.{layout_of, stepped_layout};
-ghost use Rattle.mrp_rows.specs.Next.{GivesUnless, NextIs, TakesNext, headed, memory_fault, opened};
-ghost use Rattle.mrp_rows.specs.Reading.{IsReading, ReadsCells};
-ghost use Rattle.mrp_rows.specs.Records.{records_of};
+ghost use Rattle.mrp_rows.specs.declared.faults.TheConstants as faults;
+ghost use Rattle.mrp_rows.specs.Next.{GivesUnless, NextIs, header_fault, headed, memory_fault, opened};
 
-use crate::bundle::Sections;
+use crate::bundle::{Sections, after_mark};
+use crate::cell_texts::CellTexts;
 use crate::column::{columns, is_header, stepped_columns};
+use crate::cutting::first_record;
 use crate::fault::{Fault, Table};
 use crate::faults::{COLUMNS, HEADER, NO_MEMORY};
 use crate::row::Row;
-use csv::{ByteRecord, Reader, ReaderBuilder};
-use mrp_qty::NoMemory;
 use std::alloc::Global;
 use std::marker::Model;
-
-// Initial capacity for a record's bytes: most are shorter, and a longer one grows it.
-const USUAL_LENGTH: usize = 64;
 
 /// The remaining records of a table, after its header, with the names of its columns.
 #[derive(Drop)]
 pub struct Cursor<'a> {
     alloc: Global,
-    reader: Reader<&'a [u8]>,
+    // What follows the records that were read.
+    text: &'a [u8],
     table: Table,
     columns: &'static [&'static str],
     number: u32,
     done: bool,
     // A record that was given back; the next one reuses its memory.
-    spare: Option<ByteRecord>,
+    spare: Option<CellTexts>,
 }
 
 impl<'a> Model for Cursor<'a> {
@@ -38,43 +35,12 @@ impl<'a> Model for Cursor<'a> {
 
     ghost Value = { Left };
 
-    ghost use Rattle.mrp_rows.specs.View.{left_of, IsUsable};
+    ghost use Rattle.mrp_rows.specs.View.{left_of};
 
     ghost view = { left_of };
-
-    ghost invariant = { IsUsable };
 }
 
 impl<'a> Cursor<'a> {
-    // At the start of a table's text, the header included.
-    fn front(
-        alloc: Global,
-        text: &'a [u8],
-        table: Table,
-        columns: &'static [&'static str],
-    ) -> Cursor<'a>
-        ensures { result ≡ record {
-          layout = record { table = table; columns = map (λ name. name.now) columns.now };
-          number = 0;
-          left = records_of text.now;
-          is_over = false;
-        } }
-    {
-        let reader = ReaderBuilder::new()
-            .has_headers(false)
-            .flexible(true)
-            .from_reader(alloc, text);
-        Cursor {
-            alloc,
-            reader,
-            table,
-            columns,
-            number: 0,
-            done: false,
-            spare: None,
-        }
-    }
-
     /// The records of a table, after its header.
     ///
     /// Errors, at row 0: `HEADER` if the header's cells are not exactly the names of the table's
@@ -113,8 +79,19 @@ impl<'a> Cursor<'a> {
         ensures { GivesUnless (memory_fault table 0) result
             (opened (record { table = table; columns = map (λ name. name.now) columns.now }) text.now) }
     {
-        let mut cursor = Cursor::front(alloc, text, table, columns);
-        let first = cursor.take_next()?;
+        let mut cursor = Cursor {
+            alloc,
+            text: after_mark(text),
+            table,
+            columns,
+            number: 0,
+            done: false,
+            spare: None,
+        };
+        let first = match cursor.next() {
+            Ok(first) => first,
+            Err(fault) => return Err(as_header(fault)),
+        };
         headed(table, columns, &first)?;
         Ok(cursor)
     }
@@ -142,14 +119,27 @@ impl<'a> Cursor<'a> {
     pub fn next(&mut self) -> Result<Option<Row>, Fault>
         ensures { NextIs self.old result self.new }
     {
-        let Some(row) = self.take_next()? else {
+        if self.done {
             return Ok(None);
-        };
-        if row.cell_count() != self.columns.len() {
-            self.done = true;
-            return Err(row.fault(COLUMNS));
         }
-        Ok(Some(row))
+        let spare = self.spare.take();
+        match first_record(self.alloc, self.text, self.columns.len(), spare) {
+            Ok(Some(cut)) => {
+                let number = self.number;
+                self.number = number.saturating_add(1);
+                self.text = cut.rest;
+                if cut.count == self.columns.len() {
+                    Ok(Some(Row::new(self.table, number, cut.cells)))
+                } else {
+                    self.refuse(number, COLUMNS)
+                }
+            }
+            Ok(None) => {
+                self.done = true;
+                Ok(None)
+            }
+            Err(_) => self.refuse(self.number, NO_MEMORY),
+        }
     }
 
     /// Takes a record back, to read the next one into its memory. Otherwise the next one allocates.
@@ -159,33 +149,39 @@ impl<'a> Cursor<'a> {
         self.spare = Some(row.into_cells());
     }
 
-    // The next record, whatever its count of cells.
-    fn take_next(&mut self) -> Result<Option<Row>, Fault>
-        ensures { TakesNext self.old result self.new }
+    // Refuses a record, after which there is none.
+    fn refuse(&mut self, row: u32, code: u8) -> Result<Option<Row>, Fault>
+        ensures result { result ≡ Err (record { code = code; table = self.old.layout.table; row = row }) }
+        ensures over { self.new ≡ record self.old { left = []; is_over = true } }
     {
-        if self.done {
-            return Ok(None);
-        }
-        let spare = self.spare.take();
-        match read_cells(self.alloc, &mut self.reader, self.columns.len(), spare) {
-            Ok(Some(cells)) => {
-                let number = self.number;
-                self.number = number.saturating_add(1);
-                Ok(Some(Row::new(self.table, number, cells)))
-            }
-            Ok(None) => {
-                self.done = true;
-                Ok(None)
-            }
-            Err(_) => {
-                self.done = true;
-                Err(Fault {
-                    code: NO_MEMORY,
-                    table: self.table,
-                    row: self.number,
-                })
-            }
-        }
+        self.done = true;
+        Err(Fault {
+            code,
+            table: self.table,
+            row,
+        })
+    }
+}
+
+// A table's header is not its columns' names, or is not there.
+fn no_header(table: Table) -> Fault
+    ensures { result ≡ header_fault table }
+{
+    Fault {
+        code: HEADER,
+        table,
+        row: 0,
+    }
+}
+
+// The fault of a table's first record, as that of its header: another count of cells makes it no header.
+fn as_header(fault: Fault) -> Fault
+    ensures { result ≡ (if fault.code == faults.COLUMNS then header_fault fault.table else fault) }
+{
+    if fault.code == COLUMNS {
+        no_header(fault.table)
+    } else {
+        fault
     }
 }
 
@@ -195,34 +191,6 @@ fn headed(table: Table, columns: &[&str], first: &Option<Row>) -> Result<(), Fau
 {
     match first {
         Some(header) if is_header(header, columns) => Ok(()),
-        _ => Err(Fault {
-            code: HEADER,
-            table,
-            row: 0,
-        }),
-    }
-}
-
-// The cells of a reader's next record, or `None` at the end. A spare record's memory is reused.
-fn read_cells(
-    alloc: Global,
-    reader: &mut Reader<&[u8]>,
-    columns: usize,
-    spare: Option<ByteRecord>,
-) -> Result<Option<ByteRecord>, NoMemory>
-    requires { IsReading reader.old }
-    ensures { ReadsCells reader.old result reader.new }
-{
-    let room = match spare {
-        Some(cells) => Ok(cells),
-        None => ByteRecord::with_capacity(alloc, USUAL_LENGTH, columns),
-    };
-    let Ok(mut cells) = room else {
-        return Err(NoMemory);
-    };
-    match reader.read_byte_record(&mut cells) {
-        Ok(true) => Ok(Some(cells)),
-        Ok(false) => Ok(None),
-        Err(_) => Err(NoMemory),
+        _ => Err(no_header(table)),
     }
 }

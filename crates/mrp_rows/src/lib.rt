@@ -3,8 +3,11 @@
 
 mod bundle;
 pub mod bundle_laws;
+mod cell_texts;
 mod column;
 mod cursor;
+mod cutting;
+pub mod devices;
 mod fault;
 mod fault_texts;
 pub mod faults;

@@ -1,17 +1,16 @@
 //! A table's records and their cells.
 
 ghost use Rattle.std.specs.Prelude.{◌≡◌, ◌<◌, length, map, nat_eq, position, IfOk, true};
-ghost use Rattle.csv.specs.Records.{fields_of};
 ghost use Rattle.mrp_cal.specs.DateText.{IsPlanningYear};
 ghost use Rattle.std.specs.Cmp.Lexicographic.{pointwise};
 ghost use Rattle.std.specs.Int.{IsInRange};
 ghost use Rattle.mrp_rows.specs.Cell.{blame, cell_at, date_cell, fault_at, name_of, number_cell, word_of};
 ghost use Rattle.mrp_rows.specs.Name.{is_name};
 
+use crate::cell_texts::CellTexts;
 use crate::fault::{Fault, Table};
 use crate::faults::{DATE, NAME, NUMBER, RANGE, WORD};
 use crate::name::Name;
-use csv::ByteRecord;
 use jiff::civil::Date;
 use mrp_cal::read_date;
 use mrp_qty::{NumberFault, read_number};
@@ -24,21 +23,20 @@ use std::marker::Model;
 pub struct Row {
     table: Table,
     number: u32,
-    cells: ByteRecord,
+    cells: CellTexts,
 }
 
 impl Model for Row {
     ghost use Rattle.mrp_rows.specs.Left.{Cells};
-    ghost use Rattle.csv.specs.Records.{fields_of};
 
     ghost Value = { Cells };
 
-    ghost view = { λ r. record { table = r.table; number = r.number; cells = fields_of r.cells } };
+    ghost view = { λ r. record { table = r.table; number = r.number; cells = r.cells.cells } };
 }
 
 impl Row {
-    pub(crate) fn new(table: Table, number: u32, cells: ByteRecord) -> Row
-        ensures { result ≡ record { table = table; number = number; cells = fields_of cells } }
+    pub(crate) fn new(table: Table, number: u32, cells: CellTexts) -> Row
+        ensures { result ≡ record { table = table; number = number; cells = cells.cells } }
     {
         Row {
             table,
@@ -48,8 +46,8 @@ impl Row {
     }
 
     // Its cells.
-    pub(crate) fn into_cells(self) -> ByteRecord
-        ensures { fields_of result ≡ self.cells }
+    pub(crate) fn into_cells(self) -> CellTexts
+        ensures { result.cells ≡ self.cells }
     {
         self.cells
     }
@@ -91,7 +89,7 @@ impl Row {
         requires { column < length self.now.cells }
         ensures { result.now ≡ cell_at self.now column }
     {
-        self.cells.get(column).unwrap_or(b"")
+        self.cells.get(column)
     }
 
     /// A cell as a name.

@@ -1,18 +1,19 @@
 -- Bill lines, record by record, and the places of their items.
-use Rattle.std.proofs.Common.{◌≡◌, ◌∙◌, ◌+◌, ◌<◌, ◌≤◌, ℕ, zero, suc, Bool, true, false, List, [], ◌∷◌, ◌++◌, Option, Some, None, length, map, take, drop, nat_eq, refl, sym, ap, arith, append_assoc, append-nil}
+use Rattle.std.proofs.Common.{◌≡◌, ◌∙◌, ◌+◌, ◌-◌, ◌<◌, ◌≤◌, ℕ, zero, suc, Bool, true, false, List, [], ◌∷◌, ◌++◌, Option, Some, None, length, map, take, drop, nat_eq, refl, sym, ap, arith, append_assoc, append-nil}
 use Rattle.std.specs.Prelude.{◌&&◌, if◌then◌else◌, is_none, option_and_then, position}
 use Rattle.std.specs.Cmp.Lexicographic.{pointwise}
 use Rattle.std.specs.List.{All}
 use Rattle.std.specs.Option.{option_to_list}
+use Rattle.std.proofs.lemmas.Bool.{ltb-false, ltb-true}
 use Rattle.std.proofs.lemmas.List.{length-map}
 use Rattle.std.proofs.lemmas.List.Elements.{All-append, All-cons, All-map, All-nil}
 use Rattle.std.proofs.lemmas.List.Quantifiers.{position-Some}
-use Rattle.csv.specs.Records.{Row as CsvRow, fields_of}
 use Rattle.mrp_loops.specs.declared.line.Line.{Line}
+use Rattle.mrp_tables.specs.Reading.{is_past}
 use Rattle.mrp_loops.specs.Needs.{AreWithin}
 use Rattle.mrp_survey.specs.declared.bill_lines.BillLine.{BillLine}
 use Rattle.mrp_survey.specs.declared.form.Form.{Form}
-use Rattle.mrp_survey.specs.BillLines.{bill_line, known_place, line_of, lines_from}
+use Rattle.mrp_survey.specs.BillLines.{bill_line, known_place, line_of, lines_from, within_limit}
 use Rattle.mrp_survey.specs.Entry.{Entry}
 use Rattle.mrp_survey.specs.Entries.{name_in}
 use Rattle.mrp_survey.specs.Forms.{Row}
@@ -74,8 +75,36 @@ pub edges-within : (form : Form) (items : Option Names) (records : Records) (n :
 edges-within form items records n rows lines is =
     rw is (All-map (λ (line : Line). (line.parent < count_of items) × (line.component < count_of items)) (λ (l : BillLine). l.line) (lines_from form items records n rows) (all-within form items records n rows))
 
--- the first rows as records
-pub rows-taken : (limit : ℕ) (rows : List CsvRow) → map (λ (r : CsvRow). fields_of r) (take limit rows) ≡ take limit (map (λ (r : CsvRow). fields_of r) rows)
-rows-taken zero rows = refl
-rows-taken (suc n) [] = refl
-rows-taken (suc n) (row ∷ rows) = ap (λ (l : List Row). fields_of row ∷ l) (rows-taken n rows)
+-- the records within a limit, of those from one of this number on
+abbrev pub within_left : Option ℕ → ℕ → List Row → List Row
+within_left (Some limit) number rows = take (limit + 1 - number) rows
+within_left None number rows = rows
+
+-- at the first record these are all
+pub left-first : (limit : Option ℕ) (rows : List Row) → within_limit limit rows ≡ within_left limit 1 rows
+left-first (Some limit) rows = ap (λ (n : ℕ). take n rows) (omega arith)
+left-first None rows = refl
+
+-- a record within the limit
+pub left-next : (limit : Option ℕ) (number : ℕ) (cells : Row) (rest rows : List Row) → rows ≡ cells ∷ rest → is_past limit number ≡ false → within_left limit number rows ≡ cells ∷ within_left limit (number + 1) rest
+left-next (Some limit) number cells rest rows is within =
+    let low : number ≤ limit = ltb-false limit number within in
+    let more : limit + 1 - number ≡ suc (limit + 1 - (number + 1)) = omega (arith, low) in
+    ap (λ (r : List Row). take (limit + 1 - number) r) is ∙ ap (λ (n : ℕ). take n (cells ∷ rest)) more
+left-next None number cells rest rows is within = is
+
+-- no record is left within the limit
+pub left-past : (limit : Option ℕ) (number : ℕ) (rows : List Row) → is_past limit number ≡ true → within_left limit number rows ≡ []
+left-past (Some limit) number rows past =
+    let high : limit < number = ltb-true limit number past in
+    let none_left : limit + 1 - number ≡ 0 = omega (arith, high) in
+    ap (λ (n : ℕ). take n rows) none_left
+left-past None number rows past = absurd cc
+
+pub left-none : (limit : Option ℕ) (number : ℕ) (rows : List Row) → rows ≡ [] → within_left limit number rows ≡ []
+left-none (Some limit) number rows none = ap (take (limit + 1 - number)) none ∙ take-none (limit + 1 - number)
+  where
+    take-none : (n : ℕ) → take {A = Row} n [] ≡ []
+    take-none zero = refl
+    take-none (suc n) = refl
+left-none None number rows none = none

@@ -29,6 +29,10 @@ line_next r whole b (x ∷ xs) long at ends is =
     let all : take (length (x ∷ xs) - 1) xs ≡ xs = take_all (length (x ∷ xs) - 1) xs (omega arith) in
     is ∙ ap (λ (y : ℕ). line_behind r (y ∷ xs)) at ∙ line_more r b xs ends ∙ ap (line_behind (step_to r b)) (sym all)
 
+pub all_left : (rest : List ℕ) → 1 ≤ length rest → take (length rest - 1) (drop 1 rest) ≡ drop 1 rest
+all_left [] long = absurd (omega (arith, long))
+all_left (x ∷ xs) long = take_all (length (x ∷ xs) - 1) xs (omega arith)
+
 pub left_next : (rest : List ℕ) → 1 ≤ length rest → length (take (length rest - 1) (drop 1 rest)) + 1 ≡ length rest
 left_next [] long = absurd (omega (arith, long))
 left_next (x ∷ xs) long =

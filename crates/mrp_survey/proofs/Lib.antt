@@ -6,4 +6,7 @@ mod LikeNames
 mod LineLaws
 mod LoopsTold
 mod Marking
+mod NameSteps
+mod RowSteps
+mod Skipping
 mod Steps

@@ -7,7 +7,6 @@ use Rattle.std.specs.Cmp.Lexicographic.{pointwise}
 use Rattle.std.specs.Map.{lookup}
 use Rattle.std.proofs.lemmas.List.{drop_all, drop_more, get_or-map, length-map}
 use Rattle.std.proofs.lemmas.List.FromFn.{map-range_with_len_more}
-use Rattle.csv.specs.Records.{Row as CsvRow, fields_of}
 use Rattle.indexmap.specs.IndexMap.{insert_entry}
 use Rattle.mrp_rows.proofs.WordPlaces.{pointwise-drop}
 use Rattle.mrp_tables.specs.declared.item.Class.{Class}
@@ -82,15 +81,6 @@ lines-next r xs whole lines more i b false within at is grown so_far =
 pub lines-end : (r : Reading) (xs whole lines : List ℕ) (i : ℕ) → length xs ≤ i → whole ≡ lines ++ lines_from r (drop i xs) → lines ≡ whole
 unfolding lines_from
 lines-end r xs whole lines i past so_far = sym (so_far ∙ ap (λ (ys : List ℕ). lines ++ lines_from r ys) (drop_all i xs past) ∙ append-nil lines)
-
--- the next record
-pub next-row : (rows : List CsvRow) (i : ℕ) (row : CsvRow) → i < length rows → row ≡ get_or rows i row → drop i (map (λ (r : CsvRow). fields_of r) rows) ≡ fields_of row ∷ drop (i + 1) (map (λ (r : CsvRow). fields_of r) rows)
-next-row rows i row within is =
-    drop_more (map (λ (r : CsvRow). fields_of r) rows) i [] (rw (length-map rows (λ (r : CsvRow). fields_of r)) within)
-    ∙ ap (λ (cells : Row). cells ∷ drop (i + 1) (map (λ (r : CsvRow). fields_of r) rows)) (get_or-map (λ (r : CsvRow). fields_of r) rows i row [] within ∙ ap (λ (r : CsvRow). fields_of r) (sym is))
-
-pub no-row : (rows : List CsvRow) (i : ℕ) → length rows ≤ i → drop i (map (λ (r : CsvRow). fields_of r) rows) ≡ []
-no-row rows i past = drop_all i (map (λ (r : CsvRow). fields_of r) rows) (omega (arith, past, length-map rows (λ (r : CsvRow). fields_of r)))
 
 -- a header's next cell against the next name
 pub like-drop : (cells : Row) (names : List (Bor (List ℕ))) (i : ℕ) (d : Bor (List ℕ)) (cell name : List ℕ) (like : Bool)

@@ -7,6 +7,7 @@ pub mod Forms
 pub mod Fronts
 pub mod Headers
 pub mod Horizons
+pub mod InTwo
 pub mod Keys
 pub mod Kinds
 pub mod Known
@@ -17,6 +18,7 @@ pub mod LoopLaws
 pub mod Loops
 pub mod Marks
 pub mod Names
+pub mod Reading
 pub mod Records
 pub mod Rules
 pub mod Survey

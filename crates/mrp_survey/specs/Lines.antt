@@ -30,6 +30,10 @@ is_between spot.Behind = false
 abbrev pub begins_record : Spot → ℕ → Bool
 begins_record at byte = is_between at && not (ends_line byte)
 
+-- a byte is a quote or ends a line
+abbrev pub is_special : ℕ → Bool
+is_special byte = byte == 34 || byte == 10 || byte == 13
+
 -- a byte ends a line
 abbrev pub ends_own_line : Bool → ℕ → Bool
 ends_own_line after_return byte = (byte == 13) || ((byte == 10) && not after_return)

@@ -120,13 +120,16 @@ abbrev pub versioned_told : Sources → Beside → Table → Option Version → 
 versioned_told sources beside table (Some version) = table_told (form_of table version) beside (records_at sources table)
 versioned_told sources beside table None = []
 
--- the tables that look at others
-abbrev pub others_told : Sources → Beside → Option Version → List Told
-others_told sources beside version =
+-- the tables that look at others: from the stock to the bills, and behind them
+abbrev pub first_told : Sources → Beside → List Told
+first_told sources beside =
     versioned_told sources beside t.Stock (Some One)
     ++ versioned_told sources beside t.Receipts (Some One)
     ++ versioned_told sources beside t.Bills (Some One)
-    ++ versioned_told sources beside t.Routings (Some One)
+
+abbrev pub last_told : Sources → Beside → Option Version → List Told
+last_told sources beside version =
+    versioned_told sources beside t.Routings (Some One)
     ++ versioned_told sources beside t.Master version
     ++ versioned_told sources beside t.Script (Some One)
 
@@ -148,4 +151,5 @@ survey_told sources =
     calendar_told sources
     ++ versioned_told sources nothing_beside t.Items (version_among sources)
     ++ table_told (form_of t.Centres One) nothing_beside (records_at sources t.Centres)
-    ++ others_told sources (beside_in sources) (version_among sources)
+    ++ first_told sources (beside_in sources)
+    ++ last_told sources (beside_in sources) (version_among sources)

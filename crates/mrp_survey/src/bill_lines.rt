@@ -1,17 +1,19 @@
 //! The bill lines that lead from item to item.
 
-ghost use Rattle.std.specs.Prelude.{◌≡◌, IfOk, map};
-ghost use Rattle.csv.specs.Records.{fields_of};
-ghost use Rattle.mrp_survey.specs.BillLines.{bill_line, bill_lines, known_place, within_limit};
+ghost use Rattle.std.specs.Prelude.{◌≡◌, IfOk};
+ghost use Rattle.mrp_rows.specs.Reading.{IsReading, records_after};
+ghost use Rattle.mrp_survey.specs.BillLines.{bill_line, bill_lines, known_place};
 
 use crate::form::Form;
 use crate::header::{columns, most_records};
 use crate::known::Known;
 use crate::record::Record;
+use crate::rows::{new_row, next_row};
 use crate::rule::misfit;
 use crate::sheet::Sheet;
+use crate::table::is_past;
 use crate::tell::is_whole;
-use csv::ByteRecord;
+use csv::Reader;
 use mrp_loops::Line;
 use mrp_qty::NoMemory;
 use std::alloc::Global;
@@ -47,34 +49,33 @@ fn bill_line(width: usize, items: &Option<Known>, entry: &Record<'_>) -> Option<
     })
 }
 
-// The records within a table's limit.
-fn within_limit(limit: Option<usize>, rows: &[ByteRecord]) -> &[ByteRecord]
-    ensures { map (λ row. fields_of row) result.now ≡ within_limit limit (map (λ row. fields_of row) rows.now) }
-{
-    match limit {
-        Some(limit) if limit < rows.len() => &rows[..limit],
-        _ => rows,
-    }
-}
-
-// The bill lines of a table's records.
+// The bill lines of a table's records below its header.
 pub(crate) fn bill_lines(
     alloc: Global,
     form: Form,
     items: &Option<Known>,
-    sheet: &Sheet,
-    rows: &[ByteRecord],
+    sheet: &Sheet<'_>,
+    reader: &mut Reader<&[u8]>,
 ) -> Result<Vec<BillLine>, NoMemory>
-    ensures { IfOk result (λ lines. lines.items ≡ bill_lines form items.now sheet.now (map (λ row. fields_of row) rows.now)) }
+    requires { IsReading reader.old }
+    ensures { IfOk result (λ lines. lines.items ≡ bill_lines form items.now sheet.now (records_after reader.old)) }
 {
     let width = columns(form).len();
+    let limit = most_records(form);
     let mut lines = Vec::new(alloc);
-    let rows = within_limit(most_records(form), rows);
-    for (index, row) in rows.iter().enumerate() {
-        let entry = Record::of(form, sheet.place(form.table, index + 1), row);
+    let mut row = new_row(alloc)?;
+    for number in 1..usize::MAX {
+        if is_past(limit, number) {
+            return Ok(lines);
+        }
+        if !next_row(reader, &mut row)? {
+            return Ok(lines);
+        }
+        let entry = Record::of(form, sheet.place(form.table, number), &row);
         if let Some(line) = bill_line(width, items, &entry) {
             lines.push(line)?;
         }
     }
-    Ok(lines)
+    // More records than can be numbered.
+    Err(NoMemory)
 }

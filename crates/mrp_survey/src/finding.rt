@@ -13,7 +13,7 @@ use mrp_rows::Table;
 use std::marker::Model;
 
 /// What is wrong.
-#[derive(Clone, Copy, Debug)]
+#[derive(Clone, Copy)]
 pub enum What {
     /// The table's first record is not its header, or there is none; with what the text begins as.
     Header { front: Front },
@@ -57,7 +57,7 @@ pub(crate) struct Place {
 }
 
 /// One fault.
-#[derive(Debug, Drop)]
+#[derive(Drop)]
 pub struct Finding {
     file: Table,
     table: Table,

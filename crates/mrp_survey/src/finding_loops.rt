@@ -78,7 +78,7 @@ fn names_along(
 }
 
 // The lines of the file in which bill lines begin.
-fn file_lines(alloc: Global, sheet: &Sheet, lines: &[BillLine]) -> Result<Vec<u64>, NoMemory>
+fn file_lines(alloc: Global, sheet: &Sheet<'_>, lines: &[BillLine]) -> Result<Vec<u64>, NoMemory>
     ensures { IfOk result (λ own. own.items ≡ file_lines sheet.now lines.now) }
 {
     let own = lines
@@ -100,7 +100,7 @@ fn first_number(lines: &[BillLine]) -> usize
 fn found_loop(
     alloc: Global,
     items: &Option<Known>,
-    sheet: &Sheet,
+    sheet: &Sheet<'_>,
     lines: &[BillLine],
     own: &Loop,
 ) -> Result<FoundLoop, NoMemory>
@@ -126,7 +126,7 @@ fn edges_of(alloc: Global, lines: &[BillLine]) -> Result<Vec<Line>, NoMemory>
 fn loops_among(
     alloc: Global,
     items: &Option<Known>,
-    sheet: &Sheet,
+    sheet: &Sheet<'_>,
     lines: &[BillLine],
 ) -> Result<Vec<FoundLoop>, NoMemory>
     requires { AreWithin (count_of items.now) (edges_of lines.now) }
@@ -146,16 +146,16 @@ pub(crate) fn find_loops(
     alloc: Global,
     form: Form,
     items: &Option<Known>,
-    sheet: &Option<Sheet>,
+    sheet: &Option<Sheet<'_>>,
 ) -> Result<Vec<FoundLoop>, NoMemory>
     ensures { IfOk result (λ found. FindsLoops form items.now sheet.now found.items) }
 {
     let Some(sheet) = sheet else {
         return Ok(Vec::new(alloc));
     };
-    match sheet.rows_below(form) {
-        Some(rows) => {
-            let lines = bill_lines(alloc, form, items, sheet, rows)?;
+    match sheet.rows_below(alloc, form)? {
+        Some(mut reader) => {
+            let lines = bill_lines(alloc, form, items, sheet, &mut reader)?;
             loops_among(alloc, items, sheet, &lines)
         }
         None => Ok(Vec::new(alloc)),

@@ -4,7 +4,7 @@ use mrp_rows::{Name, Table};
 use std::marker::Model;
 
 /// Items that need one another: a way from the first of them down bill lines back to it.
-#[derive(Debug, Drop)]
+#[derive(Drop)]
 pub struct FoundLoop {
     pub(crate) file: Table,
     pub(crate) number: usize,

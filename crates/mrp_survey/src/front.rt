@@ -4,7 +4,7 @@ ghost use Rattle.std.specs.Prelude.{◌≡◌};
 ghost use Rattle.mrp_survey.specs.Fronts.{front_of, has_early_zero, is_utf16, is_workbook};
 
 /// What a table's text begins as.
-#[derive(Clone, Copy, Debug)]
+#[derive(Clone, Copy)]
 pub enum Front {
     /// UTF-16: its byte order mark, or a 0 as the first or the second byte.
     Utf16,

@@ -18,7 +18,7 @@ use mrp_rows::faults::{DATE, NAME, NUMBER, RANGE, WORD};
 use mrp_tables::Version;
 
 /// Words of which a cell has to be one.
-#[derive(Clone, Copy, Debug)]
+#[derive(Clone, Copy)]
 pub enum Words {
     /// The key of a version.
     Version,
@@ -64,7 +64,7 @@ impl Words {
 }
 
 /// What a cell has to be.
-#[derive(Clone, Copy, Debug)]
+#[derive(Clone, Copy)]
 pub enum Kind {
     /// Anything: the cell is not read.
     Unread,

@@ -31,7 +31,7 @@ pub use found_loop::FoundLoop;
 pub use front::Front;
 pub use header::{are_columns, are_like, column_names, is_like};
 pub use kind::{Kind, Words};
-pub use lines::record_lines;
+pub use lines::{ends_own_line, is_line_end, record_lines};
 pub use record::are_empty;
 pub use source::Source;
 pub use surveyed::Survey;

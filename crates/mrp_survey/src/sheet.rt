@@ -5,49 +5,54 @@ use crate::form::Form;
 use crate::front::{Front, front_of};
 use crate::header::can_be_read;
 use crate::lines::record_lines;
-use crate::rows::read_rows;
-use csv::ByteRecord;
+use crate::rows::{all_rows, new_row, next_row, reader_of};
+use csv::{ByteRecord, Reader};
 use mrp_qty::NoMemory;
 use mrp_rows::Table;
 use std::alloc::Global;
 use std::marker::Model;
 
-// What a table's text begins as, its records, the header first, and the line of each in the file that it is in.
+// A table's text, what it begins as, and the line of each of its records in the file that it is in, the header's first. Contracts
+// see its records.
 #[derive(Drop)]
-pub(crate) struct Sheet {
+pub(crate) struct Sheet<'a> {
     file: Table,
     front: Front,
-    rows: Vec<ByteRecord>,
+    text: &'a [u8],
     lines: Vec<u64>,
 }
 
-impl Model for Sheet {
-    ghost use Rattle.std.specs.Prelude.{map};
-    ghost use Rattle.csv.specs.Records.{fields_of};
+impl<'a> Model for Sheet<'a> {
+    ghost use Rattle.mrp_rows.specs.Records.{records_of};
     ghost use Rattle.mrp_survey.specs.Records.{Records};
 
     ghost Value = { Records };
 
-    ghost view = { λ s. record { file = s.file; front = s.front; rows = map (λ row. fields_of row) s.rows.items; lines = s.lines.items } };
+    ghost view = { λ s. record { file = s.file; front = s.front; rows = records_of s.text.now; lines = s.lines.items } };
 }
 
-impl Sheet {
-    ghost use Rattle.std.specs.Prelude.{◌≡◌, ◌≤◌, ◌^◌, IfOk, map, option_map, slice_index};
+impl<'a> Sheet<'a> {
+    ghost use Rattle.std.specs.Prelude.{◌≡◌, ◌≤◌, ◌^◌, IfOk, IfSome, map, option_map, slice_index};
     ghost use Rattle.csv.specs.Records.{fields_of};
+    ghost use Rattle.mrp_rows.specs.Reading.{IsReading, records_after};
     ghost use Rattle.mrp_survey.specs.Records.{place_of, records_from, rows_below};
     ghost use Rattle.mrp_survey.specs.Headers.{header_of};
 
     // The records of a text that begins in this line of a file.
-    pub(crate) fn of(alloc: Global, file: Table, line: u64, text: &[u8]) -> Result<Sheet, NoMemory>
+    pub(crate) fn of(
+        alloc: Global,
+        file: Table,
+        line: u64,
+        text: &'a [u8],
+    ) -> Result<Sheet<'a>, NoMemory>
         requires { line ≤ 2 ^ 63 }
         ensures { IfOk result (λ sheet. sheet ≡ records_from file line text.now) }
     {
-        let rows = read_rows(alloc, text)?;
         let lines = record_lines(alloc, text, line)?;
         Ok(Sheet {
             file,
             front: front_of(text),
-            rows,
+            text,
             lines,
         })
     }
@@ -67,19 +72,50 @@ impl Sheet {
     }
 
     // The first record.
-    pub(crate) fn header(&self) -> Option<&ByteRecord>
-        ensures { option_map (λ row. fields_of row.now) result ≡ header_of self.now.rows }
+    pub(crate) fn header(&self, alloc: Global) -> Result<Option<ByteRecord>, NoMemory>
+        ensures { IfOk result (λ header. option_map (λ row. fields_of row) header ≡ header_of self.now.rows) }
     {
-        self.rows.first()
+        let mut reader = reader_of(alloc, self.text);
+        let mut row = new_row(alloc)?;
+        if next_row(&mut reader, &mut row)? {
+            Ok(Some(row))
+        } else {
+            Ok(None)
+        }
+    }
+
+    // A reader of the records below the header, if that can be read.
+    pub(crate) fn rows_below(
+        &self,
+        alloc: Global,
+        form: Form,
+    ) -> Result<Option<Reader<&'a [u8]>>, NoMemory>
+        ensures reading { IfOk result (λ below. IfSome below IsReading) }
+        ensures rows { IfOk result (λ below. option_map records_after below ≡ rows_below form self.now) }
+    {
+        let mut reader = reader_of(alloc, self.text);
+        let mut header = new_row(alloc)?;
+        if next_row(&mut reader, &mut header)? && can_be_read(form, &header) {
+            Ok(Some(reader))
+        } else {
+            Ok(None)
+        }
     }
 
     // The records below the header, if that can be read.
-    pub(crate) fn rows_below(&self, form: Form) -> Option<&[ByteRecord]>
-        ensures { option_map (λ rows. map (λ row. fields_of row) rows.now) result ≡ rows_below form self.now }
+    pub(crate) fn all_below(
+        &self,
+        alloc: Global,
+        form: Form,
+    ) -> Result<Option<Vec<ByteRecord>>, NoMemory>
+        ensures { IfOk result (λ below. option_map (λ rows. map (λ row. fields_of row) rows.items) below ≡ rows_below form self.now) }
     {
-        match self.rows.split_first() {
-            Some((header, rows)) if can_be_read(form, header) => Some(rows),
-            _ => None,
+        match self.rows_below(alloc, form)? {
+            Some(mut reader) => {
+                let rows = all_rows(alloc, &mut reader)?;
+                Ok(Some(rows))
+            }
+            None => Ok(None),
         }
     }
 

@@ -8,7 +8,7 @@ use crate::lines::{Reading, after_mark, is_line_end};
 use mrp_rows::Table;
 
 /// The text of a table, and where it stands.
-#[derive(Clone, Copy, Debug)]
+#[derive(Clone, Copy)]
 pub struct Source<'a> {
     /// The table whose file it is in.
     pub file: Table,

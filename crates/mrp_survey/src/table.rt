@@ -1,7 +1,7 @@
 //! What is told of a table's records.
 
-ghost use Rattle.std.specs.Prelude.{◌≡◌, ◌++◌, ◌∷◌, [], IfOk, OnOk, length, map};
-ghost use Rattle.csv.specs.Records.{fields_of};
+ghost use Rattle.std.specs.Prelude.{◌≡◌, ◌++◌, [], IfOk, OnOk};
+ghost use Rattle.mrp_rows.specs.Reading.{IsReading, records_after};
 ghost use Rattle.mrp_tables.specs.Reading.{is_past};
 ghost use Rattle.mrp_survey.specs.Tables.{class_in, empty_told, header_told, names_after, names_in, told_from};
 
@@ -10,16 +10,17 @@ use crate::form::{Form, cell_in};
 use crate::header::{columns, is_header, most_records};
 use crate::known::{Known, known_name};
 use crate::record::Record;
+use crate::rows::{new_row, next_row};
 use crate::rule::Beside;
 use crate::seen::Seen;
 use crate::sheet::Sheet;
 use crate::tell::{add_key, tell_record};
-use csv::ByteRecord;
+use csv::{ByteRecord, Reader};
 use mrp_qty::NoMemory;
 use mrp_tables::Class;
 use std::alloc::Global;
 
-fn is_past(limit: Option<usize>, number: usize) -> bool
+pub(crate) fn is_past(limit: Option<usize>, number: usize) -> bool
     ensures { result ≡ is_past limit number }
 {
     match limit {
@@ -32,7 +33,7 @@ fn is_past(limit: Option<usize>, number: usize) -> bool
 fn tell_empty(
     alloc: Global,
     form: Form,
-    sheet: &Sheet,
+    sheet: &Sheet<'_>,
     findings: &mut Vec<Finding>,
 ) -> Result<(), NoMemory>
     ensures { OnOk result (findings.new.items ≡ findings.old.items ++ empty_told form sheet.now) }
@@ -58,20 +59,20 @@ fn tell_empty(
 pub(crate) fn tell_header(
     alloc: Global,
     form: Form,
-    sheet: &Sheet,
+    sheet: &Sheet<'_>,
     findings: &mut Vec<Finding>,
 ) -> Result<(), NoMemory>
     ensures { OnOk result (findings.new.items ≡ findings.old.items ++ header_told form sheet.now) }
 {
-    match sheet.header() {
+    match sheet.header(alloc)? {
         Some(header) => {
-            if is_header(form, header) {
+            if is_header(form, &header) {
                 Ok(())
             } else {
                 let place = sheet.place(form.table, 0);
                 tell(
                     place,
-                    header,
+                    &header,
                     0,
                     What::Header {
                         front: sheet.front(),
@@ -84,30 +85,36 @@ pub(crate) fn tell_header(
     }
 }
 
-// Tells what is wrong with a table's records, the first of which has this number.
+// Tells what is wrong with a table's records below its header.
 pub(crate) fn tell_rows(
     alloc: Global,
     form: Form,
     beside: &Beside,
-    sheet: &Sheet,
-    rows: &[ByteRecord],
+    sheet: &Sheet<'_>,
+    reader: &mut Reader<&[u8]>,
     findings: &mut Vec<Finding>,
 ) -> Result<(), NoMemory>
-    ensures { OnOk result (findings.new.items ≡ findings.old.items ++ told_from form beside.now sheet.now [] 1 (map (λ row. fields_of row) rows.now)) }
+    requires { IsReading reader.old }
+    ensures { OnOk result (findings.new.items ≡ findings.old.items ++ told_from form beside.now sheet.now [] 1 (records_after reader.old)) }
 {
     let width = columns(form).len();
     let limit = most_records(form);
     let mut seen = Seen::new(alloc);
-    for (index, row) in rows.iter().enumerate() {
-        let place = sheet.place(form.table, index + 1);
-        if is_past(limit, index + 1) {
-            return tell(place, row, 0, What::TooMany, findings);
+    let mut row = new_row(alloc)?;
+    for number in 1..usize::MAX {
+        if !next_row(reader, &mut row)? {
+            return Ok(());
         }
-        let entry = Record::of(form, place, row);
+        let place = sheet.place(form.table, number);
+        if is_past(limit, number) {
+            return tell(place, &row, 0, What::TooMany, findings);
+        }
+        let entry = Record::of(form, place, &row);
         tell_record(width, beside, &seen, &entry, findings)?;
         add_key(width, &entry, &mut seen)?;
     }
-    Ok(())
+    // More records than can be numbered.
+    Err(NoMemory)
 }
 
 // The class that an item's record gives it.
@@ -133,23 +140,30 @@ fn add_name(width: usize, entry: &Record<'_>, names: &mut Known) -> Result<(), N
     }
 }
 
-// The names of a table's records; none if it has too many records.
+// The names of a table's records below its header; none if it has too many records.
 pub(crate) fn names_in(
     alloc: Global,
     form: Form,
-    sheet: &Sheet,
-    rows: &[ByteRecord],
+    sheet: &Sheet<'_>,
+    reader: &mut Reader<&[u8]>,
 ) -> Result<Option<Known>, NoMemory>
-    ensures { IfOk result (λ names. names ≡ names_in form sheet.now (map (λ row. fields_of row) rows.now)) }
+    requires { IsReading reader.old }
+    ensures { IfOk result (λ names. names ≡ names_in form sheet.now (records_after reader.old)) }
 {
-    if is_past(most_records(form), rows.len()) {
-        return Ok(None);
-    }
     let width = columns(form).len();
+    let limit = most_records(form);
     let mut names = Known::new(alloc);
-    for (index, row) in rows.iter().enumerate() {
-        let entry = Record::of(form, sheet.place(form.table, index + 1), row);
+    let mut row = new_row(alloc)?;
+    for number in 1..usize::MAX {
+        if !next_row(reader, &mut row)? {
+            return Ok(Some(names));
+        }
+        if is_past(limit, number) {
+            return Ok(None);
+        }
+        let entry = Record::of(form, sheet.place(form.table, number), &row);
         add_name(width, &entry, &mut names)?;
     }
-    Ok(Some(names))
+    // More records than can be numbered.
+    Err(NoMemory)
 }

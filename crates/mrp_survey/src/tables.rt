@@ -3,7 +3,8 @@
 ghost use Rattle.std.specs.Prelude.{◌≡◌, ◌<◌, ◌++◌, ◌∷◌, [], IfOk, None, OnOk, Some, false, map, option_map};
 ghost use Rattle.csv.specs.Records.{fields_of};
 ghost use Rattle.mrp_tables.specs.declared.version.Version.TheVariants.{One};
-ghost use Rattle.mrp_survey.specs.Survey.{FindsLoopsIn, calendar_among, calendar_told, dated_form, form_of, items_among, missing, missing_from, names_among, nothing_beside, others_told, records_at, rows_in, survey_told, table_told, version_among, versioned_told};
+ghost use Rattle.mrp_survey.specs.Survey.{FindsLoopsIn, calendar_among, calendar_told, dated_form, first_told, form_of, items_among, last_told, missing, missing_from, names_among, nothing_beside, records_at, rows_in, survey_told, table_told, version_among, versioned_told};
+ghost use Rattle.mrp_survey.specs.InTwo.{IsFirstTold};
 
 use crate::calendar::{calendar_in, has_version, version_in};
 use crate::finding::{Finding, Place, What, tell};
@@ -22,13 +23,15 @@ use mrp_qty::NoMemory;
 use mrp_rows::Table;
 use mrp_tables::Version;
 use std::alloc::Global;
+use std::thread;
+use std::thread::Threads;
 
 // The records of a table, where it has a text.
-fn sheet_of(
+fn sheet_of<'a>(
     alloc: Global,
-    sources: &[Option<Source<'_>>; 9],
+    sources: &[Option<Source<'a>>; 9],
     table: Table,
-) -> Result<Option<Sheet>, NoMemory>
+) -> Result<Option<Sheet<'a>>, NoMemory>
     ensures { IfOk result (λ sheet. sheet ≡ records_at sources.now table) }
 {
     match sources.get(table.index()) {
@@ -55,7 +58,7 @@ fn tell_table(
     alloc: Global,
     form: Form,
     beside: &Beside,
-    sheet: &Option<Sheet>,
+    sheet: &Option<Sheet<'_>>,
     findings: &mut Vec<Finding>,
 ) -> Result<(), NoMemory>
     ensures { OnOk result (findings.new.items ≡ findings.old.items ++ table_told form beside.now sheet.now) }
@@ -64,19 +67,23 @@ fn tell_table(
         return Ok(());
     };
     tell_header(alloc, form, sheet, findings)?;
-    match sheet.rows_below(form) {
-        Some(rows) => tell_rows(alloc, form, beside, sheet, rows, findings),
+    match sheet.rows_below(alloc, form)? {
+        Some(mut reader) => tell_rows(alloc, form, beside, sheet, &mut reader, findings),
         None => Ok(()),
     }
 }
 
 // The records below a table's header, if that can be read.
-fn rows_in(form: Form, sheet: &Option<Sheet>) -> Option<&[ByteRecord]>
-    ensures { option_map (λ rows. map (λ row. fields_of row) rows.now) result ≡ rows_in form sheet.now }
+fn rows_in(
+    alloc: Global,
+    form: Form,
+    sheet: &Option<Sheet<'_>>,
+) -> Result<Option<Vec<ByteRecord>>, NoMemory>
+    ensures { IfOk result (λ rows. option_map (λ rows. map (λ row. fields_of row) rows.items) rows ≡ rows_in form sheet.now) }
 {
     match sheet {
-        Some(sheet) => sheet.rows_below(form),
-        None => None,
+        Some(sheet) => sheet.all_below(alloc, form),
+        None => Ok(None),
     }
 }
 
@@ -98,17 +105,17 @@ fn nothing_beside() -> Beside
 }
 
 // Whether the calendar begins with a version.
-fn dated_form(sheet: &Option<Sheet>) -> Form
-    ensures { result ≡ dated_form sheet.now }
+fn dated_form(alloc: Global, sheet: &Option<Sheet<'_>>) -> Result<Form, NoMemory>
+    ensures { IfOk result (λ form. form ≡ dated_form sheet.now) }
 {
     let bare = form_of(Table::Calendar, Version::One);
-    match rows_in(bare, sheet) {
-        Some(rows) => Form {
+    match rows_in(alloc, bare, sheet)? {
+        Some(rows) => Ok(Form {
             table: Table::Calendar,
             version: Version::One,
-            has_version: has_version(rows),
-        },
-        None => bare,
+            has_version: has_version(&rows),
+        }),
+        None => Ok(bare),
     }
 }
 
@@ -166,18 +173,18 @@ fn tell_calendar(
     ensures dated { IfOk result (λ dated. dated ≡ record { version = version_among sources.now; calendar = calendar_among sources.now }) }
 {
     let sheet = sheet_of(alloc, sources, Table::Calendar)?;
-    let form = dated_form(&sheet);
+    let form = dated_form(alloc, &sheet)?;
     tell_table(alloc, form, &nothing_beside(), &sheet, findings)?;
     let Some(sheet) = &sheet else {
         return Ok(no_dates());
     };
-    let Some(rows) = sheet.rows_below(form) else {
+    let Some(rows) = sheet.all_below(alloc, form)? else {
         return Ok(no_dates());
     };
     tell_missing(alloc, form, sheet.file(), rows.len(), findings)?;
     Ok(Dated {
-        version: version_in(form, rows),
-        calendar: calendar_in(form, rows),
+        version: version_in(form, &rows),
+        calendar: calendar_in(form, &rows),
     })
 }
 
@@ -205,8 +212,8 @@ fn tell_named(
     let Some(sheet) = &sheet else {
         return Ok(None);
     };
-    match sheet.rows_below(form) {
-        Some(rows) => names_in(alloc, form, sheet, rows),
+    match sheet.rows_below(alloc, form)? {
+        Some(mut reader) => names_in(alloc, form, sheet, &mut reader),
         None => Ok(None),
     }
 }
@@ -245,6 +252,14 @@ fn tell_other(
     tell_table(alloc, form_of(table, version), beside, &sheet, findings)
 }
 
+// What is told of the tables from the stock to the bills.
+#[derive(Drop)]
+struct FirstTold {
+    findings: Vec<Finding>,
+    // The sets of items that need one another.
+    loops: Vec<FoundLoop>,
+}
+
 // Tells what is wrong with the bills, and returns the sets of items that need one another.
 fn tell_bills(
     alloc: Global,
@@ -261,25 +276,85 @@ fn tell_bills(
     find_loops(alloc, form, &beside.items, &sheet)
 }
 
-// Tells what is wrong with the tables that look at others, and returns the sets of items that need one another.
+// Tells what is wrong with the tables from the stock to the bills.
+fn tell_first(
+    alloc: Global,
+    sources: &[Option<Source<'_>>; 9],
+    beside: &Beside,
+) -> Result<FirstTold, NoMemory>
+    ensures { IfOk result (IsFirstTold sources.now beside.now) }
+{
+    let first = Some(Version::One);
+    let mut findings = Vec::new(alloc);
+    tell_other(alloc, sources, beside, Table::Stock, first, &mut findings)?;
+    tell_other(
+        alloc,
+        sources,
+        beside,
+        Table::Receipts,
+        first,
+        &mut findings,
+    )?;
+    let loops = tell_bills(alloc, sources, beside, &mut findings)?;
+    Ok(FirstTold { findings, loops })
+}
+
+// What is told of the tables behind the bills.
+fn tell_last(
+    alloc: Global,
+    sources: &[Option<Source<'_>>; 9],
+    beside: &Beside,
+    version: Option<Version>,
+) -> Result<Vec<Finding>, NoMemory>
+    ensures { IfOk result (λ findings. findings.items ≡ last_told sources.now beside.now version) }
+{
+    let first = Some(Version::One);
+    let mut findings = Vec::new(alloc);
+    tell_other(
+        alloc,
+        sources,
+        beside,
+        Table::Routings,
+        first,
+        &mut findings,
+    )?;
+    tell_other(
+        alloc,
+        sources,
+        beside,
+        Table::Master,
+        version,
+        &mut findings,
+    )?;
+    tell_other(alloc, sources, beside, Table::Script, first, &mut findings)?;
+    Ok(findings)
+}
+
+// Tells what is wrong with the tables that look at others, in two threads if a second one can be started, and returns the sets of
+// items that need one another.
 fn tell_others(
+    rt: &impl Threads,
     alloc: Global,
     sources: &[Option<Source<'_>>; 9],
     beside: &Beside,
     version: Option<Version>,
     findings: &mut Vec<Finding>,
 ) -> Result<Vec<FoundLoop>, NoMemory>
-    ensures told { OnOk result (findings.new.items ≡ findings.old.items ++ others_told sources.now beside.now version) }
+    ensures told { OnOk result (findings.new.items ≡ findings.old.items ++ first_told sources.now beside.now ++ last_told sources.now beside.now version) }
     ensures loops { IfOk result (λ loops. FindsLoopsIn sources.now beside.now.items loops.items) }
 {
-    let first = Some(Version::One);
-    tell_other(alloc, sources, beside, Table::Stock, first, findings)?;
-    tell_other(alloc, sources, beside, Table::Receipts, first, findings)?;
-    let loops = tell_bills(alloc, sources, beside, findings)?;
-    tell_other(alloc, sources, beside, Table::Routings, first, findings)?;
-    tell_other(alloc, sources, beside, Table::Master, version, findings)?;
-    tell_other(alloc, sources, beside, Table::Script, first, findings)?;
-    Ok(loops)
+    let read_last = move || -> Result<Vec<Finding>, NoMemory>
+        ensures { IfOk result (λ findings. findings.items ≡ last_told sources.entry.now beside.entry.now version) }
+    { tell_last(alloc, sources, beside, version) };
+    let read_first = move || -> Result<FirstTold, NoMemory>
+        ensures { IfOk result (IsFirstTold sources.entry.now beside.entry.now) }
+    { tell_first(alloc, sources, beside) };
+    let (last, first) = thread::join(rt, read_last, read_first);
+    let mut first = first?;
+    let mut last = last?;
+    findings.append(&mut first.findings)?;
+    findings.append(&mut last)?;
+    Ok(first.loops)
 }
 
 fn surveyed(
@@ -305,8 +380,14 @@ fn surveyed(
 
 /// All that is wrong with the records of nine tables, which stand in the order of the tables; a table without a text is not read.
 ///
+/// The tables behind the work centres are read in two threads if a second one can be started.
+///
 /// Errors: `NoMemory` if an allocation fails.
-pub fn survey(alloc: Global, sources: &[Option<Source<'_>>; 9]) -> Result<Survey, NoMemory>
+pub fn survey(
+    rt: &impl Threads,
+    alloc: Global,
+    sources: &[Option<Source<'_>>; 9],
+) -> Result<Survey, NoMemory>
     ensures findings { IfOk result (λ survey. survey.findings ≡ survey_told sources.now) }
     ensures loops { IfOk result (λ survey. FindsLoopsIn sources.now survey.items survey.loops) }
     ensures version { IfOk result (λ survey. survey.version ≡ version_among sources.now) }
@@ -324,6 +405,6 @@ pub fn survey(alloc: Global, sources: &[Option<Source<'_>>; 9]) -> Result<Survey
         centres,
         calendar: dated.calendar,
     };
-    let loops = tell_others(alloc, sources, &beside, dated.version, &mut findings)?;
+    let loops = tell_others(rt, alloc, sources, &beside, dated.version, &mut findings)?;
     surveyed(alloc, findings, loops, dated.version, beside)
 }

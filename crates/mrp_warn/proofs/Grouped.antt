@@ -2,7 +2,7 @@
 use Rattle.std.proofs.Common.{◌≡◌, ◌∙◌, ℕ, ◌+◌, ◌<◌, ◌≤◌, List, [], ◌∷◌, ◌++◌, length, take, get_or, subst, sym}
 use Rattle.std.specs.List.{AllZip}
 use Rattle.std.proofs.lemmas.List.{take_all, take_more}
-use Rattle.mrp_engine.proofs.lemmas.live.DeskRuns.{zip-push}
+use Rattle.mrp_script.proofs.Zipped.{zip-push}
 use Rattle.mrp_warn.specs.declared.kind.Kind.{Kind}
 use Rattle.mrp_warn.specs.declared.telling.Group.{Group}
 use Rattle.mrp_warn.specs.Inspection.{Inspected}

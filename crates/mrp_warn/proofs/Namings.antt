@@ -11,15 +11,6 @@ use Rattle.mrp_rows.specs.declared.name.TheConstants.{LONGEST_NAME}
 use Rattle.mrp_rows.specs.Name.{has_name_ends, is_name, is_printable}
 use Rattle.mrp_warn.specs.Names.{folded, small}
 
--- each byte of a text of printable bytes is one
-printable-at : (text : List ℕ) (i : ℕ) → list_all is_printable text ≡ true → i < length text → is_printable (get_or text i 0) ≡ true
-printable-at [] i all within = absurd (omega (arith, within))
-printable-at (b ∷ text) zero all within = (and_parts (is_printable b) (list_all is_printable text) all).0
-printable-at (b ∷ text) (suc i) all within = printable-at text i (and_parts (is_printable b) (list_all is_printable text) all).1 (omega (arith, within))
-
-printable-ascii : (b : ℕ) → is_printable b ≡ true → b < 128
-printable-ascii b is = grind (arith, nat_tests)
-
 -- the parts of a name
 pub record IsNamed (text : List ℕ) : Type 0 where
   pub some : nat_le 1 (length text) ≡ true
@@ -37,17 +28,6 @@ named text is =
     let (ab, all) = and_parts (a && b) c abc in
     let (some, short) = and_parts a b ab in
     record { some = some; short = short; all = all; ends = ends }
-
-ascii : (text : List ℕ) → list_all is_printable text ≡ true → IsAscii text
-ascii text all i = by (cases_lt i (length text))
-  where
-    by : (i < length text) ⊎ (length text ≤ i) → get_or text i 0 < 128
-    by (inl within) = printable-ascii (get_or text i 0) (printable-at text i all within)
-    by (inr past) = rw (get_or_past text i 0 past) (omega arith)
-
--- a name is a text
-pub name-text : (text : List ℕ) → is_name text ≡ true → IsUtf8 text
-name-text text is = IsUtf8-from_ascii text (ascii text (named text is).all)
 
 small-printable : (b : ℕ) → is_printable b ≡ true → is_printable (small b) ≡ true
 small-printable b is = grind (arith, nat_tests)

@@ -7,7 +7,7 @@ use Rattle.std.proofs.lemmas.List.Elements.{filter-append}
 use Rattle.std.proofs.lemmas.List.FromFn.{map-range_with_len_more}
 use Rattle.mrp_cal.specs.Calendar.{ShopCalendar}
 use Rattle.mrp_cal.specs.ShopDays.{shop_days_in}
-use Rattle.mrp_engine.proofs.lemmas.live.DeskRuns.{zip-push}
+use Rattle.mrp_script.proofs.Zipped.{zip-push}
 use Rattle.mrp_warn.specs.Calendar.{AreOfWeeks, IsOfWeek, closed_weeks}
 use Rattle.mrp_warn.specs.declared.oddity.Warning.{Warning}
 

@@ -7,7 +7,7 @@ use Rattle.mrp_book.specs.declared.call.Call.TheVariants as call
 use Rattle.mrp_book.specs.declared.reply.Reply.{Reply}
 use Rattle.mrp_book.specs.declared.reply.Reply.TheVariants as reply
 use Rattle.mrp_book.specs.Standing.{History}
-use Rattle.mrp_engine.specs.day.Script.{is_run}
+use Rattle.mrp_script.specs.Script.{is_run}
 use Rattle.mrp_warn.specs.declared.oddity.Oddity.{Oddity}
 use Rattle.mrp_warn.specs.declared.oddity.Oddity.TheVariants.{Short, NotStanding, NotYours, Unplaced}
 use Rattle.mrp_warn.specs.declared.oddity.Warning.{Warning}

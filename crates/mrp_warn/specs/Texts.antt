@@ -13,7 +13,7 @@ use Rattle.mrp_tables.specs.Tables.{Tables}
 use Rattle.mrp_tables.specs.Versions.{items_layout}
 use Rattle.mrp_master.specs.Supply.{supply_of}
 use Rattle.mrp_book.specs.History.{IsLegal, asked}
-use Rattle.mrp_engine.specs.day.Script.{script_of}
+use Rattle.mrp_script.specs.Script.{script_of}
 use Rattle.mrp_warn.specs.Inspection.{Inspected}
 
 -- the lot size in a record of the items: the number in its sixth cell

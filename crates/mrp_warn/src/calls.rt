@@ -1,7 +1,7 @@
 //! What is odd about the calls of a script.
 
 ghost use Rattle.std.specs.Prelude.{◌≡◌, IfOk};
-ghost use Rattle.mrp_engine.specs.day.Script.{is_run};
+ghost use Rattle.mrp_script.specs.Script.{is_run};
 ghost use Rattle.mrp_warn.specs.Calls.{denied, denied_warnings, desk_of, is_booked, last_run, not_yours, run_place, run_places, unplaced, unplaced_warnings};
 
 use crate::oddity::{Oddity, Warning};

@@ -3,14 +3,14 @@
 ghost use Rattle.std.specs.Prelude.{◌≡◌, IfOk};
 ghost use Rattle.mrp_master.specs.Supply.{supply_of};
 ghost use Rattle.mrp_book.specs.History.{asked};
-ghost use Rattle.mrp_engine.specs.day.Script.{script_of};
+ghost use Rattle.mrp_script.specs.Script.{script_of};
 
 use crate::texts::{lot_sizes, workdays_place};
 use mrp_bill::Shop;
 use mrp_book::{Book, Call, Entry, Reply};
-use mrp_engine::{answer, call_of};
 use mrp_qty::NoMemory;
 use mrp_rows::Sections;
+use mrp_script::answer_records;
 use mrp_tables::Tables;
 use std::alloc::Global;
 use std::marker::Model;
@@ -39,19 +39,6 @@ impl<'t> Model for Inspection<'t> {
     } };
 }
 
-// The order book of a shop, in which the records of its script were answered in row order.
-fn answered(alloc: Global, shop: &Shop) -> Result<Book, NoMemory>
-    ensures supply { IfOk result (λ book. book.supply ≡ supply_of shop.now.tables) }
-    ensures asked { IfOk result (λ book. asked book.entries ≡ script_of shop.now.tables) }
-{
-    let script = shop.tables().script();
-    let mut book = Book::open(alloc, shop)?;
-    for row in script {
-        answer(alloc, &mut book, row.desk, call_of(shop, row.call))?;
-    }
-    Ok(book)
-}
-
 impl<'t> Inspection<'t> {
     ghost use Rattle.std.specs.Prelude.{◌≡◌, IfOk};
     ghost use Rattle.mrp_warn.specs.Texts.{Inspects};
@@ -68,7 +55,7 @@ impl<'t> Inspection<'t> {
         ensures { IfOk result (Inspects sections.now shop.now.tables) }
     {
         let tables = shop.tables();
-        let book = answered(alloc, shop)?;
+        let book = answer_records(alloc, shop)?;
         let _legal = book.entries();
         let sizes = lot_sizes(alloc, sections, tables)?;
         let workdays = workdays_place(alloc, sections)?;

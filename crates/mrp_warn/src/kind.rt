@@ -6,7 +6,7 @@ ghost use Rattle.mrp_warn.specs.Kinds as spec;
 use mrp_rows::Table;
 
 /// What a warning is about.
-#[derive(Clone, Copy, Debug, PartialEq, Eq)]
+#[derive(Clone, Copy)]
 pub enum Kind {
     /// Weeks without a shop day.
     ClosedWeek,

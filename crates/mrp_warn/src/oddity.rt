@@ -6,7 +6,7 @@ use mrp_tables::LeadUnit;
 
 /// What is odd about a record, or about a table. Other records are named by their places in their tables,
 /// from 0.
-#[derive(Clone, Copy, Debug)]
+#[derive(Clone, Copy)]
 pub enum Oddity {
     /// A week that begins on this Monday has no shop day.
     ClosedWeek {
@@ -86,7 +86,7 @@ pub enum Oddity {
 }
 
 /// A warning: what is odd, and where.
-#[derive(Clone, Copy, Debug)]
+#[derive(Clone, Copy)]
 pub struct Warning {
     /// The place of the record in its table, from 0; `None` for a table without records, which is told at
     /// the first line.

@@ -7,7 +7,7 @@ ghost use Rattle.mrp_warn.specs.Sheets.{file_of, line_of, sheet_of};
 use mrp_rows::Table;
 
 /// Where a table stands: in which file, and each record in which line of it.
-#[derive(Debug, Drop)]
+#[derive(Drop)]
 pub struct Sheet {
     /// The table whose file it is in: mostly its own.
     pub file: Table,

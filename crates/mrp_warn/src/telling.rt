@@ -19,7 +19,7 @@ use mrp_qty::NoMemory;
 use std::alloc::Global;
 
 /// The warnings of a kind.
-#[derive(Debug, Drop)]
+#[derive(Drop)]
 pub struct Group {
     /// The kind.
     pub kind: Kind,

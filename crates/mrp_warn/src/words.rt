@@ -1,27 +1,20 @@
 //! Warnings in words.
 
-ghost use Rattle.std.specs.Prelude.{◌≡◌, ◌++◌, IfOk, OnOk, codes, decimal, length, string_bytes, take};
-ghost use Rattle.mrp_warn.specs.Words.{count_of, count_words, group_text, line_text, more_text, of_doubled, of_lead, of_low_scrap, of_name, of_number, of_operations, of_per, of_short, of_twin, plural, text_of, warning_text, words_of};
+ghost use Rattle.std.specs.Prelude.{◌≡◌, ◌++◌, IfOk, OnOk, string_bytes, take};
+ghost use Rattle.mrp_warn.specs.Sheets as places;
+ghost use Rattle.mrp_warn.specs.Words.{count_of, count_words, group_text, line_text, more_text, not_standing, not_yours, of_doubled, of_few_minutes, of_lead, of_low_run, of_low_scrap, of_name, of_number, of_operations, of_per, of_short, of_small_run, of_small_scrap, of_twin, of_unplanned, of_unstocked, of_unused, of_week, text_of, unplaced, warning_text, words_of};
 
 use crate::kind::Kind;
 use crate::limits::MOST_OF_A_KIND;
 use crate::oddity::{Oddity, Warning};
 use crate::sheets::{Sheet, file_of, line_of};
 use crate::telling::Group;
+use jiff::civil::Date;
+use mrp_advice::{plural, text_of_name};
 use mrp_qty::NoMemory;
 use mrp_rows::{Name, Table};
 use mrp_tables::LeadUnit;
 use std::alloc::{AllocError, Global};
-
-// A name as a text.
-fn text_of_name(name: &Name) -> &str
-    ensures { result.now ≡ name.now }
-{
-    match str::from_utf8(name.as_bytes()) {
-        Ok(text) => text,
-        Err(_) => unreachable!(),
-    }
-}
 
 // A number, and what is said of it.
 fn of_number(alloc: Global, number: u64, words: &str) -> Result<String, AllocError>
@@ -36,13 +29,6 @@ fn of_name(alloc: Global, name: &Name, words: &str) -> Result<String, AllocError
 {
     let name = text_of_name(name);
     format!(in alloc; "'{name}'{words}")
-}
-
-// What makes a word a plural, by a number.
-fn plural(number: u128) -> &'static str
-    ensures { result.now ≡ plural number }
-{
-    if number == 1 { "" } else { "s" }
 }
 
 // What is said of a lead time with which each order is late.
@@ -73,11 +59,18 @@ fn of_low_scrap(alloc: Global, scrap: u64) -> Result<String, AllocError>
 }
 
 // What is said of a name that differs in capitals alone from another.
-fn of_twin(alloc: Global, name: &Name, other: &Name, line: u64) -> Result<String, AllocError>
-    ensures { IfOk result (λ text. string_bytes text ≡ of_twin name.now other.now line) }
+fn of_twin(
+    alloc: Global,
+    sheets: &[Sheet],
+    name: &Name,
+    other: &Name,
+    first: usize,
+) -> Result<String, AllocError>
+    ensures { IfOk result (λ text. string_bytes text ≡ of_twin name.now other.now (places.line_of sheets.now Table.Items first)) }
 {
     let name = text_of_name(name);
     let other = text_of_name(other);
+    let line = line_of(sheets, Table::Items, first);
     format!(in alloc; "'{name}' differs in capitals alone from '{other}' of line {line}")
 }
 
@@ -92,12 +85,14 @@ fn of_operations(alloc: Global, operations: usize) -> Result<String, AllocError>
 // What is said of a bill line whose parent and component an earlier one has.
 fn of_doubled(
     alloc: Global,
+    sheets: &[Sheet],
     component: &Name,
     parent: &Name,
-    line: u64,
+    first: usize,
 ) -> Result<String, AllocError>
-    ensures { IfOk result (λ text. string_bytes text ≡ of_doubled component.now parent.now line) }
+    ensures { IfOk result (λ text. string_bytes text ≡ of_doubled component.now parent.now (places.line_of sheets.now Table.Bills first)) }
 {
+    let line = line_of(sheets, Table::Bills, first);
     let component = text_of_name(component);
     let parent = text_of_name(parent);
     format!(in alloc; "'{component}' of '{parent}' stands in line {line} already, and both count")
@@ -120,10 +115,84 @@ fn of_short(alloc: Global, quantity: u64, available: u64) -> Result<String, Allo
 }
 
 // What is said of a booking behind the last run.
-fn unplaced(alloc: Global, line: u64) -> Result<String, AllocError>
-    ensures { IfOk result (λ text. string_bytes text ≡ codes "this booking is behind the last run, line " ++ (decimal line ++ codes ", and in no plan")) }
+fn unplaced(alloc: Global, sheets: &[Sheet], run: usize) -> Result<String, AllocError>
+    ensures { IfOk result (λ text. string_bytes text ≡ unplaced (places.line_of sheets.now Table.Script run)) }
 {
+    let line = line_of(sheets, Table::Script, run);
     format!(in alloc; "this booking is behind the last run, line {line}, and in no plan")
+}
+
+// What is said of a week without a shop day.
+fn of_week(alloc: Global, week: u16, monday: Date) -> Result<String, AllocError>
+    ensures { IfOk result (λ text. string_bytes text ≡ of_week week monday) }
+{
+    format!(in alloc; "week {week} from {monday} has no shop day")
+}
+
+// What is said of scrap below one per cent.
+fn of_small_scrap(alloc: Global, scrap: u64) -> Result<String, AllocError>
+    ensures { IfOk result (λ text. string_bytes text ≡ of_small_scrap scrap) }
+{
+    format!(in alloc; "'{scrap}' is 0.{scrap} % (thousandths)")
+}
+
+// What is said of a part that nothing needs.
+fn of_unused(alloc: Global, name: &Name) -> Result<String, AllocError>
+    ensures { IfOk result (λ text. string_bytes text ≡ of_unused name.now) }
+{
+    let words = " is a part of no bill, without stock, receipt or safety stock";
+    of_name(alloc, name, words)
+}
+
+// What is said of an item without a record of stock.
+fn of_unstocked(alloc: Global, name: &Name) -> Result<String, AllocError>
+    ensures { IfOk result (λ text. string_bytes text ≡ of_unstocked name.now) }
+{
+    of_name(alloc, name, " has no row in stock.csv, so none on hand")
+}
+
+// What is said of a master item that the master schedule asks nothing of.
+fn of_unplanned(alloc: Global, name: &Name) -> Result<String, AllocError>
+    ensures { IfOk result (λ text. string_bytes text ≡ of_unplanned name.now) }
+{
+    let words = " is a master item without pieces in master.csv";
+    of_name(alloc, name, words)
+}
+
+// What is said of minutes that may be meant in hours.
+fn of_few_minutes(alloc: Global, minutes: u64) -> Result<String, AllocError>
+    ensures { IfOk result (λ text. string_bytes text ≡ of_few_minutes minutes) }
+{
+    let words = " is minutes on a shop day (8 hours are 480)";
+    of_number(alloc, minutes, words)
+}
+
+// What is said of a run time below a hundredth of a minute.
+fn of_small_run(alloc: Global, run: u64) -> Result<String, AllocError>
+    ensures { IfOk result (λ text. string_bytes text ≡ of_small_run run) }
+{
+    format!(in alloc; "'{run}' is 0.00{run} minutes (thousandths)")
+}
+
+// What is said of the first run time of those that may be meant in minutes.
+fn of_low_run(alloc: Global, run: u64) -> Result<String, AllocError>
+    ensures { IfOk result (λ text. string_bytes text ≡ of_low_run run) }
+{
+    format!(in alloc; "'{run}' is 0.0{run} minutes (thousandths), and no operation has 0.1")
+}
+
+// What is said of a cancellation of what does not stand.
+fn not_standing(alloc: Global, number: u64) -> Result<String, AllocError>
+    ensures { IfOk result (λ text. string_bytes text ≡ not_standing number) }
+{
+    format!(in alloc; "no booking '{number}' stands to be cancelled")
+}
+
+// What is said of a cancellation of another desk's booking.
+fn not_yours(alloc: Global, number: u64, desk: u64) -> Result<String, AllocError>
+    ensures { IfOk result (λ text. string_bytes text ≡ not_yours number desk) }
+{
+    format!(in alloc; "booking '{number}' is that of desk {desk} and stays")
 }
 
 // What is odd, in words.
@@ -131,71 +200,40 @@ fn words_of(alloc: Global, sheets: &[Sheet], oddity: &Oddity) -> Result<String, 
     ensures { IfOk result (λ text. string_bytes text ≡ words_of sheets.now oddity.now) }
 {
     match oddity {
-        Oddity::ClosedWeek { week, monday } => {
-            format!(in alloc; "week {week} from {monday} has no shop day")
-        }
-        Oddity::SmallScrap(scrap) => { format!(in alloc; "'{scrap}' is 0.{scrap} % (thousandths)") }
+        Oddity::ClosedWeek { week, monday } => of_week(alloc, *week, *monday),
+        Oddity::SmallScrap(scrap) => of_small_scrap(alloc, *scrap),
         Oddity::LowScrap(scrap) => of_low_scrap(alloc, *scrap),
         Oddity::IdleSize(size) => of_number(alloc, *size, " has no effect with lfl"),
         Oddity::IdleLeast(least) => of_number(alloc, *least, " has no effect with fixed"),
         Oddity::IdleStep(step) => of_number(alloc, *step, " has no effect with fixed"),
         Oddity::LongLead { lead, unit, weeks } => of_lead(alloc, *lead, *unit, *weeks),
-        Oddity::Twin { name, other, first } => {
-            of_twin(alloc, name, other, line_of(sheets, Table::Items, *first))
-        }
-        Oddity::Unused(name) => of_name(
-            alloc,
-            name,
-            " is a part of no bill, without stock, receipt or safety stock",
-        ),
-        Oddity::Unstocked(name) => {
-            of_name(alloc, name, " has no row in stock.csv, so none on hand")
-        }
+        Oddity::Twin { name, other, first } => of_twin(alloc, sheets, name, other, *first),
+        Oddity::Unused(name) => of_unused(alloc, name),
+        Oddity::Unstocked(name) => of_unstocked(alloc, name),
         Oddity::NoStock => String::from_str(alloc, "there is no row, so no item has any on hand"),
-        Oddity::Unplanned(name) => {
-            of_name(
-                alloc,
-                name,
-                " is a master item without pieces in master.csv",
-            )
-        }
+        Oddity::Unplanned(name) => of_unplanned(alloc, name),
         Oddity::NoMinutes { operations } => of_operations(alloc, *operations),
-        Oddity::FewMinutes(minutes) => of_number(
-            alloc,
-            *minutes,
-            " is minutes on a shop day (8 hours are 480)",
-        ),
+        Oddity::FewMinutes(minutes) => of_few_minutes(alloc, *minutes),
         Oddity::Idle(name) => of_name(alloc, name, " is in no routing"),
         Oddity::Doubled {
             component,
             parent,
             first,
-        } => of_doubled(
-            alloc,
-            component,
-            parent,
-            line_of(sheets, Table::Bills, *first),
-        ),
+        } => of_doubled(alloc, sheets, component, parent, *first),
         Oddity::LargePer {
             per,
             component,
             parent,
         } => of_per(alloc, *per, component, parent),
-        Oddity::SmallRun(run) => { format!(in alloc; "'{run}' is 0.00{run} minutes (thousandths)") }
-        Oddity::LowRun(run) => {
-            format!(in alloc; "'{run}' is 0.0{run} minutes (thousandths), and no operation has 0.1")
-        }
+        Oddity::SmallRun(run) => of_small_run(alloc, *run),
+        Oddity::LowRun(run) => of_low_run(alloc, *run),
         Oddity::Short {
             quantity,
             available,
         } => of_short(alloc, *quantity, *available),
-        Oddity::NotStanding(number) => {
-            format!(in alloc; "no booking '{number}' stands to be cancelled")
-        }
-        Oddity::NotYours { number, desk } => {
-            format!(in alloc; "booking '{number}' is that of desk {desk} and stays")
-        }
-        Oddity::Unplaced { run } => { unplaced(alloc, line_of(sheets, Table::Script, *run)) }
+        Oddity::NotStanding(number) => not_standing(alloc, *number),
+        Oddity::NotYours { number, desk } => not_yours(alloc, *number, *desk),
+        Oddity::Unplaced { run } => unplaced(alloc, sheets, *run),
     }
 }
 

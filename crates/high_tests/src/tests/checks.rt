@@ -3,7 +3,6 @@
 use super::audits::{DAY, EXCHANGED, SCRIPT, text_of};
 use super::commands::{Left, Streams, has_ended, left_by};
 use super::made;
-use super::streams::Turn;
 use super::texts::{LOTS_HISTORY, LOTS_REPORT, WELD_LOADS};
 use sample_shops::bicycles_welded;
 use std::alloc::Global;
@@ -16,7 +15,7 @@ use std::sync::Wait;
 use std::test::Fail;
 use std::thread::Threads;
 
-const CHECK: &[&str] = &["check", "--dir", "out/lots"];
+pub const CHECK: &[&str] = &["check", "--dir", "out/lots"];
 
 fn make_file(files: &impl Files, path: &str, head: &str, rows: &str) -> Result<(), Fail> {
     let mut file = File::create(files, path)?;
@@ -151,32 +150,5 @@ fn a_folder_that_is_missing_is_refused(rt: HostRuntime) {
     let left = left_by(&rt, rt.alloc(), &words, Streams::of(LOTS_HISTORY));
     let refused = "refused: 4 missing-section calendar 0\n";
     has_ended(&rt, &left, 1, "", refused);
-    drop(left);
-}
-
-#[test]
-fn streams_that_fail_end_a_check(rt: HostRuntime) {
-    made(&rt, make_folder(&rt));
-    let unread = Streams {
-        reads: &[Turn::Moves(100), Turn::Fails],
-        ..Streams::of(LOTS_HISTORY)
-    };
-    let left = left_by(&rt, rt.alloc(), CHECK, unread);
-    has_ended(&rt, &left, 4, "", "read failed\n");
-    drop(left);
-    let unwritten = Streams {
-        writes: &[Turn::Moves(7), Turn::Fails],
-        ..Streams::of(LOTS_HISTORY)
-    };
-    let left = left_by(&rt, rt.alloc(), CHECK, unwritten);
-    has_ended(&rt, &left, 4, "wrong: ", "write failed\n");
-    drop(left);
-    let slow = Streams {
-        reads: &[Turn::Interrupts, Turn::Moves(7)],
-        writes: &[Turn::Moves(7), Turn::Interrupts, Turn::Moves(1)],
-        ..Streams::of(LOTS_HISTORY)
-    };
-    let left = left_by(&rt, rt.alloc(), CHECK, slow);
-    has_ended(&rt, &left, 1, "wrong: report 1\n", "");
     drop(left);
 }

@@ -1,10 +1,11 @@
 //! What the words of the command line do, with an input, an output and an error stream.
 
-use super::streams::{Turn, reader, writer};
+use super::streams::{FAILS, acts, reader, writer};
 use super::texts::{BICYCLE_HISTORY, BICYCLE_REPORT};
 use super::{made, same};
 use mrp_main::run_words;
 use mrp_rows::GREATEST_BUNDLE;
+use mrp_rows::devices::{Acts, EVERYTHING};
 use sample_shops::bicycles;
 use std::alloc::Global;
 use std::fs;
@@ -23,13 +24,13 @@ const LIVE: &[&str] = &["live"];
 // The words that make a day.
 const DAYS: [&[&str]; 2] = [PLAN, LIVE];
 
-// What a run is given: the input's text, and the turns of the three streams.
+// What a run is given: the input's text, and what the three streams do.
 #[derive(Clone, Copy)]
 pub struct Streams<'a> {
     pub input: &'a str,
-    pub reads: &'a [Turn],
-    pub writes: &'a [Turn],
-    pub tells: &'a [Turn],
+    pub reads: Acts<'a>,
+    pub writes: Acts<'a>,
+    pub tells: Acts<'a>,
 }
 
 impl<'a> Streams<'a> {
@@ -37,21 +38,19 @@ impl<'a> Streams<'a> {
     pub fn of(input: &'a str) -> Streams<'a> {
         Streams {
             input,
-            reads: &[],
-            writes: &[],
-            tells: &[],
+            reads: EVERYTHING,
+            writes: EVERYTHING,
+            tells: EVERYTHING,
         }
     }
 }
 
-// What a run left: its status, its output and its error stream, and how often its reads and its
-// writes were interrupted.
+// What a run left: its status, its output and its error stream.
 #[derive(Drop)]
 pub struct Left {
     pub status: u8,
     pub output: String,
     pub errors: String,
-    pub interrupted: (u64, u64),
 }
 
 // What these words leave.
@@ -65,13 +64,27 @@ pub fn left_by<R: Alloc + Abort + Files + Threads + Wait + Sync>(
     let mut output = writer(alloc, streams.writes);
     let mut errors = writer(alloc, streams.tells);
     let status = run_words(rt, alloc, words, &mut input, &mut output, &mut errors);
-    let interrupted = (input.interrupted(), output.interrupted());
     Left {
         status,
-        output: String::from_utf8(output.into_inner().taken).expect(rt, "text"),
-        errors: String::from_utf8(errors.into_inner().taken).expect(rt, "text"),
-        interrupted,
+        output: String::from_utf8(output.into_inner().into_taken()).expect(rt, "text"),
+        errors: String::from_utf8(errors.into_inner().into_taken()).expect(rt, "text"),
     }
+}
+
+// What they leave on the output, of streams that move everything.
+pub fn output_of<R: Alloc + Abort + Files + Threads + Wait + Sync>(
+    rt: &R,
+    alloc: Global,
+    words: &[&str],
+    input: &str,
+) -> String {
+    let left = left_by(rt, alloc, words, Streams::of(input));
+    let Left {
+        status: _,
+        output,
+        errors: _errors,
+    } = left;
+    output
 }
 
 // Fails unless the bicycle shop was planned.
@@ -112,75 +125,6 @@ fn bundles_are_planned_by_1_to_64_workers(rt: HostRuntime) {
     drop(bundle);
 }
 
-#[test]
-fn short_and_interrupted_reads_and_writes_are_gone_on_with(rt: HostRuntime) {
-    let bundle = made(&rt, bicycles().bundle(rt.alloc()));
-    let streams = Streams {
-        reads: &[Turn::Moves(7), Turn::Interrupts, Turn::Moves(1)],
-        writes: &[
-            Turn::Interrupts,
-            Turn::Moves(3),
-            Turn::Interrupts,
-            Turn::Moves(1),
-        ],
-        ..Streams::of(&bundle)
-    };
-    for words in DAYS {
-        let left = left_by(&rt, rt.alloc(), words, streams);
-        is_planned(&rt, &left);
-        same(&rt, left.interrupted, (1, 2));
-        drop(left);
-    }
-    drop(bundle);
-}
-
-#[test]
-fn a_reader_that_fails_is_told(rt: HostRuntime) {
-    let bundle = made(&rt, bicycles().bundle(rt.alloc()));
-    let streams = Streams {
-        reads: &[Turn::Moves(100), Turn::Fails],
-        ..Streams::of(&bundle)
-    };
-    for words in DAYS {
-        let left = left_by(&rt, rt.alloc(), words, streams);
-        has_ended(&rt, &left, 4, "", "read failed\n");
-        drop(left);
-    }
-    drop(bundle);
-}
-
-// Fails unless a day is written up to where its writer fails.
-fn is_written_in_part<R: Alloc + Abort + Files + Threads + Wait + Sync>(
-    rt: &R,
-    alloc: Global,
-    words: &[&str],
-    bundle: &str,
-) {
-    const WRITES: [&[Turn]; 3] = [
-        &[Turn::Moves(12), Turn::Fails],
-        &[Turn::Moves(12), Turn::Moves(0)],
-        &[Turn::Moves(12), Turn::Interrupts],
-    ];
-    for writes in WRITES {
-        let streams = Streams {
-            writes,
-            ..Streams::of(bundle)
-        };
-        let left = left_by(rt, alloc, words, streams);
-        has_ended(rt, &left, 4, "[history]\nen", "write failed\n");
-        drop(left);
-    }
-}
-
-#[test]
-fn a_writer_that_fails_has_a_front_of_the_day(rt: HostRuntime) {
-    let bundle = made(&rt, bicycles().bundle(rt.alloc()));
-    for words in DAYS {
-        is_written_in_part(&rt, rt.alloc(), words, &bundle);
-    }
-    drop(bundle);
-}
-
 // The status of a run whose error stream fails.
 fn unheard_status<R: Alloc + Abort + Files + Threads + Wait + Sync>(
     rt: &R,
@@ -189,7 +133,7 @@ fn unheard_status<R: Alloc + Abort + Files + Threads + Wait + Sync>(
     input: &str,
 ) -> u8 {
     let streams = Streams {
-        tells: &[Turn::Fails],
+        tells: acts(&[], FAILS),
         ..Streams::of(input)
     };
     let left = left_by(rt, alloc, words, streams);

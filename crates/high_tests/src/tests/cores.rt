@@ -186,6 +186,34 @@ fn steps_of_one_worker<R: Alloc + Abort + Threads + Sync>(
     }
 }
 
+// Asks for fronts, in entries from this one to that one.
+fn ask_fronts<R: Alloc + Abort + Threads + Sync>(
+    rt: &R,
+    alloc: Global,
+    core: &mut Core,
+    first: u64,
+    last: u64,
+) {
+    for number in first..=last {
+        let front = Event::Call(1, Call::Front);
+        is_told(rt, alloc, core, front, ("front", number, number));
+    }
+}
+
+#[test]
+fn a_full_history_takes_no_entry_and_its_run_is_written(rt: HostRuntime) {
+    const FULL: Told = ("full", 0, 0);
+    let shop = made(&rt, bicycles().shop(rt.alloc()));
+    let mut core = core_of(&rt, rt.alloc(), shop);
+    steps_of_one_worker(&rt, rt.alloc(), &mut core, 3);
+    ask_fronts(&rt, rt.alloc(), &mut core, 2, 1_000_000);
+    let front = Event::Call(1, Call::Front);
+    is_told(&rt, rt.alloc(), &mut core, front, FULL);
+    is_told(&rt, rt.alloc(), &mut core, Event::Start(1), FULL);
+    is_written(&rt, rt.alloc(), &mut core, 1, BICYCLE_REPORT);
+    drop(core);
+}
+
 // Fails unless a run has no report, since the item of this name gets too large.
 fn is_too_large<R: Alloc + Abort + Threads + Sync>(
     rt: &R,

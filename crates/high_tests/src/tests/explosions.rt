@@ -47,6 +47,22 @@ fn explodes<R: Alloc + Abort + Threads + Wait + Sync>(
     explodes_by(rt, alloc, inputs, 64, want);
 }
 
+// Fails unless so many workers refuse the plan with this item, whenever they are asked.
+fn is_refused_by<R: Abort + Threads + Wait + Sync>(
+    rt: &R,
+    alloc: Global,
+    inputs: &Arc<Inputs>,
+    workers: usize,
+    item: usize,
+)
+    requires { IsInRange 1 MOST_WORKERS workers }
+{
+    for _ in 0..100u8 {
+        let refused = explode(rt, alloc, inputs, workers, &OpenGate).err();
+        same(rt, refused, Some(RunFault::TooLarge { item }));
+    }
+}
+
 // Fails unless all calls refuse the plan with this item.
 fn is_refused<R: Abort + Threads + Wait + Sync>(
     rt: &R,
@@ -57,8 +73,10 @@ fn is_refused<R: Abort + Threads + Wait + Sync>(
     let over = Some(RunFault::TooLarge { item });
     same(rt, explode_serial(alloc, inputs).err(), over);
     same(rt, explode_levels(rt, alloc, inputs).err(), over);
-    same(rt, explode(rt, alloc, inputs, 1, &OpenGate).err(), over);
-    same(rt, explode(rt, alloc, inputs, 8, &OpenGate).err(), over);
+    is_refused_by(rt, alloc, inputs, 1, item);
+    is_refused_by(rt, alloc, inputs, 2, item);
+    is_refused_by(rt, alloc, inputs, 8, item);
+    is_refused_by(rt, alloc, inputs, 64, item);
 }
 
 #[test]

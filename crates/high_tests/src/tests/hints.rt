@@ -1,10 +1,10 @@
 //! What is seen of a program's streams, and what was probably meant by words.
 
 use super::same;
-use super::streams::{Turn, writer};
+use super::streams::{ALL, FAILS, acts, writer};
+use mrp_rows::devices::{Act, Acts, EVERYTHING, Pieces};
 use mrp_words::{Hint, QuietErrors, SeenInput, SeenOutput, Sights, has_stray_word};
 use std::alloc::Global;
-use std::io;
 use std::io::{ErrorKind, Read, Write};
 use std::process::Abort;
 
@@ -51,21 +51,11 @@ fn each_hint_is_a_line_of_its_own(rt: HostRuntime) {
     }
 }
 
-// A reader that can't be read for this reason.
-#[derive(Drop)]
-struct Shut(ErrorKind);
-
-impl Read for Shut {
-    fn read(&mut self, _buf: &mut [u8]) -> io::Result<usize> {
-        Err(io::Error::from(self.0))
-    }
-}
-
 // Whether an input is seen as a folder, and as UTF-16, after two reads of up to three bytes.
-fn seen_of<R: Read + Drop>(inner: R) -> (bool, bool) {
+fn seen_of(text: &[u8], acts: Acts<'_>) -> (bool, bool) {
     let sights = Sights::new();
     let mut input = SeenInput {
-        inner,
+        inner: Pieces::new(text, acts),
         sights: &sights,
     };
     let mut piece = [0; 3];
@@ -84,17 +74,19 @@ fn a_folder_and_a_mark_of_utf16_are_seen(rt: HostRuntime) {
         (b"", false),
     ];
     for (text, is_utf16) in TEXTS {
-        same(&rt, seen_of(text), (false, is_utf16));
+        same(&rt, seen_of(text, EVERYTHING), (false, is_utf16));
     }
-    same(&rt, seen_of(Shut(ErrorKind::IsADirectory)), (true, false));
-    same(&rt, seen_of(Shut(ErrorKind::Other)), (false, false));
+    for (why, is_folder) in [(ErrorKind::IsADirectory, true), (ErrorKind::Other, false)] {
+        let shut = acts(&[], Act::Fails(why));
+        same(&rt, seen_of(b"", shut), (is_folder, false));
+    }
 }
 
-// What is on the error stream after a write to an output that takes these turns.
-fn said_after(rt: &impl Abort, alloc: Global, turns: &[Turn], said: &[u8]) {
+// What is on the error stream after a write to an output that does this in each call.
+fn said_after(rt: &impl Abort, alloc: Global, act: Act, said: &[u8]) {
     let sights = Sights::new();
     let mut output = SeenOutput {
-        inner: writer(alloc, turns),
+        inner: writer(alloc, acts(&[], act)),
         sights: &sights,
     };
     let _ = output.write(b"day");
@@ -111,8 +103,7 @@ fn said_after(rt: &impl Abort, alloc: Global, turns: &[Turn], said: &[u8]) {
 
 #[test]
 fn nothing_is_said_once_the_output_is_closed(rt: HostRuntime) {
-    let closed = [Turn::Fails];
-    said_after(&rt, rt.alloc(), &closed, b"");
-    said_after(&rt, rt.alloc(), &[], b"write failed\n");
-    said_after(&rt, rt.alloc(), &[Turn::Interrupts], b"write failed\n");
+    said_after(&rt, rt.alloc(), FAILS, b"");
+    said_after(&rt, rt.alloc(), ALL, b"write failed\n");
+    said_after(&rt, rt.alloc(), Act::Interrupts, b"write failed\n");
 }

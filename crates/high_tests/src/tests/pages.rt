@@ -1,8 +1,7 @@
 //! The page of a day, with an input, an output and an error stream.
 
 use super::checks::make_folder;
-use super::commands::{Left, Streams, has_ended, left_by};
-use super::streams::Turn;
+use super::commands::{Left, Streams, has_ended, left_by, output_of};
 use super::{made, same};
 use sample_shops::bicycles;
 use std::alloc::Global;
@@ -15,15 +14,9 @@ use std::thread::Threads;
 // The day of the bicycle shop.
 fn day<R: Alloc + Abort + Eprint + Files + Threads + Wait + Sync>(rt: &R, alloc: Global) -> String {
     let bundle = made(rt, bicycles().bundle(alloc));
-    let left = left_by(rt, alloc, &["plan"], Streams::of(&bundle));
+    let day = output_of(rt, alloc, &["plan"], &bundle);
     drop(bundle);
-    let Left {
-        status: _,
-        output,
-        errors: _errors,
-        interrupted: _,
-    } = left;
-    output
+    day
 }
 
 // Fails unless a page was written that has one text and lacks the other.
@@ -70,31 +63,6 @@ fn pages_are_drawn_as_the_words_ask(rt: HostRuntime) {
 }
 
 #[test]
-fn a_page_goes_on_after_short_and_interrupted_calls(rt: HostRuntime) {
-    let text = day(&rt, rt.alloc());
-    let streams = Streams {
-        reads: &[
-            Turn::Interrupts,
-            Turn::Moves(7),
-            Turn::Interrupts,
-            Turn::Moves(1),
-        ],
-        writes: &[
-            Turn::Interrupts,
-            Turn::Moves(3),
-            Turn::Interrupts,
-            Turn::Moves(1000),
-        ],
-        ..Streams::of(&text)
-    };
-    let left = left_by(&rt, rt.alloc(), &["page"], streams);
-    is_page(&rt, &left, "id=\"i-WHEEL\"", "<script");
-    same(&rt, left.interrupted, (2, 2));
-    drop(left);
-    drop(text);
-}
-
-#[test]
 fn a_page_is_refused_with_nothing_written(rt: HostRuntime) {
     const REFUSED: [(&[&str], &str, u8, &str); 4] = [
         (&["page"], "", 1, "wrong: shape\n"),
@@ -121,42 +89,6 @@ fn a_run_that_a_day_does_not_have_is_told(rt: HostRuntime) {
 }
 
 #[test]
-fn streams_that_fail_end_a_page(rt: HostRuntime) {
-    let text = day(&rt, rt.alloc());
-    let unread = Streams {
-        reads: &[Turn::Moves(100), Turn::Fails],
-        ..Streams::of(&text)
-    };
-    let left = left_by(&rt, rt.alloc(), &["page"], unread);
-    has_ended(&rt, &left, 4, "", "read failed\n");
-    drop(left);
-    let unwritten = Streams {
-        writes: &[Turn::Moves(12), Turn::Fails],
-        ..Streams::of(&text)
-    };
-    let left = left_by(&rt, rt.alloc(), &["page"], unwritten);
-    has_ended(&rt, &left, 4, "<!doctype ht", "write failed\n");
-    drop(left);
-    drop(text);
-}
-
-// What the plan of the tables of a folder leaves on the output.
-fn day_of_folder<R: Alloc + Abort + Eprint + Files + Threads + Wait + Sync>(
-    rt: &R,
-    alloc: Global,
-    folder: &str,
-) -> String {
-    let left = left_by(rt, alloc, &["plan", "--dir", folder], Streams::of(""));
-    let Left {
-        status: _,
-        output,
-        errors: _errors,
-        interrupted: _,
-    } = left;
-    output
-}
-
-#[test]
 fn a_page_has_what_its_tables_say(rt: HostRuntime) {
     const SAID: [(&str, &str); 3] = [
         ("weeks: <b>6</b> from <b>6 Jan</b>; items", "; items: <b>0"),
@@ -167,7 +99,7 @@ fn a_page_has_what_its_tables_say(rt: HostRuntime) {
         ),
     ];
     made(&rt, make_folder(&rt));
-    let text = day_of_folder(&rt, rt.alloc(), "out/lots");
+    let text = output_of(&rt, rt.alloc(), &["plan", "--dir", "out/lots"], "");
     for (has, lacks) in SAID {
         let words = ["page", "--dir", "out/lots"];
         let left = left_by(&rt, rt.alloc(), &words, Streams::of(&text));

@@ -1,11 +1,12 @@
 //! Texts of reports and histories.
 
-use super::streams::{FakeWriter, Turn, writer};
+use super::streams::{ALL, FAILS, acts, writer};
 use super::texts::{BICYCLE_REPORT, CALLED};
 use super::{made, same};
 use mrp_item::Plan;
 use mrp_report::{ReportFault, write_history, write_report};
 use mrp_rows::Told;
+use mrp_rows::devices::{Act, Acts, Fussy, Stretch};
 use sample_shops::{Asked, bicycles, book_of};
 use std::alloc::Global;
 use std::io::{Eprint, Write};
@@ -38,41 +39,89 @@ pub fn has_report<R: Alloc + Abort + Threads + Sync>(
     has_text(rt, writer, want);
 }
 
-// Writers that fail, and how many bytes they take before they do.
-const FAILING: [(&[Turn], usize); 4] = [
-    (&[Turn::Fails], 0),
-    (&[Turn::Moves(1), Turn::Fails], 1),
-    (&[Turn::Moves(100), Turn::Fails], 100),
-    (&[Turn::Moves(100), Turn::Moves(0)], 100),
+// Writers that fail or are interrupted too often, and how many bytes they take before.
+const FAILING: [(Acts<'static>, usize); 4] = [
+    (
+        Acts {
+            stretches: &[],
+            after: FAILS,
+        },
+        0,
+    ),
+    (
+        Acts {
+            stretches: &[Stretch(100, Act::Moves(1))],
+            after: FAILS,
+        },
+        100,
+    ),
+    (
+        Acts {
+            stretches: &[Stretch(100, Act::Moves(1))],
+            after: Act::Moves(0),
+        },
+        100,
+    ),
+    (
+        Acts {
+            stretches: &[
+                Stretch(500_000, Act::Interrupts),
+                Stretch(100, Act::Moves(1)),
+                Stretch(500_001, Act::Interrupts),
+            ],
+            after: ALL,
+        },
+        100,
+    ),
 ];
 
-// Fails unless the write failed once, and the writer has taken this number of bytes of the text.
+// Fails unless a writer has taken this text.
+fn has_taken(rt: &impl Abort, writer: Told<Fussy<'_>>, text: &str) {
+    let writer = writer.into_inner();
+    same(rt, writer.taken(), text.as_bytes());
+    drop(writer);
+}
+
+// Fails unless the write failed, and the writer has taken this number of bytes of the text.
 fn has_front(
     rt: &impl Abort,
     written: Result<(), ReportFault>,
-    writer: Told<FakeWriter<'_>>,
+    writer: Told<Fussy<'_>>,
     text: &str,
     count: usize,
 ) {
     same(rt, written, Err(ReportFault::Write));
-    same(rt, writer.failures(), 1);
     let writer = writer.into_inner();
-    same(
-        rt,
-        Some(writer.taken.as_slice()),
-        text.as_bytes().get(..count),
-    );
+    same(rt, Some(writer.taken()), text.as_bytes().get(..count));
     drop(writer);
 }
 
 #[test]
 fn a_failing_writer_has_a_front_of_the_report(rt: HostRuntime) {
     let plan = made(&rt, bicycles().plan(rt.alloc(), &[]));
-    for (turns, count) in FAILING {
-        let mut writer = writer(rt.alloc(), turns);
+    for (acts, count) in FAILING {
+        let mut writer = writer(rt.alloc(), acts);
         let written = write_report(&rt, rt.alloc(), &plan, &mut writer, 1);
         has_front(&rt, written, writer, BICYCLE_REPORT, count);
     }
+    drop(plan);
+}
+
+// A writer that is interrupted 1,000,000 times, before its first byte and after it.
+const PATIENT: &[Stretch] = &[
+    Stretch(500_000, Act::Interrupts),
+    Stretch(100, Act::Moves(1)),
+    Stretch(500_000, Act::Interrupts),
+];
+
+#[test]
+fn a_report_is_written_after_a_million_interruptions(rt: HostRuntime) {
+    let plan = made(&rt, bicycles().plan(rt.alloc(), &[]));
+    let mut writer = writer(rt.alloc(), acts(PATIENT, ALL));
+    let written = write_report(&rt, rt.alloc(), &plan, &mut writer, 1);
+    same(&rt, written, Ok(()));
+    same(&rt, writer.interrupted(), 1_000_000);
+    has_taken(&rt, writer, BICYCLE_REPORT);
     drop(plan);
 }
 
@@ -123,8 +172,8 @@ fn each_call_and_reply_has_its_row(rt: HostRuntime) {
 
 #[test]
 fn a_failing_writer_has_a_front_of_the_history(rt: HostRuntime) {
-    for (turns, count) in FAILING {
-        let mut writer = writer(rt.alloc(), turns);
+    for (acts, count) in FAILING {
+        let mut writer = writer(rt.alloc(), acts);
         let written = write_calls(&rt, rt.alloc(), CALLS, &mut writer);
         has_front(&rt, written, writer, CALLED, count);
     }

@@ -5,7 +5,7 @@ ghost use Rattle.mrp_master.specs.Supply.{supply_of};
 
 use super::{MOST, made, pieces, same};
 use mrp_bill::Shop;
-use mrp_book::{Book, BookState, Booking, History, Line, Reply, Snapshot};
+use mrp_book::{Book, BookState, Booking, History, Line, Refused, Reply, Snapshot};
 use mrp_phase::PhaseFault;
 use sample_shops::{Asked, Said, bicycles, said};
 use std::alloc::Global;
@@ -32,6 +32,13 @@ impl Day {
         let call = made(rt, asked.call(&self.shop));
         self.book.call(alloc, desk, call).expect(rt, "a reply")
     }
+
+    // Fails unless the book refuses a call because it is full.
+    fn is_full_for(&mut self, rt: &impl Abort, alloc: Global, asked: Asked) {
+        let call = made(rt, asked.call(&self.shop));
+        let refused = self.book.call(alloc, 1, call).err();
+        same(rt, refused, Some(Refused::Full));
+    }
 }
 
 // A desk, its call, and the reply.
@@ -55,6 +62,33 @@ const MORNING: &[Answered] = &[
     (2, Asked::Book(1, 10), ("booked", 5)),
     (1, Asked::Ask(3), ("available", 3)),
 ];
+
+// Asks for so many fronts, the first calls of a day.
+fn ask_fronts(rt: &impl Abort, alloc: Global, day: &mut Day, count: u64) {
+    for number in 1..=count {
+        let (got, reply) = day.call(rt, alloc, 1, Asked::Front);
+        same(rt, (got, said(&reply)), (number, ("front", number)));
+        drop(reply);
+    }
+}
+
+#[test]
+fn a_full_book_refuses_every_call(rt: HostRuntime) {
+    const CALLS: [Asked; 6] = [
+        Asked::Front,
+        Asked::Book(3, 1),
+        Asked::Cancel(1),
+        Asked::Ask(3),
+        Asked::When(1),
+        Asked::Snapshot,
+    ];
+    let mut day = Day::open(&rt, rt.alloc());
+    ask_fronts(&rt, rt.alloc(), &mut day, 1_000_000);
+    for asked in CALLS {
+        day.is_full_for(&rt, rt.alloc(), asked);
+    }
+    drop(day);
+}
 
 // A day after its first six calls.
 fn morning(rt: &impl Abort, alloc: Global) -> Day {

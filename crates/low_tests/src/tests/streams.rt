@@ -1,40 +1,27 @@
 //! Bundles read whole and texts written whole, over readers and writers that fail.
 
 use super::same;
-use super::told::{Turn, counts, fake_reader, fake_writer, has_taken};
+use super::told::{counts, fake_reader, fake_writer, has_taken};
+use mrp_rows::devices::{Act, Acts, Fussy, Pieces, Stretch, one_else};
 use mrp_rows::{ReadFault, Told, Tries, WriteFault, read_bundle, read_within, write_text};
 use std::alloc::Global;
 use std::io;
-use std::io::{ErrorKind, Read, Write};
+use std::io::{ErrorKind, Read};
 use std::process::Abort;
 
-// A reader and a writer of which every call is interrupted.
-#[derive(Drop)]
-struct Interrupted;
-
-impl Read for Interrupted {
-    fn read(&mut self, _buf: &mut [u8]) -> io::Result<usize> {
-        Err(io::Error::from(ErrorKind::Interrupted))
-    }
-}
-
-impl Write for Interrupted {
-    fn write(&mut self, _buf: &[u8]) -> io::Result<usize> {
-        Err(io::Error::from(ErrorKind::Interrupted))
-    }
-
-    fn flush(&mut self) -> io::Result<()> {
-        Ok(())
-    }
-}
+// Every call is interrupted.
+const INTERRUPTED: Acts<'static> = Acts {
+    stretches: &[],
+    after: Act::Interrupts,
+};
 
 #[test]
 fn a_text_is_written_whole_over_short_and_interrupted_writes(rt: HostRuntime) {
-    const TURNS: &[Turn] = &[
-        Turn::Moves(1),
-        Turn::Interrupts,
-        Turn::Moves(2),
-        Turn::Moves(1),
+    const TURNS: &[Stretch] = &[
+        Stretch(1, Act::Moves(1)),
+        Stretch(1, Act::Interrupts),
+        Stretch(1, Act::Moves(2)),
+        Stretch(1, Act::Moves(1)),
     ];
     const TEXTS: &[&[u8]] = &[b"abcdef", b"", b"gh"];
     let mut writer = fake_writer(rt.alloc(), TURNS);
@@ -48,18 +35,18 @@ fn a_text_is_written_whole_over_short_and_interrupted_writes(rt: HostRuntime) {
 
 #[test]
 fn a_failing_writer_has_a_front_of_the_text(rt: HostRuntime) {
-    const FAILING: &[[Turn; 4]] = &[
+    const FAILING: &[[Stretch; 4]] = &[
         [
-            Turn::Moves(2),
-            Turn::Interrupts,
-            Turn::Moves(1),
-            Turn::Fails,
+            Stretch(1, Act::Moves(2)),
+            Stretch(1, Act::Interrupts),
+            Stretch(1, Act::Moves(1)),
+            Stretch(1, Act::Fails(ErrorKind::BrokenPipe)),
         ],
         [
-            Turn::Moves(2),
-            Turn::Interrupts,
-            Turn::Moves(1),
-            Turn::Moves(0),
+            Stretch(1, Act::Moves(2)),
+            Stretch(1, Act::Interrupts),
+            Stretch(1, Act::Moves(1)),
+            Stretch(1, Act::Moves(0)),
         ],
     ];
     for turns in FAILING {
@@ -79,11 +66,42 @@ fn interrupted_writes_are_tried_again_a_million_times(rt: HostRuntime) {
         (b"a", Err(WriteFault), 1_000_001),
         (b"a", Err(WriteFault), 1_000_002),
     ];
-    let mut writer = Told::new(Interrupted);
+    let mut writer = Told::new(Fussy::new(rt.alloc(), INTERRUPTED));
     let mut tries = Tries::new();
     for (text, want, interrupted) in WRITES {
         same(&rt, write_text(&mut writer, text, &mut tries), *want);
         same(&rt, counts(&writer), (*interrupted, *interrupted, 0));
+    }
+}
+
+#[test]
+fn a_write_goes_on_after_a_million_interruptions(rt: HostRuntime) {
+    // How often it is interrupted, and what comes of it.
+    const CASES: &[(u64, Result<(), WriteFault>, &[u8])] = &[
+        (1_000_000, Ok(()), b"a"),
+        (1_000_001, Err(WriteFault), b""),
+    ];
+    for (calls, want, taken) in CASES {
+        let stretches = [Stretch(*calls, Act::Interrupts)];
+        let mut writer = fake_writer(rt.alloc(), &stretches);
+        same(&rt, write_text(&mut writer, b"a", &mut Tries::new()), *want);
+        has_taken(&rt, writer, taken);
+    }
+}
+
+#[test]
+fn each_read_that_fails_is_told(rt: HostRuntime) {
+    let usual = Act::Moves(7);
+    for before in 0..15_u64 {
+        let stretches = one_else(before, Act::Fails(ErrorKind::Other), usual);
+        let acts = Acts {
+            stretches: &stretches,
+            after: usual,
+        };
+        let mut reader = Told::new(Pieces::new(&[b'x'; 100], acts));
+        let fault = read_bundle(rt.alloc(), &mut reader).err();
+        same(&rt, fault, Some(ReadFault::Read));
+        same(&rt, counts(&reader), (before.saturating_add(1), 0, 1));
     }
 }
 
@@ -109,12 +127,12 @@ fn a_bundle_is_read_to_its_end(rt: HostRuntime) {
 
 #[test]
 fn a_bundle_is_read_over_short_and_interrupted_reads(rt: HostRuntime) {
-    const TURNS: &[Turn] = &[
-        Turn::Moves(1),
-        Turn::Interrupts,
-        Turn::Moves(2),
-        Turn::Interrupts,
-        Turn::Interrupts,
+    const TURNS: &[Stretch] = &[
+        Stretch(1, Act::Moves(1)),
+        Stretch(1, Act::Interrupts),
+        Stretch(1, Act::Moves(2)),
+        Stretch(1, Act::Interrupts),
+        Stretch(1, Act::Interrupts),
     ];
     let mut reader = fake_reader(TURNS, b"abcdef");
     let bytes = bundle_from(&rt, rt.alloc(), &mut reader);
@@ -124,7 +142,11 @@ fn a_bundle_is_read_over_short_and_interrupted_reads(rt: HostRuntime) {
 
 #[test]
 fn a_failing_reader_is_told(rt: HostRuntime) {
-    const TURNS: &[Turn] = &[Turn::Moves(3), Turn::Interrupts, Turn::Fails];
+    const TURNS: &[Stretch] = &[
+        Stretch(1, Act::Moves(3)),
+        Stretch(1, Act::Interrupts),
+        Stretch(1, Act::Fails(ErrorKind::BrokenPipe)),
+    ];
     let mut reader = fake_reader(TURNS, b"abcdef");
     let fault = read_bundle(rt.alloc(), &mut reader).err();
     same(&rt, fault, Some(ReadFault::Read));
@@ -147,7 +169,7 @@ fn a_bundle_has_at_most_67_108_864_bytes(rt: HostRuntime) {
 
 #[test]
 fn reads_past_the_limit_of_calls_are_refused(rt: HostRuntime) {
-    let mut reader = Told::new(Interrupted);
+    let mut reader = Told::new(Pieces::new(b"abc", INTERRUPTED));
     let fault = read_within(rt.alloc(), &mut reader, 10, 1_000).err();
     same(&rt, fault, Some(ReadFault::Read));
     same(&rt, counts(&reader), (1_000, 1_000, 0));
@@ -155,7 +177,7 @@ fn reads_past_the_limit_of_calls_are_refused(rt: HostRuntime) {
 
 #[test]
 fn the_end_may_come_at_the_last_call_and_the_last_byte(rt: HostRuntime) {
-    const TURNS: &[Turn] = &[Turn::Moves(2), Turn::Moves(1)];
+    const TURNS: &[Stretch] = &[Stretch(1, Act::Moves(2)), Stretch(1, Act::Moves(1))];
     // The greatest numbers of bytes and calls, and whether three bytes are read within them.
     const LIMITS: &[(usize, u32, bool)] = &[
         (3, 3, true),

@@ -2,78 +2,25 @@
 
 use super::same;
 use mrp_rows::Told;
+use mrp_rows::devices::{Act, Acts, Fussy, Pieces, Stretch};
 use std::alloc::Global;
-use std::io;
 use std::io::{ErrorKind, Read, Write};
 use std::process::Abort;
 
-// What a reader or a writer does at one call.
-#[derive(Clone, Copy)]
-pub enum Turn {
-    Moves(usize),
-    Interrupts,
-    Fails,
-}
-
-// Reads the bytes by its turns in order; after the last it reads all.
-#[derive(Drop)]
-pub struct FakeReader<'a> {
-    pub turns: &'a [Turn],
-    pub bytes: &'a [u8],
-}
-
-impl Read for FakeReader<'_> {
-    fn read(&mut self, buf: &mut [u8]) -> io::Result<usize> {
-        let most = next_turn(&mut self.turns)?.min(buf.len());
-        let (room, _) = buf.split_at_mut(most);
-        self.bytes.read(room)
+// These calls, and after them those that move everything.
+fn acts(stretches: &[Stretch]) -> Acts<'_> {
+    Acts {
+        stretches,
+        after: Act::Moves(usize::MAX),
     }
 }
 
-// Keeps what it takes, by its turns in order; after the last it takes all.
-#[derive(Drop)]
-pub struct FakeWriter<'a> {
-    pub turns: &'a [Turn],
-    pub taken: Vec<u8>,
+pub fn fake_reader<'a>(stretches: &'a [Stretch], bytes: &'a [u8]) -> Told<Pieces<'a>> {
+    Told::new(Pieces::new(bytes, acts(stretches)))
 }
 
-impl Write for FakeWriter<'_> {
-    fn write(&mut self, buf: &[u8]) -> io::Result<usize> {
-        let most = next_turn(&mut self.turns)?.min(buf.len());
-        let (front, _) = buf.split_at(most);
-        self.taken.extend_from_slice(front)?;
-        Ok(most)
-    }
-
-    fn flush(&mut self) -> io::Result<()> {
-        next_turn(&mut self.turns)?;
-        Ok(())
-    }
-}
-
-// How many bytes a call may move.
-fn next_turn(turns: &mut &[Turn]) -> io::Result<usize> {
-    let all: &[Turn] = *turns;
-    let Some((turn, others)) = all.split_first() else {
-        return Ok(usize::MAX);
-    };
-    *turns = others;
-    match *turn {
-        Turn::Moves(n) => Ok(n),
-        Turn::Interrupts => Err(io::Error::from(ErrorKind::Interrupted)),
-        Turn::Fails => Err(io::Error::from(ErrorKind::BrokenPipe)),
-    }
-}
-
-pub fn fake_reader<'a>(turns: &'a [Turn], bytes: &'a [u8]) -> Told<FakeReader<'a>> {
-    Told::new(FakeReader { turns, bytes })
-}
-
-pub fn fake_writer(alloc: Global, turns: &[Turn]) -> Told<FakeWriter<'_>> {
-    Told::new(FakeWriter {
-        turns,
-        taken: Vec::new(alloc),
-    })
+pub fn fake_writer(alloc: Global, stretches: &[Stretch]) -> Told<Fussy<'_>> {
+    Told::new(Fussy::new(alloc, acts(stretches)))
 }
 
 // The number of calls of a reader or a writer, and of those that were interrupted and that failed.
@@ -83,11 +30,11 @@ pub fn counts<T>(told: &Told<T>) -> (u64, u64, u64) {
 
 #[test]
 fn reads_are_told_by_what_came_of_them(rt: HostRuntime) {
-    const TURNS: &[Turn] = &[
-        Turn::Moves(2),
-        Turn::Interrupts,
-        Turn::Fails,
-        Turn::Interrupts,
+    const TURNS: &[Stretch] = &[
+        Stretch(1, Act::Moves(2)),
+        Stretch(1, Act::Interrupts),
+        Stretch(1, Act::Fails(ErrorKind::BrokenPipe)),
+        Stretch(1, Act::Interrupts),
     ];
     // The bytes that each read moves, and the buffer after it.
     const READS: &[(Option<usize>, [u8; 4])] = &[
@@ -105,24 +52,24 @@ fn reads_are_told_by_what_came_of_them(rt: HostRuntime) {
         same(&rt, (reader.read(&mut buf).ok(), buf), *want);
     }
     same(&rt, counts(&reader), (6, 2, 1));
-    same(&rt, reader.into_inner().bytes.len(), 0);
+    same(&rt, reader.into_inner().left().len(), 0);
 }
 
 // Fails unless a writer has taken these bytes.
-pub fn has_taken(rt: &impl Abort, writer: Told<FakeWriter<'_>>, want: &[u8]) {
-    let FakeWriter { turns: _, taken } = writer.into_inner();
-    same(rt, taken.as_slice(), want);
-    drop(taken);
+pub fn has_taken(rt: &impl Abort, writer: Told<Fussy<'_>>, want: &[u8]) {
+    let writer = writer.into_inner();
+    same(rt, writer.taken(), want);
+    drop(writer);
 }
 
 #[test]
 fn writes_of_no_byte_of_some_are_failures(rt: HostRuntime) {
-    const TURNS: &[Turn] = &[
-        Turn::Moves(1),
-        Turn::Moves(0),
-        Turn::Interrupts,
-        Turn::Fails,
-        Turn::Interrupts,
+    const TURNS: &[Stretch] = &[
+        Stretch(1, Act::Moves(1)),
+        Stretch(1, Act::Moves(0)),
+        Stretch(1, Act::Interrupts),
+        Stretch(1, Act::Fails(ErrorKind::BrokenPipe)),
+        Stretch(1, Act::Interrupts),
     ];
     // The bytes written, how many of them are taken, and the number of calls that have then failed.
     const WRITES: &[(&[u8], Option<usize>, u64)] = &[
@@ -146,7 +93,10 @@ fn writes_of_no_byte_of_some_are_failures(rt: HostRuntime) {
 
 #[test]
 fn a_flush_is_a_call_too(rt: HostRuntime) {
-    const TURNS: &[Turn] = &[Turn::Interrupts, Turn::Fails];
+    const TURNS: &[Stretch] = &[
+        Stretch(1, Act::Interrupts),
+        Stretch(1, Act::Fails(ErrorKind::BrokenPipe)),
+    ];
     let mut writer = fake_writer(rt.alloc(), TURNS);
     for want in [(1, 1, 0), (2, 1, 1)] {
         same(&rt, writer.flush().is_ok(), false);

@@ -1,5 +1,3 @@
-pub mod ShopFaults
-pub mod ScriptCalls
 pub mod RunsPlanned
 pub mod DayWritten
 pub mod DayMade

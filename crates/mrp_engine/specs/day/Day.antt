@@ -1,43 +1,15 @@
 -- The day of a bundle: the history that answers its script, and then the report of each of its runs (profile).
-use Rattle.std.specs.Prelude.{ℕ, ◌≡◌, ◌+◌, ◌⊎◌, List, [], ◌∷◌, ◌++◌, All, flat_map, Ok, Err}
-use Rattle.mrp_rows.specs.declared.fault.Fault.{Fault}
-use Rattle.mrp_rows.specs.declared.faults.TheConstants as faults
-use Rattle.mrp_rows.specs.declared.fault.Table.TheVariants as t
-use Rattle.mrp_tables.specs.Tables.{Tables, tables_of}
-use Rattle.mrp_bill.specs.Bill.{IsFirstLoop, NeedsItself}
-use Rattle.mrp_master.specs.Supply.{supply_of}
+use Rattle.std.specs.Prelude.{ℕ, ◌≡◌, List, [], ◌∷◌, ◌++◌, All, flat_map, Ok, Err}
+use Rattle.mrp_tables.specs.Tables.{Tables}
 use Rattle.mrp_book.specs.declared.reply.Reply.{Reply}
 use Rattle.mrp_book.specs.declared.reply.Reply.TheVariants.{Taken}
 use Rattle.mrp_book.specs.Standing.{History}
-use Rattle.mrp_book.specs.History.{IsLegal, asked}
 use Rattle.mrp_item.specs.Inputs.{Inputs, inputs_of, item_at}
 use Rattle.mrp_item.specs.Plan.{ItemPlan, plan_of}
 use Rattle.mrp_report.specs.section.HistoryText.{history_text}
 use Rattle.mrp_report.specs.ReportText.{report_text}
-use Rattle.mrp_engine.specs.day.Script.{script_of, with_run}
-
--- an item that needs itself
-abbrev pub loop_fault : ℕ → Fault
-loop_fault item = record { code = faults.LOOP; table = t.Items; row = item + 1 }
-
--- a bundle of these tables, in which no item needs itself
-pub record IsAccepted (bundle : List ℕ) (tables : Tables) : Type 0 where
-  pub tables_are : tables_of bundle ≡ Ok tables
-  pub no_loop : (i : ℕ) → NeedsItself tables.bills i → ⊥
-
--- a bundle whose tables are right except for a loop in the bill that begins at this item
-pub record IsLoop (bundle : List ℕ) (tables : Tables) (item : ℕ) : Type 0 where
-  pub tables_are : tables_of bundle ≡ Ok tables
-  pub loop : IsFirstLoop tables.bills item
-
--- a bundle with this first fault, a loop in the bill last
-abbrev pub IsRefused : List ℕ → Fault → Type 0
-IsRefused bundle f = (tables_of bundle ≡ Err f) ⊎ ((tables : Tables) × (item : ℕ) × IsLoop bundle tables item × (f ≡ loop_fault item))
-
--- the legal history that answers the script's records in row order
-pub record AnswersScript (tables : Tables) (h : History) : Type 0 where
-  pub legal : IsLegal (supply_of tables) h
-  pub in_order : asked h ≡ with_run (script_of tables)
+use Rattle.mrp_script.specs.Opened.{IsAccepted}
+use Rattle.mrp_script.specs.Script.{AnswersScript}
 
 -- a way to answer a script: which histories answer the script of which tables
 abbrev pub Answering : Type 1

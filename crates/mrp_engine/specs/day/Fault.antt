@@ -1,20 +1,17 @@
--- Why a day is refused, or a shop not opened, by what refused a part of it.
-use Rattle.std.specs.Prelude.{slice_index, Result, Ok, Err}
+-- Why a day is refused, by what refused a part of it.
+use Rattle.std.specs.Prelude.{Result, Ok, Err}
 use Rattle.mrp_rows.specs.declared.streams.ReadFault.{ReadFault}
 use Rattle.mrp_rows.specs.declared.streams.ReadFault.TheVariants as read
 use Rattle.mrp_report.specs.declared.fault.ReportFault.{ReportFault}
 use Rattle.mrp_report.specs.declared.fault.ReportFault.TheVariants as report
-use Rattle.mrp_bill.specs.declared.fault.BillFault.{BillFault}
-use Rattle.mrp_bill.specs.declared.fault.BillFault.TheVariants as bill
 use Rattle.mrp_explode.specs.declared.fault.RunFault.{RunFault}
 use Rattle.mrp_explode.specs.declared.fault.RunFault.TheVariants as run
 use Rattle.mrp_item.specs.Inputs.{Inputs, item_at}
 use Rattle.mrp_item.specs.Places.{WholePlan}
 use Rattle.mrp_engine.specs.declared.day.fault.DayFault.{DayFault}
 use Rattle.mrp_engine.specs.declared.day.fault.DayFault.TheVariants.{Refused, TooLarge, Read, Write, NoMemory}
-use Rattle.mrp_engine.specs.declared.day.fault.OpenFault.{OpenFault}
-use Rattle.mrp_engine.specs.declared.day.fault.OpenFault.TheVariants as opening
-use Rattle.mrp_engine.specs.day.Day.{loop_fault}
+use Rattle.mrp_script.specs.declared.fault.OpenFault.{OpenFault}
+use Rattle.mrp_script.specs.declared.fault.OpenFault.TheVariants as opening
 
 abbrev pub reading_fault : ReadFault → DayFault
 reading_fault read.Read = Read
@@ -27,10 +24,6 @@ writing_fault report.NoMemory = NoMemory
 abbrev pub opening_fault : OpenFault → DayFault
 opening_fault (opening.Refused f) = Refused f
 opening_fault opening.NoMemory = NoMemory
-
-abbrev pub bill_fault : BillFault → OpenFault
-bill_fault (bill.Loop path) = opening.Refused (loop_fault (slice_index path.items 0))
-bill_fault bill.NoMemory = opening.NoMemory
 
 abbrev pub run_fault : Inputs → RunFault → DayFault
 run_fault s (run.TooLarge item) = TooLarge (item_at s item).name

@@ -9,8 +9,9 @@ use Rattle.mrp_item.specs.Inputs.{Inputs}
 use Rattle.mrp_item.specs.Plan.{ItemPlan, plan_of}
 use Rattle.mrp_report.specs.section.HistoryText.{history_text}
 use Rattle.mrp_report.specs.ReportText.{report_text}
-use Rattle.mrp_engine.specs.day.Script.{Script, script_of, with_run}
-use Rattle.mrp_engine.specs.day.Day.{IsAccepted, runs_of}
+use Rattle.mrp_script.specs.Script.{Script, script_of, with_run}
+use Rattle.mrp_engine.specs.day.Day.{runs_of}
+use Rattle.mrp_script.specs.Opened.{IsAccepted}
 
 -- the calls of one desk, in order
 abbrev pub asked_by : ℕ → Script → Script

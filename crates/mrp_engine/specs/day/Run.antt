@@ -6,10 +6,12 @@ use Rattle.mrp_rows.specs.declared.fault.Fault.{Fault}
 use Rattle.mrp_rows.specs.declared.told.Told.{Told}
 use Rattle.mrp_rows.specs.declared.streams.TheConstants.{GREATEST_BUNDLE, READ_CALLS, WRITE_TRIES}
 use Rattle.mrp_rows.specs.Told.{calls_of, failures_of, inner_of, moved_of, HasRisenBy}
-use Rattle.mrp_report.specs.Written.{HasGivenUp, HasTaken, HasTakenFront}
+use Rattle.mrp_report.specs.Written.{HasGivenUp, HasTakenFront}
+use Rattle.mrp_report.specs.Taken.{HasTakenAll}
 use Rattle.mrp_engine.specs.declared.day.fault.DayFault.{DayFault}
 use Rattle.mrp_engine.specs.declared.day.fault.DayFault.TheVariants.{Refused, TooLarge, Read, Write, NoMemory}
-use Rattle.mrp_engine.specs.day.Day.{Answering, IsDayBy, IsRefused, IsTooLargeBy}
+use Rattle.mrp_engine.specs.day.Day.{Answering, IsDayBy, IsTooLargeBy}
+use Rattle.mrp_script.specs.Opened.{IsRefused}
 use Rattle.mrp_rows.specs.declared.faults.TheConstants as faults
 
 -- a bundle is what a reader had left, if that is known of the reader, and no longer than a bundle
@@ -33,10 +35,6 @@ HasPassedLimits old new =
 -- the text of a day of the bundle that was read, in which its script is answered like this
 abbrev pub TellsDayBy : Answering → Option (List ℕ) → List ℕ → Type 0
 TellsDayBy Answers given text = (bundle : List ℕ) × IsRead given bundle × IsDayBy Answers bundle text
-
--- a writer took a text whole, however many interrupted writes were tried again
-abbrev pub HasTakenAll : {W : Type 0} → (W → Option (List ℕ)) → Told W → Told W → List ℕ → Type 0
-HasTakenAll contents old new text = (retried : ℕ) × HasTaken contents old new text retried
 
 -- a writer took a prefix of the text of a day in which the script is answered like this
 abbrev pub WritesFrontBy : Answering → {W : Type 0} → (W → Option (List ℕ)) → Option (List ℕ) → Told W → Told W → Type 0

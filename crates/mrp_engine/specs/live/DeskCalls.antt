@@ -3,7 +3,7 @@ use Rattle.std.specs.Prelude.{ℕ, ◌≡◌, ◌+◌, List, length, map, sum_by
 use Rattle.std.specs.declared.alloc.Global.{Global}
 use Rattle.mrp_bill.specs.Lists.{listed}
 use Rattle.mrp_book.specs.declared.call.Call.{Call}
-use Rattle.mrp_engine.specs.day.Script.{Script}
+use Rattle.mrp_script.specs.Script.{Script}
 use Rattle.mrp_engine.specs.day.RightDay.{asked_by}
 
 -- calls as records of a desk

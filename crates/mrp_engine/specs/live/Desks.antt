@@ -12,7 +12,7 @@ use Rattle.mrp_desk.specs.Calls.{HasCause}
 use Rattle.mrp_desk.specs.Offices.{Desk}
 use Rattle.mrp_engine.specs.declared.live.serving.Served.{Served}
 use Rattle.mrp_engine.specs.live.DeskCalls.{asks}
-use Rattle.mrp_engine.specs.day.Script.{Script}
+use Rattle.mrp_script.specs.Script.{Script}
 use Rattle.mrp_engine.specs.day.RightDay.{asked_by}
 
 -- a desk that makes calls was refused one of them: it has made those before it, and the refusal has its cause

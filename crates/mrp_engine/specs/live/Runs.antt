@@ -17,7 +17,7 @@ use Rattle.mrp_engine.specs.declared.day.fault.DayFault.{DayFault}
 use Rattle.mrp_engine.specs.declared.day.fault.DayFault.TheVariants.{Refused, TooLarge, Read, Write, NoMemory}
 use Rattle.mrp_engine.specs.day.Day.{IsFirstRefusal, IsPlannable, runs_of}
 use Rattle.mrp_engine.specs.day.Planned.{PlansRun}
-use Rattle.mrp_engine.specs.day.Script.{is_run}
+use Rattle.mrp_script.specs.Script.{is_run}
 
 -- what came of a run: its plan, or why its day is refused
 abbrev pub RunResult : Type 0

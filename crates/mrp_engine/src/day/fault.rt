@@ -1,8 +1,9 @@
-//! Why a day was not written whole, and why the shop of its bundle was not opened.
+//! Why a day was not written whole.
 
 use mrp_qty::NoMemory;
 use mrp_report::ReportFault;
 use mrp_rows::{Fault, Name, ReadFault};
+use mrp_script::OpenFault;
 use std::alloc::{AllocError, AllocFailed};
 use thiserror::Error;
 
@@ -23,17 +24,6 @@ pub enum DayFault {
     #[error("write failed")]
     Write,
     /// Out of memory. Nothing, or a prefix of the text, has been written.
-    #[error("no memory")]
-    NoMemory,
-}
-
-/// Why the shop of a bundle was not opened.
-#[derive(Clone, Copy, Debug, PartialEq, Eq, Error)]
-pub enum OpenFault {
-    /// The bundle has this fault, which is never out of memory.
-    #[error("refused")]
-    Refused(Fault),
-    /// Out of memory.
     #[error("no memory")]
     NoMemory,
 }

@@ -4,13 +4,11 @@ ghost use Rattle.std.specs.Prelude.{◌≡◌, ◌≤◌, IfOk, Some, ⊤, vec_l
 ghost use Rattle.std.specs.Int.{IsInRange};
 ghost use Rattle.mrp_rows.specs.declared.streams.TheConstants.{GREATEST_BUNDLE};
 ghost use Rattle.mrp_master.specs.Supply.{supply_of};
-ghost use Rattle.mrp_engine.specs.day.Day.{AnswersScript};
+ghost use Rattle.mrp_script.specs.Script.{AnswersScript};
 ghost use Rattle.mrp_engine.specs.day.Planned.{PlansDay};
 ghost use Rattle.mrp_engine.specs.day.Run.{MakesDay, WritesDay};
 
 use crate::day::fault::DayFault;
-use crate::day::opening::open_shop;
-use crate::day::script::answer_script;
 use crate::day::writing::write_day;
 use crate::day::{Day, plan_history};
 use mrp_bill::Shop;
@@ -18,6 +16,7 @@ use mrp_book::History;
 use mrp_item::ShopRows;
 use mrp_qty::NoMemory;
 use mrp_rows::{Told, read_bundle};
+use mrp_script::{answer_script, open_shop};
 use std::alloc::Global;
 use std::io::{Read, Write};
 use std::sync::{Arc, Wait};

@@ -5,12 +5,12 @@ ghost use Rattle.mrp_master.specs.Supply.{supply_of};
 ghost use Rattle.mrp_book.specs.History.{Fits};
 ghost use Rattle.mrp_bill.specs.Lists.{Appends};
 ghost use Rattle.mrp_engine.specs.live.DeskCalls.{AreCallsOf, calls_at};
-ghost use Rattle.mrp_engine.specs.day.Script.{call_of, record_of};
+ghost use Rattle.mrp_script.specs.Script.{call_of, record_of};
 
-use crate::day::call_of;
 use mrp_bill::{Shop, append, empty_lists};
 use mrp_book::Call;
 use mrp_qty::NoMemory;
+use mrp_script::call_of;
 use mrp_tables::ScriptRow;
 use std::alloc::Global;
 

@@ -12,9 +12,9 @@ ghost use Rattle.mrp_engine.specs.live.Desks.{AreDesksOf, EndAs, HaveServed, IsD
 ghost use Rattle.mrp_engine.specs.live.Runs.{HaveRuns};
 ghost use Rattle.mrp_engine.specs.day.Planned.{PlansDay};
 ghost use Rattle.mrp_engine.specs.day.RightDay.{AnswersDesks};
-ghost use Rattle.mrp_engine.specs.day.Script.{call_of, record_of, script_of, with_run};
+ghost use Rattle.mrp_script.specs.Script.{call_of, record_of, script_of, with_run};
 
-use crate::day::{ADDED_DESK, Day, DayFault, MOST_WORKERS, RunResult, added_run};
+use crate::day::{Day, DayFault, MOST_WORKERS, RunResult};
 use crate::live::desk_calls::calls_by_desk;
 use crate::live::merging::merge;
 use crate::live::ready::make_ready;
@@ -26,6 +26,7 @@ use mrp_desk::{Desk, Office, OfficeFault};
 use mrp_explode::Gate;
 use mrp_item::ShopRows;
 use mrp_qty::NoMemory;
+use mrp_script::{ADDED_DESK, added_run};
 use mrp_tables::ScriptRow;
 use mrp_tables::limits::MOST_DESKS;
 use std::alloc::Global;

@@ -8,7 +8,7 @@ ghost use Rattle.mrp_book.specs.History.{Fits};
 ghost use Rattle.mrp_desk.specs.Calls.{Tells};
 ghost use Rattle.mrp_desk.specs.Offices.{supply_at};
 ghost use Rattle.mrp_engine.specs.day.Planned.{PlansRun};
-ghost use Rattle.mrp_engine.specs.day.Script.{is_run};
+ghost use Rattle.mrp_script.specs.Script.{is_run};
 ghost use Rattle.mrp_engine.specs.live.Runs.{last_plan, runs_at};
 ghost use Rattle.mrp_engine.specs.live.Begun.{CanServe, HasDone};
 

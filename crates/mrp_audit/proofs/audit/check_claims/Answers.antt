@@ -1,6 +1,6 @@
 use Rattle.std.proofs.Common.{◌≡◌, ℕ, List, Err, Result, drop, rules, subst, sym}
 use Rattle.std.specs.Prelude.{⊤}
-use Rattle.mrp_audit.specs.declared.claim.Claim.{Claim}
+use Rattle.mrp_claims.specs.declared.claim.Claim.{Claim}
 use Rattle.mrp_audit.specs.declared.fault.AuditFault.{AuditFault}
 use Rattle.mrp_audit.specs.Parts.{ComparesHistory, FollowsClaims}
 use Rattle.mrp_audit.specs.Verdict.{IsToldBy, JudgesText}

@@ -6,7 +6,7 @@ use Rattle.mrp_master.specs.Supply.{Supply, supply_of}
 use Rattle.mrp_book.specs.Standing.{History}
 use Rattle.mrp_book.specs.History.{IsLegal, asked}
 use Rattle.mrp_engine.specs.day.RightDay.{FollowsDesks}
-use Rattle.mrp_engine.specs.day.Script.{Script, script_of, with_run}
+use Rattle.mrp_script.specs.Script.{Script, script_of, with_run}
 use Rattle.mrp_audit.specs.declared.fault.AuditFault.{AuditFault}
 use Rattle.mrp_audit.specs.Parts.{ComparesDesks, ComparesHistory}
 use Rattle.mrp_audit.proofs.Judged.{all-desks, desk-refused, reports-compared}

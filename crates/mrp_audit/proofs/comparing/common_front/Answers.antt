@@ -1,6 +1,6 @@
 use Rattle.std.proofs.Common.{length, refl}
 use Rattle.mrp_audit.proofs.Comparisons.{whole-agrees}
-use Rattle.mrp_audit.proofs.Rows.{begins}
+use Rattle.mrp_claims.proofs.Rows.{begins}
 use Rattle.mrp_audit.proofs.comparing.common_front.Goals as goal
 
 pub returns-then-starts_with : goal.returns-then-starts_with

@@ -2,7 +2,7 @@ use Rattle.std.proofs.Common.{◌∙◌, ◌<◌, ℕ, ap, arith, sym, length}
 use Rattle.std.proofs.lemmas.Bool.{eq-eqb, ne_eqb}
 use Rattle.mrp_book.specs.declared.call.Call.{Call}
 use Rattle.mrp_audit.proofs.DeskRecords.{all-recorded, passed-over, recorded, same-call, unrecorded}
-use Rattle.mrp_audit.proofs.ReplyWords.{not-word}
+use Rattle.mrp_claims.proofs.ReplyWords.{not-word}
 use Rattle.mrp_audit.proofs.desks.is_right.Goals as goal
 use Rattle.mrp_audit.proofs.desks.is_right.Goals.{then-place-script-via-then-place-script, then-place-script-via-else-place-script+then-not-is_same_call}
 use Rattle.mrp_audit.proofs.desks.is_right.Goals.{then-entry-desk+else-place-script+else-not-is_same_call, else-entry-desk}

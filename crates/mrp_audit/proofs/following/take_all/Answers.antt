@@ -3,7 +3,7 @@ use Rattle.std.proofs.lemmas.List.{take_all}
 use Rattle.std.specs.Prelude.{slice_index}
 use Rattle.mrp_book.specs.Standing.{History}
 use Rattle.mrp_book.specs.History.{asked}
-use Rattle.mrp_engine.specs.day.Script.{Script}
+use Rattle.mrp_script.specs.Script.{Script}
 use Rattle.mrp_audit.specs.NextPlaces.{AreBehind, HaveCome}
 use Rattle.mrp_audit.proofs.DeskRecords.{asked-next}
 use Rattle.mrp_audit.proofs.NextPlaces.{all-come, behind-all}

@@ -1,7 +1,7 @@
 use Rattle.std.proofs.Common.{◌≡◌, take}
 use Rattle.std.specs.Prelude.{map}
 use Rattle.mrp_master.specs.Supply.{supply_of}
-use Rattle.mrp_audit.specs.Claims.{claim_of}
+use Rattle.mrp_claims.specs.Claims.{claim_of}
 use Rattle.mrp_audit.proofs.history.history_of.Given as goal
 
 abbrev pub invariant-loop-claim : goal.invariant-loop-claim

@@ -5,11 +5,11 @@ use Rattle.mrp_tables.specs.Tables.{Tables}
 use Rattle.mrp_master.specs.Supply.{Supply, supply_of}
 use Rattle.mrp_book.specs.Standing.{History}
 use Rattle.mrp_book.specs.History.{IsLegal, asked}
-use Rattle.mrp_engine.specs.day.Script.{Script, script_of, with_run}
+use Rattle.mrp_script.specs.Script.{Script, script_of, with_run}
 use Rattle.mrp_report.specs.section.HistoryText.{history_text}
 use Rattle.mrp_audit.specs.Parts.{ComparesDesks, ComparesFront}
 use Rattle.mrp_audit.specs.Replays.{IsTaken}
-use Rattle.mrp_audit.specs.Shape.{EndsHistory}
+use Rattle.mrp_claims.specs.Shape.{EndsHistory}
 use Rattle.mrp_audit.proofs.Judged.{all-desks}
 use Rattle.mrp_audit.proofs.Replays.{records-few, records-taken}
 use Rattle.mrp_audit.proofs.replay.find_history.Goals as goal

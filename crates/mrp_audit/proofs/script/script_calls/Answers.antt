@@ -4,8 +4,8 @@ use Rattle.std.specs.Prelude.{All, map}
 use Rattle.mrp_tables.specs.Tables.{Tables}
 use Rattle.mrp_tables.specs.Facts.{IsScriptRow}
 use Rattle.mrp_master.specs.Supply.{supply_of}
-use Rattle.mrp_engine.specs.day.Script.{Script, record_of, with_run}
-use Rattle.mrp_engine.proofs.lemmas.day.ScriptCalls.{none-given, row-fits}
+use Rattle.mrp_script.specs.Script.{Script, record_of, with_run}
+use Rattle.mrp_script.proofs.ScriptCalls.{none-given, row-fits}
 use Rattle.mrp_audit.proofs.DeskRecords.{all-taken}
 use Rattle.mrp_audit.proofs.script.script_calls.Goals as goal
 use Rattle.mrp_audit.proofs.script.script_calls.Goals.{in-Some+in_ok-push-2, in_default}

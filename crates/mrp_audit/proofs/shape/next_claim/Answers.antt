@@ -6,8 +6,8 @@ use Rattle.mrp_tables.specs.Facts.{IsItem}
 use Rattle.mrp_tables.specs.Tables.{Tables}
 use Rattle.mrp_cal.specs.Calendar.{ShopCalendar}
 use Rattle.mrp_report.specs.section.HistoryText.{call_cells}
-use Rattle.mrp_audit.specs.Claims.{claimed_cells}
-use Rattle.mrp_audit.proofs.ClaimTexts.{cells-told, claim-plain, claim-short, no-split, split-there}
+use Rattle.mrp_claims.specs.Claims.{claimed_cells}
+use Rattle.mrp_claims.proofs.ClaimTexts.{cells-told, claim-plain, claim-short, no-split, split-there}
 use Rattle.mrp_audit.proofs.shape.next_claim.Goals as goal
 
 pub returns-in_default : goal.returns-in_default

@@ -1,10 +1,10 @@
 use Rattle.std.proofs.Common.{◌≡◌, ◌∙◌, ◌<◌, ◌≤◌, ◌^◌, List, Err, Result, arith, length, rules, subst, sym}
-use Rattle.mrp_audit.specs.declared.claim.Claim.{Claim}
+use Rattle.mrp_claims.specs.declared.claim.Claim.{Claim}
 use Rattle.mrp_audit.specs.declared.fault.AuditFault.{AuditFault}
 use Rattle.mrp_audit.specs.declared.shape.Given.{Given}
 use Rattle.mrp_audit.specs.Reading.{ReadsHistory}
-use Rattle.mrp_audit.proofs.ReplyWords.{not-word}
-use Rattle.mrp_audit.proofs.Rows.{begins}
+use Rattle.mrp_claims.proofs.ReplyWords.{not-word}
+use Rattle.mrp_claims.proofs.Rows.{begins}
 use Rattle.mrp_audit.proofs.Shapes.{HasRead, headless, not-shaped, read-more, read-none, shape-refused}
 use Rattle.mrp_audit.proofs.shape.read_history.Goals as goal
 

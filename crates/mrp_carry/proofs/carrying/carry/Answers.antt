@@ -1,6 +1,6 @@
 use Rattle.std.proofs.Common.{ℕ, List, Result, Ok, Err}
 use Rattle.mrp_tables.specs.Tables.{Tables}
-use Rattle.mrp_engine.specs.day.Day.{IsAccepted}
+use Rattle.mrp_script.specs.Opened.{IsAccepted}
 use Rattle.mrp_carry.specs.Carries.{Carries, CarriesTables}
 use Rattle.mrp_carry.specs.declared.carrying.Carried.{Carried}
 use Rattle.mrp_carry.specs.declared.fault.CarryFault.{CarryFault}

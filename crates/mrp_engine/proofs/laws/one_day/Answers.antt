@@ -1,4 +1,5 @@
-use Rattle.mrp_engine.proofs.OneOutcome.{one-text, one-fault, one-name, text-or-fault, text-or-name, fault-or-name}
+use Rattle.mrp_script.proofs.OneOpening.{one-fault}
+use Rattle.mrp_engine.proofs.OneOutcome.{one-text, one-name, text-or-fault, text-or-name, fault-or-name}
 use Rattle.mrp_engine.proofs.laws.one_day.Goals as goal
 
 pub returns-clause-text : goal.returns-clause-text

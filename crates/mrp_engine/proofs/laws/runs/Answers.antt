@@ -1,4 +1,4 @@
-use Rattle.mrp_engine.proofs.OneOutcome.{same-history}
+use Rattle.mrp_script.proofs.OneOpening.{same-history}
 use Rattle.mrp_engine.proofs.ScriptLaws.{plans-what-stood}
 use Rattle.mrp_engine.proofs.laws.runs.Goals as goal
 

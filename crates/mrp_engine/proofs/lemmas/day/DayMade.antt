@@ -14,16 +14,17 @@ use Rattle.mrp_rows.specs.Streams.{TakesFront}
 use Rattle.mrp_rows.specs.Told.{inner_of, moved_of}
 use Rattle.mrp_tables.specs.Tables.{Tables}
 use Rattle.mrp_report.specs.Written.{HasTakenFront}
-use Rattle.mrp_engine.specs.day.Day.{Answering, IsAccepted, IsPlannable, IsRefused, IsTooLargeBy, day_text, runs_of}
+use Rattle.mrp_engine.specs.day.Day.{Answering, IsPlannable, IsTooLargeBy, day_text, runs_of}
+use Rattle.mrp_script.specs.Opened.{IsAccepted, IsRefused, Opens}
 use Rattle.mrp_engine.specs.day.Fault.{opening_fault, reading_fault}
-use Rattle.mrp_engine.specs.day.Opened.{Opens}
 use Rattle.mrp_engine.specs.day.Planned.{PlansDay, text_of}
-use Rattle.mrp_engine.specs.day.Run.{HasPassedLimits, HasTakenAll, IsBeforeWriting, IsRead, IsReadWithin, IsWhileWriting, MakesDay, TellsDayBy, WritesDay, WritesFrontBy, WritesText}
+use Rattle.mrp_report.specs.Taken.{HasTakenAll}
+use Rattle.mrp_engine.specs.day.Run.{HasPassedLimits, IsBeforeWriting, IsRead, IsReadWithin, IsWhileWriting, MakesDay, TellsDayBy, WritesDay, WritesFrontBy, WritesText}
 use Rattle.mrp_engine.specs.declared.day.Day.{Day}
 use Rattle.mrp_engine.specs.declared.day.fault.DayFault.{DayFault}
 use Rattle.mrp_engine.specs.declared.day.fault.DayFault.TheVariants.{Refused, TooLarge, Read, Write, NoMemory}
-use Rattle.mrp_engine.specs.declared.day.fault.OpenFault.{OpenFault}
-use Rattle.mrp_engine.specs.declared.day.fault.OpenFault.TheVariants as opening
+use Rattle.mrp_script.specs.declared.fault.OpenFault.{OpenFault}
+use Rattle.mrp_script.specs.declared.fault.OpenFault.TheVariants as opening
 
 -- nothing is written, for one of the causes that come before writing
 nothing-written : {W : Type 0} (Answers : Answering) (contents : W → Option (List ℕ)) (given : Option (List ℕ)) (ended failed : Type 0) (w : Told W) (f : DayFault)

@@ -12,7 +12,7 @@ use Rattle.mrp_book.specs.declared.call.Call.{Call}
 use Rattle.mrp_book.specs.History.{Fits}
 use Rattle.mrp_bill.specs.Lists.{Appends}
 use Rattle.mrp_engine.specs.live.DeskCalls.{AreCallsOf, asks, calls_at, count_in}
-use Rattle.mrp_engine.specs.day.Script.{Script, call_of, record_of}
+use Rattle.mrp_script.specs.Script.{Script, call_of, record_of}
 use Rattle.mrp_engine.proofs.lemmas.live.DeskRecords.{next-other, next-own}
 
 count-cons : (list : Vec Call Global) (lists : List (Vec Call Global)) → count_in (list ∷ lists) ≡ length list.items + count_in lists

@@ -20,7 +20,7 @@ use Rattle.mrp_book.specs.declared.refused.Refused.TheVariants.{NoMemory}
 use Rattle.mrp_engine.specs.live.Desks.{AreDesksOf, HaveServed}
 use Rattle.mrp_engine.specs.day.RightDay.{asked_by}
 use Rattle.mrp_tables.specs.declared.rows.ScriptRow.{ScriptRow}
-use Rattle.mrp_engine.specs.day.Script.{Script, is_run, record_of, with_run}
+use Rattle.mrp_script.specs.Script.{Script, is_run, record_of, with_run}
 use Rattle.mrp_engine.proofs.lemmas.live.DeskCounts.{few-by-number, none-numbered}
 use Rattle.mrp_engine.proofs.lemmas.live.DeskLists.{run-more}
 

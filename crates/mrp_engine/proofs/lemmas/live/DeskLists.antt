@@ -22,7 +22,7 @@ use Rattle.mrp_engine.specs.declared.live.serving.Served.{Served}
 use Rattle.mrp_engine.specs.live.Desks.{AreDesksOf, EndAs, HasServed, HaveServed, IsRefusedOne}
 use Rattle.mrp_engine.specs.live.DeskCalls.{AreCallsOf, asks, calls_at}
 use Rattle.mrp_engine.specs.day.RightDay.{asked_by}
-use Rattle.mrp_engine.specs.day.Script.{Script}
+use Rattle.mrp_script.specs.Script.{Script}
 use Rattle.mrp_engine.proofs.lemmas.live.DeskRecords.{MakesCall, ended, entries-of, made}
 use Rattle.mrp_engine.proofs.lemmas.live.Duties.{some-of}
 use Rattle.mrp_engine.proofs.lemmas.live.Parting.{End}

@@ -16,7 +16,7 @@ use Rattle.mrp_desk.specs.Calls.{HasCause, Tells}
 use Rattle.mrp_desk.specs.Offices.{Desk}
 use Rattle.mrp_engine.specs.live.DeskCalls.{asks}
 use Rattle.mrp_engine.specs.day.RightDay.{asked_by}
-use Rattle.mrp_engine.specs.day.Script.{Script, call_of, record_of}
+use Rattle.mrp_script.specs.Script.{Script, call_of, record_of}
 
 abbrev pub records : ℕ → List ScriptRow → Script
 records d rows = asked_by d (map record_of rows)

@@ -32,22 +32,16 @@ use Rattle.mrp_engine.specs.declared.live.ready.Ready.{Ready}
 use Rattle.mrp_engine.specs.declared.live.serving.Served.{Served}
 use Rattle.mrp_engine.specs.day.Day.{planned_from, runs_of}
 use Rattle.mrp_engine.specs.day.Planned.{PlansRun}
-use Rattle.mrp_engine.specs.day.Script.{is_run}
+use Rattle.mrp_script.specs.Script.{is_run}
 use Rattle.mrp_engine.specs.live.Begun.{EachServes}
 use Rattle.mrp_engine.specs.live.DeskCalls.{calls_at}
 use Rattle.mrp_engine.specs.live.Desks.{AreDesksOf, HasServed}
 use Rattle.mrp_engine.specs.live.Runs.{AreRunsOf, HaveRuns, RunResult, runs_at, runs_in}
+use Rattle.mrp_script.proofs.Zipped.{zip-push}
 use Rattle.mrp_engine.proofs.lemmas.day.RunsPlanned.{not-a-run}
 use Rattle.mrp_engine.proofs.lemmas.live.DeskHistories.{numbered}
 use Rattle.mrp_engine.proofs.lemmas.live.Duties.{some-of}
 use Rattle.mrp_engine.proofs.lemmas.threads.Days.{taken}
-
--- one more of each
-pub zip-push : {A B : Type 0} (R : A → B → Type 0) (xs : List A) (ys : List B) (x : A) (y : B) → AllZip R xs ys → R x y → AllZip R (xs ++ x ∷ []) (ys ++ y ∷ [])
-zip-push R [] [] x y all one = (one, tt)
-zip-push R [] (b ∷ ys) x y all one = absurd all
-zip-push R (a ∷ xs) [] x y all one = absurd all
-zip-push R (a ∷ xs) (b ∷ ys) x y all one = (all.0, zip-push R xs ys x y all.1 one)
 
 -- the runs that calls start, of which one call may start one
 pub runs-left : (calls : List Call) (k : ℕ) (c : Call) → k < length calls → c ≡ get_or calls k c → runs_in (drop k calls) ≡ cond (is_run c) 1 0 + runs_in (drop (k + 1) calls)

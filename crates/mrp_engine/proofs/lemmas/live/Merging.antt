@@ -21,7 +21,7 @@ use Rattle.mrp_engine.specs.day.Day.{planned_from, runs_of}
 use Rattle.mrp_engine.specs.day.Planned.{PlansRun}
 use Rattle.mrp_engine.specs.live.Runs.{AreRunsOf, RunResult, lacks_memory, queued}
 use Rattle.mrp_engine.proofs.lemmas.day.RunsPlanned.{not-a-run, runs-more}
-use Rattle.mrp_engine.proofs.lemmas.live.DeskRuns.{zip-push}
+use Rattle.mrp_script.proofs.Zipped.{zip-push}
 
 abbrev pub Queue : Type 0
 Queue = VecDeque RunResult Global

@@ -1,12 +1,16 @@
-use Rattle.std.proofs.Common.{◌∙◌, ℕ, List, ap, map}
-use Rattle.std.specs.Prelude.{string_bytes}
+use Rattle.std.proofs.Common.{◌∙◌, ℕ, List, ap}
 use Rattle.std.proofs.lemmas.Result.{IfOk-weaker}
-use Rattle.mrp_inspect.specs.Listed.{faults_text}
+use Rattle.mrp_advice.specs.Listing.{Listed, none_listed, with_lines}
+use Rattle.mrp_inspect.specs.Faults.{lines_of}
+use Rattle.mrp_inspect.specs.Listed.{told_text}
+use Rattle.mrp_inspect.proofs.Listing.{told-is}
 use Rattle.mrp_inspect.proofs.inspecting.faults_of.Goals as goal
 
 pub returns : goal.returns
-returns c =
-    IfOk-weaker c.faults_text.result _ _
+returns g c =
+    let lines : List (List ℕ) = lines_of c.args.found.now c.in_ok-survey.survey in
+    let fault = c.args.fault.now in
+    IfOk-weaker c.told_text.result _ _
     (λ text is. record {
       survey = c.in_ok-survey.survey;
       surveys = record {
@@ -17,6 +21,8 @@ returns c =
         items = c.in_ok-survey.ensures.items;
         centres = c.in_ok-survey.ensures.centres;
       };
-      text_is = is ∙ ap (λ (ls : List (List ℕ)). faults_text ls c.args.fault.now) (ap (map (λ line. string_bytes line)) c.as_slice.ensures.value ∙ c.in_ok-lines.ensures);
+      text_is = is
+          ∙ ap (λ (l : Listed). told_text l fault) (c.in_ok-push_told.ensures ∙ ap (λ (l : Listed). with_lines l lines) (c.new-lines.ensures ∙ ap none_listed c.in_ok-remark.ensures))
+          ∙ told-is lines fault;
     })
-    c.faults_text.ensures
+    c.told_text.ensures

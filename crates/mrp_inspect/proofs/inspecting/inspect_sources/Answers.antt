@@ -1,9 +1,9 @@
 use Rattle.std.proofs.Common.{ℕ, List, Option, subst}
 use Rattle.std.specs.Prelude.{Err, string_bytes}
 use Rattle.mrp_rows.specs.declared.fault.Fault.{Fault}
-use Rattle.mrp_engine.specs.day.Opened.{Opens}
-use Rattle.mrp_engine.specs.declared.day.fault.OpenFault.{OpenFault}
-use Rattle.mrp_engine.specs.declared.day.fault.OpenFault.TheVariants.{Refused}
+use Rattle.mrp_script.specs.Opened.{Opens}
+use Rattle.mrp_script.specs.declared.fault.OpenFault.{OpenFault}
+use Rattle.mrp_script.specs.declared.fault.OpenFault.TheVariants.{Refused}
 use Rattle.mrp_survey.specs.declared.source.Source.{Source}
 use Rattle.mrp_inspect.specs.declared.found.Found.{Found}
 use Rattle.mrp_inspect.specs.Inspected.{IsFaultsText, TellsFaults}

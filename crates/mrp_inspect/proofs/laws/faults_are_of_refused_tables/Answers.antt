@@ -2,8 +2,8 @@ use Rattle.std.proofs.Common.{◌≡◌, ℕ, Bool, true, false, List, Option, r
 use Rattle.std.specs.Prelude.{string_bytes}
 use Rattle.mrp_rows.specs.declared.fault.Fault.{Fault}
 use Rattle.mrp_tables.specs.Tables.{Tables}
-use Rattle.mrp_engine.specs.day.Day.{IsAccepted, IsRefused}
-use Rattle.mrp_engine.proofs.OneOutcome.{accepted-not-refused}
+use Rattle.mrp_script.specs.Opened.{IsAccepted, IsRefused}
+use Rattle.mrp_script.proofs.OneOpening.{accepted-not-refused}
 use Rattle.mrp_survey.specs.declared.source.Source.{Source}
 use Rattle.mrp_inspect.specs.declared.found.Found.{Found}
 use Rattle.mrp_inspect.specs.Inspected.{Tells, bundle_in}

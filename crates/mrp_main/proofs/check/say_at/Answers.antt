@@ -1,7 +1,7 @@
 use Rattle.std.proofs.Common.{◌≡◌, ◌∙◌, ◌++◌, ◌∷◌, [], ℕ, List, subst}
 use Rattle.std.specs.Prelude.{decimal}
-use Rattle.mrp_main.specs.CheckEnds.{Says}
-use Rattle.mrp_main.specs.declared.ending.Ending.TheVariants as end
+use Rattle.mrp_commands.specs.Telling.{Says}
+use Rattle.mrp_commands.specs.declared.ending.Ending.TheVariants as end
 use Rattle.mrp_main.proofs.check.say_at.Goals as goal
 
 pub returns : goal.returns

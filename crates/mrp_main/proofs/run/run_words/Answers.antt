@@ -2,9 +2,9 @@ use Rattle.std.proofs.Common.{◌∙◌, ap}
 use Rattle.std.proofs.Crossing.{crosses}
 use denote.Param.Send.{sendable}
 use Rattle.mrp_report.specs.Written.{HasGivenUp, HasTakenFront}
-use Rattle.mrp_engine.specs.day.Run.{HasTakenAll}
-use Rattle.mrp_main.specs.Ends.{words_of}
-use Rattle.mrp_main.specs.Status.{code_of}
+use Rattle.mrp_report.specs.Taken.{HasTakenAll}
+use Rattle.mrp_commands.specs.Telling.{words_of}
+use Rattle.mrp_commands.specs.Status.{code_of}
 use Rattle.mrp_words.specs.Words.{HasWorkers}
 use Rattle.mrp_words.proofs.Asked.{for-ok, was-told}
 use Rattle.mrp_main.proofs.run.run_words.Goals as goal

@@ -18,6 +18,7 @@ loop-init g c = record {
   reading = search rules;
   so_far = λ text known. read-none g.R.Read.remaining text c.args.items.now c.args.asked c.from_reader-reader.result c.args.notes.now
       c.from_reader-reader.ensures.state (c.from_reader-reader.ensures.source ∙ ap (option_map strip_bom) known);
+  right = λ right. right;
 }
 
 pub loop-preserved : goal.loop-preserved
@@ -28,6 +29,7 @@ loop-preserved g c =
       reading = c.in_ok-read_cells.ensures.reading;
       so_far = λ text known. read-more g.R.Read.remaining text c.args.items.now c.args.asked c.loop.reader c.read_cells.new.reader c.args.notes.now c.loop.notes c.note_record.new.notes (fields_of c.read_cells.new.cells)
           c.loop.invariant.reading (c.loop.invariant.so_far text known) read c.in_ok-note_record.ensures.noted;
+      right = λ _. c.in_ok-note_record.ensures.right;
     }
 
 pub returns-then-not-branch-clause-noted : goal.returns-then-not-branch-clause-noted

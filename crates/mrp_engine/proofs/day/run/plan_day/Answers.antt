@@ -4,7 +4,7 @@ use denote.Param.Send.{sendable}
 use Rattle.mrp_tables.specs.Tables.{Tables}
 use Rattle.mrp_bill.specs.Shop.{Shop}
 use Rattle.mrp_master.specs.Supply.{supply_of}
-use Rattle.mrp_engine.specs.day.Day.{AnswersScript}
+use Rattle.mrp_script.specs.Script.{AnswersScript}
 use Rattle.mrp_engine.specs.day.Planned.{PlansDay, PlansHistory}
 use Rattle.mrp_engine.proofs.lemmas.day.DayRuns.{answered-day}
 use Rattle.mrp_engine.proofs.day.run.plan_day.Goals as goal

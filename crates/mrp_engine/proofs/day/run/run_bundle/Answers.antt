@@ -1,5 +1,5 @@
 use Rattle.std.proofs.Common.{rules}
-use Rattle.mrp_engine.specs.day.Day.{AnswersScript}
+use Rattle.mrp_script.specs.Script.{AnswersScript}
 use Rattle.mrp_engine.proofs.lemmas.day.DayMade.{planned, unopened, unplanned}
 use Rattle.mrp_engine.proofs.day.run.run_bundle.Goals as goal
 

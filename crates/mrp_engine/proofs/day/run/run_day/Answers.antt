@@ -1,7 +1,7 @@
 use Rattle.std.proofs.Common.{◌≡◌, Err, Result, ap, rules, subst, sym}
 use Rattle.mrp_rows.specs.declared.streams.ReadFault.{ReadFault}
 use Rattle.mrp_engine.specs.day.Fault.{reading_fault}
-use Rattle.mrp_engine.specs.day.Day.{AnswersScript}
+use Rattle.mrp_script.specs.Script.{AnswersScript}
 use Rattle.mrp_engine.specs.day.Run.{MakesDay}
 use Rattle.mrp_engine.specs.declared.day.fault.DayFault.{DayFault}
 use Rattle.mrp_engine.proofs.lemmas.day.DayMade.{made, unread}

@@ -8,9 +8,11 @@ use Rattle.mrp_report.specs.declared.fault.ReportFault.{ReportFault}
 use Rattle.mrp_engine.specs.day.Day.{runs_of}
 use Rattle.mrp_engine.specs.day.Fault.{writing_fault}
 use Rattle.mrp_engine.specs.day.Planned.{text_of}
-use Rattle.mrp_engine.specs.day.Run.{HasTakenAll, WritesText}
+use Rattle.mrp_report.specs.Taken.{HasTakenAll}
+use Rattle.mrp_engine.specs.day.Run.{WritesText}
 use Rattle.mrp_engine.specs.declared.day.fault.DayFault.{DayFault}
-use Rattle.mrp_engine.proofs.lemmas.day.DayWritten.{all-of-one, stopped, stopped-more, written-then}
+use Rattle.mrp_report.proofs.TakenAll.{all-of-one}
+use Rattle.mrp_engine.proofs.lemmas.day.DayWritten.{stopped, stopped-more, written-then}
 use Rattle.mrp_engine.proofs.day.writing.write_day.Goals as goal
 
 pub returns-in_err-write_history : goal.returns-in_err-write_history

@@ -10,11 +10,13 @@ use Rattle.mrp_item.specs.Inputs.{Inputs, inputs_of}
 use Rattle.mrp_item.specs.Places.{WholePlan}
 use Rattle.mrp_report.specs.ReportText.{report_text}
 use Rattle.mrp_engine.specs.day.Day.{IsPlannable, runs_of}
-use Rattle.mrp_engine.specs.day.Run.{HasTakenAll, WritesText}
+use Rattle.mrp_report.specs.Taken.{HasTakenAll}
+use Rattle.mrp_report.proofs.TakenAll.{all-both, all-none}
+use Rattle.mrp_engine.specs.day.Run.{WritesText}
 use Rattle.mrp_engine.specs.day.RunPlans.{IsOfFirst, IsOfShop}
 use Rattle.mrp_engine.specs.declared.day.fault.DayFault.{DayFault}
 use Rattle.mrp_engine.proofs.lemmas.day.DayReports.{IsReady, made-is-next, reports, reports-around, reports-more, reports-same, run-plannable, still-ready}
-use Rattle.mrp_engine.proofs.lemmas.day.DayWritten.{all-both, all-none, all-written, stopped-more, written-then}
+use Rattle.mrp_engine.proofs.lemmas.day.DayWritten.{all-written, stopped-more, written-then}
 use Rattle.mrp_engine.proofs.lemmas.day.RunsPlanned.{not-a-run}
 use Rattle.mrp_engine.proofs.day.writing.write_reports.Goals as goal
 use Rattle.mrp_engine.proofs.day.writing.write_reports.Goals.{in-Taken+in_ok-plan, in_default}

@@ -1,5 +1,5 @@
 use Rattle.std.proofs.Common.{take}
-use Rattle.mrp_engine.specs.day.Run.{HasTakenAll}
+use Rattle.mrp_report.specs.Taken.{HasTakenAll}
 use Rattle.mrp_engine.specs.day.RunPlans.{IsOfShop}
 use Rattle.mrp_engine.proofs.lemmas.day.DayReports.{IsReady, reports}
 use Rattle.mrp_engine.proofs.day.writing.write_reports.Given as goal

@@ -5,7 +5,7 @@ use Rattle.mrp_book.specs.declared.call.Call.{Call}
 use Rattle.mrp_book.specs.History.{Fits}
 use Rattle.mrp_master.specs.Supply.{supply_of}
 use Rattle.mrp_engine.specs.live.DeskCalls.{AreCallsOf, asks}
-use Rattle.mrp_engine.specs.day.Script.{call_of, record_of}
+use Rattle.mrp_script.specs.Script.{call_of, record_of}
 use Rattle.mrp_engine.proofs.lemmas.live.DeskCalls.{count-none, listed-more}
 use Rattle.mrp_engine.proofs.live.desk_calls.calls_by_desk.Goals as goal
 

@@ -2,9 +2,9 @@ use Rattle.std.proofs.Common.{◌≡◌, ◌∙◌, ◌++◌, ◌∷◌, [], ℕ
 use Rattle.mrp_book.specs.declared.call.Call.{Call}
 use Rattle.mrp_book.specs.declared.call.Call.TheVariants as call
 use Rattle.mrp_desk.specs.Offices.{supply_at}
-use Rattle.mrp_engine.specs.day.Script.{Script, record_of, with_run}
+use Rattle.mrp_script.specs.Script.{Script, record_of, with_run}
 use Rattle.mrp_engine.specs.live.Desks.{HaveServed}
-use Rattle.mrp_engine.proofs.lemmas.day.ScriptCalls.{none-given}
+use Rattle.mrp_script.proofs.ScriptCalls.{none-given}
 use Rattle.mrp_engine.proofs.lemmas.live.DeskLists.{run-desks, run-made, run-served}
 use Rattle.mrp_engine.proofs.lemmas.live.DeskHistories.{none-made}
 use Rattle.mrp_engine.proofs.lemmas.live.DeskRecords.{ended}

@@ -7,7 +7,7 @@ use Rattle.mrp_book.specs.declared.call.Call.{Call}
 use Rattle.mrp_book.specs.declared.refused.Refused.TheVariants.{Full}
 use Rattle.mrp_book.specs.History.{IsLegal, asked}
 use Rattle.mrp_engine.specs.day.RightDay.{asked_by}
-use Rattle.mrp_engine.specs.day.Script.{record_of, script_of, with_run}
+use Rattle.mrp_script.specs.Script.{record_of, script_of, with_run}
 use Rattle.mrp_engine.proofs.lemmas.live.DeskHistories.{all-wide, follows, never-full, run-adds}
 use Rattle.mrp_engine.proofs.lemmas.live.Parting.{End}
 use Rattle.mrp_engine.proofs.live.desks.close.Goals as goal

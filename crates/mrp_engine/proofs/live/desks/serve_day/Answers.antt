@@ -5,10 +5,10 @@ use Rattle.mrp_tables.specs.Facts.{IsScriptRow}
 use Rattle.mrp_tables.specs.Tables.{Tables}
 use Rattle.mrp_tables.specs.declared.rows.ScriptRow.{ScriptRow}
 use Rattle.mrp_desk.specs.Offices.{Desk}
-use Rattle.mrp_engine.specs.day.Script.{record_of, script_of, with_run}
+use Rattle.mrp_script.specs.Script.{record_of, script_of, with_run}
 use Rattle.mrp_engine.specs.live.Desks.{AreDesksOf, HaveServed}
 use Rattle.mrp_engine.specs.live.Runs.{HaveRuns, RunResult}
-use Rattle.mrp_engine.proofs.lemmas.day.ScriptCalls.{call-fits}
+use Rattle.mrp_script.proofs.ScriptCalls.{call-fits}
 use Rattle.mrp_engine.proofs.lemmas.live.DeskHistories.{run-fewer}
 use Rattle.mrp_engine.proofs.lemmas.live.DeskLists.{lent-back, refused-more}
 use Rattle.mrp_engine.proofs.lemmas.live.Parting.{End}

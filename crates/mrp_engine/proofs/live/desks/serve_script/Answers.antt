@@ -8,7 +8,7 @@ use Rattle.mrp_master.specs.Supply.{supply_of}
 use Rattle.mrp_desk.specs.Offices.{Desk, supply_at}
 use Rattle.mrp_engine.specs.live.Begun.{IsReady}
 use Rattle.mrp_engine.specs.live.DeskCalls.{AreCallsOf, calls_at}
-use Rattle.mrp_engine.specs.day.Script.{call_of, record_of}
+use Rattle.mrp_script.specs.Script.{call_of, record_of}
 use Rattle.mrp_engine.proofs.lemmas.live.DeskCalls.{lists-fit}
 use Rattle.mrp_engine.proofs.lemmas.live.DeskLists.{followed-each, if-parted-desks, if-parted-served}
 use Rattle.mrp_engine.proofs.lemmas.live.DeskRuns.{if-have-runs, ready-all, served-each}

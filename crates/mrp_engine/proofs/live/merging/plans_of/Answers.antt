@@ -3,7 +3,7 @@ use Rattle.std.specs.List.{AllZip}
 use Rattle.std.proofs.lemmas.List.{append-nil, nil_from_length}
 use Rattle.mrp_engine.specs.day.Planned.{PlansRun}
 use Rattle.mrp_engine.specs.live.Runs.{PlansAll, RunResult, refusal_among}
-use Rattle.mrp_engine.proofs.lemmas.day.ScriptCalls.{none-given}
+use Rattle.mrp_script.proofs.ScriptCalls.{none-given}
 use Rattle.mrp_engine.proofs.lemmas.live.Refusals.{all-planned, memory-first, no-refusal, none-lacks, none-refused, planned, refusal}
 use Rattle.mrp_engine.proofs.live.merging.plans_of.Goals as goal
 

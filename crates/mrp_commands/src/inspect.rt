@@ -1,0 +1,81 @@
+//! Inspecting the tables of a folder, as the words of the command line ask.
+
+ghost use Rattle.std.specs.Prelude.{◌≡◌, option_map, string_bytes};
+ghost use Rattle.mrp_commands.specs.Telling.{Says};
+ghost use Rattle.mrp_commands.specs.InspectEnds.{InspectEnds, InspectEndsIn, TellsInspected, inspected_end};
+
+use crate::ending::{Ending, write_whole};
+use mrp_inspect::{Inspected, find_files, inspect};
+use mrp_qty::NoMemory;
+use mrp_rows::Told;
+use mrp_words::FileStore;
+use std::alloc::Global;
+use std::io::Write;
+use std::thread::Threads;
+
+// The end of an inspection that was written whole, by whether faults were told.
+fn inspected_end(has_faults: bool) -> Ending
+    ensures { result ≡ inspected_end has_faults }
+{
+    if has_faults {
+        Ending::Wrong
+    } else {
+        Ending::Done
+    }
+}
+
+// Writes what is told of files.
+fn write_inspected<W: Write>(inspected: &Inspected, output: &mut Told<W>) -> Ending
+    ensures { Says W.contents output.old output.new (string_bytes inspected.now.text) (inspected_end inspected.now.has_faults) result }
+{
+    match write_whole(output, inspected.text.as_bytes()) {
+        Ok(()) => inspected_end(inspected.has_faults),
+        Err(_) => Ending::Write,
+    }
+}
+
+// The same, unless memory ran out.
+fn tell_inspected<W: Write>(inspected: &Result<Inspected, NoMemory>, output: &mut Told<W>) -> Ending
+    ensures { TellsInspected W.contents output.old output.new inspected.now result }
+{
+    match inspected {
+        Ok(inspected) => write_inspected(inspected, output),
+        Err(_) => Ending::NoMemory,
+    }
+}
+
+// Inspects the files of a folder.
+fn inspect_folder<F: FileStore, W: Write>(
+    rt: &impl Threads,
+    alloc: Global,
+    files: &F,
+    folder: &str,
+    output: &mut Told<W>,
+) -> Ending
+    ensures { InspectEnds (F.known files.now) folder.now W.contents output.old output.new result }
+{
+    match find_files(files, alloc, folder) {
+        Ok(found) => {
+            let inspected = inspect(rt, alloc, &found);
+            tell_inspected(&inspected, output)
+        }
+        Err(fault) => Ending::of_read(fault),
+    }
+}
+
+/// Inspects the files of the folder that is named, writes what is told of them to the output, and returns
+/// how that ended.
+pub fn inspect_asked<F: FileStore, W: Write>(
+    rt: &impl Threads,
+    alloc: Global,
+    files: &F,
+    folder: &Option<String>,
+    output: &mut Told<W>,
+) -> Ending
+    ensures { InspectEndsIn (F.known files.now) (option_map string_bytes folder.now) W.contents output.old output.new result }
+{
+    match folder {
+        Some(folder) => inspect_folder(rt, alloc, files, folder, output),
+        None => Ending::Usage(String::new(alloc)),
+    }
+}

@@ -1,0 +1,16 @@
+use Rattle.std.proofs.Common.{◌∙◌, ◌++◌, map}
+use Rattle.std.specs.Prelude.{filter_map}
+use Rattle.std.proofs.lemmas.Result.{on_ok_weaker}
+use Rattle.mrp_advice.specs.Lines.{survey_lines}
+use Rattle.mrp_advice.specs.Listing.{listed_in, with_lines}
+use Rattle.mrp_words.specs.Folder.{all_tables}
+use Rattle.mrp_inspect.specs.Faults.{lines_if}
+use Rattle.mrp_inspect.specs.Words.{missing_of, stray_text}
+use Rattle.mrp_inspect.proofs.inspecting.push_told.Goals as goal
+
+pub returns : goal.returns
+returns c =
+    on_ok_weaker c.push_if.result
+    (λ is. is
+    ∙ (λ i. with_lines (listed_in c.args.lines.now) (lines_if (c.is_bare-bare.ensures i) c.args.found.now.site (map stray_text (c.requires.strays i) ++ filter_map (missing_of (c.requires.firsts i) (c.as_slice-others.ensures.value i)) all_tables) (survey_lines c.args.survey.now))))
+    c.push_if.ensures

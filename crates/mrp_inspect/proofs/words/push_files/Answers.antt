@@ -1,0 +1,16 @@
+use Rattle.std.proofs.Common.{◌∙◌, ◌++◌, ℕ, List, ap, map, sym}
+use Rattle.std.specs.Prelude.{filter_map}
+use Rattle.std.proofs.lemmas.Result.{on_ok_weaker}
+use Rattle.mrp_advice.specs.Listing.{Listed, listed_in, with_lines}
+use Rattle.mrp_advice.proofs.Listings.{lines-both}
+use Rattle.mrp_words.specs.Folder.{all_tables}
+use Rattle.mrp_inspect.specs.Words.{missing_of, stray_text}
+use Rattle.mrp_inspect.proofs.words.push_files.Goals as goal
+
+pub returns : goal.returns
+returns c =
+    let old : Listed = listed_in c.args.lines.now in
+    let missing : List (List ℕ) = filter_map (missing_of c.args.firsts.now c.args.others.now) all_tables in
+    on_ok_weaker c.push_missing.result
+    (λ e. e ∙ ap (λ (l : Listed). with_lines l missing) c.in_ok-push_strays.ensures ∙ sym (lines-both old (map stray_text c.args.strays.now) missing))
+    c.push_missing.ensures

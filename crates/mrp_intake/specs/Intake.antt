@@ -1,0 +1,33 @@
+-- What an intake holds, and what a batch is (profile).
+use Rattle.std.specs.Prelude.{ℕ, ◌≡◌, ◌⊎◌, ◌==◌, false, List, [], ◌∷◌, ◌++◌, Option, Some, None, ⊤}
+use Rattle.std.specs.List.{list_any}
+use Rattle.std.specs.Io.KnownBytes.{IsAtEnd}
+use Rattle.mrp_intake.specs.Lines.{told_lines}
+
+-- the lines of a batch, and what was read of the next line
+pub record Taken : Type 0 where
+  pub batch : List ℕ
+  pub begun : List ℕ
+
+-- no line ends in a text
+abbrev pub IsInLine : List ℕ → Type 0
+IsInLine text = list_any (λ byte. byte == 10) text ≡ false
+
+-- a text ends as a line does
+pub record IsEnded (text : List ℕ) : Type 0 where
+  pub front : List ℕ
+  pub is : text ≡ front ++ 10 ∷ []
+
+-- the lines that were to come are those of the batch, and those that are still to come
+abbrev pub Brings : Taken → Taken → List ℕ → List ℕ → Type 0
+Brings old new before after = told_lines (old.begun ++ before) ≡ told_lines new.batch ++ told_lines (new.begun ++ after)
+
+-- the same, as far as it is known what a reader has left
+abbrev pub BringsKnown : Taken → Taken → Option (List ℕ) → Option (List ℕ) → Type 0
+BringsKnown old new None after = ⊤
+BringsKnown old new (Some before) None = ⊥
+BringsKnown old new (Some before) (Some after) = Brings old new before after
+
+-- a batch has whole lines, or it is what stands behind the last line feed of the input
+abbrev pub IsBatch : Taken → Option (List ℕ) → Type 0
+IsBatch new after = IsEnded new.batch ⊎ ((new.begun ≡ []) × IsAtEnd after)

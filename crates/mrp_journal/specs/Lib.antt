@@ -1,0 +1,5 @@
+pub mod File
+pub mod Held
+pub mod Journal
+pub mod Lines
+pub mod Memory

@@ -1,0 +1,26 @@
+//! What follows from the definitions, each law the contract of a function that does nothing.
+
+ghost use Rattle.std.specs.Prelude.{◌≡◌, ◌≤◌, ◌++◌, ℕ, List, All, length, take};
+ghost use Rattle.std.specs.List.{concat};
+ghost use Rattle.mrp_journal.specs.Held.{IsFront};
+ghost use Rattle.mrp_journal.specs.Lines.{IsLine, whole_lines};
+
+/// The whole lines of a text.
+pub fn lines()
+    // They are a front of it, and their own whole lines.
+    ensures front { (text : List ℕ) → IsFront (whole_lines text) text }
+    ensures own { (text : List ℕ) → whole_lines (whole_lines text) ≡ whole_lines text }
+    // Those of a front are a front of those of the text.
+    ensures fronts { (front text : List ℕ) → IsFront front text → IsFront (whole_lines front) (whole_lines text) }
+{}
+
+/// A journal of whole lines, with records behind it.
+pub fn journals()
+    // It has whole lines alone.
+    ensures whole { (journal : List ℕ) (records : List (List ℕ)) → whole_lines journal ≡ journal → All IsLine records
+        → whole_lines (journal ++ concat records) ≡ journal ++ concat records }
+    // Where a crash leaves the journal and a front of the records, its whole lines are the journal and the first of the records.
+    ensures left { (journal left : List ℕ) (records : List (List ℕ)) → whole_lines journal ≡ journal → All IsLine records
+        → IsFront journal left → IsFront left (journal ++ concat records)
+        → (count : ℕ) × (count ≤ length records) × (whole_lines left ≡ journal ++ concat (take count records)) }
+{}

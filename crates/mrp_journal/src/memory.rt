@@ -1,0 +1,130 @@
+//! A journal in memory.
+
+ghost use Rattle.std.specs.Prelude.{◌≡◌, ◌≤◌, ◌++◌, ℕ, List, vec_len};
+ghost use Rattle.mrp_journal.specs.Held.{IsFront};
+
+use crate::store::Store;
+use mrp_rows::WriteFault;
+
+/// A file in memory, whose calls fail from some call on. A call that fails makes nothing durable; an append that fails
+/// takes half of its bytes.
+#[derive(Drop)]
+pub struct MemoryStore {
+    bytes: Vec<u8>,
+    durable: usize,
+    // How many calls are left before they fail.
+    calls: u64,
+    failures: u64,
+    ghost within: { durable ≤ vec_len bytes },
+}
+
+// Appends the first half of a text, or nothing if there is no memory.
+fn push_half(bytes: &mut Vec<u8>, more: &[u8])
+    ensures { (front : List ℕ) × IsFront front more.now × (bytes.new.items ≡ bytes.old.items ++ front) }
+{
+    let (half, _) = more.split_at(more.len() / 2);
+    match bytes.extend_from_slice(half) {
+        Ok(()) => {}
+        Err(_) => {}
+    }
+}
+
+impl MemoryStore {
+    ghost use Rattle.std.specs.Prelude.{◌≡◌, ◌-◌, IsErr, nat_lt};
+    ghost use Rattle.mrp_rows.specs.Told.{counted};
+    ghost use Rattle.mrp_journal.specs.Held.{settled};
+    ghost use Rattle.mrp_journal.specs.Memory.{calls_left, memory_failures, memory_held};
+
+    /// A file with these bytes, all durable. Its calls fail after so many.
+    pub fn new(bytes: Vec<u8>, calls: u64) -> MemoryStore
+        ensures held { memory_held result ≡ settled bytes.items }
+        ensures calls { calls_left result ≡ calls }
+        ensures failures { memory_failures result ≡ 0 }
+    {
+        let durable = bytes.len();
+        MemoryStore {
+            bytes,
+            durable,
+            calls,
+            failures: 0,
+        }
+    }
+
+    /// The bytes.
+    pub fn bytes(&self) -> &[u8]
+        ensures { result.now ≡ (memory_held self.now).bytes }
+    {
+        self.bytes.as_slice()
+    }
+
+    /// The bytes that are durable.
+    pub fn durable(&self) -> &[u8]
+        ensures { result.now ≡ (memory_held self.now).durable }
+    {
+        &self.bytes[..self.durable]
+    }
+
+    // Counts a call that fails.
+    fn fail(&mut self) -> Result<(), WriteFault>
+        ensures held { memory_held self.new ≡ memory_held self.old }
+        ensures told { memory_failures self.new ≡ counted 1 (memory_failures self.old) }
+        ensures fails { IsErr result }
+    {
+        self.failures = self.failures.saturating_add(1);
+        Err(WriteFault)
+    }
+
+    // Takes one of the calls that are left; false if none is.
+    fn takes_call(&mut self) -> bool
+        ensures takes { result ≡ nat_lt 0 (calls_left self.old) }
+        ensures fewer { calls_left self.new ≡ calls_left self.old - 1 }
+        ensures held { memory_held self.new ≡ memory_held self.old }
+        ensures told { memory_failures self.new ≡ memory_failures self.old }
+    {
+        match self.calls.checked_sub(1) {
+            Some(left) => {
+                self.calls = left;
+                true
+            }
+            None => false,
+        }
+    }
+}
+
+impl Store for MemoryStore {
+    ghost use Rattle.std.specs.Prelude.{Some};
+    ghost use Rattle.mrp_journal.specs.Memory.{memory_failures, memory_held};
+
+    ghost held = { λ file. Some (memory_held file) };
+
+    ghost failures = { memory_failures };
+
+    fn append(&mut self, bytes: &[u8]) -> Result<(), WriteFault> {
+        if !self.takes_call() {
+            push_half(&mut self.bytes, bytes);
+            return self.fail();
+        }
+        match self.bytes.extend_from_slice(bytes) {
+            Ok(()) => Ok(()),
+            Err(_) => self.fail(),
+        }
+    }
+
+    fn sync(&mut self) -> Result<(), WriteFault> {
+        if !self.takes_call() {
+            return self.fail();
+        }
+        self.durable = self.bytes.len();
+        Ok(())
+    }
+
+    fn cut(&mut self, count: usize) -> Result<(), WriteFault> {
+        if !self.takes_call() {
+            self.durable = self.durable.min(count);
+            return self.fail();
+        }
+        self.durable = count;
+        self.bytes.truncate(count);
+        Ok(())
+    }
+}

@@ -1,0 +1,11 @@
+use Rattle.std.proofs.Common.{refl, arith}
+use Rattle.csv.specs.Records.{Rising, cut_from, last_end}
+use Rattle.mrp_rows.proofs.cell_texts.CellTexts.with_room.Goals as goal
+
+pub returns : goal.returns
+unfolding cut_from last_end
+returns c = rw (c.in_ok-ends.ensures.items, c.in_ok-bytes.ensures.items) refl
+
+pub invariant_of-result : goal.invariant_of-result
+unfolding Rising
+invariant_of-result c = rw c.in_ok-ends.ensures.items (omega arith)

@@ -1,0 +1,4 @@
+pub mod OneOpening
+pub mod ScriptCalls
+pub mod ShopFaults
+pub mod Zipped

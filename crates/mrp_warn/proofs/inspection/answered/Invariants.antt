@@ -1,9 +1,0 @@
-use Rattle.std.proofs.Common.{◌≡◌, take}
-use Rattle.std.specs.Prelude.{map}
-use Rattle.mrp_master.specs.Supply.{supply_of}
-use Rattle.mrp_book.specs.History.{asked}
-use Rattle.mrp_engine.specs.day.Script.{record_of}
-use Rattle.mrp_warn.proofs.inspection.answered.Given as goal
-
-abbrev pub invariant-loop-row : goal.invariant-loop-row
-invariant-loop-row l = (l.book.supply ≡ supply_of l.shop.tables) × (asked l.book.entries ≡ map record_of (take l.row-index l.script))
