@@ -2,10 +2,13 @@
 use Rattle.std.proofs.Common.{◌≡◌, ◌∙◌, ◌+◌, ◌<◌, ◌≤◌, ℕ, Bool, true, false, List, [], ◌∷◌, length, take, drop, get_or, refl, sym, ap, arith}
 use Rattle.std.specs.Prelude.{◌==◌, ◌&&◌, ◌||◌, nat_le}
 use Rattle.std.specs.List.{list_any, onto_first}
-use Rattle.std.proofs.lemmas.Bool.{le-leb, lt-leb}
+use Rattle.std.specs.Prelude.{◌-◌}
+use Rattle.std.specs.List.{All}
+use Rattle.csv.specs.Records.{Row, cut_from, fields_of, text_of}
+use Rattle.std.proofs.lemmas.Bool.{false_from_ne_true, le-leb, lt-leb}
 use Rattle.std.proofs.lemmas.List.{take-append-drop}
-use Rattle.std.proofs.lemmas.List.Elements.{All-head, All-tail}
-use Rattle.std.proofs.lemmas.List.Folds.{list_any_at}
+use Rattle.std.proofs.lemmas.List.Elements.{All-drop, All-head, All-tail, All-take}
+use Rattle.std.proofs.lemmas.List.Folds.{list_any_at, list_any_none}
 use Rattle.std.proofs.lemmas.List.Splits.{length-slice_split, slice_split-cons_no, slice_split-cons_yes}
 use Rattle.std.proofs.lemmas.List.Sums.{sum_by-append, sum_by-cons, sum_by_more}
 use Rattle.mrp_rows.specs.Bundle.{ends_line}
@@ -85,3 +88,22 @@ plain-line line plain one =
     by : (b : Bool) → (b && true) ≡ b
     by true = refl
     by false = refl
+
+-- a record whose text has no end of a line has none in a cell
+module _ (bytes : List ℕ) (all : All (λ byte. ends_line byte ≡ false) bytes) where
+  cut-none : (start : ℕ) (places : List ℕ) → have_ends (cut_from start places bytes) ≡ false
+  unfolding cut_from
+  cut-none start [] = refl
+  cut-none start (end ∷ places) =
+      let cell : List ℕ = take (end - start) (drop start bytes) in
+      rw (list_any_none ends_line cell (All-take (λ byte. ends_line byte ≡ false) (end - start) (drop start bytes) (All-drop (λ byte. ends_line byte ≡ false) start bytes all))) (cut-none end places)
+
+pub row-none : (row : Row) → All (λ byte. ends_line byte ≡ false) (text_of row) → have_ends (fields_of row) ≡ false
+row-none row all = cut-none row.bytes all 0 row.ends
+
+pub cell-none : (cells : List (List ℕ)) (i : ℕ) → i < length cells → have_ends cells ≡ false → list_any ends_line (get_or cells i []) ≡ false
+cell-none cells i within none = false_from_ne_true (list_any ends_line (get_or cells i [])) (λ has. both (have_ends cells) none (list_any_at (list_any ends_line) cells i [] within has))
+  where
+    both : (b : Bool) → b ≡ false → b ≡ true → ⊥
+    both true f t = absurd cc
+    both false f t = absurd cc

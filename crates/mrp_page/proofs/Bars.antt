@@ -9,7 +9,8 @@ use Rattle.mrp_page.specs.Bars.{HasTimes}
 use Rattle.mrp_page.specs.Centres.{all_loads, centre_html, framed_centre}
 use Rattle.mrp_page.specs.Escaped.{escaped}
 use Rattle.mrp_page.specs.Html.{is_zero}
-use Rattle.mrp_page.specs.Layout.{above_bar, centre_open, cut_bar, hot_bar, load_chart, load_end, low_bar, section_end}
+use Rattle.mrp_page.specs.layout.Centres.{above_bar, centre_open, cut_bar, hot_bar, load_chart, load_end, low_bar}
+use Rattle.mrp_page.specs.layout.Lists.{section_end}
 use Rattle.mrp_page.specs.Pictured.{bars_html, centre_frame, picture_html}
 use Rattle.mrp_page.specs.Row.{RowView, cell_at, same_text}
 use Rattle.mrp_page.specs.Rows.{rows_named}

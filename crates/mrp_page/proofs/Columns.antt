@@ -7,7 +7,9 @@ use Rattle.mrp_page.specs.Centres.{all_loads, later_loads, loads_html, loads_tab
 use Rattle.mrp_page.specs.Pictured.{bars_html}
 use Rattle.mrp_page.specs.Draw.{all_weeks, amounts_html, booked_html, later_record, measure_html, named_record, planned_html, points_html, promised_html, record_or_none, record_rows, record_table, supplies_html, table_html}
 use Rattle.mrp_page.specs.ItemRows.{item_lists}
-use Rattle.mrp_page.specs.Layout.{above_bar, above_end, available_label, balance_label, booked_label, capacity_label, cut_bar, firm_label, grid_end, gross_label, hot_bar, hot_end, later_open, load_label, low_bar, low_end, over_label, planned_label, point, points_end, rest_end, scheduled_label, starts_label}
+use Rattle.mrp_page.specs.layout.Centres.{above_bar, above_end, capacity_label, cut_bar, hot_bar, hot_end, load_label, low_bar, low_end, over_label}
+use Rattle.mrp_page.specs.layout.Lists.{grid_end, rest_end}
+use Rattle.mrp_page.specs.layout.Records.{available_label, balance_label, booked_label, firm_label, gross_label, later_open, planned_label, point, points_end, scheduled_label, starts_label}
 use Rattle.mrp_page.specs.Pictures.{drawn_balance}
 use Rattle.mrp_page.specs.Row.{RowView}
 use Rattle.mrp_page.specs.Rows.{rows_in, rows_named}

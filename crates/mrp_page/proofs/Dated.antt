@@ -14,10 +14,11 @@ use Rattle.mrp_facts.specs.Dates.{AreDates, date_text, has_years, in_week}
 use Rattle.mrp_facts.specs.Facts.{Facts}
 use Rattle.mrp_page.specs.Amounts.{amount}
 use Rattle.mrp_page.specs.Escaped.{escaped}
-use Rattle.mrp_page.specs.Layout.{week, week_end, weeks_end}
+use Rattle.mrp_page.specs.layout.Records.{week, week_end, weeks_end}
 use Rattle.mrp_page.specs.Row.{RowView, cell_at}
 use Rattle.mrp_page.specs.Template.{row_html}
-use Rattle.mrp_page.specs.Weeks.{date_html, date_in, week_html, weeks_html}
+use Rattle.mrp_page.specs.Dates.{date_in}
+use Rattle.mrp_page.specs.Weeks.{date_html, week_html, weeks_html}
 
 -- what passes in all is kept in all
 kept-all : (p : ℕ → Bool) (xs : List ℕ) → list_all p xs ≡ true → filter p xs ≡ xs
@@ -44,10 +45,15 @@ unfolding row_html week week_end
 undated-is row = ap (λ (t : List ℕ). codes "<th scope=col>" ++ t) (append_assoc (escaped (cell_at row 1)) [] (codes "</th>"))
 
 -- with them its date is the calendar's
+pub date-is : (facts : Facts) (text : List ℕ) (number : ℕ) → AreDates facts.tables.calendar facts.dates → IsInRange 1 facts.tables.calendar.weeks number → facts.tables.calendar.weeks ≤ 104 → text ≡ decimal number
+    → (date : Date) × (week_of facts.tables.calendar date ≡ Some number) × (date_in (Some facts) text ≡ date_text (has_years facts.tables.calendar) date)
+date-is facts text number are within most is =
+    let own = are.each number within in
+    let read : amount text ≡ number = ap amount is ∙ amount-decimal number (omega (arith, within.1, most)) in
+    (own.date, week_of-first_day facts.tables.calendar own.date number within own.day, ap (in_week facts.dates) read ∙ own.shown)
+
 pub dated-is : (facts : Facts) (row : RowView) (number : ℕ) → AreDates facts.tables.calendar facts.dates → IsInRange 1 facts.tables.calendar.weeks number → facts.tables.calendar.weeks ≤ 104 → cell_at row 1 ≡ decimal number
     → (date : Date) × (week_of facts.tables.calendar date ≡ Some number) × (week_html (Some facts) row ≡ row_html week row ++ (date_html (date_text (has_years facts.tables.calendar) date) ++ week_end))
 dated-is facts row number are within most is =
-    let own = are.each number within in
-    let read : amount (cell_at row 1) ≡ number = ap amount is ∙ amount-decimal number (omega (arith, within.1, most)) in
-    let shown : date_in (Some facts) (cell_at row 1) ≡ date_text (has_years facts.tables.calendar) own.date = ap (in_week facts.dates) read ∙ own.shown in
-    (own.date, week_of-first_day facts.tables.calendar own.date number within own.day, ap (λ (t : List ℕ). row_html week row ++ (date_html t ++ week_end)) shown)
+    let (date, falls, shown) = date-is facts (cell_at row 1) number are within most is in
+    (date, falls, ap (λ (t : List ℕ). row_html week row ++ (date_html t ++ week_end)) shown)

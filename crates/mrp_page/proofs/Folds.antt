@@ -6,7 +6,7 @@ use Rattle.mrp_page.specs.Draw.{has_none}
 use Rattle.mrp_page.specs.Escaped.{escaped}
 use Rattle.mrp_page.specs.Folded.{Listing, folded_html, hidden_html, listed_html}
 use Rattle.mrp_page.specs.Frame.{count_row}
-use Rattle.mrp_page.specs.Layout.{rest_end, rest_open}
+use Rattle.mrp_page.specs.layout.Lists.{rest_end, rest_open}
 use Rattle.mrp_page.specs.Row.{RowView}
 use Rattle.mrp_page.specs.Template.{row_html}
 

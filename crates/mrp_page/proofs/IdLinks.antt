@@ -9,7 +9,7 @@ use Rattle.std.proofs.lemmas.List.Folds.{list_any_at}
 use Rattle.mrp_facts.specs.Facts.{Facts}
 use Rattle.mrp_page.specs.AtRisk.{RisksView}
 use Rattle.mrp_page.specs.Centres.{all_loads, centre_html, centres_back, each_centre, framed_centre, load_section, over_or_none, work_in}
-use Rattle.mrp_page.specs.Draw.{history_html, more_html, table_html}
+use Rattle.mrp_page.specs.Draw.{dated_table, history_html, more_html}
 use Rattle.mrp_page.specs.Escaped.{escaped}
 use Rattle.mrp_page.specs.Frame.{count_row}
 use Rattle.mrp_page.specs.Ids.{IsPartOf, centre_id, centres_shown, entry_id, item_id, order_id, order_numbers, section_ids}
@@ -18,7 +18,15 @@ use Rattle.mrp_page.specs.ItemRows.{item_lists}
 use Rattle.mrp_page.specs.Items.{index_html, item_html, item_lists_html, items_html}
 use Rattle.mrp_page.specs.Kinds.{Kind, cancel, earlier, kind_html, kind_part, kinds, kinds_html, late, later, messages_of, other_part, release, state_of, task_line, todo_html}
 use Rattle.mrp_page.specs.Known.{entries_kept, names_shown}
-use Rattle.mrp_page.specs.Layout.{cancel_open, centre_open, centres_open, entry, glance_open, grid_end, history_end, history_open, in_open, item_head, items_open, late_open, lists_open, order, orders_open, out_first_open, out_open, page_end, refused_open, release_open, risk_open, section_end, todo_open}
+use Rattle.mrp_page.specs.layout.Centres.{centre_open, centres_open}
+use Rattle.mrp_page.specs.layout.Glance.{glance_open, out_first_open}
+use Rattle.mrp_page.specs.layout.Head.{page_end}
+use Rattle.mrp_page.specs.layout.History.{entry, history_end, history_open}
+use Rattle.mrp_page.specs.layout.Items.{item_head, items_open, lists_open, order, orders_open}
+use Rattle.mrp_page.specs.layout.Lists.{grid_end, section_end}
+use Rattle.mrp_page.specs.layout.Refused.{refused_open}
+use Rattle.mrp_page.specs.layout.Risk.{risk_open}
+use Rattle.mrp_page.specs.layout.Todo.{cancel_open, in_open, late_open, out_open, release_open, todo_open}
 use Rattle.mrp_page.specs.Notes.{Noted}
 use Rattle.mrp_page.specs.Outs.{outs_section}
 use Rattle.mrp_page.specs.Overloaded.{most_overloaded, overloaded_first}
@@ -32,7 +40,7 @@ use Rattle.mrp_page.specs.Said.{item_messages}
 use Rattle.mrp_page.specs.Scene.{SceneView}
 use Rattle.mrp_page.specs.Shares.{overloads_first, share_row}
 use Rattle.mrp_page.specs.Summary.{place_or, summary_html}
-use Rattle.mrp_page.specs.Template.{row_html, rows_html}
+use Rattle.mrp_page.specs.Template.{dated_html, dated_rows, row_html}
 use Rattle.mrp_page.specs.Draw.{named_note, named_record}
 use Rattle.mrp_page.specs.declared.limits.TheConstants.{MOST_LINES, SOME_ROWS}
 use Rattle.mrp_day.specs.declared.section.Section.TheVariants as s
@@ -90,7 +98,7 @@ module _ (title : List ℕ) (tables : Option Facts) (notes : Noted) (risks : Ris
   seen = glance_html scene notes.report notes.counts.plan
 
   abbrev calls : List ℕ
-  calls = refused_section scene.shown notes.history notes.counts.history
+  calls = refused_section scene notes.counts.history
 
   abbrev promises : List ℕ
   promises = risks_html scene risks
@@ -105,7 +113,7 @@ module _ (title : List ℕ) (tables : Option Facts) (notes : Noted) (risks : Ris
   items = items_of scene (item_lists notes.report) notes.counts
 
   abbrev past : List ℕ
-  past = history_html notes.history notes.counts.history
+  past = history_html tables notes.history notes.counts.history
 
   abbrev whole : List ℕ
   whole = page_html title tables notes risks
@@ -165,7 +173,7 @@ module _ (title : List ℕ) (tables : Option Facts) (notes : Noted) (risks : Ris
   unfolding glance_html outs_section out_first_open
   outs-begin =
       let outs : List ℕ = outs_section scene (rows_in s.Plan notes.report) notes.counts.plan in
-      let rest : List ℕ = most_overloaded (overloaded_first loads) ++ section_end in
+      let rest : List ℕ = most_overloaded tables (overloaded_first loads) ++ section_end in
       behind (codes "<section id=out-first>") glance_open (outs ++ rest) (in-front (codes "<section id=out-first>") outs rest ([], drop 22 outs, refl))
 
   calls-begin : IsPartOf (codes "<section id=unkept>") calls
@@ -189,7 +197,7 @@ module _ (title : List ℕ) (tables : Option Facts) (notes : Noted) (risks : Ris
   items-begin = ([], drop 18 items, refl)
 
   past-begins : IsPartOf (codes "<section id=history>") past
-  unfolding history_html table_html history_open
+  unfolding history_html dated_table history_open
   past-begins = ([], drop 20 past, refl)
 
   abbrev Begins : List ℕ → Type 0
@@ -244,20 +252,20 @@ module _ (title : List ℕ) (tables : Option Facts) (notes : Noted) (risks : Ris
       subst (λ (t : List ℕ). IsPartOf (codes "<section class=item id=\"" ++ (item_id t ++ codes "\">")) whole) is (through (codes "<section class=item id=\"" ++ (item_id (cell_at leader 0) ++ codes "\">")) (item_html scene (item_lists notes.report) notes.counts.promises leader) whole (item-mark leader) part)
 
   -- an order
-  order-mark : (row : RowView) → IsPartOf (codes "<tr id=\"" ++ (order_id (cell_at row 1) (cell_at row 0) ++ codes "\">")) (row_html order row)
+  order-mark : (row : RowView) → IsPartOf (codes "<tr id=\"" ++ (order_id (cell_at row 1) (cell_at row 0) ++ codes "\">")) (dated_html tables order row)
   order-mark row =
-      let (rest, is) = order-begins row in
+      let (rest, is) = order-begins tables row in
       ([], rest, is ∙ placed (codes "<tr id=\"o-") (escaped (cell_at row 1)) (codes "-") (escaped (cell_at row 0)) (codes "\">") rest)
     where
       placed : (o m d a q r : List ℕ) → o ++ (m ++ (d ++ (a ++ (q ++ r)))) ≡ (o ++ ((m ++ (d ++ a)) ++ q)) ++ r
       placed o m d a q r = sym (simp append_assoc)
 
-  orders-part : (leader : RowView) → IsPartOf (flat_map (row_html order) (rows_named (cell_at leader 0) scene.orders)) (item_html scene (item_lists notes.report) notes.counts.promises leader)
+  orders-part : (leader : RowView) → IsPartOf (flat_map (dated_html tables order) (rows_named (cell_at leader 0) scene.orders)) (item_html scene (item_lists notes.report) notes.counts.promises leader)
   unfolding item_html
   orders-part leader =
       let name : List ℕ = cell_at leader 0 in
       let rows : List RowView = rows_named name scene.orders in
-      let lines : List ℕ = flat_map (row_html order) rows in
+      let lines : List ℕ = flat_map (dated_html tables order) rows in
       let (rest, is) = lists-have-orders scene name in
       let lists : List ℕ = item_lists_html scene name in
       let head : List ℕ = row_html item_head leader in
@@ -265,7 +273,7 @@ module _ (title : List ℕ) (tables : Option Facts) (notes : Noted) (risks : Ris
       let messages : List ℕ = item_messages scene (item_lists notes.report) leader in
       let planned : List ℕ = named_record scene.tables (item_lists notes.report) name in
       let note : List ℕ = named_note (item_lists notes.report) notes.counts.promises name in
-      let inner : IsPartOf lines lists = subst (λ (t : List ℕ). IsPartOf lines t) (sym (is ∙ ap (λ (t : List ℕ). lists_open ++ (t ++ rest)) (orders-are rows))) (behind lines lists_open ((orders_open ++ (lines ++ grid_end)) ++ rest) (in-front lines (orders_open ++ (lines ++ grid_end)) rest (behind lines orders_open (lines ++ grid_end) (in-front lines lines grid_end (itself lines))))) in
+      let inner : IsPartOf lines lists = subst (λ (t : List ℕ). IsPartOf lines t) (sym (is ∙ ap (λ (t : List ℕ). lists_open ++ (t ++ rest)) (orders-are tables rows))) (behind lines lists_open ((orders_open ++ (lines ++ grid_end)) ++ rest) (in-front lines (orders_open ++ (lines ++ grid_end)) rest (behind lines orders_open (lines ++ grid_end) (in-front lines lines grid_end (itself lines))))) in
       behind lines head (facts ++ (messages ++ (planned ++ (note ++ lists)))) (behind lines facts (messages ++ (planned ++ (note ++ lists))) (behind lines messages (planned ++ (note ++ lists)) (behind lines planned (note ++ lists) (behind lines note lists inner))))
 
   pub order-leads : (number name : List ℕ) → Contains (names_shown notes) name → Contains (order_numbers notes name) number → IsPartOf (codes "<tr id=\"" ++ (order_id number name ++ codes "\">")) (page_html title tables notes risks)
@@ -273,27 +281,27 @@ module _ (title : List ℕ) (tables : Option Facts) (notes : Noted) (risks : Ris
       let (leader, is, part) = item-stands name has in
       let (row, at, of-number) = row-with (λ (r : RowView). cell_at r 1) (rows_named name scene.orders) number numbered in
       let of-name : cell_at row 0 ≡ name = text-same (cell_at row 0) name (All-contains (λ (r : RowView). is_of name r ≡ true) (rows_named name scene.orders) row (rows-named-are name scene.orders) at) in
-      let lines : List ℕ = flat_map (row_html order) (rows_named name scene.orders) in
+      let lines : List ℕ = flat_map (dated_html tables order) (rows_named name scene.orders) in
       let one : List ℕ = codes "<tr id=\"" ++ (order_id (cell_at row 1) (cell_at row 0) ++ codes "\">") in
-      let in-lines : IsPartOf one lines = through one (row_html order row) lines (order-mark row) (among (row_html order) (rows_named name scene.orders) row at.0 at.1 at.2) in
-      let in-item : IsPartOf lines (item_html scene (item_lists notes.report) notes.counts.promises leader) = subst (λ (t : List ℕ). IsPartOf (flat_map (row_html order) (rows_named t scene.orders)) (item_html scene (item_lists notes.report) notes.counts.promises leader)) is (orders-part leader) in
+      let in-lines : IsPartOf one lines = through one (dated_html tables order row) lines (order-mark row) (among (dated_html tables order) (rows_named name scene.orders) row at.0 at.1 at.2) in
+      let in-item : IsPartOf lines (item_html scene (item_lists notes.report) notes.counts.promises leader) = subst (λ (t : List ℕ). IsPartOf (flat_map (dated_html tables order) (rows_named t scene.orders)) (item_html scene (item_lists notes.report) notes.counts.promises leader)) is (orders-part leader) in
       let all : IsPartOf one whole = through one lines whole in-lines (through lines (item_html scene (item_lists notes.report) notes.counts.promises leader) whole in-item part) in
       subst (λ (t : List ℕ). IsPartOf (codes "<tr id=\"" ++ (order_id number t ++ codes "\">")) whole) of-name (subst (λ (t : List ℕ). IsPartOf (codes "<tr id=\"" ++ (order_id t (cell_at row 0) ++ codes "\">")) whole) of-number all)
 
   -- an entry of the history
-  entry-mark : (row : RowView) → IsPartOf (codes "<tr id=\"" ++ (entry_id (cell_at row 0) ++ codes "\">")) (row_html entry row)
-  unfolding row_html entry
+  entry-mark : (row : RowView) → IsPartOf (codes "<tr id=\"" ++ (entry_id (cell_at row 0) ++ codes "\">")) (dated_html tables entry row)
+  unfolding dated_html entry
   entry-mark row =
-      let rest : List ℕ = codes "<th scope=row>" ++ row_html (drop 3 entry) row in
+      let rest : List ℕ = codes "<th scope=row>" ++ dated_html tables (drop 3 entry) row in
       ([], rest, ap (λ (t : List ℕ). codes "<tr id=\"e" ++ t) (sym (append_assoc (escaped (cell_at row 0)) (codes "\">") rest)))
 
   pub entry-leads : (number : List ℕ) → Contains (entries_kept notes) number → IsPartOf (codes "<tr id=\"" ++ (entry_id number ++ codes "\">")) (page_html title tables notes risks)
-  unfolding history_html table_html rows_html
+  unfolding history_html dated_table dated_rows
   entry-leads number has =
       let (row, at, is) = row-with (λ (r : RowView). cell_at r 0) notes.history number has in
       let one : List ℕ = codes "<tr id=\"" ++ (entry_id (cell_at row 0) ++ codes "\">") in
-      let lines : List ℕ = flat_map (row_html entry) notes.history in
-      let in-lines : IsPartOf one lines = through one (row_html entry row) lines (entry-mark row) (among (row_html entry) notes.history row at.0 at.1 at.2) in
+      let lines : List ℕ = flat_map (dated_html tables entry) notes.history in
+      let in-lines : IsPartOf one lines = through one (dated_html tables entry row) lines (entry-mark row) (among (dated_html tables entry) notes.history row at.0 at.1 at.2) in
       let in-past : IsPartOf one past = in-front one (history_open ++ (lines ++ grid_end)) past-end (behind one history_open (lines ++ grid_end) (in-front one lines grid_end in-lines)) in
       subst (λ (t : List ℕ). IsPartOf (codes "<tr id=\"" ++ (entry_id t ++ codes "\">")) whole) is (of-past one in-past)
     where

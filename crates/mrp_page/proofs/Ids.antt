@@ -21,7 +21,7 @@ use Rattle.mrp_page.specs.Shown.{IsByItems, has_name, items_in, items_to_show, o
 use Rattle.mrp_page.specs.Spot.{Names}
 use Rattle.mrp_page.specs.declared.limits.TheConstants.{MOST_ITEMS}
 use Rattle.mrp_day.specs.declared.section.Section.TheVariants as s
-use Rattle.mrp_page.proofs.Made.{all-flat}
+use Rattle.mrp_page.proofs.made.Rows.{all-flat}
 use Rattle.mrp_page.proofs.NamesOnce.{has-at, items-distinct}
 use Rattle.mrp_page.proofs.ReadBack.{reads-back}
 use Rattle.mrp_page.proofs.ShownItems.{shows-first}

@@ -10,7 +10,8 @@ use Rattle.mrp_page.specs.Rows.{last_name, leaders}
 use Rattle.mrp_page.specs.Section.{is_by_weeks, is_history, is_of_items, items_of, place_of, room_of}
 use Rattle.mrp_page.specs.Shown.{StandTogether, each_once, has_name, is_asked, items_in, row_names}
 use Rattle.mrp_page.specs.Spot.{Names, has_room, is_among, is_row, leads, spot_with, wants}
-use Rattle.mrp_page.specs.declared.limits.TheConstants.{MOST_ITEMS, MOST_WEEKS}
+use Rattle.mrp_page.specs.declared.limits.TheConstants.{MOST_ITEMS}
+use Rattle.mrp_cal.specs.declared.calendar.TheConstants.{MOST_WEEKS}
 use Rattle.mrp_day.specs.declared.section.Section.{Section}
 use Rattle.mrp_day.specs.declared.section.Section.TheVariants as s
 use Rattle.mrp_page.specs.declared.spot.Place.TheVariants as place

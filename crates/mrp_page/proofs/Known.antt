@@ -22,7 +22,9 @@ use Rattle.mrp_page.specs.Rows.{rows_in, rows_named}
 use Rattle.mrp_page.specs.Spot.{Names}
 use Rattle.mrp_day.specs.declared.section.Section.TheVariants as s
 use Rattle.mrp_page.proofs.KeptRows.{history-stands, report-stands}
-use Rattle.mrp_page.proofs.Made.{TablesKnown, WorksKnown, named-item, page}
+use Rattle.mrp_page.proofs.made.Facts.{TablesKnown, WorksKnown}
+use Rattle.mrp_page.proofs.made.Page.{page}
+use Rattle.mrp_page.proofs.made.Rows.{named-item}
 
 nothing : Contains small_words []
 unfolding small_words
@@ -66,7 +68,7 @@ known-works title (Some facts) records notes risks = λ load kept works is k d w
 pub shows-known : (title : List ℕ) (tables : Option Facts) (items : Names) (asked : Option ℕ) (records : List Cells) (risks : RisksView) → IsMadeOf (IsKnown title tables records (notes_of items asked records) risks) (Contains (names_shown (notes_of items asked records))) (Contains (entries_kept (notes_of items asked records))) (IsOrderShown (notes_of items asked records)) (page_html title tables (notes_of items asked records) risks)
 shows-known title tables items asked records risks =
     let notes : Noted = notes_of items asked records in
-    page (λ (t : List ℕ). IsKnown title tables records notes risks t) (Contains (names_shown notes)) (Contains (entries_kept notes)) (IsOrderShown notes) (λ w is. inr (inr (inr (inr (inl is))))) title tables notes risks (known-tables title tables records notes risks) (known-works title tables records notes risks) (inl refl)
+    page (record { Known = λ (t : List ℕ). IsKnown title tables records notes risks t; Shown = Contains (names_shown notes); Kept = Contains (entries_kept notes); Ordered = IsOrderShown notes; words = λ w is. inr (inr (inr (inr (inl is)))) }) title tables notes risks (known-tables title tables records notes risks) (known-works title tables records notes risks) (inl refl)
     (λ k d within. known-cell title tables records notes risks (get_or notes.history k d) (history-stands items asked records k d within))
     (λ k d within. known-cell title tables records notes risks (get_or notes.report k d) (report-stands items asked records k d within))
     (λ k d within. inr (inr (inl (All-contains_itself (count_texts notes) k d within))))

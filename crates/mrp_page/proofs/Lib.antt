@@ -5,11 +5,12 @@ pub mod RowLists
 pub mod ShownCells
 pub mod KeptRows
 pub mod NameLines
-pub mod Made
+pub mod made
 pub mod Known
 pub mod Links
 pub mod Columns
-mod Dated
+pub mod Dated
+mod ListWeeks
 pub mod NamesOnce
 pub mod KeptItems
 pub mod SectionRows

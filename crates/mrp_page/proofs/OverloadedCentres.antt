@@ -1,5 +1,5 @@
 -- The work centres that are over their capacity, each once, the most first.
-use Rattle.std.proofs.Common.{◌≡◌, ◌∙◌, ◌+◌, ◌-◌, ◌*◌, ◌^◌, ◌<◌, ◌≤◌, ◌⊎◌, ℕ, List, [], ◌∷◌, ◌++◌, decimal, get_or, length, map, min, refl, sym, ap, take, arith, inl, inr}
+use Rattle.std.proofs.Common.{◌≡◌, ◌∙◌, ◌+◌, ◌-◌, ◌*◌, ◌^◌, ◌<◌, ◌≤◌, ◌⊎◌, ℕ, Option, List, [], ◌∷◌, ◌++◌, decimal, get_or, length, map, min, refl, sym, ap, take, arith, inl, inr}
 use Rattle.std.specs.Prelude.{IsPermutation, count_by, sum_by}
 use Rattle.std.specs.List.{filter, flat_map, fold}
 use Rattle.std.specs.List.Sorted.{IsNonDecreasingBy}
@@ -7,14 +7,16 @@ use Rattle.std.proofs.lemmas.Bool.{cases_lt, eq-eqb, ne_eqb}
 use Rattle.std.proofs.lemmas.List.Sums.{length-filter, sum_by-cons}
 use Rattle.std.proofs.Math.Nat.{div-le_self, div-mul-le_self, lt-mul-div-succ}
 use Rattle.mrp_page.specs.Amounts.{amount}
-use Rattle.mrp_page.specs.Layout.{overloaded_line, overloaded_open, section_end}
+use Rattle.mrp_page.specs.layout.Glance.{overloaded_line, overloaded_open}
+use Rattle.mrp_page.specs.layout.Lists.{section_end}
 use Rattle.mrp_page.specs.Overloaded.{falling_rate, first_share, most_overloaded, name_of, overloaded, overloaded_first, overloaded_html, overloaded_row, rate, rate_of, total, with_time, worst_week}
 use Rattle.mrp_page.specs.Pictured.{centre_frame, picture_html}
 use Rattle.mrp_page.specs.Row.{RowView, cell_at}
 use Rattle.mrp_page.specs.Shares.{falling_share, share_row}
 use Rattle.mrp_page.specs.Sorted.{sorted_by}
 use Rattle.mrp_page.specs.Summary.{is_over, overloads}
-use Rattle.mrp_page.specs.Template.{row_html}
+use Rattle.mrp_page.specs.Template.{dated_html}
+use Rattle.mrp_facts.specs.Facts.{Facts}
 use Rattle.mrp_page.specs.declared.limits.TheConstants.{MOST_AMOUNT, RATE_UNIT}
 use Rattle.mrp_page.proofs.ByKey.{sorted-non-decreasing, sorted-permutes}
 
@@ -57,9 +59,9 @@ pub rates-fall : (loads : List RowView) (i j : ℕ) (d : List RowView) → i ≤
 rates-fall loads i j d less within =
     omega (arith, falls loads i j d less within, rate-of-small (get_or (overloaded_first loads) i d), rate-of-small (get_or (overloaded_first loads) j d))
 
-pub first-stand : (rows : List RowView) (centres : List (List RowView)) → most_overloaded (rows ∷ centres) ≡ overloaded_open ++ (flat_map overloaded_html (take 3 (rows ∷ centres)) ++ section_end)
+pub first-stand : (tables : Option Facts) (rows : List RowView) (centres : List (List RowView)) → most_overloaded tables (rows ∷ centres) ≡ overloaded_open ++ (flat_map (overloaded_html tables) (take 3 (rows ∷ centres)) ++ section_end)
 unfolding most_overloaded
-first-stand rows centres = rw (ne_eqb (length (rows ∷ centres)) 0 (λ e. omega arith)) refl
+first-stand tables rows centres = rw (ne_eqb (length (rows ∷ centres)) 0 (λ e. omega arith)) refl
 
 pub counted-is : (rows : List RowView) → count_by is_over rows ≡ length (overloads rows)
 counted-is rows = sym (length-filter is_over rows)
@@ -74,6 +76,6 @@ worst-falls rows = sorted-non-decreasing falling_share (overloads rows)
 pub weeks-counted : (rows : List RowView) → cell_at (overloaded_row rows) 1 ≡ decimal (length (filter is_over rows))
 weeks-counted rows = ap decimal (counted-is rows)
 
-pub drawn-are : (rows : List RowView) → overloaded_html rows ≡ row_html overloaded_line (overloaded_row rows) ++ picture_html (centre_frame (name_of rows) rows) (map share_row rows)
+pub drawn-are : (tables : Option Facts) (rows : List RowView) → overloaded_html tables rows ≡ dated_html tables overloaded_line (overloaded_row rows) ++ picture_html (centre_frame (name_of rows) rows) (map share_row rows)
 unfolding overloaded_html
-drawn-are rows = refl
+drawn-are tables rows = refl

@@ -7,7 +7,7 @@ use Rattle.std.proofs.lemmas.List.Sorted.{IsPermutation-trans}
 use Rattle.mrp_page.specs.Centres.{explained_note, over_listing, over_or_none}
 use Rattle.mrp_page.specs.Folded.{capped_html}
 use Rattle.mrp_page.specs.Frame.{count_row}
-use Rattle.mrp_page.specs.Layout.{over_open}
+use Rattle.mrp_page.specs.layout.Centres.{over_open}
 use Rattle.mrp_page.specs.Row.{RowView}
 use Rattle.mrp_page.specs.Scene.{SceneView}
 use Rattle.mrp_page.specs.Shares.{falling_share, overloads_first, week_rank}

@@ -5,7 +5,8 @@ use Rattle.std.specs.List.{filter, flat_map}
 use Rattle.mrp_page.specs.Columns.{column}
 use Rattle.mrp_page.specs.Draw.{has_item}
 use Rattle.mrp_page.specs.Items.{need_html, peg_html, pegs_html, wait_html, waits_html}
-use Rattle.mrp_page.specs.Layout.{grid_end, link_end, peg_booking, peg_parent, pegs_open, waits_open}
+use Rattle.mrp_page.specs.layout.Items.{peg_booking, peg_parent, pegs_open, waits_open}
+use Rattle.mrp_page.specs.layout.Lists.{grid_end, link_end}
 use Rattle.mrp_page.specs.Orders.{linked_html, numbered, order_link, order_words}
 use Rattle.mrp_page.specs.Pegs.{waits_for}
 use Rattle.mrp_page.specs.Refused.{entry_name_html}

@@ -11,7 +11,8 @@ use Rattle.std.proofs.lemmas.List.FromFn.{get_or-range_with_len, length-range_wi
 use Rattle.std.proofs.lemmas.List.Sorted.{IsPermutation-trans}
 use Rattle.std.proofs.lemmas.Option.{slice_get_within}
 use Rattle.mrp_page.specs.Folded.{capped_html}
-use Rattle.mrp_page.specs.Layout.{none_at_risk, risk_note, risk_open, risks_unknown, section_end}
+use Rattle.mrp_page.specs.layout.Lists.{section_end}
+use Rattle.mrp_page.specs.layout.Risk.{none_at_risk, risk_note, risk_open, risks_unknown}
 use Rattle.mrp_page.specs.Numbering.{AreAnswers, booking_place, is_same_booking, late_weeks, lateness_of, need_of, numbered_peg, numbered_pegs, parent_need, parent_place, row_at, row_place, supplier_place}
 use Rattle.mrp_page.specs.Orders.{is_numbered, is_order, place_of}
 use Rattle.mrp_page.specs.Outs.{falling_late}

@@ -6,7 +6,7 @@ use Rattle.mrp_facts.specs.declared.facts.ItemFacts.{ItemFacts}
 use Rattle.mrp_page.specs.Escaped.{escaped}
 use Rattle.mrp_page.specs.Html.{number_html}
 use Rattle.mrp_page.specs.ItemFacts.{safety_cell_html, safety_cell_or_none, scale_html, scale_or_none}
-use Rattle.mrp_page.specs.Layout.{safety_scale}
+use Rattle.mrp_page.specs.layout.Records.{safety_scale}
 use Rattle.mrp_page.specs.Row.{RowView, cell_at}
 use Rattle.mrp_page.specs.Template.{row_html}
 

@@ -13,7 +13,7 @@ use Rattle.mrp_qty.proofs.MinuteTexts.{minutes_text-read}
 use Rattle.mrp_page.specs.Amounts.{amount, with_digit}
 use Rattle.mrp_page.specs.Columns.{column}
 use Rattle.mrp_page.specs.Escaped.{escaped}
-use Rattle.mrp_page.specs.Layout.{above_bar, cut_bar, hot_bar, low_bar}
+use Rattle.mrp_page.specs.layout.Centres.{above_bar, cut_bar, hot_bar, low_bar}
 use Rattle.mrp_page.specs.Row.{RowView, cell_at}
 use Rattle.mrp_page.specs.Shares.{share, share_cells, share_of, share_row}
 use Rattle.mrp_page.specs.Template.{Drawn, row_html}

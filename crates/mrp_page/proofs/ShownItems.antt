@@ -23,7 +23,7 @@ use Rattle.mrp_page.specs.declared.spot.Place.{Place}
 use Rattle.mrp_page.specs.declared.spot.Place.TheVariants as place
 use Rattle.mrp_page.specs.declared.spot.Spot.{Spot}
 use Rattle.mrp_page.proofs.KeptItems.{Inside, IsItemSection, inside-more, inside-none, leader_names, name_of, of-messages, of-plan, wants-asked, with_row}
-use Rattle.mrp_page.proofs.Made.{all-leaders}
+use Rattle.mrp_page.proofs.made.Rows.{all-leaders}
 use Rattle.mrp_page.proofs.NamesOnce.{Keeps, first-shown, items-distinct, keeps-none, text-same}
 use Rattle.mrp_page.proofs.Steps.{FreshRun, SameRun, Step, step-of}
 use Rattle.mrp_page.proofs.SectionRows.{goes-on, in-report, items-header, items-kept, items-row, items-unshown, near, no-row, others-added, row-added, rows-append, rows-go-on, rows-later, run-stage, stage, stand-front, stretch-between, stretch-some, wrong-stays}

@@ -11,7 +11,7 @@ use Rattle.mrp_page.specs.Columns.{column}
 use Rattle.mrp_page.specs.Escaped.{escaped}
 use Rattle.mrp_page.specs.ItemRows.{item_lists}
 use Rattle.mrp_page.specs.Kinds.{Kind, falling_rank, in_order, messages_of, todo_html, value_rank}
-use Rattle.mrp_page.specs.Layout.{summary_tile}
+use Rattle.mrp_page.specs.layout.Head.{summary_tile}
 use Rattle.mrp_page.specs.Notes.{Noted}
 use Rattle.mrp_page.specs.AtRisk.{RisksView}
 use Rattle.mrp_page.specs.Promises.{risks_html}
@@ -47,9 +47,8 @@ tile-is count mark place what =
 
 pub summary-stands : (title : List ℕ) (tables : Option Facts) (notes : Noted) (risks : RisksView) → (front : List ℕ) × (back : List ℕ) × (page_html title tables notes risks ≡ front ++ (summary_html notes.history (rows_in s.Messages notes.report) (rows_in s.Loads notes.report) risks ++ back))
 unfolding page_html page_of
-summary-stands title tables notes risks =
-    let shown : List RowView = shown_items (item_lists notes.report) in (
-      top_html title tables notes.report notes.counts.items,
-      glance_html (scene_in tables notes) notes.report notes.counts.plan ++ (refused_section shown notes.history notes.counts.history ++ (risks_html (scene_in tables notes) risks ++ (todo_html (scene_in tables notes) (rows_in s.Messages notes.report) notes.counts.messages ++ (load_section (scene_in tables notes) (rows_in s.Loads notes.report) notes.counts.loads ++ rest_html (scene_in tables notes) (item_lists notes.report) notes.counts)))),
-      refl,
-    )
+summary-stands title tables notes risks = (
+  top_html title tables notes.report notes.counts.items,
+  glance_html (scene_in tables notes) notes.report notes.counts.plan ++ (refused_section (scene_in tables notes) notes.counts.history ++ (risks_html (scene_in tables notes) risks ++ (todo_html (scene_in tables notes) (rows_in s.Messages notes.report) notes.counts.messages ++ (load_section (scene_in tables notes) (rows_in s.Loads notes.report) notes.counts.loads ++ rest_html (scene_in tables notes) (item_lists notes.report) notes.counts)))),
+  refl,
+)

@@ -2,7 +2,7 @@
 use Rattle.mrp_facts.specs.Facts.{Facts, open_order}
 use Rattle.mrp_tables.specs.declared.rows.Receipt.{Receipt}
 use Rattle.mrp_page.specs.Centres.{load_section}
-use Rattle.mrp_page.specs.Receipts.{receipt_of}
+use Rattle.mrp_page.specs.Receipts.{receipt_of, receipt_row}
 use Rattle.std.proofs.Common.{◌≡◌, ◌∙◌, ◌<◌, ◌≤◌, ℕ, true, Option, Some, List, [], ◌∷◌, ◌++◌, codes, decimal, drop, get_or, length, take, arith, refl, sym, ap, append_assoc, None}
 use Rattle.std.specs.Prelude.{◌&&◌, IsPermutation}
 use Rattle.std.specs.List.{flat_map}
@@ -14,7 +14,8 @@ use Rattle.mrp_page.specs.ItemRows.{ItemLists, item_lists}
 use Rattle.mrp_page.specs.Folded.{capped_html}
 use Rattle.mrp_page.specs.Frame.{count_row}
 use Rattle.mrp_page.specs.Kinds.{Kind, cancel, earlier, falling_rank, kind_html, kind_listing, kind_part, kinds, kinds_html, late, later, messages_of, note_html, open_count, open_html, order_html, order_of, other_messages, other_part, release, task_line, todo_back, todo_html, value_rank, received_html}
-use Rattle.mrp_page.specs.Layout.{cancel_open, in_open, late_open, open_pieces, order_start, order_week, out_open, release_open, rest_end, section_end, task_middle, task_row, task_supply, todo_open, open_receipt}
+use Rattle.mrp_page.specs.layout.Lists.{rest_end, section_end}
+use Rattle.mrp_page.specs.layout.Todo.{cancel_open, in_open, late_open, open_pieces, open_receipt, order_start, order_week, out_open, release_open, task_middle, task_row, task_supply, todo_open}
 use Rattle.mrp_page.specs.Notes.{Noted}
 use Rattle.mrp_page.specs.AtRisk.{RisksView}
 use Rattle.mrp_page.specs.Promises.{risks_html}
@@ -27,7 +28,7 @@ use Rattle.mrp_page.specs.Rows.{rows_in}
 use Rattle.mrp_page.specs.Escaped.{escaped}
 use Rattle.mrp_page.specs.Scene.{SceneView}
 use Rattle.mrp_page.specs.Summary.{summary_html}
-use Rattle.mrp_page.specs.Template.{has_word, markup_if, number_at, row_html}
+use Rattle.mrp_page.specs.Template.{dated_html, has_word, markup_if, number_at, row_html, week_at}
 use Rattle.mrp_page.specs.Said.{by_urgency}
 use Rattle.mrp_day.specs.declared.section.Section.TheVariants as s
 use Rattle.mrp_page.specs.declared.limits.TheConstants.{MOST_LINES, SOME_ROWS}
@@ -71,11 +72,10 @@ pub page-kinds : (title : List ℕ) (tables : Option Facts) (notes : Noted) (ris
 unfolding page_html page_of todo_html todo_back
 page-kinds title tables notes risks =
     let lists : ItemLists = item_lists notes.report in
-    let shown : List RowView = shown_items lists in
     let messages : List RowView = rows_in s.Messages notes.report in
     let top : List ℕ = top_html title tables notes.report notes.counts.items in
     let sums : List ℕ = summary_html notes.history (rows_in s.Messages notes.report) (rows_in s.Loads notes.report) risks in
-    let calls : List ℕ = refused_section shown notes.history notes.counts.history in
+    let calls : List ℕ = refused_section (scene_in tables notes) notes.counts.history in
     let promises : List ℕ = risks_html (scene_in tables notes) risks in
     let note : List ℕ = note_html messages notes.counts.messages in
     let last : List ℕ = more_html notes.counts.messages (codes "message, perhaps an urgent one, is") (codes "messages, urgent ones perhaps among them, are") ++ section_end in
@@ -108,10 +108,10 @@ kind-lines kind scene state r rows =
 
 -- the order that a message is about
 pub order-is : (kind : Kind) (scene : SceneView) (message order : RowView) → order_of scene message ≡ Some order
-    → task_line kind scene message ≡ task_row ++ (item_name_html scene.shown (cell_at message 0) ++ (task_middle ++ (linked_html scene (Some order) (row_html task_supply message) ++ (codes "</td>" ++ (row_html kind.order order ++ row_html kind.value message)))))
+    → task_line kind scene message ≡ task_row ++ (item_name_html scene.shown (cell_at message 0) ++ (task_middle ++ (linked_html scene (Some order) (row_html task_supply message) ++ (codes "</td>" ++ (dated_html scene.tables kind.order order ++ dated_html scene.tables kind.value message)))))
 unfolding task_line
 order-is kind scene message order found =
-    ap (λ (o : Option RowView). task_row ++ (item_name_html scene.shown (cell_at message 0) ++ (task_middle ++ (linked_html scene o (row_html task_supply message) ++ (codes "</td>" ++ (order_html kind scene message o ++ row_html kind.value message)))))) found
+    ap (λ (o : Option RowView). task_row ++ (item_name_html scene.shown (cell_at message 0) ++ (task_middle ++ (linked_html scene o (row_html task_supply message) ++ (codes "</td>" ++ (order_html kind scene message o ++ dated_html scene.tables kind.value message)))))) found
 
 pub order-of-is : (scene : SceneView) (message : RowView) → order_of scene message
     ≡ ordered scene (cell_at message (column s.Messages (codes "item"))) (cell_at message (column s.Messages (codes "supply"))) (cell_at message (column s.Messages (codes "source")))
@@ -130,8 +130,8 @@ open-is scene message none whole is =
 
 -- or of its receipt
 pub received-is : (scene : SceneView) (message : RowView) (receipt : Receipt) → receipt_of scene.tables message ≡ Some receipt
-    → open_html scene message ≡ number_html (decimal receipt.quantity) ++ (codes "<td></td>" ++ (number_html (decimal receipt.week) ++ []))
-unfolding row_html open_receipt
+    → open_html scene message ≡ number_html (decimal receipt.quantity) ++ (codes "<td></td>" ++ (week_at scene.tables 1 (receipt_row receipt) ++ []))
+unfolding dated_html open_receipt
 received-is scene message receipt is = ap (received_html scene message) is
 
 pub receipt-is : (facts : Facts) (message : RowView) → cell_at message (column s.Messages (codes "supply")) ≡ codes "open"
@@ -140,13 +140,13 @@ receipt-is facts message is =
     let opened : has_word 1 (codes "open") message ≡ true = rw is refl in
     rw opened refl
 
-pub start-is : (order : RowView) → row_html order_start order ≡ number_at (column s.Orders (codes "quantity")) order ++ (number_at (column s.Orders (codes "start")) order ++ (number_at (column s.Orders (codes "due")) order ++ []))
-unfolding row_html order_start
-start-is order = refl
+pub start-is : (tables : Option Facts) (order : RowView) → dated_html tables order_start order ≡ number_at (column s.Orders (codes "quantity")) order ++ (number_at (column s.Orders (codes "start")) order ++ (week_at tables (column s.Orders (codes "due")) order ++ []))
+unfolding dated_html order_start
+start-is tables order = refl
 
-pub week-is : (order : RowView) → row_html order_week order ≡ number_at (column s.Orders (codes "quantity")) order ++ (codes "<td></td>" ++ (number_at (column s.Orders (codes "due")) order ++ []))
-unfolding row_html order_week
-week-is order = refl
+pub week-is : (tables : Option Facts) (order : RowView) → dated_html tables order_week order ≡ number_at (column s.Orders (codes "quantity")) order ++ (codes "<td></td>" ++ (week_at tables (column s.Orders (codes "due")) order ++ []))
+unfolding dated_html order_week
+week-is tables order = refl
 
 -- the head of each kind, with how many messages it has
 module _ (n : ℕ) (state : List ℕ) where

@@ -20,17 +20,18 @@ use Rattle.mrp_work.specs.declared.order.WorkOrder.{WorkOrder}
 use Rattle.mrp_page.specs.Amounts.{amount}
 use Rattle.mrp_page.specs.Explained.{falling_time, left_html, more_works_html, order_name_html, order_work, time_html, time_share_row, work_line, works_first, works_or_none, works_table}
 use Rattle.mrp_page.specs.Frame.{count_row}
-use Rattle.mrp_page.specs.Layout.{task_row, work_back, work_blank, work_head, work_operation, work_other, work_rest, work_share, work_table_end, work_unknown}
+use Rattle.mrp_page.specs.layout.Todo.{task_row}
+use Rattle.mrp_page.specs.layout.Work.{work_back, work_blank, work_head, work_operation, work_other, work_rest, work_share, work_table_end, work_unknown}
 use Rattle.mrp_page.specs.Numbering.{row_at}
 use Rattle.mrp_page.specs.Row.{RowView, cell_at}
 use Rattle.mrp_page.specs.Scene.{SceneView}
 use Rattle.mrp_page.specs.Shares.{minutes_html, share_row}
-use Rattle.mrp_page.specs.Template.{row_html}
+use Rattle.mrp_page.specs.Template.{dated_html, row_html}
 use Rattle.mrp_page.specs.Work.{WorkView, centre_named, order_of_row, place_of_load, places_of_loads, work_orders, works_at, works_of}
 use Rattle.mrp_page.specs.declared.limits.TheConstants.{SOME_ROWS}
 use Rattle.mrp_qty.specs.Minutes.{minutes_text_of}
 use Rattle.mrp_page.proofs.ByKey.{sorted-non-decreasing, sorted-permutes}
-use Rattle.mrp_page.proofs.Made.{all-flat, contains-flat}
+use Rattle.mrp_page.proofs.made.Rows.{all-flat, contains-flat}
 
 -- Each operation is of an order that is kept.
 
@@ -140,7 +141,7 @@ pub too-much-is : (scene : SceneView) (orders : List RowView) (load : RowView) (
 unfolding works_or_none
 too-much-is scene orders load works over = ap (λ (b : Bool). if b then works_table scene orders load works else work_unknown) (lt-leb (total works) (amount (cell_at load 2)) over)
 
-pub one-is : (scene : SceneView) (order load : RowView) (work : Work) → order_work scene order load work ≡ task_row ++ (order_name_html scene order ++ (row_html work_operation (count_row work.operation [] []) ++ (time_html load work.time ++ row_html work_back order)))
+pub one-is : (scene : SceneView) (order load : RowView) (work : Work) → order_work scene order load work ≡ task_row ++ (order_name_html scene order ++ (row_html work_operation (count_row work.operation [] []) ++ (time_html load work.time ++ dated_html scene.tables work_back order)))
 unfolding order_work
 one-is scene order load work = refl
 

@@ -5,7 +5,10 @@ use Rattle.mrp_page.specs.Draw.{has_none, more_html, table_html}
 use Rattle.mrp_page.specs.Explained.{overload_html}
 use Rattle.mrp_page.specs.Folded.{Listing, capped_html}
 use Rattle.mrp_page.specs.Frame.{count_row}
-use Rattle.mrp_page.specs.Layout.{capacity_label, centre_head, centre_open, centres_open, grid_end, later_open, load_label, none_over, over_back, over_front, over_label, over_open, rest_end, section_end, share_cell, share_label, work_note}
+use Rattle.mrp_page.specs.layout.Centres.{capacity_label, centre_head, centre_open, centres_open, load_label, none_over, over_back, over_front, over_label, over_open, share_cell, share_label}
+use Rattle.mrp_page.specs.layout.Lists.{grid_end, rest_end, section_end}
+use Rattle.mrp_page.specs.layout.Records.{later_open}
+use Rattle.mrp_page.specs.layout.Work.{work_note}
 use Rattle.mrp_page.specs.Pictured.{centre_frame, picture_html}
 use Rattle.mrp_page.specs.Row.{RowView, cell_at}
 use Rattle.mrp_page.specs.Rows.{leaders, rows_named}

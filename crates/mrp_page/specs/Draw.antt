@@ -8,10 +8,12 @@ use Rattle.mrp_page.specs.Frame.{count_row, frame_of}
 use Rattle.mrp_page.specs.Html.{is_zero}
 use Rattle.mrp_page.specs.ItemFacts.{safety_html, scale_html}
 use Rattle.mrp_page.specs.ItemRows.{ItemLists}
-use Rattle.mrp_page.specs.Layout.{available_label, balance_chart, balance_label, balance_scale, booked_label, entry, firm_label, grid_end, gross_label, history_end, history_open, later_open, line_open, link_end, link_middle, link_open, more, no_promises, no_record, planned_label, point, points_end, record_head, rest_end, scheduled_label, starts_label}
+use Rattle.mrp_page.specs.layout.History.{entry, history_end, history_open}
+use Rattle.mrp_page.specs.layout.Lists.{grid_end, link_end, link_middle, link_open, more, rest_end}
+use Rattle.mrp_page.specs.layout.Records.{available_label, balance_chart, balance_label, balance_scale, booked_label, firm_label, gross_label, later_open, line_open, no_promises, no_record, planned_label, point, points_end, record_head, scheduled_label, starts_label}
 use Rattle.mrp_page.specs.Row.{RowView, is_of}
 use Rattle.mrp_page.specs.Rows.{greatest, rows_named}
-use Rattle.mrp_page.specs.Template.{Drawn, flows_html, has_word, numbers_html, row_html, rows_html}
+use Rattle.mrp_page.specs.Template.{Drawn, dated_rows, flows_html, has_word, numbers_html, row_html, rows_html}
 use Rattle.mrp_page.specs.Weeks.{weeks_html}
 use Rattle.mrp_facts.specs.Facts.{Facts}
 
@@ -20,6 +22,13 @@ unfoldable pub table_html : List ℕ → List Drawn → List RowView → List �
 table_html front parts rows back =
     front
     ++ (rows_html parts rows
+    ++ back)
+
+-- the same with the dates of their weeks
+unfoldable pub dated_table : Option Facts → List ℕ → List Drawn → List RowView → List ℕ → List ℕ
+dated_table tables front parts rows back =
+    front
+    ++ (dated_rows tables parts rows
     ++ back)
 
 -- a row of a table over the weeks: the numbers of a column
@@ -194,8 +203,8 @@ more_items counts shown =
     ++ more_rows counts
 
 -- the history, folded away, and how many more entries it has
-unfoldable pub history_html : List RowView → ℕ → List ℕ
-history_html history missed =
-    table_html history_open entry history grid_end
+unfoldable pub history_html : Option Facts → List RowView → ℕ → List ℕ
+history_html tables history missed =
+    dated_table tables history_open entry history grid_end
     ++ (more_html missed (codes "entry is") (codes "entries are")
     ++ history_end)

@@ -6,7 +6,9 @@ use Rattle.mrp_work.specs.declared.order.Work.{Work}
 use Rattle.mrp_work.specs.Work.{total}
 use Rattle.mrp_page.specs.Amounts.{amount}
 use Rattle.mrp_page.specs.Frame.{count_row}
-use Rattle.mrp_page.specs.Layout.{over_line, task_row, work_back, work_blank, work_count, work_end, work_head, work_name, work_open, work_operation, work_other, work_rest, work_share, work_table_end, work_unknown}
+use Rattle.mrp_page.specs.layout.Centres.{over_line}
+use Rattle.mrp_page.specs.layout.Todo.{task_row}
+use Rattle.mrp_page.specs.layout.Work.{work_back, work_blank, work_count, work_end, work_head, work_name, work_open, work_operation, work_other, work_rest, work_share, work_table_end, work_unknown}
 use Rattle.mrp_page.specs.Numbering.{row_at}
 use Rattle.mrp_page.specs.Orders.{linked_html, ordered}
 use Rattle.mrp_page.specs.Overloaded.{share_sign, share_words}
@@ -14,7 +16,7 @@ use Rattle.mrp_page.specs.Row.{RowView, cell_at}
 use Rattle.mrp_page.specs.Scene.{SceneView}
 use Rattle.mrp_page.specs.Shares.{minutes_html, share, share_row, whole}
 use Rattle.mrp_page.specs.Sorted.{sorted_by}
-use Rattle.mrp_page.specs.Template.{row_html}
+use Rattle.mrp_page.specs.Template.{dated_html, row_html}
 use Rattle.mrp_page.specs.Work.{WorkView, works_of}
 use Rattle.mrp_page.specs.declared.limits.TheConstants.{MOST_AMOUNT, SOME_ROWS}
 
@@ -49,7 +51,7 @@ order_work scene order load work =
     ++ (order_name_html scene order
     ++ (row_html work_operation (count_row work.operation [] [])
     ++ (time_html load work.time
-    ++ row_html work_back order)))
+    ++ dated_html scene.tables work_back order)))
 
 -- an operation of one of these orders
 abbrev pub work_line : SceneView → List RowView → RowView → Work → List ℕ
@@ -82,18 +84,18 @@ works_or_none scene orders load works =
 -- an overload, with its operations folded behind it
 unfoldable pub explained_html : SceneView → List RowView → RowView → List Work → List ℕ
 explained_html scene orders load works =
-    row_html work_open (share_row load)
+    dated_html scene.tables work_open (share_row load)
     ++ (row_html work_count (count_row (length works) (codes "operation") (codes "operations"))
     ++ (works_or_none scene orders load works
     ++ work_end))
 
 -- an overload, with its operations if it is asked for
 abbrev pub explained_or_plain : SceneView → List RowView → RowView → Option (List Work) → List ℕ
-explained_or_plain scene orders load None = row_html over_line (share_row load)
+explained_or_plain scene orders load None = dated_html scene.tables over_line (share_row load)
 explained_or_plain scene orders load (Some works) = explained_html scene orders load works
 
 abbrev pub overload_html : SceneView → Option WorkView → RowView → List ℕ
-overload_html scene None load = row_html over_line (share_row load)
+overload_html scene None load = dated_html scene.tables over_line (share_row load)
 overload_html scene (Some view) load = explained_or_plain scene view.orders load (works_of view load)
 
 -- the texts of a time

@@ -3,7 +3,7 @@ use Rattle.std.specs.Prelude.{ℕ, List, [], ◌++◌, codes, drop, flat_map, le
 use Rattle.mrp_page.specs.declared.limits.TheConstants.{MOST_LINES}
 use Rattle.mrp_page.specs.Draw.{has_none, more_html}
 use Rattle.mrp_page.specs.Frame.{count_row}
-use Rattle.mrp_page.specs.Layout.{rest_end, rest_open}
+use Rattle.mrp_page.specs.layout.Lists.{rest_end, rest_open}
 use Rattle.mrp_page.specs.Row.{RowView}
 use Rattle.mrp_page.specs.Template.{row_html}
 

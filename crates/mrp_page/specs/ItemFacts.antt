@@ -12,7 +12,8 @@ use Rattle.mrp_tables.specs.Versions.{lead_unit}
 use Rattle.mrp_facts.specs.Facts.{Facts, item_facts}
 use Rattle.mrp_facts.specs.declared.facts.ItemFacts.{ItemFacts}
 use Rattle.mrp_page.specs.Html.{number_html}
-use Rattle.mrp_page.specs.Layout.{facts_end, facts_open, facts_steps, safety_line, safety_scale}
+use Rattle.mrp_page.specs.layout.Items.{facts_end, facts_open, facts_steps}
+use Rattle.mrp_page.specs.layout.Records.{safety_line, safety_scale}
 use Rattle.mrp_page.specs.Row.{Cells, RowView, cell_at}
 use Rattle.mrp_page.specs.Template.{row_html}
 

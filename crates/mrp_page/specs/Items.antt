@@ -1,10 +1,11 @@
 -- The items of a page: an index, and each with its messages, its record, its orders and pegs.
 use Rattle.std.specs.Prelude.{ℕ, List, [], ◌++◌, ◌==◌, Option, None, Some, codes, flat_map, length, if◌then◌else◌}
-use Rattle.mrp_page.specs.Draw.{has_none, item_name_html, link_html, named_note, named_record, table_html}
+use Rattle.mrp_page.specs.Draw.{dated_table, has_none, item_name_html, link_html, named_note, named_record}
 use Rattle.mrp_page.specs.Frame.{count_row}
 use Rattle.mrp_page.specs.ItemFacts.{item_facts_html}
 use Rattle.mrp_page.specs.ItemRows.{ItemLists}
-use Rattle.mrp_page.specs.Layout.{grid_end, index_count, index_end, index_open, item_head, items_end, items_open, lists_open, order, orders_open, peg_back, peg_booking, peg_front, peg_middle, peg_need, peg_parent, peg_supply, pegs_open, rest_end, section_end, wait_end, wait_late, wait_middle, wait_order, wait_supply, waits_open}
+use Rattle.mrp_page.specs.layout.Items.{index_count, index_end, index_open, item_head, items_end, items_open, lists_open, order, orders_open, peg_back, peg_booking, peg_front, peg_middle, peg_need, peg_parent, peg_supply, pegs_open, wait_end, wait_late, wait_middle, wait_order, wait_supply, waits_open}
+use Rattle.mrp_page.specs.layout.Lists.{grid_end, rest_end, section_end}
 use Rattle.mrp_page.specs.Orders.{linked_html, numbered, ordered}
 use Rattle.mrp_page.specs.Pegs.{waits_for}
 use Rattle.mrp_page.specs.Refused.{entry_name_html}
@@ -12,11 +13,12 @@ use Rattle.mrp_page.specs.Row.{RowView, cell_at}
 use Rattle.mrp_page.specs.Rows.{rows_named}
 use Rattle.mrp_page.specs.Said.{item_messages}
 use Rattle.mrp_page.specs.Scene.{SceneView}
-use Rattle.mrp_page.specs.Template.{has_word, row_html}
+use Rattle.mrp_page.specs.Template.{dated_html, has_word, row_html}
+use Rattle.mrp_facts.specs.Facts.{Facts}
 
 -- the orders of an item
-unfoldable pub orders_html : List RowView → List ℕ
-orders_html orders = table_html orders_open order orders grid_end
+unfoldable pub orders_html : Option Facts → List RowView → List ℕ
+orders_html tables orders = dated_table tables orders_open order orders grid_end
 
 -- the order of a parent that a peg is for, if it is kept
 abbrev pub parent_of : SceneView → RowView → Option RowView
@@ -44,7 +46,7 @@ peg_html scene peg =
     ++ (supply_html scene peg
     ++ (row_html peg_middle peg
     ++ (need_html scene peg
-    ++ row_html peg_back peg)))
+    ++ dated_html scene.tables peg_back peg)))
 
 -- the pegs of an item
 unfoldable pub pegs_html : SceneView → List RowView → List ℕ
@@ -75,7 +77,7 @@ waits_html scene pegs =
 unfoldable pub item_lists_html : SceneView → List ℕ → List ℕ
 item_lists_html scene name =
     lists_open
-    ++ (orders_html (rows_named name scene.orders)
+    ++ (orders_html scene.tables (rows_named name scene.orders)
     ++ (pegs_html scene (rows_named name scene.pegs)
     ++ (waits_html scene (waits_for scene.pegs name)
     ++ (rest_end

@@ -9,7 +9,8 @@ use Rattle.mrp_page.specs.ByWord.{with_word}
 use Rattle.mrp_page.specs.Draw.{has_none, is_plain, item_name_html, more_html}
 use Rattle.mrp_page.specs.Folded.{Listing, capped_html}
 use Rattle.mrp_page.specs.Frame.{count_row}
-use Rattle.mrp_page.specs.Layout.{cancel_front, cancel_open, in_front, in_open, late_front, late_open, nothing_to_do, open_pieces, order_start, order_unknown, order_week, other_cells, other_front, other_open, out_front, out_open, release_front, release_open, rest_end, row_end, section_end, table_end, task_middle, task_row, task_supply, to_week, todo_note, todo_open, weeks_late}
+use Rattle.mrp_page.specs.layout.Lists.{rest_end, section_end, table_end}
+use Rattle.mrp_page.specs.layout.Todo.{cancel_front, cancel_open, in_front, in_open, late_front, late_open, nothing_to_do, open_pieces, order_start, order_unknown, order_week, other_cells, other_front, other_open, out_front, out_open, release_front, release_open, row_end, task_middle, task_row, task_supply, to_week, todo_note, todo_open, weeks_late}
 use Rattle.mrp_page.specs.Orders.{linked_html, ordered}
 use Rattle.mrp_page.specs.Pegs.{pieces_of_order}
 use Rattle.mrp_page.specs.Receipts.{receipt_html, receipt_of}
@@ -18,7 +19,7 @@ use Rattle.mrp_page.specs.Row.{RowView, cell_at}
 use Rattle.mrp_page.specs.Rows.{rank}
 use Rattle.mrp_page.specs.Scene.{SceneView}
 use Rattle.mrp_page.specs.Sorted.{sorted_by}
-use Rattle.mrp_page.specs.Template.{Drawn, drawn_of, has_word, row_html}
+use Rattle.mrp_page.specs.Template.{Drawn, dated_html, drawn_of, has_word, row_html}
 
 -- a kind of messages: the word that the day has for it; what its fold and its table begin with; the cells that its rows have
 -- of the order that a message is about, and those of the message;
@@ -72,7 +73,7 @@ pegged_html scene message =
 
 -- the cells of an open order by its receipt, or without one by its pegs
 abbrev pub received_html : SceneView → RowView → Option Receipt → List ℕ
-received_html scene message (Some receipt) = receipt_html receipt
+received_html scene message (Some receipt) = receipt_html scene.tables receipt
 received_html scene message None = pegged_html scene message
 
 abbrev pub open_html : SceneView → RowView → List ℕ
@@ -80,7 +81,7 @@ open_html scene message = received_html scene message (receipt_of scene.tables m
 
 -- the cells of an order, or of an open one
 abbrev pub order_html : Kind → SceneView → RowView → Option RowView → List ℕ
-order_html kind scene message (Some order) = row_html kind.order order
+order_html kind scene message (Some order) = dated_html scene.tables kind.order order
 order_html kind scene message None = open_html scene message
 
 -- a message
@@ -92,7 +93,7 @@ task_line kind scene message =
     ++ (linked_html scene (order_of scene message) (row_html task_supply message)
     ++ (codes "</td>"
     ++ (order_html kind scene message (order_of scene message)
-    ++ row_html kind.value message)))))
+    ++ dated_html scene.tables kind.value message)))))
 
 abbrev pub kind_listing : Kind → SceneView → Listing
 kind_listing kind scene = record { line = task_line kind scene; front = kind.front; back = table_end }

@@ -6,7 +6,18 @@ use Rattle.mrp_page.specs.ItemRows.{item_lists}
 use Rattle.mrp_page.specs.Items.{message_count}
 use Rattle.mrp_page.specs.Kinds.{kinds, messages_of, open_count, other_messages}
 use Rattle.mrp_page.specs.Laws.{Entry, Escaped, Link, Markup, Order, Piece, piece_html}
-use Rattle.mrp_page.specs.Layout.{above_bar, above_end, available_label, balance_chart, balance_label, balance_scale, booked_label, cancel_front, cancel_open, capacity_label, centre_head, centre_open, centre_tile, centres_open, cut_bar, entry, firm_label, glance_open, grid_end, gross_label, history_end, history_open, hot_bar, hot_end, in_front, in_open, index_count, index_end, index_open, item_head, items_end, items_open, late_front, late_open, later_open, link_end, lists_open, load_chart, load_end, load_label, low_bar, low_end, main_open, more, no_promises, no_record, none_out, none_over, none_refused, nothing_to_do, open_pieces, order, order_address, order_start, order_unknown, order_week, orders_open, other_cells, other_front, other_open, out_cells, out_first_open, out_front, out_late, out_open, outs_front, outs_head_end, outs_note, outs_safety, over_back, over_front, over_label, over_line, over_open, overloaded_line, overloaded_open, page_end, page_head, page_top, peg_back, peg_booking, peg_front, peg_middle, peg_need, peg_parent, peg_supply, pegs_open, planned_label, point, points_end, record_head, refused_answer, refused_asked, refused_desk, refused_end, refused_front, refused_open, refused_row, release_front, release_open, rest_end, rest_open, row_end, scheduled_label, section_end, share_cell, share_label, starts_label, style, summary_open, summary_tile, table_end, task_middle, task_row, task_supply, title_end, title_open, to_week, todo_note, todo_open, wait_end, wait_late, wait_middle, wait_order, wait_supply, waits_open, week, weeks_end, weeks_late, date_end, date_open, facts_end, facts_open, facts_steps, line_open, open_receipt, page_items, safety_line, safety_scale, start_end, start_open, week_end, no_message, none_at_risk, risk_booking, risk_front, risk_middle, risk_note, risk_open, risk_order, risks_unknown, said_back, said_close, said_front, said_open, said_other_back, said_other_front, said_pieces, said_receipt, said_start, said_week, work_back, work_blank, work_count, work_end, work_head, work_name, work_note, work_open, work_operation, work_other, work_rest, work_share, work_table_end, work_unknown}
+use Rattle.mrp_page.specs.layout.Centres.{above_bar, above_end, capacity_label, centre_head, centre_open, centres_open, cut_bar, hot_bar, hot_end, load_chart, load_end, load_label, low_bar, low_end, none_over, over_back, over_front, over_label, over_line, over_open, share_cell, share_label}
+use Rattle.mrp_page.specs.layout.Glance.{glance_open, none_out, out_cells, out_first_open, out_late, outs_front, outs_head_end, outs_note, outs_safety, overloaded_line, overloaded_open}
+use Rattle.mrp_page.specs.layout.Head.{centre_tile, main_open, page_end, page_head, page_items, page_top, start_end, start_open, style, summary_open, summary_tile}
+use Rattle.mrp_page.specs.layout.History.{entry, history_end, history_open}
+use Rattle.mrp_page.specs.layout.Items.{facts_end, facts_open, facts_steps, index_count, index_end, index_open, item_head, items_end, items_open, lists_open, order, order_address, orders_open, peg_back, peg_booking, peg_front, peg_middle, peg_need, peg_parent, peg_supply, pegs_open, wait_end, wait_late, wait_middle, wait_order, wait_supply, waits_open}
+use Rattle.mrp_page.specs.layout.Lists.{grid_end, link_end, more, rest_end, rest_open, section_end, table_end, title_end, title_open}
+use Rattle.mrp_page.specs.layout.Records.{available_label, balance_chart, balance_label, balance_scale, booked_label, date_end, date_open, firm_label, gross_label, later_open, line_open, no_promises, no_record, planned_label, point, points_end, record_head, safety_line, safety_scale, scheduled_label, starts_label, week, week_end, weeks_end}
+use Rattle.mrp_page.specs.layout.Refused.{none_refused, refused_answer, refused_asked, refused_desk, refused_end, refused_front, refused_open, refused_row}
+use Rattle.mrp_page.specs.layout.Risk.{none_at_risk, risk_booking, risk_front, risk_middle, risk_note, risk_open, risk_order, risks_unknown}
+use Rattle.mrp_page.specs.layout.Said.{no_message, said_back, said_close, said_front, said_open, said_other_back, said_other_front, said_pieces, said_receipt, said_start, said_week}
+use Rattle.mrp_page.specs.layout.Todo.{cancel_front, cancel_open, in_front, in_open, late_front, late_open, nothing_to_do, open_pieces, open_receipt, order_start, order_unknown, order_week, other_cells, other_front, other_open, out_front, out_open, release_front, release_open, row_end, task_middle, task_row, task_supply, to_week, todo_note, todo_open, weeks_late}
+use Rattle.mrp_page.specs.layout.Work.{work_back, work_blank, work_count, work_end, work_head, work_name, work_note, work_open, work_operation, work_other, work_rest, work_share, work_table_end, work_unknown}
 use Rattle.mrp_facts.specs.Facts.{Facts, item_facts, open_order}
 use Rattle.mrp_facts.specs.declared.facts.ItemFacts.{ItemFacts}
 use Rattle.mrp_tables.specs.declared.rows.Receipt.{Receipt}
@@ -27,7 +38,7 @@ use Rattle.mrp_page.specs.Said.{by_urgency}
 use Rattle.mrp_page.specs.Scene.{SceneView}
 use Rattle.mrp_page.specs.Shares.{overloads_first, share_cells, share_of, whole}
 use Rattle.mrp_page.specs.Summary.{centre_count, count_with, is_over, is_undone, overloads}
-use Rattle.mrp_page.specs.Template.{Drawn, Mark, Number, Text, Where}
+use Rattle.mrp_page.specs.Template.{Date, DateWhere, Drawn, Mark, Number, Text, Week, Where}
 use Rattle.mrp_page.specs.declared.counts.Counts.{Counts}
 use Rattle.mrp_page.specs.declared.limits.TheConstants.{FEW_ROWS, MOST_EXPLAINED, MOST_LINES, SOME_ROWS}
 use Rattle.mrp_page.specs.Unshown.{unshown}
@@ -48,6 +59,9 @@ marks_of (Mark markup) = markup ∷ []
 marks_of (Where column word markup) = markup ∷ []
 marks_of (Text column) = []
 marks_of (Number column) = []
+marks_of (Week column) = []
+marks_of (Date column) = []
+marks_of (DateWhere column word at) = []
 
 -- the markup that what the tables add is drawn with
 unfoldable pub tables_layouts : List (List Drawn)
@@ -55,7 +69,7 @@ tables_layouts = page_items ∷ facts_open ∷ facts_steps ∷ facts_end ∷ saf
 
 -- markup that stands around it
 unfoldable pub tables_plain : List (List ℕ)
-tables_plain = week_end ∷ date_open ∷ date_end ∷ start_open ∷ start_end ∷ line_open ∷ work_note ∷ work_other ∷ work_blank ∷ work_table_end ∷ work_unknown ∷ work_end ∷ outs_safety ∷ []
+tables_plain = week_end ∷ date_open ∷ date_end ∷ start_open ∷ start_end ∷ line_open ∷ work_note ∷ work_other ∷ work_blank ∷ work_table_end ∷ work_unknown ∷ work_end ∷ outs_safety ∷ codes " <i>" ∷ codes "</i>" ∷ codes " (" ∷ codes ")" ∷ []
 
 -- all markup that a page may have; it is the same for every day
 unfoldable pub own_words : List (List ℕ)

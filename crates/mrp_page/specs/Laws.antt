@@ -6,7 +6,7 @@ use Rattle.mrp_page.specs.Html.{number_tag}
 use Rattle.mrp_page.specs.Orders.{order_link}
 use Rattle.mrp_page.specs.Refused.{entry_link_html}
 use Rattle.mrp_page.specs.Row.{RowView, cell_at}
-use Rattle.mrp_page.specs.Template.{Drawn, Mark, Number, Text, Where, has_word, markup_if}
+use Rattle.mrp_page.specs.Template.{Date, DateWhere, Drawn, Mark, Number, Text, Week, Where, has_word, markup_if}
 
 -- a piece of a page: markup, which is no text of a day; a text; a name that links to its item; a number that links to its
 -- entry of the history; or what a link to an order begins with, from its number and the name of its item
@@ -43,6 +43,9 @@ part_pieces row (Mark markup) = Markup markup ∷ []
 part_pieces row (Where column word markup) = Markup (markup_if (has_word column word row) markup) ∷ []
 part_pieces row (Text column) = Escaped (cell_at row column) ∷ []
 part_pieces row (Number column) = Markup (number_tag (cell_at row column)) ∷ Escaped (cell_at row column) ∷ Markup (codes "</td>") ∷ []
+part_pieces row (Week column) = Markup (codes "<td>") ∷ Escaped (cell_at row column) ∷ Markup (codes "</td>") ∷ []
+part_pieces row (Date column) = []
+part_pieces row (DateWhere column word at) = []
 
 -- the pieces that a row is drawn as
 unfoldable pub pieces : RowView → List Drawn → List Piece

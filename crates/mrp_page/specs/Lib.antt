@@ -6,6 +6,7 @@ pub mod Centres
 pub mod Columns
 pub mod Counted
 pub mod Counts
+pub mod Dates
 pub mod Draw
 pub mod Escaped
 pub mod Explained
@@ -21,7 +22,7 @@ pub mod Kinds
 pub mod Known
 pub mod Labels
 pub mod Laws
-pub mod Layout
+pub mod layout
 pub mod Names
 pub mod Notes
 pub mod Numbering

@@ -4,7 +4,8 @@ use Rattle.std.specs.List.{slice_get}
 use Rattle.mrp_page.specs.Amounts.{amount}
 use Rattle.mrp_page.specs.Draw.{has_item}
 use Rattle.mrp_page.specs.Escaped.{escaped}
-use Rattle.mrp_page.specs.Layout.{link_end, link_middle, order_address}
+use Rattle.mrp_page.specs.layout.Items.{order_address}
+use Rattle.mrp_page.specs.layout.Lists.{link_end, link_middle}
 use Rattle.mrp_page.specs.Row.{RowView, cell_at, is_of}
 use Rattle.mrp_page.specs.Rows.{rows_named}
 use Rattle.mrp_page.specs.Scene.{SceneView}

@@ -7,13 +7,15 @@ use Rattle.mrp_page.specs.Draw.{has_none, item_name_html, more_html}
 use Rattle.mrp_page.specs.Frame.{count_row}
 use Rattle.mrp_page.specs.Html.{is_zero}
 use Rattle.mrp_page.specs.ItemFacts.{safety_cell_html}
-use Rattle.mrp_page.specs.Layout.{none_out, out_cells, out_first_open, out_late, outs_front, outs_head_end, outs_note, outs_safety, section_end, table_end, task_row}
+use Rattle.mrp_page.specs.layout.Glance.{none_out, out_cells, out_first_open, out_late, outs_front, outs_head_end, outs_note, outs_safety}
+use Rattle.mrp_page.specs.layout.Lists.{section_end, table_end}
+use Rattle.mrp_page.specs.layout.Todo.{task_row}
 use Rattle.mrp_page.specs.Row.{RowView, cell_at}
 use Rattle.mrp_page.specs.Rows.{leaders, rank, rows_named}
 use Rattle.mrp_page.specs.Scene.{SceneView}
 use Rattle.mrp_page.specs.Shares.{week_rank}
 use Rattle.mrp_page.specs.Sorted.{sorted_by}
-use Rattle.mrp_page.specs.Template.{has_word, row_html}
+use Rattle.mrp_page.specs.Template.{dated_html, has_word, row_html}
 use Rattle.mrp_page.specs.declared.limits.TheConstants.{FEW_ROWS}
 use Rattle.mrp_day.specs.declared.section.Section.TheVariants as s
 
@@ -69,7 +71,7 @@ unfoldable pub out_line : SceneView → RowView → List ℕ
 out_line scene out =
     task_row
     ++ (item_name_html scene.shown (cell_at out 0)
-    ++ (row_html out_cells out
+    ++ (dated_html scene.tables out_cells out
     ++ (safety_cell_html scene.tables (cell_at out 0)
     ++ row_html out_late out)))
 

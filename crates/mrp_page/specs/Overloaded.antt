@@ -2,14 +2,16 @@
 use Rattle.std.specs.Prelude.{ℕ, ◌+◌, ◌*◌, ◌/◌, ◌-◌, ◌^◌, ◌==◌, min, List, [], ◌∷◌, ◌++◌, Option, None, Some, codes, count_by, decimal, flat_map, length, map, take, unwrap_or, if◌then◌else◌}
 use Rattle.std.specs.List.{fold}
 use Rattle.mrp_page.specs.Amounts.{amount}
-use Rattle.mrp_page.specs.Layout.{overloaded_line, overloaded_open, section_end}
+use Rattle.mrp_page.specs.layout.Glance.{overloaded_line, overloaded_open}
+use Rattle.mrp_page.specs.layout.Lists.{section_end}
 use Rattle.mrp_page.specs.Pictured.{centre_frame, picture_html}
 use Rattle.mrp_page.specs.Row.{RowView, cell_at}
 use Rattle.mrp_page.specs.Rows.{leaders, rows_named}
 use Rattle.mrp_page.specs.Shares.{falling_share, share, share_row}
 use Rattle.mrp_page.specs.Sorted.{sorted_by}
 use Rattle.mrp_page.specs.Summary.{is_over, overloads}
-use Rattle.mrp_page.specs.Template.{row_html}
+use Rattle.mrp_page.specs.Template.{dated_html}
+use Rattle.mrp_facts.specs.Facts.{Facts}
 use Rattle.mrp_page.specs.declared.limits.TheConstants.{MOST_AMOUNT, MOST_OVERLOADED, RATE_UNIT}
 use Rattle.mrp_day.specs.declared.section.Section.TheVariants as s
 
@@ -85,12 +87,12 @@ overloaded_row rows =
     drawn_overloaded (name_of rows) (decimal (count_by is_over rows)) (decimal (length rows)) (worst_week rows) (share_words (share_of_all rows) (decimal (unwrap_or (share_of_all rows) 0))) (share_sign (share_of_all rows))
 
 -- a work centre that is over its capacity, with its picture
-unfoldable pub overloaded_html : List RowView → List ℕ
-overloaded_html rows =
-    row_html overloaded_line (overloaded_row rows)
+unfoldable pub overloaded_html : Option Facts → List RowView → List ℕ
+overloaded_html tables rows =
+    dated_html tables overloaded_line (overloaded_row rows)
     ++ picture_html (centre_frame (name_of rows) rows) (map share_row rows)
 
 -- the most overloaded work centres, if any is over its capacity
-unfoldable pub most_overloaded : List (List RowView) → List ℕ
-most_overloaded centres =
-    if length centres == 0 then [] else overloaded_open ++ (flat_map overloaded_html (take MOST_OVERLOADED centres) ++ section_end)
+unfoldable pub most_overloaded : Option Facts → List (List RowView) → List ℕ
+most_overloaded tables centres =
+    if length centres == 0 then [] else overloaded_open ++ (flat_map (overloaded_html tables) (take MOST_OVERLOADED centres) ++ section_end)

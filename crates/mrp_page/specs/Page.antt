@@ -8,7 +8,9 @@ use Rattle.mrp_page.specs.Frame.{heading}
 use Rattle.mrp_page.specs.ItemRows.{ItemLists, item_lists}
 use Rattle.mrp_page.specs.Items.{index_html, items_html}
 use Rattle.mrp_page.specs.Kinds.{todo_html}
-use Rattle.mrp_page.specs.Layout.{glance_open, page_end, page_head, page_items, page_top, section_end, style}
+use Rattle.mrp_page.specs.layout.Glance.{glance_open}
+use Rattle.mrp_page.specs.layout.Head.{page_end, page_head, page_items, page_top, style}
+use Rattle.mrp_page.specs.layout.Lists.{section_end}
 use Rattle.mrp_page.specs.Notes.{Noted}
 use Rattle.mrp_page.specs.Outs.{outs_section}
 use Rattle.mrp_page.specs.Overloaded.{most_overloaded, overloaded_first}
@@ -23,7 +25,8 @@ use Rattle.mrp_page.specs.Summary.{summary_html}
 use Rattle.mrp_page.specs.Template.{row_html}
 use Rattle.mrp_day.specs.declared.section.Section.TheVariants as s
 use Rattle.mrp_page.specs.Unshown.{unshown}
-use Rattle.mrp_page.specs.Weeks.{date_in, start_html}
+use Rattle.mrp_page.specs.Dates.{date_in}
+use Rattle.mrp_page.specs.Weeks.{start_html}
 use Rattle.mrp_facts.specs.Facts.{Facts}
 
 -- the head of a page
@@ -60,7 +63,7 @@ items_of scene rows counts =
 
 -- the items, the history and the end of a page
 unfoldable pub rest_html : SceneView → ItemLists → Counts → List ℕ
-rest_html scene rows counts = items_of scene rows counts ++ (history_html scene.history counts.history ++ page_end)
+rest_html scene rows counts = items_of scene rows counts ++ (history_html scene.tables scene.history counts.history ++ page_end)
 
 -- the head of a page, with its title, the report, and the number of items
 unfoldable pub top_html : List ℕ → Option Facts → List RowView → ℕ → List ℕ
@@ -71,7 +74,7 @@ unfoldable pub glance_html : SceneView → List RowView → ℕ → List ℕ
 glance_html scene report missed =
     glance_open
     ++ (outs_section scene (rows_in s.Plan report) missed
-    ++ (most_overloaded (overloaded_first (rows_in s.Loads report))
+    ++ (most_overloaded scene.tables (overloaded_first (rows_in s.Loads report))
     ++ section_end))
 
 -- a page, from what its parts are drawn from
@@ -80,7 +83,7 @@ page_of title notes scene risks =
     top_html title scene.tables notes.report notes.counts.items
     ++ (summary_html notes.history (rows_in s.Messages notes.report) (rows_in s.Loads notes.report) risks
     ++ (glance_html scene notes.report notes.counts.plan
-    ++ (refused_section scene.shown notes.history notes.counts.history
+    ++ (refused_section scene notes.counts.history
     ++ (risks_html scene risks
     ++ (todo_html scene (rows_in s.Messages notes.report) notes.counts.messages
     ++ (load_section scene (rows_in s.Loads notes.report) notes.counts.loads

@@ -2,7 +2,7 @@
 use Rattle.std.specs.Prelude.{ℕ, List, [], ◌++◌, codes}
 use Rattle.mrp_page.specs.Draw.{table_html}
 use Rattle.mrp_page.specs.Frame.{frame}
-use Rattle.mrp_page.specs.Layout.{above_bar, above_end, cut_bar, hot_bar, hot_end, load_chart, load_end, low_bar, low_end}
+use Rattle.mrp_page.specs.layout.Centres.{above_bar, above_end, cut_bar, hot_bar, hot_end, load_chart, load_end, low_bar, low_end}
 use Rattle.mrp_page.specs.Row.{RowView}
 use Rattle.mrp_page.specs.Rows.{greatest}
 use Rattle.mrp_page.specs.Template.{row_html, rows_html}

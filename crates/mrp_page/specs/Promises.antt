@@ -7,7 +7,10 @@ use Rattle.mrp_page.specs.declared.limits.TheConstants.{MOST_AMOUNT, SOME_ROWS}
 use Rattle.mrp_page.specs.AtRisk.{RisksView}
 use Rattle.mrp_page.specs.Draw.{has_none, item_name_html}
 use Rattle.mrp_page.specs.Folded.{Listing, capped_html}
-use Rattle.mrp_page.specs.Layout.{none_at_risk, refused_row, risk_booking, risk_front, risk_middle, risk_note, risk_open, risk_order, risks_unknown, section_end, table_end, weeks_late}
+use Rattle.mrp_page.specs.layout.Lists.{section_end, table_end}
+use Rattle.mrp_page.specs.layout.Refused.{refused_row}
+use Rattle.mrp_page.specs.layout.Risk.{none_at_risk, risk_booking, risk_front, risk_middle, risk_note, risk_open, risk_order, risks_unknown}
+use Rattle.mrp_page.specs.layout.Todo.{weeks_late}
 use Rattle.mrp_page.specs.Numbering.{AreAnswers, row_at}
 use Rattle.mrp_page.specs.Orders.{linked_html, ordered}
 use Rattle.mrp_page.specs.Outs.{falling_late}
@@ -17,7 +20,7 @@ use Rattle.mrp_page.specs.Scene.{SceneView}
 use Rattle.mrp_page.specs.Shares.{week_rank}
 use Rattle.mrp_page.specs.Sorted.{sorted_by}
 use Rattle.mrp_page.specs.Spot.{Names}
-use Rattle.mrp_page.specs.Template.{row_html}
+use Rattle.mrp_page.specs.Template.{dated_html, row_html}
 use Rattle.mrp_risk.specs.declared.risk.Risk.{Risk}
 use Rattle.mrp_risk.specs.Risks.{risk_at}
 
@@ -80,7 +83,7 @@ risk_line scene risk =
     ++ (item_name_html scene.shown (cell_at risk 0)
     ++ (risk_booking
     ++ (entry_name_html scene.history (cell_at risk 2)
-    ++ (row_html risk_middle risk
+    ++ (dated_html scene.tables risk_middle risk
     ++ risk_end scene risk))))
 
 abbrev pub risk_listing : SceneView → Listing

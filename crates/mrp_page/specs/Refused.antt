@@ -6,9 +6,11 @@ use Rattle.mrp_page.specs.ByWord.{by_word}
 use Rattle.mrp_page.specs.Draw.{has_item, has_none, item_name_html, more_html}
 use Rattle.mrp_page.specs.Escaped.{escaped}
 use Rattle.mrp_page.specs.Folded.{Listing, folded_html}
-use Rattle.mrp_page.specs.Layout.{entry_link_open, link_end, link_middle, none_refused, refused_answer, refused_asked, refused_desk, refused_end, refused_front, refused_open, refused_row, section_end, table_end}
+use Rattle.mrp_page.specs.layout.Lists.{link_end, link_middle, section_end, table_end}
+use Rattle.mrp_page.specs.layout.Refused.{entry_link_open, none_refused, refused_answer, refused_asked, refused_desk, refused_end, refused_front, refused_open, refused_row}
 use Rattle.mrp_page.specs.Row.{RowView, cell_at, is_of}
-use Rattle.mrp_page.specs.Template.{has_word, row_html}
+use Rattle.mrp_page.specs.Scene.{SceneView}
+use Rattle.mrp_page.specs.Template.{dated_html, has_word, row_html}
 
 -- the replies to calls that were not answered as they asked, in the order of the page
 abbrev pub refusals : List (List ℕ)
@@ -50,29 +52,29 @@ unfoldable pub caller_html : List RowView → RowView → List ℕ
 caller_html history call = row_html refused_desk call ++ (entry_name_html history (cell_at call 0) ++ refused_end)
 
 -- a call about an item, pieces and a week
-unfoldable pub call_html : List RowView → List RowView → RowView → RowView → List ℕ
-call_html shown history asked call =
+unfoldable pub call_html : SceneView → RowView → RowView → List ℕ
+call_html scene asked call =
     refused_row
-    ++ (item_name_html shown (cell_at asked 3)
-    ++ (answer_html history call
-    ++ (row_html refused_asked asked
-    ++ caller_html history call)))
+    ++ (item_name_html scene.shown (cell_at asked 3)
+    ++ (answer_html scene.history call
+    ++ (dated_html scene.tables refused_asked asked
+    ++ caller_html scene.history call)))
 
 -- a call: the item, pieces and week that it is about, and how it was answered
-abbrev pub refused_html : List RowView → List RowView → RowView → List ℕ
-refused_html shown history call = call_html shown history (asked_of history call) call
+abbrev pub refused_html : SceneView → RowView → List ℕ
+refused_html scene call = call_html scene (asked_of scene.history call) call
 
-abbrev pub refused_listing : List RowView → List RowView → Listing
-refused_listing shown history = record { line = refused_html shown history; front = refused_front; back = table_end }
+abbrev pub refused_listing : SceneView → Listing
+refused_listing scene = record { line = refused_html scene; front = refused_front; back = table_end }
 
 -- calls; if there are none, and the whole history was kept, that there are none
-unfoldable pub refused_or_none : List RowView → List RowView → ℕ → List RowView → List ℕ
-refused_or_none shown history missed rows =
-    if has_none rows && (missed == 0) then none_refused else folded_html (refused_listing shown history) FEW_ROWS rows
+unfoldable pub refused_or_none : SceneView → ℕ → List RowView → List ℕ
+refused_or_none scene missed rows =
+    if has_none rows && (missed == 0) then none_refused else folded_html (refused_listing scene) FEW_ROWS rows
 
 -- the calls that were not answered as they asked
-unfoldable pub refused_lines : List RowView → List RowView → ℕ → List ℕ
-refused_lines shown history missed = refused_or_none shown history missed (refused_rows history)
+unfoldable pub refused_lines : SceneView → ℕ → List ℕ
+refused_lines scene missed = refused_or_none scene missed (refused_rows scene.history)
 
 -- how many entries of the history were not kept
 unfoldable pub refused_back : ℕ → List ℕ
@@ -81,8 +83,8 @@ refused_back missed =
     ++ section_end
 
 -- the section *Not promised*
-unfoldable pub refused_section : List RowView → List RowView → ℕ → List ℕ
-refused_section shown history missed =
+unfoldable pub refused_section : SceneView → ℕ → List ℕ
+refused_section scene missed =
     refused_open
-    ++ (refused_lines shown history missed
+    ++ (refused_lines scene missed
     ++ refused_back missed)

@@ -5,13 +5,15 @@ use Rattle.mrp_page.specs.Draw.{has_none, is_plain}
 use Rattle.mrp_page.specs.Folded.{Listing, folded_html}
 use Rattle.mrp_page.specs.ItemRows.{ItemLists}
 use Rattle.mrp_page.specs.Kinds.{open_count, order_of, other_messages}
-use Rattle.mrp_page.specs.Layout.{no_message, said_back, said_close, said_front, said_open, said_other_back, said_other_front, said_pieces, said_receipt, said_start, said_week, task_supply}
+use Rattle.mrp_page.specs.layout.Said.{no_message, said_back, said_close, said_front, said_open, said_other_back, said_other_front, said_pieces, said_receipt, said_start, said_week}
+use Rattle.mrp_page.specs.layout.Todo.{task_supply}
 use Rattle.mrp_page.specs.Orders.{linked_html}
 use Rattle.mrp_page.specs.Receipts.{receipt_of, receipt_row}
 use Rattle.mrp_page.specs.Row.{RowView, cell_at, same_text}
 use Rattle.mrp_page.specs.Rows.{rows_named}
 use Rattle.mrp_page.specs.Scene.{SceneView}
-use Rattle.mrp_page.specs.Template.{Drawn, has_word, row_html}
+use Rattle.mrp_page.specs.Template.{Drawn, dated_html, has_word, row_html}
+use Rattle.mrp_facts.specs.Facts.{Facts}
 use Rattle.mrp_page.specs.declared.limits.TheConstants.{FEW_ROWS}
 use Rattle.mrp_tables.specs.declared.rows.Receipt.{Receipt}
 use Rattle.mrp_day.specs.declared.section.Section.TheVariants as s
@@ -44,10 +46,10 @@ abbrev pub weeks_of_order : RowView → List Drawn
 weeks_of_order message = if is_release message then said_start else said_week
 
 -- the pieces and the weeks of the order of a message
-unfoldable pub said_order : RowView → RowView → List ℕ
-said_order message order =
+unfoldable pub said_order : Option Facts → RowView → RowView → List ℕ
+said_order tables message order =
     row_html said_pieces (pieces_row (cell_at order 4))
-    ++ row_html (weeks_of_order message) order
+    ++ dated_html tables (weeks_of_order message) order
 
 -- the pieces of an open order, if all pegs are kept
 unfoldable pub said_of_open : SceneView → RowView → List ℕ
@@ -55,19 +57,19 @@ said_of_open scene message =
     if has_word 1 (codes "open") message && scene.whole then row_html said_pieces (pieces_row (decimal (open_count scene message))) else []
 
 -- the pieces and the week of an open order, by its receipt
-unfoldable pub said_received : Receipt → List ℕ
-said_received receipt =
+unfoldable pub said_received : Option Facts → Receipt → List ℕ
+said_received tables receipt =
     row_html said_pieces (pieces_row (decimal receipt.quantity))
-    ++ row_html said_receipt (receipt_row receipt)
+    ++ dated_html tables said_receipt (receipt_row receipt)
 
 -- what is said of an order that is not kept: by its receipt, or without one by its pegs
 abbrev pub said_of_receipt : SceneView → RowView → Option Receipt → List ℕ
-said_of_receipt scene message (Some receipt) = said_received receipt
+said_of_receipt scene message (Some receipt) = said_received scene.tables receipt
 said_of_receipt scene message None = said_of_open scene message
 
 -- what is said of the order of a message
 abbrev pub said_known : SceneView → RowView → Option RowView → List ℕ
-said_known scene message (Some order) = said_order message order
+said_known scene message (Some order) = said_order scene.tables message order
 said_known scene message None = said_of_receipt scene message (receipt_of scene.tables message)
 
 -- what a message begins with: its standard term, or its own word
@@ -84,7 +86,7 @@ said_html scene message =
     row_html (front_of message) message
     ++ (linked_html scene (order_of scene message) (row_html task_supply message)
     ++ (said_known scene message (order_of scene message)
-    ++ row_html (back_of message) message))
+    ++ dated_html scene.tables (back_of message) message))
 
 abbrev pub said_listing : SceneView → Listing
 said_listing scene = record { line = said_html scene; front = said_open; back = said_close }

@@ -5,7 +5,7 @@ use Rattle.std.specs.List.{before_first, position_or_len}
 use Rattle.mrp_page.specs.Amounts.{amount}
 use Rattle.mrp_page.specs.Escaped.{escaped}
 use Rattle.mrp_page.specs.Html.{is_zero}
-use Rattle.mrp_page.specs.Layout.{title_end, title_open}
+use Rattle.mrp_page.specs.layout.Lists.{title_end, title_open}
 use Rattle.mrp_page.specs.Row.{Cells, RowView, cell_at, same_text}
 use Rattle.mrp_page.specs.Rows.{rank}
 use Rattle.mrp_page.specs.Sorted.{sorted_by}

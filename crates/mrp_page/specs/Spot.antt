@@ -4,7 +4,8 @@ use Rattle.std.specs.List.{list_any}
 use Rattle.std.proofs.Common.{Bor}
 use Rattle.std.specs.Cmp.Lexicographic.{pointwise}
 use Rattle.mrp_lines.specs.Lines.{is_line}
-use Rattle.mrp_page.specs.declared.limits.TheConstants.{MOST_ITEMS, MOST_WEEKS}
+use Rattle.mrp_page.specs.declared.limits.TheConstants.{MOST_ITEMS}
+use Rattle.mrp_cal.specs.declared.calendar.TheConstants.{MOST_WEEKS}
 use Rattle.mrp_day.specs.declared.section.Section.{Section}
 use Rattle.mrp_day.specs.declared.section.Section.TheVariants as s
 use Rattle.mrp_page.specs.declared.spot.Place.{Place}

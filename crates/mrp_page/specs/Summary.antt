@@ -2,7 +2,7 @@
 use Rattle.std.specs.Prelude.{ℕ, Bool, List, [], ◌∷◌, ◌++◌, ◌==◌, ◌||◌, codes, count_by, decimal, length, not, if◌then◌else◌}
 use Rattle.std.specs.List.{filter}
 use Rattle.mrp_page.specs.Html.{is_zero}
-use Rattle.mrp_page.specs.Layout.{centre_tile, main_open, summary_open, summary_tile}
+use Rattle.mrp_page.specs.layout.Head.{centre_tile, main_open, summary_open, summary_tile}
 use Rattle.mrp_page.specs.AtRisk.{RisksView}
 use Rattle.mrp_page.specs.Row.{RowView, cell_at}
 use Rattle.mrp_page.specs.Rows.{leaders}

@@ -1,17 +1,12 @@
 -- The weeks of a table's heading, and their dates.
-use Rattle.std.specs.Prelude.{ℕ, ◌==◌, List, [], ◌++◌, Option, Some, None, flat_map, length, if◌then◌else◌}
-use Rattle.mrp_facts.specs.Dates.{in_week}
+use Rattle.std.specs.Prelude.{ℕ, ◌==◌, List, [], ◌++◌, Option, flat_map, length, if◌then◌else◌}
 use Rattle.mrp_facts.specs.Facts.{Facts}
-use Rattle.mrp_page.specs.Amounts.{amount}
+use Rattle.mrp_page.specs.Dates.{date_in}
 use Rattle.mrp_page.specs.Escaped.{escaped}
-use Rattle.mrp_page.specs.Layout.{date_end, date_open, start_end, start_open, week, week_end, weeks_end}
+use Rattle.mrp_page.specs.layout.Head.{start_end, start_open}
+use Rattle.mrp_page.specs.layout.Records.{date_end, date_open, week, week_end, weeks_end}
 use Rattle.mrp_page.specs.Row.{RowView, cell_at}
 use Rattle.mrp_page.specs.Template.{row_html}
-
--- the date of a week, by its text; empty without tables, or if there is no such week
-abbrev pub date_in : Option Facts → List ℕ → List ℕ
-date_in None number = []
-date_in (Some facts) number = in_week facts.dates (amount number)
 
 -- a date below the number of a week; nothing if it is empty
 abbrev pub date_html : List ℕ → List ℕ

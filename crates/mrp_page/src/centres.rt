@@ -4,9 +4,9 @@ ghost use Rattle.std.specs.Prelude.{◌≡◌, ◌++◌, OnOk, flat_map, map, If
 ghost use Rattle.mrp_page.specs.Centres.{all_loads, centre_html, centres_back, each_centre, explained_note, framed_centre, later_loads, load_section, loads_html, loads_table, over_or_none, shares_html, times_html, work_in};
 ghost use Rattle.std.specs.Option.{option_copied};
 ghost use Rattle.mrp_page.specs.Explained.{explained_or_plain};
-ghost use Rattle.mrp_page.specs.Layout.{over_line};
+ghost use Rattle.mrp_page.specs.layout.Centres.{over_line};
 ghost use Rattle.mrp_page.specs.Shares.{minutes_at, overloads_first, share_row};
-ghost use Rattle.mrp_page.specs.Template.{row_html};
+ghost use Rattle.mrp_page.specs.Template.{dated_html};
 ghost use Rattle.mrp_page.specs.Work.{works_of};
 
 use crate::draw::{cut_weeks, put_more, put_table};
@@ -14,11 +14,13 @@ use crate::explained::put_explained;
 use crate::folded::{Lines, cut_rows, put_capped};
 use crate::frame::count_row;
 use crate::html::Html;
-use crate::layout::{
-    capacity_label, centre_head, centre_open, centres_open, grid_end, later_open, load_label,
-    none_over, over_back, over_front, over_label, over_line, over_open, rest_end, section_end,
-    share_cell, share_label, work_note,
+use crate::layout::centres::{
+    capacity_label, centre_head, centre_open, centres_open, load_label, none_over, over_back,
+    over_front, over_label, over_line, over_open, share_cell, share_label,
 };
+use crate::layout::lists::{grid_end, rest_end, section_end};
+use crate::layout::records::later_open;
+use crate::layout::work::work_note;
 use crate::limits::{MOST_EXPLAINED, SOME_ROWS};
 use crate::pictured::{centre_frame, put_picture};
 use crate::places::Places;
@@ -26,7 +28,7 @@ use crate::row::Row;
 use crate::rows::leaders;
 use crate::scene::Scene;
 use crate::shares::{overloads_first, put_minutes, share_row, share_rows};
-use crate::template::put_row;
+use crate::template::{put_dated, put_row};
 use crate::weeks::put_weeks;
 use crate::work::{LoadWork, work_of};
 use mrp_facts::Facts;
@@ -190,11 +192,16 @@ struct Overloads<'o, 'k, 's, 'a> {
 }
 
 // Adds an overload without the operations that load it.
-fn put_plain(alloc: Global, page: &mut Html, load: &Row) -> Result<(), NoMemory>
-    ensures { OnOk result (page.new ≡ page.old ++ row_html over_line (share_row load.now)) }
+fn put_plain(
+    alloc: Global,
+    page: &mut Html,
+    tables: Option<&Facts<'_>>,
+    load: &Row,
+) -> Result<(), NoMemory>
+    ensures { OnOk result (page.new ≡ page.old ++ dated_html (option_copied tables.entry) over_line (share_row load.now)) }
 {
     let row = share_row(alloc, load)?;
-    put_row(page, over_line(), &row)
+    put_dated(page, tables, over_line(), &row)
 }
 
 // Adds an overload, with the operations that load it if it was asked for.
@@ -209,7 +216,7 @@ fn put_asked(
 {
     match work.works(load) {
         Some(works) => put_explained(alloc, page, scene, work.orders(), load, works),
-        None => put_plain(alloc, page, load),
+        None => put_plain(alloc, page, scene.tables(), load),
     }
 }
 
@@ -222,7 +229,7 @@ impl Lines for Overloads<'_, '_, '_, '_> {
     fn put(&self, page: &mut Html, load: &Row) -> Result<(), NoMemory> {
         match self.work {
             Some(work) => put_asked(self.alloc, page, self.scene, work, load),
-            None => put_plain(self.alloc, page, load),
+            None => put_plain(self.alloc, page, self.scene.tables(), load),
         }
     }
 

@@ -1,7 +1,7 @@
 //! Drawing the parts of a page.
 
 ghost use Rattle.std.specs.Prelude.{◌≡◌, ◌++◌, OnOk, drop, map, take};
-ghost use Rattle.mrp_page.specs.Draw.{all_weeks, amounts_html, balance_html, booked_html, framed_record, has_firm, has_item, history_html, is_plain, is_scheduled, item_name_html, later_record, link_html, measure_html, more_html, more_items, more_lists, more_rows, more_weeks, named_note, named_record, planned_html, points_html, promised_html, promises_note, record_html, record_or_none, record_rows, record_table, supplies_html, table_html};
+ghost use Rattle.mrp_page.specs.Draw.{dated_table, all_weeks, amounts_html, balance_html, booked_html, framed_record, has_firm, has_item, history_html, is_plain, is_scheduled, item_name_html, later_record, link_html, measure_html, more_html, more_items, more_lists, more_rows, more_weeks, named_note, named_record, planned_html, points_html, promised_html, promises_note, record_html, record_or_none, record_rows, record_table, supplies_html, table_html};
 ghost use Rattle.std.specs.List.{list_any};
 ghost use Rattle.std.specs.Option.{option_copied};
 ghost use Rattle.mrp_page.specs.Row.{is_of};
@@ -12,16 +12,17 @@ use crate::frame::{count_row, frame_of};
 use crate::html::{Html, is_zero};
 use crate::item_facts::{put_safety, put_scale};
 use crate::item_rows::ItemRows;
-use crate::layout::{
-    available_label, balance_chart, balance_label, balance_scale, booked_label, entry, firm_label,
-    grid_end, gross_label, history_end, history_open, later_open, line_open, link_end, link_middle,
-    link_open, more, no_promises, no_record, planned_label, point, points_end, record_head,
-    rest_end, scheduled_label, starts_label,
+use crate::layout::history::{entry, history_end, history_open};
+use crate::layout::lists::{grid_end, link_end, link_middle, link_open, more, rest_end};
+use crate::layout::records::{
+    available_label, balance_chart, balance_label, balance_scale, booked_label, firm_label,
+    gross_label, later_open, line_open, no_promises, no_record, planned_label, point, points_end,
+    record_head, scheduled_label, starts_label,
 };
 use crate::limits::TABLE_WEEKS;
 use crate::row::Row;
 use crate::rows::greatest;
-use crate::template::{Part, has_word, put_flows, put_numbers, put_row, put_rows};
+use crate::template::{Part, has_word, put_dated_rows, put_flows, put_numbers, put_row, put_rows};
 use crate::weeks::put_weeks;
 use mrp_facts::Facts;
 use mrp_qty::NoMemory;
@@ -40,6 +41,23 @@ pub(crate) fn put_table(
 {
     page.markup(front)?;
     put_rows(page, parts, rows)?;
+    page.markup(back)
+}
+
+// Adds rows between two pieces of markup, with the dates of their weeks if the tables are given.
+#[tactic(auto, unfolding(crate::specs::Draw::dated_table))]
+pub(crate) fn put_dated_table(
+    page: &mut Html,
+    tables: Option<&Facts<'_>>,
+    front: &[u8],
+    parts: &[Part],
+    rows: &[Row],
+    back: &[u8],
+) -> Result<(), NoMemory>
+    ensures { OnOk result (page.new ≡ page.old ++ dated_table (option_copied tables.entry) front.now (map drawn_of parts.now) rows.now back.now) }
+{
+    page.markup(front)?;
+    put_dated_rows(page, tables, parts, rows)?;
     page.markup(back)
 }
 
@@ -457,12 +475,13 @@ pub(crate) fn put_more_items(
 pub(crate) fn put_history(
     alloc: Global,
     page: &mut Html,
+    tables: Option<&Facts<'_>>,
     history: &[Row],
     missed: u64,
 ) -> Result<(), NoMemory>
-    ensures { OnOk result (page.new ≡ page.old ++ history_html history.now missed) }
+    ensures { OnOk result (page.new ≡ page.old ++ history_html (option_copied tables.entry) history.now missed) }
 {
-    put_table(page, history_open(), entry(), history, grid_end())?;
+    put_dated_table(page, tables, history_open(), entry(), history, grid_end())?;
     put_more(alloc, page, missed, b"entry is", b"entries are")?;
     page.markup(history_end())
 }

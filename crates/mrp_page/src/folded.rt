@@ -6,7 +6,7 @@ ghost use Rattle.mrp_page.specs.Folded.{Listing, capped_html, folded_html, hidde
 use crate::draw::put_more;
 use crate::frame::count_row;
 use crate::html::Html;
-use crate::layout::{rest_end, rest_open};
+use crate::layout::lists::{rest_end, rest_open};
 use crate::limits::MOST_LINES;
 use crate::row::Row;
 use crate::template::put_row;

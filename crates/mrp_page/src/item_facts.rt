@@ -5,7 +5,8 @@ ghost use Rattle.std.specs.Option.{option_copied};
 ghost use Rattle.mrp_page.specs.ItemFacts.{class_word, facts_html, facts_row, item_facts_html, lot_word, own_facts, own_facts_html, own_safety_html, own_scale_html, safety_cell_html, safety_cell_or_none, safety_html, safety_line_html, safety_scale_html, scale_html, size_text, steps_html, unit_word};
 
 use crate::html::Html;
-use crate::layout::{facts_end, facts_open, facts_steps, safety_line, safety_scale};
+use crate::layout::items::{facts_end, facts_open, facts_steps};
+use crate::layout::records::{safety_line, safety_scale};
 use crate::row::Row;
 use crate::template::put_row;
 use csv::ByteRecord;

@@ -6,33 +6,34 @@ ghost use Rattle.mrp_page.specs.Items.{count_html, index_html, index_line, item_
 ghost use Rattle.mrp_page.specs.Pegs.{waits_for};
 ghost use Rattle.mrp_page.specs.Refused.{entry_name_html};
 
-use crate::draw::{put_item_name, put_link, put_named_note, put_named_record, put_table};
+use crate::draw::{put_dated_table, put_item_name, put_link, put_named_note, put_named_record};
 use crate::frame::count_row;
 use crate::html::Html;
 use crate::item_facts::put_item_facts;
 use crate::item_rows::ItemRows;
-use crate::layout::{
-    grid_end, index_count, index_end, index_open, item_head, items_end, items_open, lists_open,
-    order, orders_open, peg_back, peg_booking, peg_front, peg_middle, peg_need, peg_parent,
-    peg_supply, pegs_open, rest_end, section_end, wait_end, wait_late, wait_middle, wait_order,
-    wait_supply, waits_open,
+use crate::layout::items::{
+    index_count, index_end, index_open, item_head, items_end, items_open, lists_open, order,
+    orders_open, peg_back, peg_booking, peg_front, peg_middle, peg_need, peg_parent, peg_supply,
+    pegs_open, wait_end, wait_late, wait_middle, wait_order, wait_supply, waits_open,
 };
+use crate::layout::lists::{grid_end, rest_end, section_end};
 use crate::orders::{numbered, ordered, put_linked};
 use crate::places::Places;
 use crate::refused::put_entry_link;
 use crate::row::Row;
 use crate::said::put_item_messages;
 use crate::scene::Scene;
-use crate::template::{has_word, put_row};
+use crate::template::{has_word, put_dated, put_row};
+use mrp_facts::Facts;
 use mrp_qty::NoMemory;
 use std::alloc::Global;
 
 // Adds the orders of an item.
 #[tactic(auto, unfolding(crate::specs::Items::orders_html))]
-fn put_orders(page: &mut Html, orders: &[Row]) -> Result<(), NoMemory>
-    ensures { OnOk result (page.new ≡ page.old ++ orders_html orders.now) }
+fn put_orders(page: &mut Html, tables: Option<&Facts<'_>>, orders: &[Row]) -> Result<(), NoMemory>
+    ensures { OnOk result (page.new ≡ page.old ++ orders_html (option_copied tables.entry) orders.now) }
 {
-    put_table(page, orders_open(), order(), orders, grid_end())
+    put_dated_table(page, tables, orders_open(), order(), orders, grid_end())
 }
 
 // The order of a parent that a peg is for, if it is kept.
@@ -98,7 +99,7 @@ fn put_peg(page: &mut Html, scene: &Scene<'_, '_>, peg: &Row) -> Result<(), NoMe
     put_supply(page, scene, peg)?;
     put_row(page, peg_middle(), peg)?;
     put_need(page, scene, peg)?;
-    put_row(page, peg_back(), peg)
+    put_dated(page, scene.tables(), peg_back(), peg)
 }
 
 // Adds pegs.
@@ -187,7 +188,7 @@ fn put_item_lists(page: &mut Html, scene: &Scene<'_, '_>, name: &[u8]) -> Result
     ensures { OnOk result (page.new ≡ page.old ++ item_lists_html scene.now name.now) }
 {
     page.markup(lists_open())?;
-    put_orders(page, scene.orders_of(name))?;
+    put_orders(page, scene.tables(), scene.orders_of(name))?;
     put_pegs(page, scene, scene.pegs_of(name))?;
     put_waits_for(page, scene, name)?;
     page.markup(rest_end())?;

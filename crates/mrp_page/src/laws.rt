@@ -29,7 +29,17 @@ ghost use Rattle.mrp_page.specs.ItemRows.{ItemLists, item_lists};
 ghost use Rattle.mrp_page.specs.Known.{IsKnown, IsMadeOf, IsOrderShown, entries_kept, names_shown};
 ghost use Rattle.mrp_page.specs.Labels.{AreFirm};
 ghost use Rattle.mrp_page.specs.Laws.{piece_html, pieces, shown};
-ghost use Rattle.mrp_page.specs.Layout.{above_bar, above_end, available_label, balance_label, booked_label, capacity_label, cut_bar, firm_label, grid_end, gross_label, hot_bar, hot_end, later_open, lists_open, load_label, low_bar, low_end, none_refused, order, order_start, order_week, orders_open, over_label, over_open, overloaded_line, overloaded_open, peg_parent, pegs_open, planned_label, points_end, refused_answer, refused_open, rest_end, scheduled_label, section_end, starts_label, task_middle, task_row, task_supply, waits_open, week, week_end, weeks_end, none_at_risk, risk_note, risk_open, risks_unknown, said_pieces, work_back, work_blank, work_head, work_operation, work_other, work_rest, work_share, work_table_end, work_unknown};
+ghost use Rattle.mrp_page.specs.layout.Centres.{above_bar, above_end, capacity_label, cut_bar, hot_bar, hot_end, load_label, low_bar, low_end, over_label, over_line, over_open};
+ghost use Rattle.mrp_page.specs.layout.Glance.{out_cells, overloaded_line, overloaded_open};
+ghost use Rattle.mrp_page.specs.layout.History.{entry};
+ghost use Rattle.mrp_page.specs.layout.Items.{lists_open, order, orders_open, peg_back, peg_parent, pegs_open, waits_open};
+ghost use Rattle.mrp_page.specs.layout.Lists.{grid_end, rest_end, section_end};
+ghost use Rattle.mrp_page.specs.layout.Records.{available_label, balance_label, booked_label, firm_label, gross_label, later_open, planned_label, points_end, scheduled_label, starts_label, week, week_end, weeks_end};
+ghost use Rattle.mrp_page.specs.layout.Refused.{none_refused, refused_answer, refused_asked, refused_open};
+ghost use Rattle.mrp_page.specs.layout.Risk.{none_at_risk, risk_middle, risk_note, risk_open, risks_unknown};
+ghost use Rattle.mrp_page.specs.layout.Said.{said_pieces};
+ghost use Rattle.mrp_page.specs.layout.Todo.{order_start, order_week, task_middle, task_row, task_supply, to_week};
+ghost use Rattle.mrp_page.specs.layout.Work.{work_open, work_back, work_blank, work_head, work_operation, work_other, work_rest, work_share, work_table_end, work_unknown};
 ghost use Rattle.mrp_page.specs.Frame.{count_row};
 ghost use Rattle.mrp_page.specs.Kinds.{Kind, cancel, earlier, kind_html, kind_part, kinds, kinds_html, late, later, messages_of, open_count, open_html, order_of, other_messages, other_part, release, state_of, task_line, value_rank};
 ghost use Rattle.std.specs.List.Sorted.{IsNonDecreasingBy};
@@ -53,7 +63,7 @@ ghost use Rattle.mrp_work.specs.Work as operations;
 ghost use Rattle.mrp_work.specs.declared.order.Work.{Work};
 ghost use Rattle.mrp_tables.specs.declared.rows.Receipt.{Receipt};
 ghost use Rattle.mrp_page.specs.Numbering.{AreAnswers, lateness_of, numbered_pegs};
-ghost use Rattle.mrp_page.specs.Promises.{risk_listing, risks_first, risks_html, risks_or_none};
+ghost use Rattle.mrp_page.specs.Promises.{drawn_risk, risk_listing, risks_first, risks_html, risks_or_none};
 ghost use Rattle.mrp_risk.specs.Chains.{HangsOn, weeks_late};
 ghost use Rattle.mrp_risk.specs.Risks.{pieces_of, risk_at};
 ghost use Rattle.mrp_risk.specs.declared.risk.Risk.{Risk};
@@ -64,7 +74,8 @@ ghost use Rattle.mrp_page.specs.Section.{place_of};
 ghost use Rattle.mrp_page.specs.Shown.{IsByItems, items_of_plan, items_to_show, rows_of, run_shown};
 ghost use Rattle.mrp_page.specs.Spot.{Names};
 ghost use Rattle.mrp_page.specs.Summary.{count_with, is_over, is_undone, place_or, summary_html, tile_html};
-ghost use Rattle.mrp_page.specs.Template.{Drawn, has_word, number_at, row_html};
+ghost use Rattle.mrp_page.specs.Template.{Drawn, date_at, dated_html, has_word, number_at, row_html, week_at};
+ghost use Rattle.mrp_page.specs.Dates.{cell_date, date_in, said_date};
 ghost use Rattle.mrp_page.specs.Said.{back_of, by_urgency, front_of, is_release, item_messages, messages_at, pieces_row, said_html, said_known, said_of_open, said_order};
 ghost use Rattle.mrp_page.specs.Todo.{value_of_message, word_of};
 ghost use Rattle.mrp_page.specs.declared.limits.TheConstants.{FEW_ROWS, MOST_LINES, MOST_AMOUNT, RATE_UNIT, SOME_ROWS, TABLE_WEEKS};
@@ -134,12 +145,34 @@ pub fn weeks_stand_once()
     ensures all { (rows : List RowView) → take TABLE_WEEKS rows ++ drop TABLE_WEEKS rows ≡ rows }
 {}
 
-/// Each week of a table stands with its date if the tables are given: that of a day which falls in this week.
-/// Without them it has none.
+/// Each week of a record, and of a work centre's table, stands with its date if the tables are given: that of a day which falls
+/// in this week. Without them it has none.
 pub fn weeks_stand_with_their_dates()
     ensures weeks { (tables : Option Facts) (rows : List RowView) → weeks_html tables rows ≡ flat_map (week_html tables) rows ++ weeks_end }
     ensures undated { (row : RowView) → week_html None row ≡ codes "<th scope=col>" ++ (escaped (cell_at row 1) ++ codes "</th>") }
     ensures dated { (facts : Facts) (row : RowView) (number : ℕ) → IsShopCalendar facts.tables.calendar → AreDates facts.tables.calendar facts.dates → IsInRange 1 facts.tables.calendar.weeks number → cell_at row 1 ≡ decimal number → (date : Date) × (week_of facts.tables.calendar date ≡ Some number) × (week_html (Some facts) row ≡ row_html week row ++ (date_html (date_text (has_years facts.tables.calendar) date) ++ week_end)) }
+{}
+
+/// Each week of a list, and each that is said, stands with its date if the tables are given: that of a day which falls in the week
+/// beside it. Without them it has none. The weeks are those of the day's columns: of orders, messages, pegs, bookings at risk,
+/// calls, entries, operations and overloads.
+pub fn weeks_of_lists_stand_with_their_dates()
+    ensures undated { (parts : List Drawn) (row : RowView) → dated_html None parts row ≡ row_html parts row }
+    ensures alone { (column : ℕ) (row : RowView) → week_at None column row ≡ codes "<td>" ++ (escaped (cell_at row column) ++ codes "</td>") }
+    ensures unsaid { (column : ℕ) (row : RowView) → date_at None column row ≡ [] }
+    ensures dated { (facts : Facts) (column : ℕ) (row : RowView) (number : ℕ) → IsShopCalendar facts.tables.calendar → AreDates facts.tables.calendar facts.dates → IsInRange 1 facts.tables.calendar.weeks number → cell_at row column ≡ decimal number → (date : Date) × (week_of facts.tables.calendar date ≡ Some number) × (week_at (Some facts) column row ≡ codes "<td>" ++ (escaped (decimal number) ++ (cell_date (date_text (has_years facts.tables.calendar) date) ++ codes "</td>"))) }
+    ensures said { (facts : Facts) (column : ℕ) (row : RowView) (number : ℕ) → IsShopCalendar facts.tables.calendar → AreDates facts.tables.calendar facts.dates → IsInRange 1 facts.tables.calendar.weeks number → cell_at row column ≡ decimal number → (date : Date) × (week_of facts.tables.calendar date ≡ Some number) × (date_at (Some facts) column row ≡ said_date (date_text (has_years facts.tables.calendar) date)) }
+    ensures order { (tables : Option Facts) (row : RowView) → (front : List ℕ) × (dated_html tables order row ≡ front ++ (week_at tables (column section.Orders (codes "due")) row ++ (number_at (column section.Orders (codes "quantity")) row ++ (number_at (column section.Orders (codes "start")) row ++ (week_at tables (column section.Orders (codes "release")) row ++ (number_at (column section.Orders (codes "late")) row ++ (codes "</tr>\n" ++ []))))))) }
+    ensures to_week { (tables : Option Facts) (message : RowView) → dated_html tables to_week message ≡ week_at tables (column section.Messages (codes "value")) message ++ (codes "</tr>\n" ++ []) }
+    ensures peg { (tables : Option Facts) (peg : RowView) → (front : List ℕ) × (dated_html tables peg_back peg ≡ front ++ (week_at tables (column section.Pegs (codes "week")) peg ++ (codes "</tr>\n" ++ []))) }
+    ensures at_risk { (tables : Option Facts) (peg order : RowView) (pieces : List ℕ) → dated_html tables risk_middle (drawn_risk peg order pieces) ≡ codes "</td>" ++ (number_html pieces ++ (week_at tables (column section.Pegs (codes "week")) peg ++ (codes "<td class=t>" ++ []))) }
+    ensures runs_out { (scene : SceneView) (week : RowView) → (back : List ℕ) × (dated_html scene.tables out_cells (out_row scene week) ≡ codes "</th>" ++ (week_at scene.tables (column section.Plan (codes "week")) week ++ back)) }
+    ensures call { (tables : Option Facts) (call : RowView) → dated_html tables refused_asked call ≡ codes "</td>" ++ (number_at (column section.History (codes "quantity")) call ++ (week_at tables (column section.History (codes "week")) call ++ [])) }
+    ensures entry { (tables : Option Facts) (row : RowView) → (front : List ℕ) × (back : List ℕ) × (dated_html tables entry row ≡ front ++ (week_at tables (column section.History (codes "week")) row ++ (number_at (column section.History (codes "quantity")) row ++ back))) }
+    ensures operation { (tables : Option Facts) (order : RowView) → dated_html tables work_back order ≡ number_at (column section.Orders (codes "start")) order ++ (week_at tables (column section.Orders (codes "due")) order ++ (number_at (column section.Orders (codes "late")) order ++ (codes "</tr>\n" ++ []))) }
+    ensures overload { (tables : Option Facts) (row : RowView) → (front : List ℕ) × (back : List ℕ) × (dated_html tables over_line row ≡ front ++ (codes "</a>, week " ++ (escaped (cell_at row (column section.Loads (codes "week"))) ++ (date_at tables (column section.Loads (codes "week")) row ++ back)))) }
+    ensures explained { (tables : Option Facts) (row : RowView) → (front : List ℕ) × (back : List ℕ) × (dated_html tables work_open row ≡ front ++ (codes "</a>, week " ++ (escaped (cell_at row (column section.Loads (codes "week"))) ++ (date_at tables (column section.Loads (codes "week")) row ++ back)))) }
+    ensures worst { (tables : Option Facts) (rows : List RowView) → (front : List ℕ) × (back : List ℕ) × (dated_html tables overloaded_line (overloaded_row rows) ≡ front ++ (codes "</b> in week " ++ (escaped (cell_at (worst_week rows) (column section.Loads (codes "week"))) ++ (date_at tables (column section.Loads (codes "week")) (worst_week rows) ++ back)))) }
 {}
 
 /// The picture of loads is drawn week by week: a bar as high as the share of the capacity, up to 200 %, with
@@ -198,7 +231,7 @@ pub fn operations_make_the_load()
     ensures order { (works : List Work) → IsNonDecreasingBy falling_time (works_first works) }
     ensures drawn { (scene : SceneView) (orders : List RowView) (load : RowView) (works : List Work) → operations.total works ≤ amount (cell_at load (column section.Loads (codes "load"))) → works_or_none scene orders load works ≡ row_html work_head (share_row load) ++ (flat_map (work_line scene orders load) (take SOME_ROWS (works_first works)) ++ (more_works_html load (drop SOME_ROWS (works_first works)) ++ (left_html load (amount (cell_at load 2) - operations.total works) ++ work_table_end))) }
     ensures too_much { (scene : SceneView) (orders : List RowView) (load : RowView) (works : List Work) → amount (cell_at load (column section.Loads (codes "load"))) < operations.total works → works_or_none scene orders load works ≡ work_unknown }
-    ensures one { (scene : SceneView) (order load : RowView) (work : Work) → order_work scene order load work ≡ task_row ++ (order_name_html scene order ++ (row_html work_operation (count_row work.operation [] []) ++ (time_html load work.time ++ row_html work_back order))) }
+    ensures one { (scene : SceneView) (order load : RowView) (work : Work) → order_work scene order load work ≡ task_row ++ (order_name_html scene order ++ (row_html work_operation (count_row work.operation [] []) ++ (time_html load work.time ++ dated_html scene.tables work_back order))) }
     ensures others { (load : RowView) (work : Work) (works : List Work) → more_works_html load (work ∷ works) ≡ row_html work_rest (count_row (length (work ∷ works)) [] []) ++ (time_html load (operations.total (work ∷ works)) ++ work_blank) }
     ensures left { (load : RowView) (time : ℕ) → 0 < time → left_html load time ≡ work_other ++ (time_html load time ++ work_blank) }
     ensures minutes { (load : RowView) (time : ℕ) → time_html load time ≡ minutes_html (minutes_text_of time) ++ row_html work_share (time_share_row load time) }
@@ -215,7 +248,7 @@ pub fn overloaded_centres_stand_in_order()
     ensures exact { (over capacity : ℕ) → 0 < capacity → (rate over capacity * capacity ≤ over * RATE_UNIT) × (over * RATE_UNIT < capacity * (rate over capacity + 1)) }
     ensures without { (over other capacity : ℕ) → other ≤ MOST_AMOUNT → rate other capacity ≤ rate over 0 }
     ensures total { (column : ℕ) (rows : List RowView) → total column rows ≡ min (sum_by (λ r. amount (cell_at r column)) rows) MOST_AMOUNT }
-    ensures shown { (rows : List RowView) (centres : List (List RowView)) → most_overloaded (rows ∷ centres) ≡ overloaded_open ++ (flat_map overloaded_html (take 3 (rows ∷ centres)) ++ section_end) }
+    ensures shown { (tables : Option Facts) (rows : List RowView) (centres : List (List RowView)) → most_overloaded tables (rows ∷ centres) ≡ overloaded_open ++ (flat_map (overloaded_html tables) (take 3 (rows ∷ centres)) ++ section_end) }
 {}
 
 /// What is said of an overloaded work centre: in how many of its weeks it is over its capacity, the greatest share and
@@ -225,7 +258,7 @@ pub fn overloaded_centres_have_their_shares()
     ensures worst { (rows : List RowView) (load : RowView) (loads : List RowView) → sorted_by falling_share (filter is_over rows) ≡ load ∷ loads → worst_week rows ≡ share_row load }
     ensures greatest { (rows : List RowView) → IsNonDecreasingBy falling_share (sorted_by falling_share (filter is_over rows)) }
     ensures all { (rows : List RowView) → share_of_all rows ≡ share (total (column section.Loads (codes "load")) rows) (total (column section.Loads (codes "capacity")) rows) }
-    ensures picture { (rows : List RowView) → overloaded_html rows ≡ row_html overloaded_line (overloaded_row rows) ++ picture_html (centre_frame (name_of rows) rows) (map share_row rows) }
+    ensures picture { (tables : Option Facts) (rows : List RowView) → overloaded_html tables rows ≡ dated_html tables overloaded_line (overloaded_row rows) ++ picture_html (centre_frame (name_of rows) rows) (map share_row rows) }
 {}
 
 /// The items that run out stand by week: each once, at the first week in which orders are planned to be
@@ -274,39 +307,39 @@ pub fn kinds_have_their_words()
 /// from 1, as in each plan. The pieces and the week of an open order are its receipt's, or without one its pieces
 /// are what its pegs have together, if all pegs are kept.
 pub fn messages_have_their_orders()
-    ensures order { (kind : Kind) (scene : SceneView) (message order : RowView) → order_of scene message ≡ Some order → task_line kind scene message ≡ task_row ++ (item_name_html scene.shown (cell_at message 0) ++ (task_middle ++ (linked_html scene (Some order) (row_html task_supply message) ++ (codes "</td>" ++ (row_html kind.order order ++ row_html kind.value message))))) }
+    ensures order { (kind : Kind) (scene : SceneView) (message order : RowView) → order_of scene message ≡ Some order → task_line kind scene message ≡ task_row ++ (item_name_html scene.shown (cell_at message 0) ++ (task_middle ++ (linked_html scene (Some order) (row_html task_supply message) ++ (codes "</td>" ++ (dated_html scene.tables kind.order order ++ dated_html scene.tables kind.value message))))) }
     ensures of_message { (scene : SceneView) (message : RowView) → order_of scene message ≡ ordered scene (cell_at message (column section.Messages (codes "item"))) (cell_at message (column section.Messages (codes "supply"))) (cell_at message (column section.Messages (codes "source"))) }
     ensures placed { (scene : SceneView) (name : List ℕ) (place : ℕ) (order : RowView) → place < MOST_AMOUNT → slice_get (rows_named name scene.orders) place ≡ Some order → cell_at order (column section.Orders (codes "order")) ≡ decimal (place + 1) → ordered scene name (cell_at order (column section.Orders (codes "kind"))) (decimal (place + 1)) ≡ Some order }
     ensures parent { (scene : SceneView) (name : List ℕ) (place : ℕ) (order : RowView) → place < MOST_AMOUNT → slice_get (rows_named name scene.orders) place ≡ Some order → cell_at order (column section.Orders (codes "order")) ≡ decimal (place + 1) → numbered scene name (decimal (place + 1)) ≡ Some order }
     ensures found { (scene : SceneView) (name kind number : List ℕ) (order : RowView) → ordered scene name kind number ≡ Some order → Contains (rows_named name scene.orders) order × (is_order name kind number order ≡ true) }
     ensures same { (name kind number : List ℕ) (order : RowView) → is_order name kind number order ≡ (same_text (cell_at order (column section.Orders (codes "item"))) name && (same_text (cell_at order (column section.Orders (codes "order"))) number && same_text (cell_at order (column section.Orders (codes "kind"))) kind)) }
     ensures pieces { (scene : SceneView) (message : RowView) → receipt_of scene.tables message ≡ None → scene.whole ≡ true → cell_at message (column section.Messages (codes "supply")) ≡ codes "open" → open_html scene message ≡ number_html (decimal (open_count scene message)) ++ (codes "<td></td><td></td>" ++ []) }
-    ensures received { (scene : SceneView) (message : RowView) (receipt : Receipt) → receipt_of scene.tables message ≡ Some receipt → open_html scene message ≡ number_html (decimal receipt.quantity) ++ (codes "<td></td>" ++ (number_html (decimal receipt.week) ++ [])) }
+    ensures received { (scene : SceneView) (message : RowView) (receipt : Receipt) → receipt_of scene.tables message ≡ Some receipt → open_html scene message ≡ number_html (decimal receipt.quantity) ++ (codes "<td></td>" ++ (codes "<td>" ++ (escaped (decimal receipt.week) ++ (cell_date (date_in scene.tables (decimal receipt.week)) ++ codes "</td>")) ++ [])) }
     ensures receipt { (facts : Facts) (message : RowView) → cell_at message (column section.Messages (codes "supply")) ≡ codes "open" → receipt_of (Some facts) message ≡ open_order facts.tables (cell_at message (column section.Messages (codes "item"))) (cell_at message (column section.Messages (codes "source"))) }
-    ensures start { (order : RowView) → row_html order_start order ≡ number_at (column section.Orders (codes "quantity")) order ++ (number_at (column section.Orders (codes "start")) order ++ (number_at (column section.Orders (codes "due")) order ++ [])) }
-    ensures week { (order : RowView) → row_html order_week order ≡ number_at (column section.Orders (codes "quantity")) order ++ (codes "<td></td>" ++ (number_at (column section.Orders (codes "due")) order ++ [])) }
+    ensures start { (tables : Option Facts) (order : RowView) → dated_html tables order_start order ≡ number_at (column section.Orders (codes "quantity")) order ++ (number_at (column section.Orders (codes "start")) order ++ (week_at tables (column section.Orders (codes "due")) order ++ [])) }
+    ensures week { (tables : Option Facts) (order : RowView) → dated_html tables order_week order ≡ number_at (column section.Orders (codes "quantity")) order ++ (codes "<td></td>" ++ (week_at tables (column section.Orders (codes "due")) order ++ [])) }
 {}
 
 /// What is said of a message at its item begins with its standard term, and ends with its value if that has a meaning:
-/// a week, or how many weeks the order is past due. Any other message is said with its own word and value.
+/// a week, with its date if the tables are given, or how many weeks the order is past due. Any other message is said with its own word and value.
 pub fn messages_stand_under_their_words()
-    ensures past_due { (message : RowView) → word_of message ≡ codes "PAST-DUE" → (row_html (front_of message) message ≡ codes "<li class=\"late\">Past due: ") × (row_html (back_of message) message ≡ codes ", weeks late (shop days from version 2 on): " ++ (escaped (value_of_message message) ++ codes "</li>\n")) }
-    ensures release { (message : RowView) → word_of message ≡ codes "RELEASE" → (row_html (front_of message) message ≡ codes "<li class=\"release\">Release: ") × (row_html (back_of message) message ≡ escaped (value_of_message message) ++ codes "</li>\n") }
-    ensures earlier { (message : RowView) → word_of message ≡ codes "IN" → (row_html (front_of message) message ≡ codes "<li class=\"in\">Reschedule in: ") × (row_html (back_of message) message ≡ codes " to week " ++ (escaped (value_of_message message) ++ codes "</li>\n")) }
-    ensures later { (message : RowView) → word_of message ≡ codes "OUT" → (row_html (front_of message) message ≡ codes "<li class=\"out\">Reschedule out: ") × (row_html (back_of message) message ≡ codes " to week " ++ (escaped (value_of_message message) ++ codes "</li>\n")) }
-    ensures cancel { (message : RowView) → word_of message ≡ codes "CANCEL" → (row_html (front_of message) message ≡ codes "<li class=\"cancel\">Cancel: ") × (row_html (back_of message) message ≡ escaped (value_of_message message) ++ codes "</li>\n") }
-    ensures another { (message : RowView) → is_plain message ≡ false → (row_html (front_of message) message ≡ codes "<li>" ++ (escaped (word_of message) ++ codes ": ")) × (row_html (back_of message) message ≡ codes " " ++ (escaped (value_of_message message) ++ codes "</li>\n")) }
+    ensures past_due { (tables : Option Facts) (message : RowView) → word_of message ≡ codes "PAST-DUE" → (row_html (front_of message) message ≡ codes "<li class=\"late\">Past due: ") × (dated_html tables (back_of message) message ≡ codes ", weeks late (shop days from version 2 on): " ++ (escaped (value_of_message message) ++ codes "</li>\n")) }
+    ensures release { (tables : Option Facts) (message : RowView) → word_of message ≡ codes "RELEASE" → (row_html (front_of message) message ≡ codes "<li class=\"release\">Release: ") × (dated_html tables (back_of message) message ≡ escaped (value_of_message message) ++ codes "</li>\n") }
+    ensures earlier { (tables : Option Facts) (message : RowView) → word_of message ≡ codes "IN" → (row_html (front_of message) message ≡ codes "<li class=\"in\">Reschedule in: ") × (dated_html tables (back_of message) message ≡ codes " to week " ++ (escaped (value_of_message message) ++ (date_at tables (column section.Messages (codes "value")) message ++ codes "</li>\n"))) }
+    ensures later { (tables : Option Facts) (message : RowView) → word_of message ≡ codes "OUT" → (row_html (front_of message) message ≡ codes "<li class=\"out\">Reschedule out: ") × (dated_html tables (back_of message) message ≡ codes " to week " ++ (escaped (value_of_message message) ++ (date_at tables (column section.Messages (codes "value")) message ++ codes "</li>\n"))) }
+    ensures cancel { (tables : Option Facts) (message : RowView) → word_of message ≡ codes "CANCEL" → (row_html (front_of message) message ≡ codes "<li class=\"cancel\">Cancel: ") × (dated_html tables (back_of message) message ≡ escaped (value_of_message message) ++ codes "</li>\n") }
+    ensures another { (tables : Option Facts) (message : RowView) → is_plain message ≡ false → (row_html (front_of message) message ≡ codes "<li>" ++ (escaped (word_of message) ++ codes ": ")) × (dated_html tables (back_of message) message ≡ codes " " ++ (escaped (value_of_message message) ++ codes "</li>\n")) }
 {}
 
 /// Between its term and its value the sentence of a message names its order, with the order's pieces and weeks: the start
 /// and the due week of an order to be released, the due week of any other. Of an open order it has the pieces and the
 /// week of its receipt, or without one the pieces of its pegs, if all pegs are kept.
 pub fn sentences_have_their_orders()
-    ensures sentence { (scene : SceneView) (message : RowView) → said_html scene message ≡ row_html (front_of message) message ++ (linked_html scene (order_of scene message) (row_html task_supply message) ++ (said_known scene message (order_of scene message) ++ row_html (back_of message) message)) }
-    ensures released { (message order : RowView) → is_release message ≡ true → said_order message order ≡ row_html said_pieces (pieces_row (cell_at order (column section.Orders (codes "quantity")))) ++ (codes ", start " ++ (escaped (cell_at order (column section.Orders (codes "start"))) ++ (codes ", due week " ++ (escaped (cell_at order (column section.Orders (codes "due"))) ++ [])))) }
-    ensures moved { (message order : RowView) → is_release message ≡ false → said_order message order ≡ row_html said_pieces (pieces_row (cell_at order (column section.Orders (codes "quantity")))) ++ (codes ", week " ++ (escaped (cell_at order (column section.Orders (codes "due"))) ++ [])) }
+    ensures sentence { (scene : SceneView) (message : RowView) → said_html scene message ≡ row_html (front_of message) message ++ (linked_html scene (order_of scene message) (row_html task_supply message) ++ (said_known scene message (order_of scene message) ++ dated_html scene.tables (back_of message) message)) }
+    ensures released { (tables : Option Facts) (message order : RowView) → is_release message ≡ true → said_order tables message order ≡ row_html said_pieces (pieces_row (cell_at order (column section.Orders (codes "quantity")))) ++ (codes ", start " ++ (escaped (cell_at order (column section.Orders (codes "start"))) ++ (codes ", due week " ++ (escaped (cell_at order (column section.Orders (codes "due"))) ++ (date_at tables (column section.Orders (codes "due")) order ++ []))))) }
+    ensures moved { (tables : Option Facts) (message order : RowView) → is_release message ≡ false → said_order tables message order ≡ row_html said_pieces (pieces_row (cell_at order (column section.Orders (codes "quantity")))) ++ (codes ", week " ++ (escaped (cell_at order (column section.Orders (codes "due"))) ++ (date_at tables (column section.Orders (codes "due")) order ++ []))) }
     ensures open_order { (scene : SceneView) (message : RowView) → scene.whole ≡ true → cell_at message (column section.Messages (codes "supply")) ≡ codes "open" → said_of_open scene message ≡ row_html said_pieces (pieces_row (decimal (open_count scene message))) }
-    ensures received { (scene : SceneView) (message : RowView) (receipt : Receipt) → receipt_of scene.tables message ≡ Some receipt → said_known scene message None ≡ row_html said_pieces (pieces_row (decimal receipt.quantity)) ++ (codes ", week " ++ (escaped (decimal receipt.week) ++ [])) }
+    ensures received { (scene : SceneView) (message : RowView) (receipt : Receipt) → receipt_of scene.tables message ≡ Some receipt → said_known scene message None ≡ row_html said_pieces (pieces_row (decimal receipt.quantity)) ++ (codes ", week " ++ (escaped (decimal receipt.week) ++ (said_date (date_in scene.tables (decimal receipt.week)) ++ []))) }
     ensures pieces { (pieces : List ℕ) → row_html said_pieces (pieces_row pieces) ≡ codes ", " ++ (escaped pieces ++ (escaped (cell_at (pieces_row pieces) 1) ++ [])) }
 {}
 
@@ -316,9 +349,9 @@ pub fn links_lead_to_items()
     ensures link { (name : List ℕ) → link_html name ≡ codes "<a href=\"#i-" ++ (escaped name ++ (codes "\">" ++ (escaped name ++ codes "</a>"))) }
     ensures item { (scene : SceneView) (rows : ItemLists) (missed : ℕ) (leader : RowView) → (rest : List ℕ) × (item_html scene rows missed leader ≡ codes "<section class=item id=\"i-" ++ (escaped (cell_at leader 0) ++ (codes "\">" ++ rest))) }
     ensures order_link { (number name : List ℕ) → order_link number name ≡ codes "<a href=\"#o-" ++ (escaped number ++ (codes "-" ++ (escaped name ++ codes "\">"))) }
-    ensures order { (row : RowView) → (rest : List ℕ) × (row_html order row ≡ codes "<tr id=\"o-" ++ (escaped (cell_at row 1) ++ (codes "-" ++ (escaped (cell_at row 0) ++ (codes "\">" ++ rest))))) }
-    ensures orders { (rows : List RowView) → orders_html rows ≡ orders_open ++ (flat_map (row_html order) rows ++ grid_end) }
-    ensures lists { (scene : SceneView) (name : List ℕ) → (rest : List ℕ) × (item_lists_html scene name ≡ lists_open ++ (orders_html (rows_named name scene.orders) ++ rest)) }
+    ensures order { (tables : Option Facts) (row : RowView) → (rest : List ℕ) × (dated_html tables order row ≡ codes "<tr id=\"o-" ++ (escaped (cell_at row 1) ++ (codes "-" ++ (escaped (cell_at row 0) ++ (codes "\">" ++ rest))))) }
+    ensures orders { (tables : Option Facts) (rows : List RowView) → orders_html tables rows ≡ orders_open ++ (flat_map (dated_html tables order) rows ++ grid_end) }
+    ensures lists { (scene : SceneView) (name : List ℕ) → (rest : List ℕ) × (item_lists_html scene name ≡ lists_open ++ (orders_html scene.tables (rows_named name scene.orders) ++ rest)) }
 {}
 
 /// The ids of a page differ from one another, if what is kept of the day can be told apart, as in each plan. The items that are
@@ -391,8 +424,8 @@ pub fn folds_hide_no_row()
 /// another desk's. If there is none, and the whole history is kept, the page says so.
 pub fn refused_calls_stand_once()
     ensures once { (history : List RowView) → IsPermutation (filter (has_one_of (column section.History (codes "reply")) refusals) history) (refused_rows history) }
-    ensures page { (title : List ℕ) (tables : Option Facts) (notes : Noted) (risks : RisksView) → (front : List ℕ) × (between : List ℕ) × (back : List ℕ) × (page_html title tables notes risks ≡ front ++ (flat_map (refused_html (shown_items (item_lists notes.report)) notes.history) (take FEW_ROWS (refused_rows notes.history)) ++ (between ++ (flat_map (refused_html (shown_items (item_lists notes.report)) notes.history) (drop FEW_ROWS (refused_rows notes.history)) ++ back)))) }
-    ensures none { (shown history : List RowView) → refused_rows history ≡ [] → refused_section shown history 0 ≡ refused_open ++ (none_refused ++ section_end) }
+    ensures page { (title : List ℕ) (tables : Option Facts) (notes : Noted) (risks : RisksView) → (front : List ℕ) × (between : List ℕ) × (back : List ℕ) × (page_html title tables notes risks ≡ front ++ (flat_map (refused_html (scene_in tables notes)) (take FEW_ROWS (refused_rows notes.history)) ++ (between ++ (flat_map (refused_html (scene_in tables notes)) (drop FEW_ROWS (refused_rows notes.history)) ++ back)))) }
+    ensures none { (scene : SceneView) → refused_rows scene.history ≡ [] → refused_section scene 0 ≡ refused_open ++ (none_refused ++ section_end) }
 {}
 
 /// What *Not promised* says of a call: how it was answered, with what is available or the entry that it names;

@@ -6,6 +6,7 @@ mod by_word;
 mod cells;
 mod centres;
 mod counts;
+mod dates;
 mod draw;
 mod escape;
 mod explained;

@@ -1,17 +1,17 @@
 //! How much of a day a page has room for. Each limit is defined once.
 
+use mrp_cal::MOST_WEEKS;
+
 /// The most items that a page shows. A page also keeps the rows of this many items, or work centres, in a
 /// section that is full.
 pub const MOST_ITEMS: u64 = 200;
-
-/// The most weeks of a plan. Of an item, or a work centre, a page keeps no more rows once its section is full.
-pub const MOST_WEEKS: u64 = 104;
 
 /// The most entries of the history that a page keeps.
 pub const MOST_ENTRIES: u64 = 1_000;
 
 /// The most rows of a section that a page keeps, except for the history, the run and the pegs: a row for each
-/// of [`MOST_ITEMS`] items in each of [`MOST_WEEKS`] weeks.
+/// of [`MOST_ITEMS`] items in each of the most weeks of a plan. Of an item, or a work centre, a page keeps no more
+/// rows than these weeks once its section is full.
 pub const MOST_ROWS: u64 = MOST_ITEMS * MOST_WEEKS;
 
 /// The most pegs that a page keeps: 300 for each of [`MOST_ITEMS`] items.

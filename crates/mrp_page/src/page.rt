@@ -14,7 +14,9 @@ use crate::html::Html;
 use crate::item_rows::ItemRows;
 use crate::items::{put_index, put_items};
 use crate::kinds::put_todo;
-use crate::layout::{glance_open, page_end, page_head, page_items, page_top, section_end, style};
+use crate::layout::glance::glance_open;
+use crate::layout::head::{page_end, page_head, page_items, page_top, style};
+use crate::layout::lists::section_end;
 use crate::limits::MOST_ITEMS;
 use crate::notes::Notes;
 use crate::outs::put_outs_section;
@@ -134,7 +136,7 @@ fn put_rest(
     ensures { OnOk result (page.new ≡ page.old ++ rest_html scene.now rows.now counts) }
 {
     put_items_of(alloc, page, scene, rows, counts)?;
-    put_history(alloc, page, scene.history(), counts.history)?;
+    put_history(alloc, page, scene.tables(), scene.history(), counts.history)?;
     page.markup(page_end())
 }
 
@@ -169,7 +171,7 @@ fn put_glance(
     let plan = rows_in(report, Section::Plan);
     put_outs_section(alloc, page, scene, plan, missed)?;
     let loads = rows_in(report, Section::Loads);
-    put_most_overloaded(alloc, page, loads)?;
+    put_most_overloaded(alloc, page, scene.tables(), loads)?;
     page.markup(section_end())
 }
 
@@ -194,7 +196,7 @@ fn put_page_of(
     put_top(alloc, page, title, scene.tables(), report, counts.items)?;
     put_summary(alloc, page, notes.history(), messages, loads, risks)?;
     put_glance(alloc, page, scene, report, counts.plan)?;
-    put_refused(alloc, page, scene.shown(), notes.history(), counts.history)?;
+    put_refused(alloc, page, scene, counts.history)?;
     put_risks(alloc, page, scene, risks)?;
     put_todo(alloc, page, scene, messages, counts.messages)?;
     put_centres(alloc, page, scene, loads, counts.loads)?;

@@ -6,7 +6,7 @@ ghost use Rattle.mrp_page.specs.Pictured.{bars_html, centre_frame, picture_html}
 use crate::draw::put_table;
 use crate::frame::frame;
 use crate::html::Html;
-use crate::layout::{
+use crate::layout::centres::{
     above_bar, above_end, cut_bar, hot_bar, hot_end, load_chart, load_end, low_bar, low_end,
 };
 use crate::row::Row;

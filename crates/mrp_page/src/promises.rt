@@ -10,10 +10,13 @@ use crate::draw::put_item_name;
 use crate::folded::{Lines, put_capped};
 use crate::html::Html;
 use crate::items::put_entry;
-use crate::layout::{
-    none_at_risk, refused_row, risk_booking, risk_front, risk_middle, risk_note, risk_open,
-    risk_order, risks_unknown, section_end, table_end, weeks_late,
+use crate::layout::lists::{section_end, table_end};
+use crate::layout::refused::refused_row;
+use crate::layout::risk::{
+    none_at_risk, risk_booking, risk_front, risk_middle, risk_note, risk_open, risk_order,
+    risks_unknown,
 };
+use crate::layout::todo::weeks_late;
 use crate::limits::{MOST_AMOUNT, SOME_ROWS};
 use crate::numbering::answers;
 use crate::orders::{ordered, put_linked};
@@ -22,7 +25,7 @@ use crate::places::Places;
 use crate::row::Row;
 use crate::scene::Scene;
 use crate::shares::sort_by_week;
-use crate::template::put_row;
+use crate::template::{put_dated, put_row};
 use csv::ByteRecord;
 use mrp_day::Section;
 use mrp_qty::{NoMemory, number_text};
@@ -207,7 +210,7 @@ impl Lines for RiskLines<'_, '_, '_> {
         put_item_name(page, self.scene.shown(), risk.name())?;
         page.markup(risk_booking())?;
         put_entry(page, self.scene, risk.cell(2))?;
-        put_row(page, risk_middle(), risk)?;
+        put_dated(page, self.scene.tables(), risk_middle(), risk)?;
         put_risk_end(page, self.scene, risk)
     }
 

@@ -5,9 +5,9 @@ ghost use Rattle.std.specs.Option.{option_copied};
 ghost use Rattle.mrp_page.specs.Receipts.{receipt_html, receipt_of, receipt_row};
 
 use crate::html::Html;
-use crate::layout::open_receipt;
+use crate::layout::todo::open_receipt;
 use crate::row::Row;
-use crate::template::{has_word, put_row};
+use crate::template::{has_word, put_dated};
 use csv::ByteRecord;
 use mrp_day::Section;
 use mrp_facts::Facts;
@@ -38,9 +38,14 @@ pub(crate) fn receipt_row(alloc: Global, receipt: &Receipt) -> Result<Row, NoMem
 }
 
 // Adds the cells of an open order, by its receipt.
-pub(crate) fn put_receipt(alloc: Global, page: &mut Html, receipt: &Receipt) -> Result<(), NoMemory>
-    ensures { OnOk result (page.new ≡ page.old ++ receipt_html receipt.now) }
+pub(crate) fn put_receipt(
+    alloc: Global,
+    page: &mut Html,
+    tables: Option<&Facts<'_>>,
+    receipt: &Receipt,
+) -> Result<(), NoMemory>
+    ensures { OnOk result (page.new ≡ page.old ++ receipt_html (option_copied tables.entry) receipt.now) }
 {
     let row = receipt_row(alloc, receipt)?;
-    put_row(page, open_receipt(), &row)
+    put_dated(page, tables, open_receipt(), &row)
 }

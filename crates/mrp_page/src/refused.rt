@@ -2,20 +2,22 @@
 
 ghost use Rattle.std.specs.Prelude.{◌≡◌, ◌++◌, IfOk, OnOk, map, unwrap_or};
 ghost use Rattle.std.specs.List.{find};
-ghost use Rattle.mrp_page.specs.Refused.{answer_html, asked_of, call_html, caller_html, entry_link_html, entry_name_html, is_booking, refusals, refused_back, refused_lines, refused_or_none, refused_rows, refused_section};
-ghost use Rattle.mrp_page.specs.Draw.{has_item};
+ghost use Rattle.mrp_page.specs.Refused.{answer_html, asked_of, call_html, caller_html, entry_link_html, is_booking, refusals, refused_back, refused_lines, refused_or_none, refused_rows, refused_section};
 
 use crate::by_word::by_word;
 use crate::draw::{put_item_name, put_more};
 use crate::folded::{Lines, put_folded};
 use crate::html::Html;
-use crate::layout::{
-    entry_link_open, link_end, link_middle, none_refused, refused_answer, refused_asked,
-    refused_desk, refused_end, refused_front, refused_open, refused_row, section_end, table_end,
+use crate::items::put_entry;
+use crate::layout::lists::{link_end, link_middle, section_end, table_end};
+use crate::layout::refused::{
+    entry_link_open, none_refused, refused_answer, refused_asked, refused_desk, refused_end,
+    refused_front, refused_open, refused_row,
 };
 use crate::limits::FEW_ROWS;
 use crate::row::Row;
-use crate::template::{has_word, put_row};
+use crate::scene::Scene;
+use crate::template::{has_word, put_dated, put_row};
 use mrp_qty::NoMemory;
 use std::alloc::Global;
 
@@ -77,78 +79,51 @@ pub(crate) fn put_entry_link(page: &mut Html, number: &[u8]) -> Result<(), NoMem
     page.markup(link_end())
 }
 
-// Whether the history has an entry of this number.
-fn has_entry(history: &[Row], number: &[u8]) -> bool
-    ensures { result ≡ has_item history.now number.now }
-{
-    history.iter().any(|row| row.is_of(number))
-}
-
-// Adds the number of an entry, as a link if the entry is on the page.
-#[tactic(auto, unfolding(crate::specs::Refused::entry_name_html))]
-fn put_entry_name(page: &mut Html, history: &[Row], number: &[u8]) -> Result<(), NoMemory>
-    ensures { OnOk result (page.new ≡ page.old ++ entry_name_html history.now number.now) }
-{
-    if has_entry(history, number) {
-        put_entry_link(page, number)
-    } else {
-        page.text(number)
-    }
-}
-
 // Adds how a call was answered, with the entry that it names.
 #[tactic(auto, unfolding(crate::specs::Refused::answer_html))]
-fn put_answer(page: &mut Html, history: &[Row], call: &Row) -> Result<(), NoMemory>
-    ensures { OnOk result (page.new ≡ page.old ++ answer_html history.now call.now) }
+fn put_answer(page: &mut Html, scene: &Scene<'_, '_>, call: &Row) -> Result<(), NoMemory>
+    ensures { OnOk result (page.new ≡ page.old ++ answer_html scene.now.history call.now) }
 {
     put_row(page, refused_answer(), call)?;
-    put_entry_name(page, history, call.cell(6))
+    put_entry(page, scene, call.cell(6))
 }
 
 // Adds the desk of a call, and its entry.
 #[tactic(auto, unfolding(crate::specs::Refused::caller_html))]
-fn put_caller(page: &mut Html, history: &[Row], call: &Row) -> Result<(), NoMemory>
-    ensures { OnOk result (page.new ≡ page.old ++ caller_html history.now call.now) }
+fn put_caller(page: &mut Html, scene: &Scene<'_, '_>, call: &Row) -> Result<(), NoMemory>
+    ensures { OnOk result (page.new ≡ page.old ++ caller_html scene.now.history call.now) }
 {
     put_row(page, refused_desk(), call)?;
-    put_entry_name(page, history, call.name())?;
+    put_entry(page, scene, call.name())?;
     page.markup(refused_end())
 }
 
 // Adds a call about an item, pieces and a week.
 #[tactic(auto, unfolding(crate::specs::Refused::call_html))]
-fn put_call(
-    page: &mut Html,
-    shown: &[&Row],
-    history: &[Row],
-    asked: &Row,
-    call: &Row,
-) -> Result<(), NoMemory>
-    ensures { OnOk result (page.new ≡ page.old ++ call_html (map (λ r. r.now) shown.now) history.now asked.now call.now) }
+fn put_call(page: &mut Html, scene: &Scene<'_, '_>, asked: &Row, call: &Row) -> Result<(), NoMemory>
+    ensures { OnOk result (page.new ≡ page.old ++ call_html scene.now asked.now call.now) }
 {
     page.markup(refused_row())?;
-    put_item_name(page, shown, asked.cell(3))?;
-    put_answer(page, history, call)?;
-    put_row(page, refused_asked(), asked)?;
-    put_caller(page, history, call)
+    put_item_name(page, scene.shown(), asked.cell(3))?;
+    put_answer(page, scene, call)?;
+    put_dated(page, scene.tables(), refused_asked(), asked)?;
+    put_caller(page, scene, call)
 }
 
-// The list of the calls, with the items that are shown and the history.
+// The list of the calls.
 #[derive(Clone, Copy)]
-struct Refused<'a> {
-    shown: &'a [&'a Row],
-    history: &'a [Row],
+struct Refused<'k, 's, 'a> {
+    scene: &'k Scene<'s, 'a>,
 }
 
-impl Lines for Refused<'_> {
-    ghost use Rattle.std.specs.Prelude.{map};
+impl Lines for Refused<'_, '_, '_> {
     ghost use Rattle.mrp_page.specs.Refused.{refused_listing};
 
-    ghost drawn = { λ calls. refused_listing (map (λ r. r.now) calls.shown.now) calls.history.now };
+    ghost drawn = { λ calls. refused_listing calls.scene.now };
 
     fn put(&self, page: &mut Html, call: &Row) -> Result<(), NoMemory> {
-        let asked = asked_of(self.history, call);
-        put_call(page, self.shown, self.history, asked, call)
+        let asked = asked_of(self.scene.history(), call);
+        put_call(page, self.scene, asked, call)
     }
 
     fn front(&self) -> &'static [u8] {
@@ -165,17 +140,16 @@ impl Lines for Refused<'_> {
 fn put_refused_or_none(
     alloc: Global,
     page: &mut Html,
-    shown: &[&Row],
-    history: &[Row],
+    scene: &Scene<'_, '_>,
     missed: u64,
     rows: &[&Row],
 ) -> Result<(), NoMemory>
-    ensures { OnOk result (page.new ≡ page.old ++ refused_or_none (map (λ r. r.now) shown.now) history.now missed (map (λ r. r.now) rows.now)) }
+    ensures { OnOk result (page.new ≡ page.old ++ refused_or_none scene.now missed (map (λ r. r.now) rows.now)) }
 {
     if rows.is_empty() && missed == 0 {
         page.markup(none_refused())
     } else {
-        put_folded(alloc, page, &Refused { shown, history }, FEW_ROWS, rows)
+        put_folded(alloc, page, &Refused { scene }, FEW_ROWS, rows)
     }
 }
 
@@ -184,14 +158,13 @@ fn put_refused_or_none(
 fn put_refused_lines(
     alloc: Global,
     page: &mut Html,
-    shown: &[&Row],
-    history: &[Row],
+    scene: &Scene<'_, '_>,
     missed: u64,
 ) -> Result<(), NoMemory>
-    ensures { OnOk result (page.new ≡ page.old ++ refused_lines (map (λ r. r.now) shown.now) history.now missed) }
+    ensures { OnOk result (page.new ≡ page.old ++ refused_lines scene.now missed) }
 {
-    let rows = refused_rows(alloc, history)?;
-    put_refused_or_none(alloc, page, shown, history, missed, rows.as_slice())
+    let rows = refused_rows(alloc, scene.history())?;
+    put_refused_or_none(alloc, page, scene, missed, rows.as_slice())
 }
 
 // Adds how many entries of the history were not kept.
@@ -214,13 +187,12 @@ fn put_refused_back(alloc: Global, page: &mut Html, missed: u64) -> Result<(), N
 pub(crate) fn put_refused(
     alloc: Global,
     page: &mut Html,
-    shown: &[&Row],
-    history: &[Row],
+    scene: &Scene<'_, '_>,
     missed: u64,
 ) -> Result<(), NoMemory>
-    ensures { OnOk result (page.new ≡ page.old ++ refused_section (map (λ r. r.now) shown.now) history.now missed) }
+    ensures { OnOk result (page.new ≡ page.old ++ refused_section scene.now missed) }
 {
     page.markup(refused_open())?;
-    put_refused_lines(alloc, page, shown, history, missed)?;
+    put_refused_lines(alloc, page, scene, missed)?;
     put_refused_back(alloc, page, missed)
 }

@@ -4,8 +4,9 @@ ghost use Rattle.std.specs.Prelude.{◌≡◌};
 ghost use Rattle.mrp_page.specs.Spot.{begun, begins_run, counted, has_room, inside, is_among, is_end, is_row, is_wanted, is_wrong, leads_if, place_after, room_at, run_at, section_if, spot_if, start, starts_at, wants, weeks_with};
 
 use crate::cells::are_texts;
-use crate::limits::{MOST_ITEMS, MOST_WEEKS};
+use crate::limits::MOST_ITEMS;
 use crate::section::{is_by_weeks, is_of_items, is_plan, items_of, next_of, room_of};
+use mrp_cal::MOST_WEEKS;
 use mrp_day::Section;
 use mrp_lines::Cells;
 

@@ -14,9 +14,9 @@ h2 a,h3 a{font-size:.85rem;font-weight:400;margin-left:.8rem}
 p{margin:.2rem 0}
 ul{margin:.2rem 0;padding:0;list-style:none}
 a{color:#1f5fa8}
-header p,small,.note,.more,.rest>summary,.later>summary,.chart p,thead th,caption{color:#566472}
+header p,small,i,.note,.more,.rest>summary,.later>summary,.chart p,thead th,caption{color:#566472}
 header b{color:#1d2733}
-small{font-size:.85em}
+small,i{font-size:.85em;font-style:normal}
 section{border-top:1px solid #dde3ea;padding:.9rem 0}
 section section{padding:.5rem 0}
 summary{cursor:pointer}
@@ -44,6 +44,8 @@ th{font-weight:400;text-align:left}
 .list{margin:.2rem 0 .6rem}
 .list th,.list td{padding:.08rem 1rem .08rem 0;text-align:right;vertical-align:top}
 .list .t,.list th[scope=row]{text-align:left}
+.list td i{display:inline-block;min-width:clamp(3.2em,(var(--weeks) - 52)*9em,4.9em);margin-left:.2em;white-space:nowrap}
+#risk .t:nth-child(5){padding-left:.8rem}
 .list tbody tr:hover{background:#f0f4f8}
 .list tbody:empty::after{content:\"None on this page\"}
 .even{table-layout:fixed;width:100%;max-width:64rem}
@@ -83,6 +85,6 @@ polyline{stroke:#2b6cb0;stroke-width:2}
 .grid .over td{color:#b32626;font-weight:600}
 .more{margin:.3rem 0}
 main:has(>.more) .item details .scroll::after{content:\"Orders and pegs that are not on this page are counted behind the items.\";color:#566472}
-@media (max-width:40rem){:root{--label:7rem}body{--week:4.2rem;padding:0 .6rem 2rem;font-size:13px}nav{margin:0 -.6rem;padding:.4rem .6rem}nav a{margin-right:.7rem}main{display:flex;flex-direction:column}#unkept,#risk,#todo{order:-1}.axis span:nth-child(2){display:none}.sum a{padding:.1rem .5rem;flex:1 1 9rem}.even{font-size:.78rem}.even th,.even td{padding-right:.25rem}.even thead th{font-size:.68rem}.even th:first-child,.even .t{width:22%}}
+@media (max-width:40rem){:root{--label:7rem}body{--week:4.2rem;padding:0 .6rem 2rem;font-size:13px}nav{margin:0 -.6rem;padding:.4rem .6rem}nav a{margin-right:.7rem}main{display:flex;flex-direction:column}#unkept,#risk,#todo{order:-1}.axis span:nth-child(2){display:none}.sum a{padding:.1rem .5rem;flex:1 1 9rem}.even{font-size:.78rem}.even th,.even td{padding-right:.25rem}.even thead th{font-size:.68rem}.even td i{display:block;min-width:0;margin-left:-1.5rem}.even th:first-child,.even .t{width:22%}}
 @media print{@page{size:landscape;margin:1cm}body{--label:11rem;--week:4.1rem;padding:0;font-size:10px}nav,h2 a,h3 a{display:none}a{color:inherit;text-decoration:none}.scroll{overflow:visible}h2,h3,caption,summary,thead,.note,.chart,.said{break-after:avoid}.scroll+details{break-before:avoid}tr,li,.grid,.chart,.said{break-inside:avoid}section{padding:.5rem 0}svg{height:3rem}summary{list-style:none}#todo .rest>summary,#unkept .rest>summary,#risk .rest>summary{display:none}#todo details::details-content,#unkept details::details-content,#risk details::details-content{content-visibility:visible;block-size:auto}.load,.hot,.above,.cut,.todo td,.sum a,.kind{print-color-adjust:exact}}
 ";

@@ -5,7 +5,7 @@ ghost use Rattle.mrp_page.specs.Rows.{leader_rows};
 ghost use Rattle.mrp_page.specs.Summary.{calls_tiles, centre_count, centres_tile, count_with, is_over, is_undone, kind_tile, kinds_tiles, over_tile, overloads, place_or, risk_tile, summary_html, tile, tile_html};
 
 use crate::html::{Html, is_zero};
-use crate::layout::{centre_tile, main_open, summary_open, summary_tile};
+use crate::layout::head::{centre_tile, main_open, summary_open, summary_tile};
 use crate::promises::Risks;
 use crate::row::Row;
 use crate::template::{has_word, put_row};

@@ -2,25 +2,17 @@
 
 ghost use Rattle.std.specs.Prelude.{◌≡◌, ◌++◌, OnOk, codes, flat_map};
 ghost use Rattle.std.specs.Option.{option_copied};
-ghost use Rattle.mrp_page.specs.Weeks.{date_html, date_in, start_html, week_html, weeks_html};
+ghost use Rattle.mrp_page.specs.Dates.{date_in};
+ghost use Rattle.mrp_page.specs.Weeks.{date_html, start_html, week_html, weeks_html};
 
-use crate::amounts::amount;
+use crate::dates::date_in;
 use crate::html::Html;
-use crate::layout::{date_end, date_open, start_end, start_open, week, week_end, weeks_end};
+use crate::layout::head::{start_end, start_open};
+use crate::layout::records::{date_end, date_open, week, week_end, weeks_end};
 use crate::row::Row;
 use crate::template::put_row;
 use mrp_facts::Facts;
 use mrp_qty::NoMemory;
-
-// The date of a week, by its text; empty without tables, or if there is no such week.
-fn date_in<'f>(tables: Option<&'f Facts<'_>>, week: &[u8]) -> &'f [u8]
-    ensures { result.now ≡ date_in (option_copied tables.entry) week.now }
-{
-    match tables {
-        Some(facts) => facts.date(amount(week)).as_bytes(),
-        None => b"",
-    }
-}
 
 // Adds a date below the number of a week; nothing if it is empty.
 fn put_date(page: &mut Html, date: &[u8]) -> Result<(), NoMemory>

@@ -12,13 +12,13 @@ use Rattle.mrp_lines.proofs.cells.is_row_line.Goals as goal
 pub loop-column-init : goal.loop-column-init
 loop-column-init c = record { room = refl; none = refl }
 
-pub returns-then-has_end : goal.returns-then-has_end
-returns-then-has_end c =
+pub returns-then-has_end_if : goal.returns-then-has_end_if
+returns-then-has_end_if c =
     let fields = fields_of c.args.row.now in
     let i = c.loop-column.column in
     let within : i < length fields = omega (arith, c.loop-column-test.true, c.len-column-end.ensures) in
-    elim c.then-has_end.either [
-      | inl has ↦ sym (cell-ends fields i within (subst (λ (cell : List ℕ). list_any ends_line cell ≡ true) c.cell-cell.ensures (sym c.has_end.ensures ∙ has)))
+    elim c.then-has_end_if.either [
+      | inl has ↦ sym (cell-ends fields i within (subst (λ (cell : List ℕ). list_any ends_line cell ≡ true) c.cell-cell.ensures (sym c.has_end_if.ensures ∙ has)))
       | inr long ↦ sym (cell-long fields i c.loop-column.room within c.loop-column.invariant.room (subst (λ (cell : List ℕ). c.loop-column.room ≤ length cell) c.cell-cell.ensures long.1))
     ]
 
@@ -32,7 +32,7 @@ loop-column-preserved c =
       room = omega (arith, sum_by_more (λ (cell : List ℕ). length cell + 1) fields i [] within, c.loop-column.invariant.room, c.if-room-cell.false, long);
       none =
           list_any_more (list_any ends_line) fields i [] within
-          ∙ rw (c.loop-column.invariant.none) (ap (list_any ends_line) (sym c.cell-cell.ensures) ∙ sym c.has_end.ensures ∙ c.if-has_end.false);
+          ∙ rw (c.loop-column.invariant.none) (ap (list_any ends_line) (sym c.cell-cell.ensures) ∙ sym c.has_end_if.ensures ∙ c.if-has_end_if.false);
     }
 
 pub returns : goal.returns

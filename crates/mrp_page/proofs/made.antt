@@ -1,0 +1,12 @@
+pub mod Rows
+pub mod Own
+pub mod Facts
+pub mod Pieces
+pub mod Summary
+pub mod Scene
+pub mod Todo
+pub mod Records
+pub mod Centres
+pub mod Items
+pub mod Glance
+pub mod Page

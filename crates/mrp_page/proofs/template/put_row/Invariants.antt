@@ -1,7 +1,0 @@
-use Rattle.std.proofs.Common.{◌≡◌}
-use Rattle.mrp_page.specs.Template.{drawn_of, part_html}
-use Rattle.mrp_page.proofs.Pieces.{so_far}
-use Rattle.mrp_page.proofs.template.put_row.Given as goal
-
-abbrev pub invariant-loop-part : goal.invariant-loop-part
-invariant-loop-part l = l.page ≡ so_far l.fn.page (λ part. part_html l.row (drawn_of part)) l.parts l.part-index

@@ -1,0 +1,12 @@
+pub mod Head
+pub mod Lists
+pub mod Todo
+pub mod Said
+pub mod Refused
+pub mod Risk
+pub mod Glance
+pub mod Centres
+pub mod Work
+pub mod Records
+pub mod Items
+pub mod History
