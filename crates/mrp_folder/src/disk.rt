@@ -1,0 +1,131 @@
+//! A folder of the operating system.
+
+ghost use Rattle.std.specs.Prelude.{◌≡◌, None};
+ghost use Rattle.mrp_folder.specs.Disk.{failures_told};
+ghost use Rattle.mrp_folder.specs.Named.{TellsFailure};
+
+use crate::folder::Folder;
+use mrp_rows::WriteFault;
+use std::alloc::Global;
+use std::fs::{File, OpenFile};
+use std::io::Write;
+use std::path::Path;
+use std::rt::Files;
+use std::{fs, io};
+
+/// A file of the operating system that was begun. No contract can say which bytes the operating system keeps.
+#[derive(Drop)]
+pub struct DiskPart<F> {
+    file: F,
+}
+
+impl<F: Write> Write for DiskPart<F> {
+    fn write(&mut self, buf: &[u8]) -> io::Result<usize> {
+        self.file.write(buf)
+    }
+
+    fn flush(&mut self) -> io::Result<()> {
+        self.file.flush()
+    }
+}
+
+/// A folder of the operating system, by its path, and the name that a file is begun with.
+#[derive(Drop)]
+pub struct DiskFolder<'a, R> {
+    files: &'a R,
+    alloc: Global,
+    folder: &'a str,
+    part: &'a str,
+    failures: u64,
+}
+
+// Begins a file in a folder.
+fn begin_in<R: Files>(
+    files: &R,
+    alloc: Global,
+    folder: &str,
+    part: &str,
+) -> io::Result<DiskPart<R::File>> {
+    let path = Path::new(folder).join(alloc, part)?;
+    let file = File::create(files, path.as_str())?;
+    Ok(DiskPart { file })
+}
+
+// Gives a file of a folder another name.
+fn rename_in<R: Files>(
+    files: &R,
+    alloc: Global,
+    folder: &str,
+    part: &str,
+    name: &str,
+) -> io::Result<()> {
+    let from = Path::new(folder).join(alloc, part)?;
+    let to = Path::new(folder).join(alloc, name)?;
+    fs::rename(files, from.as_str(), to.as_str())
+}
+
+// Makes the names of a folder durable. An empty path is the folder that the program runs in.
+fn sync_names<R: Files>(files: &R, folder: &str) -> io::Result<()> {
+    let path = if folder.is_empty() { "." } else { folder };
+    File::open(files, path)?.sync_all()
+}
+
+impl<'a, R> DiskFolder<'a, R> {
+    /// A folder of which no call failed yet.
+    pub fn new(files: &'a R, alloc: Global, folder: &'a str, part: &'a str) -> DiskFolder<'a, R>
+        ensures { failures_told result ≡ 0 }
+    {
+        DiskFolder {
+            files,
+            alloc,
+            folder,
+            part,
+            failures: 0,
+        }
+    }
+
+    // Counts a call that failed.
+    fn told<X>(&mut self, outcome: io::Result<X>) -> Result<X, WriteFault>
+        ensures { TellsFailure (failures_told self.old) (failures_told self.new) result }
+    {
+        match outcome {
+            Ok(x) => Ok(x),
+            Err(_) => {
+                self.failures = self.failures.saturating_add(1);
+                Err(WriteFault)
+            }
+        }
+    }
+}
+
+impl<'a, R: Files> Folder for DiskFolder<'a, R> {
+    type Part = DiskPart<R::File>;
+
+    ghost durable = { λ _. None };
+
+    ghost named = { λ _. None };
+
+    ghost lasting = { λ _. None };
+
+    ghost failures = { failures_told };
+
+    fn begin(&mut self) -> Result<DiskPart<R::File>, WriteFault> {
+        let outcome = begin_in(self.files, self.alloc, self.folder, self.part);
+        self.told(outcome)
+    }
+
+    fn sync(&mut self, part: &mut DiskPart<R::File>) -> Result<(), WriteFault> {
+        let outcome = part.file.sync_all();
+        self.told(outcome)
+    }
+
+    fn name(&mut self, _part: DiskPart<R::File>, name: &str) -> Result<(), WriteFault> {
+        let outcome = rename_in(self.files, self.alloc, self.folder, self.part, name);
+        self.told(outcome)
+    }
+
+    fn settle(&mut self) -> Result<(), WriteFault> {
+        let outcome = sync_names(self.files, self.folder);
+        self.told(outcome)
+    }
+}
