@@ -12,7 +12,7 @@ BAD = [
     (b"\n", b"6 columns"), (b"x\n", b"6 columns"), (b"0,run,,,,\n", b"11 range"), (b"1,sell,,,,\n", b"10 word"),
     (b"1,ask,,2025-01-06,,\n", b"7 name"), (b"1,cancel,,,,\n", b"8 number"), (b"1,run,,,,\r1,run,,,,\n", b"6 columns"),
     (b'2,cancel,,,,"7\n', b"8 number"), (b"3,when,no such item,,1,\n", b"13 unknown-item"),
-]  # fmt: skip
+]
 DESKS = 64
 
 

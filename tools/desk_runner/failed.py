@@ -53,6 +53,15 @@ def look_at_calls(calls):
             raise Wrong("a row is written before its record is synced")
 
 
+def look_at_batches(calls, before):
+    """What comes at once is appended at once and synced once: so each step that has records, and the header or the cut of a start."""
+    steps = sum(any(line.record for line in step) for step in STEPS)
+    appends = sum((it.what, it.name) == ("write", JOURNAL) for it in calls)
+    syncs = sum((it.what, it.name) == ("sync", JOURNAL) for it in calls)
+    if appends > steps + (before is None) or syncs > steps + 1:
+        raise Wrong(f"{steps} steps take {appends} appends and {syncs} syncs of the journal")
+
+
 class Failing:
     """Runs desks, of which a call on files fails."""
 
@@ -92,6 +101,7 @@ def fail_calls(program, ways=tuple(WAYS), step=1):
         for name, before in BEFORE.items():
             lived, ledger, made = failing.run(f"{name} free", before)
             look(lived, ledger, [WELL])
+            look_at_batches(made, before)
             count = max(it.number for it in made)
             calls += count
             tries = [(name, before, way, at) for way in ways for at in range(1, count + 1, step)]

@@ -148,7 +148,8 @@ class Life:
         self.seeds = [self.dice.random() for _ in range(FEEDERS)]
         self.begin()
         feeders = [threading.Thread(target=self.feed, args=(feeder,)) for feeder in range(FEEDERS)]
-        threads = [threading.Thread(target=self.read), threading.Thread(target=lambda: self.told.append(self.process.stderr.read())), *feeders]
+        listener = threading.Thread(target=lambda: self.told.append(self.process.stderr.read()))
+        threads = [threading.Thread(target=self.read), listener, *feeders]
         for thread in threads:
             thread.start()
         time.sleep(self.dice.random() * MOST_SECONDS)

@@ -13,9 +13,9 @@ DAYS = os.path.join(TOP, "crates", "mrp_cases", "data")
 TABLES = {"calendar", "items", "centres", "stock", "receipts", "bills", "routings", "master", "script"}
 
 
-def end_of(program, folder, given):
+def end_of(program, folder, given, workers=1):
     """How a desk ends that gets this input at once, or None where it is stuck."""
-    desk = Desk([program, "desk", "--dir", folder])
+    desk = Desk([program, "desk", "--dir", folder, "--workers", str(workers)])
     try:
         desk.send(given)
         return Ended(*desk.end())
@@ -27,7 +27,7 @@ def end_of(program, folder, given):
 @dataclass
 class Replay:
     """The calls of a worked day, made at a desk: each is answered by its row of the history, and the file of each run of theirs has
-    that row and the day's report."""
+    that row and the day's report, whether it is planned by one worker, two or three."""
 
     name: str
     tables: dict
@@ -42,7 +42,7 @@ class Replay:
         with tempfile.TemporaryDirectory() as room:
             folder = os.path.join(room, "shop")
             lay_tables(self.tables, folder)
-            ended = end_of(program, folder, self.calls)
+            ended = end_of(program, folder, self.calls, 1 + len(self.calls) % 3)
             if ended != Ended(0, b"".join(rows), b""):
                 return f"it ends with {short(ended)}, and not with {short(b''.join(rows))}"
             for row, report in zip(fronts, reports):

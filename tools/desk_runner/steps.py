@@ -26,7 +26,7 @@ STEPS = [
     [call("2,book,BIKE,2025-01-06,3,")],
     [call("2,when,BIKE,,5,"), call("4,run,,,,")],
     [call("2,cancel,,,,3")],
-]  # fmt: skip
+]
 AGAIN = [call("5,ask,BIKE,2025-01-20,,")]
 # Journals as a start finds them: none, and one that ends in half a record and has a run without a file.
 BEFORE = {"no journal": None, "a cut journal": HEADER + b"1,book,BIKE,2025-01-06,1,\n1,run,,,,\n1,ca"}

@@ -14,7 +14,8 @@ from .programs import run
 
 CASES = os.path.join(TOP, "crates", "mrp_cases", "desk")
 SIGNALS = ("TERM", "INT", "KILL")
-KEYS = {"about", "shop", "tables", "before", "words", "in", "chunks", "out", "err", "status", "after", "files", "limit", "end", "beside", "mrp", "then"}
+GIVEN = {"about", "shop", "tables", "before", "words", "in", "chunks", "limit", "end", "beside", "mrp", "then"}
+KEYS = GIVEN | {"out", "err", "status", "after", "files"}
 
 
 def text_of(value):

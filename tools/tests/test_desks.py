@@ -175,7 +175,8 @@ class Desks(unittest.TestCase):
             self.assertEqual(read_lines(made, 1), [b"1,1,a\n"])
 
     def test_wrong_words(self):
-        for words in ([], ["true"], ["--sockets", self.room], ["--sockets", f"{self.room}/none", "true"], ["--desks", "65", "--loopback", "9000", "true"]):
+        none = f"{self.room}/none"
+        for words in ([], ["true"], ["--sockets", self.room], ["--sockets", none, "true"], ["--desks", "65", "--loopback", "9000", "true"]):
             with self.subTest(words=words):
                 ended = subprocess.run([os.path.join(TOOLS, "desks"), *words], capture_output=True, check=False)
                 self.assertEqual((ended.returncode, ended.stdout), (2, b""))
