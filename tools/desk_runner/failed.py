@@ -3,6 +3,7 @@
 import concurrent.futures
 import errno
 import os
+import re
 import tempfile
 from dataclasses import dataclass
 
@@ -42,8 +43,26 @@ def told_calls(path):
     return calls
 
 
+# What a file has as its name until it is whole.
+PARTS = {"run": "run.part", "desk": "desk.part"}
+
+
+def look_at_names(calls):
+    """A file gets its name only once all that was written of it is synced."""
+    waiting = set()
+    for it in calls:
+        if it.name in PARTS.values():
+            if it.what == "sync" and it.gave == 0:
+                waiting.discard(it.name)
+            elif it.what in ("make", "write"):
+                waiting.add(it.name)
+        if it.what == "rename" and it.gave == 0 and PARTS[re.match("[a-z]+", it.name)[0]] in waiting:
+            raise Wrong(f"{it.name} gets its name before it is synced")
+
+
 def look_at_calls(calls):
     """No row is written while a record is not synced, or after a write or sync of the journal that failed."""
+    look_at_names(calls)
     is_waiting, has_failed = False, False
     for it in calls:
         if it.name == JOURNAL and it.what in ("write", "sync", "cut") and it.gave != -errno.EINTR:
@@ -53,12 +72,20 @@ def look_at_calls(calls):
             raise Wrong("a row is written before its record is synced")
 
 
+def look_at_sum(calls, folder, before):
+    """The sum of the tables has its name, and that is synced, before the first record is appended."""
+    place = next(at for at, it in enumerate(calls) if (it.what, it.name) == ("rename", "desk.tables"))
+    appends = [at for at, it in enumerate(calls) if (it.what, it.name) == ("write", JOURNAL)][before is None :]
+    if not any(it.what == "sync" and it.name == folder for it in calls[place : appends[0]]):
+        raise Wrong("a record is appended before the sum of the tables is durable")
+
+
 def look_at_batches(calls, before):
-    """What comes at once is appended at once and synced once: so each step that has records, and the header or the cut of a start."""
+    """What comes at once is appended at once and synced once: each step that has records, and what a start finds and its header."""
     steps = sum(any(line.record for line in step) for step in STEPS)
     appends = sum((it.what, it.name) == ("write", JOURNAL) for it in calls)
     syncs = sum((it.what, it.name) == ("sync", JOURNAL) for it in calls)
-    if appends > steps + (before is None) or syncs > steps + 1:
+    if appends > steps + (before is None) or syncs > steps + 1 + (before is None):
         raise Wrong(f"{steps} steps take {appends} appends and {syncs} syncs of the journal")
 
 
@@ -102,6 +129,7 @@ def fail_calls(program, ways=tuple(WAYS), step=1):
             lived, ledger, made = failing.run(f"{name} free", before)
             look(lived, ledger, [WELL])
             look_at_batches(made, before)
+            look_at_sum(made, os.path.basename(ledger.path), before)
             count = max(it.number for it in made)
             calls += count
             tries = [(name, before, way, at) for way in ways for at in range(1, count + 1, step)]

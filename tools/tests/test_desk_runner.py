@@ -108,6 +108,22 @@ class Orders(unittest.TestCase):
                     self.assertRaises(Wrong, failed.look_at_calls, calls)
 
 
+    def test_names_of_files(self):
+        write, sync = failed.Told("write", 1, 9, "run.part"), failed.Told("sync", 2, 0, "run.part")
+        name = failed.Told("rename", 3, 0, "run-7.day")
+        failed.look_at_names([write, sync, name])
+        for calls in ([write, name], [write, sync, write, name], [write, failed.Told("sync", 2, -5, "run.part"), name]):
+            self.assertRaises(Wrong, failed.look_at_names, calls)
+
+    def test_the_sum_comes_before_the_first_record(self):
+        header, record = failed.Told("write", 1, 36, JOURNAL), failed.Told("write", 4, 27, JOURNAL)
+        name, sync = failed.Told("rename", 2, 0, "desk.tables"), failed.Told("sync", 3, 0, "shop")
+        failed.look_at_sum([header, name, sync, record], "shop", None)
+        failed.look_at_sum([name, sync, record], "shop", b"")
+        for calls in ([header, record, name, sync], [header, name, record, sync]):
+            self.assertRaises(Wrong, failed.look_at_sum, calls, "shop", None)
+
+
 class Texts(unittest.TestCase):
     def test_transcripts_have_known_keys(self):
         cases = transcripts.transcripts()
