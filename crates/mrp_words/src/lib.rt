@@ -15,7 +15,7 @@ mod sights;
 pub use carry_words::CarryWords;
 pub use command::{MOST_WORKERS, NoRequest, Request, read_words};
 pub use day::DayCommand;
-pub use files::{FileStore, read_folder, read_tables};
+pub use files::{FileStore, join_tables, read_folder, read_tables};
 pub use hint::{Hint, has_stray_word};
 pub use page_words::PageWords;
 pub use sights::{QuietErrors, SeenInput, SeenOutput, Sights, begins_utf16};
