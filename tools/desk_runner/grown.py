@@ -10,7 +10,9 @@ from .preloads import build
 from .steps import BEFORE, SHOP, STEPS, begin, live, look, look_again
 
 ALL = 1_000_000_000
-WELL, NO_MEMORY = (0, []), (3, ["no memory"])
+# How a desk ends to which memory is refused: well, with answers or runs that say so; or at its start or at a batch. Where a file's path
+# finds no memory, its write has failed.
+ENDINGS = [(0, []), (3, ["no memory"]), (4, ["write failed"])]
 
 
 class Refusing:
@@ -35,7 +37,7 @@ class Refusing:
         what = ", ".join(f"{key} {value}" for key, value in asked.items())
         try:
             lived, ledger, _, _ = self.run(f"{name} {what}", before, **asked)
-            look(lived, ledger, [WELL, NO_MEMORY])
+            look(lived, ledger, ENDINGS)
             look_again(self.program, ledger)
         except Wrong as wrong:
             return False, f"{name}, {what}: {wrong}"
@@ -60,7 +62,7 @@ def refuse_growths(program, step=1):
         refusing = Refusing(program, room)
         for name, before in BEFORE.items():
             lived, ledger, growths, threads = refusing.run(f"{name} free", before)
-            look(lived, ledger, [WELL])
+            look(lived, ledger, ENDINGS[:1])
             ends = list(pool.map(lambda it, name=name, before=before: refusing.fault(name, before, it), refusals(growths, threads, step)))
             faults += [fault for _, fault in ends if fault]
             lacked += sum(is_out for is_out, _ in ends)
