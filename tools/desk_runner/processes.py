@@ -22,14 +22,22 @@ def limit_files(size):
     resource.setrlimit(resource.RLIMIT_FSIZE, (size, size))
 
 
+def prepare(limit, shut):
+    """What a desk does before its program, where its files or streams are not as they mostly are."""
+    if limit is not None:
+        limit_files(limit)
+    for stream in shut:
+        os.close(stream)
+
+
 class Desk:
     """A running command: `out` is what it has answered so far, in so many whole `lines`. With a `limit` no file of its gets larger than
-    that, and where it is `deaf` nobody reads what it answers."""
+    that, where it is `deaf` nobody reads what it answers, and streams that are `shut` it does not have, by their numbers."""
 
-    def __init__(self, words, limit=None, deaf=False, env=None, seconds=SECONDS):
+    def __init__(self, words, limit=None, deaf=False, env=None, seconds=SECONDS, shut=()):
         self.until, self.out, self.lines, self.deaf = time.monotonic() + seconds, bytearray(), 0, deaf
         reads, writes = os.pipe()
-        how = {"preexec_fn": (lambda: limit_files(limit))} if limit is not None else {}
+        how = {"preexec_fn": (lambda: prepare(limit, shut))} if limit is not None or shut else {}
         streams = {"stdin": subprocess.PIPE, "stdout": writes, "stderr": subprocess.PIPE}
         self.process = subprocess.Popen(words, bufsize=0, env=env, **streams, **how)
         os.close(writes)

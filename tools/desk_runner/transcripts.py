@@ -14,7 +14,7 @@ from .programs import run
 
 CASES = os.path.join(TOP, "crates", "mrp_cases", "desk")
 SIGNALS = ("TERM", "INT", "KILL")
-GIVEN = {"about", "shop", "tables", "before", "words", "in", "chunks", "limit", "end", "beside", "mrp", "then"}
+GIVEN = {"about", "shop", "tables", "before", "words", "in", "chunks", "limit", "end", "shut", "beside", "mrp", "then"}
 KEYS = GIVEN | {"out", "err", "status", "after", "files"}
 
 
@@ -76,7 +76,8 @@ def live(program, life, folder):
     """Runs one life of a desk: how it ended, or None where it was stuck."""
     words = [word.replace("{D}", folder) for word in life.get("words", ["--dir", "{D}"])]
     other = open_beside(program, folder) if life.get("beside") else None
-    desk = Desk([program, "desk", *words], life.get("limit"), life.get("end") == "closed")
+    shut = life.get("shut", ())
+    desk = Desk([program, "desk", *words], life.get("limit"), life.get("end") == "closed" or 1 in shut, shut=shut)
     try:
         feed(desk, life)
         return Ended(*desk.end())
