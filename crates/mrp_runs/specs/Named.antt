@@ -1,0 +1,24 @@
+-- The files of a folder that have the names of runs: what of each is durable (profile).
+use Rattle.std.specs.Prelude.{ℕ, ◌≡◌, List, [], ◌∷◌, ◌++◌, Option, Some, None, Result, Ok, Err}
+use Rattle.mrp_rows.specs.declared.streams.WriteFault.{WriteFault}
+use Rattle.mrp_rows.specs.Told.{HasRisenBy}
+use Rattle.mrp_journal.specs.Held.{Held, settled}
+
+-- a file with the name of the run with this number
+pub record Named : Type 0 where
+  pub front : ℕ
+  pub file : Held
+
+-- one that is whole and durable
+abbrev pub whole : ℕ → List ℕ → Named
+whole front text = record { front = front; file = settled text }
+
+-- a file with such bytes, of which these are durable, gets a name, as far as they are known
+abbrev pub with_name : ℕ → Option (List ℕ) → Option (List ℕ) → Option (List Named) → Option (List Named)
+with_name front (Some bytes) (Some durable) (Some files) = Some (files ++ record { front = front; file = record { bytes = bytes; durable = durable } } ∷ [])
+with_name front _ _ _ = None
+
+-- a call failed exactly where the count of failures rose
+abbrev pub TellsFailure : {X : Type 0} → ℕ → ℕ → Result X WriteFault → Type 0
+TellsFailure old new (Ok x) = new ≡ old
+TellsFailure old new (Err fault) = HasRisenBy 1 old new
