@@ -21,13 +21,13 @@ use Rattle.mrp_engine.specs.day.Run.{HasNotFailed, HasPassedLimits, IsRead, IsRe
 use Rattle.mrp_engine.specs.declared.day.fault.DayFault.{DayFault}
 use Rattle.mrp_engine.specs.declared.day.fault.DayFault.TheVariants as fault
 use Rattle.mrp_words.specs.declared.command.Request.{Request}
-use Rattle.mrp_words.specs.declared.command.Request.TheVariants.{Carry, Check, Day, Inspect, Page}
+use Rattle.mrp_words.specs.declared.command.Request.TheVariants.{Carry, Check, Day, Desk, Inspect, Page}
 use Rattle.mrp_words.specs.declared.day.DayCommand.{DayCommand}
 use Rattle.mrp_words.specs.declared.day.DayCommand.TheVariants.{Plan, Live}
 use Rattle.mrp_words.specs.declared.command.NoRequest.{NoRequest}
 use Rattle.mrp_words.specs.declared.command.NoRequest.TheVariants as none
 use Rattle.mrp_commands.specs.declared.ending.Ending.{Ending}
-use Rattle.mrp_commands.specs.declared.ending.Ending.TheVariants.{Done, LeftBehind, Refused, TooLarge, WrongShape, Wrong, NoRun, NoStart, Usage, NoMemory, Read, Write, WrongTables}
+use Rattle.mrp_commands.specs.declared.ending.Ending.TheVariants.{Done, InUse, LeftBehind, Refused, TablesChanged, TooLarge, WrongShape, Wrong, NoRun, NoStart, Usage, NoMemory, Read, Write, WrongTables}
 use Rattle.mrp_commands.specs.declared.status.Status.TheVariants as status
 use Rattle.mrp_commands.specs.Status.{code_of, status_of}
 use Rattle.mrp_commands.specs.Telling.{words_of}
@@ -61,6 +61,8 @@ DayWrites command contents given ended failed output written (Refused text) = Is
 DayWrites command contents given ended failed output written (TooLarge name) = IsTooLargeAt command given name × (written ≡ output)
 DayWrites command contents given ended failed output written WrongShape = ⊥
 DayWrites command contents given ended failed output written WrongTables = ⊥
+DayWrites command contents given ended failed output written InUse = ⊥
+DayWrites command contents given ended failed output written TablesChanged = ⊥
 DayWrites command contents given ended failed output written Wrong = ⊥
 DayWrites command contents given ended failed output written NoRun = ⊥
 DayWrites command contents given ended failed output written (LeftBehind text) = ⊥
@@ -82,6 +84,8 @@ HasReadAll (Refused text) = ⊤
 HasReadAll (TooLarge name) = ⊤
 HasReadAll WrongShape = ⊥
 HasReadAll WrongTables = ⊥
+HasReadAll InUse = ⊥
+HasReadAll TablesChanged = ⊥
 HasReadAll Wrong = ⊥
 HasReadAll NoRun = ⊥
 HasReadAll (LeftBehind text) = ⊥

@@ -2,16 +2,18 @@
 
 ghost use Rattle.std.specs.Prelude.{◌<◌, map};
 ghost use Rattle.std.specs.Result.{ForOk};
-ghost use Rattle.mrp_main.specs.Ends.{Ends, HelpEnds, IsDone, RequestEnds};
+ghost use Rattle.mrp_main.specs.Ends.{Ends, HelpEnds, IsDone, IsNoDesk, RequestEnds};
 ghost use Rattle.mrp_words.specs.Words.{HasWorkers};
 
 use crate::check::check_day;
 use crate::day::{make_day, make_day_of_folder};
 use mrp_commands::{Ending, carry_asked, inspect_asked, make_page};
+use mrp_open::open_desk;
 use mrp_rows::{Told, Tries, write_text};
 use mrp_words::{FileStore, NoRequest, Request, read_words};
 use std::alloc::Global;
 use std::convert::AsStr;
+use std::fs::File;
 use std::io::{Read, Write};
 use std::rt::Files;
 use std::sync::Wait;
@@ -37,6 +39,7 @@ fn answer<F: FileStore, R: Read, W: Write>(
     output: &mut Told<W>,
 ) -> Ending
     requires workers { HasWorkers request }
+    requires other { IsNoDesk request }
     ensures { RequestEnds (F.known files.now) R.remaining W.contents input.old input.new output.old output.new request result }
 {
     match request {
@@ -57,6 +60,10 @@ fn answer<F: FileStore, R: Read, W: Write>(
         },
         Request::Carry(words) => carry_asked(rt, alloc, files, &words, output),
         Request::Inspect(folder) => inspect_asked(rt, alloc, files, &folder, output),
+        Request::Desk {
+            workers: _,
+            folder: _,
+        } => unreachable!(),
     }
 }
 
@@ -69,7 +76,8 @@ fn carry_out<F: FileStore, R: Read, W: Write>(
     input: &mut Told<R>,
     output: &mut Told<W>,
 ) -> Ending
-    requires { ForOk asked HasWorkers }
+    requires workers { ForOk asked HasWorkers }
+    requires other { ForOk asked IsNoDesk }
     ensures { Ends (F.known files.now) R.remaining W.contents input.old input.new output.old output.new asked result }
 {
     match asked {
@@ -77,6 +85,22 @@ fn carry_out<F: FileStore, R: Read, W: Write>(
         Err(NoRequest::Help(text)) => write_help(&text, output),
         Err(NoRequest::Usage(text)) => Ending::Usage(text),
         Err(NoRequest::NoMemory) => Ending::NoMemory,
+    }
+}
+
+// Opens the order desk that was asked for.
+fn serve_asked<I: Read, W: Write, E: Write>(
+    rt: &(impl Alloc + Eprint + Files<File = File> + Threads + Wait + Sync),
+    alloc: Global,
+    workers: usize,
+    folder: &Option<String>,
+    input: &mut Told<I>,
+    output: &mut Told<W>,
+    errors: &mut Told<E>,
+) -> Ending {
+    match folder {
+        Some(folder) => open_desk(rt, alloc, folder, workers, input, output, errors),
+        None => Ending::Usage(String::new(alloc)),
     }
 }
 
@@ -112,7 +136,7 @@ fn carry_out<F: FileStore, R: Read, W: Write>(
 /// Words that ask for help or the version have it written; wrong words have nothing written. Only days, pages and checks
 /// that take the input read it.
 pub fn run_words<S: AsStr, R: Read, W: Write, E: Write>(
-    rt: &(impl Alloc + Files + Threads + Wait + Sync),
+    rt: &(impl Alloc + Eprint + Files<File = File> + Threads + Wait + Sync),
     alloc: Global,
     words: &[S],
     input: &mut Told<R>,
@@ -123,7 +147,15 @@ pub fn run_words<S: AsStr, R: Read, W: Write, E: Write>(
         input.old input.new output.old output.new errors.old errors.new result }
     ensures few { result < 5 }
 {
-    let end = carry_out(rt, alloc, rt, read_words(alloc, words), input, output);
-    let _ = end.tell(errors);
+    let end = match read_words(alloc, words) {
+        Ok(Request::Desk { workers, folder }) => {
+            serve_asked(rt, alloc, workers, &folder, input, output, errors)
+        }
+        asked => {
+            let end = carry_out(rt, alloc, rt, asked, input, output);
+            let _ = end.tell(errors);
+            end
+        }
+    };
     end.status().code()
 }

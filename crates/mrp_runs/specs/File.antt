@@ -1,5 +1,5 @@
 -- The file of a run: its own row of the history, and then its report, or why there is none (profile).
-use Rattle.std.specs.Prelude.{ℕ, ◌≡◌, List, [], ◌∷◌, ◌++◌, Option, Some, None, codes}
+use Rattle.std.specs.Prelude.{ℕ, ◌≡◌, List, [], ◌∷◌, ◌++◌, Option, Some, None, codes, decimal}
 use Rattle.mrp_tables.specs.Tables.{Tables}
 use Rattle.mrp_turn.specs.declared.log.Entry.{Entry}
 use Rattle.mrp_turn.specs.Log.{entry}
@@ -17,6 +17,10 @@ use Rattle.mrp_engine.specs.day.Day.{IsPlannable, IsRefusedBy}
 use Rattle.mrp_runs.specs.declared.refusal.Refusal.{Refusal}
 use Rattle.mrp_runs.specs.declared.refusal.Refusal.TheVariants as refusal
 use Rattle.mrp_runs.specs.declared.run.Run.{Run}
+
+-- the name of the file of the run with a number: `run-7.day` and so on
+abbrev pub run_name : ℕ → List ℕ
+run_name front = codes "run-" ++ decimal front ++ codes ".day"
 
 -- the entry that answered a run
 abbrev pub run_entry : Run → Entry Call Reply

@@ -1,37 +1,35 @@
 //! Why a run's file was not named.
 
+use mrp_folder::KeepFault;
 use mrp_qty::NoMemory;
-use mrp_rows::{Told, WriteFault};
 
 /// Why a run's file was not named, or may not have been.
 #[derive(Drop)]
-pub enum KeepFault<P> {
-    /// A call of the folder failed.
-    Folder,
-    /// This file could not be written.
-    Part(Told<P>),
-    /// Out of memory for the run's own row.
+pub enum MakeFault<P> {
+    /// It could not be put into its folder.
+    Keep(KeepFault<P>),
+    /// Out of memory for the run's own row, or its file's name.
     NoMemory,
 }
 
-impl<P> From<WriteFault> for KeepFault<P> {
+impl<P> From<KeepFault<P>> for MakeFault<P> {
     ghost use Rattle.std.specs.Prelude.{◌≡◌};
-    ghost use Rattle.mrp_runs.specs.declared.fault.KeepFault.TheVariants as fault;
+    ghost use Rattle.mrp_runs.specs.declared.fault.MakeFault.TheVariants as fault;
 
-    ghost from_gives = { λ _ given. given ≡ fault.Folder };
+    ghost from_gives = { λ kept given. given ≡ fault.Keep kept };
 
-    fn from(_refused: WriteFault) -> KeepFault<P> {
-        KeepFault::Folder
+    fn from(kept: KeepFault<P>) -> MakeFault<P> {
+        MakeFault::Keep(kept)
     }
 }
 
-impl<P> From<NoMemory> for KeepFault<P> {
+impl<P> From<NoMemory> for MakeFault<P> {
     ghost use Rattle.std.specs.Prelude.{◌≡◌};
-    ghost use Rattle.mrp_runs.specs.declared.fault.KeepFault.TheVariants as fault;
+    ghost use Rattle.mrp_runs.specs.declared.fault.MakeFault.TheVariants as fault;
 
     ghost from_gives = { λ _ given. given ≡ fault.NoMemory };
 
-    fn from(_refused: NoMemory) -> KeepFault<P> {
-        KeepFault::NoMemory
+    fn from(_refused: NoMemory) -> MakeFault<P> {
+        MakeFault::NoMemory
     }
 }

@@ -1,12 +1,12 @@
 //! The files of a shop's runs, made one after the other.
 
-use crate::fault::KeepFault;
-use crate::folder::RunFolder;
-use crate::naming::{keep_refusal, keep_report};
+use crate::fault::MakeFault;
 use crate::refusal::Refusal;
-use crate::run::{Run, head_of};
+use crate::report::{keep_refusal, keep_report};
+use crate::run::{Run, head_of, run_name};
 use mrp_engine::{DayFault, MOST_WORKERS, RunResult, plan_or_refuse};
 use mrp_explode::OpenGate;
+use mrp_folder::{Folder, KeepFault};
 use mrp_item::{Plan, ShopRows};
 use mrp_qty::NoMemory;
 use mrp_report::HistoryRows;
@@ -45,7 +45,8 @@ impl<'a> RunMaker<'a> {
     ghost use Rattle.mrp_item.specs.Inputs.{inputs_of};
     ghost use Rattle.mrp_engine.specs.day.Planned.{PlansRun};
     ghost use Rattle.mrp_runs.specs.File.{Comes, IsRunAfter, run_head};
-    ghost use Rattle.mrp_runs.specs.Kept.{AddsBehind, Fails, MayAddBehind};
+    ghost use Rattle.mrp_folder.specs.Kept.{Fails};
+    ghost use Rattle.mrp_runs.specs.Kept.{AddsBehind, FailsToMake, MayAddBehind};
     ghost use Rattle.mrp_runs.specs.Maker.{KeepsFile, MayKeepFile};
 
     /// A maker for the runs of a shop, whose rows these are, with so many workers (1 to 64, as the caller guarantees)
@@ -86,31 +87,31 @@ impl<'a> RunMaker<'a> {
     }
 
     // Makes the file of a run that begins with a text.
-    fn keep<D: RunFolder>(
+    fn keep<D: Folder>(
         &mut self,
         rt: &(impl Alloc + Threads + Wait + Sync),
         alloc: Global,
         run: &Run,
         head: &[u8],
+        name: &str,
         folder: &mut D,
     ) -> Result<Option<Refusal>, KeepFault<D::Part>>
         requires { AreBooked (supply_of self.old) run.now.snapshot.standing }
         ensures same { self.new ≡ self.old }
-        ensures added { IfOk result (λ outcome. AddsBehind head.now (Comes (inputs_of self.old run.now.snapshot) outcome) run.now.snapshot.front (D.named folder.old) (D.named folder.new)) }
-        ensures either { OnErr result (MayAddBehind head.now (Comes (inputs_of self.old run.now.snapshot)) run.now.snapshot.front (D.named folder.old) (D.named folder.new)) }
+        ensures added { IfOk result (λ outcome. AddsBehind head.now (Comes (inputs_of self.old run.now.snapshot) outcome) name.now (D.named folder.old) (D.named folder.new)) }
+        ensures either { OnErr result (MayAddBehind head.now (Comes (inputs_of self.old run.now.snapshot)) name.now (D.named folder.old) (D.named folder.new)) }
         ensures failed { IfErr result (Fails (D.failures folder.old) (D.failures folder.new)) }
     {
-        let front = run.snapshot.front();
         let refusal = match self.plan(rt, alloc, run) {
             Ok(plan) => {
-                let kept = keep_report(rt, alloc, folder, head, &plan, self.workers, front);
+                let kept = keep_report(rt, alloc, folder, head, &plan, self.workers, name);
                 self.last = Some(plan);
                 return kept;
             }
             Err(DayFault::TooLarge(name)) => Refusal::TooLarge(name),
             Err(_) => Refusal::NoMemory,
         };
-        keep_refusal(folder, head, refusal, front)?;
+        keep_refusal(folder, head, refusal, name)?;
         Ok(Some(refusal))
     }
 
@@ -118,24 +119,25 @@ impl<'a> RunMaker<'a> {
     /// that durable, and gives it its name. The caller guarantees that the run's entry is one of a legal history of the
     /// shop's order book. What stands in place of a report is returned.
     ///
-    /// Errors: a call of the folder or a write of the file failed, or there was no memory for the row. The file has its
+    /// Errors: a call of the folder or a write of the file failed, or there was no memory for the row or the name. The file has its
     /// name whole, or not at all.
-    pub fn make<D: RunFolder>(
+    pub fn make<D: Folder>(
         &mut self,
         rt: &(impl Alloc + Threads + Wait + Sync),
         alloc: Global,
         run: &Run,
         folder: &mut D,
-    ) -> Result<Option<Refusal>, KeepFault<D::Part>>
+    ) -> Result<Option<Refusal>, MakeFault<D::Part>>
         requires { (before : History) × IsRunAfter self.old before run.now }
         ensures same { self.new ≡ self.old }
         ensures kept { (before : History) → IsRunAfter self.old before run.now
             → IfOk result (λ outcome. KeepsFile self.old before run.now outcome (D.named folder.old) (D.named folder.new)) }
         ensures either { (before : History) → IsRunAfter self.old before run.now
             → OnErr result (MayKeepFile self.old before run.now (D.named folder.old) (D.named folder.new)) }
-        ensures failed { IfErr result (Fails (D.failures folder.old) (D.failures folder.new)) }
+        ensures failed { IfErr result (FailsToMake (D.failures folder.old) (D.failures folder.new)) }
     {
         let head = head_of(alloc, &self.names, run)?;
-        self.keep(rt, alloc, run, &head, folder)
+        let name = run_name(alloc, run.snapshot.front())?;
+        Ok(self.keep(rt, alloc, run, &head, &name, folder)?)
     }
 }

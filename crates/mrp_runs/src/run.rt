@@ -1,7 +1,7 @@
 //! Runs that were answered.
 
-ghost use Rattle.std.specs.Prelude.{◌≡◌, IfOk};
-ghost use Rattle.mrp_runs.specs.File.{run_head};
+ghost use Rattle.std.specs.Prelude.{◌≡◌, IfOk, string_bytes};
+ghost use Rattle.mrp_runs.specs.File.{run_head, run_name};
 
 use mrp_book::{Call, Entry, Reply, Snapshot};
 use mrp_day::Section;
@@ -16,6 +16,15 @@ pub struct Run {
     pub desk: u64,
     /// The number of the run's entry, and the bookings that stood at it.
     pub snapshot: Snapshot,
+}
+
+/// The name of the file of the run with a number: `run-7.day` and so on.
+///
+/// Errors: `NoMemory` if an allocation fails.
+pub fn run_name(alloc: Global, front: u64) -> Result<String, NoMemory>
+    ensures { IfOk result (λ name. string_bytes name ≡ run_name front) }
+{
+    Ok(format!(in alloc; "run-{front}.day")?)
 }
 
 /// What a run's file begins with: the section `history` with its own row.

@@ -6,7 +6,7 @@ ghost use Rattle.mrp_report.specs.Written.{HasGivenUp};
 ghost use Rattle.mrp_rows.specs.declared.streams.TheConstants.{WRITE_TRIES};
 ghost use Rattle.mrp_runs.specs.Notes.{note_text, rest_of};
 
-use crate::fault::KeepFault;
+use crate::fault::MakeFault;
 use crate::refusal::{Refusal, write_line, write_whole};
 use itoa::Buffer;
 use mrp_rows::{Told, WRITE_TRIES, WriteFault};
@@ -26,13 +26,13 @@ impl Note {
     ghost use Rattle.mrp_runs.specs.Notes.{note_of};
 
     /// What is told of a run, by what came of it.
-    pub fn of<P>(made: &Result<Option<Refusal>, KeepFault<P>>) -> Option<Note>
+    pub fn of<P>(made: &Result<Option<Refusal>, MakeFault<P>>) -> Option<Note>
         ensures { result ≡ note_of made.now }
     {
         match made {
             Ok(None) => None,
             Ok(Some(refusal)) => Some(Note::Refused(*refusal)),
-            Err(KeepFault::NoMemory) => Some(Note::Refused(Refusal::NoMemory)),
+            Err(MakeFault::NoMemory) => Some(Note::Refused(Refusal::NoMemory)),
             Err(_) => Some(Note::Write),
         }
     }

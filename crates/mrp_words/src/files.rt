@@ -164,8 +164,10 @@ pub fn read_tables<F: FileStore>(
     Ok(tables)
 }
 
-// The bundle of tables that were read.
-fn join_tables(alloc: Global, tables: &[(Table, Vec<u8>)]) -> Result<Vec<u8>, NoMemory>
+/// The bundle of tables that were read.
+///
+/// Errors: `NoMemory` if an allocation fails.
+pub fn join_tables(alloc: Global, tables: &[(Table, Vec<u8>)]) -> Result<Vec<u8>, NoMemory>
     ensures { IfOk result (λ bundle. bundle.items ≡ joined (map (λ part. (part.0, part.1.items)) tables.now)) }
 {
     let mut parts = Vec::with_capacity(alloc, tables.len())?;

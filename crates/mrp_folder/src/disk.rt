@@ -1,20 +1,17 @@
 //! A folder of the operating system.
 
 ghost use Rattle.std.specs.Prelude.{◌≡◌, None};
-ghost use Rattle.mrp_runs.specs.Disk.{failures_told};
-ghost use Rattle.mrp_runs.specs.Named.{TellsFailure};
+ghost use Rattle.mrp_folder.specs.Disk.{failures_told};
+ghost use Rattle.mrp_folder.specs.Named.{TellsFailure};
 
-use crate::folder::RunFolder;
+use crate::folder::Folder;
 use mrp_rows::WriteFault;
 use std::alloc::Global;
 use std::fs::{File, OpenFile};
 use std::io::Write;
-use std::path::{Path, PathBuf};
+use std::path::Path;
 use std::rt::Files;
 use std::{fs, io};
-
-/// The name of the file that is begun, in a folder.
-pub const PART: &str = "run.part";
 
 /// A file of the operating system that was begun. No contract can say which bytes the operating system keeps.
 #[derive(Drop)]
@@ -32,44 +29,57 @@ impl<F: Write> Write for DiskPart<F> {
     }
 }
 
-/// A folder of the operating system: a run's file is begun as `run.part`, and named `run-FRONT.day`.
+/// A folder of the operating system, by its path, and the name that a file is begun with.
 #[derive(Drop)]
 pub struct DiskFolder<'a, R> {
     files: &'a R,
     alloc: Global,
     folder: &'a str,
+    part: &'a str,
     failures: u64,
 }
 
-/// The path of the file of the run with a number, in a folder: `run-7.day` and so on.
-pub fn run_path(alloc: Global, folder: &str, front: u64) -> io::Result<PathBuf> {
-    let name = format!(in alloc; "run-{front}.day")?;
-    Ok(Path::new(folder).join(alloc, name)?)
-}
-
 // Begins a file in a folder.
-fn begin_in<R: Files>(files: &R, alloc: Global, folder: &str) -> io::Result<DiskPart<R::File>> {
-    let path = Path::new(folder).join(alloc, PART)?;
+fn begin_in<R: Files>(
+    files: &R,
+    alloc: Global,
+    folder: &str,
+    part: &str,
+) -> io::Result<DiskPart<R::File>> {
+    let path = Path::new(folder).join(alloc, part)?;
     let file = File::create(files, path.as_str())?;
     Ok(DiskPart { file })
 }
 
-// Gives the file that was begun in a folder its name.
-fn name_in<R: Files>(files: &R, alloc: Global, folder: &str, front: u64) -> io::Result<()> {
-    let from = Path::new(folder).join(alloc, PART)?;
-    let to = run_path(alloc, folder, front)?;
+// Gives a file of a folder another name.
+fn rename_in<R: Files>(
+    files: &R,
+    alloc: Global,
+    folder: &str,
+    part: &str,
+    name: &str,
+) -> io::Result<()> {
+    let from = Path::new(folder).join(alloc, part)?;
+    let to = Path::new(folder).join(alloc, name)?;
     fs::rename(files, from.as_str(), to.as_str())
 }
 
+// Makes the names of a folder durable. An empty path is the folder that the program runs in.
+fn sync_names<R: Files>(files: &R, folder: &str) -> io::Result<()> {
+    let path = if folder.is_empty() { "." } else { folder };
+    File::open(files, path)?.sync_all()
+}
+
 impl<'a, R> DiskFolder<'a, R> {
-    /// A folder, by its path, of which no call failed yet.
-    pub fn new(files: &'a R, alloc: Global, folder: &'a str) -> DiskFolder<'a, R>
+    /// A folder of which no call failed yet.
+    pub fn new(files: &'a R, alloc: Global, folder: &'a str, part: &'a str) -> DiskFolder<'a, R>
         ensures { failures_told result ≡ 0 }
     {
         DiskFolder {
             files,
             alloc,
             folder,
+            part,
             failures: 0,
         }
     }
@@ -88,17 +98,19 @@ impl<'a, R> DiskFolder<'a, R> {
     }
 }
 
-impl<'a, R: Files> RunFolder for DiskFolder<'a, R> {
+impl<'a, R: Files> Folder for DiskFolder<'a, R> {
     type Part = DiskPart<R::File>;
 
     ghost durable = { λ _. None };
 
     ghost named = { λ _. None };
 
+    ghost lasting = { λ _. None };
+
     ghost failures = { failures_told };
 
     fn begin(&mut self) -> Result<DiskPart<R::File>, WriteFault> {
-        let outcome = begin_in(self.files, self.alloc, self.folder);
+        let outcome = begin_in(self.files, self.alloc, self.folder, self.part);
         self.told(outcome)
     }
 
@@ -107,8 +119,13 @@ impl<'a, R: Files> RunFolder for DiskFolder<'a, R> {
         self.told(outcome)
     }
 
-    fn name(&mut self, _part: DiskPart<R::File>, front: u64) -> Result<(), WriteFault> {
-        let outcome = name_in(self.files, self.alloc, self.folder, front);
+    fn name(&mut self, _part: DiskPart<R::File>, name: &str) -> Result<(), WriteFault> {
+        let outcome = rename_in(self.files, self.alloc, self.folder, self.part, name);
+        self.told(outcome)
+    }
+
+    fn settle(&mut self) -> Result<(), WriteFault> {
+        let outcome = sync_names(self.files, self.folder);
         self.told(outcome)
     }
 }

@@ -1,8 +1,10 @@
 //! A folder in memory.
 
-ghost use Rattle.std.specs.Prelude.{◌≡◌, Some};
+ghost use Rattle.std.specs.Prelude.{◌≡◌, ◌++◌, ◌∷◌, [], OnErr, OnOk, Some, map, string_bytes};
+ghost use Rattle.mrp_folder.specs.Memory.{memory_durable, memory_file};
 
-use crate::folder::RunFolder;
+use crate::folder::Folder;
+use mrp_qty::NoMemory;
 use mrp_rows::WriteFault;
 use std::alloc::Global;
 use std::io;
@@ -33,19 +35,21 @@ impl Write for MemoryPart {
     }
 }
 
-/// A file in memory that has the name of a run.
+/// A file in memory that has a name.
 #[derive(Drop)]
 pub struct MemoryFile {
-    front: u64,
+    name: String,
     part: MemoryPart,
 }
 
 impl MemoryFile {
-    /// The number of its run.
-    pub fn front(&self) -> u64
-        ensures { result ≡ self.now.front }
+    ghost use Rattle.std.specs.Prelude.{◌≡◌, string_bytes};
+
+    /// Its name.
+    pub fn name(&self) -> &str
+        ensures { result.now ≡ string_bytes self.now.name }
     {
-        self.front
+        self.name.as_str()
     }
 
     /// Its bytes.
@@ -61,6 +65,8 @@ impl MemoryFile {
 pub struct MemoryFolder {
     alloc: Global,
     files: Vec<MemoryFile>,
+    // How many of the names are durable.
+    lasting: usize,
     // How many calls are left before they fail.
     calls: u64,
     // How many writes of each file do not fail.
@@ -68,10 +74,24 @@ pub struct MemoryFolder {
     failures: u64,
 }
 
+// Adds a file.
+fn push_file(
+    alloc: Global,
+    files: &mut Vec<MemoryFile>,
+    part: MemoryPart,
+    name: &str,
+) -> Result<(), NoMemory>
+    ensures added { OnOk result (map memory_file files.new.items ≡ map memory_file files.old.items ++ record { name = name.now; file = record { bytes = part.bytes.items; durable = memory_durable part } } ∷ []) }
+    ensures same { OnErr result (files.new.items ≡ files.old.items) }
+{
+    let name = String::from_str(alloc, name)?;
+    Ok(files.push(MemoryFile { name, part })?)
+}
+
 impl MemoryFolder {
     ghost use Rattle.std.specs.Prelude.{◌≡◌, ◌-◌, [], IsErr, Some, map, nat_lt};
     ghost use Rattle.mrp_rows.specs.Told.{counted};
-    ghost use Rattle.mrp_runs.specs.Memory.{calls_left, memory_failures, memory_files};
+    ghost use Rattle.mrp_folder.specs.Memory.{calls_left, memory_failures, memory_files};
 
     /// A folder without files, whose calls fail after so many, and the writes of each of its files after so many.
     pub fn new(alloc: Global, calls: u64, writes: u64) -> MemoryFolder
@@ -82,6 +102,7 @@ impl MemoryFolder {
         MemoryFolder {
             alloc,
             files: Vec::new(alloc),
+            lasting: 0,
             calls,
             writes,
             failures: 0,
@@ -122,14 +143,16 @@ impl MemoryFolder {
     }
 }
 
-impl RunFolder for MemoryFolder {
-    ghost use Rattle.mrp_runs.specs.Memory.{memory_durable, memory_failures, memory_files};
+impl Folder for MemoryFolder {
+    ghost use Rattle.mrp_folder.specs.Memory.{memory_durable, memory_failures, memory_files, memory_lasting};
 
     type Part = MemoryPart;
 
     ghost durable = { λ part. Some (memory_durable part) };
 
     ghost named = { λ folder. Some (memory_files folder) };
+
+    ghost lasting = { λ folder. Some (memory_lasting folder) };
 
     ghost failures = { memory_failures };
 
@@ -152,13 +175,21 @@ impl RunFolder for MemoryFolder {
         Ok(())
     }
 
-    fn name(&mut self, part: MemoryPart, front: u64) -> Result<(), WriteFault> {
+    fn name(&mut self, part: MemoryPart, name: &str) -> Result<(), WriteFault> {
         if !self.takes_call() {
             return self.fail();
         }
-        match self.files.push(MemoryFile { front, part }) {
+        match push_file(self.alloc, &mut self.files, part, name) {
             Ok(()) => Ok(()),
             Err(_) => self.fail(),
         }
+    }
+
+    fn settle(&mut self) -> Result<(), WriteFault> {
+        if !self.takes_call() {
+            return self.fail();
+        }
+        self.lasting = self.files.len();
+        Ok(())
     }
 }

@@ -1,9 +1,9 @@
 -- What contracts see of a folder in memory (profile).
-use Rattle.std.specs.Prelude.{ℕ, List, map, take}
-use Rattle.mrp_runs.specs.declared.memory.MemoryFile.{MemoryFile}
-use Rattle.mrp_runs.specs.declared.memory.MemoryFolder.{MemoryFolder}
-use Rattle.mrp_runs.specs.declared.memory.MemoryPart.{MemoryPart}
-use Rattle.mrp_runs.specs.Named.{Named}
+use Rattle.std.specs.Prelude.{ℕ, List, map, string_bytes, take}
+use Rattle.mrp_folder.specs.declared.memory.MemoryFile.{MemoryFile}
+use Rattle.mrp_folder.specs.declared.memory.MemoryFolder.{MemoryFolder}
+use Rattle.mrp_folder.specs.declared.memory.MemoryPart.{MemoryPart}
+use Rattle.mrp_folder.specs.Named.{Named}
 
 -- the bytes of a file that are durable
 abbrev pub memory_durable : MemoryPart → List ℕ
@@ -11,11 +11,15 @@ memory_durable part = take part.durable part.bytes.items
 
 -- a file that has a name
 abbrev pub memory_file : MemoryFile → Named
-memory_file file = record { front = file.front; file = record { bytes = file.part.bytes.items; durable = memory_durable file.part } }
+memory_file file = record { name = string_bytes file.name; file = record { bytes = file.part.bytes.items; durable = memory_durable file.part } }
 
 -- the files that were named, in order
 abbrev pub memory_files : MemoryFolder → List Named
 memory_files folder = map memory_file folder.files.items
+
+-- those that have their names after a crash
+abbrev pub memory_lasting : MemoryFolder → List Named
+memory_lasting folder = take folder.lasting (memory_files folder)
 
 -- how many of its calls are left before they fail
 abbrev pub calls_left : MemoryFolder → ℕ

@@ -1,0 +1,34 @@
+-- What contracts see of a journal that is sealed: its own parts, and that a text is there (profile).
+use Rattle.std.specs.Prelude.{ℕ, ◌≡◌, ◌+◌, Bool, List, Option}
+use Rattle.mrp_folder.specs.declared.sealing.SealedJournal.{SealedJournal}
+use Rattle.mrp_folder.specs.Kept.{Adds}
+use Rattle.mrp_folder.specs.Named.{Named}
+
+-- the journal itself
+abbrev pub journal_of : {S D : Type 0} → SealedJournal S D → S
+journal_of sealed = sealed.journal
+
+-- the folder that the text is put into
+abbrev pub folder_of : {S D : Type 0} → SealedJournal S D → D
+folder_of sealed = sealed.folder
+
+-- the text
+abbrev pub text_of : {S D : Type 0} → SealedJournal S D → List ℕ
+text_of sealed = sealed.text.now
+
+-- its name
+abbrev pub name_of : {S D : Type 0} → SealedJournal S D → List ℕ
+name_of sealed = sealed.name.now
+
+-- whether the text is known to be there
+abbrev pub is_sealed : {S D : Type 0} → SealedJournal S D → Bool
+is_sealed sealed = sealed.is_sealed
+
+-- how often it could not be put there
+abbrev pub failures_of_sealed : {S D : Type 0} → SealedJournal S D → ℕ
+failures_of_sealed sealed = sealed.failures
+
+-- a text was put into a folder, whole and durable, and so is its name
+pub record IsThere (text name : List ℕ) (old new lasting : Option (List Named)) : Type 0 where
+  pub added : Adds name text old new
+  pub lasts : lasting ≡ new

@@ -1,0 +1,124 @@
+//! A journal before whose first record a text is durable in its folder.
+
+use crate::folder::Folder;
+use crate::keeping::keep_text;
+use mrp_journal::Store;
+use mrp_rows::WriteFault;
+
+/// A journal, and a text that is put into a folder, durable with its name, before anything more is appended to the
+/// journal.
+#[derive(Drop)]
+pub struct SealedJournal<'a, S, D> {
+    journal: S,
+    folder: D,
+    text: &'a [u8],
+    name: &'a str,
+    is_sealed: bool,
+    // How often the text could not be put into the folder.
+    failures: u64,
+}
+
+impl<'a, S: Store, D: Folder> SealedJournal<'a, S, D> {
+    ghost use Rattle.std.specs.Prelude.{◌≡◌, ◌≢◌, true, OnOk};
+    ghost use Rattle.mrp_folder.specs.Named.{TellsFailure};
+    ghost use Rattle.mrp_folder.specs.Sealed.{IsThere, failures_of_sealed, folder_of, is_sealed, journal_of, name_of, text_of};
+
+    /// A journal, and the text that is to be in the folder under a name, where it is not there yet.
+    pub fn new(
+        journal: S,
+        folder: D,
+        text: &'a [u8],
+        name: &'a str,
+        is_sealed: bool,
+    ) -> SealedJournal<'a, S, D>
+        ensures journal { journal_of result ≡ journal }
+        ensures folder { folder_of result ≡ folder }
+        ensures text { text_of result ≡ text.now }
+        ensures name { name_of result ≡ name.now }
+        ensures sealed { is_sealed result ≡ is_sealed }
+    {
+        SealedJournal {
+            journal,
+            folder,
+            text,
+            name,
+            is_sealed,
+            failures: 0,
+        }
+    }
+
+    /// The journal itself.
+    pub fn journal(&self) -> &S
+        ensures { result.now ≡ journal_of self.now }
+    {
+        &self.journal
+    }
+
+    // Puts the text into the folder, and makes its name durable.
+    fn put(&mut self) -> Result<(), WriteFault>
+        ensures journal { journal_of self.new ≡ journal_of self.old }
+        ensures sealed { is_sealed self.new ≡ is_sealed self.old }
+        ensures text { text_of self.new ≡ text_of self.old }
+        ensures name { name_of self.new ≡ name_of self.old }
+        ensures there { OnOk result (IsThere (text_of self.old) (name_of self.old) (D.named (folder_of self.old)) (D.named (folder_of self.new)) (D.lasting (folder_of self.new))) }
+        ensures failures { failures_of_sealed self.new ≡ failures_of_sealed self.old }
+    {
+        if keep_text(&mut self.folder, self.text, self.name).is_err() {
+            return Err(WriteFault);
+        }
+        self.folder.settle()
+    }
+
+    // Puts the text into the folder, if it is not there yet.
+    fn seal(&mut self) -> Result<(), WriteFault>
+        ensures journal { journal_of self.new ≡ journal_of self.old }
+        ensures sealed { OnOk result (is_sealed self.new ≡ true) }
+        ensures there { OnOk result (is_sealed self.old ≢ true → IsThere (text_of self.old) (name_of self.old) (D.named (folder_of self.old)) (D.named (folder_of self.new)) (D.lasting (folder_of self.new))) }
+        ensures told { TellsFailure (failures_of_sealed self.old) (failures_of_sealed self.new) result }
+    {
+        if self.is_sealed {
+            return Ok(());
+        }
+        match self.put() {
+            Ok(()) => {
+                self.is_sealed = true;
+                Ok(())
+            }
+            Err(WriteFault) => {
+                self.failures = self.failures.saturating_add(1);
+                Err(WriteFault)
+            }
+        }
+    }
+}
+
+impl<'a, S: Store, D: Folder> Store for SealedJournal<'a, S, D> {
+    ghost use Rattle.std.specs.Prelude.{◌≡◌, ◌⊎◌, ◌+◌, true, OnErr, OnOk, option_map};
+    ghost use Rattle.mrp_journal.specs.Held.{AppendsFront, TellsFailure, appended};
+    ghost use Rattle.mrp_folder.specs.Sealed.{IsThere, failures_of_sealed, folder_of, is_sealed, journal_of, name_of, text_of};
+
+    ghost held = { λ sealed. S.held (journal_of sealed) };
+
+    ghost failures = { λ sealed. failures_of_sealed sealed + S.failures (journal_of sealed) };
+
+    fn append(&mut self, bytes: &[u8]) -> Result<(), WriteFault>
+        ensures appended { OnOk result (S.held (journal_of self.new) ≡ option_map (appended bytes.now) (S.held (journal_of self.old))) }
+        ensures front { OnErr result (AppendsFront bytes.now (S.held (journal_of self.old)) (S.held (journal_of self.new))) }
+        ensures told { TellsFailure (failures_of_sealed self.old + S.failures (journal_of self.old)) (failures_of_sealed self.new + S.failures (journal_of self.new)) result }
+
+        // Nothing is appended before the text is there, durable with its name.
+        ensures sealed { (is_sealed self.old ≡ true) ⊎ (S.held (journal_of self.new) ≡ S.held (journal_of self.old))
+            ⊎ IsThere (text_of self.old) (name_of self.old) (D.named (folder_of self.old)) (D.named (folder_of self.new)) (D.lasting (folder_of self.new)) }
+    {
+        self.seal()?;
+        self.journal.append(bytes)
+    }
+
+    fn sync(&mut self) -> Result<(), WriteFault> {
+        self.journal.sync()
+    }
+
+    fn cut(&mut self, count: usize) -> Result<(), WriteFault> {
+        self.journal.cut(count)
+    }
+}

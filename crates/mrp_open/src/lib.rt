@@ -1,0 +1,18 @@
+//! An order desk that stays open on a folder: its start, its batches of calls, its runs beside them, and its end.
+#![tactic(auto)]
+
+mod batches;
+mod beside;
+mod disk;
+mod finding;
+mod handing;
+mod notes;
+mod opening;
+mod start;
+mod sum;
+
+pub use batches::{RunTaker, hand_over, serve};
+pub use beside::open_desk;
+pub use finding::{Found, find};
+pub use handing::RunKind;
+pub use sum::sum_text;
