@@ -21,8 +21,8 @@ abbrev pub name_of : {S D : Type 0} → SealedJournal S D → List ℕ
 name_of sealed = sealed.name.now
 
 -- whether the text is known to be there
-abbrev pub is_sealed : {S D : Type 0} → SealedJournal S D → Bool
-is_sealed sealed = sealed.is_sealed
+abbrev pub has_seal : {S D : Type 0} → SealedJournal S D → Bool
+has_seal sealed = sealed.is_sealed
 
 -- how often it could not be put there
 abbrev pub failures_of_sealed : {S D : Type 0} → SealedJournal S D → ℕ

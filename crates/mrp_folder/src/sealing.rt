@@ -21,7 +21,7 @@ pub struct SealedJournal<'a, S, D> {
 impl<'a, S: Store, D: Folder> SealedJournal<'a, S, D> {
     ghost use Rattle.std.specs.Prelude.{◌≡◌, ◌≢◌, true, OnOk};
     ghost use Rattle.mrp_folder.specs.Named.{TellsFailure};
-    ghost use Rattle.mrp_folder.specs.Sealed.{IsThere, failures_of_sealed, folder_of, is_sealed, journal_of, name_of, text_of};
+    ghost use Rattle.mrp_folder.specs.Sealed.{IsThere, failures_of_sealed, folder_of, has_seal, journal_of, name_of, text_of};
 
     /// A journal, and the text that is to be in the folder under a name, where it is not there yet.
     pub fn new(
@@ -35,7 +35,7 @@ impl<'a, S: Store, D: Folder> SealedJournal<'a, S, D> {
         ensures folder { folder_of result ≡ folder }
         ensures text { text_of result ≡ text.now }
         ensures name { name_of result ≡ name.now }
-        ensures sealed { is_sealed result ≡ is_sealed }
+        ensures sealed { has_seal result ≡ is_sealed }
     {
         SealedJournal {
             journal,
@@ -57,7 +57,7 @@ impl<'a, S: Store, D: Folder> SealedJournal<'a, S, D> {
     // Puts the text into the folder, and makes its name durable.
     fn put(&mut self) -> Result<(), WriteFault>
         ensures journal { journal_of self.new ≡ journal_of self.old }
-        ensures sealed { is_sealed self.new ≡ is_sealed self.old }
+        ensures sealed { has_seal self.new ≡ has_seal self.old }
         ensures text { text_of self.new ≡ text_of self.old }
         ensures name { name_of self.new ≡ name_of self.old }
         ensures there { OnOk result (IsThere (text_of self.old) (name_of self.old) (D.named (folder_of self.old)) (D.named (folder_of self.new)) (D.lasting (folder_of self.new))) }
@@ -72,8 +72,8 @@ impl<'a, S: Store, D: Folder> SealedJournal<'a, S, D> {
     // Puts the text into the folder, if it is not there yet.
     fn seal(&mut self) -> Result<(), WriteFault>
         ensures journal { journal_of self.new ≡ journal_of self.old }
-        ensures sealed { OnOk result (is_sealed self.new ≡ true) }
-        ensures there { OnOk result (is_sealed self.old ≢ true → IsThere (text_of self.old) (name_of self.old) (D.named (folder_of self.old)) (D.named (folder_of self.new)) (D.lasting (folder_of self.new))) }
+        ensures sealed { OnOk result (has_seal self.new ≡ true) }
+        ensures there { OnOk result (has_seal self.old ≢ true → IsThere (text_of self.old) (name_of self.old) (D.named (folder_of self.old)) (D.named (folder_of self.new)) (D.lasting (folder_of self.new))) }
         ensures told { TellsFailure (failures_of_sealed self.old) (failures_of_sealed self.new) result }
     {
         if self.is_sealed {
@@ -95,7 +95,7 @@ impl<'a, S: Store, D: Folder> SealedJournal<'a, S, D> {
 impl<'a, S: Store, D: Folder> Store for SealedJournal<'a, S, D> {
     ghost use Rattle.std.specs.Prelude.{◌≡◌, ◌⊎◌, ◌+◌, true, OnErr, OnOk, option_map};
     ghost use Rattle.mrp_journal.specs.Held.{AppendsFront, TellsFailure, appended};
-    ghost use Rattle.mrp_folder.specs.Sealed.{IsThere, failures_of_sealed, folder_of, is_sealed, journal_of, name_of, text_of};
+    ghost use Rattle.mrp_folder.specs.Sealed.{IsThere, failures_of_sealed, folder_of, has_seal, journal_of, name_of, text_of};
 
     ghost held = { λ sealed. S.held (journal_of sealed) };
 
@@ -107,7 +107,7 @@ impl<'a, S: Store, D: Folder> Store for SealedJournal<'a, S, D> {
         ensures told { TellsFailure (failures_of_sealed self.old + S.failures (journal_of self.old)) (failures_of_sealed self.new + S.failures (journal_of self.new)) result }
 
         // Nothing is appended before the text is there, durable with its name.
-        ensures sealed { (is_sealed self.old ≡ true) ⊎ (S.held (journal_of self.new) ≡ S.held (journal_of self.old))
+        ensures sealed { (has_seal self.old ≡ true) ⊎ (S.held (journal_of self.new) ≡ S.held (journal_of self.old))
             ⊎ IsThere (text_of self.old) (name_of self.old) (D.named (folder_of self.old)) (D.named (folder_of self.new)) (D.lasting (folder_of self.new)) }
     {
         self.seal()?;

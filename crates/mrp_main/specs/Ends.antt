@@ -38,6 +38,7 @@ use Rattle.mrp_commands.specs.CarryEnds.{CarryEndsBy}
 use Rattle.mrp_main.specs.CheckEnds.{CheckEnds}
 use Rattle.mrp_commands.specs.InspectEnds.{InspectEndsIn}
 use Rattle.mrp_words.specs.Words.{Asks}
+use Rattle.mrp_open.specs.Ends.{DeskEnds, TellsEnd}
 
 -- how a command answers the script: `plan` in row order, `live` desk by desk
 abbrev pub answering : DayCommand → Answering
@@ -127,6 +128,13 @@ RequestEnds known remaining contents input read output written (Check (Some fold
 RequestEnds known remaining contents input read output written (Check None) end = (read ≡ input) × (written ≡ output) × (status_of end ≡ status.Usage)
 RequestEnds known remaining contents input read output written (Carry words) end = (read ≡ input) × CarryEndsBy known words contents output written end
 RequestEnds known remaining contents input read output written (Inspect folder) end = (read ≡ input) × InspectEndsIn known (option_map string_bytes folder) contents output written end
+RequestEnds known remaining contents input read output written (Desk workers (Some folder)) end = DeskEnds remaining contents input read output written end
+RequestEnds known remaining contents input read output written (Desk workers None) end = (read ≡ input) × (written ≡ output) × (status_of end ≡ status.Usage)
+
+-- a request for anything but an order desk
+abbrev pub IsNoDesk : Request → Type 0
+IsNoDesk (Desk workers folder) = ⊥
+IsNoDesk _ = ⊤
 
 -- how help ends: it was written, or a prefix of it
 abbrev pub HelpEnds : {W : Type 0} → (W → Option (List ℕ)) → Told W → Told W → List ℕ → Ending → Type 0
@@ -162,4 +170,5 @@ pub record IsDone {R W E : Type 0} (remaining : R → Option (List ℕ)) (conten
   pub end : Ending
   pub ends : Ends nothing_known remaining contents input read output written asked end
   pub code : status ≡ code_of (status_of end)
-  pub says : WasTold heard errors told (words_of end)
+  -- a line that was cut off is told first
+  pub says : TellsEnd heard errors told end

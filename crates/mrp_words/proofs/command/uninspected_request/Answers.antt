@@ -15,20 +15,23 @@ pub check_or_day-requires : goal.check_or_day-requires
 check_or_day-requires c =
     no-desk c.args.matches.now (λ named. false≢true (sym (ap is_some c.in-None.is) ∙ c.subcommand_matches.ensures.found.1 named)) c.requires
 
-pub returns-in_ok-text_in-in-Some-clause-asked : goal.returns-in_ok-text_in-in-Some-clause-asked
-returns-in_ok-text_in-in-Some-clause-asked c =
+pub returns-in_ok-folder-in-Some-clause-asked : goal.returns-in_ok-folder-in-Some-clause-asked
+returns-in_ok-folder-in-Some-clause-asked c =
     let rows = rows_of (found_of c.in-Some.found.now) in
     let name = c.subcommand_matches.ensures.found.0 (ap is_some c.in-Some.is) in (
-      rows,
-      both (λ b. (out-SubCommand (box_value b)).name.now) (λ b. rows_of (found_of (out-SubCommand (box_value b)).matches)) (out-ArgMatches c.args.matches.now).subcommand (codes "desk") rows
-          name (rw c.in-Some.is at c.subcommand_matches.ensures.rows),
+      (
+        rows,
+        both (λ b. (out-SubCommand (box_value b)).name.now) (λ b. rows_of (found_of (out-SubCommand (box_value b)).matches)) (out-ArgMatches c.args.matches.now).subcommand (codes "desk") rows
+            name (rw c.in-Some.is at c.subcommand_matches.ensures.rows),
+      ),
+      c.workers.ensures.asked,
     )
 
-pub returns-in_ok-text_in-in-Some-clause-folder : goal.returns-in_ok-text_in-in-Some-clause-folder
-returns-in_ok-text_in-in-Some-clause-folder c =
+pub returns-in_ok-folder-in-Some-clause-folder : goal.returns-in_ok-folder-in-Some-clause-folder
+returns-in_ok-folder-in-Some-clause-folder c =
     let rows = rows_of (found_of c.in-Some.found.now) in
     let name = c.subcommand_matches.ensures.found.0 (ap is_some c.in-Some.is) in
     let entered : subcommand_rows_of c.args.matches.now ≡ Some (codes "desk", rows) =
     both (λ b. (out-SubCommand (box_value b)).name.now) (λ b. rows_of (found_of (out-SubCommand (box_value b)).matches)) (out-ArgMatches c.args.matches.now).subcommand (codes "desk") rows
     name (rw c.in-Some.is at c.subcommand_matches.ensures.rows) in
-    c.in_ok-text_in-in-Some.ensures ∙ first_value-rows (found_of c.in-Some.found.now) (codes "dir") ∙ sym (ap dir_among entered)
+    c.in_ok-folder-in-Some.ensures ∙ first_value-rows (found_of c.in-Some.found.now) (codes "dir") ∙ sym (ap dir_among entered)
