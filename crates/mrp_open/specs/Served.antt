@@ -40,7 +40,7 @@ Stops lines old new = (new ≡ old) ⊎ Breaks lines old new
 
 -- why an order desk that was open ends
 abbrev pub IsServingEnd : Ending → Type 0
-IsServingEnd end = (end ≡ ending.Done) ⊎ (end ≡ ending.NoMemory) ⊎ (end ≡ ending.Read) ⊎ (end ≡ ending.Write)
+IsServingEnd end = (end ≡ ending.Done) ⊎ ((end ≡ ending.NoMemory) ⊎ ((end ≡ ending.Read) ⊎ (end ≡ ending.Write)))
 
 -- an order desk has answered lines of its input, one after the other, and stopped in a batch of more; at the end of the
 -- input all lines are answered

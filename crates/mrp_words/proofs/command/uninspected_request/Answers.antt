@@ -24,7 +24,7 @@ returns-in_ok-folder-in-Some-clause-asked c =
         both (λ b. (out-SubCommand (box_value b)).name.now) (λ b. rows_of (found_of (out-SubCommand (box_value b)).matches)) (out-ArgMatches c.args.matches.now).subcommand (codes "desk") rows
             name (rw c.in-Some.is at c.subcommand_matches.ensures.rows),
       ),
-      c.workers.ensures.asked,
+      c.workers_taken-workers.ensures.asked,
     )
 
 pub returns-in_ok-folder-in-Some-clause-folder : goal.returns-in_ok-folder-in-Some-clause-folder
