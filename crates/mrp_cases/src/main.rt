@@ -16,8 +16,9 @@ use mrp_audit::check;
 use mrp_main::run_words;
 use mrp_rows::Told;
 use std::alloc::Global;
+use std::fs::File;
 use std::io;
-use std::io::ErrorKind;
+use std::io::{Eprint, ErrorKind};
 use std::process::ExitCode;
 use std::rt::Files;
 use std::sync::Wait;
@@ -35,7 +36,7 @@ fn text_of(bytes: Vec<u8>) -> io::Result<String> {
 
 // How the program ends with these words and this input.
 fn ended(
-    rt: &(impl Alloc + Files + Threads + Wait + Sync),
+    rt: &(impl Alloc + Eprint + Files<File = File> + Threads + Wait + Sync),
     alloc: Global,
     words: &[&str],
     input: &[u8],
@@ -52,7 +53,7 @@ fn ended(
 }
 
 // How a command ends with a case: its bundle, or its folder of tables if it has no bundle.
-fn ended_by<R: Files + AllocGlobal + Threads + Wait + Sync>(
+fn ended_by<R: Eprint + Files<File = File> + AllocGlobal + Threads + Wait + Sync>(
     rt: &R,
     command: &str,
     name: &str,
@@ -81,7 +82,7 @@ fn is_as_wanted<R: AllocGlobal + Print>(
 }
 
 // What a check says of a case's day against its bundle, or against its folder of tables if it has no bundle.
-fn said_of<R: Files + AllocGlobal + Threads + Wait + Sync>(
+fn said_of<R: Eprint + Files<File = File> + AllocGlobal + Threads + Wait + Sync>(
     rt: &R,
     name: &str,
     day: &str,
@@ -98,7 +99,7 @@ fn said_of<R: Files + AllocGlobal + Threads + Wait + Sync>(
 }
 
 // Whether a case's day is found right, if it has one. If not, a line reports what was said of it.
-fn is_found_right<R: Files + AllocGlobal + Print + Threads + Wait + Sync>(
+fn is_found_right<R: Eprint + Files<File = File> + AllocGlobal + Print + Threads + Wait + Sync>(
     rt: &R,
     name: &str,
     wanted: &Ending,
@@ -125,7 +126,7 @@ enum Verdict {
 
 // Whether a case ends as it must, when planned and, if that can end in only one way, when made
 // live, and its day is found right.
-fn compare<R: Files + AllocGlobal + Print + Threads + Wait + Sync>(
+fn compare<R: Eprint + Files<File = File> + AllocGlobal + Print + Threads + Wait + Sync>(
     rt: &R,
     name: &str,
 ) -> io::Result<Verdict> {
@@ -149,7 +150,7 @@ fn compare<R: Files + AllocGlobal + Print + Threads + Wait + Sync>(
 }
 
 // How drawing a day ends, with the tables that it was planned from if it has a folder of them.
-fn drawn_by<R: Files + AllocGlobal + Threads + Wait + Sync>(
+fn drawn_by<R: Eprint + Files<File = File> + AllocGlobal + Threads + Wait + Sync>(
     rt: &R,
     name: &str,
     day: &[u8],
@@ -163,7 +164,7 @@ fn drawn_by<R: Files + AllocGlobal + Threads + Wait + Sync>(
 }
 
 // Whether the page of a day is the expected one.
-fn is_drawn_right<R: Files + AllocGlobal + Print + Threads + Wait + Sync>(
+fn is_drawn_right<R: Eprint + Files<File = File> + AllocGlobal + Print + Threads + Wait + Sync>(
     rt: &R,
     name: &str,
 ) -> io::Result<bool> {
@@ -177,7 +178,7 @@ fn is_drawn_right<R: Files + AllocGlobal + Print + Threads + Wait + Sync>(
 }
 
 // How many of the pages are not as they must be.
-fn count_wrong_pages<R: Files + AllocGlobal + Print + Threads + Wait + Sync>(
+fn count_wrong_pages<R: Eprint + Files<File = File> + AllocGlobal + Print + Threads + Wait + Sync>(
     rt: &R,
     names: &[String],
 ) -> io::Result<usize> {
@@ -198,7 +199,7 @@ fn count_wrong_pages<R: Files + AllocGlobal + Print + Threads + Wait + Sync>(
 }
 
 // How many of the cases do not end as they must, and how many were also made live.
-fn count_verdicts<R: Files + AllocGlobal + Print + Threads + Wait + Sync>(
+fn count_verdicts<R: Eprint + Files<File = File> + AllocGlobal + Print + Threads + Wait + Sync>(
     rt: &R,
     cases: &[String],
 ) -> io::Result<(usize, usize)> {
@@ -223,9 +224,9 @@ fn count_verdicts<R: Files + AllocGlobal + Print + Threads + Wait + Sync>(
 
 // Whether there are cases in the folder, each case and each page is as it must be, and each day, refusal
 // and page belongs to one.
-fn are_right<R: Files + AllocGlobal + Print + Threads + Wait + Sync + Clone + Drop>(
-    rt: &R,
-) -> io::Result<bool> {
+fn are_right<
+    R: Eprint + Files<File = File> + AllocGlobal + Print + Threads + Wait + Sync + Clone + Drop,
+>(rt: &R) -> io::Result<bool> {
     let Folder {
         cases,
         drawn,
