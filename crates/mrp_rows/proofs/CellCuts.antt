@@ -2,7 +2,7 @@
 use Rattle.std.proofs.Common.{◌≡◌, ℕ, suc, ◌+◌, Bool, true, false, List, [], ◌∷◌, ◌++◌, refl, sym, ap, ◌∙◌, append_assoc, append-nil, take, drop, length, get_or, ◌<◌, ◌≤◌, arith}
 use Rattle.std.specs.Prelude.{◌==◌, ◌||◌, not, if◌then◌else◌}
 use Rattle.std.specs.List.{list_any, prefix_len}
-use Rattle.std.proofs.lemmas.Bool.{eqb-true}
+use Rattle.std.proofs.lemmas.Bool.{eqb-true, ne_eqb}
 use Rattle.std.proofs.lemmas.List.{drop_all, drop_more}
 use Rattle.csv.specs.Machine.{step, in_field, start_field, after_end, is_end, fields_after, field_after, ends_at_end}
 use Rattle.csv.specs.Reading.{default_config, strip_bom}
@@ -13,6 +13,7 @@ use Rattle.csv.specs.declared.parser.State.TheVariants as st
 use Rattle.csv.specs.declared.parser.Terminator.TheVariants as term
 use Rattle.mrp_rows.specs.Bundle.{ends_line, without_line_ends, without_mark}
 use Rattle.mrp_rows.specs.Records.{records_in}
+use Rattle.mrp_rows.specs.Shown.{is_empty}
 use Rattle.mrp_rows.specs.Cutting.{state_at, ends_bare, ends_cell, spot_after, counts, cell_length, cell_in, records_behind}
 use Rattle.mrp_rows.specs.declared.cutting.Spot.{Spot}
 use Rattle.mrp_rows.specs.declared.cutting.Spot.TheVariants as spot
@@ -237,6 +238,20 @@ cell-next xs whole cell more at i byte false within is counts_so grown so_far =
 pub cell-last : (xs whole cell : List ℕ) (at : Spot) (i : ℕ) → length xs ≤ i → whole ≡ cell ++ cell_in at (drop i xs) → cell ≡ whole
 unfolding cell_in
 cell-last xs whole cell at i past so_far = sym (so_far ∙ rw (drop_all i xs past) (append-nil cell))
+
+-- no byte of a cell counts, from a place on
+pub blank-ends : (xs : List ℕ) (at : Spot) (i byte : ℕ) → i < length xs → get_or xs i 0 ≡ byte → counts at byte ≡ true → is_empty (cell_in at (drop i xs)) ≡ false
+unfolding cell_in
+blank-ends xs at i byte within is counts_so = rw (drop_more xs i 0 within, is, counts_so) (ne_eqb _ 0 (λ e. absurd (omega (arith, e))))
+
+pub blank-next : (xs : List ℕ) (at : Spot) (i byte : ℕ) → i < length xs → get_or xs i 0 ≡ byte → counts at byte ≡ false
+    → is_empty (cell_in at (drop i xs)) ≡ is_empty (cell_in (spot_after at byte) (drop (i + 1) xs))
+unfolding cell_in
+blank-next xs at i byte within is counts_so = rw (drop_more xs i 0 within, is, counts_so) refl
+
+pub blank-last : (xs : List ℕ) (at : Spot) (i : ℕ) → length xs ≤ i → is_empty (cell_in at (drop i xs)) ≡ true
+unfolding cell_in
+blank-last xs at i past = rw (drop_all i xs past) refl
 
 -- in a cell without quotes all bytes count
 bare-cell : (xs : List ℕ) → cell_in spot.Bare xs ≡ xs

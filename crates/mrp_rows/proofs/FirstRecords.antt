@@ -28,7 +28,7 @@ other-lengths same (x ∷ xs) (y ∷ ys) other = by (same x y) (other-lengths sa
 abbrev pub at_front : Layout → List ℕ → Left
 at_front own text = record { layout = own; number = 0; left = records_in st.StartRecord [] [] text; is_over = false }
 
-records-front : (text front : List ℕ) → front ≡ without_mark text → records_of text ≡ records_in st.StartRecord [] [] front
+pub records-front : (text front : List ℕ) → front ≡ without_mark text → records_of text ≡ records_in st.StartRecord [] [] front
 records-front text front is = ap (λ (xs : List ℕ). records_in st.StartRecord [] [] xs) (sym (is ∙ same-mark text))
 
 pub first-refused : (own : Layout) (text front : List ℕ) (fault told : Fault) (new : Left) → front ≡ without_mark text → NextIs (at_front own front) (Err fault) new
@@ -67,13 +67,13 @@ opens-not own text front (Some r) fault new marked h is = ap (after_header own) 
         rw (e, same) refl
 
 -- a record of another count of cells than a table has columns
-pub other-count : (own : Layout) (number moved : ℕ) (text : List ℕ) (most count : ℕ) (kept : List (List ℕ)) (rest : List ℕ) (old new : Left) (outcome : Result (Option Cells) Fault)
-    → BeginsWith st.StartRecord text most kept count rest → most ≡ width own → count ≢ most
+pub other-count : (own : Layout) (number moved : ℕ) (text : List ℕ) (most count : ℕ) (kept : List (List ℕ)) (others : Bool) (rest : List ℕ) (old new : Left) (outcome : Result (Option Cells) Fault)
+    → BeginsWith st.StartRecord text most kept count others rest → most ≡ width own → count ≢ most
     → record { layout = own; number = number; left = records_in st.StartRecord [] [] text; is_over = false } ≡ old
     → outcome ≡ Err (columns_fault own.table number) → new ≡ record { layout = own; number = moved; left = []; is_over = true }
     → moved ≡ next_number number
     → NextIs old outcome new
-other-count own number moved text most count kept rest old new outcome h wide other before is after moves =
+other-count own number moved text most count kept others rest old new outcome h wide other before is after moves =
     rw (is, ← before, after) (record {
       why = inr (record {
         cells = h.cells;

@@ -5,6 +5,7 @@ mod CsvSteps
 mod DigitCells
 mod FirstRecords
 mod NameBytes
+mod OnlyRows
 mod RecordCuts
 pub mod JoinedParts
 pub mod SectionLaws

@@ -1,5 +1,5 @@
 -- How a text is cut into records and cells, a cell at a time: what csv's machine does with its default dialect.
-use Rattle.std.specs.Prelude.{ℕ, suc, ◌≡◌, ◌==◌, ◌||◌, Bool, true, false, not, if◌then◌else◌, List, [], ◌∷◌, length, take, Result, Option, Ok, Err, Some, None}
+use Rattle.std.specs.Prelude.{ℕ, suc, ◌≡◌, ◌==◌, ◌||◌, Bool, true, false, not, if◌then◌else◌, List, [], ◌∷◌, drop, length, take, Result, Option, Ok, Err, Some, None}
 use Rattle.csv.specs.declared.parser.State.{State}
 use Rattle.csv.specs.declared.parser.State.TheVariants as st
 use Rattle.mrp_qty.specs.declared.memory.NoMemory.{NoMemory}
@@ -8,6 +8,7 @@ use Rattle.mrp_rows.specs.declared.cutting.Cut.{Cut}
 use Rattle.mrp_rows.specs.declared.cutting.Spot.{Spot}
 use Rattle.mrp_rows.specs.declared.cutting.Spot.TheVariants as spot
 use Rattle.mrp_rows.specs.Records.{records_in}
+use Rattle.mrp_rows.specs.Shown.{are_empty}
 
 -- the state of csv's machine there
 abbrev pub state_at : Spot → State
@@ -57,22 +58,26 @@ records_behind cells [] = cells ∷ []
 records_behind cells (byte ∷ bytes) =
     if byte == 44 then records_in st.StartField cells [] bytes else cells ∷ records_in st.StartRecord [] [] bytes
 
--- in this state a text begins with a record of so many cells, of which these come first, at most so many; and the rest
-pub record BeginsWith (s : State) (text : List ℕ) (most : ℕ) (first : List (List ℕ)) (number : ℕ) (rest : List ℕ) : Type 0 where
+-- in this state a text begins with a record of so many cells, of which these come first, at most so many; whether the others are
+-- empty; and the rest
+pub record BeginsWith (s : State) (text : List ℕ) (most : ℕ) (first : List (List ℕ)) (number : ℕ) (others : Bool) (rest : List ℕ) : Type 0 where
   pub cells : List (List ℕ)
   pub records : records_in s [] [] text ≡ cells ∷ records_in st.StartRecord [] [] rest
   pub kept : first ≡ take most cells
   pub count : number ≡ length cells
+  pub empty : others ≡ are_empty (drop most cells)
 
--- so many cells of a text's first record are cut off, of which these come first, at most so many; then come other cells
-pub record IsInside (text : List ℕ) (most : ℕ) (first : List (List ℕ)) (number : ℕ) (rest : List ℕ) : Type 0 where
+-- so many cells of a text's first record are cut off, of which these come first, at most so many; whether the others of them are
+-- empty; then come other cells
+pub record IsInside (text : List ℕ) (most : ℕ) (first : List (List ℕ)) (number : ℕ) (others : Bool) (rest : List ℕ) : Type 0 where
   pub cells : List (List ℕ)
   pub records : records_in st.StartField [] [] text ≡ records_in st.StartField cells [] rest
   pub kept : first ≡ take most cells
   pub count : number ≡ length cells
+  pub empty : others ≡ are_empty (drop most cells)
 
 -- what was cut from a text, or there is no record
 abbrev pub IsCutFrom : List ℕ → ℕ → Result (Option Cut) NoMemory → Type 0
 IsCutFrom text most (Ok None) = records_in st.StartRecord [] [] text ≡ []
-IsCutFrom text most (Ok (Some cut)) = BeginsWith st.StartRecord text most cut.cells.cells cut.count cut.rest.now
+IsCutFrom text most (Ok (Some cut)) = BeginsWith st.StartRecord text most cut.cells.cells cut.count cut.are_others_empty cut.rest.now
 IsCutFrom text most (Err refused) = Unit {0}

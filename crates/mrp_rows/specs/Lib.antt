@@ -9,12 +9,15 @@ pub mod Joined
 pub mod Left
 pub mod Name
 pub mod Next
+pub mod Only
 pub mod Padding
 pub mod Placing
 pub mod Reading
 pub mod Records
+pub mod Shown
 pub mod Streams
 pub mod Tables
 pub mod Together
 pub mod Told
+pub mod Unread
 pub mod View

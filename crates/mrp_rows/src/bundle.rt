@@ -45,7 +45,8 @@ impl<'a> Sections<'a> {
     }
 }
 
-pub(crate) fn is_line_end(byte: u8) -> bool
+/// Whether a byte ends a line: a line feed or a carriage return.
+pub fn is_line_end(byte: u8) -> bool
     ensures { result ≡ ends_line byte }
 {
     byte == b'\n' || byte == b'\r'

@@ -51,6 +51,27 @@ impl CellTexts {
         Ok(CellTexts { bytes, ends })
     }
 
+    /// No cell, and no memory for any.
+    pub(crate) fn new(alloc: Global) -> CellTexts
+        ensures { result ≡ none_held }
+    {
+        CellTexts {
+            bytes: Vec::new(alloc),
+            ends: Vec::new(alloc),
+        }
+    }
+
+    /// The same texts, in memory of their own.
+    ///
+    /// Errors: `NoMemory` if an allocation fails.
+    pub(crate) fn clone(&self) -> Result<CellTexts, NoMemory>
+        ensures { IfOk result (λ texts. texts ≡ self.now) }
+    {
+        let bytes = self.bytes.clone()?;
+        let ends = self.ends.clone()?;
+        Ok(CellTexts { bytes, ends })
+    }
+
     /// Takes all cells away.
     pub(crate) fn clear(&mut self)
         ensures { self.new ≡ none_held }

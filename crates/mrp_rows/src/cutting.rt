@@ -1,10 +1,11 @@
 //! A text's records, cut into cells.
 
-ghost use Rattle.std.specs.Prelude.{◌≡◌, ◌++◌, ◌∷◌, ◌==◌, [], IfOk, IfSome, OnOk, drop, if◌then◌else◌, take};
+ghost use Rattle.std.specs.Prelude.{◌≡◌, ◌++◌, ◌∷◌, ◌==◌, ◌||◌, [], IfOk, IfSome, OnOk, drop, if◌then◌else◌, take};
 ghost use Rattle.std.specs.List.{list_any};
 ghost use Rattle.csv.specs.declared.parser.State.TheVariants as st;
 ghost use Rattle.mrp_rows.specs.CellTexts.{none_held};
 ghost use Rattle.mrp_rows.specs.Cutting.{BeginsWith, IsCutFrom, cell_in, cell_length, counts, ends_bare, ends_cell, spot_after};
+ghost use Rattle.mrp_rows.specs.Shown.{is_empty};
 
 use crate::bundle::{after_line_ends, is_line_end};
 use crate::cell_texts::CellTexts;
@@ -31,15 +32,25 @@ pub(crate) struct Cut<'a> {
     pub(crate) cells: CellTexts,
     /// How many cells it has.
     pub(crate) count: usize,
+    /// Whether those past the first are empty.
+    pub(crate) are_others_empty: bool,
     /// The text behind it.
     pub(crate) rest: &'a [u8],
 }
 
-// How many cells a record has, and the text behind it.
+// How many cells a record has, whether those past the first are empty, and the text behind it.
 #[derive(Clone, Copy)]
-struct End<'a> {
-    count: usize,
-    rest: &'a [u8],
+pub(crate) struct End<'a> {
+    pub(crate) count: usize,
+    pub(crate) are_others_empty: bool,
+    pub(crate) rest: &'a [u8],
+}
+
+// What is behind a cell, and whether the cell may stand past a record's first: it is one of these, or it is empty.
+#[derive(Clone, Copy)]
+struct Behind<'a> {
+    text: &'a [u8],
+    is_fit: bool,
 }
 
 // Whether a byte ends a cell that is not between quotes.
@@ -149,10 +160,29 @@ fn add_cell(spelled: &[u8], cells: &mut CellTexts) -> Result<(), NoMemory>
     }
 }
 
+// Whether no byte of a cell counts.
+fn is_blank(spelled: &[u8]) -> bool
+    ensures { result ≡ is_empty (cell_in Spot.Front spelled.now) }
+{
+    let mut spot = Spot::Front;
+    for byte in spelled {
+        if counts(spot, *byte) {
+            return false;
+        }
+        spot = spot_after(spot, *byte);
+    }
+    true
+}
+
 // What is behind a text's first cell, which is added if it is kept.
-fn cut_cell<'a>(text: &'a [u8], is_kept: bool, cells: &mut CellTexts) -> Result<&'a [u8], NoMemory>
+fn cut_cell<'a>(
+    text: &'a [u8],
+    is_kept: bool,
+    cells: &mut CellTexts,
+) -> Result<Behind<'a>, NoMemory>
     requires { cells.old.begun ≡ [] }
-    ensures behind { IfOk result (λ behind. behind.now ≡ drop (cell_length Spot.Front text.now) text.now) }
+    ensures behind { IfOk result (λ behind. behind.text.now ≡ drop (cell_length Spot.Front text.now) text.now) }
+    ensures fit { IfOk result (λ behind. behind.is_fit ≡ (is_kept || is_empty (cell_in Spot.Front (take (cell_length Spot.Front text.now) text.now)))) }
     ensures cells { OnOk result (cells.new.cells ≡ (if is_kept
         then cells.old.cells ++ (cell_in Spot.Front (take (cell_length Spot.Front text.now) text.now) ∷ [])
         else cells.old.cells)) }
@@ -163,27 +193,41 @@ fn cut_cell<'a>(text: &'a [u8], is_kept: bool, cells: &mut CellTexts) -> Result<
         add_cell(spelled, cells)?;
         cells.close()?;
     }
-    Ok(behind)
+    Ok(Behind {
+        text: behind,
+        is_fit: is_kept || is_blank(spelled),
+    })
 }
 
 // Cuts off the record that a text begins with, and adds its first cells, so many at most.
-fn cut_record<'a>(text: &'a [u8], most: usize, cells: &mut CellTexts) -> Result<End<'a>, NoMemory>
+pub(crate) fn cut_record<'a>(
+    text: &'a [u8],
+    most: usize,
+    cells: &mut CellTexts,
+) -> Result<End<'a>, NoMemory>
     requires { cells.old ≡ none_held }
-    ensures { IfOk result (λ end. BeginsWith st.StartField text.now most cells.new.cells end.count end.rest.now) }
+    ensures { IfOk result (λ end. BeginsWith st.StartField text.now most cells.new.cells end.count end.are_others_empty end.rest.now) }
 {
     let mut rest = text;
     let mut count = 0;
+    let mut are_others_empty = true;
     loop {
         let behind = cut_cell(rest, count < most, cells)?;
         count += 1;
-        let Some((byte, more)) = behind.split_first() else {
+        are_others_empty = are_others_empty & behind.is_fit;
+        let Some((byte, more)) = behind.text.split_first() else {
             return Ok(End {
                 count,
-                rest: behind,
+                are_others_empty,
+                rest: behind.text,
             });
         };
         if *byte != b',' {
-            return Ok(End { count, rest: more });
+            return Ok(End {
+                count,
+                are_others_empty,
+                rest: more,
+            });
         }
         rest = more;
     }
@@ -223,6 +267,7 @@ pub(crate) fn first_record<'a>(
     Ok(Some(Cut {
         cells,
         count: end.count,
+        are_others_empty: end.are_others_empty,
         rest: end.rest,
     }))
 }

@@ -13,17 +13,23 @@ mod fault_texts;
 pub mod faults;
 mod join;
 mod name;
+mod only;
+mod record;
 pub mod record_laws;
+mod records;
 mod row;
 mod streams;
 mod told;
 
-pub use bundle::{Sections, split_bundle};
+pub use bundle::{Sections, is_line_end, split_bundle};
 pub use cursor::Cursor;
 pub use fault::{Fault, Table};
 pub use fault_texts::fault_text;
 pub use join::join_bundle;
 pub use name::{LONGEST_NAME, Name};
+pub use only::only_row;
+pub use record::Record;
+pub use records::Records;
 pub use row::Row;
 pub use streams::{
     GREATEST_BUNDLE, READ_CALLS, ReadFault, Tries, WRITE_TRIES, WriteFault, read_bundle,

@@ -84,8 +84,9 @@ impl<'a> TableRows for Script<'a> {
     }
 }
 
+// A record as a desk's call.
 #[tactic(auto, unfolding(crate::specs::Script::script_row))]
-fn script_row(row: &Row, calendar: &Calendar, items: &Items) -> Result<ScriptRow, Fault>
+pub(crate) fn script_row(row: &Row, calendar: &Calendar, items: &Items) -> Result<ScriptRow, Fault>
     requires { length row.now.cells ≡ 6 }
     ensures cells { result ≡ script_row calendar.now items.now row.now }
     ensures within { IfOk result (IsScriptRow calendar.now.weeks items.now) }

@@ -7,10 +7,11 @@ use crate::item::Item;
 use crate::items::Items;
 use crate::master_and_script::MasterAndScript;
 use crate::rows::{BillLine, Centre, MasterRow, Operation, Receipt, ScriptRow, StockRow};
+use crate::script::script_row;
 use crate::stock_to_routings::StockToRoutings;
 use crate::version::{LeadUnit, Version};
 use mrp_cal::Calendar;
-use mrp_rows::{Fault, Name, Sections};
+use mrp_rows::{Fault, Name, Row, Sections};
 use std::alloc::Global;
 use std::marker::Model;
 use std::thread;
@@ -64,13 +65,14 @@ impl Model for Tables {
 }
 
 impl Tables {
-    ghost use Rattle.std.specs.Prelude.{◌≡◌, ◌<◌, ◌≤◌, ℕ, List, All, IfSome, length};
+    ghost use Rattle.std.specs.Prelude.{◌≡◌, ◌<◌, ◌≤◌, ℕ, List, All, IfOk, IfSome, length};
     ghost use Rattle.mrp_tables.specs.Centres.{centre_names};
     ghost use Rattle.mrp_tables.specs.Facts.{AllDiffer, IsBillLine, IsCentre, IsItem, IsMasterRow, IsOperation, IsReceipt, IsScriptRow, IsStockRow, NumbersRise, RowsRise};
     ghost use Rattle.mrp_tables.specs.Items.{names_of, place_of};
     ghost use Rattle.mrp_tables.specs.Parts.{AreFirst, AreMasterAndScript, AreStockToRoutings, GivesMasterAndScript, GivesStockToRoutings, tables_from};
     ghost use Rattle.mrp_tables.specs.Receipts.{orders_of};
     ghost use Rattle.mrp_tables.specs.Routings.{operations_of};
+    ghost use Rattle.mrp_tables.specs.Script.{script_row};
     ghost use Rattle.mrp_tables.specs.Stock.{items_in_stock};
     ghost use Rattle.mrp_tables.specs.Laws.{IsMemoryRefusal};
     ghost use Rattle.mrp_tables.specs.Reading.{Gives};
@@ -269,5 +271,19 @@ impl Tables {
         ensures count { length result.now ≤ MOST_ROWS }
     {
         self.script.as_slice()
+    }
+
+    /// A record of the script's form, of six cells, as a desk's call in this shop: what the same record would be
+    /// at the end of the script.
+    ///
+    /// Errors: the fault of its first wrong cell from the left, of the cells that its call uses, or of what
+    /// these name: `NUMBER` or `RANGE`, `WORD`, `NAME`, `DATE`, `UNKNOWN_ITEM`, `DATE_OUTSIDE`, `NOT_MASTER`,
+    /// at the record.
+    pub fn script_row(&self, row: &Row) -> Result<ScriptRow, Fault>
+        requires { length row.now.cells ≡ 6 }
+        ensures cells { result ≡ script_row self.now.calendar self.now.items row.now }
+        ensures within { IfOk result (IsScriptRow self.now.calendar.weeks self.now.items) }
+    {
+        script_row(row, &self.calendar, &self.items)
     }
 }

@@ -164,7 +164,8 @@ pub fn read_tables<F: FileStore>(
     Ok(tables)
 }
 
-/// The bundle of tables that were read.
+/// The bundle of tables with their bytes, in the order given: for each its section line, as `[items]`, its
+/// bytes and a line feed.
 ///
 /// Errors: `NoMemory` if an allocation fails.
 pub fn join_tables(alloc: Global, tables: &[(Table, Vec<u8>)]) -> Result<Vec<u8>, NoMemory>

@@ -98,6 +98,7 @@ fn a_flush_is_tried_again(rt: HostRuntime) {
 fn a_journal_in_a_file(rt: HostRuntime) -> Result<(), Fail> {
     const PATH: &str = "out/journal.csv";
     let alloc = rt.alloc();
+    let _ = fs::create_dir(&rt, "out");
     File::create(&rt, PATH)?.write_all(b"desk,call,item,date,quantity,number\n1,ru")?;
     let file = File::options().append(true).open(&rt, PATH)?;
     let mut journal = JournalFile::new(file);

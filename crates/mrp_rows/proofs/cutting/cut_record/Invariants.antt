@@ -4,7 +4,7 @@ use Rattle.mrp_rows.proofs.cutting.cut_record.Given as goal
 
 abbrev pub invariant-loop-behind : goal.invariant-loop-behind
 invariant-loop-behind l = record {
-  inside : IsInside l.text l.most l.cells.cells l.count l.rest;
+  inside : IsInside l.text l.most l.cells.cells l.count l.are_others_empty l.rest;
   begun : l.cells.begun ≡ [];
   within : l.count + length l.rest ≤ length l.text;
 }

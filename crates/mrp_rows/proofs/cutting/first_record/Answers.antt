@@ -14,4 +14,4 @@ returns-then-is_empty c =
     skip-line_ends c.args.text.now ∙ ap (λ xs. records_in st.StartRecord [] [] xs) (sym c.after_line_ends-text.ensures ∙ none)
 
 pub returns : goal.returns
-returns c = record-begins c.args.text.now _ c.args.most _ _ _ c.after_line_ends-text.ensures (eqb-false _ _ (sym c.is_empty.ensures ∙ c.if-is_empty.false)) c.in_ok-end.ensures
+returns c = record-begins c.args.text.now _ c.args.most _ _ _ _ c.after_line_ends-text.ensures (eqb-false _ _ (sym c.is_empty.ensures ∙ c.if-is_empty.false)) c.in_ok-end.ensures
