@@ -25,9 +25,17 @@ answers-both [] two old mid new a b r s (no_answers, no_records, same) q =
     let from_old : Answers two old b s new = subst (λ (d : Desk). Answers two d b s new) same q in
     let with_answers : Answers two old (a ++ b) s new = subst (λ (x : List ℕ). Answers two old (x ++ b) s new) (sym no_answers) from_old in
     subst (λ (x : List ℕ). Answers two old (a ++ b) (x ++ s) new) (sym no_records) with_answers
-answers-both (line ∷ lines) two old mid new a b r s (next, answer, more_a, written, more_r, one, rest, a_is, r_is) q =
-    (next, answer, more_a ++ b, written, more_r ++ s, one, answers-both lines two next mid new more_a b more_r s rest q, ap (λ (x : List ℕ). x ++ b) a_is ∙ append_assoc answer more_a b,
-    ap (λ (x : List ℕ). x ++ s) r_is ∙ append_assoc written more_r s)
+answers-both (line ∷ lines) two old mid new a b r s (next, answer, more_a, written, more_r, one, rest, a_is, r_is) q = (
+  next,
+  answer,
+  more_a ++ b,
+  written,
+  more_r ++ s,
+  one,
+  answers-both lines two next mid new more_a b more_r s rest q,
+  ap (λ (x : List ℕ). x ++ b) a_is ∙ append_assoc answer more_a b,
+  ap (λ (x : List ℕ). x ++ s) r_is ∙ append_assoc written more_r s,
+)
 
 -- a journal that is durable, with nothing more
 kept-none : (h : Option Held) → IfSome h IsSettled → h ≡ option_map (with_more []) h

@@ -104,6 +104,8 @@ fn begin<'a, R: Files, E: Write>(
 
 // Answers calls, and makes the files of runs in a thread of their own, if one can be started, otherwise once the
 // input has ended. How it ends is told before the last runs are made.
+//
+// Errors: `NoMemory` if there is no memory for handing runs over; it is not told then.
 fn serve_beside<
     K: RunKind,
     R: Alloc + Eprint + Files + Threads + Wait + Sync,
@@ -118,7 +120,7 @@ fn serve_beside<
     input: &mut Told<I>,
     output: &mut Told<W>,
     errors: &mut Told<E>,
-) -> Ending
+) -> Result<Ending, Ending>
     requires given { (run : Run) → K.holds run → IsRun begun.maker run }
     requires taken { (run : Run) → IsRun begun.desk.tables run → K.holds run }
 {
@@ -128,9 +130,9 @@ fn serve_beside<
         maker,
     } = begun;
     let Ok((to, from)) = unbounded::<Given<K>, Global>(alloc) else {
-        return Ending::NoMemory;
+        return Err(Ending::NoMemory);
     };
-    thread::scope(
+    Ok(thread::scope(
         thread::scope_env(),
         rt,
         move |scope| -> Ending
@@ -152,7 +154,7 @@ fn serve_beside<
             }
             end
         },
-    )
+    ))
 }
 
 // An order desk on a folder that was locked.

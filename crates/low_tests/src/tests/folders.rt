@@ -43,6 +43,7 @@ fn a_file_that_failed_comes_back(rt: HostRuntime) {
 fn a_file_in_a_folder(rt: HostRuntime) -> Result<(), Fail> {
     const PATH: &str = "out/run-7.day";
     let alloc = rt.alloc();
+    fs::create_dir_all(&rt, "out")?;
     let mut folder = DiskFolder::new(&rt, alloc, "out", "run.part");
     let first = keep_text(&mut folder, b"an older text", "run-7.day").is_ok();
     let second = keep_text(&mut folder, b"some text", "run-7.day").is_ok();
