@@ -3,3 +3,5 @@ pub mod Held
 pub mod Journal
 pub mod Lines
 pub mod Memory
+pub mod Rows
+pub mod Table

@@ -1,9 +1,11 @@
 //! What follows from the definitions, each law the contract of a function that does nothing.
 
-ghost use Rattle.std.specs.Prelude.{◌≡◌, ◌≤◌, ◌++◌, ℕ, List, All, length, take};
+ghost use Rattle.std.specs.Prelude.{◌≡◌, ◌≤◌, ◌++◌, ◌∷◌, [], ℕ, List, All, length, take};
 ghost use Rattle.std.specs.List.{concat};
 ghost use Rattle.mrp_journal.specs.Held.{IsFront};
 ghost use Rattle.mrp_journal.specs.Lines.{IsLine, whole_lines};
+ghost use Rattle.mrp_journal.specs.Rows.{IsRow, IsTable, row};
+ghost use Rattle.mrp_journal.specs.Table.{table_records};
 
 /// The whole lines of a text.
 pub fn lines()
@@ -23,4 +25,12 @@ pub fn journals()
     ensures left { (journal left : List ℕ) (records : List (List ℕ)) → whole_lines journal ≡ journal → All IsLine records
         → IsFront journal left → IsFront left (journal ++ concat records)
         → (count : ℕ) × (count ≤ length records) × (whole_lines left ≡ journal ++ concat (take count records)) }
+{}
+
+/// A journal with records, and a row of csv appended to it.
+pub fn tables()
+    // It takes more rows, and in a bundle has the records that it had, and the row's behind them.
+    ensures takes { (journal x y : List ℕ) (ys : List (List ℕ)) → IsTable journal → IsRow (row (x ∷ y ∷ ys)) → IsTable (journal ++ row (x ∷ y ∷ ys)) }
+    ensures records { (journal x y : List ℕ) (ys : List (List ℕ)) → IsTable journal → IsRow (row (x ∷ y ∷ ys))
+        → table_records (journal ++ row (x ∷ y ∷ ys)) ≡ table_records journal ++ (x ∷ y ∷ ys) ∷ [] }
 {}

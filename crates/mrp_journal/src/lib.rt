@@ -10,6 +10,7 @@ mod lines;
 mod memory;
 mod settling;
 mod store;
+mod table;
 
 pub use beginning::begin;
 pub use file::JournalFile;
@@ -17,3 +18,4 @@ pub use lines::whole_lines;
 pub use memory::MemoryStore;
 pub use settling::settle;
 pub use store::Store;
+pub use table::{SCRIPT_HEADER, header_for, takes_records};
