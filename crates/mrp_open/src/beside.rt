@@ -1,6 +1,6 @@
 //! An order desk, from its start to its end, with a thread that makes the files of its runs.
 
-ghost use Rattle.std.specs.Prelude.{◌≡◌};
+ghost use Rattle.std.specs.Prelude.{◌≡◌, IfOk, IfSome};
 ghost use Rattle.mrp_tables.specs.Tables.{Tables};
 ghost use Rattle.mrp_master.specs.Supply.{supply_of};
 ghost use Rattle.mrp_book.specs.History.{IsLegal};
@@ -13,7 +13,7 @@ use crate::handing::{Given, RunKind, RunSender, make_all};
 use crate::opening::{begin_journal, tell_cut};
 use crate::start::{Prepared, SUM_NAME, answer_journal, is_sealed, prepare};
 use crossbeam_channel::unbounded;
-use mrp_book::{Call, Entry, Reply};
+use mrp_book::{Call, Entry, Reply, Snapshot};
 use mrp_calls::OpenDesk;
 use mrp_commands::Ending;
 use mrp_folder::{DiskFolder, SealedJournal};
@@ -34,12 +34,34 @@ use std::thread::Threads;
 // The name that the file of the sum is begun with.
 const SUM_PART: &str = "desk.part";
 
-// Whether the file of a run is there. Where its name finds no memory it counts as there.
-fn has_run<F: FileStore>(files: &F, alloc: Global, folder: &str, front: u64) -> bool {
-    match run_name(alloc, front) {
-        Ok(name) => has_file(files, alloc, folder, &name),
-        Err(NoMemory) => true,
+// Whether the file of a run is there.
+fn has_run<F: FileStore>(
+    files: &F,
+    alloc: Global,
+    folder: &str,
+    front: u64,
+) -> Result<bool, NoMemory> {
+    let name = run_name(alloc, front)?;
+    has_file(files, alloc, folder, &name)
+}
+
+// A run to be made, if its file is not there.
+fn missing_run<F: FileStore>(
+    files: &F,
+    alloc: Global,
+    folder: &str,
+    desk: u64,
+    snapshot: &Snapshot,
+) -> Result<Option<Run>, NoMemory>
+    ensures { IfOk result (λ run. IfSome run (λ r. r ≡ record { desk = desk; snapshot = snapshot.now })) }
+{
+    if has_run(files, alloc, folder, snapshot.front())? {
+        return Ok(None);
     }
+    Ok(Some(Run {
+        desk,
+        snapshot: snapshot.copy()?,
+    }))
 }
 
 // Hands over the runs of a journal whose files are not there.
@@ -54,14 +76,9 @@ fn hand_over_missing<F: FileStore, T: RunTaker>(
 {
     for entry in entries {
         if let Reply::Taken(snapshot) = &entry.reply {
-            if has_run(files, alloc, folder, snapshot.front()) {
-                continue;
-            }
-            match snapshot.copy() {
-                Ok(snapshot) => taker.take(Run {
-                    desk: entry.who,
-                    snapshot,
-                }),
+            match missing_run(files, alloc, folder, entry.who, snapshot) {
+                Ok(Some(run)) => taker.take(run),
+                Ok(None) => {}
                 Err(NoMemory) => taker.miss(snapshot.front()),
             }
         }

@@ -1,6 +1,7 @@
 //! What a start does with a folder of the operating system. No contract can say what its files have.
 
 use mrp_journal::JournalFile;
+use mrp_qty::NoMemory;
 use mrp_words::FileStore;
 use std::alloc::Global;
 use std::fs::{File, OpenFile, OpenOptions, TryLockError};
@@ -73,10 +74,15 @@ pub fn sync_folder<F: OpenFile>(handle: &Option<F>) -> io::Result<()> {
     }
 }
 
-/// Whether a folder has a file with a name. Where its path finds no memory it counts as there.
-pub fn has_file<F: FileStore>(files: &F, alloc: Global, folder: &str, name: &str) -> bool {
-    match Path::new(folder).join(alloc, name) {
-        Ok(path) => files.can_be_opened(path.as_str()),
-        Err(_) => true,
-    }
+/// Whether a folder has a file with a name.
+///
+/// Errors: `NoMemory` if an allocation fails.
+pub fn has_file<F: FileStore>(
+    files: &F,
+    alloc: Global,
+    folder: &str,
+    name: &str,
+) -> Result<bool, NoMemory> {
+    let path = Path::new(folder).join(alloc, name)?;
+    Ok(files.can_be_opened(path.as_str()))
 }

@@ -7,7 +7,7 @@ use mrp_commands::{Ending, write_line};
 use mrp_journal::{JournalFile, begin, whole_lines};
 use mrp_rows::Told;
 use std::alloc::Global;
-use std::io::Write;
+use std::io::{ErrorKind, Write};
 use std::rt::Files;
 
 /// Begins the journal of a folder that was prepared, and makes it and its name durable.
@@ -20,8 +20,10 @@ pub fn begin_journal<R: Files>(
     handle: &Option<R::File>,
     prepared: &Prepared,
 ) -> Result<JournalFile<R::File>, Ending> {
-    let Ok(mut journal) = open_journal(files, alloc, folder) else {
-        return Err(Ending::Write);
+    let mut journal = match open_journal(files, alloc, folder) {
+        Ok(journal) => journal,
+        Err(error) if error.kind() == ErrorKind::OutOfMemory => return Err(Ending::NoMemory),
+        Err(_) => return Err(Ending::Write),
     };
     if begin(&mut journal, &prepared.script, prepared.header).is_err() {
         return Err(Ending::Write);
