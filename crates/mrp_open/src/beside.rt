@@ -8,7 +8,7 @@ ghost use Rattle.mrp_runs.specs.declared.run.Run.{Run};
 ghost use Rattle.mrp_open.specs.Runs.{IsRun};
 
 use crate::batches::{RunTaker, serve};
-use crate::disk::{LockFault, has_file, lock_folder};
+use crate::disk::{LockFault, has_file, hold_streams, lock_folder};
 use crate::handing::{Given, RunKind, RunSender, make_all};
 use crate::opening::{begin_journal, tell_cut};
 use crate::start::{Prepared, SUM_NAME, answer_journal, is_sealed, prepare};
@@ -211,16 +211,23 @@ pub fn open_desk<
     output: &mut Told<W>,
     errors: &mut Told<E>,
 ) -> Ending {
+    let held = hold_streams(rt);
+    if held.is_err() {
+        let _ = Ending::Read.tell(errors);
+        return Ending::Read;
+    }
     let opened = match lock_folder(rt, folder) {
         Ok(handle) => open_locked(rt, alloc, folder, &handle, workers, input, output, errors),
         Err(LockFault::InUse) => Err(Ending::InUse),
         Err(LockFault::Read) => Err(Ending::Read),
     };
-    match opened {
+    let end = match opened {
         Ok(end) => end,
         Err(end) => {
             let _ = end.tell(errors);
             end
         }
-    }
+    };
+    drop(held);
+    end
 }

@@ -28,6 +28,18 @@ fn hold(handle: &File) -> Result<(), LockFault> {
     }
 }
 
+// A file of which nothing is kept.
+const NULL: &str = "/dev/null";
+
+/// Three open handles. Where standard streams are closed they have taken their numbers, so that no file of a folder gets
+/// one, and what is written to a stream never gets into a file.
+pub fn hold_streams<R: Files>(files: &R) -> io::Result<[R::File; 3]> {
+    let first = File::open(files, NULL)?;
+    let second = File::open(files, NULL)?;
+    let third = File::open(files, NULL)?;
+    Ok([first, second, third])
+}
+
 // The path of a folder. An empty one is the folder that the program runs in.
 fn folder_path(folder: &str) -> &str {
     if folder.is_empty() { "." } else { folder }
