@@ -192,7 +192,7 @@ fn open_locked<
 ) -> Result<Ending, Ending> {
     let prepared = prepare(rt, alloc, rt, folder)?;
     let begun = begin(rt, alloc, folder, handle, &prepared, workers, errors)?;
-    Ok(serve_beside::<Brand, R, I, W, E>(rt, alloc, folder, begun, input, output, errors))
+    serve_beside::<Brand, R, I, W, E>(rt, alloc, folder, begun, input, output, errors)
 }
 
 /// Opens an order desk on a folder, answers the lines of an input until it ends, and returns how that ended, which
