@@ -40,7 +40,7 @@ const FULL: usize = 65_536;
 /// The memory of a page is used again once its text was handed over: what is after the end is no
 /// part of the text.
 #[derive(Drop)]
-pub(crate) struct Page {
+pub struct Page {
     bytes: Vec<u8>,
     end: usize,
 }
@@ -80,7 +80,7 @@ fn grow(bytes: &mut Vec<u8>) -> Result<(), AllocError>
 
 impl Page {
     /// A page without text.
-    pub(crate) fn new(alloc: Global) -> Page
+    pub fn new(alloc: Global) -> Page
         ensures { result ≡ [] }
     {
         Page {
@@ -154,7 +154,7 @@ impl Page {
     /// Adds a row of at least two cells: csv writes a row of one empty cell differently.
     ///
     /// Errors: `NoMemory` if an allocation fails.
-    pub(crate) fn row(&mut self, cells: &[&[u8]]) -> Result<(), NoMemory>
+    pub fn row(&mut self, cells: &[&[u8]]) -> Result<(), NoMemory>
         requires { 2 ≤ length cells.now }
         ensures { OnOk result (self.new ≡ self.old ++ row (map (λ cell. cell.now) cells.now)) }
     {
@@ -180,15 +180,15 @@ impl Page {
         self.end >= FULL
     }
 
-    // The text.
-    fn text(&self) -> &[u8]
+    /// The text.
+    pub fn text(&self) -> &[u8]
         ensures { result.now ≡ self.now }
     {
         &self.bytes[..self.end]
     }
 
     /// Removes the text, and keeps the memory.
-    pub(crate) fn clear(&mut self)
+    pub fn clear(&mut self)
         ensures { self.new ≡ [] }
     {
         self.end = 0;
