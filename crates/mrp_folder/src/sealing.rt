@@ -105,6 +105,7 @@ impl<'a, S: Store, D: Folder> Store for SealedJournal<'a, S, D> {
         ensures appended { OnOk result (S.held (journal_of self.new) ≡ option_map (appended bytes.now) (S.held (journal_of self.old))) }
         ensures front { OnErr result (AppendsFront bytes.now (S.held (journal_of self.old)) (S.held (journal_of self.new))) }
         ensures told { TellsFailure (failures_of_sealed self.old + S.failures (journal_of self.old)) (failures_of_sealed self.new + S.failures (journal_of self.new)) result }
+        ensures once { OnOk result (has_seal self.new ≡ true) }
 
         // Nothing is appended before the text is there, durable with its name.
         ensures sealed { (has_seal self.old ≡ true) ⊎ (S.held (journal_of self.new) ≡ S.held (journal_of self.old))
