@@ -10,6 +10,6 @@ mod section;
 mod wave;
 
 pub use fault::ReportFault;
-pub use page::is_quoted_text;
+pub use page::{Page, is_quoted_text};
 pub use report::{MOST_WORKERS, write_report};
-pub use section::write_history;
+pub use section::{HistoryRows, LONGEST_ROW, write_history};

@@ -19,8 +19,7 @@ mod word;
 use crate::fault::ReportFault;
 pub(crate) use cells::{Cell, put_first_number, put_text};
 pub(crate) use csv_name::CsvName;
-pub(crate) use line::Line;
-use line::ROOM;
+pub(crate) use line::{Line, ROOM};
 pub(crate) use minutes::TimeBuffer;
 use mrp_day::Section;
 use mrp_qty::NoMemory;
@@ -41,7 +40,7 @@ const FULL: usize = 65_536;
 /// The memory of a page is used again once its text was handed over: what is after the end is no
 /// part of the text.
 #[derive(Drop)]
-pub(crate) struct Page {
+pub struct Page {
     bytes: Vec<u8>,
     end: usize,
 }
@@ -81,7 +80,7 @@ fn grow(bytes: &mut Vec<u8>) -> Result<(), AllocError>
 
 impl Page {
     /// A page without text.
-    pub(crate) fn new(alloc: Global) -> Page
+    pub fn new(alloc: Global) -> Page
         ensures { result ≡ [] }
     {
         Page {
@@ -155,7 +154,7 @@ impl Page {
     /// Adds a row of at least two cells: csv writes a row of one empty cell differently.
     ///
     /// Errors: `NoMemory` if an allocation fails.
-    pub(crate) fn row(&mut self, cells: &[&[u8]]) -> Result<(), NoMemory>
+    pub fn row(&mut self, cells: &[&[u8]]) -> Result<(), NoMemory>
         requires { 2 ≤ length cells.now }
         ensures { OnOk result (self.new ≡ self.old ++ row (map (λ cell. cell.now) cells.now)) }
     {
@@ -181,15 +180,15 @@ impl Page {
         self.end >= FULL
     }
 
-    // The text.
-    fn text(&self) -> &[u8]
+    /// The text.
+    pub fn text(&self) -> &[u8]
         ensures { result.now ≡ self.now }
     {
         &self.bytes[..self.end]
     }
 
     /// Removes the text, and keeps the memory.
-    pub(crate) fn clear(&mut self)
+    pub fn clear(&mut self)
         ensures { self.new ≡ [] }
     {
         self.end = 0;

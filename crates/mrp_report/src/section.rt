@@ -25,7 +25,7 @@ mod source;
 
 use crate::page::Page;
 use centre::centre_rows;
-pub use history::write_history;
+pub use history::{HistoryRows, LONGEST_ROW, write_history};
 use item::item_rows;
 use messages::message_rows;
 use mrp_item::{Plan, Planned};

@@ -8,15 +8,20 @@ ghost use Rattle.mrp_report.specs.page.Rows.{row};
 ghost use Rattle.mrp_report.specs.Written.{WritesWhole};
 
 use crate::fault::ReportFault;
-use crate::page::{Cell, Line, Page, Word, put_byte, put_first_number, put_number, put_word};
+use crate::page::{Cell, Line, Page, ROOM, Word, put_byte, put_first_number, put_number, put_word};
 use crate::section::shop_names::ShopNames;
 use mrp_bill::Shop;
 use mrp_book::{Call, Entry, History, Reply};
 use mrp_day::Section;
 use mrp_qty::NoMemory;
 use mrp_rows::{Told, Tries, WRITE_TRIES};
-use std::alloc::Global;
+use mrp_tables::Tables;
+use std::alloc::{AllocError, Global};
 use std::io::Write;
+use std::marker::Model;
+
+/// More bytes than the row of an entry has.
+pub const LONGEST_ROW: usize = ROOM;
 
 // The cells of a row that come from the call.
 #[derive(Clone, Copy)]
@@ -125,6 +130,22 @@ impl Line for EntryLine<'_> {
     }
 }
 
+// The row of an entry with its number.
+fn entry_line<'a>(
+    names: &'a ShopNames<'_>,
+    number: u64,
+    entry: &Entry<Call, Reply>,
+) -> EntryLine<'a>
+    ensures { row (decimal result.number ∷ decimal result.desk ∷ (called_cells result.called ++ replied_cells result.replied)) ≡ entry_text names.now.tables.now (number, entry.now) }
+{
+    EntryLine {
+        number,
+        desk: entry.who,
+        called: Called::of(names, &entry.call),
+        replied: Replied::of(&entry.reply),
+    }
+}
+
 // Adds the row of an entry.
 fn entry_row(
     page: &mut Page,
@@ -134,12 +155,56 @@ fn entry_row(
 ) -> Result<(), NoMemory>
     ensures { OnOk result (page.new ≡ page.old ++ entry_text names.now.tables.now (number, entry.now)) }
 {
-    page.line(&EntryLine {
-        number: number as u64,
-        desk: entry.who,
-        called: Called::of(names, &entry.call),
-        replied: Replied::of(&entry.reply),
-    })
+    page.line(&entry_line(names, number as u64, entry))
+}
+
+/// The rows of the section `history`, one at a time. Contracts see the tables that have the items' names.
+#[derive(Drop)]
+pub struct HistoryRows<'a> {
+    names: ShopNames<'a>,
+}
+
+impl<'a> Model for HistoryRows<'a> {
+    ghost use Rattle.mrp_tables.specs.Tables.{Tables};
+
+    ghost Value = { Tables };
+
+    ghost view = { λ rows. rows.names.tables.now };
+}
+
+impl<'a> HistoryRows<'a> {
+    ghost use Rattle.std.specs.Prelude.{◌≡◌, ◌+◌, ◌≤◌, ◌++◌, IfOk, IsOk, if◌then◌else◌, is_ok, vec_capacity, vec_len};
+    ghost use Rattle.mrp_report.specs.section.HistoryText.{entry_text};
+
+    /// The rows of a shop with these tables.
+    ///
+    /// Errors: `NoMemory` if an allocation fails.
+    pub fn of(alloc: Global, tables: &'a Tables) -> Result<HistoryRows<'a>, NoMemory>
+        ensures { IfOk result (λ rows. rows ≡ tables.now) }
+    {
+        Ok(HistoryRows {
+            names: ShopNames::of(alloc, tables)?,
+        })
+    }
+
+    /// Adds the row of an entry, with its number, to a text.
+    ///
+    /// Errors: an allocation fails. None is made where [`LONGEST_ROW`] bytes are free.
+    pub fn add(
+        &self,
+        text: &mut Vec<u8>,
+        number: u64,
+        entry: &Entry<Call, Reply>,
+    ) -> Result<(), AllocError>
+        ensures row { text.new.items ≡ (if is_ok result then text.old.items ++ entry_text self.now (number, entry.now) else text.old.items) }
+        ensures free { vec_len text.old + LONGEST_ROW ≤ vec_capacity text.old → IsOk result }
+        ensures few { vec_len text.new ≤ vec_len text.old + LONGEST_ROW }
+        ensures room { vec_capacity text.old ≤ vec_capacity text.new }
+    {
+        let mut row = [0; ROOM];
+        let end = entry_line(&self.names, number, entry).put(&mut row, 0);
+        text.extend_from_slice(&row[..end])
+    }
 }
 
 /// Writes the section `history`: a row for each entry of the order book. The caller guarantees that
