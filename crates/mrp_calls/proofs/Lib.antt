@@ -2,3 +2,9 @@ pub mod LineCells
 pub mod Lines
 pub mod Entered
 pub mod Tried
+pub mod PlainCells
+pub mod PlainRows
+pub mod ReadBack
+pub mod RecordLines
+pub mod TableRows
+pub mod ShortRecords

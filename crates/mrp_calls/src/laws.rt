@@ -1,0 +1,32 @@
+//! What follows from the definitions, each law the contract of a function that does nothing.
+
+ghost use Rattle.std.specs.Prelude.{◌≡◌, ◌+◌, ◌<◌, ◌≤◌, ◌++◌, ◌∷◌, [], ℕ, List, Ok, length};
+ghost use Rattle.mrp_rows.specs.Left.{Cells};
+ghost use Rattle.mrp_tables.specs.declared.rows.ScriptRow.{ScriptRow};
+ghost use Rattle.mrp_tables.specs.declared.limits.TheConstants.{MOST_ROWS};
+ghost use Rattle.mrp_tables.specs.Tables.{Tables};
+ghost use Rattle.mrp_journal.specs.Rows.{IsTable};
+ghost use Rattle.mrp_calls.specs.declared.texts.TheConstants.{LEAST_ROOM};
+ghost use Rattle.mrp_calls.specs.CallRecord.{IsRecordLine, ReadsBack, record_text};
+ghost use Rattle.mrp_calls.specs.Journals.{script_in};
+ghost use Rattle.mrp_calls.specs.LineCall.{call_of_line};
+
+/// What is journalled for a line that makes a call.
+pub fn records()
+    // It is one line, which begins with a digit.
+    ensures line { (t : Tables) (number : ℕ) (line : List ℕ) (r : Cells) (given : ScriptRow) → call_of_line t number line ≡ Ok (r, given) → IsRecordLine (record_text given.call r) }
+    // It fits the least room of a folder that takes records.
+    ensures short { (t : Tables) (number : ℕ) (line : List ℕ) (r : Cells) (given : ScriptRow) → call_of_line t number line ≡ Ok (r, given) → length (record_text given.call r) ≤ LEAST_ROOM }
+    // It is one record, which reads as the line's call.
+    ensures back { (t : Tables) (number : ℕ) (line : List ℕ) (r : Cells) (given : ScriptRow) → call_of_line t number line ≡ Ok (r, given) → ReadsBack t r given }
+{}
+
+/// A journal that is read as the table `script` of a shop, and the record of a line's call behind it.
+pub fn journals()
+    // More records can be appended then.
+    ensures takes { (t : Tables) (journal line : List ℕ) (script : List ScriptRow) (r : Cells) (given : ScriptRow) → IsTable journal → script_in t.calendar t.items journal ≡ Ok script → length script < MOST_ROWS
+        → call_of_line t (length script + 1) line ≡ Ok (r, given) → IsTable (journal ++ record_text given.call r) }
+    // It is read as the rows that it had, and behind them the line's call.
+    ensures rows { (t : Tables) (journal line : List ℕ) (script : List ScriptRow) (r : Cells) (given : ScriptRow) → IsTable journal → script_in t.calendar t.items journal ≡ Ok script → length script < MOST_ROWS
+        → call_of_line t (length script + 1) line ≡ Ok (r, given) → script_in t.calendar t.items (journal ++ record_text given.call r) ≡ Ok (script ++ given ∷ []) }
+{}
