@@ -8,3 +8,9 @@ pub mod ReadBack
 pub mod RecordLines
 pub mod TableRows
 pub mod ShortRecords
+pub mod Steps
+pub mod AnswerLines
+pub mod Answered
+pub mod OnJournals
+pub mod BundleTexts
+pub mod OnFolders

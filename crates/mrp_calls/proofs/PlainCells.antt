@@ -65,11 +65,14 @@ number-some n least most [] e = absurd cc
 number-some n least most (b ∷ bs) e = (b, bs, refl, (and-both (is_ascii_digit b) (list_all is_ascii_digit bs) (number-digits n least most (b ∷ bs) e)).0)
 
 -- names
+pub is-name-plain : (cell : List ℕ) → is_name cell ≡ true → IsPlain cell
+is-name-plain cell is = plain-bytes is_printable cell refl refl (and-four _ _ _ _ is).2
+
 pub name-plain : (name cell : List ℕ) → name_of cell ≡ Ok name → IsPlain cell
 name-plain name cell e = by (is_name cell) refl
   where
     by : (b : Bool) → is_name cell ≡ b → IsPlain cell
-    by true is = plain-bytes is_printable cell refl refl (and-four _ _ _ _ is).2
+    by true is = is-name-plain cell is
     by false is = absurd (let h = rw is at e in cc)
 
 pub name-short : (name cell : List ℕ) → name_of cell ≡ Ok name → length cell ≤ 32

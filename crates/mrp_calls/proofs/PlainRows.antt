@@ -14,15 +14,15 @@ use Rattle.mrp_calls.proofs.PlainCells.{IsPlain}
 or-none : (a b : Bool) → a ≡ false → b ≡ false → (a || b) ≡ false
 or-none a b e f = rw (e, f) refl
 
-or-left : (a b : Bool) → (a || b) ≡ false → a ≡ false
+pub or-left : (a b : Bool) → (a || b) ≡ false → a ≡ false
 or-left true b e = absurd cc
 or-left false b e = refl
 
-or-right : (a b : Bool) → (a || b) ≡ false → b ≡ false
+pub or-right : (a b : Bool) → (a || b) ≡ false → b ≡ false
 or-right true b e = absurd cc
 or-right false b e = e
 
-plain-append : (xs ys : List ℕ) → IsPlain xs → IsPlain ys → IsPlain (xs ++ ys)
+pub plain-append : (xs ys : List ℕ) → IsPlain xs → IsPlain ys → IsPlain (xs ++ ys)
 plain-append xs ys e f = list_any-append ends_line xs ys ∙ or-none (list_any ends_line xs) (list_any ends_line ys) e f
 
 escaped-plain : (xs : List ℕ) → IsPlain xs → IsPlain (escaped default_writer xs)

@@ -1,4 +1,5 @@
 pub mod Answers
+pub mod Batches
 pub mod CallRecord
 pub mod Desk
 pub mod Journals

@@ -1,14 +1,20 @@
 //! What follows from the definitions, each law the contract of a function that does nothing.
 
 ghost use Rattle.std.specs.Prelude.{◌≡◌, ◌+◌, ◌<◌, ◌≤◌, ◌++◌, ◌∷◌, [], ℕ, List, Ok, length};
+ghost use Rattle.mrp_rows.specs.Joined.{Part};
 ghost use Rattle.mrp_rows.specs.Left.{Cells};
 ghost use Rattle.mrp_tables.specs.declared.rows.ScriptRow.{ScriptRow};
 ghost use Rattle.mrp_tables.specs.declared.limits.TheConstants.{MOST_ROWS};
 ghost use Rattle.mrp_tables.specs.Tables.{Tables};
+ghost use Rattle.mrp_book.specs.Standing.{History};
+ghost use Rattle.mrp_script.specs.Script.{AnswersScript};
 ghost use Rattle.mrp_journal.specs.Rows.{IsTable};
 ghost use Rattle.mrp_calls.specs.declared.texts.TheConstants.{LEAST_ROOM};
+ghost use Rattle.mrp_calls.specs.Answers.{Answers};
+ghost use Rattle.mrp_calls.specs.Batches.{AreAnswered};
 ghost use Rattle.mrp_calls.specs.CallRecord.{IsRecordLine, ReadsBack, record_text};
-ghost use Rattle.mrp_calls.specs.Journals.{script_in};
+ghost use Rattle.mrp_calls.specs.Desk.{Desk};
+ghost use Rattle.mrp_calls.specs.Journals.{AnswersFolder, AnswersJournal, GoesOn, script_in, with_script};
 ghost use Rattle.mrp_calls.specs.LineCall.{call_of_line};
 
 /// What is journalled for a line that makes a call.
@@ -29,4 +35,21 @@ pub fn journals()
     // It is read as the rows that it had, and behind them the line's call.
     ensures rows { (t : Tables) (journal line : List ℕ) (script : List ScriptRow) (r : Cells) (given : ScriptRow) → IsTable journal → script_in t.calendar t.items journal ≡ Ok script → length script < MOST_ROWS
         → call_of_line t (length script + 1) line ≡ Ok (r, given) → script_in t.calendar t.items (journal ++ record_text given.call r) ≡ Ok (script ++ given ∷ []) }
+{}
+
+/// Lines that a desk answered one after the other.
+pub fn batches()
+    // Each has one answer of one line; what they ask makes entries behind those before, each with its row and its record.
+    ensures answered { (lines : List (List ℕ)) (old new : Desk) (answers records : List ℕ) → Answers lines old answers records new → AreAnswered lines old answers records new }
+    // Where the entries answer a journal's records, they answer them with these records behind it.
+    ensures journal { (lines : List (List ℕ)) (journal : List ℕ) (old new : Desk) (answers records : List ℕ) → AnswersJournal journal old → Answers lines old answers records new → AnswersJournal (journal ++ records) new }
+{}
+
+/// A folder with an open desk.
+pub fn folders()
+    // Its bundle stays one that is accepted, with the records of answered lines behind its journal.
+    ensures bundle { (lines : List (List ℕ)) (others : List Part) (journal : List ℕ) (old new : Desk) (answers records : List ℕ) → AnswersFolder others journal old → Answers lines old answers records new
+        → AnswersFolder others (journal ++ records) new }
+    // The history of its day begins with the desk's entries.
+    ensures history { (others : List Part) (journal : List ℕ) (d : Desk) (on : AnswersFolder others journal d) (h : History) → AnswersScript (with_script d.tables on.script) h → GoesOn d on.script h }
 {}
