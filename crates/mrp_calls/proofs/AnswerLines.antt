@@ -42,14 +42,14 @@ more-plain x xs e f = rw e f
 
 onto-plain : (k n : ℕ) (xs : List ℕ) → IsPlain xs → IsPlain (digits_onto k 10 false n xs)
 onto-plain zero n xs e = e
-onto-plain (suc k) n xs e = by (n / 10 == 0)
+onto-plain (suc k) n xs e =
+    let more : IsPlain (digit_glyph false (n % 10) ∷ xs) = more-plain (digit_glyph false (n % 10)) xs (glyph-plain (n % 10)) e in
+    by (n / 10 == 0) more (onto-plain k (n / 10) (digit_glyph false (n % 10) ∷ xs) more)
   where
-    more : IsPlain (digit_glyph false (n % 10) ∷ xs)
-    more = more-plain (digit_glyph false (n % 10)) xs (glyph-plain (n % 10)) e
-
-    by : (b : Bool) → IsPlain (if b then digit_glyph false (n % 10) ∷ xs else digits_onto k 10 false (n / 10) (digit_glyph false (n % 10) ∷ xs))
-    by true = more
-    by false = onto-plain k (n / 10) (digit_glyph false (n % 10) ∷ xs) more
+    by : (b : Bool) → IsPlain (digit_glyph false (n % 10) ∷ xs) → IsPlain (digits_onto k 10 false (n / 10) (digit_glyph false (n % 10) ∷ xs))
+        → IsPlain (if b then digit_glyph false (n % 10) ∷ xs else digits_onto k 10 false (n / 10) (digit_glyph false (n % 10) ∷ xs))
+    by true last more = last
+    by false last more = more
 
 decimal-plain : (n : ℕ) → IsPlain (decimal n)
 unfolding digits
@@ -115,18 +115,18 @@ table-plain t.Script = refl
 table-plain t.Bundle = refl
 
 spaced : (xs ys : List ℕ) → IsPlain xs → IsPlain ys → IsPlain (xs ++ codes " " ++ ys)
-spaced xs ys e f = plain-append xs (codes " " ++ ys) e (plain-append (codes " ") ys refl f)
+spaced xs ys e f = plain-append (xs ++ codes " ") ys (plain-append xs (codes " ") e refl) f
 
 fault-plain : (f : Fault) → IsPlain (text_of_fault f)
 fault-plain f =
-    spaced (decimal f.code) (fault_name f.code ++ codes " " ++ table_name f.table ++ codes " " ++ decimal f.row) (decimal-plain f.code)
-    (spaced (fault_name f.code) (table_name f.table ++ codes " " ++ decimal f.row) (one-plain fault_names (codes "fault") f.code names-plain refl)
-    (spaced (table_name f.table) (decimal f.row) (table-plain f.table) (decimal-plain f.row)))
+    let named = spaced (decimal f.code) (fault_name f.code) (decimal-plain f.code) (one-plain fault_names (codes "fault") f.code names-plain refl) in
+    let placed = spaced (decimal f.code ++ codes " " ++ fault_name f.code) (table_name f.table) named (table-plain f.table) in
+    spaced (decimal f.code ++ codes " " ++ fault_name f.code ++ codes " " ++ table_name f.table) (decimal f.row) placed (decimal-plain f.row)
 
 pub refusal-line : (f : Fault) → IsLine (refusal_text f)
 refusal-line f = record {
   text = codes "refused: " ++ text_of_fault f;
-  is = sym (append_assoc (codes "refused: ") (text_of_fault f) (10 ∷ []));
+  is = refl;
   no_end = plain-append (codes "refused: ") (text_of_fault f) refl (fault-plain f);
 }
 

@@ -14,3 +14,4 @@ pub mod Answered
 pub mod OnJournals
 pub mod BundleTexts
 pub mod OnFolders
+pub mod RefusedLines

@@ -12,10 +12,10 @@ use Rattle.mrp_rows.specs.Joined.{Part}
 use Rattle.mrp_rows.specs.Together.{has_section_line}
 use Rattle.mrp_rows.proofs.TextLaws.{whole_step}
 use Rattle.mrp_tables.specs.declared.rows.ScriptRow.{ScriptRow}
+use Rattle.mrp_tables.specs.Laws.{AreOfTheirTexts}
 use Rattle.mrp_tables.specs.Readers.{calendar_in, items_in, table_in}
 use Rattle.mrp_tables.specs.Reading.{rows_of}
 use Rattle.mrp_tables.specs.Tables.{Tables, tables_in}
-use Rattle.mrp_tables.proofs.AcceptedTables.{of_their_texts}
 use Rattle.mrp_master.specs.Supply.{supply_of}
 use Rattle.mrp_turn.specs.declared.log.Entry.{Entry}
 use Rattle.mrp_book.specs.declared.call.Call.{Call}
@@ -80,23 +80,27 @@ tables-again a0 a1 a2 a3 a4 a5 a6 a7 one other tables script e reads =
         ∙ bound (table_in new t.Routings) _ routings.0 routings.1 ∙ bound (table_in new t.Master) _ master.0 master.1 ∙ bound (table_in new t.Script) _ script (read ∙ own) in
     subst P same whole reads
 
+-- each table of accepted texts is what its own text reads as
+abbrev pub TextsTell : Type 0
+TextsTell = (texts : List (List ℕ)) (tables : Tables) → tables_in texts ≡ Ok tables → AreOfTheirTexts texts tables
+
 -- what a bundle's script reads as
-script-read : (texts : List (List ℕ)) (tables : Tables) → tables_in texts ≡ Ok tables → rows_of (script_reads tables.calendar tables.items) (layout_of t.Script) (text_in texts t.Script) ≡ Ok tables.script
-script-read texts tables e =
-    let of = of_their_texts texts tables e in
+script-read : TextsTell → (texts : List (List ℕ)) (tables : Tables) → tables_in texts ≡ Ok tables → rows_of (script_reads tables.calendar tables.items) (layout_of t.Script) (text_in texts t.Script) ≡ Ok tables.script
+script-read tell texts tables e =
+    let of = tell texts tables e in
     let is_calendar : calendar_in texts ≡ Ok tables.calendar = rw of.calendar refl in
     let is_items : items_in texts ≡ Ok tables.items = of.items in
     sym (rw (is_calendar, is_items) refl) ∙ of.script
 
 -- the journal of a folder
-pub of-folder : (others : List Part) (journal : List ℕ) (d : Desk) → AnswersFolder others journal d → AnswersJournal journal d
-of-folder others journal d on =
+pub of-folder : TextsTell → (others : List Part) (journal : List ℕ) (d : Desk) → AnswersFolder others journal d → AnswersJournal journal d
+of-folder tell others journal d on =
     let tables = with_script d.tables on.script in
     let free = on.table.takes.no_section in
     let texts = whole_step (bundle_of (bundle_with others journal)) tables_in tables on.accepted.tables_are in
     let bundle = bundle-again others journal journal texts.0 free free texts.1 in
     let text : text_in texts.0 t.Script ≡ table_text journal = ap (λ (x : List (List ℕ)). text_in x t.Script) bundle.nine.are in
-    let read : rows_of (script_reads tables.calendar tables.items) (layout_of t.Script) (text_in texts.0 t.Script) ≡ Ok on.script = script-read texts.0 tables texts.2 in
+    let read : rows_of (script_reads tables.calendar tables.items) (layout_of t.Script) (text_in texts.0 t.Script) ≡ Ok on.script = script-read tell texts.0 tables texts.2 in
     record {
       table = on.table;
       script = on.script;
@@ -116,10 +120,10 @@ more-accepted others journal longer tables script rows free clear accepted reads
     let again = tables-again nine.calendar nine.items nine.centres nine.stock nine.receipts nine.bills nine.routings nine.master (table_text journal) (table_text longer) (with_script tables script) rows read reads in
     record { tables_are = ap (λ o. o >>= tables_in) bundle.again ∙ again; no_loop = accepted.no_loop }
 
-pub folder-on : (lines : List (List ℕ)) (others : List Part) (journal : List ℕ) (old : Desk) (answers records : List ℕ) (new : Desk) → AnswersFolder others journal old → Answers lines old answers records new
+pub folder-on : TextsTell → (lines : List (List ℕ)) (others : List Part) (journal : List ℕ) (old : Desk) (answers records : List ℕ) (new : Desk) → AnswersFolder others journal old → Answers lines old answers records new
     → AnswersFolder others (journal ++ records) new
-folder-on lines others journal old answers records new on given =
-    let behind = records-on lines journal old answers records new (of-folder others journal old on) given in
+folder-on tell lines others journal old answers records new on given =
+    let behind = records-on lines journal old answers records new (of-folder tell others journal old on) given in
     let all = are-answered lines old answers records new given in
     let reads : script_in old.tables.calendar old.tables.items (journal ++ records) ≡ Ok behind.script =
     subst (λ (x : Tables). script_in x.calendar x.items (journal ++ records) ≡ Ok behind.script) all.tables behind.rows in

@@ -2,7 +2,6 @@
 use Rattle.std.proofs.Common.{◌≡◌, ◌∙◌, ◌⊎◌, ◌+◌, ◌<◌, ◌≤◌, ℕ, List, [], ◌∷◌, ◌++◌, length, Ok, refl, sym, ap, subst, append_assoc, append-nil, inl, inr, arith}
 use Rattle.std.specs.Prelude.{map}
 use Rattle.std.proofs.lemmas.List.{length-map, map-append}
-use Rattle.mrp_tables.proofs.RecordsRead.{is_script_row}
 use Rattle.mrp_tables.specs.declared.rows.ScriptRow.{ScriptRow}
 use Rattle.mrp_master.specs.Supply.{supply_of}
 use Rattle.mrp_turn.specs.declared.log.Entry.{Entry}
@@ -18,7 +17,6 @@ use Rattle.mrp_calls.specs.CallRecord.{record_text}
 use Rattle.mrp_calls.specs.Desk.{Desk}
 use Rattle.mrp_calls.specs.Journals.{AnswersJournal, script_in}
 use Rattle.mrp_calls.specs.LineCall.{call_of_line}
-use Rattle.mrp_calls.proofs.RecordLines.{called}
 use Rattle.mrp_calls.proofs.Steps.{MakesEntry, step-of}
 use Rattle.mrp_calls.proofs.TableRows.{call-behind}
 
@@ -35,8 +33,7 @@ entry-on journal line answer written old next on m =
     let few : length on.script < 100000 = (let place = m.place.few in omega (arith, many, place)) in
     let call : call_of_line old.tables (length on.script + 1) line ≡ Ok (m.r, m.given) = subst (λ (n : ℕ). call_of_line old.tables (n + 1) line ≡ Ok (m.r, m.given)) (sym many) m.called in
     let both = call-behind old.tables journal line on.script m.r m.given on.table on.rows few call in
-    let own = is_script_row old.tables.calendar old.tables.items m.r m.given (called old.tables (next_number old.entries) line m.r m.given m.called) in
-    let legal = legal-more (supply_of old.tables) old.entries e on.legal (own.desk, m.enters.is_reply, call-fits old.tables m.given.call own.call) in
+    let legal = legal-more (supply_of old.tables) old.entries e on.legal (m.enters.within.desk, m.enters.is_reply, call-fits old.tables m.given.call m.enters.within.call) in
     let calls : asked (old.entries ++ e ∷ []) ≡ map record_of (on.script ++ m.given ∷ []) =
     map-append (λ (x : Entry Call Reply). (x.who, x.call)) old.entries (e ∷ []) ∙ ap (λ (s : Script). s ++ record_of m.given ∷ []) on.calls ∙ sym (map-append record_of on.script (m.given ∷ [])) in
     let made : AnswersJournal (journal ++ record_text m.given.call m.r) (entered old e written) = record {

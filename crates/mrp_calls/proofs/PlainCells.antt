@@ -66,7 +66,7 @@ number-some n least most (b ∷ bs) e = (b, bs, refl, (and-both (is_ascii_digit 
 
 -- names
 pub is-name-plain : (cell : List ℕ) → is_name cell ≡ true → IsPlain cell
-is-name-plain cell is = plain-bytes is_printable cell refl refl (and-four _ _ _ _ is).2
+is-name-plain cell is = plain-bytes is_printable cell refl refl (and-four (nat_le 1 (length cell)) (nat_le (length cell) 32) (list_all is_printable cell) (has_name_ends (slice_index cell 0) (slice_index cell (length cell - 1))) is).2
 
 pub name-plain : (name cell : List ℕ) → name_of cell ≡ Ok name → IsPlain cell
 name-plain name cell e = by (is_name cell) refl
@@ -79,7 +79,7 @@ pub name-short : (name cell : List ℕ) → name_of cell ≡ Ok name → length 
 name-short name cell e = by (is_name cell) refl
   where
     by : (b : Bool) → is_name cell ≡ b → length cell ≤ 32
-    by true is = leb-true (length cell) 32 (and-four _ _ _ _ is).1
+    by true is = leb-true (length cell) 32 (and-four (nat_le 1 (length cell)) (nat_le (length cell) 32) (list_all is_printable cell) (has_name_ends (slice_index cell 0) (slice_index cell (length cell - 1))) is).1
     by false is = absurd (let h = rw is at e in cc)
 
 -- words
@@ -156,8 +156,8 @@ date-at cell d form digits =
     let year = bind-some (two_digits (slice_index cell 2) (slice_index cell 3)) _ d century.2 in
     let month = bind-some (two_digits (slice_index cell 5) (slice_index cell 6)) _ d year.2 in
     let day = bind-some (two_digits (slice_index cell 8) (slice_index cell 9)) _ d month.2 in
-    by (two-plain _ _ century.0 century.1) (two-plain _ _ year.0 year.1) (dash-plain (slice_index cell 4) formed.1) (two-plain _ _ month.0 month.1)
-    (dash-plain (slice_index cell 7) formed.2) (two-plain _ _ day.0 day.1)
+    by (two-plain (slice_index cell 0) (slice_index cell 1) century.0 century.1) (two-plain (slice_index cell 2) (slice_index cell 3) year.0 year.1) (dash-plain (slice_index cell 4) formed.1)
+    (two-plain (slice_index cell 5) (slice_index cell 6) month.0 month.1) (dash-plain (slice_index cell 7) formed.2) (two-plain (slice_index cell 8) (slice_index cell 9) day.0 day.1)
   where
     Both : ℕ → ℕ → Type 0
     Both i j = (ends_line (slice_index cell i) ≡ false) × (ends_line (slice_index cell j) ≡ false)

@@ -207,7 +207,9 @@ record-cells r own k line =
     ∙ subst (λ (cs : List (List ℕ)). records_in st.StartRecord [] [] (row_text default_writer cs) ≡ cs ∷ []) (sym k.is) (row-record (cell_at r 0) (cell_at r 1) k.rest)
 
 pub pair-same : {A B : Type 0} (a c : A) (b d : B) → ◌≡◌ {A = Result (A × B) Fault} (Ok (a, b)) (Ok (c, d)) → (a ≡ c) × (b ≡ d)
-pair-same a c b d e = (cc, cc)
+pair-same {A} {B} a c b d e =
+    let same : ◌≡◌ {A = A × B} (a, b) (c, d) = ok-same {X = A × B} (a, b) (c, d) e in
+    (ap (λ (p : A × B). p.0) same, ap (λ (p : A × B). p.1) same)
 
 -- the call of a line is read of its record
 pub called : (t : Tables) (number : ℕ) (line : List ℕ) (r : Cells) (given : ScriptRow) → call_of_line t number line ≡ Ok (r, given) → script_row t.calendar t.items r ≡ Ok given

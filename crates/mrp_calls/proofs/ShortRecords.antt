@@ -1,6 +1,6 @@
 -- No record is longer than a folder's room has to be.
 use Rattle.std.proofs.Common.{◌≡◌, ◌≢◌, ◌∙◌, ◌||◌, ◌+◌, ◌*◌, ◌<◌, ◌≤◌, ℕ, suc, Bool, true, false, List, [], ◌∷◌, ◌++◌, length, Option, Some, None, Ok, Err, refl, sym, ap, subst, arith, length-append, inl, inr}
-use Rattle.std.specs.Prelude.{◌==◌, ◌&&◌, Result, codes, if◌then◌else◌, nat_le, nat_lt}
+use Rattle.std.specs.Prelude.{◌==◌, ◌&&◌, Result, codes, if◌then◌else◌, nat_le, nat_lt, slice_index, ◌-◌}
 use Rattle.std.specs.Char.{is_ascii_digit}
 use Rattle.std.specs.List.{list_all, list_any}
 use Rattle.std.proofs.lemmas.Bool.{cases_Bool, eqb-true, leb-true}
@@ -267,7 +267,7 @@ line-weight number line r e = by (is_whole line) refl e
 
     by : (b : Bool) → is_whole line ≡ b → (if b then or_columns number (only_of t.Script number (records_of line)) else Err (columns_fault t.Script number)) ≡ Ok r → weight r.cells ≤ 4096
     by true whole h =
-        let few : nat_le (length line) 4096 ≡ true = (and-three _ _ _ whole).1 in
+        let few : nat_le (length line) 4096 ≡ true = (and-three (nat_lt 0 (length line)) (nat_le (length line) 4096) (slice_index line (length line - 1) == 10) whole).1 in
         one (records_of line) refl (leb-true (length line) 4096 few) h
     by false whole h = absurd cc
 

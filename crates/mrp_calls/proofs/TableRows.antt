@@ -111,22 +111,21 @@ six-kept (s.Ask item week) r = refl
 six-kept (s.When item quantity) r = refl
 six-kept s.Run r = refl
 
--- the rows behind a header
-behind-header : (read : Reads ScriptRow) (records : List (List (List ℕ))) (cells : List (List ℕ)) (rows : List ScriptRow) (last : ScriptRow)
+-- the rows behind a header, and one record more
+pub behind-header : (read : Reads ScriptRow) (records : List (List (List ℕ))) (cells : List (List ℕ)) (rows : List ScriptRow)
     → (after_header (layout_of t.Script) records >>= λ all. rows_from read (layout_of t.Script) [] all.number all.left) ≡ Ok rows → length rows < 100000
-    → (rows_from read (layout_of t.Script) rows (length rows + 1) (cells ∷ []) ≡ Ok (rows ++ last ∷ []))
-    → (after_header (layout_of t.Script) (records ++ cells ∷ []) >>= λ all. rows_from read (layout_of t.Script) [] all.number all.left) ≡ Ok (rows ++ last ∷ [])
-behind-header read [] cells rows last e few one = absurd cc
-behind-header read (header ∷ records) cells rows last e few one = by (is_header (layout_of t.Script) header) e
+    → (after_header (layout_of t.Script) (records ++ cells ∷ []) >>= λ all. rows_from read (layout_of t.Script) [] all.number all.left) ≡ rows_from read (layout_of t.Script) rows (length rows + 1) (cells ∷ [])
+behind-header read [] cells rows e few = absurd cc
+behind-header read (header ∷ records) cells rows e few = by (is_header (layout_of t.Script) header) e
   where
     from : List (List (List ℕ)) → Bool → Result (List ScriptRow) Fault
     from left b = (if b then Ok (record { layout = layout_of t.Script; number = 1; left = left; is_over = false }) else Err (header_fault t.Script)) >>= λ all. rows_from read (layout_of t.Script) [] all.number all.left
 
-    by : (b : Bool) → from records b ≡ Ok rows → from (records ++ cells ∷ []) b ≡ Ok (rows ++ last ∷ [])
+    by : (b : Bool) → from records b ≡ Ok rows → from (records ++ cells ∷ []) b ≡ rows_from read (layout_of t.Script) rows (length rows + 1) (cells ∷ [])
     by true h =
         let count : length rows ≡ 0 + length records = rows-count read (layout_of t.Script) records [] rows 1 h in
         let number : number_behind 1 records ≡ length rows + 1 = number-behind records 1 (omega (arith, count, few)) ∙ omega (arith, count) in
-        rows-on read (layout_of t.Script) cells records [] rows 1 h ∙ ap (λ (n : ℕ). rows_from read (layout_of t.Script) rows n (cells ∷ [])) number ∙ one
+        rows-on read (layout_of t.Script) cells records [] rows 1 h ∙ ap (λ (n : ℕ). rows_from read (layout_of t.Script) rows n (cells ∷ [])) number
     by false h = absurd cc
 
 -- a journal that takes records has one more row behind the record of a call
@@ -145,5 +144,5 @@ call-behind tables journal line script r given table reads few e =
     let last = last-row tables.calendar tables.items script number r given at.0 at.1 (omega (arith, few)) (six-kept given.call r) (read-back tables.calendar tables.items r given row) in (
       both.0,
       ap (λ (records : List (List (List ℕ))). after_header (layout_of t.Script) records >>= λ all. rows_from (script_reads tables.calendar tables.items) (layout_of t.Script) [] all.number all.left) both.1
-          ∙ behind-header (script_reads tables.calendar tables.items) (table_records journal) (kept_cells given.call r) script given reads few last,
+          ∙ behind-header (script_reads tables.calendar tables.items) (table_records journal) (kept_cells given.call r) script reads few ∙ last,
     )

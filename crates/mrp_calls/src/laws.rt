@@ -1,6 +1,7 @@
-//! What follows from the definitions, each law the contract of a function that does nothing.
+//! What follows from the definitions, each law the contract of a function that at most calls other laws.
 
-ghost use Rattle.std.specs.Prelude.{◌≡◌, ◌+◌, ◌<◌, ◌≤◌, ◌++◌, ◌∷◌, [], ℕ, List, Ok, length};
+ghost use Rattle.std.specs.Prelude.{◌≡◌, ◌+◌, ◌<◌, ◌≤◌, ◌++◌, ◌∷◌, [], ℕ, List, Ok, Err, length};
+ghost use Rattle.mrp_rows.specs.declared.fault.Fault.{Fault};
 ghost use Rattle.mrp_rows.specs.Joined.{Part};
 ghost use Rattle.mrp_rows.specs.Left.{Cells};
 ghost use Rattle.mrp_tables.specs.declared.rows.ScriptRow.{ScriptRow};
@@ -14,8 +15,10 @@ ghost use Rattle.mrp_calls.specs.Answers.{Answers};
 ghost use Rattle.mrp_calls.specs.Batches.{AreAnswered};
 ghost use Rattle.mrp_calls.specs.CallRecord.{IsRecordLine, ReadsBack, record_text};
 ghost use Rattle.mrp_calls.specs.Desk.{Desk};
-ghost use Rattle.mrp_calls.specs.Journals.{AnswersFolder, AnswersJournal, GoesOn, script_in, with_script};
+ghost use Rattle.mrp_calls.specs.Journals.{AnswersFolder, AnswersJournal, GoesOn, IsOneRecord, script_in, with_script};
 ghost use Rattle.mrp_calls.specs.LineCall.{call_of_line};
+
+use mrp_tables::laws::accepted_tables_are_of_their_texts;
 
 /// What is journalled for a line that makes a call.
 pub fn records()
@@ -35,6 +38,9 @@ pub fn journals()
     // It is read as the rows that it had, and behind them the line's call.
     ensures rows { (t : Tables) (journal line : List ℕ) (script : List ScriptRow) (r : Cells) (given : ScriptRow) → IsTable journal → script_in t.calendar t.items journal ≡ Ok script → length script < MOST_ROWS
         → call_of_line t (length script + 1) line ≡ Ok (r, given) → script_in t.calendar t.items (journal ++ record_text given.call r) ≡ Ok (script ++ given ∷ []) }
+    // A line of one record that is refused is refused as the journal is that has it behind its records.
+    ensures refused { (t : Tables) (journal line : List ℕ) (script : List ScriptRow) (cells : List (List ℕ)) (f : Fault) → IsTable journal → script_in t.calendar t.items journal ≡ Ok script → length script < MOST_ROWS
+        → IsOneRecord line cells → call_of_line t (length script + 1) line ≡ Err f → script_in t.calendar t.items (journal ++ line) ≡ Err f }
 {}
 
 /// Lines that a desk answered one after the other.
@@ -52,4 +58,6 @@ pub fn folders()
         → AnswersFolder others (journal ++ records) new }
     // The history of its day begins with the desk's entries.
     ensures history { (others : List Part) (journal : List ℕ) (d : Desk) (on : AnswersFolder others journal d) (h : History) → AnswersScript (with_script d.tables on.script) h → GoesOn d on.script h }
-{}
+{
+    accepted_tables_are_of_their_texts();
+}
