@@ -54,12 +54,12 @@ unfolding parts_of
 parts-behind [] ms none = λ i. (none i, (parts_of ms).1)
 parts-behind (l ∷ ls) ms none = by (is_section_line l) (parts-behind ls ms none)
   where
-    by : (b : Bool) → parts_of (ls ++ ms) ≡ ((parts_of ls).0, (parts_of ls).1 ++ (parts_of ms).1)
-        → (if b then ([], record { line = l; text = (parts_of (ls ++ ms)).0 } ∷ (parts_of (ls ++ ms)).1) else (l ++ (parts_of (ls ++ ms)).0, (parts_of (ls ++ ms)).1))
-        ≡ ((if b then ([], record { line = l; text = (parts_of ls).0 } ∷ (parts_of ls).1) else (l ++ (parts_of ls).0, (parts_of ls).1)).0,
-        (if b then ([], record { line = l; text = (parts_of ls).0 } ∷ (parts_of ls).1) else (l ++ (parts_of ls).0, (parts_of ls).1)).1 ++ (parts_of ms).1)
-    by true more = rw more refl
-    by false more = rw more refl
+    cut : Bool → Parts → Parts
+    cut b parts = if b then ([], record { line = l; text = parts.0 } ∷ parts.1) else (l ++ parts.0, parts.1)
+
+    by : (b : Bool) → parts_of (ls ++ ms) ≡ ((parts_of ls).0, (parts_of ls).1 ++ (parts_of ms).1) → cut b (parts_of (ls ++ ms)) ≡ ((cut b (parts_of ls)).0, (cut b (parts_of ls)).1 ++ (parts_of ms).1)
+    by true more = ap (cut true) more
+    by false more = ap (cut false) more
 
 one-part : (journal : List ℕ) → has_section_line journal ≡ false → sections_in (joined (script_part journal ∷ [])) ≡ ([], script_section journal ∷ [])
 unfolding script_part

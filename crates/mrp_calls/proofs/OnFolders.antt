@@ -4,6 +4,7 @@ use Rattle.std.specs.Prelude.{if◌then◌else◌, flat_map, map}
 use Rattle.std.specs.List.{enumerate_from, list_any}
 use Rattle.std.proofs.lemmas.List.Concat.{flat_map-append}
 use Rattle.mrp_qty.specs.Reading.{◌>>=◌}
+use Rattle.mrp_cal.specs.Calendar.{ShopCalendar}
 use Rattle.mrp_rows.specs.declared.fault.Fault.{Fault}
 use Rattle.mrp_rows.specs.declared.fault.Table.TheVariants as t
 use Rattle.mrp_rows.specs.Bundle.{bundle_of, text_in}
@@ -11,9 +12,10 @@ use Rattle.mrp_rows.specs.Columns.{layout_of}
 use Rattle.mrp_rows.specs.Joined.{Part}
 use Rattle.mrp_rows.specs.Together.{has_section_line}
 use Rattle.mrp_rows.proofs.TextLaws.{whole_step}
+use Rattle.mrp_tables.specs.declared.item.Item.{Item}
 use Rattle.mrp_tables.specs.declared.rows.ScriptRow.{ScriptRow}
 use Rattle.mrp_tables.specs.Laws.{AreOfTheirTexts}
-use Rattle.mrp_tables.specs.Readers.{calendar_in, items_in, table_in}
+use Rattle.mrp_tables.specs.Readers.{calendar_in, calendar_table_in, items_in, table_in}
 use Rattle.mrp_tables.specs.Reading.{rows_of}
 use Rattle.mrp_tables.specs.Tables.{Tables, tables_in}
 use Rattle.mrp_master.specs.Supply.{supply_of}
@@ -39,6 +41,11 @@ same-ok a b e = cc
 
 bound : {A B : Type 0} (o : Result A Fault) (f : A → Result B Fault) (x : A) → o ≡ Ok x → (o >>= f) ≡ f x
 bound o f x e = rw e refl
+
+-- what a script reads as, beside a calendar and items
+script-table : (texts : List (List ℕ)) (calendar : ShopCalendar) (items : List Item) → calendar_in texts ≡ Ok calendar → items_in texts ≡ Ok items
+    → table_in texts t.Script ≡ rows_of (script_reads calendar items) (layout_of t.Script) (text_in texts t.Script)
+script-table texts calendar items is_calendar is_items = rw (is_calendar, is_items) refl
 
 -- nine texts are read as tables; with another script that is read, they are read as these tables with its rows
 tables-again : (a0 a1 a2 a3 a4 a5 a6 a7 one other : List ℕ) (tables : Tables) (script : List ScriptRow) → tables_in (a0 ∷ a1 ∷ a2 ∷ a3 ∷ a4 ∷ a5 ∷ a6 ∷ a7 ∷ one ∷ []) ≡ Ok tables
@@ -70,9 +77,9 @@ tables-again a0 a1 a2 a3 a4 a5 a6 a7 one other tables script e reads =
       script = rows.0;
     } in
     let same : made ≡ tables = same-ok made tables rows.2 in
-    let is_calendar : calendar_in new ≡ Ok dated.0.calendar = rw dated.1 refl in
+    let is_calendar : calendar_in new ≡ Ok dated.0.calendar = bound (calendar_table_in new) (λ table. Ok table.calendar) dated.0 dated.1 in
     let is_items : items_in new ≡ Ok items.0 = items.1 in
-    let read : table_in new t.Script ≡ rows_of (script_reads dated.0.calendar items.0) (layout_of t.Script) other = rw (is_calendar, is_items) refl in
+    let read : table_in new t.Script ≡ rows_of (script_reads dated.0.calendar items.0) (layout_of t.Script) other = script-table new dated.0.calendar items.0 is_calendar is_items in
     let P : Tables → Type 0 = λ x. rows_of (script_reads x.calendar x.items) (layout_of t.Script) other ≡ Ok script → tables_in new ≡ Ok (with_script x script) in
     let whole : P made = λ own.
         bound (table_in new t.Calendar) _ dated.0 dated.1 ∙ bound (table_in new t.Items) _ items.0 items.1 ∙ bound (table_in new t.Centres) _ centres.0 centres.1
@@ -90,7 +97,7 @@ script-read tell texts tables e =
     let of = tell texts tables e in
     let is_calendar : calendar_in texts ≡ Ok tables.calendar = rw of.calendar refl in
     let is_items : items_in texts ≡ Ok tables.items = of.items in
-    sym (rw (is_calendar, is_items) refl) ∙ of.script
+    sym (script-table texts tables.calendar tables.items is_calendar is_items) ∙ of.script
 
 -- the journal of a folder
 pub of-folder : TextsTell → (others : List Part) (journal : List ℕ) (d : Desk) → AnswersFolder others journal d → AnswersJournal journal d

@@ -80,8 +80,11 @@ row-refused tables rows number line cells f within one e = by (length cells == 6
         ap (λ (b : Bool). if b then or_columns number (only_of t.Script number (records_of line)) else Err (columns_fault t.Script number)) one.whole
         ∙ ap (λ (rs : List (List (List ℕ))). or_columns number (only_of t.Script number rs)) one.cells_are
 
-    said : (b : Bool) → (length cells == 6) ≡ b → (read b >>= λ r. script_row tables.calendar tables.items r >>= λ call. Ok (r, call)) ≡ Err f
-    said b is = ap (λ (o : Result Cells Fault). o >>= λ r. script_row tables.calendar tables.items r >>= λ call. Ok (r, call)) (ap read (sym is) ∙ sym cells-are) ∙ e
+    call_of : Result Cells Fault → Result (Cells × ScriptRow) Fault
+    call_of o = o >>= λ r. script_row tables.calendar tables.items r >>= λ call. Ok (r, call)
+
+    said : (b : Bool) → (length cells == 6) ≡ b → call_of (read b) ≡ Err f
+    said b is = ap call_of (ap read (sym is) ∙ sym cells-are) ∙ e
 
     by : (b : Bool) → (length cells == 6) ≡ b → rows_from (script_reads tables.calendar tables.items) (layout_of t.Script) rows number (cells ∷ []) ≡ Err f
     by true is =

@@ -71,15 +71,22 @@ first-weight [] s cells cell r rs e = by (ends_at_end s) (sym (records-none s ce
     by : (b : Bool) → (if b then (cells ++ (cell ∷ [])) ∷ [] else []) ≡ r ∷ rs → weight r ≤ weight cells + length cell + 0
     by true h = omega (arith, weight-snoc cells cell, ap weight (first-same (cells ++ (cell ∷ [])) r [] rs h))
     by false h = absurd cc
-first-weight (c ∷ xs) s cells cell r rs e = by (is_end (step default_config s c).1) refl (sym (stepped-is s cells cell c xs) ∙ e)
+first-weight (c ∷ xs) s cells cell r rs e =
+    by (is_end (step default_config s c).1) refl (sym (stepped-is s cells cell c xs) ∙ e)
+    (λ h. first-weight xs (step default_config s c).0 (fields_after (step default_config s c).1 cells cell) (field_after (step default_config s c).1 c cell) r rs h)
   where
-    by : (b : Bool) → is_end (step default_config s c).1 ≡ b → stepped (step default_config s c) cells cell c xs ≡ r ∷ rs → weight r ≤ weight cells + length cell + length (c ∷ xs)
-    by true is h =
-        let first = first-same (fields_after (step default_config s c).1 cells cell) r (records_in (step default_config s c).0 [] [] xs) rs (rw is at h) in
+    by : (b : Bool) → is_end (step default_config s c).1 ≡ b
+        → (if b then fields_after (step default_config s c).1 cells cell ∷ records_in (step default_config s c).0 [] [] xs
+            else records_in (step default_config s c).0 (fields_after (step default_config s c).1 cells cell) (field_after (step default_config s c).1 c cell) xs) ≡ r ∷ rs
+        → (records_in (step default_config s c).0 (fields_after (step default_config s c).1 cells cell) (field_after (step default_config s c).1 c cell) xs ≡ r ∷ rs
+            → weight r ≤ weight (fields_after (step default_config s c).1 cells cell) + length (field_after (step default_config s c).1 c cell) + length xs)
+        → weight r ≤ weight cells + length cell + length (c ∷ xs)
+    by true is h more =
+        let first = first-same (fields_after (step default_config s c).1 cells cell) r (records_in (step default_config s c).0 [] [] xs) rs h in
         omega (arith, ended-weight (step default_config s c).1 cells cell is, ap weight first)
-    by false is h =
-        let more = first-weight xs (step default_config s c).0 (fields_after (step default_config s c).1 cells cell) (field_after (step default_config s c).1 c cell) r rs (rw is at h) in
-        omega (arith, more, gone-weight (step default_config s c).1 c cells cell)
+    by false is h more =
+        let rest = more h in
+        omega (arith, rest, gone-weight (step default_config s c).1 c cells cell)
 
 escaped-length : (xs : List ℕ) → length (escaped default_writer xs) ≤ 2 * length xs
 unfolding escaped

@@ -7,7 +7,7 @@ use Rattle.mrp_cal.specs.Calendar.{ShopCalendar}
 use Rattle.mrp_rows.specs.declared.fault.Fault.{Fault}
 use Rattle.mrp_rows.specs.declared.fault.Table.TheVariants as t
 use Rattle.mrp_rows.specs.Columns.{Layout, layout_of}
-use Rattle.mrp_rows.specs.Left.{Cells}
+use Rattle.mrp_rows.specs.Left.{Cells, Left}
 use Rattle.mrp_rows.specs.Next.{after_header, columns_fault, header_fault, is_header, next_number}
 use Rattle.mrp_rows.specs.Only.{only_of}
 use Rattle.mrp_rows.specs.Records.{records_of}
@@ -37,9 +37,7 @@ bound o f x e = rw e refl
 rows-on : {X : Type 0} (read : Reads X) (own : Layout) (cells : List (List ℕ)) (left : List (List (List ℕ))) (before rows : List X) (number : ℕ) → rows_from read own before number left ≡ Ok rows
     → rows_from read own before number (left ++ cells ∷ []) ≡ rows_from read own rows (number_behind number left) (cells ∷ [])
 unfolding rows_from
-rows-on read own cells [] before rows number e =
-    let same : before ≡ rows = ok-same before rows e in
-    rw same refl
+rows-on {X} read own cells [] before rows number e = ap (λ (b : List X). rows_from read own b number (cells ∷ [])) (ok-same before rows e)
 rows-on read own cells (c ∷ left) before rows number e =
     let r = whole_step (admitted (read.limit before) own (record { table = own.table; number = number; cells = c })) _ rows e in
     let x = whole_step (read.row before r.0) _ rows r.2 in
@@ -49,7 +47,7 @@ rows-on read own cells (c ∷ left) before rows number e =
 -- as many rows as records
 rows-count : {X : Type 0} (read : Reads X) (own : Layout) (left : List (List (List ℕ))) (before rows : List X) (number : ℕ) → rows_from read own before number left ≡ Ok rows → length rows ≡ length before + length left
 unfolding rows_from
-rows-count read own [] before rows number e = omega (arith, ap (length {A = _}) (ok-same before rows e))
+rows-count {X} read own [] before rows number e = let same = ap (length {A = X}) (ok-same before rows e) in omega (arith, same)
 rows-count read own (c ∷ left) before rows number e =
     let r = whole_step (admitted (read.limit before) own (record { table = own.table; number = number; cells = c })) _ rows e in
     let x = whole_step (read.row before r.0) _ rows r.2 in
@@ -118,8 +116,11 @@ pub behind-header : (read : Reads ScriptRow) (records : List (List (List ℕ))) 
 behind-header read [] cells rows e few = absurd cc
 behind-header read (header ∷ records) cells rows e few = by (is_header (layout_of t.Script) header) e
   where
+    begun : List (List (List ℕ)) → Bool → Result Left Fault
+    begun left b = if b then Ok (record { layout = layout_of t.Script; number = 1; left = left; is_over = false }) else Err (header_fault t.Script)
+
     from : List (List (List ℕ)) → Bool → Result (List ScriptRow) Fault
-    from left b = (if b then Ok (record { layout = layout_of t.Script; number = 1; left = left; is_over = false }) else Err (header_fault t.Script)) >>= λ all. rows_from read (layout_of t.Script) [] all.number all.left
+    from left b = begun left b >>= λ all. rows_from read (layout_of t.Script) [] all.number all.left
 
     by : (b : Bool) → from records b ≡ Ok rows → from (records ++ cells ∷ []) b ≡ rows_from read (layout_of t.Script) rows (length rows + 1) (cells ∷ [])
     by true h =
