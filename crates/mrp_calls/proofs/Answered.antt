@@ -1,22 +1,20 @@
 -- Lines that were answered one after the other: their answers, entries and records.
-use Rattle.std.proofs.Common.{◌≡◌, ◌∙◌, ◌⊎◌, ◌+◌, ◌-◌, ◌≤◌, ℕ, suc, List, [], ◌∷◌, ◌++◌, length, Option, Some, None, refl, sym, ap, subst, append_assoc, append-nil, length-append, inl, inr, arith}
-use Rattle.std.specs.Prelude.{All, flat_map}
-use Rattle.std.specs.List.{concat, enumerate_from, filter_map}
+use Rattle.std.proofs.Common.{◌≡◌, ◌∙◌, ◌+◌, ◌≤◌, ℕ, suc, List, [], ◌∷◌, ◌++◌, length, Some, None, refl, sym, ap, subst, append_assoc, append-nil, length-append, inl, inr, arith}
+use Rattle.std.specs.List.{enumerate_from}
 use Rattle.std.proofs.lemmas.List.Elements.{All-cons, All-nil}
-use Rattle.mrp_tables.specs.Facts.{IsItem}
 use Rattle.mrp_turn.specs.declared.log.Entry.{Entry}
 use Rattle.mrp_book.specs.declared.call.Call.{Call}
 use Rattle.mrp_book.specs.declared.reply.Reply.{Reply}
 use Rattle.mrp_book.specs.History.{next_number}
 use Rattle.mrp_journal.specs.Lines.{IsLine}
-use Rattle.mrp_calls.specs.Answers.{Answers, AnswersLine, entered, entry_of}
+use Rattle.mrp_calls.specs.Answers.{Answers, entered, entry_of}
 use Rattle.mrp_calls.specs.Batches.{AreAnswered, IsRowOf, Said}
-use Rattle.mrp_calls.specs.CallRecord.{IsRecordLine, record_text}
+use Rattle.mrp_calls.specs.CallRecord.{IsRecordLine}
 use Rattle.mrp_calls.specs.Desk.{Desk}
 use Rattle.mrp_calls.proofs.AnswerLines.{entry-line, short-line}
 use Rattle.mrp_calls.proofs.RecordLines.{line-of}
 use Rattle.mrp_calls.proofs.ShortRecords.{record-short}
-use Rattle.mrp_calls.proofs.Steps.{MakesEntry, StandsAlone, step-of}
+use Rattle.mrp_calls.proofs.Steps.{MakesEntry, step-of}
 
 -- an answer is one line
 abbrev IsOneLine : Said → Type 0

@@ -1,6 +1,6 @@
 -- The folder of an open desk, whose journal goes on.
-use Rattle.std.proofs.Common.{◌≡◌, ◌∙◌, ◌+◌, ◌≤◌, ℕ, Bool, true, false, List, [], ◌∷◌, ◌++◌, length, Result, Ok, refl, sym, ap, subst, append_assoc, append-nil, length-append, arith}
-use Rattle.std.specs.Prelude.{if◌then◌else◌, flat_map, map}
+use Rattle.std.proofs.Common.{◌≡◌, ◌∙◌, ◌+◌, ℕ, Bool, true, false, List, [], ◌∷◌, ◌++◌, length, Result, Ok, refl, sym, ap, subst, append_assoc, append-nil, length-append, arith}
+use Rattle.std.specs.Prelude.{if◌then◌else◌, flat_map}
 use Rattle.std.specs.List.{enumerate_from, list_any}
 use Rattle.std.proofs.lemmas.List.Concat.{flat_map-append}
 use Rattle.mrp_qty.specs.Reading.{◌>>=◌}
@@ -28,7 +28,7 @@ use Rattle.mrp_book.specs.Standing.{History}
 use Rattle.mrp_book.proofs.Histories.{history-unique, legal-front}
 use Rattle.mrp_report.specs.section.HistoryText.{entry_text, history_head, history_text}
 use Rattle.mrp_script.specs.Opened.{IsAccepted}
-use Rattle.mrp_script.specs.Script.{AnswersScript, Script, is_run, record_of, script_of, with_run}
+use Rattle.mrp_script.specs.Script.{AnswersScript, Script, is_run, with_run}
 use Rattle.mrp_calls.specs.Answers.{Answers}
 use Rattle.mrp_calls.specs.Desk.{Desk}
 use Rattle.mrp_calls.specs.Journals.{AnswersFolder, AnswersJournal, GoesOn, bundle_with, script_in, script_reads, with_script}
@@ -82,9 +82,9 @@ tables-again a0 a1 a2 a3 a4 a5 a6 a7 one other tables script e reads =
     let read : table_in new t.Script ≡ rows_of (script_reads dated.0.calendar items.0) (layout_of t.Script) other = script-table new dated.0.calendar items.0 is_calendar is_items in
     let P : Tables → Type 0 = λ x. rows_of (script_reads x.calendar x.items) (layout_of t.Script) other ≡ Ok script → tables_in new ≡ Ok (with_script x script) in
     let whole : P made = λ own.
-        bound (table_in new t.Calendar) _ dated.0 dated.1 ∙ bound (table_in new t.Items) _ items.0 items.1 ∙ bound (table_in new t.Centres) _ centres.0 centres.1
-        ∙ bound (table_in new t.Stock) _ stock.0 stock.1 ∙ bound (table_in new t.Receipts) _ receipts.0 receipts.1 ∙ bound (table_in new t.Bills) _ bills.0 bills.1
-        ∙ bound (table_in new t.Routings) _ routings.0 routings.1 ∙ bound (table_in new t.Master) _ master.0 master.1 ∙ bound (table_in new t.Script) _ script (read ∙ own) in
+    bound (table_in new t.Calendar) _ dated.0 dated.1 ∙ bound (table_in new t.Items) _ items.0 items.1 ∙ bound (table_in new t.Centres) _ centres.0 centres.1
+    ∙ bound (table_in new t.Stock) _ stock.0 stock.1 ∙ bound (table_in new t.Receipts) _ receipts.0 receipts.1 ∙ bound (table_in new t.Bills) _ bills.0 bills.1
+    ∙ bound (table_in new t.Routings) _ routings.0 routings.1 ∙ bound (table_in new t.Master) _ master.0 master.1 ∙ bound (table_in new t.Script) _ script (read ∙ own) in
     subst P same whole reads
 
 -- each table of accepted texts is what its own text reads as

@@ -1,21 +1,19 @@
 -- A journal behind which the records of answered lines are appended.
-use Rattle.std.proofs.Common.{◌≡◌, ◌∙◌, ◌⊎◌, ◌+◌, ◌<◌, ◌≤◌, ℕ, List, [], ◌∷◌, ◌++◌, length, Ok, refl, sym, ap, subst, append_assoc, append-nil, inl, inr, arith}
+use Rattle.std.proofs.Common.{◌≡◌, ◌∙◌, ◌+◌, ◌<◌, ℕ, List, [], ◌∷◌, ◌++◌, length, Ok, sym, ap, subst, append_assoc, append-nil, inl, inr, arith}
 use Rattle.std.specs.Prelude.{map}
 use Rattle.std.proofs.lemmas.List.{length-map, map-append}
-use Rattle.mrp_tables.specs.declared.rows.ScriptRow.{ScriptRow}
 use Rattle.mrp_master.specs.Supply.{supply_of}
 use Rattle.mrp_turn.specs.declared.log.Entry.{Entry}
 use Rattle.mrp_book.specs.declared.call.Call.{Call}
 use Rattle.mrp_book.specs.declared.reply.Reply.{Reply}
-use Rattle.mrp_book.specs.History.{asked, next_number}
+use Rattle.mrp_book.specs.History.{asked}
 use Rattle.mrp_book.proofs.Histories.{legal-more}
 use Rattle.mrp_script.proofs.ScriptCalls.{call-fits}
 use Rattle.mrp_script.specs.Script.{Script, record_of}
-use Rattle.mrp_journal.specs.Rows.{IsTable}
 use Rattle.mrp_calls.specs.Answers.{Answers, entered, entry_of}
 use Rattle.mrp_calls.specs.CallRecord.{record_text}
 use Rattle.mrp_calls.specs.Desk.{Desk}
-use Rattle.mrp_calls.specs.Journals.{AnswersJournal, script_in}
+use Rattle.mrp_calls.specs.Journals.{AnswersJournal}
 use Rattle.mrp_calls.specs.LineCall.{call_of_line}
 use Rattle.mrp_calls.proofs.Steps.{MakesEntry, step-of}
 use Rattle.mrp_calls.proofs.TableRows.{call-behind}

@@ -1,6 +1,6 @@
 -- The cells of a call: no line ends in one of them.
-use Rattle.std.proofs.Common.{◌≡◌, ◌∙◌, ◌||◌, ◌<◌, ◌≤◌, ℕ, zero, suc, Bool, true, false, List, [], ◌∷◌, ◌++◌, length, Option, Some, None, Ok, Err, refl, sym, ap, nat_eq, arith}
-use Rattle.std.specs.Prelude.{◌==◌, ◌&&◌, ◌-◌, not, if◌then◌else◌, nat_le, slice_index, codes, position}
+use Rattle.std.proofs.Common.{◌≡◌, ◌∙◌, ◌||◌, ◌<◌, ◌≤◌, ℕ, zero, suc, Bool, true, false, List, [], ◌∷◌, length, Option, Some, None, Ok, refl, sym, ap, nat_eq, arith}
+use Rattle.std.specs.Prelude.{◌==◌, ◌&&◌, ◌-◌, nat_le, slice_index, codes}
 use Rattle.std.specs.Cmp.Lexicographic.{pointwise}
 use Rattle.std.specs.Char.{is_ascii_digit}
 use Rattle.std.specs.List.{list_all, list_any}
@@ -8,8 +8,8 @@ use Rattle.std.proofs.lemmas.Bool.{eqb-true, false≢true, leb-true}
 use Rattle.jiff.specs.Types.{Date}
 use Rattle.mrp_cal.specs.DateText.{◌>>=◌, date_of, digits_date, has_date_form, two_digits}
 use Rattle.mrp_rows.specs.Bundle.{ends_line}
-use Rattle.mrp_rows.specs.Cell.{date_cell, name_of, number_cell, or_code, word_of}
-use Rattle.mrp_rows.specs.Name.{has_name_ends, is_name, is_printable, name_in}
+use Rattle.mrp_rows.specs.Cell.{date_cell, name_of, number_cell, word_of}
+use Rattle.mrp_rows.specs.Name.{has_name_ends, is_name, is_printable}
 use Rattle.mrp_tables.specs.Limits.{call_words}
 
 -- no line ends in a text

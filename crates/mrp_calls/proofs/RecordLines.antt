@@ -1,14 +1,12 @@
 -- The record of a call is one line, which begins with a digit, and which reads as the call.
-use Rattle.std.proofs.Common.{◌≡◌, ◌≢◌, ◌∙◌, ℕ, Bool, true, false, List, [], ◌∷◌, ◌++◌, Ok, Err, refl, sym, ap, subst}
-use Rattle.std.specs.Prelude.{◌==◌, ◌&&◌, Result, if◌then◌else◌}
+use Rattle.std.proofs.Common.{◌≡◌, ◌≢◌, ◌∙◌, ℕ, Bool, true, false, List, [], ◌∷◌, Ok, Err, refl, sym, ap, subst}
+use Rattle.std.specs.Prelude.{◌==◌, Result, if◌then◌else◌}
 use Rattle.std.specs.Char.{is_ascii_digit}
 use Rattle.std.specs.List.{AllByRecursion, list_all}
 use Rattle.std.proofs.lemmas.Bool.{eqb-true, false≢true}
 use Rattle.csv.specs.Reading.{strip_bom}
 use Rattle.csv.specs.Writing.{default_writer, row_text}
 use Rattle.csv.specs.declared.parser.State.TheVariants as st
-use Rattle.jiff.specs.Types.{Date}
-use Rattle.mrp_qty.specs.Reading.{◌>>=◌}
 use Rattle.mrp_cal.specs.Calendar.{ShopCalendar}
 use Rattle.mrp_rows.specs.declared.fault.Fault.{Fault}
 use Rattle.mrp_rows.specs.Cell.{blame, cell_at, date_cell, name_of, number_cell, word_of}
@@ -24,13 +22,12 @@ use Rattle.mrp_tables.specs.Items.{known}
 use Rattle.mrp_tables.specs.Limits.{call_words}
 use Rattle.mrp_tables.specs.Script.{ask_cells, book_cells, call_at, cancel_cells, mastered, script_row, spot_of, when_cells}
 use Rattle.mrp_tables.specs.Tables.{Tables}
-use Rattle.mrp_journal.specs.Rows.{IsRow}
 use Rattle.mrp_journal.proofs.RowsBehind.{row-record}
 use Rattle.mrp_calls.specs.CallRecord.{IsRecordLine, ReadsBack, kept_cells, record_text}
 use Rattle.mrp_calls.specs.LineCall.{call_of_line, cells_of_line}
 use Rattle.mrp_calls.proofs.PlainCells.{IsPlain, date-plain, name-plain, number-digits, number-plain, number-some, word-plain}
 use Rattle.mrp_calls.proofs.PlainRows.{row-first, row-line}
-use Rattle.mrp_calls.proofs.ReadBack.{kept_record, read-back}
+use Rattle.mrp_calls.proofs.ReadBack.{read-back}
 
 pub ok-same : {X : Type 0} (a b : X) → ◌≡◌ {A = Result X Fault} (Ok a) (Ok b) → a ≡ b
 ok-same a b e = cc

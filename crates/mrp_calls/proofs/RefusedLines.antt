@@ -1,11 +1,10 @@
 -- A refused line behind a journal.
-use Rattle.std.proofs.Common.{◌≡◌, ◌≢◌, ◌∙◌, ◌+◌, ◌<◌, ◌≤◌, ℕ, Bool, true, false, List, [], ◌∷◌, ◌++◌, length, Option, Some, None, Result, Ok, Err, refl, sym, ap, subst, append_assoc, append-nil, arith}
+use Rattle.std.proofs.Common.{◌≡◌, ◌∙◌, ◌+◌, ◌<◌, ◌≤◌, ℕ, Bool, true, false, List, [], ◌∷◌, ◌++◌, length, Some, None, Result, Ok, Err, refl, sym, ap, append_assoc, append-nil, arith}
 use Rattle.std.specs.Prelude.{◌==◌, if◌then◌else◌, nat_lt}
 use Rattle.std.proofs.lemmas.Bool.{lt-leb}
 use Rattle.csv.specs.Reading.{strip_bom}
 use Rattle.csv.specs.declared.parser.State.TheVariants as st
 use Rattle.mrp_qty.specs.Reading.{◌>>=◌}
-use Rattle.mrp_cal.specs.Calendar.{ShopCalendar}
 use Rattle.mrp_rows.specs.declared.fault.Fault.{Fault}
 use Rattle.mrp_rows.specs.declared.fault.Table.TheVariants as t
 use Rattle.mrp_rows.specs.declared.faults.TheConstants as faults
@@ -15,7 +14,6 @@ use Rattle.mrp_rows.specs.Left.{Cells}
 use Rattle.mrp_rows.specs.Next.{after_header, columns_fault}
 use Rattle.mrp_rows.specs.Only.{only_of}
 use Rattle.mrp_rows.specs.Records.{records_in, records_of}
-use Rattle.mrp_tables.specs.declared.item.Item.{Item}
 use Rattle.mrp_tables.specs.declared.rows.ScriptRow.{ScriptRow}
 use Rattle.mrp_tables.specs.Reading.{admitted, rows_from}
 use Rattle.mrp_tables.specs.Script.{script_row}
@@ -25,7 +23,7 @@ use Rattle.mrp_journal.proofs.RecordsBehind.{records-behind}
 use Rattle.mrp_journal.specs.Rows.{IsTable}
 use Rattle.mrp_journal.specs.Table.{body_of, table_records}
 use Rattle.mrp_calls.specs.Journals.{IsOneRecord, script_in, script_reads}
-use Rattle.mrp_calls.specs.LineCall.{call_of_line, cells_of_line, is_whole, or_columns}
+use Rattle.mrp_calls.specs.LineCall.{call_of_line, cells_of_line, or_columns}
 use Rattle.mrp_calls.proofs.TableRows.{behind-header}
 
 feed-alone : records_in st.StartRecord [] [] (10 ∷ []) ≡ []

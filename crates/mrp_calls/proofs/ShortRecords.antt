@@ -1,9 +1,9 @@
 -- No record is longer than a folder's room has to be.
-use Rattle.std.proofs.Common.{◌≡◌, ◌≢◌, ◌∙◌, ◌||◌, ◌+◌, ◌*◌, ◌<◌, ◌≤◌, ℕ, suc, Bool, true, false, List, [], ◌∷◌, ◌++◌, length, Option, Some, None, Ok, Err, refl, sym, ap, subst, arith, length-append, inl, inr}
-use Rattle.std.specs.Prelude.{◌==◌, ◌&&◌, Result, codes, if◌then◌else◌, nat_le, nat_lt, slice_index, ◌-◌}
+use Rattle.std.proofs.Common.{◌≡◌, ◌∙◌, ◌+◌, ◌*◌, ◌≤◌, ℕ, Bool, true, false, List, [], ◌∷◌, ◌++◌, length, Some, None, Ok, Err, refl, sym, ap, subst, arith, length-append, inl, inr}
+use Rattle.std.specs.Prelude.{◌==◌, ◌&&◌, Result, if◌then◌else◌, nat_le, nat_lt, slice_index, ◌-◌}
 use Rattle.std.specs.Char.{is_ascii_digit}
 use Rattle.std.specs.List.{list_all, list_any}
-use Rattle.std.proofs.lemmas.Bool.{cases_Bool, eqb-true, leb-true}
+use Rattle.std.proofs.lemmas.Bool.{cases_Bool, leb-true}
 use Rattle.csv.specs.Machine.{ends_at_end, field_after, fields_after, is_end, step}
 use Rattle.csv.specs.Reading.{default_config}
 use Rattle.csv.specs.Writing.{default_writer, escaped, field_text, fields_text, is_blank, needs_byte, row_text}
@@ -37,7 +37,7 @@ use Rattle.mrp_calls.proofs.PlainCells.{and-three, date-ten, name-short, number-
 use Rattle.mrp_calls.proofs.PlainRows.{digits-bare}
 use Rattle.mrp_calls.proofs.RecordLines.{blamed, called, ok-same}
 use Rattle.mrp_calls.proofs.TableRows.{called-at}
-use Rattle.mrp_journal.proofs.RecordsBehind.{records-none, stepped, stepped-is}
+use Rattle.mrp_journal.proofs.RecordsBehind.{records-none, stepped-is}
 
 -- the bytes of cells
 abbrev pub weight : List (List ℕ) → ℕ
@@ -77,9 +77,9 @@ first-weight (c ∷ xs) s cells cell r rs e =
   where
     by : (b : Bool) → is_end (step default_config s c).1 ≡ b
         → (if b then fields_after (step default_config s c).1 cells cell ∷ records_in (step default_config s c).0 [] [] xs
-            else records_in (step default_config s c).0 (fields_after (step default_config s c).1 cells cell) (field_after (step default_config s c).1 c cell) xs) ≡ r ∷ rs
+        else records_in (step default_config s c).0 (fields_after (step default_config s c).1 cells cell) (field_after (step default_config s c).1 c cell) xs) ≡ r ∷ rs
         → (records_in (step default_config s c).0 (fields_after (step default_config s c).1 cells cell) (field_after (step default_config s c).1 c cell) xs ≡ r ∷ rs
-            → weight r ≤ weight (fields_after (step default_config s c).1 cells cell) + length (field_after (step default_config s c).1 c cell) + length xs)
+        → weight r ≤ weight (fields_after (step default_config s c).1 cells cell) + length (field_after (step default_config s c).1 c cell) + length xs)
         → weight r ≤ weight cells + length cell + length (c ∷ xs)
     by true is h more =
         let first = first-same (fields_after (step default_config s c).1 cells cell) r (records_in (step default_config s c).0 [] [] xs) rs h in

@@ -1,6 +1,6 @@
 -- The rows of a journal behind which a call's record is appended.
-use Rattle.std.proofs.Common.{◌≡◌, ◌≢◌, ◌∙◌, ◌+◌, ◌<◌, ◌≤◌, ℕ, suc, Bool, true, false, List, [], ◌∷◌, ◌++◌, length, Option, Some, None, Ok, Err, refl, sym, ap, subst, arith, length-append}
-use Rattle.std.specs.Prelude.{◌==◌, Result, if◌then◌else◌, min, nat_lt}
+use Rattle.std.proofs.Common.{◌≡◌, ◌∙◌, ◌+◌, ◌<◌, ◌≤◌, ℕ, Bool, true, false, List, [], ◌∷◌, ◌++◌, length, Some, None, Ok, Err, refl, sym, ap, subst, arith, length-append}
+use Rattle.std.specs.Prelude.{◌==◌, Result, if◌then◌else◌, nat_lt}
 use Rattle.std.proofs.lemmas.Bool.{lt-leb}
 use Rattle.mrp_qty.specs.Reading.{◌>>=◌}
 use Rattle.mrp_cal.specs.Calendar.{ShopCalendar}
@@ -24,11 +24,11 @@ use Rattle.mrp_rows.specs.Cell.{cell_at}
 use Rattle.mrp_journal.specs.Rows.{IsRow, IsTable}
 use Rattle.mrp_journal.specs.Table.{table_records}
 use Rattle.mrp_journal.proofs.RowsBehind.{row-behind}
-use Rattle.mrp_calls.specs.CallRecord.{IsRecordLine, kept_cells, record_text}
+use Rattle.mrp_calls.specs.CallRecord.{kept_cells, record_text}
 use Rattle.mrp_calls.specs.Journals.{script_in, script_reads}
 use Rattle.mrp_calls.specs.LineCall.{call_of_line, cells_of_line, is_whole, or_columns}
 use Rattle.mrp_calls.proofs.ReadBack.{kept_record, read-back}
-use Rattle.mrp_calls.proofs.RecordLines.{Known, called, known-of, line-of, ok-same, pair-same}
+use Rattle.mrp_calls.proofs.RecordLines.{called, known-of, line-of, ok-same, pair-same}
 
 bound : {A B : Type 0} (o : Result A Fault) (f : A → Result B Fault) (x : A) → o ≡ Ok x → (o >>= f) ≡ f x
 bound o f x e = rw e refl
