@@ -18,6 +18,7 @@ use Rattle.mrp_rows.proofs.TextLaws.{whole_step}
 use Rattle.mrp_journal.specs.Rows.{is_ended}
 use Rattle.mrp_journal.proofs.RowsBehind.{lines-behind}
 use Rattle.mrp_calls.specs.Journals.{bundle_with}
+use Rattle.mrp_calls.proofs.Results.{bound, ok-same}
 
 script_part : List ℕ → Part
 script_part journal = (t.Script, journal)
@@ -89,12 +90,6 @@ no-mark [] journal = bracket-mark _
 no-mark (part ∷ others) journal = bracket-mark _
 
 -- the script's text, placed last
-same-ok : {A : Type 0} (a b : A) → ◌≡◌ {A = Result A Fault} (Ok a) (Ok b) → a ≡ b
-same-ok a b e = cc
-
-bound : {A B : Type 0} (o : Result A Fault) (f : A → Result B Fault) (x : A) → o ≡ Ok x → (o >>= f) ≡ f x
-bound o f x e = rw e refl
-
 -- texts in which the script has a place: it was put there, and another can be put there instead
 pub record IsPlacedLast (texts : Texts) (count : ℕ) (before : List Section) (one other : List ℕ) (final : Texts) : Type 0 where
   pub place : 8 < length final → get_or final 8 None ≡ Some (section_text (script_section one).text)
@@ -124,7 +119,7 @@ last-placed texts count one other final e = by (is_some (get_or texts 8 None)) (
         → IsPlacedLast texts count [] one other final
     by true h made = absurd cc
     by false h made =
-        let same : set texts 8 (Some (section_text (script_section one).text)) ≡ final = same-ok _ final h in
+        let same : set texts 8 (Some (section_text (script_section one).text)) ≡ final = ok-same _ final h in
         subst (IsPlacedLast texts count [] one other) same (record {
           place = λ within. get_or-set_same texts 8 (Some (section_text (script_section one).text)) None (set-length texts (Some (section_text (script_section one).text)) within);
           again = made ∙ ap (λ (x : Texts). Ok x) (sym (set-set texts 8 (Some (section_text (script_section one).text)) (Some (section_text (script_section other).text))));
@@ -159,7 +154,7 @@ with_text texts script nine other = nine.calendar ∷ nine.items ∷ nine.centre
 
 some-text : (table : Table) (o : Option (List ℕ)) (x : List ℕ) → text_or_missing table o ≡ Ok x → o ≡ Some x
 some-text table None x e = absurd cc
-some-text table (Some y) x e = ap (λ (z : List ℕ). Some z) (same-ok y x e)
+some-text table (Some y) x e = ap (λ (z : List ℕ). Some z) (ok-same y x e)
 
 some-same : (x y : List ℕ) → ◌≡◌ {A = Option (List ℕ)} (Some x) (Some y) → x ≡ y
 some-same x y e = cc
@@ -186,7 +181,7 @@ all-again final one other texts place e =
     let last : get_or final 8 None ≡ Some p8.0 = some-text t.Script (get_or final 8 None) p8.0 p8.1 in
     let within : 8 < length final = within-nine final p8.0 last in
     let script : p8.0 ≡ one = some-same p8.0 one (sym last ∙ place within) in
-    let same : p0.0 ∷ p1.0 ∷ p2.0 ∷ p3.0 ∷ p4.0 ∷ p5.0 ∷ p6.0 ∷ p7.0 ∷ p8.0 ∷ [] ≡ texts = same-ok _ texts p8.2 in
+    let same : p0.0 ∷ p1.0 ∷ p2.0 ∷ p3.0 ∷ p4.0 ∷ p5.0 ∷ p6.0 ∷ p7.0 ∷ p8.0 ∷ [] ≡ texts = ok-same _ texts p8.2 in
     let new : Texts = set final 8 (Some other) in
     let nine : NineTexts texts one = record {
       calendar = p0.0;

@@ -1,3 +1,4 @@
+pub mod Results
 pub mod LineCells
 pub mod Lines
 pub mod Entered

@@ -1,11 +1,10 @@
 -- The folder of an open desk, whose journal goes on.
-use Rattle.std.proofs.Common.{◌≡◌, ◌∙◌, ◌+◌, ℕ, Bool, true, false, List, [], ◌∷◌, ◌++◌, length, Result, Ok, refl, sym, ap, subst, append_assoc, append-nil, length-append, arith}
+use Rattle.std.proofs.Common.{◌≡◌, ◌∙◌, ◌+◌, ℕ, Bool, true, false, List, [], ◌∷◌, ◌++◌, length, Ok, refl, sym, ap, subst, append_assoc, append-nil, length-append, arith}
 use Rattle.std.specs.Prelude.{if◌then◌else◌, flat_map}
 use Rattle.std.specs.List.{enumerate_from, list_any}
 use Rattle.std.proofs.lemmas.List.Concat.{flat_map-append}
 use Rattle.mrp_qty.specs.Reading.{◌>>=◌}
 use Rattle.mrp_cal.specs.Calendar.{ShopCalendar}
-use Rattle.mrp_rows.specs.declared.fault.Fault.{Fault}
 use Rattle.mrp_rows.specs.declared.fault.Table.TheVariants as t
 use Rattle.mrp_rows.specs.Bundle.{bundle_of, text_in}
 use Rattle.mrp_rows.specs.Columns.{layout_of}
@@ -35,12 +34,7 @@ use Rattle.mrp_calls.specs.Journals.{AnswersFolder, AnswersJournal, GoesOn, bund
 use Rattle.mrp_calls.proofs.Answered.{are-answered}
 use Rattle.mrp_calls.proofs.BundleTexts.{bundle-again, bundle-length, table_text}
 use Rattle.mrp_calls.proofs.OnJournals.{records-on}
-
-same-ok : {A : Type 0} (a b : A) → ◌≡◌ {A = Result A Fault} (Ok a) (Ok b) → a ≡ b
-same-ok a b e = cc
-
-bound : {A B : Type 0} (o : Result A Fault) (f : A → Result B Fault) (x : A) → o ≡ Ok x → (o >>= f) ≡ f x
-bound o f x e = rw e refl
+use Rattle.mrp_calls.proofs.Results.{bound, ok-same}
 
 -- what a script reads as, beside a calendar and items
 script-table : (texts : List (List ℕ)) (calendar : ShopCalendar) (items : List Item) → calendar_in texts ≡ Ok calendar → items_in texts ≡ Ok items
@@ -76,7 +70,7 @@ tables-again a0 a1 a2 a3 a4 a5 a6 a7 one other tables script e reads =
       master = master.0;
       script = rows.0;
     } in
-    let same : made ≡ tables = same-ok made tables rows.2 in
+    let same : made ≡ tables = ok-same made tables rows.2 in
     let is_calendar : calendar_in new ≡ Ok dated.0.calendar = bound (calendar_table_in new) (λ table. Ok table.calendar) dated.0 dated.1 in
     let is_items : items_in new ≡ Ok items.0 = items.1 in
     let read : table_in new t.Script ≡ rows_of (script_reads dated.0.calendar items.0) (layout_of t.Script) other = script-table new dated.0.calendar items.0 is_calendar is_items in

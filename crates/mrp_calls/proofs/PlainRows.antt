@@ -1,6 +1,6 @@
 -- Rows of csv whose cells are plain: each is one line.
 use Rattle.std.proofs.Common.{◌≡◌, ◌∙◌, ◌||◌, ℕ, Bool, true, false, List, [], ◌∷◌, ◌++◌, refl, sym, ap}
-use Rattle.std.specs.Prelude.{◌==◌, ◌&&◌, if◌then◌else◌}
+use Rattle.std.specs.Prelude.{◌==◌, if◌then◌else◌}
 use Rattle.std.specs.Char.{is_ascii_digit}
 use Rattle.std.specs.List.{AllByRecursion, list_all, list_any}
 use Rattle.std.proofs.lemmas.Bool.{cases_Bool, eqb-true, false≢true}
@@ -9,7 +9,7 @@ use Rattle.std.proofs.lemmas.List.Folds.{list_any-append}
 use Rattle.csv.specs.Writing.{default_writer, escaped, field_text, fields_text, is_blank, needs_byte, needs_quotes, row_body, row_text}
 use Rattle.mrp_rows.specs.Bundle.{ends_line}
 use Rattle.mrp_journal.specs.Lines.{IsLine}
-use Rattle.mrp_calls.proofs.PlainCells.{IsPlain}
+use Rattle.mrp_calls.proofs.PlainCells.{IsPlain, and-both}
 
 or-none : (a b : Bool) → a ≡ false → b ≡ false → (a || b) ≡ false
 or-none a b e f = rw (e, f) refl
@@ -71,10 +71,6 @@ digit-bare x e = by (x == 44) refl (x == 34) refl (x == 13) refl (x == 10) refl
     by false f false g true h d i = absurd (not 13 refl h)
     by false f false g false h true i = absurd (not 10 refl i)
     by false f false g false h false i = rw (f, g, h, i) refl
-
-and-both : (a b : Bool) → (a && b) ≡ true → (a ≡ true) × (b ≡ true)
-and-both true b e = (refl, e)
-and-both false b e = absurd cc
 
 pub digits-bare : (xs : List ℕ) → list_all is_ascii_digit xs ≡ true → needs_quotes default_writer xs ≡ false
 digits-bare [] e = refl

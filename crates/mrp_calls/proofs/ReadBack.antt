@@ -1,7 +1,6 @@
 -- A record of the cells that a call uses reads as that call.
 use Rattle.std.proofs.Common.{◌≡◌, ◌∙◌, ℕ, Bool, true, false, List, Ok, refl, sym, ap, subst}
 use Rattle.std.specs.Prelude.{◌==◌, if◌then◌else◌, Result}
-use Rattle.mrp_qty.specs.Reading.{◌>>=◌}
 use Rattle.mrp_cal.specs.Calendar.{ShopCalendar}
 use Rattle.mrp_rows.specs.declared.fault.Fault.{Fault}
 use Rattle.mrp_rows.specs.Cell.{blame, cell_at, date_cell, name_of, number_cell, word_of}
@@ -16,13 +15,11 @@ use Rattle.mrp_tables.specs.Items.{known}
 use Rattle.mrp_tables.specs.Limits.{call_words}
 use Rattle.mrp_tables.specs.Script.{ask_cells, book_cells, call_at, cancel_cells, mastered, script_row, spot_of, when_cells}
 use Rattle.mrp_calls.specs.CallRecord.{kept_cells}
+use Rattle.mrp_calls.proofs.Results.{bound, ok-same}
 
 -- a record with the cells that a call uses
 abbrev pub kept_record : ScriptCall → Cells → Cells
 kept_record own r = record { table = r.table; number = r.number; cells = kept_cells own r }
-
-ok-same : {X : Type 0} (a b : X) → ◌≡◌ {A = Result X Fault} (Ok a) (Ok b) → a ≡ b
-ok-same a b e = cc
 
 -- which call is read of the cells of each word
 book-is : (calendar : ShopCalendar) (items : List Item) (r : Cells) (own : ScriptCall) → book_cells calendar items r ≡ Ok own → (item week quantity : ℕ) × (s.Book item week quantity ≡ own)
@@ -112,9 +109,6 @@ read-back calendar items r row e =
     let Reads : ScriptRow → Type 0 = λ x. script_row calendar items (kept_record x.call r) ≡ Ok x in
     subst Reads is (back desk.0 place.0 own.0 desk.1 place.1 (call-back calendar items r place.0 own.0 own.1))
   where
-    bound : {A B : Type 0} (o : Result A Fault) (f : A → Result B Fault) (x : A) → o ≡ Ok x → (o >>= f) ≡ f x
-    bound o f x e = rw e refl
-
     desk-same : (own : ScriptCall) → cell_at (kept_record own r) 0 ≡ cell_at r 0
     desk-same (s.Book item week quantity) = refl
     desk-same (s.Cancel entry) = refl

@@ -27,10 +27,8 @@ use Rattle.mrp_calls.specs.CallRecord.{IsRecordLine, ReadsBack, kept_cells, reco
 use Rattle.mrp_calls.specs.LineCall.{call_of_line, cells_of_line}
 use Rattle.mrp_calls.proofs.PlainCells.{IsPlain, date-plain, name-plain, number-digits, number-plain, number-some, word-plain}
 use Rattle.mrp_calls.proofs.PlainRows.{row-first, row-line}
+use Rattle.mrp_calls.proofs.Results.{ok-same}
 use Rattle.mrp_calls.proofs.ReadBack.{read-back}
-
-pub ok-same : {X : Type 0} (a b : X) → ◌≡◌ {A = Result X Fault} (Ok a) (Ok b) → a ≡ b
-ok-same a b e = cc
 
 pub blamed : {X : Type 0} (r : Cells) (x : Result X ℕ) (v : X) → blame r x ≡ Ok v → x ≡ Ok v
 blamed r (Ok a) v e = let same : a ≡ v = ok-same a v e in ap (λ y. Ok y) same
@@ -205,7 +203,7 @@ record-cells r own k line =
 
 pub pair-same : {A B : Type 0} (a c : A) (b d : B) → ◌≡◌ {A = Result (A × B) Fault} (Ok (a, b)) (Ok (c, d)) → (a ≡ c) × (b ≡ d)
 pair-same {A} {B} a c b d e =
-    let same : ◌≡◌ {A = A × B} (a, b) (c, d) = ok-same {X = A × B} (a, b) (c, d) e in
+    let same : ◌≡◌ {A = A × B} (a, b) (c, d) = ok-same {A = A × B} (a, b) (c, d) e in
     (ap (λ (p : A × B). p.0) same, ap (λ (p : A × B). p.1) same)
 
 -- the call of a line is read of its record

@@ -24,6 +24,7 @@ use Rattle.mrp_journal.specs.Rows.{IsTable}
 use Rattle.mrp_journal.specs.Table.{body_of, table_records}
 use Rattle.mrp_calls.specs.Journals.{IsOneRecord, script_in, script_reads}
 use Rattle.mrp_calls.specs.LineCall.{call_of_line, cells_of_line, or_columns}
+use Rattle.mrp_calls.proofs.Results.{bound, bound-err, err-same}
 use Rattle.mrp_calls.proofs.TableRows.{behind-header}
 
 feed-alone : records_in st.StartRecord [] [] (10 ∷ []) ≡ []
@@ -48,15 +49,6 @@ line-behind journal line cells h one =
 refused-first : {A B : Type 0} (o : Result A Fault) (g : A → B) (f : Fault) → (o >>= λ x. Ok (g x)) ≡ Err f → o ≡ Err f
 refused-first (Ok x) g f e = absurd cc
 refused-first (Err h) g f e = let same : h ≡ f = cc in ap (λ (x : Fault). Err x) same
-
-bound : {A B : Type 0} (o : Result A Fault) (f : A → Result B Fault) (x : A) → o ≡ Ok x → (o >>= f) ≡ f x
-bound o f x e = rw e refl
-
-bound-err : {A B : Type 0} (o : Result A Fault) (f : A → Result B Fault) (x : Fault) → o ≡ Err x → (o >>= f) ≡ Err x
-bound-err o f x e = rw e refl
-
-err-same : {A : Type 0} (x y : Fault) → ◌≡◌ {A = Result A Fault} (Err x) (Err y) → x ≡ y
-err-same x y e = cc
 
 -- the record of a refused line is refused alike
 row-refused : (tables : Tables) (rows : List ScriptRow) (number : ℕ) (line : List ℕ) (cells : List (List ℕ)) (f : Fault) → number ≤ 100000 → IsOneRecord line cells → call_of_line tables number line ≡ Err f

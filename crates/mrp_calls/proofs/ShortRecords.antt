@@ -32,10 +32,11 @@ use Rattle.mrp_tables.specs.Script.{ask_cells, book_cells, call_at, cancel_cells
 use Rattle.mrp_tables.specs.Tables.{Tables}
 use Rattle.mrp_calls.specs.CallRecord.{kept_cells, record_text}
 use Rattle.mrp_calls.specs.LineCall.{call_of_line, cells_of_line, is_whole, or_columns}
-use Rattle.mrp_calls.proofs.LineCells.{six-cells}
+use Rattle.mrp_calls.proofs.LineCells.{of-line}
 use Rattle.mrp_calls.proofs.PlainCells.{and-three, date-ten, name-short, number-digits, word-short}
 use Rattle.mrp_calls.proofs.PlainRows.{digits-bare}
-use Rattle.mrp_calls.proofs.RecordLines.{blamed, called, ok-same}
+use Rattle.mrp_calls.proofs.RecordLines.{blamed, called}
+use Rattle.mrp_calls.proofs.Results.{ok-same}
 use Rattle.mrp_calls.proofs.TableRows.{called-at}
 use Rattle.mrp_journal.proofs.RecordsBehind.{records-none, stepped-is}
 
@@ -283,7 +284,7 @@ pub record-short : (tables : Tables) (number : ℕ) (line : List ℕ) (r : Cells
 record-short tables number line r given e =
     let cells = called-at tables number line r given e in
     let row = called tables number line r given e in
-    let six = six-cells number line r cells in
+    let six = (of-line number line r cells).wide in
     let short = short-of tables.calendar tables.items r given row in
     let fit : length (record_text given.call r) ≡ spelled (kept_cells given.call r) = subst (λ (cs : List (List ℕ)). length (row_text default_writer cs) ≡ spelled cs) (sym short.is) (row-length (cell_at r 0) (cell_at r 1) short.rest) in
     let kept : spelled (kept_cells given.call r) ≤ weight (kept_cells given.call r) + 66 = subst (λ (cs : List (List ℕ)). spelled cs ≤ weight cs + 66) (sym short.is) (omega (arith, short.fits, short.desk, short.word, wide (cell_at r 1))) in

@@ -1,6 +1,6 @@
 -- The rows of a journal behind which a call's record is appended.
-use Rattle.std.proofs.Common.{◌≡◌, ◌∙◌, ◌+◌, ◌<◌, ◌≤◌, ℕ, Bool, true, false, List, [], ◌∷◌, ◌++◌, length, Some, None, Ok, Err, refl, sym, ap, subst, arith, length-append}
-use Rattle.std.specs.Prelude.{◌==◌, Result, if◌then◌else◌, nat_lt}
+use Rattle.std.proofs.Common.{◌≡◌, ◌∙◌, ◌+◌, ◌<◌, ◌≤◌, ℕ, Bool, true, false, List, [], ◌∷◌, ◌++◌, length, Some, Ok, Err, refl, sym, ap, subst, arith, length-append}
+use Rattle.std.specs.Prelude.{Result, if◌then◌else◌, nat_lt}
 use Rattle.std.proofs.lemmas.Bool.{lt-leb}
 use Rattle.mrp_qty.specs.Reading.{◌>>=◌}
 use Rattle.mrp_cal.specs.Calendar.{ShopCalendar}
@@ -8,9 +8,7 @@ use Rattle.mrp_rows.specs.declared.fault.Fault.{Fault}
 use Rattle.mrp_rows.specs.declared.fault.Table.TheVariants as t
 use Rattle.mrp_rows.specs.Columns.{Layout, layout_of}
 use Rattle.mrp_rows.specs.Left.{Cells, Left}
-use Rattle.mrp_rows.specs.Next.{after_header, columns_fault, header_fault, is_header, next_number}
-use Rattle.mrp_rows.specs.Only.{only_of}
-use Rattle.mrp_rows.specs.Records.{records_of}
+use Rattle.mrp_rows.specs.Next.{after_header, header_fault, is_header, next_number}
 use Rattle.mrp_rows.proofs.TextLaws.{whole_step}
 use Rattle.mrp_tables.specs.declared.item.Item.{Item}
 use Rattle.mrp_tables.specs.declared.rows.ScriptCall.{ScriptCall}
@@ -26,12 +24,11 @@ use Rattle.mrp_journal.specs.Table.{table_records}
 use Rattle.mrp_journal.proofs.RowsBehind.{row-behind}
 use Rattle.mrp_calls.specs.CallRecord.{kept_cells, record_text}
 use Rattle.mrp_calls.specs.Journals.{script_in, script_reads}
-use Rattle.mrp_calls.specs.LineCall.{call_of_line, cells_of_line, is_whole, or_columns}
+use Rattle.mrp_calls.specs.LineCall.{call_of_line, cells_of_line}
 use Rattle.mrp_calls.proofs.ReadBack.{kept_record, read-back}
-use Rattle.mrp_calls.proofs.RecordLines.{called, known-of, line-of, ok-same, pair-same}
-
-bound : {A B : Type 0} (o : Result A Fault) (f : A → Result B Fault) (x : A) → o ≡ Ok x → (o >>= f) ≡ f x
-bound o f x e = rw e refl
+use Rattle.mrp_calls.proofs.LineCells.{of-line}
+use Rattle.mrp_calls.proofs.RecordLines.{called, known-of, line-of, pair-same}
+use Rattle.mrp_calls.proofs.Results.{bound, ok-same}
 
 -- one more record behind those that are read
 rows-on : {X : Type 0} (read : Reads X) (own : Layout) (cells : List (List ℕ)) (left : List (List (List ℕ))) (before rows : List X) (number : ℕ) → rows_from read own before number left ≡ Ok rows
@@ -61,27 +58,6 @@ number-behind (c ∷ left) number few =
     let next : next_number number ≡ number + 1 = omega arith in
     let more : number_behind (next_number number) left ≡ next_number number + length left = number-behind left (next_number number) (omega (arith, next, few)) in
     omega (arith, more, next)
-
--- the record that a line's call is read of stands in the script, under the number that it was given
-one-record : (number : ℕ) (cells : List (List ℕ)) (r : Cells) (b : Bool)
-    → or_columns number (if b then Some (record { table = t.Script; number = number; cells = cells }) else None) ≡ Ok r → (r.table ≡ t.Script) × (r.number ≡ number)
-one-record number cells r true e =
-    let made : Cells = record { table = t.Script; number = number; cells = cells } in
-    let same : made ≡ r = ok-same made r e in
-    (ap (λ (x : Cells). x.table) (sym same), ap (λ (x : Cells). x.number) (sym same))
-one-record number cells r false e = absurd cc
-
-only-record : (number : ℕ) (records : List (List (List ℕ))) (r : Cells) → or_columns number (only_of t.Script number records) ≡ Ok r → (r.table ≡ t.Script) × (r.number ≡ number)
-only-record number [] r e = absurd cc
-only-record number (cells ∷ []) r e = one-record number cells r (length cells == 6) e
-only-record number (cells ∷ other ∷ others) r e = absurd cc
-
-placed : (number : ℕ) (line : List ℕ) (r : Cells) → cells_of_line number line ≡ Ok r → (r.table ≡ t.Script) × (r.number ≡ number)
-placed number line r e = by (is_whole line) e
-  where
-    by : (b : Bool) → (if b then or_columns number (only_of t.Script number (records_of line)) else Err (columns_fault t.Script number)) ≡ Ok r → (r.table ≡ t.Script) × (r.number ≡ number)
-    by true h = only-record number (records_of line) r h
-    by false h = absurd cc
 
 pub called-at : (t : Tables) (number : ℕ) (line : List ℕ) (r : Cells) (given : ScriptRow) → call_of_line t number line ≡ Ok (r, given) → cells_of_line number line ≡ Ok r
 called-at t number line r given e =
@@ -138,11 +114,11 @@ call-behind tables journal line script r given table reads few e =
     let row = called tables number line r given e in
     let known = known-of tables.calendar tables.items r given row in
     let made = line-of tables number line r given e in
-    let at = placed number line r (called-at tables number line r given e) in
+    let at = of-line number line r (called-at tables number line r given e) in
     let Behind : List (List ℕ) → Type 0 = λ cells. IsRow (row_text default_writer cells) → IsTable (journal ++ row_text default_writer cells) × (table_records (journal ++ row_text default_writer cells) ≡ table_records journal ++ cells ∷ []) in
     let behind : Behind (kept_cells given.call r) = subst Behind (sym known.is) (λ is. row-behind journal (cell_at r 0) (cell_at r 1) known.rest table is) in
     let both = behind made.line in
-    let last = last-row tables.calendar tables.items script number r given at.0 at.1 (omega (arith, few)) (six-kept given.call r) (read-back tables.calendar tables.items r given row) in (
+    let last = last-row tables.calendar tables.items script number r given at.table at.numbered (omega (arith, few)) (six-kept given.call r) (read-back tables.calendar tables.items r given row) in (
       both.0,
       ap (λ (records : List (List (List ℕ))). after_header (layout_of t.Script) records >>= λ all. rows_from (script_reads tables.calendar tables.items) (layout_of t.Script) [] all.number all.left) both.1
           ∙ behind-header (script_reads tables.calendar tables.items) (table_records journal) (kept_cells given.call r) script reads few ∙ last,
